@@ -1,0 +1,32 @@
+//! What a person can do about a fault.
+use krl_script::{ScriptFault, SyntaxFault};
+
+/// What to do about a fault of a script.
+pub fn for_fault(fault: ScriptFault) -> &'static str {
+    match fault {
+        ScriptFault::Read => "no line was run; see that standard input is open and has an end",
+        ScriptFault::Write => {
+            "standard output has the beginning; see that it is open and has room"
+        }
+        ScriptFault::OutOfMemory =>
+            "standard output has the transcript's beginning; free some memory",
+        ScriptFault::Syntax { line: _, what } => for_syntax(what),
+    }
+}
+
+fn for_syntax(what: SyntaxFault) -> &'static str {
+    match what {
+        SyntaxFault::TextTooLong => "no line was run; a script has at most 1,048,576 bytes",
+        SyntaxFault::TooManyLines => "a script has at most 10,000 lines",
+        SyntaxFault::LineTooLong => "a line has at most 256 bytes",
+        SyntaxFault::UnknownWord => "'krl script --help' lists the words that begin a line",
+        SyntaxFault::MissingArgument | SyntaxFault::ExtraArgument => {
+            "'krl script --help' says what each word takes"
+        }
+        SyntaxFault::BadNumber =>
+            "write 1 to 20 digits, at most 18446744073709551615, or END or TOP",
+        SyntaxFault::BadPair => "write a key and its value as 10=1",
+        SyntaxFault::BadMode => "write the mode RangeS-S",
+        SyntaxFault::LateSeed => "'seed' stands once, before every other word",
+    }
+}

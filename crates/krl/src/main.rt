@@ -1,0 +1,54 @@
+//! The program: `krl script` runs a script that is read from standard input.
+#![tactic(auto)]
+
+mod advice;
+mod command;
+
+use clap::error::ErrorKind;
+use krl_script::{AnyReader, AnyWriter, ScriptFault, run_script};
+use std::io;
+use std::process::ExitCode;
+
+// Does what the command line says. Words that clap refuses are status 2, and every other failure is status 1.
+fn run(rt: &HostRuntime) -> io::Result<ExitCode> {
+    let words: Vec<String> = std::env::args(rt)?.collect(rt.alloc())?;
+    match command::matches(rt.alloc(), words.as_slice()) {
+        Ok(()) => script(rt),
+        Err(error) if error.kind() == ErrorKind::OutOfMemory => {
+            Err(io::Error::from(io::ErrorKind::OutOfMemory))
+        }
+        Err(error) => {
+            rt.eprint(&error)?;
+            Ok(ExitCode::from(2))
+        }
+    }
+}
+
+// Runs a script from standard input, and writes its transcript to standard output.
+fn script<R: Print + Eprint + Input + AllocGlobal>(rt: &R) -> io::Result<ExitCode> {
+    let mut reader = AnyReader(rt.reader());
+    let mut writer = AnyWriter(io::writer(rt));
+    match run_script(rt.alloc(), &mut reader, &mut writer) {
+        Ok(()) => Ok(ExitCode::SUCCESS),
+        Err(fault) => {
+            report(rt, fault)?;
+            Ok(ExitCode::from(1))
+        }
+    }
+}
+
+// Says on standard error why a script ended before its last line, and what can be done about it.
+fn report(rt: &impl Eprint, fault: ScriptFault) -> io::Result<()> {
+    eprintln!(rt; "krl: {fault} ({})", advice::for_fault(fault))
+}
+
+fn main(rt: HostRuntime) -> ExitCode {
+    match run(&rt) {
+        Ok(code) => code,
+        Err(error) => {
+            // Where standard error can't be written, the status alone is left to say it.
+            let _ = eprintln!(rt; "krl: {error}");
+            ExitCode::from(1)
+        }
+    }
+}

@@ -1,0 +1,5 @@
+pub mod Tables
+pub mod Weights
+pub mod PartLaws
+pub mod ModeLaws
+pub mod SpanLaws

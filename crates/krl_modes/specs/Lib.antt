@@ -1,0 +1,5 @@
+pub mod Parts
+pub mod Modes
+pub mod Orders
+pub mod Laws
+pub mod Spans

@@ -1,0 +1,125 @@
+-- The thirteen modes.
+use Rattle.std.specs.Prelude.{ℕ, Bool, List, [], ◌∷◌, ◌&&◌, find, codes, Option, Some, None}
+use Rattle.std.specs.Str.{bytes_eq}
+use Rattle.krl_modes.specs.declared.part.RangePart.{RangePart}
+use Rattle.krl_modes.specs.declared.part.RangePart.TheVariants as range
+use Rattle.krl_modes.specs.declared.part.KeyPart.{KeyPart}
+use Rattle.krl_modes.specs.declared.part.KeyPart.TheVariants as key
+use Rattle.krl_modes.specs.declared.mode.Mode.{Mode}
+use Rattle.krl_modes.specs.declared.mode.Mode.TheVariants as mode
+use Rattle.krl_modes.specs.Parts.{range_at_most, key_at_most, ranges_compatible, keys_compatible, range_join, range_meet, key_join, key_meet}
+
+-- what a mode holds of the gap
+abbrev pub range_of : Mode → RangePart
+range_of mode.N = range.N
+range_of mode.S = range.N
+range_of mode.U = range.N
+range_of mode.X = range.N
+range_of mode.RangeSS = range.S
+range_of mode.RangeSU = range.S
+range_of mode.RangeIN = range.I
+range_of mode.RangeIS = range.I
+range_of mode.RangeIU = range.I
+range_of mode.RangeIX = range.I
+range_of mode.RangeXS = range.X
+range_of mode.RangeXU = range.X
+range_of mode.RangeXX = range.X
+
+-- what a mode holds of the key
+abbrev pub key_of : Mode → KeyPart
+key_of mode.N = key.N
+key_of mode.S = key.S
+key_of mode.U = key.U
+key_of mode.X = key.X
+key_of mode.RangeSS = key.S
+key_of mode.RangeSU = key.U
+key_of mode.RangeIN = key.N
+key_of mode.RangeIS = key.S
+key_of mode.RangeIU = key.U
+key_of mode.RangeIX = key.X
+key_of mode.RangeXS = key.S
+key_of mode.RangeXU = key.U
+key_of mode.RangeXX = key.X
+
+-- each part of the one is at most the other's
+abbrev pub at_most : Mode → Mode → Bool
+at_most a b = range_at_most (range_of a) (range_of b) && key_at_most (key_of a) (key_of b)
+
+-- two clients may hold these modes on one slot: both parts may be held beside each other
+abbrev pub compatible : Mode → Mode → Bool
+compatible a b = ranges_compatible (range_of a) (range_of b) && keys_compatible (key_of a) (key_of b)
+
+-- the least mode whose parts are at least these: the pair itself, but for the three that are no mode
+abbrev pub at_or_above : RangePart → KeyPart → Mode
+at_or_above range.S key.N = mode.RangeSS
+at_or_above range.S key.X = mode.RangeXX
+at_or_above range.X key.N = mode.RangeXS
+at_or_above range.N key.N = mode.N
+at_or_above range.N key.S = mode.S
+at_or_above range.N key.U = mode.U
+at_or_above range.N key.X = mode.X
+at_or_above range.S key.S = mode.RangeSS
+at_or_above range.S key.U = mode.RangeSU
+at_or_above range.I key.N = mode.RangeIN
+at_or_above range.I key.S = mode.RangeIS
+at_or_above range.I key.U = mode.RangeIU
+at_or_above range.I key.X = mode.RangeIX
+at_or_above range.X key.S = mode.RangeXS
+at_or_above range.X key.U = mode.RangeXU
+at_or_above range.X key.X = mode.RangeXX
+
+-- the mode of these parts, where there is one
+abbrev pub mode_of : RangePart → KeyPart → Option Mode
+mode_of range.S key.N = None
+mode_of range.S key.X = None
+mode_of range.X key.N = None
+mode_of r k = Some (at_or_above r k)
+
+-- the least mode above both
+abbrev pub join : Mode → Mode → Mode
+join a b = at_or_above (range_join (range_of a) (range_of b)) (key_join (key_of a) (key_of b))
+
+-- the greatest mode below both
+abbrev pub meet : Mode → Mode → Mode
+meet a b = at_or_above (range_meet (range_of a) (range_of b)) (key_meet (key_of a) (key_of b))
+
+-- the greatest mode that another client may hold beside this one
+abbrev pub cap : Mode → Mode
+cap mode.N = mode.RangeXX
+cap mode.S = mode.RangeXU
+cap mode.U = mode.RangeXS
+cap mode.X = mode.RangeIN
+cap mode.RangeSS = mode.RangeSU
+cap mode.RangeSU = mode.RangeSS
+cap mode.RangeIN = mode.RangeIX
+cap mode.RangeIS = mode.RangeIU
+cap mode.RangeIU = mode.RangeIS
+cap mode.RangeIX = mode.RangeIN
+cap mode.RangeXS = mode.U
+cap mode.RangeXU = mode.S
+cap mode.RangeXX = mode.N
+
+abbrev pub mode_name : Mode → List ℕ
+mode_name mode.N = codes "N"
+mode_name mode.S = codes "S"
+mode_name mode.U = codes "U"
+mode_name mode.X = codes "X"
+mode_name mode.RangeSS = codes "RangeS-S"
+mode_name mode.RangeSU = codes "RangeS-U"
+mode_name mode.RangeIN = codes "RangeI-N"
+mode_name mode.RangeIS = codes "RangeI-S"
+mode_name mode.RangeIU = codes "RangeI-U"
+mode_name mode.RangeIX = codes "RangeI-X"
+mode_name mode.RangeXS = codes "RangeX-S"
+mode_name mode.RangeXU = codes "RangeX-U"
+mode_name mode.RangeXX = codes "RangeX-X"
+
+-- every mode, in the order of the tables
+abbrev pub all_modes : List Mode
+all_modes =
+    mode.N ∷ mode.S ∷ mode.U ∷ mode.X ∷ mode.RangeSS ∷ mode.RangeSU ∷ mode.RangeIN ∷ mode.RangeIS ∷ mode.RangeIU ∷ mode.RangeIX ∷ mode.RangeXS ∷ mode.RangeXU
+    ∷ mode.RangeXX ∷ []
+
+-- the mode of this name
+abbrev pub mode_named : List ℕ → Option Mode
+mode_named text = find (λ m. bytes_eq text (mode_name m)) all_modes

@@ -1,0 +1,6 @@
+pub mod Digits
+pub mod PairsLemmas
+pub mod TransferLemmas
+pub mod LinesLemmas
+pub mod Runs
+pub mod Interpreting

@@ -1,0 +1,16 @@
+use Rattle.std.proofs.Common.{◌+◌, ◌≤◌, length}
+use Rattle.std.specs.Str.Lines.{lines}
+use Rattle.krl_script.specs.Transcripts.{first_stage, Prints}
+use Rattle.krl_script.proofs.Runs.{Continues}
+use Rattle.krl_script.proofs.run.run_lines.Given as goal
+
+abbrev pub invariant-lines : goal.invariant-lines
+invariant-lines g l =
+    record {
+      counted : l.number + length l.rest ≤ length l.text + 1;
+      continues : Continues (g.W.Write.contents l.fn.writer) (g.W.Write.contents l.writer) (Prints first_stage 1 (lines l.text)) l.interpreter l.number (lines l.rest);
+      steady : g.W.Sink.is_steady l.fn.writer → g.W.Sink.is_steady l.writer;
+    }
+
+abbrev pub decreases-lines : goal.decreases-lines
+decreases-lines g l = length l.rest

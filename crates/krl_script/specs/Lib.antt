@@ -1,0 +1,4 @@
+pub mod Words
+pub mod Printing
+pub mod Transcripts
+pub mod Runs

@@ -1,0 +1,154 @@
+-- What a line of a script asks for, and when it is a fault.
+use Rattle.std.specs.Prelude.{◌≡◌, ℕ, ◌+◌, ◌-◌, ◌*◌, ◌^◌, ◌&&◌, Bool, true, false, not, cond, find, nat_eq, nat_lt, nat_le, List, [], ◌∷◌, length, filter, take, drop, slice_index, slice_index_or, position, codes, Option, None, Some, Result, Ok, Err}
+use Rattle.std.specs.List.{slice_split}
+use Rattle.std.specs.Str.{bytes_eq, all_ascii_digits}
+use Rattle.krl_modes.specs.declared.point.TheConstants.{END, TOP}
+use Rattle.krl_modes.specs.declared.mode.Mode.{Mode}
+use Rattle.krl_modes.specs.declared.mode.Mode.TheVariants as mode
+use Rattle.krl_modes.specs.Modes.{mode_named}
+use Rattle.krl_world.specs.declared.step.Step.TheVariants as step
+use Rattle.krl_world.specs.declared.step.Command.TheVariants as command
+use Rattle.krl_script.specs.declared.limits.TheConstants.{MAX_LINES, MAX_LINE}
+use Rattle.krl_script.specs.declared.word.Word.{Word}
+use Rattle.krl_script.specs.declared.word.Word.TheVariants as word
+use Rattle.krl_script.specs.declared.request.Request.{Request}
+use Rattle.krl_script.specs.declared.request.Request.TheVariants as request
+use Rattle.krl_script.specs.declared.fault.SyntaxFault.{SyntaxFault}
+use Rattle.krl_script.specs.declared.fault.SyntaxFault.TheVariants.{TooManyLines, LineTooLong, UnknownWord, MissingArgument, ExtraArgument, BadNumber, BadPair, BadMode, LateSeed}
+use Rattle.krl_script.specs.declared.fault.LineFault.{LineFault}
+use Rattle.krl_script.specs.declared.fault.LineFault.TheVariants as fault
+
+-- go on with what was read, or keep the fault
+infixl 10 ◌>>=◌
+abbrev pub ◌>>=◌ : {A B : Type 0} → Result A SyntaxFault → (A → Result B SyntaxFault) → Result B SyntaxFault
+(Ok x) >>= f = f x
+(Err e) >>= f = Err e
+
+-- what is there, or a fault
+abbrev pub wanted : {A : Type 0} → SyntaxFault → Option A → Result A SyntaxFault
+wanted what None = Err what
+wanted what (Some x) = Ok x
+
+-- What a function failed by is what is said of the text, unless memory ran out.
+abbrev pub Fails : {A : Type 0} → LineFault → Result A SyntaxFault → Type 0
+Fails fault.OutOfMemory said = Unit {0}
+Fails (fault.Syntax what) said = said ≡ Err what
+
+-- What a function returned is what is said of the text, unless memory ran out.
+abbrev pub Gives : {A : Type 0} → Result A LineFault → Result A SyntaxFault → Type 0
+Gives (Ok x) said = said ≡ Ok x
+Gives (Err e) said = Fails e said
+
+-- the words of a line: what stands between spaces
+abbrev pub words_of : List ℕ → List (List ℕ)
+words_of line = filter (λ word. not (nat_eq (length word) 0)) (slice_split (λ b. nat_eq b 32) line)
+
+-- the number that digits spell after n
+abbrev pub read_on : ℕ → List ℕ → ℕ
+read_on n [] = n
+read_on n (b ∷ bytes) = read_on (n * 10 + (b - 48)) bytes
+
+-- 1 to 20 digits
+abbrev pub has_digits : List ℕ → Bool
+has_digits word = nat_lt 0 (length word) && (nat_le (length word) 20 && all_ascii_digits word)
+
+-- the number that 1 to 20 digits spell, where it fits in 64 bits
+abbrev pub digits_of : List ℕ → Option ℕ
+digits_of word = cond (has_digits word && nat_lt (read_on 0 word) (2 ^ 64)) (Some (read_on 0 word)) None
+
+-- the number that a word spells
+abbrev pub number_of : List ℕ → Option ℕ
+number_of word = cond (bytes_eq word (codes "END")) (Some END) (cond (bytes_eq word (codes "TOP")) (Some TOP) (digits_of word))
+
+-- both numbers, where both are there
+abbrev pub both : Option ℕ → Option ℕ → Option (ℕ × ℕ)
+both None v = None
+both (Some k) None = None
+both (Some k) (Some v) = Some (k, v)
+
+-- the numbers on the two sides of the '=' at this place
+abbrev pub pair_at : List ℕ → Option ℕ → Option (ℕ × ℕ)
+pair_at word None = None
+pair_at word (Some i) = both (number_of (take i word)) (number_of (drop (i + 1) word))
+
+-- the pair that a word spells: two numbers round its first '='. No number has an '=' in it, so there is no second.
+abbrev pub pair_of : List ℕ → Option (ℕ × ℕ)
+pair_of word = pair_at word (position (λ b. nat_eq b 61) word)
+
+-- the pairs that words spell
+abbrev pub pairs_of : List (List ℕ) → Result (List (ℕ × ℕ)) SyntaxFault
+pairs_of [] = Ok []
+pairs_of (word ∷ words) = wanted BadPair (pair_of word) >>= λ pair. pairs_of words >>= λ pairs. Ok (pair ∷ pairs)
+
+-- the mode, where `lock` takes it: so far RangeS-S alone
+abbrev pub taken : Option Mode → Option Mode
+taken None = None
+taken (Some mode.RangeSS) = Some mode.RangeSS
+taken (Some other) = None
+
+-- the mode that a word names
+abbrev pub mode_of : List ℕ → Result Mode SyntaxFault
+mode_of text = wanted BadMode (taken (mode_named text))
+
+-- a word as it stands in a script
+abbrev pub word_text : Word → List ℕ
+word_text word.Seed = codes "seed"
+word_text word.Client = codes "client"
+word_text word.Lock = codes "lock"
+word_text word.Settle = codes "settle"
+word_text word.Scan = codes "scan"
+
+-- every word
+abbrev pub all_words : List Word
+all_words = word.Seed ∷ word.Client ∷ word.Lock ∷ word.Settle ∷ word.Scan ∷ []
+
+-- the word of this text
+abbrev pub word_named : List ℕ → Option Word
+word_named text = find (λ w. bytes_eq text (word_text w)) all_words
+
+-- there are as many arguments as the word takes
+abbrev pub counted : ℕ → List (List ℕ) → Result Unit SyntaxFault
+counted n arguments = cond (nat_lt (length arguments) n) (Err MissingArgument) (cond (nat_lt n (length arguments)) (Err ExtraArgument) (Ok tt))
+
+-- the argument at a place, from 0
+abbrev pub argument : List (List ℕ) → ℕ → List ℕ
+argument arguments i = slice_index_or arguments i []
+
+-- the number at a place
+abbrev pub number_at : List (List ℕ) → ℕ → Result ℕ SyntaxFault
+number_at arguments i = wanted BadNumber (number_of (argument arguments i))
+
+-- What a word with these arguments asks for. How many there are comes first, and then they are judged from left to right.
+unfoldable pub request_of : Word → List (List ℕ) → Result Request SyntaxFault
+request_of word.Seed arguments = cond (nat_lt (length arguments) 1) (Err MissingArgument) (pairs_of arguments >>= λ pairs. Ok (request.Seed pairs))
+request_of word.Client arguments = counted 1 arguments >>= λ _. number_at arguments 0 >>= λ c. Ok (request.Step (step.StartClient c))
+request_of word.Lock arguments =
+    counted 3 arguments >>= λ _. number_at arguments 0 >>= λ c. number_at arguments 1 >>= λ p. mode_of (argument arguments 2) >>= λ m.
+    Ok (request.Step (step.Command c (command.Lock p m)))
+request_of word.Settle arguments = counted 0 arguments >>= λ _. Ok request.Settle
+request_of word.Scan arguments =
+    counted 3 arguments >>= λ _. number_at arguments 0 >>= λ c. number_at arguments 1 >>= λ lo. number_at arguments 2 >>= λ hi.
+    Ok (request.Step (step.Command c (command.Scan lo hi)))
+
+-- what a line of these words asks for, none of them empty
+abbrev pub meaning_of_words : List (List ℕ) → Result Request SyntaxFault
+meaning_of_words [] = Ok request.Nothing
+meaning_of_words (text ∷ arguments) = wanted UnknownWord (word_named text) >>= λ word. request_of word arguments
+
+-- What a line asks for, wherever it stands. One that begins with '#' asks for nothing.
+unfoldable pub meaning_of : List ℕ → Result Request SyntaxFault
+meaning_of line = cond (nat_eq (slice_index line 0) 35) (Ok request.Nothing) (meaning_of_words (words_of line))
+
+-- the request makes a world
+abbrev pub makes_world : Request → Bool
+makes_world (request.Seed entries) = true
+makes_world other = false
+
+-- a request that makes a world may stand before every other one alone
+abbrev pub in_time : Bool → Request → Result Request SyntaxFault
+in_time begun request = cond (begun && makes_world request) (Err LateSeed) (Ok request)
+
+-- What the line of number n, counted from 1, asks for, or its first fault; begun says that the world is made.
+unfoldable pub judged : Bool → ℕ → List ℕ → Result Request SyntaxFault
+judged begun n line =
+    cond (nat_lt MAX_LINES n) (Err TooManyLines) (cond (nat_lt MAX_LINE (length line)) (Err LineTooLong) (meaning_of line >>= in_time begun))

@@ -1,0 +1,12 @@
+//! What became of a delivery.
+use krl_world::Refused;
+
+/// What became of the oldest waiting message.
+#[derive(Clone, Copy, Debug, PartialEq, Eq)]
+pub enum Delivery {
+    /// None waits.
+    Idle,
+    Delivered,
+    /// It waits on.
+    Refused(Refused),
+}

@@ -1,0 +1,23 @@
+//! A script is read whole, and then run line by line against a world. What is written is its transcript.
+#![tactic(auto)]
+
+mod delivery;
+mod fault;
+mod interpreter;
+mod limits;
+mod lines;
+mod parse;
+mod print;
+mod request;
+mod run;
+mod source;
+mod transfer;
+mod word;
+
+pub use fault::{ScriptFault, SyntaxFault};
+pub use limits::{MAX_DELIVERIES, MAX_LINE, MAX_LINES, MAX_TEXT, MAX_TURNS};
+pub use run::run_script;
+pub use source::{AnyReader, AnyWriter, Sink, Source};
+
+#[cfg(test)]
+mod tests;

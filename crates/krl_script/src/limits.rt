@@ -1,0 +1,16 @@
+//! The limits of a script, which are this project's own.
+
+/// The most bytes of a text: 1,048,576.
+pub const MAX_TEXT: usize = 1048576;
+
+/// The most lines of a text: 10,000.
+pub const MAX_LINES: u64 = 10000;
+
+/// The most bytes of a line, its end not counted: 256.
+pub const MAX_LINE: usize = 256;
+
+/// The most deliveries of one `settle`: 100,000.
+pub const MAX_DELIVERIES: u64 = 100000;
+
+/// The most turns over a reader: 2,097,152.
+pub const MAX_TURNS: u64 = 2097152;

@@ -1,0 +1,203 @@
+//! From a line to what it asks for.
+ghost use Rattle.std.specs.Prelude.{◌≡◌, ℕ, ◌+◌, ◌<◌, ◌≤◌, ◌^◌, List, [], map, length, IfOk, OnOk, IfSome, nat_eq, position};
+ghost use Rattle.std.specs.List.{slice_split};
+ghost use Rattle.std.specs.Str.{bytes_eq};
+ghost use Rattle.krl_script.specs.Words.{Gives, words_of, digits_of, number_of, pair_of, pairs_of, mode_of, counted, argument, wanted, request_of, meaning_of_words, meaning_of};
+
+use crate::fault::{LineFault, SyntaxFault};
+use crate::request::{Entries, Request};
+use crate::word::Word;
+use krl_modes::{END, Mode, TOP};
+use krl_world::{Command, Step};
+use std::alloc::{AllocError, Global};
+
+fn is_text(word: &[u8], text: &str) -> bool
+    ensures { result ≡ bytes_eq word.now text.now }
+{
+    word == text.as_bytes()
+}
+
+// What stands between spaces, which may be nothing.
+fn parts(alloc: Global, line: &[u8]) -> Result<Vec<&[u8]>, AllocError>
+    ensures { IfOk result (λ parts. map (λ part. part.now) parts.items ≡ slice_split (λ b. nat_eq b 32) line.now) }
+{
+    line.split(|b| *b == b' ').collect(alloc)
+}
+
+fn words(alloc: Global, line: &[u8]) -> Result<Vec<&[u8]>, AllocError>
+    ensures { IfOk result (λ words. map (λ word. word.now) words.items ≡ words_of line.now) }
+{
+    let parts = parts(alloc, line)?;
+    let mut words = Vec::new(alloc);
+    for part in &parts {
+        if part.len() != 0 {
+            words.push(*part)?;
+        }
+    }
+    Ok(words)
+}
+
+fn digits(word: &[u8]) -> Option<u64>
+    ensures { result ≡ digits_of word.now }
+{
+    if word.len() < 1 || word.len() > 20 {
+        return None;
+    }
+    let mut value = 0u64;
+    for b in word {
+        if !b.is_ascii_digit() {
+            return None;
+        }
+        let digit = u64::from(*b - b'0');
+        if value > (u64::MAX - digit) / 10 {
+            return None;
+        }
+        value = value * 10 + digit;
+    }
+    Some(value)
+}
+
+fn number(word: &[u8]) -> Option<u64>
+    ensures { result ≡ number_of word.now }
+{
+    if is_text(word, "END") {
+        Some(END)
+    } else if is_text(word, "TOP") {
+        Some(TOP)
+    } else {
+        digits(word)
+    }
+}
+
+// The place of the first '='.
+fn equals_at(word: &[u8]) -> Option<usize>
+    ensures value { result ≡ position (λ b. nat_eq b 61) word.now }
+    ensures inside { IfSome result (λ i. i < length word.now) }
+{
+    word.iter().position(|b| *b == b'=')
+}
+
+// No number has an '=' in it, so a pair has exactly one.
+fn pair(word: &[u8]) -> Option<(u64, u64)>
+    ensures { result ≡ pair_of word.now }
+{
+    let at = equals_at(word)?;
+    let key = number(&word[..at])?;
+    let value = number(&word[at + 1..])?;
+    Some((key, value))
+}
+
+fn pairs(alloc: Global, arguments: &[&[u8]]) -> Result<Entries, LineFault>
+    ensures { Gives result (pairs_of (map (λ word. word.now) arguments.now)) }
+{
+    let mut entries = Vec::new(alloc);
+    for word in arguments {
+        match pair(word) {
+            None => return Err(LineFault::Syntax(SyntaxFault::BadPair)),
+            Some(entry) => entries.push(entry)?,
+        }
+    }
+    Ok(Entries::of(entries))
+}
+
+fn mode(word: &[u8]) -> Result<Mode, LineFault>
+    ensures { Gives result (mode_of word.now) }
+{
+    match Mode::from_name(word) {
+        Some(Mode::RangeSS) => Ok(Mode::RangeSS),
+        _ => Err(LineFault::Syntax(SyntaxFault::BadMode)),
+    }
+}
+
+fn count(n: usize, arguments: &[&[u8]]) -> Result<(), LineFault>
+    ensures said { Gives result (counted n (map (λ word. word.now) arguments.now)) }
+    ensures exact { OnOk result (length arguments.now ≡ n) }
+{
+    if arguments.len() < n {
+        Err(LineFault::Syntax(SyntaxFault::MissingArgument))
+    } else if arguments.len() > n {
+        Err(LineFault::Syntax(SyntaxFault::ExtraArgument))
+    } else {
+        Ok(())
+    }
+}
+
+fn number_at(arguments: &[&[u8]], i: usize) -> Result<u64, LineFault>
+    requires { i < length arguments.now }
+    ensures { Gives result (wanted SyntaxFault.BadNumber (number_of (argument (map (λ word. word.now) arguments.now) i))) }
+{
+    match number(arguments[i]) {
+        None => Err(LineFault::Syntax(SyntaxFault::BadNumber)),
+        Some(number) => Ok(number),
+    }
+}
+
+fn mode_at(arguments: &[&[u8]], i: usize) -> Result<Mode, LineFault>
+    requires { i < length arguments.now }
+    ensures { Gives result (mode_of (argument (map (λ word. word.now) arguments.now) i)) }
+{
+    mode(arguments[i])
+}
+
+#[tactic(auto, unfolding(crate::specs::Words::request_of))]
+fn request(alloc: Global, word: Word, arguments: &[&[u8]]) -> Result<Request, LineFault>
+    ensures { Gives result (request_of word (map (λ word. word.now) arguments.now)) }
+{
+    match word {
+        Word::Seed => {
+            if arguments.len() < 1 {
+                return Err(LineFault::Syntax(SyntaxFault::MissingArgument));
+            }
+            let entries = pairs(alloc, arguments)?;
+            Ok(Request::Seed(entries))
+        }
+        Word::Client => {
+            count(1, arguments)?;
+            let client = number_at(arguments, 0)?;
+            Ok(Request::Step(Step::StartClient(client)))
+        }
+        Word::Lock => {
+            count(3, arguments)?;
+            let client = number_at(arguments, 0)?;
+            let point = number_at(arguments, 1)?;
+            let mode = mode_at(arguments, 2)?;
+            Ok(Request::Step(Step::Command(client, Command::Lock { point, mode })))
+        }
+        Word::Settle => {
+            count(0, arguments)?;
+            Ok(Request::Settle)
+        }
+        Word::Scan => {
+            count(3, arguments)?;
+            let client = number_at(arguments, 0)?;
+            let lo = number_at(arguments, 1)?;
+            let hi = number_at(arguments, 2)?;
+            Ok(Request::Step(Step::Command(client, Command::Scan { lo, hi })))
+        }
+    }
+}
+
+fn request_of_words(alloc: Global, words: &[&[u8]]) -> Result<Request, LineFault>
+    ensures { Gives result (meaning_of_words (map (λ word. word.now) words.now)) }
+{
+    match words.split_first() {
+        None => Ok(Request::Nothing),
+        Some((text, arguments)) => match Word::from_text(text) {
+            None => Err(LineFault::Syntax(SyntaxFault::UnknownWord)),
+            Some(word) => request(alloc, word, arguments),
+        },
+    }
+}
+
+/// What a line asks for, or its first fault: an unknown word, then the number of its arguments, then
+/// each argument from left to right.
+#[tactic(auto, unfolding(crate::specs::Words::meaning_of))]
+pub fn request_of_line(alloc: Global, line: &[u8]) -> Result<Request, LineFault>
+    ensures { Gives result (meaning_of line.now) }
+{
+    if line.len() != 0 && line[0] == b'#' {
+        return Ok(Request::Nothing);
+    }
+    let words = words(alloc, line)?;
+    request_of_words(alloc, &words)
+}

@@ -1,0 +1,86 @@
+//! A whole script.
+ghost use Rattle.std.specs.Prelude.{◌≡◌, ℕ, ◌≤◌, length, IsErrOf, OnOk};
+ghost use Rattle.std.specs.Str.Lines.{lines};
+ghost use Rattle.krl_script.specs.Transcripts.{first_stage, Prints};
+ghost use Rattle.krl_script.specs.Runs.{Wrote, EndsInFault, RunsLine, Ran};
+
+use crate::fault::{LineFault, ScriptFault, SyntaxFault};
+use crate::interpreter::Interpreter;
+use crate::limits::MAX_TEXT;
+use crate::lines::first_line;
+use crate::print;
+use crate::source::{Sink, Source};
+use crate::transfer::{read_text, write_line};
+use std::alloc::Global;
+
+// Writes the line of a fault, which ends the script.
+fn end_in_fault<W: Sink>(
+    alloc: Global,
+    writer: &mut W,
+    line: u64,
+    what: SyntaxFault,
+) -> Result<(), ScriptFault>
+    ensures ends { EndsInFault (W.contents writer.old) (W.contents writer.new) line what result }
+    ensures steady { W.is_steady writer.old → ¬ IsErrOf result ScriptFault.Write }
+{
+    let text = print::faulted(alloc, line, what)?;
+    write_line(writer, &text)?;
+    Err(ScriptFault::Syntax { line, what })
+}
+
+// Obeys a line, and writes what it prints.
+fn run_line<W: Sink>(
+    alloc: Global,
+    interpreter: &mut Interpreter,
+    writer: &mut W,
+    number: u64,
+    line: &[u8],
+) -> Result<(), ScriptFault>
+    ensures runs { RunsLine (W.contents writer.old) (W.contents writer.new) interpreter.old number line.now result interpreter.new }
+    ensures steady { W.is_steady writer.old → (¬ IsErrOf result ScriptFault.Write) × OnOk result (W.is_steady writer.new) }
+{
+    match interpreter.obey_line(number, line) {
+        Ok(printed) => write_line(writer, &printed),
+        Err(LineFault::Syntax(what)) => end_in_fault(alloc, writer, number, what),
+        Err(LineFault::OutOfMemory) => Err(ScriptFault::OutOfMemory),
+    }
+}
+
+fn run_lines<W: Sink>(alloc: Global, text: &[u8], writer: &mut W) -> Result<(), ScriptFault>
+    requires { length text.now ≤ MAX_TEXT }
+    ensures wrote { Wrote (W.contents writer.old) (W.contents writer.new) (Prints first_stage 1 (lines text.now)) result }
+    ensures steady { W.is_steady writer.old → ¬ IsErrOf result ScriptFault.Write }
+{
+    let mut interpreter = Interpreter::new(alloc);
+    let mut rest = text;
+    let mut number = 1u64;
+    'lines: while rest.len() != 0 {
+        let (line, after) = first_line(rest);
+        run_line(alloc, &mut interpreter, writer, number, line)?;
+        rest = after;
+        number += 1;
+    }
+    interpreter.begin()?;
+    Ok(())
+}
+
+/// Reads a script to its end, and then runs it line by line. What a line prints is written before the
+/// next line is run. What is written is exactly a transcript of what was read, or the front of one where
+/// the reader or the writer fails, or memory runs out.
+pub fn run_script<R: Source, W: Sink>(
+    alloc: Global,
+    reader: &mut R,
+    writer: &mut W,
+) -> Result<(), ScriptFault>
+    ensures ran { Ran (R.remaining reader.old) (R.remaining reader.new) (W.contents writer.old) (W.contents writer.new) result }
+    // A reader that never fails is read, and a writer that never fails is written.
+    ensures read { R.is_steady reader.old → ¬ IsErrOf result ScriptFault.Read }
+    ensures written { W.is_steady writer.old → ¬ IsErrOf result ScriptFault.Write }
+{
+    let text = read_text(alloc, reader)?;
+    if text.len() > MAX_TEXT {
+        end_in_fault(alloc, writer, 0, SyntaxFault::TextTooLong)
+    } else {
+        run_lines(alloc, &text, writer)
+    }
+}

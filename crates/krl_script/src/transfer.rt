@@ -1,0 +1,59 @@
+//! A text is read whole, and lines are written whole, unless the reader or the writer fails.
+ghost use Rattle.std.specs.Prelude.{◌≡◌, ℕ, ◌⊎◌, ◌≤◌, List, [], ◌++◌, length, IfOk, OnOk, IfErr, IsOk, IsErrOf};
+ghost use Rattle.std.specs.Io.KnownBytes.{Appends, Consumes, IsAtEnd};
+ghost use Rattle.krl_script.specs.Runs.{ReadsWhole};
+
+use crate::fault::ScriptFault;
+use crate::limits::{MAX_TEXT, MAX_TURNS};
+use crate::source::{Sink, Source};
+use std::alloc::Global;
+use std::io::ErrorKind;
+
+/// Reads to the end, or until the text is too long.
+pub fn read_text<R: Source>(alloc: Global, reader: &mut R) -> Result<Vec<u8>, ScriptFault>
+    ensures ok { IfOk result (λ text. ReadsWhole (R.remaining reader.old) (R.remaining reader.new) text.items) }
+    ensures err { IfErr result (λ e. ((e ≡ ScriptFault.Read) ⊎ (e ≡ ScriptFault.OutOfMemory))
+        × (taken : List ℕ) × Consumes (R.remaining reader.old) (R.remaining reader.new) taken) }
+    ensures steady { R.is_steady reader.old → ¬ IsErrOf result ScriptFault.Read }
+{
+    let mut text = Vec::new(alloc);
+    let mut buffer = [0u8; 4096];
+    for _ in 0..MAX_TURNS {
+        match reader.read_some(&mut buffer) {
+            Ok(n) => {
+                text.extend_from_slice(&buffer[..n])?;
+                if n == 0 || text.len() > MAX_TEXT {
+                    return Ok(text);
+                }
+            }
+            Err(error) => {
+                if error.kind() != ErrorKind::Interrupted {
+                    return Err(ScriptFault::Read);
+                }
+            }
+        }
+    }
+    Err(ScriptFault::Read)
+}
+
+/// Writes the bytes, or a front of them where the writer fails.
+pub fn write_line<W: Sink>(writer: &mut W, bytes: &[u8]) -> Result<(), ScriptFault>
+    ensures ok { OnOk result (Appends (W.contents writer.old) (W.contents writer.new) bytes.now) }
+    ensures err { IfErr result (λ e. (e ≡ ScriptFault.Write)
+        × (front : List ℕ) × (back : List ℕ) × (front ++ back ≡ bytes.now) × Appends (W.contents writer.old) (W.contents writer.new) front) }
+    ensures steady { W.is_steady writer.old → IsOk result × W.is_steady writer.new }
+{
+    let mut at = 0;
+    while at < bytes.len() {
+        match writer.write_some(&bytes[at..]) {
+            Ok(n) => {
+                if n == 0 {
+                    return Err(ScriptFault::Write);
+                }
+                at += n;
+            }
+            Err(_) => return Err(ScriptFault::Write),
+        }
+    }
+    Ok(())
+}

@@ -1,0 +1,11 @@
+pub mod Maps
+pub mod Slots
+pub mod Openings
+pub mod Coverage
+pub mod Pieces
+pub mod Sounds
+pub mod Judging
+pub mod Keeps
+pub mod Promised
+pub mod Taken
+pub mod Outcomes
