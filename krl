@@ -29,7 +29,7 @@ is_stale() {
 }
 
 if [ ! -x "$program" ] || is_stale; then
-    echo "krl: proving and building the program: about five minutes the first time, less after an edit" >&2
+    echo "krl: proving and building the program: about ten minutes the first time, less after an edit" >&2
     # A script of no lines writes nothing, so the run that rt makes after the build can't be seen.
     (cd "$crate" && rt run -- script </dev/null >&2) || {
         echo "krl: the program is not built; the lines above say why" >&2

@@ -26,7 +26,8 @@ fn for_syntax(what: SyntaxFault) -> &'static str {
         SyntaxFault::BadNumber =>
             "write 1 to 20 digits, at most 18446744073709551615, or END or TOP",
         SyntaxFault::BadPair => "write a key and its value as 10=1",
-        SyntaxFault::BadMode => "write the mode RangeS-S",
+        SyntaxFault::BadMode =>
+            "write one of N, S, U, X, RangeS-S, RangeS-U, RangeI-N, RangeI-S, RangeI-U, RangeI-X, RangeX-S, RangeX-U, RangeX-X",
         SyntaxFault::LateSeed => "'seed' stands once, before every other word",
     }
 }

@@ -7,9 +7,11 @@ A script has one request a line. Words are separated by spaces; a line that begi
 
   seed K=V ...      makes the world with these entries; before every other word
   client C          starts client C, 0 to 63
-  lock C P MODE     client C asks for the slot of point P in this mode: RangeS-S
+  lock C P MODE     client C asks for the slot of point P in this mode, as S or RangeS-U
   settle            delivers waiting messages, the oldest first, until there is none
   scan C LO HI      client C reads its cache from LO up to HI: rows, or the first point it misses
+  hold C P          prints what client C holds at point P: its range part and its key part
+  modes             prints which modes go together, and the joins of modes
 
 A number has 1 to 20 digits, or is END (the last point) or TOP (one past it). What the lines print goes
 to standard output. A line that can't be read ends the script with status 1.";

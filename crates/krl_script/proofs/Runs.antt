@@ -6,7 +6,7 @@ use Rattle.std.specs.Prelude.{OnOk, IfErr, nat_lt}
 use Rattle.std.specs.Result.{result_unwrap_or}
 use Rattle.std.specs.Io.KnownBytes.{Appends, Consumes}
 use Rattle.std.specs.Str.Lines.{lines}
-use Rattle.krl_world.specs.States.{fresh}
+use Rattle.krl_world.specs.States.{fresh, range_held, key_held}
 use Rattle.krl_world.specs.Steps.{made, Steps}
 use Rattle.krl_world.proofs.Outcomes.{some_step}
 use Rattle.krl_world.specs.declared.step.Step.TheVariants as step
@@ -20,7 +20,7 @@ use Rattle.krl_script.specs.declared.limits.TheConstants.{MAX_TEXT, MAX_DELIVERI
 use Rattle.krl_script.specs.declared.fault.ScriptFault.{ScriptFault}
 use Rattle.krl_script.specs.declared.fault.ScriptFault.TheVariants as script
 use Rattle.krl_script.specs.Words.{judged}
-use Rattle.krl_script.specs.Printing.{outcome_lines, making_lines, refused_line, unsettled_line, fault_line}
+use Rattle.krl_script.specs.Printing.{outcome_lines, making_lines, refused_line, unsettled_line, hold_line, modes_lines, fault_line}
 use Rattle.krl_script.specs.Transcripts.{Stage, first_stage, after_step, DeliversOldest, DeliversMany, Settles, Obeys, PrintsLine, Prints, Transcript}
 use Rattle.krl_script.specs.Runs.{WroteFront, Failed, Wrote, EndsInFault, RunsLine, ReadsWhole, HasOnlyRead, Ran}
 use Rattle.krl_script.proofs.TransferLemmas.{Appends-append, Appends-nil}
@@ -62,6 +62,8 @@ some_obeys s (request.Step step) =
     let o = some_step s.world step in
     (outcome_lines o.0, after_step s.world s.waiting o.1, (o.0, o.1, o.2, refl, refl))
 some_obeys s request.Settle = some_settles s
+some_obeys s (request.Hold c p) = (hold_line c p (range_held s.world c p) (key_held s.world c p), record s { begun = true }, (refl, refl))
+some_obeys s request.Modes = (modes_lines, s, (refl, refl))
 
 some_line : (j : Result Request SyntaxFault) (s : Stage) (n : ℕ) (Rest : Stage → List ℕ → Option (ℕ × SyntaxFault) → Type 0) → ((s' : Stage) → (tail : List ℕ) × (end : Option (ℕ × SyntaxFault)) × Rest s' tail end) → (out : List ℕ) × (end : Option (ℕ × SyntaxFault)) × PrintsLine j s n Rest out end
 some_line (Ok request) s n Rest rest =

@@ -1,7 +1,14 @@
 -- The lines that a script prints.
-use Rattle.std.specs.Prelude.{ℕ, List, [], ◌∷◌, ◌++◌, codes, Result, Ok, Err}
+use Rattle.std.specs.Prelude.{ℕ, cond, nat_lt, List, [], ◌∷◌, ◌++◌, codes, Result, Ok, Err}
 use Rattle.std.specs.List.{flat_map}
 use Rattle.std.specs.Fmt.{decimal}
+use Rattle.krl_modes.specs.declared.point.TheConstants.{END}
+use Rattle.krl_modes.specs.declared.part.RangePart.{RangePart}
+use Rattle.krl_modes.specs.declared.part.KeyPart.{KeyPart}
+use Rattle.krl_modes.specs.declared.mode.Mode.{Mode}
+use Rattle.krl_modes.specs.declared.mode.Mode.TheVariants as mode
+use Rattle.krl_modes.specs.Parts.{range_part_name, key_part_name}
+use Rattle.krl_modes.specs.Modes.{compatible, join, mode_name}
 use Rattle.krl_world.specs.States.{State}
 use Rattle.krl_world.specs.declared.answer.Answer.{Answer}
 use Rattle.krl_world.specs.declared.answer.Answer.TheVariants as answer
@@ -51,6 +58,37 @@ outcome_lines (Err r) = refused_line r
 abbrev pub making_lines : Result State Refused → List ℕ
 making_lines (Ok w) = []
 making_lines (Err r) = refused_line r
+
+-- The line of what a client holds at a point. A client above 63 is refused, and then a point above END.
+abbrev pub hold_line : ℕ → ℕ → RangePart → KeyPart → List ℕ
+hold_line c p r k =
+    cond (nat_lt 63 c) (refused_line refused.BadClient)
+    (cond (nat_lt END p) (refused_line refused.BadPoint) (line_of (codes "hold " ++ range_part_name r ++ codes " " ++ key_part_name k)))
+
+-- the published modes, in the order of the tables
+abbrev pub published : List Mode
+published = mode.S ∷ mode.U ∷ mode.X ∷ mode.RangeSS ∷ mode.RangeSU ∷ mode.RangeIN ∷ mode.RangeXX ∷ []
+
+-- the pairs of published modes whose joins are the conversion modes
+abbrev pub conversions : List (Mode × Mode)
+conversions =
+    (mode.S, mode.RangeIN) ∷ (mode.U, mode.RangeIN) ∷ (mode.X, mode.RangeIN) ∷ (mode.RangeIN, mode.RangeSS) ∷ (mode.RangeIN, mode.RangeSU) ∷ []
+
+-- the name of the second mode, where it is compatible with the first
+abbrev pub beside_text : Mode → Mode → List ℕ
+beside_text m other = cond (compatible m other) (codes " " ++ mode_name other) []
+
+-- a mode, and the published modes that are compatible with it
+abbrev pub compatible_line : Mode → List ℕ
+compatible_line m = line_of (codes "compat " ++ mode_name m ++ codes ":" ++ flat_map (beside_text m) published)
+
+-- two modes and their join
+abbrev pub join_line : Mode × Mode → List ℕ
+join_line pair = line_of (codes "join " ++ mode_name pair.0 ++ codes " " ++ mode_name pair.1 ++ codes " = " ++ mode_name (join pair.0 pair.1))
+
+-- the tables of modes
+unfoldable pub modes_lines : List ℕ
+modes_lines = flat_map compatible_line published ++ flat_map join_line conversions
 
 -- the line of deliveries that reached their bound
 abbrev pub unsettled_line : List ℕ

@@ -3,7 +3,7 @@ use Rattle.std.specs.Prelude.{◌≡◌, ◌≢◌, ℕ, zero, suc, ◌+◌, ◌
 use Rattle.std.specs.Result.{result_unwrap_or}
 use Rattle.std.specs.Str.Lines.{lines}
 use Rattle.std.specs.declared.vec.Vec.{Vec}
-use Rattle.krl_world.specs.States.{State, fresh, sent_count}
+use Rattle.krl_world.specs.States.{State, fresh, sent_count, range_held, key_held}
 use Rattle.krl_world.specs.Steps.{made, Steps}
 use Rattle.krl_world.specs.declared.step.Step.{Step}
 use Rattle.krl_world.specs.declared.step.Step.TheVariants as step
@@ -19,7 +19,7 @@ use Rattle.krl_script.specs.declared.fault.SyntaxFault.TheVariants.{TextTooLong}
 use Rattle.krl_script.specs.declared.fault.LineFault.{LineFault}
 use Rattle.krl_script.specs.declared.fault.LineFault.TheVariants as fault
 use Rattle.krl_script.specs.Words.{judged}
-use Rattle.krl_script.specs.Printing.{outcome_lines, making_lines, refused_line, unsettled_line, fault_line}
+use Rattle.krl_script.specs.Printing.{outcome_lines, making_lines, refused_line, unsettled_line, hold_line, modes_lines, fault_line}
 
 -- What is known between two lines: whether the world is made, the world, and the numbers of the messages that wait, oldest first.
 pub record Stage : Type 0 where
@@ -89,12 +89,18 @@ abbrev pub Seeds : Stage → List (ℕ × ℕ) → List ℕ → Stage → Type 0
 Seeds s entries out s' =
     (out ≡ making_lines (made entries)) × (s' ≡ record { begun = true; world = result_unwrap_or (made entries) (fresh []); waiting = s.waiting })
 
+-- What a client holds at a point is printed, or the refusal.
+abbrev pub Holds : Stage → ℕ → ℕ → List ℕ → Stage → Type 0
+Holds s c p out s' = (out ≡ hold_line c p (range_held s.world c p) (key_held s.world c p)) × (s' ≡ record s { begun = true })
+
 -- what is asked for prints this, from one stage to the next
 abbrev pub Obeys : Stage → Request → List ℕ → Stage → Type 0
 Obeys s request.Nothing out s' = (out ≡ []) × (s' ≡ s)
 Obeys s (request.Seed entries) out s' = Seeds s entries out s'
 Obeys s (request.Step step) out s' = Acts s step out s'
 Obeys s request.Settle out s' = Settles s out s'
+Obeys s (request.Hold c p) out s' = Holds s c p out s'
+Obeys s request.Modes out s' = (out ≡ modes_lines) × (s' ≡ s)
 
 -- a line prints this, or has this fault, or memory runs out
 abbrev pub ObeysLine : {Z : Type 0} → Stage → ℕ → List ℕ → Result (Vec ℕ Z) LineFault → Stage → Type 0

@@ -4,7 +4,6 @@ use Rattle.std.specs.List.{slice_split}
 use Rattle.std.specs.Str.{bytes_eq, all_ascii_digits}
 use Rattle.krl_modes.specs.declared.point.TheConstants.{END, TOP}
 use Rattle.krl_modes.specs.declared.mode.Mode.{Mode}
-use Rattle.krl_modes.specs.declared.mode.Mode.TheVariants as mode
 use Rattle.krl_modes.specs.Modes.{mode_named}
 use Rattle.krl_world.specs.declared.step.Step.TheVariants as step
 use Rattle.krl_world.specs.declared.step.Command.TheVariants as command
@@ -80,15 +79,9 @@ abbrev pub pairs_of : List (List ℕ) → Result (List (ℕ × ℕ)) SyntaxFault
 pairs_of [] = Ok []
 pairs_of (word ∷ words) = wanted BadPair (pair_of word) >>= λ pair. pairs_of words >>= λ pairs. Ok (pair ∷ pairs)
 
--- the mode, where `lock` takes it: so far RangeS-S alone
-abbrev pub taken : Option Mode → Option Mode
-taken None = None
-taken (Some mode.RangeSS) = Some mode.RangeSS
-taken (Some other) = None
-
 -- the mode that a word names
 abbrev pub mode_of : List ℕ → Result Mode SyntaxFault
-mode_of text = wanted BadMode (taken (mode_named text))
+mode_of text = wanted BadMode (mode_named text)
 
 -- a word as it stands in a script
 abbrev pub word_text : Word → List ℕ
@@ -97,10 +90,12 @@ word_text word.Client = codes "client"
 word_text word.Lock = codes "lock"
 word_text word.Settle = codes "settle"
 word_text word.Scan = codes "scan"
+word_text word.Hold = codes "hold"
+word_text word.Modes = codes "modes"
 
 -- every word
 abbrev pub all_words : List Word
-all_words = word.Seed ∷ word.Client ∷ word.Lock ∷ word.Settle ∷ word.Scan ∷ []
+all_words = word.Seed ∷ word.Client ∷ word.Lock ∷ word.Settle ∷ word.Scan ∷ word.Hold ∷ word.Modes ∷ []
 
 -- the word of this text
 abbrev pub word_named : List ℕ → Option Word
@@ -129,6 +124,8 @@ request_of word.Settle arguments = counted 0 arguments >>= λ _. Ok request.Sett
 request_of word.Scan arguments =
     counted 3 arguments >>= λ _. number_at arguments 0 >>= λ c. number_at arguments 1 >>= λ lo. number_at arguments 2 >>= λ hi.
     Ok (request.Step (step.Command c (command.Scan lo hi)))
+request_of word.Hold arguments = counted 2 arguments >>= λ _. number_at arguments 0 >>= λ c. number_at arguments 1 >>= λ p. Ok (request.Hold c p)
+request_of word.Modes arguments = counted 0 arguments >>= λ _. Ok request.Modes
 
 -- what a line of these words asks for, none of them empty
 abbrev pub meaning_of_words : List (List ℕ) → Result Request SyntaxFault

@@ -4,7 +4,7 @@ ghost use Rattle.std.specs.Result.{result_unwrap_or};
 ghost use Rattle.krl_world.specs.States.{State, fresh, sent_count};
 ghost use Rattle.krl_world.specs.Steps.{made, Steps};
 ghost use Rattle.krl_script.specs.Words.{Gives, judged};
-ghost use Rattle.krl_script.specs.Transcripts.{Stage, first_stage, numbers, after_step, Acts, Tries, Settles, Obeys, ObeysLine};
+ghost use Rattle.krl_script.specs.Transcripts.{Stage, first_stage, numbers, after_step, Acts, Tries, Settles, Holds, Obeys, ObeysLine};
 
 use crate::delivery::Delivery;
 use crate::fault::{LineFault, SyntaxFault};
@@ -178,6 +178,16 @@ impl Interpreter {
         Ok(Vec::new(self.alloc))
     }
 
+    // What the client holds at the point, or the refusal.
+    fn hold(&mut self, client: u64, point: u64) -> Result<Vec<u8>, AllocError>
+        ensures { IfOk result (λ line. Holds self.old client point line.items self.new) }
+    {
+        let world = world_or_empty(self.alloc, self.world.take())?;
+        let (range, key) = world.held(client, point);
+        self.world = Some(world);
+        print::held(self.alloc, client, point, range, key)
+    }
+
     /// Does what is asked for, and gives what that prints.
     pub fn obey(&mut self, request: Request) -> Result<Vec<u8>, AllocError>
         ensures { IfOk result (λ line. Obeys self.old request line.items self.new) }
@@ -187,6 +197,8 @@ impl Interpreter {
             Request::Seed(entries) => self.seed(entries),
             Request::Step(step) => self.act(step),
             Request::Settle => self.settle(),
+            Request::Hold(client, point) => self.hold(client, point),
+            Request::Modes => print::modes(self.alloc),
         }
     }
 

@@ -104,8 +104,8 @@ fn mode(word: &[u8]) -> Result<Mode, LineFault>
     ensures { Gives result (mode_of word.now) }
 {
     match Mode::from_name(word) {
-        Some(Mode::RangeSS) => Ok(Mode::RangeSS),
-        _ => Err(LineFault::Syntax(SyntaxFault::BadMode)),
+        Some(mode) => Ok(mode),
+        None => Err(LineFault::Syntax(SyntaxFault::BadMode)),
     }
 }
 
@@ -173,6 +173,16 @@ fn request(alloc: Global, word: Word, arguments: &[&[u8]]) -> Result<Request, Li
             let lo = number_at(arguments, 1)?;
             let hi = number_at(arguments, 2)?;
             Ok(Request::Step(Step::Command(client, Command::Scan { lo, hi })))
+        }
+        Word::Hold => {
+            count(2, arguments)?;
+            let client = number_at(arguments, 0)?;
+            let point = number_at(arguments, 1)?;
+            Ok(Request::Hold(client, point))
+        }
+        Word::Modes => {
+            count(0, arguments)?;
+            Ok(Request::Modes)
         }
     }
 }

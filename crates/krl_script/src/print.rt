@@ -2,11 +2,21 @@
 ghost use Rattle.std.specs.Prelude.{◌≡◌, ℕ, List, [], ◌∷◌, ◌++◌, IfOk, OnOk};
 ghost use Rattle.std.specs.Fmt.{decimal};
 ghost use Rattle.std.specs.List.{flat_map};
-ghost use Rattle.krl_script.specs.Printing.{refusal_name, row_text, refused_line, answer_lines, outcome_lines, making_lines, unsettled_line, fault_text, fault_line};
+ghost use Rattle.krl_script.specs.Printing.{refusal_name, row_text, refused_line, answer_lines, outcome_lines, making_lines, hold_line, beside_text, compatible_line, join_line, modes_lines, unsettled_line, fault_text, fault_line};
 
 use crate::fault::SyntaxFault;
+use krl_modes::{END, KeyPart, Mode, RangePart};
 use krl_world::{Answer, Refused, World};
 use std::alloc::{AllocError, Global};
+
+// The pairs of published modes whose joins are the conversion modes.
+const CONVERSIONS: [(Mode, Mode); 5] = [
+    (Mode::S, Mode::RangeIN),
+    (Mode::U, Mode::RangeIN),
+    (Mode::X, Mode::RangeIN),
+    (Mode::RangeIN, Mode::RangeSS),
+    (Mode::RangeIN, Mode::RangeSU),
+];
 
 fn refusal_name(refused: Refused) -> &'static str
     ensures { result.now ≡ refusal_name refused }
@@ -134,6 +144,105 @@ pub fn making(alloc: Global, outcome: &Result<World, Refused>) -> Result<Vec<u8>
         Ok(_) => Ok(Vec::new(alloc)),
         Err(reason) => refused(alloc, *reason),
     }
+}
+
+/// The line of what a client holds at a point: its range part and its key part there. A client above 63 is refused, and then a
+/// point above END.
+pub fn held(
+    alloc: Global,
+    client: u64,
+    point: u64,
+    range: RangePart,
+    key: KeyPart,
+) -> Result<Vec<u8>, AllocError>
+    ensures { IfOk result (λ line. line.items ≡ hold_line client point range key) }
+{
+    if client > 63 {
+        return refused(alloc, Refused::BadClient);
+    }
+    if point > END {
+        return refused(alloc, Refused::BadPoint);
+    }
+    let mut line = Vec::new(alloc);
+    push_text(&mut line, "hold ")?;
+    push_text(&mut line, range.name())?;
+    push_text(&mut line, " ")?;
+    push_text(&mut line, key.name())?;
+    end_line(&mut line)?;
+    Ok(line)
+}
+
+// The other mode's name, where the two go together.
+fn push_beside(line: &mut Vec<u8>, mode: Mode, other: Mode) -> Result<(), AllocError>
+    ensures ok { OnOk result (line.new.items ≡ line.old.items ++ beside_text mode other) }
+{
+    if mode.compatible(other) {
+        push_text(line, " ")?;
+        push_text(line, other.name())?;
+    }
+    Ok(())
+}
+
+fn push_all_beside(line: &mut Vec<u8>, mode: Mode, others: &[Mode]) -> Result<(), AllocError>
+    ensures ok { OnOk result (line.new.items ≡ line.old.items ++ flat_map (beside_text mode) others.now) }
+{
+    for other in others {
+        push_beside(line, mode, *other)?;
+    }
+    Ok(())
+}
+
+// The line of the published modes that go beside one.
+fn push_compatible(lines: &mut Vec<u8>, mode: Mode) -> Result<(), AllocError>
+    ensures ok { OnOk result (lines.new.items ≡ lines.old.items ++ compatible_line mode) }
+{
+    push_text(lines, "compat ")?;
+    push_text(lines, mode.name())?;
+    push_text(lines, ":")?;
+    push_all_beside(lines, mode, &Mode::PUBLISHED)?;
+    end_line(lines)
+}
+
+fn push_all_compatible(lines: &mut Vec<u8>, modes: &[Mode]) -> Result<(), AllocError>
+    ensures ok { OnOk result (lines.new.items ≡ lines.old.items ++ flat_map compatible_line modes.now) }
+{
+    for mode in modes {
+        push_compatible(lines, *mode)?;
+    }
+    Ok(())
+}
+
+// The line of a join of two published modes.
+fn push_join(lines: &mut Vec<u8>, first: Mode, second: Mode) -> Result<(), AllocError>
+    ensures ok { OnOk result (lines.new.items ≡ lines.old.items ++ join_line (first, second)) }
+{
+    push_text(lines, "join ")?;
+    push_text(lines, first.name())?;
+    push_text(lines, " ")?;
+    push_text(lines, second.name())?;
+    push_text(lines, " = ")?;
+    push_text(lines, first.join(second).name())?;
+    end_line(lines)
+}
+
+fn push_all_joins(lines: &mut Vec<u8>, pairs: &[(Mode, Mode)]) -> Result<(), AllocError>
+    ensures ok { OnOk result (lines.new.items ≡ lines.old.items ++ flat_map join_line pairs.now) }
+{
+    for (first, second) in pairs {
+        push_join(lines, *first, *second)?;
+    }
+    Ok(())
+}
+
+/// The tables of modes: which published modes go together, and the joins that give the conversion modes.
+#[tactic(auto, unfolding(crate::specs::Printing::modes_lines))]
+pub fn modes(alloc: Global) -> Result<Vec<u8>, AllocError>
+    ensures { IfOk result (λ lines. lines.items ≡ modes_lines) }
+{
+    let mut lines = Vec::new(alloc);
+    push_all_compatible(&mut lines, &Mode::PUBLISHED)?;
+    push_all_joins(&mut lines, &CONVERSIONS)?;
+    Ok(lines)
 }
 
 /// The line of a `settle` that reached its bound.

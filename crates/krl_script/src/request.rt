@@ -42,6 +42,10 @@ pub enum Request {
     Step(Step),
     /// Deliveries until no message waits.
     Settle,
+    /// What a client holds at a point: its number, and the point.
+    Hold(u64, u64),
+    /// The tables of modes.
+    Modes,
 }
 
 impl Request {

@@ -130,7 +130,21 @@ fn run(alloc: Global, text: &[u8]) -> (Result<(), ScriptFault>, Vec<u8>) {
     run_on(alloc, &mut AnyReader(text), usize::MAX)
 }
 
-const WHOLE: [(&str, &str); 28] = [
+const TABLES: &str = "compat S: S U RangeS-S RangeS-U RangeI-N
+compat U: S RangeS-S RangeI-N
+compat X: RangeI-N
+compat RangeS-S: S U RangeS-S RangeS-U
+compat RangeS-U: S RangeS-S
+compat RangeI-N: S U X RangeI-N
+compat RangeX-X:
+join S RangeI-N = RangeI-S
+join U RangeI-N = RangeI-U
+join X RangeI-N = RangeI-X
+join RangeI-N RangeS-S = RangeX-S
+join RangeI-N RangeS-U = RangeX-U
+";
+
+const WHOLE: [(&str, &str); 34] = [
     (FIRST, "rows 10=1\nmiss 11\n"),
     (
         "client 0\nsettle\nlock 0 0 RangeS-S\nsettle\nscan 0 0 END\nscan 0 0 TOP\n",
@@ -180,9 +194,27 @@ const WHOLE: [(&str, &str); 28] = [
         "client 1\nclient 2\nsettle\nlock 1 0 RangeS-S\nlock 2 0 RangeS-S\nsettle\nscan 1 0 1\nscan 2 0 1\n",
         "rows\nrows\n",
     ),
+    ("modes\n", TABLES),
+    ("modes\nseed 10=1\n", TABLES),
+    (
+        "seed 10=1 20=2\nclient 0\nsettle\nlock 0 5 RangeS-S\nsettle\nlock 0 11 RangeS-S\nsettle\nlock 0 21 RangeS-S\nsettle\nscan 0 0 100\nhold 0 21\nhold 0 END\n",
+        "rows 10=1 20=2\nhold S N\nhold S S\n",
+    ),
+    (
+        "seed 10=1 20=2\nclient 0\nclient 1\nsettle\nlock 0 5 RangeS-S\nsettle\nlock 1 5 RangeS-U\nsettle\nhold 0 5\nhold 0 10\nhold 1 10\nhold 1 END\n",
+        "hold S N\nhold S S\nhold S U\nhold N N\n",
+    ),
+    (
+        "seed 10=1\nclient 0\nclient 1\nsettle\nlock 0 5 RangeI-N\nlock 1 5 RangeI-N\nsettle\nlock 0 10 X\nsettle\nlock 1 10 S\nsettle\nlock 0 11 U\nsettle\nhold 0 10\nhold 1 10\nscan 0 0 11\nscan 0 10 11\nlock 1 10 S\n",
+        "hold I X\nhold I N\nmiss 0\nrows 10=1\nrefused Busy\n",
+    ),
+    (
+        "hold 64 TOP\nhold 63 TOP\nhold 63 END\n",
+        "refused BadClient\nrefused BadPoint\nhold N N\n",
+    ),
 ];
 
-const FAULTS: [(&str, u64, SyntaxFault); 36] = [
+const FAULTS: [(&str, u64, SyntaxFault); 41] = [
     ("start\n", 1, SyntaxFault::UnknownWord),
     ("Seed 1=1\n", 1, SyntaxFault::UnknownWord),
     (
@@ -200,7 +232,10 @@ const FAULTS: [(&str, u64, SyntaxFault); 36] = [
     ("lock 0 5\n", 1, SyntaxFault::MissingArgument),
     ("lock x y\n", 1, SyntaxFault::MissingArgument),
     ("scan 0 0\n", 1, SyntaxFault::MissingArgument),
+    ("hold 0\n", 1, SyntaxFault::MissingArgument),
     ("client 0 0\n", 1, SyntaxFault::ExtraArgument),
+    ("hold 0 5 5\n", 1, SyntaxFault::ExtraArgument),
+    ("modes 1\n", 1, SyntaxFault::ExtraArgument),
     ("lock x 5 N N\n", 1, SyntaxFault::ExtraArgument),
     ("settle 1\n", 1, SyntaxFault::ExtraArgument),
     ("scan 0 0 1 2\n", 1, SyntaxFault::ExtraArgument),
@@ -213,12 +248,13 @@ const FAULTS: [(&str, u64, SyntaxFault); 36] = [
     ("client 000000000000000000063\n", 1, SyntaxFault::BadNumber),
     ("client 18446744073709551616\n", 1, SyntaxFault::BadNumber),
     ("lock 0 x N\n", 1, SyntaxFault::BadNumber),
+    ("hold 0 x\n", 1, SyntaxFault::BadNumber),
     ("scan 0 0 1_0\n", 1, SyntaxFault::BadNumber),
     ("seed 1=1 2\n", 1, SyntaxFault::BadPair),
     ("seed 10=1=2\n", 1, SyntaxFault::BadPair),
     ("seed =1\n", 1, SyntaxFault::BadPair),
     ("seed 1=\n", 1, SyntaxFault::BadPair),
-    ("lock 0 5 RangeS-U\n", 1, SyntaxFault::BadMode),
+    ("lock 0 5 RangeS-N\n", 1, SyntaxFault::BadMode),
     ("lock 0 5 ranges-s\n", 1, SyntaxFault::BadMode),
     (
         "seed 1=1\n\n# a second\nseed 2=2\n",
@@ -226,6 +262,7 @@ const FAULTS: [(&str, u64, SyntaxFault); 36] = [
         SyntaxFault::LateSeed,
     ),
     ("settle\nseed 1=1\n", 2, SyntaxFault::LateSeed),
+    ("client 0\nmodes 1\n", 2, SyntaxFault::ExtraArgument),
     ("client 0\nseed 1\n", 2, SyntaxFault::BadPair),
 ];
 

@@ -10,16 +10,20 @@ pub enum Word {
     Lock,
     Settle,
     Scan,
+    Hold,
+    Modes,
 }
 
 impl Word {
     /// Every word.
-    pub const ALL: [Word; 5] = [
+    pub const ALL: [Word; 7] = [
         Word::Seed,
         Word::Client,
         Word::Lock,
         Word::Settle,
         Word::Scan,
+        Word::Hold,
+        Word::Modes,
     ];
 
     /// The word as it stands in a script.
@@ -32,6 +36,8 @@ impl Word {
             Word::Lock => "lock",
             Word::Settle => "settle",
             Word::Scan => "scan",
+            Word::Hold => "hold",
+            Word::Modes => "modes",
         }
     }
 

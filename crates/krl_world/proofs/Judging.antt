@@ -1,5 +1,5 @@
 -- How a lock request is judged.
-use Rattle.std.proofs.Common.{◌≡◌, ℕ, Bool, true, false, List, Option, Result, Ok, Err, refl, sym, ap, ◌∙◌, ◌&&◌, ◌||◌, not}
+use Rattle.std.proofs.Common.{◌≡◌, ℕ, Bool, true, false, Option, Result, Ok, Err, refl, sym, ap, ◌∙◌, ◌&&◌, ◌||◌, not}
 use Rattle.std.specs.Prelude.{nat_eq, is_some, OnErr}
 use Rattle.std.specs.FinMap as map
 use Rattle.krl_modes.specs.declared.mode.Mode.{Mode}

@@ -3,20 +3,19 @@ use Rattle.std.proofs.Common.{◌≡◌, ◌≢◌, ℕ, zero, suc, ◌+◌, ◌
 use Rattle.std.proofs.Math.ListN.{get_or-eq_default}
 use Rattle.std.proofs.lemmas.List.{length-replicate, get_or-replicate}
 use Rattle.std.proofs.lemmas.Bool.Decides.{nat_tests, eqb_tells}
-use Rattle.std.specs.Prelude.{nat_lt, nat_le, nat_eq, slice_index_or, unwrap_or, is_some}
+use Rattle.std.specs.Prelude.{nat_lt, nat_le, nat_eq, slice_index_or, unwrap_or}
 use Rattle.std.specs.List.{AllByRecursion, list_all, enumerate_from, slice_get}
 use Rattle.std.specs.Ordering.{nat_cmp, eq_by_cmp}
 use Rattle.std.specs.Cmp.{nat_cmp_total}
 use Rattle.std.specs.FinMap.Entries.{find}
 use Rattle.std.specs.Prelude.{replicate}
 use Rattle.std.specs.FinMap as map
-use Rattle.krl_modes.specs.declared.point.TheConstants.{END, TOP}
+use Rattle.krl_modes.specs.declared.point.TheConstants.{END}
 use Rattle.krl_modes.specs.declared.mode.Mode.{Mode}
 use Rattle.krl_modes.specs.declared.mode.Mode.TheVariants as mode
-use Rattle.krl_modes.specs.Modes.{at_most, compatible, join}
-use Rattle.krl_modes.proofs.ModeLaws.{mode_order, mode_compatibility, join_bound}
+use Rattle.krl_modes.specs.Modes.{at_most, compatible}
+use Rattle.krl_modes.proofs.ModeLaws.{join_bound}
 use Rattle.krl_modes.proofs.Tables.{by_table}
-use Rattle.krl_world.specs.declared.holding.Holding.{Holding}
 use Rattle.krl_world.specs.declared.client.Client.{Client}
 use Rattle.krl_world.specs.declared.message.Message.{Message}
 use Rattle.krl_world.specs.declared.message.Message.TheVariants.{Hello, Epoch, Lock, Grant, Absent}
@@ -29,7 +28,7 @@ use Rattle.krl_world.specs.declared.refused.Refused.{Refused}
 use Rattle.krl_world.specs.declared.refused.Refused.TheVariants as refused
 use Rattle.krl_world.specs.Index.{slot_of, has_key}
 use Rattle.krl_world.specs.States.{State, absent, fresh, client_of}
-use Rattle.krl_world.specs.Steps.{granted_mode, goes_beside, wanted_join, holding_of, is_absent, with_client, sends, taken_off, after_request, after_lock, after_message, after_delivery, after_command, after, command_refusal, refusal_of, Takes, Runs, IsReachable, entries_refusal, entries_refusal_after, most_entries}
+use Rattle.krl_world.specs.Steps.{granted_mode, goes_beside, wanted_join, holding_of, is_absent, with_client, sends, after_request, after_lock, after_message, after_delivery, after_command, after, command_refusal, refusal_of, Takes, Runs, IsReachable, entries_refusal, entries_refusal_after, most_entries}
 use Rattle.krl_world.specs.Sound.{IsPieceOf, IsRight, granted_in, IsSound}
 use Rattle.krl_world.proofs.Pieces.{slot_is_slot, holding_is_piece}
 use Rattle.krl_world.proofs.Sounds.{changed_client, sound_client, sound_sends, sound_taken_off, grows_same, grows_held, grows_granted, granted_here}

@@ -1,9 +1,8 @@
 -- Each step has some outcome, and what the making of a world gives: what a crate above needs to know beside the relations themselves.
-use Rattle.std.proofs.Common.{◌≡◌, ◌≢◌, ℕ, zero, suc, ◌+◌, ◌-◌, ◌≤◌, ◌<◌, nat_le, Bool, true, false, List, [], Option, None, Some, Result, Ok, Err, refl, sym, ap, subst, ◌∙◌, arith, ◌⊎◌, inl, inr, add-zero}
+use Rattle.std.proofs.Common.{◌≡◌, ◌≢◌, ℕ, zero, suc, ◌+◌, ◌-◌, ◌≤◌, ◌<◌, nat_le, Bool, true, false, List, [], Option, None, Some, Result, Ok, Err, refl, sym, subst, arith, ◌⊎◌, inl, inr}
 use Rattle.std.proofs.lemmas.Bool.Decides.{nat_tests, eqb_tells}
 use Rattle.krl_world.specs.declared.step.Step.{Step}
 use Rattle.krl_world.specs.declared.step.Step.TheVariants as step
-use Rattle.krl_world.specs.declared.step.Command.{Command}
 use Rattle.krl_world.specs.declared.step.Command.TheVariants as command
 use Rattle.krl_world.specs.declared.answer.Answer.{Answer}
 use Rattle.krl_world.specs.declared.answer.Answer.TheVariants as told
@@ -11,7 +10,7 @@ use Rattle.krl_world.specs.declared.refused.Refused.{Refused}
 use Rattle.krl_world.specs.declared.refused.Refused.TheVariants as refused
 use Rattle.krl_world.specs.Holdings.{Holdings, is_covered, CoversAll, IsLeastUncovered, rows_in}
 use Rattle.krl_world.specs.States.{State, fresh, client_of}
-use Rattle.krl_world.specs.Steps.{made, Makes, refusal_of, Scans, AnswersCommand, Answers, after, Steps}
+use Rattle.krl_world.specs.Steps.{made, Makes, refusal_of, Scans, Answers, after, Steps}
 
 -- the client knows n points from lo on, or there is a least one that it doesn't know
 known_or_not : (held : Holdings) (lo n : ℕ) → CoversAll held lo (lo + n) ⊎ ((p : ℕ) × IsLeastUncovered held lo (lo + n) p)

@@ -1,9 +1,9 @@
 -- What holds inside a world makes its promises true.
-use Rattle.std.proofs.Common.{◌≡◌, ◌≢◌, ℕ, suc, ◌+◌, ◌≤◌, ◌<◌, Bool, true, false, cond, List, [], ◌∷◌, Option, None, Some, T, refl, sym, ap, subst, ◌∙◌, arith, ◌⊎◌, inl, inr, ◌&&◌, ◌||◌}
+use Rattle.std.proofs.Common.{◌≡◌, ◌≢◌, ℕ, ◌≤◌, ◌<◌, Bool, true, false, cond, List, [], ◌∷◌, Option, None, Some, T, refl, sym, ap, subst, ◌∙◌, arith, inl, inr, ◌&&◌, ◌||◌}
 use Rattle.std.proofs.lemmas.Bool.Decides.{nat_tests, eqb_tells}
 use Rattle.std.proofs.lemmas.List.{get_or_default}
 use Rattle.std.proofs.Math.ListN.{get_or-eq_default}
-use Rattle.std.specs.Prelude.{nat_lt, nat_le, nat_eq, slice_index_or, length}
+use Rattle.std.specs.Prelude.{nat_lt, nat_le, slice_index_or, length}
 use Rattle.std.specs.declared.cmp.Ordering.TheVariants.{Equal}
 use Rattle.std.specs.List.{filter, filter_map, cons_option, AllByRecursion}
 use Rattle.std.specs.List as list
@@ -11,14 +11,14 @@ use Rattle.std.specs.Ordering.{nat_cmp, eq_by_cmp, is_lt}
 use Rattle.std.specs.Cmp.{nat_cmp_total}
 use Rattle.std.specs.FinMap as map
 use Rattle.std.specs.FinMap.Entries.{find, is_sorted, below_all, same_entries, find-where_key, is_sorted-where_key}
-use Rattle.krl_modes.specs.declared.point.TheConstants.{END, TOP}
+use Rattle.krl_modes.specs.declared.point.TheConstants.{END}
 use Rattle.krl_modes.specs.declared.part.RangePart.{RangePart}
 use Rattle.krl_modes.specs.declared.part.RangePart.TheVariants as range
 use Rattle.krl_modes.specs.declared.part.KeyPart.{KeyPart}
 use Rattle.krl_modes.specs.declared.part.KeyPart.TheVariants as key
 use Rattle.krl_modes.specs.declared.mode.Mode.{Mode}
 use Rattle.krl_modes.specs.Parts.{range_at_most, key_at_most, ranges_compatible, keys_compatible}
-use Rattle.krl_modes.specs.Modes.{range_of, key_of, at_most, compatible}
+use Rattle.krl_modes.specs.Modes.{range_of, key_of, compatible}
 use Rattle.krl_modes.proofs.PartLaws.{range_compatibility, key_compatibility}
 use Rattle.krl_modes.proofs.ModeLaws.{mode_compatibility, reads_its_key}
 use Rattle.krl_world.specs.declared.holding.Holding.{Holding}
@@ -27,7 +27,6 @@ use Rattle.krl_world.specs.Index as index
 use Rattle.krl_world.specs.Holdings.{Holdings, lies_over, piece_at, range_of_piece, key_of_entry, value_of_entry, range_at, key_at, value_at, reads_key, reads_gap, is_covered, CoversAll, row_of_value, row_of, rows_in, BeginAbove, AreApart, AreKept}
 use Rattle.krl_world.specs.declared.client.Client.{Client}
 use Rattle.krl_world.specs.States.{State, absent, client_of, range_held, key_held}
-use Rattle.krl_world.specs.Steps.{value_for}
 use Rattle.krl_world.specs.Promises.{IsCompatible}
 use Rattle.krl_world.specs.Sound.{IsSlot, IsPieceOf, granted_in, IsSound}
 use Rattle.krl_world.proofs.Slots.{Above, Rises, rises}

@@ -1,8 +1,5 @@
 -- Steps, taken or refused, and the promises of the world that they leave.
-use Rattle.std.proofs.Common.{◌≡◌, ℕ, List, Option, None, Some, Result, Ok, Err, refl, sym, ap, subst, ◌∙◌, inl, inr}
-use Rattle.std.specs.FinMap as map
-use Rattle.krl_modes.specs.declared.part.RangePart.{RangePart}
-use Rattle.krl_modes.specs.declared.part.KeyPart.{KeyPart}
+use Rattle.std.proofs.Common.{◌≡◌, ℕ, List, Option, None, Some, Result, Ok, Err, refl, sym, subst, ◌∙◌, inl, inr}
 use Rattle.krl_world.specs.declared.step.Step.{Step}
 use Rattle.krl_world.specs.declared.step.Step.TheVariants as step
 use Rattle.krl_world.specs.declared.step.Command.TheVariants as command
@@ -10,7 +7,7 @@ use Rattle.krl_world.specs.declared.answer.Answer.{Answer}
 use Rattle.krl_world.specs.declared.answer.Answer.TheVariants as told
 use Rattle.krl_world.specs.declared.refused.Refused.{Refused}
 use Rattle.krl_world.specs.declared.refused.Refused.TheVariants as refused
-use Rattle.krl_world.specs.States.{State, fresh, client_of}
+use Rattle.krl_world.specs.States.{State, fresh}
 use Rattle.krl_world.specs.Steps.{entries_refusal, made_by, made, Makes, Steps, IsReachable}
 use Rattle.krl_world.specs.Sound.{IsSound}
 use Rattle.krl_world.specs.Promises.{IsCompatible, ScansIndex}

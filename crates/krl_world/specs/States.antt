@@ -1,6 +1,5 @@
 -- What a world is to its callers.
-use Rattle.std.specs.Prelude.{ℕ, Bool, false, cond, List, [], length, slice_index_or, replicate}
-use Rattle.std.specs.Ordering.{nat_cmp}
+use Rattle.std.specs.Prelude.{ℕ, false, cond, List, [], length, slice_index_or, replicate}
 use Rattle.std.specs.FinMap as map
 use Rattle.krl_world.specs.declared.client.Client.{Client}
 use Rattle.krl_modes.specs.declared.part.RangePart.{RangePart}

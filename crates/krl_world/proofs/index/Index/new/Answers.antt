@@ -1,10 +1,10 @@
-use Rattle.std.proofs.Common.{◌≡◌, ℕ, List, ap, sym, subst, inr, refl, ◌∙◌, true, false, arith, ◌<◌, ◌≤◌, nat_lt, nat_le, is_some, get_or, take, length}
+use Rattle.std.proofs.Common.{◌≡◌, ap, sym, subst, inr, ◌∙◌, true, false, arith, ◌<◌, ◌≤◌, nat_lt, nat_le, is_some, get_or, take, length}
 use Rattle.std.proofs.lemmas.Bool.Decides.{nat_tests}
 use Rattle.std.proofs.lemmas.List.{take_more, take_all}
 use Rattle.std.specs.List.{AllByRecursion}
 use Rattle.std.specs.FinMap as map
 use Rattle.krl_modes.specs.declared.point.TheConstants.{END}
-use Rattle.krl_world.proofs.Openings.{seen_key, more_seen, below_end_more, none_below, judged_first, judged_more, judged_twice, judged_bad_key, judged_all, not_full, sorted_entries, same_entries_seen}
+use Rattle.krl_world.proofs.Openings.{seen_key, more_seen, below_end_more, none_below, judged_first, judged_more, judged_twice, judged_all, not_full, sorted_entries, same_entries_seen}
 use Rattle.krl_world.proofs.index.Index.new.Goals as goal
 
 pub loop-key-init : goal.loop-key-init

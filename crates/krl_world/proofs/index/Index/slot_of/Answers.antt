@@ -1,4 +1,4 @@
-use Rattle.std.proofs.Common.{◌≡◌, ℕ, List, take, drop, ap, sym, subst, ◌∙◌, true, false, nat_lt}
+use Rattle.std.proofs.Common.{◌≡◌, take, drop, ap, subst, ◌∙◌, true, false, nat_lt}
 use Rattle.std.specs.List.{AllByRecursion}
 use Rattle.krl_world.proofs.Slots.{cut_at, no_slot, some_slot, keys_in_front}
 use Rattle.krl_world.proofs.index.Index.slot_of.Goals as goal

@@ -1,7 +1,7 @@
 use Rattle.std.proofs.Common.{◌≡◌, ◌∙◌, sym, subst, true, false}
 use Rattle.std.specs.Prelude.{OnOk}
 use Rattle.krl_world.specs.States.{State}
-use Rattle.krl_world.specs.Steps.{is_absent, goes_beside}
+use Rattle.krl_world.specs.Steps.{is_absent}
 use Rattle.krl_world.proofs.Judging.{absent_by_slot, judged_absent, judged, absent_takes_memory, grant_takes_memory, on_err_both}
 use Rattle.krl_world.proofs.plain.Plain.judge.Goals as goal
 
