@@ -4,7 +4,8 @@ use krl_script::{ScriptFault, SyntaxFault};
 /// What to do about a fault of a script.
 pub fn for_fault(fault: ScriptFault) -> &'static str {
     match fault {
-        ScriptFault::Read => "no line was run; see that standard input is open and has an end",
+        ScriptFault::Read(_) => "no line was run; see that standard input can be read",
+        ScriptFault::NoEnd => "no line was run; see that standard input has an end",
         ScriptFault::Write => {
             "standard output has the beginning; see that it is open and has room"
         }
@@ -26,8 +27,10 @@ fn for_syntax(what: SyntaxFault) -> &'static str {
         SyntaxFault::BadNumber =>
             "write 1 to 20 digits, at most 18446744073709551615, or END or TOP",
         SyntaxFault::BadPair => "write a key and its value as 10=1",
-        SyntaxFault::BadMode =>
-            "write one of N, S, U, X, RangeS-S, RangeS-U, RangeI-N, RangeI-S, RangeI-U, RangeI-X, RangeX-S, RangeX-U, RangeX-X",
-        SyntaxFault::LateSeed => "'seed' stands once, before every other word",
+        SyntaxFault::BadMode => {
+            "write one of N, S, U, X, RangeS-S, RangeS-U, RangeI-N, RangeI-S, RangeI-U, RangeI-X, \
+             RangeX-S, RangeX-U, RangeX-X"
+        }
+        SyntaxFault::LateSeed => "'seed' stands once, before every other word but 'modes'",
     }
 }

@@ -9,17 +9,28 @@ use krl_script::{AnyReader, AnyWriter, ScriptFault, run_script};
 use std::io;
 use std::process::ExitCode;
 
-// Does what the command line says. Words that clap refuses are status 2, and every other failure is status 1.
+// The status of a command line that asks for no run.
+const USAGE: u8 = 2;
+
+// Does what the command line says. Words that are refused are status 2, also where standard error
+// can't be written to say so, and every other failure is status 1.
 fn run(rt: &HostRuntime) -> io::Result<ExitCode> {
-    let words: Vec<String> = std::env::args(rt)?.collect(rt.alloc())?;
+    let words = match std::env::args(rt) {
+        Err(error) if error.kind() == io::ErrorKind::InvalidData => {
+            let _ = eprintln!(rt; "krl: a word of the command line is no UTF-8 (try 'krl --help')");
+            return Ok(ExitCode::from(USAGE));
+        }
+        words => words?,
+    };
+    let words: Vec<String> = words.collect(rt.alloc())?;
     match command::matches(rt.alloc(), words.as_slice()) {
         Ok(()) => script(rt),
         Err(error) if error.kind() == ErrorKind::OutOfMemory => {
             Err(io::Error::from(io::ErrorKind::OutOfMemory))
         }
         Err(error) => {
-            rt.eprint(&error)?;
-            Ok(ExitCode::from(2))
+            let _ = rt.eprint(&error);
+            Ok(ExitCode::from(USAGE))
         }
     }
 }

@@ -1,14 +1,37 @@
-//! What a client holds of one slot.
-use krl_modes::{Mode, Span};
+//! What a client holds of a slot.
+ghost use Rattle.std.specs.Prelude.{◌≡◌, ◌+◌};
+ghost use Rattle.krl_messages.specs.Holdings.{has_its_value};
+
+use crate::value::Value;
+use krl_modes::{END, KeyPart, Mode, Span};
 
 /// What the server's table gives a client of one slot, when the message was made.
-#[derive(Clone, Copy, Debug, PartialEq, Eq, Hash)]
+#[derive(Clone, Copy, PartialEq, Eq)]
 pub struct Holding {
     /// The slot's span: the points after the entry before, up to the slot itself, which is its last point.
     pub span: Span,
     /// The client's mode there: its range part covers the whole span, its key part the last point.
     pub mode: Mode,
     /// The entry's value. It is present exactly where the key part is at least S and the slot is not END;
-    /// a client ignores a push that breaks this rule.
-    pub value: Option<u64>,
+    /// a client ignores a push that breaks this rule, which is this project's own.
+    pub value: Option<Value>,
+}
+
+impl Holding {
+    /// The slot: the last point of the span, from 0 to END.
+    pub fn slot(self) -> u64
+        ensures { result + 1 ≡ self.span.hi }
+    {
+        self.span.last()
+    }
+
+    /// Whether the value is there exactly where it has to be: where the key part is at least S and the slot
+    /// is not END.
+    pub fn has_its_value(self) -> bool
+        ensures { result ≡ has_its_value self }
+    {
+        let (_range, key) = self.mode.parts();
+        let is_read = KeyPart::S.at_most(key) && self.slot() != END;
+        self.value.is_some() == is_read
+    }
 }

@@ -6,22 +6,23 @@
 #![tactic(auto)]
 
 mod holding;
+mod items;
 mod key_pieces;
 mod outcome;
 mod pieces;
 mod range_pieces;
 mod to_client;
 mod to_server;
+mod value;
 mod write_op;
 
 pub use holding::Holding;
+pub use items::Items;
 pub use key_pieces::{KeyPiece, KeyPieces};
 pub use outcome::Outcome;
 pub use pieces::Pieces;
 pub use range_pieces::{RangePiece, RangePieces};
 pub use to_client::{PushBody, ToClient, ToClientBody};
 pub use to_server::{Request, RequestBody, ToServer, ToServerBody};
+pub use value::Value;
 pub use write_op::WriteOp;
-
-#[cfg(test)]
-mod tests;

@@ -1,7 +1,7 @@
 //! What became of a write.
 
 /// How the server judged a write. Only `Applied` changed the index.
-#[derive(Clone, Copy, Debug, PartialEq, Eq, Hash)]
+#[derive(Clone, Copy, PartialEq, Eq)]
 pub enum Outcome {
     /// The index has changed as the write says.
     Applied,

@@ -6,7 +6,7 @@ use crate::range_pieces::RangePieces;
 use std::alloc::{AllocError, Global};
 
 /// What a client holds: range parts on spans, and key parts at points.
-#[derive(Debug, PartialEq, Eq, Drop)]
+#[derive(PartialEq, Eq, Drop)]
 pub struct Pieces {
     /// The range parts. Where spans overlap, the least part counts that is at least each of theirs.
     pub ranges: RangePieces,

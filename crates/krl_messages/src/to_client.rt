@@ -4,7 +4,7 @@ use crate::outcome::Outcome;
 use krl_modes::{Mode, Span};
 
 /// A message from the server to one client. It takes no memory, so a copy of it is the language's own.
-#[derive(Clone, Copy, Debug, PartialEq, Eq, Hash)]
+#[derive(Clone, Copy, PartialEq, Eq)]
 pub struct ToClient {
     /// The number of the client that is spoken to.
     pub client: u64,
@@ -15,7 +15,7 @@ pub struct ToClient {
 }
 
 /// What the server says to a client.
-#[derive(Clone, Copy, Debug, PartialEq, Eq, Hash)]
+#[derive(Clone, Copy, PartialEq, Eq)]
 pub enum ToClientBody {
     /// Answers a Hello and a message of another epoch, and reminds a client whose report the server still
     /// waits for. A client that knows only a lower epoch adopts this one and reports what it holds; others
@@ -48,7 +48,7 @@ pub enum ToClientBody {
 }
 
 /// What a push carries.
-#[derive(Clone, Copy, Debug, PartialEq, Eq, Hash)]
+#[derive(Clone, Copy, PartialEq, Eq)]
 pub enum PushBody {
     /// Answers a lock request: it is granted. The client had to wait for it until nobody's lock forbade it.
     Grant {

@@ -7,7 +7,7 @@ use krl_modes::{Mode, Span};
 use std::alloc::{AllocError, Global};
 
 /// A message from a client to the server.
-#[derive(Debug, PartialEq, Eq, Drop)]
+#[derive(PartialEq, Eq, Drop)]
 pub struct ToServer {
     /// The sender's number. The server ignores one above 63.
     pub client: u64,
@@ -18,7 +18,7 @@ pub struct ToServer {
 }
 
 /// What a client says to the server.
-#[derive(Debug, PartialEq, Eq, Drop)]
+#[derive(PartialEq, Eq, Drop)]
 pub enum ToServerBody {
     /// Sent by a client that has joined no epoch yet, again and again until it hears of one.
     Hello,
@@ -37,7 +37,7 @@ pub enum ToServerBody {
 }
 
 /// A request, with the head by which the server judges all requests alike.
-#[derive(Clone, Copy, Debug, PartialEq, Eq, Hash)]
+#[derive(Clone, Copy, PartialEq, Eq)]
 pub struct Request {
     /// The epoch that the client has joined.
     pub epoch: u64,
@@ -49,7 +49,7 @@ pub struct Request {
 }
 
 /// What a request asks.
-#[derive(Clone, Copy, Debug, PartialEq, Eq, Hash)]
+#[derive(Clone, Copy, PartialEq, Eq)]
 pub enum RequestBody {
     /// Asks for a lock on the slot of a point. A client sends it again until it is answered.
     Lock {

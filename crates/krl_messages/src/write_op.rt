@@ -1,25 +1,40 @@
 //! Writes.
+ghost use Rattle.std.specs.Prelude.{◌≡◌};
+ghost use Rattle.krl_messages.specs.Writes.{op_key};
+
+use crate::value::Value;
 
 /// A change of one entry of the index. A key that may be an entry lies below END, the last point.
-#[derive(Clone, Copy, Debug, PartialEq, Eq, Hash)]
+#[derive(Clone, Copy, PartialEq, Eq)]
 pub enum WriteOp {
     /// Adds an entry where there is none.
     Insert {
         /// The new entry's key.
         key: u64,
         /// The new entry's value.
-        value: u64,
+        value: Value,
     },
     /// Gives an entry another value.
     Put {
         /// The entry's key.
         key: u64,
         /// The value that it is to have.
-        value: u64,
+        value: Value,
     },
     /// Takes an entry away.
     Delete {
         /// The entry's key.
         key: u64,
     },
+}
+
+impl WriteOp {
+    /// The key that the write names: any number, since a stranger may have sent it.
+    pub fn key(self) -> u64
+        ensures { result ≡ op_key self }
+    {
+        match self {
+            WriteOp::Insert { key, .. } | WriteOp::Put { key, .. } | WriteOp::Delete { key } => key,
+        }
+    }
 }

@@ -7,7 +7,7 @@ use Rattle.krl_modes.specs.declared.part.KeyPart.{KeyPart}
 use Rattle.krl_modes.specs.declared.part.KeyPart.TheVariants as key
 use Rattle.krl_modes.specs.declared.mode.Mode.{Mode}
 use Rattle.krl_modes.specs.declared.mode.Mode.TheVariants as mode
-use Rattle.krl_modes.specs.Parts.{range_at_most, key_at_most, ranges_compatible, keys_compatible, range_join, range_meet, key_join, key_meet}
+use Rattle.krl_modes.specs.Parts.{range_at_most, key_at_most, ranges_compatible, keys_compatible, range_join, range_meet, key_join, key_meet, reads_key}
 
 -- what a mode holds of the gap
 abbrev pub range_of : Mode → RangePart
@@ -98,6 +98,10 @@ cap mode.RangeIX = mode.RangeIN
 cap mode.RangeXS = mode.U
 cap mode.RangeXU = mode.S
 cap mode.RangeXX = mode.N
+
+-- it asks for an entry alone, so there has to be one: S, U or X
+abbrev pub needs_entry : Mode → Bool
+needs_entry m = range_at_most (range_of m) range.N && reads_key (key_of m)
 
 abbrev pub mode_name : Mode → List ℕ
 mode_name mode.N = codes "N"

@@ -121,6 +121,26 @@ key_meet key.U key.U = key.U
 key_meet key.U key.X = key.U
 key_meet key.X b = b
 
+-- the part reads the gap: S or X
+abbrev pub reads_gap : RangePart → Bool
+reads_gap r = range_at_most range.S r
+
+-- the part lets its holder insert into the gap: I or X
+abbrev pub lets_insert : RangePart → Bool
+lets_insert r = range_at_most range.I r
+
+-- the gap is its holder's alone
+abbrev pub is_range_X : RangePart → Bool
+is_range_X r = range_at_most range.X r
+
+-- the part reads the entry: S, U or X
+abbrev pub reads_key : KeyPart → Bool
+reads_key k = key_at_most key.S k
+
+-- the entry is its holder's alone
+abbrev pub is_key_X : KeyPart → Bool
+is_key_X k = key_at_most key.X k
+
 abbrev pub range_part_name : RangePart → List ℕ
 range_part_name range.N = codes "N"
 range_part_name range.S = codes "S"

@@ -5,8 +5,6 @@ mod mode;
 mod part;
 mod point;
 mod span;
-#[cfg(test)]
-mod tests;
 
 pub use mode::Mode;
 pub use part::{KeyPart, RangePart};

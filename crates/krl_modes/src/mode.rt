@@ -1,7 +1,7 @@
 //! The thirteen modes.
 ghost use Rattle.std.specs.Prelude.{◌≡◌, ◌↔◌, IfSome, IsNone};
 ghost use Rattle.krl_modes.specs.Parts.{range_join, key_join, range_meet, key_meet};
-ghost use Rattle.krl_modes.specs.Modes.{range_of, key_of, mode_of, at_or_above, at_most, compatible, join, meet, cap, mode_name, mode_named};
+ghost use Rattle.krl_modes.specs.Modes.{range_of, key_of, mode_of, at_or_above, at_most, compatible, join, meet, cap, needs_entry, mode_name, mode_named};
 ghost use Rattle.krl_modes.specs.Orders.{IsPartialOrder, IsLeastUpperBound, IsGreatestLowerBound, IsCompatibility};
 ghost use Rattle.krl_modes.specs.Laws.{HasParts, HasPartsCorrected, IsNoMode, IsLeastModeAbove, IsGreatestBeside, ReadsItsKey, IsOnlyNamed};
 ghost use Rattle.krl_modes.specs.declared.mode.Mode.{Mode};
@@ -15,7 +15,7 @@ use crate::part::{KeyPart, RangePart};
 /// S, U, X, RangeS-S, RangeS-U, RangeI-N and RangeX-X are the published modes of the SQL Server guide's
 /// table, and RangeI-S, RangeI-U, RangeI-X, RangeX-S and RangeX-U its conversion modes. N is the absence
 /// of a lock. What goes with what is this project's own table, after the guide's.
-#[derive(Clone, Copy, Debug, PartialEq, Eq, Hash)]
+#[derive(Clone, Copy, Debug, PartialEq, Eq)]
 pub enum Mode {
     /// No lock.
     N,
@@ -194,6 +194,14 @@ impl Mode {
             Mode::RangeXU => Mode::S,
             Mode::RangeXX => Mode::N,
         }
+    }
+
+    /// Whether the mode asks for an entry alone, so that there has to be one: S, U or X. That such a lock
+    /// is answered `Absent` where there is no entry is this project's own rule.
+    pub fn needs_entry(self) -> bool
+        ensures { result ≡ needs_entry self }
+    {
+        matches!(self, Mode::S | Mode::U | Mode::X)
     }
 
     /// The mode's name, as RangeS-U. No other mode has it.

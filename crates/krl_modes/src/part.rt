@@ -8,7 +8,7 @@ ghost use Rattle.krl_modes.specs.Orders.{IsPartialOrder, IsLeastUpperBound, IsGr
 ///
 /// The idea of a part for the gap is Lomet's (VLDB 1993) and the SQL Server guide's; that it covers the
 /// entry's own point too is this project's own.
-#[derive(Clone, Copy, Debug, PartialEq, Eq, Hash)]
+#[derive(Clone, Copy, Debug, PartialEq, Eq)]
 pub enum RangePart {
     /// Nothing.
     N,
@@ -21,7 +21,7 @@ pub enum RangePart {
 }
 
 /// What a mode holds of an entry: N below S below U below X.
-#[derive(Clone, Copy, Debug, PartialEq, Eq, Hash)]
+#[derive(Clone, Copy, Debug, PartialEq, Eq)]
 pub enum KeyPart {
     /// Nothing.
     N,

@@ -10,7 +10,7 @@ pub const END: u64 = 9223372036854775807;
 pub const TOP: u64 = 9223372036854775808;
 
 /// A place in the order of keys: a number from 0 to END. Each number below END may be a key.
-#[derive(Clone, Copy, Debug, PartialEq, Eq, PartialOrd, Ord, Hash)]
+#[derive(Clone, Copy, Debug, PartialEq, Eq, PartialOrd, Ord)]
 pub struct Point {
     at: u64,
 }

@@ -1,5 +1,5 @@
 //! Spans.
-ghost use Rattle.std.specs.Prelude.{◌≡◌, ◌<◌, ◌≤◌, ◌↔◌, IsOk, IfOk, IsTrue};
+ghost use Rattle.std.specs.Prelude.{◌≡◌, ◌+◌, ◌<◌, ◌≤◌, ◌↔◌, IsOk, IfOk, IsTrue};
 ghost use Rattle.krl_modes.specs.declared.point.TheConstants.{TOP};
 ghost use Rattle.krl_modes.specs.Spans.{contains, within, meets, IsPointOf, IsPartOf, ShareAPoint};
 
@@ -13,7 +13,7 @@ use thiserror::Error;
 pub struct BadSpan;
 
 /// The points from `lo` on that lie below `hi`: at least one, and none above END.
-#[derive(Clone, Copy, Debug, PartialEq, Eq, Hash)]
+#[derive(Clone, Copy, Debug, PartialEq, Eq)]
 pub struct Span {
     lo: u64,
     hi: u64,
@@ -64,6 +64,14 @@ impl Span {
         ensures bounds { (self.lo < self.hi) × (self.hi ≤ TOP) }
     {
         self.hi
+    }
+
+    /// The last point of the span, from 0 to END.
+    pub fn last(self) -> u64
+        ensures last { result + 1 ≡ self.hi }
+        ensures bounds { (self.lo ≤ result) × (result < TOP) }
+    {
+        self.hi - 1
     }
 
     /// Whether the point lies in the span.

@@ -1,87 +1,97 @@
 //! Lists of waiters.
-ghost use Rattle.std.specs.Prelude.{◌≡◌, ◌↔◌, [], ◌∷◌, ◌++◌, length, drop, slice_get, IsTrue, IfOk, OnOk, OnErr, IfErr, ◌==◌, nat_le, position, count_by};
+ghost use Rattle.std.specs.Prelude.{◌≡◌, ◌↔◌, [], ◌∷◌, ◌++◌, length, drop, min, slice_get, IsTrue, MatchOption};
 ghost use Rattle.krl_queue.specs.Waiting.{first_of, without_first, up_to, beyond};
 
+use crate::chain::Chain;
+use crate::loose::Loose;
 use crate::node::WaitNode;
+use crate::place::{Index, NodePtr};
 use crate::waiter::Waiter;
 use krl_modes::Point;
-use std::alloc::{AllocError, AllocFailed, Global};
-use std::collections::VecDeque;
+use std::fmt;
 use std::marker::Model;
+use std::mem::{replace, swap};
 
-/// The waiters of one slot, in the order in which they are answered. Dropping the list frees the memory of every
-/// waiter in it.
+/// The waiters of one slot, in the order in which they are answered. Dropping the list frees the memory
+/// of every waiter in it.
 ///
-/// A call that is refused changes nothing, and hands back what it took.
-#[derive(Debug, Drop)]
+/// The nodes are linked both ways, and the list takes no memory beside theirs. So no call can be refused.
 pub struct WaitList {
-    nodes: VecDeque<WaitNode>,
+    head: NodePtr,
+    tail: NodePtr,
+    chain: Chain,
 }
 
 impl Model for WaitList {
     ghost use Rattle.std.specs.Prelude.{List};
     ghost use Rattle.krl_queue.specs.declared.waiter.Waiter.{Waiter};
+    ghost use Rattle.krl_queue.specs.Segment.{waiters};
+    ghost use Rattle.krl_queue.specs.Ends.{HasEnds};
 
     ghost Value = { List Waiter };
 
-    ghost view = { λ list. list.nodes.items };
+    ghost view = { λ list. waiters list.chain.spots };
+
+    ghost invariant = { λ list. HasEnds list.head.ptr list.tail.ptr list.chain.spots };
 }
 
 impl WaitList {
-    /// An empty list, which takes no memory. It grows by this allocator.
-    pub fn new(alloc: Global) -> WaitList
+    /// An empty list.
+    pub fn new() -> WaitList
         ensures { result ≡ [] }
     {
         WaitList {
-            nodes: VecDeque::new(alloc),
+            head: NodePtr::null(),
+            tail: NodePtr::null(),
+            chain: Chain::none(),
         }
     }
 
-    /// How many wait.
+    /// How many wait, or the greatest `usize` where more do. It takes time in proportion to the list's
+    /// length: no count is kept.
     pub fn len(&self) -> usize
-        ensures { result ≡ length self.now }
+        ensures { result ≡ min (length self.now) usize.MAX }
     {
-        self.nodes.len()
+        let mut count: usize = 0;
+        let mut at = self.head;
+        let mut i = Index::first();
+        while !at.is_null() {
+            count = count.saturating_add(1);
+            at = self.chain.next(at, &i);
+            i = i.next();
+        }
+        count
     }
 
-    /// Whether nobody waits.
+    /// Whether nobody waits. It takes constant time.
     pub fn is_empty(&self) -> bool
         ensures { IsTrue result ↔ (self.now ≡ []) }
     {
-        self.nodes.is_empty()
+        self.head.is_null()
     }
 
-    /// Puts the node behind all others. It takes constant time, spread over many calls.
-    ///
-    /// # Errors
-    ///
-    /// `AllocFailed`, with the node back, where the list's growth is refused. The list stays as it was.
-    pub fn push_back(&mut self, node: WaitNode) -> Result<(), AllocFailed<WaitNode>>
-        ensures pushed { OnOk result (self.new ≡ self.old ++ node ∷ []) }
-        ensures refused { OnErr result (self.new ≡ self.old) }
-        ensures returned { IfErr result (λ refused. refused.value ≡ node) }
+    /// Puts the node behind all others. It takes constant time.
+    pub fn push_back(&mut self, node: WaitNode)
+        ensures pushed { self.new ≡ self.old ++ node ∷ [] }
     {
-        self.nodes.push_back(node)
+        self.append(WaitList::of(node));
     }
 
-    /// Puts the node before all others. It takes constant time, spread over many calls.
-    ///
-    /// # Errors
-    ///
-    /// `AllocFailed`, with the node back, where the list's growth is refused. The list stays as it was.
-    pub fn push_front(&mut self, node: WaitNode) -> Result<(), AllocFailed<WaitNode>>
-        ensures pushed { OnOk result (self.new ≡ node ∷ self.old) }
-        ensures refused { OnErr result (self.new ≡ self.old) }
-        ensures returned { IfErr result (λ refused. refused.value ≡ node) }
+    /// Puts the node before all others. It takes constant time.
+    pub fn push_front(&mut self, node: WaitNode)
+        ensures pushed { self.new ≡ node ∷ self.old }
     {
-        self.nodes.push_front(node)
+        self.splice_front(WaitList::of(node));
     }
 
     /// The first waiter; None where nobody waits.
     pub fn front(&self) -> Option<Waiter>
         ensures { result ≡ slice_get self.now 0 }
     {
-        self.nodes.front().map(|node| node.waiter())
+        if self.head.is_null() {
+            return None;
+        }
+        Some(*self.chain.waiter(self.head, &Index::first()))
     }
 
     /// Takes the first waiter out and frees its node; None where nobody waits. It takes constant time.
@@ -89,83 +99,139 @@ impl WaitList {
         ensures first { result ≡ slice_get self.old 0 }
         ensures rest { self.new ≡ drop 1 self.old }
     {
-        self.nodes.pop_front().map(|node| node.into_waiter())
+        self.pop_node().map(|node| node.into_waiter())
     }
 
     /// Takes the first waiter of this client out and frees its node; None where the client has none here.
+    /// It takes time in proportion to the waiter's place.
     pub fn remove_client(&mut self, client: u64) -> Option<Waiter>
         ensures taken { result ≡ first_of client self.old }
         ensures rest { self.new ≡ without_first client self.old }
     {
-        let index = self.place_of(client)?;
-        let node = self.nodes.remove(index).unwrap();
+        let (at, i) = self.chain.find(self.head, client);
+        if at.is_null() {
+            return None;
+        }
+        let prev = self.chain.prev(at, &i);
+        if prev.is_null() {
+            return self.pop_front();
+        }
+        let next = self.chain.next(at, &i);
+        let mut only = self.chain.cut(prev, at, &i);
+        if next.is_null() {
+            self.tail = prev;
+        } else {
+            let behind = only.cut(at, next, &Index::first().next());
+            self.chain.link(prev, next, behind);
+        }
+        let node = WaitNode {
+            cell: only.into_one(at).into_box(),
+        };
         Some(node.into_waiter())
-    }
-
-    /// The place of the client's first waiter.
-    fn place_of(&self, client: u64) -> Option<usize>
-        ensures { result ≡ position (λ w. w.client == client) self.now }
-    {
-        self.nodes
-            .iter()
-            .position(|node| node.waiter().client == client)
     }
 
     /// Takes those waiters out whose point is at most this one. Both lists keep their order. It takes time
     /// in proportion to the list's length.
-    ///
-    /// # Errors
-    ///
-    /// `AllocError` where memory for the new list is refused. The list stays as it was.
-    pub fn split_at(&mut self, point: Point) -> Result<WaitList, AllocError>
-        ensures taken { IfOk result (λ list. list ≡ up_to point self.old) }
-        ensures kept { OnOk result (self.new ≡ beyond point self.old) }
-        ensures refused { OnErr result (self.new ≡ self.old) }
+    pub fn split_at(&mut self, point: Point) -> WaitList
+        ensures taken { result ≡ up_to point self.old }
+        ensures kept { self.new ≡ beyond point self.old }
     {
-        let count = self.count_up_to(point);
-        let mut taken = VecDeque::with_capacity(*self.nodes.allocator(), count)?;
-        for _ in 0..self.nodes.len() {
-            let node = self.nodes.pop_front().unwrap();
+        let mut all = replace(self, WaitList::new());
+        let mut taken = WaitList::new();
+        while let Some(node) = all.pop_node() {
             if node.is_up_to(point) {
-                taken.push_back_reserved(node);
+                taken.push_back(node);
             } else {
-                self.nodes.push_back_reserved(node);
+                self.push_back(node);
             }
         }
-        Ok(WaitList { nodes: taken })
+        taken
     }
 
-    /// How many wait for a point that is at most this one.
-    fn count_up_to(&self, point: Point) -> usize
-        ensures { result ≡ count_by (λ w. nat_le w.point point) self.now }
-    {
-        self.nodes
-            .iter()
-            .filter(|node| node.is_up_to(point))
-            .count()
-    }
-
-    /// Puts the whole list before this one. It takes time in proportion to the length of the list that is
-    /// put in, spread over many calls.
-    ///
-    /// # Errors
-    ///
-    /// `AllocFailed`, with the list back, where this one's growth is refused. Both stay as they were.
-    pub fn splice_front(&mut self, list: WaitList) -> Result<(), AllocFailed<WaitList>>
-        ensures spliced { OnOk result (self.new ≡ list ++ self.old) }
-        ensures refused { OnErr result (self.new ≡ self.old) }
-        ensures returned { IfErr result (λ refused. refused.value ≡ list) }
+    /// Puts the whole list before this one. It takes constant time.
+    pub fn splice_front(&mut self, list: WaitList)
+        ensures spliced { self.new ≡ list ++ self.old }
     {
         let mut list = list;
-        if self.nodes.reserve(list.nodes.len()).is_err() {
-            return Err(AllocFailed { value: list });
+        swap(self, &mut list);
+        self.append(list);
+    }
+
+    /// The list of this node alone.
+    fn of(node: WaitNode) -> WaitList
+        ensures { result ≡ node ∷ [] }
+    {
+        let WaitNode { cell } = node;
+        let (at, chain) = Chain::one(Loose::of(cell));
+        WaitList {
+            head: at,
+            tail: at,
+            chain,
         }
-        while let Some(node) = list.nodes.pop_back() {
-            self.nodes.push_front_reserved(node);
+    }
+
+    /// Puts the whole list behind this one.
+    fn append(&mut self, list: WaitList)
+        ensures { self.new ≡ self.old ++ list }
+    {
+        let WaitList { head, tail, chain } = list;
+        if head.is_null() {
+            chain.done();
+        } else if self.head.is_null() {
+            replace(&mut self.chain, chain).done();
+            self.head = head;
+            self.tail = tail;
+        } else {
+            self.chain.link(self.tail, head, chain);
+            self.tail = tail;
         }
-        Ok(())
+    }
+
+    /// Takes the first node out.
+    fn pop_node(&mut self) -> Option<WaitNode>
+        ensures { MatchOption result ((self.old ≡ []) × (self.new ≡ [])) (λ node. self.old ≡ node ∷ self.new) }
+    {
+        let first = self.head;
+        if first.is_null() {
+            return None;
+        }
+        let next = self.chain.next(first, &Index::first());
+        let rest = if next.is_null() {
+            self.tail = next;
+            Chain::none()
+        } else {
+            self.chain.cut(first, next, &Index::first().next())
+        };
+        self.head = next;
+        let only = replace(&mut self.chain, rest);
+        Some(WaitNode {
+            cell: only.into_one(first).into_box(),
+        })
     }
 }
 
-#[cfg(test)]
-mod tests;
+impl Drop for WaitList {
+    fn drop(mut self) {
+        while let Some(_waiter) = self.pop_front() {}
+        let WaitList {
+            head: _,
+            tail: _,
+            chain,
+        } = self;
+        chain.done();
+    }
+}
+
+impl fmt::Debug for WaitList {
+    fn fmt<W: fmt::Write>(&self, f: &mut fmt::Formatter<W>) -> fmt::Result {
+        let mut out = f.debug_list();
+        let mut at = self.head;
+        let mut i = Index::first();
+        while !at.is_null() {
+            out.entry(self.chain.waiter(at, &i));
+            at = self.chain.next(at, &i);
+            i = i.next();
+        }
+        out.finish()
+    }
+}

@@ -1,6 +1,5 @@
 pub mod Digits
 pub mod PairsLemmas
-pub mod TransferLemmas
 pub mod LinesLemmas
 pub mod Runs
 pub mod Interpreting

@@ -2,7 +2,7 @@
 use krl_world::Refused;
 
 /// What became of the oldest waiting message.
-#[derive(Clone, Copy, Debug, PartialEq, Eq)]
+#[derive(Clone, Copy)]
 pub enum Delivery {
     /// None waits.
     Idle,

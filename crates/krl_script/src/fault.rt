@@ -1,48 +1,68 @@
 //! How a script fails.
-ghost use Rattle.std.specs.Prelude.{◌≡◌};
+ghost use Rattle.std.specs.Prelude.{◌≡◌, Some};
+ghost use Rattle.krl_script.specs.Printing.{fault_text};
 ghost use Rattle.krl_script.specs.declared.fault.LineFault.TheVariants as line;
 ghost use Rattle.krl_script.specs.declared.fault.ScriptFault.TheVariants as script;
 
 use std::alloc::{AllocError, AllocFailed};
+use std::{fmt, io};
 use thiserror::Error;
 
 /// What is wrong with a text or a line of it. Each prints as its text in a transcript.
-#[derive(Clone, Copy, Debug, PartialEq, Eq, Error)]
+#[derive(Clone, Copy, Debug, PartialEq, Eq)]
 pub enum SyntaxFault {
     /// The text has more than `MAX_TEXT` bytes. It is said of line 0, and no line is run.
-    #[error("text too long")]
     TextTooLong,
     /// The line comes after the first `MAX_LINES`.
-    #[error("too many lines")]
     TooManyLines,
     /// The line has more than `MAX_LINE` bytes.
-    #[error("line too long")]
     LineTooLong,
     /// The first word is none of the script's.
-    #[error("unknown word")]
     UnknownWord,
     /// There are fewer arguments than the word takes.
-    #[error("missing argument")]
     MissingArgument,
     /// There are more arguments than the word takes.
-    #[error("extra argument")]
     ExtraArgument,
     /// An argument that has to be a number is none.
-    #[error("bad number")]
     BadNumber,
     /// An argument that has to be a pair is none.
-    #[error("bad pair")]
     BadPair,
     /// The mode is no name of one that `lock` takes.
-    #[error("bad mode")]
     BadMode,
     /// The world is made already.
-    #[error("late seed")]
     LateSeed,
 }
 
+impl SyntaxFault {
+    /// The fault as a transcript tells it.
+    pub fn text(self) -> &'static str
+        ensures { result.now ≡ fault_text self }
+    {
+        match self {
+            SyntaxFault::TextTooLong => "text too long",
+            SyntaxFault::TooManyLines => "too many lines",
+            SyntaxFault::LineTooLong => "line too long",
+            SyntaxFault::UnknownWord => "unknown word",
+            SyntaxFault::MissingArgument => "missing argument",
+            SyntaxFault::ExtraArgument => "extra argument",
+            SyntaxFault::BadNumber => "bad number",
+            SyntaxFault::BadPair => "bad pair",
+            SyntaxFault::BadMode => "bad mode",
+            SyntaxFault::LateSeed => "late seed",
+        }
+    }
+}
+
+impl fmt::Display for SyntaxFault {
+    ghost output = { λ fault. Some (fault_text fault) };
+
+    fn fmt<W: fmt::Write>(&self, f: &mut fmt::Formatter<W>) -> fmt::Result {
+        f.write_str(self.text())
+    }
+}
+
 /// Why a line asks for nothing that can be done.
-#[derive(Clone, Copy, Debug, PartialEq, Eq)]
+#[derive(Clone, Copy)]
 pub enum LineFault {
     OutOfMemory,
     Syntax(SyntaxFault),
@@ -65,11 +85,14 @@ impl<T: Drop> From<AllocFailed<T>> for LineFault {
 }
 
 /// Why a script ended before its last line.
-#[derive(Clone, Copy, Debug, PartialEq, Eq, Error)]
+#[derive(Clone, Copy, Debug, Error)]
 pub enum ScriptFault {
-    /// The reader failed, or gave no end in `MAX_TURNS` turns.
-    #[error("the script can't be read to its end")]
-    Read,
+    /// A read failed, and was not merely interrupted.
+    #[error("the script can't be read to its end: {0}")]
+    Read(io::Error),
+    /// The reader gave no end in `MAX_TURNS` reads.
+    #[error("the script has no end")]
+    NoEnd,
     /// The writer failed, or took nothing of what it was given.
     #[error("the transcript can't be written")]
     Write,

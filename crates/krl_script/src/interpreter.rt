@@ -1,10 +1,10 @@
 //! What a script keeps between two lines, and what each request does to it.
-ghost use Rattle.std.specs.Prelude.{◌≡◌, ℕ, ◌+◌, ◌-◌, ◌<◌, ◌≤◌, ◌++◌, ◌^◌, List, [], true, false, length, None, Some, is_some, unwrap_or, IfOk, OnOk};
+ghost use Rattle.std.specs.Prelude.{◌≡◌, ℕ, ◌+◌, ◌-◌, ◌<◌, ◌≤◌, ◌++◌, ◌^◌, List, [], true, false, length, None, Some, IfOk, IfErr, OnOk};
 ghost use Rattle.std.specs.Result.{result_unwrap_or};
 ghost use Rattle.krl_world.specs.States.{State, fresh, sent_count};
 ghost use Rattle.krl_world.specs.Steps.{made, Steps};
-ghost use Rattle.krl_script.specs.Words.{Gives, judged};
-ghost use Rattle.krl_script.specs.Transcripts.{Stage, first_stage, numbers, after_step, Acts, Tries, Settles, Holds, Obeys, ObeysLine};
+ghost use Rattle.krl_script.specs.Words.{Gives, Fails, line_request};
+ghost use Rattle.krl_script.specs.Transcripts.{Stage, first_stage, numbers, after_step, Acts, Seeds, Tries, Settles, Holds, Obeys, ObeysLine};
 
 use crate::delivery::Delivery;
 use crate::fault::{LineFault, SyntaxFault};
@@ -17,18 +17,18 @@ use std::alloc::{AllocError, Global};
 use std::collections::VecDeque;
 use std::marker::Model;
 
-/// The world, once it is made, and the numbers of the messages that wait, oldest first.
+/// The world, and the numbers of the messages that wait, oldest first. Before the script's world is
+/// made it has no entries.
 #[derive(Drop)]
 pub struct Interpreter {
     alloc: Global,
-    world: Option<World>,
+    begun: bool,
+    world: World,
     waiting: VecDeque<u64>,
 }
 
 impl Model for Interpreter {
-    ghost use Rattle.std.specs.Prelude.{is_some, unwrap_or, []};
     ghost use Rattle.std.specs.Coded.{codes};
-    ghost use Rattle.krl_world.specs.States.{fresh};
     ghost use Rattle.krl_world.specs.contracts.world.World as kept_world;
     ghost use Rattle.krl_script.specs.Transcripts.{Stage};
 
@@ -36,7 +36,7 @@ impl Model for Interpreter {
 
     ghost coded = { Prim.hlevel (codes, kept_world.the_row.coded) };
 
-    ghost view = { λ i. record { begun = is_some i.world; world = unwrap_or i.world (fresh []); waiting = i.waiting.items } };
+    ghost view = { λ i. record { begun = i.begun; world = i.world; waiting = i.waiting.items } };
 }
 
 // Puts the numbers of the messages after the first ones at the end.
@@ -58,16 +58,6 @@ fn empty_world(alloc: Global) -> Result<World, AllocError>
     match World::new(alloc, none) {
         Ok(world) => Ok(world),
         Err(_) => Err(AllocError),
-    }
-}
-
-// The world, or one with no entries.
-fn world_or_empty(alloc: Global, world: Option<World>) -> Result<World, AllocError>
-    ensures { IfOk result (λ made. made ≡ unwrap_or world (fresh [])) }
-{
-    match world {
-        Some(world) => Ok(world),
-        None => empty_world(alloc),
     }
 }
 
@@ -96,52 +86,44 @@ fn made_or_empty(alloc: Global, outcome: Result<World, Refused>) -> Result<World
 
 impl Interpreter {
     /// Before the first line: no world is made.
-    pub fn new(alloc: Global) -> Interpreter
-        ensures { result ≡ first_stage }
+    pub fn new(alloc: Global) -> Result<Interpreter, AllocError>
+        ensures { IfOk result (λ interpreter. interpreter ≡ first_stage) }
     {
-        Interpreter {
+        Ok(Interpreter {
             alloc,
-            world: None,
+            begun: false,
+            world: empty_world(alloc)?,
             waiting: VecDeque::new(alloc),
-        }
+        })
     }
 
-    /// Makes the world, with no entries, where it is not made.
-    pub fn begin(&mut self) -> Result<(), AllocError>
-        ensures { OnOk result (self.new ≡ record self.old { begun = true }) }
-    {
-        if self.world.is_none() {
-            self.world = Some(empty_world(self.alloc)?);
-        }
-        Ok(())
-    }
-
-    // One step of the world, which is made first where it is not.
+    // One step of the world.
     fn take_step(&mut self, step: Step) -> Result<Result<Answer, Refused>, AllocError>
-        ensures { IfOk result (λ r. (w : State) × Steps self.old.world step r w × (self.new ≡ after_step self.old.world self.old.waiting w)) }
+        ensures { IfOk result (λ r. (w : State) × Steps self.old.world step r w
+            × (self.new ≡ after_step self.old.world self.old.waiting w)) }
     {
-        let mut world = world_or_empty(self.alloc, self.world.take())?;
-        let before = world.sent();
-        let outcome = world.step(step);
-        let after = world.sent();
-        self.world = Some(world);
+        self.begun = true;
+        let before = self.world.sent();
+        let outcome = self.world.step(step);
+        let after = self.world.sent();
         push_numbers(&mut self.waiting, before, after.saturating_sub(before))?;
         Ok(outcome)
     }
 
-    fn act(&mut self, step: Step) -> Result<Vec<u8>, AllocError>
-        ensures { IfOk result (λ line. Acts self.old step line.items self.new) }
+    fn act(&mut self, step: Step) -> Result<String, AllocError>
+        ensures { IfOk result (λ line. Acts self.old step line.bytes.items self.new) }
     {
         let outcome = self.take_step(step)?;
         print::outcome(self.alloc, &outcome)
     }
 
-    fn seed(&mut self, entries: Entries) -> Result<Vec<u8>, AllocError>
-        ensures { IfOk result (λ line. Obeys self.old (Request.Seed entries) line.items self.new) }
+    fn seed(&mut self, entries: Entries) -> Result<String, AllocError>
+        ensures { IfOk result (λ line. Seeds self.old entries line.bytes.items self.new) }
     {
         let outcome = make_world(self.alloc, entries)?;
         let line = print::making(self.alloc, &outcome)?;
-        self.world = Some(made_or_empty(self.alloc, outcome)?);
+        self.begun = true;
+        self.world = made_or_empty(self.alloc, outcome)?;
         Ok(line)
     }
 
@@ -161,13 +143,13 @@ impl Interpreter {
         Ok(Delivery::Delivered)
     }
 
-    fn settle(&mut self) -> Result<Vec<u8>, AllocError>
-        ensures { IfOk result (λ line. Settles self.old line.items self.new) }
+    fn settle(&mut self) -> Result<String, AllocError>
+        ensures { IfOk result (λ line. Settles self.old line.bytes.items self.new) }
     {
-        self.begin()?;
+        self.begun = true;
         'deliveries: for _ in 0..MAX_DELIVERIES {
             match self.deliver_oldest()? {
-                Delivery::Idle => return Ok(Vec::new(self.alloc)),
+                Delivery::Idle => return Ok(String::new(self.alloc)),
                 Delivery::Delivered => {}
                 Delivery::Refused(refused) => return print::refused(self.alloc, refused),
             }
@@ -175,37 +157,36 @@ impl Interpreter {
         if self.waiting.front().is_some() {
             return print::unsettled(self.alloc);
         }
-        Ok(Vec::new(self.alloc))
+        Ok(String::new(self.alloc))
     }
 
     // What the client holds at the point, or the refusal.
-    fn hold(&mut self, client: u64, point: u64) -> Result<Vec<u8>, AllocError>
-        ensures { IfOk result (λ line. Holds self.old client point line.items self.new) }
+    fn hold(&mut self, client: u64, point: u64) -> Result<String, AllocError>
+        ensures { IfOk result (λ line. Holds self.old client point line.bytes.items self.new) }
     {
-        let world = world_or_empty(self.alloc, self.world.take())?;
-        let (range, key) = world.held(client, point);
-        self.world = Some(world);
+        self.begun = true;
+        let (range, key) = self.world.held(client, point);
         print::held(self.alloc, client, point, range, key)
     }
 
     /// Does what is asked for, and gives what that prints.
-    pub fn obey(&mut self, request: Request) -> Result<Vec<u8>, AllocError>
-        ensures { IfOk result (λ line. Obeys self.old request line.items self.new) }
+    pub fn obey(&mut self, request: Request) -> Result<String, AllocError>
+        ensures { IfOk result (λ line. Obeys self.old request line.bytes.items self.new) }
     {
         match request {
-            Request::Nothing => Ok(Vec::new(self.alloc)),
+            Request::Nothing => Ok(String::new(self.alloc)),
             Request::Seed(entries) => self.seed(entries),
             Request::Step(step) => self.act(step),
             Request::Settle => self.settle(),
-            Request::Hold(client, point) => self.hold(client, point),
+            Request::Hold { client, point } => self.hold(client, point),
             Request::Modes => print::modes(self.alloc),
         }
     }
 
     // What the line of this number asks for, or its first fault.
-    #[tactic(auto, unfolding(crate::specs::Words::judged))]
-    fn judge(&self, number: u64, line: &[u8]) -> Result<Request, LineFault>
-        ensures { Gives result (judged self.now.begun number line.now) }
+    #[tactic(auto, unfolding(crate::specs::Words::line_request))]
+    fn request(&self, number: u64, line: &[u8]) -> Result<Request, LineFault>
+        ensures { Gives result (line_request self.now.begun number line.now) }
     {
         if number > MAX_LINES {
             return Err(LineFault::Syntax(SyntaxFault::TooManyLines));
@@ -214,17 +195,19 @@ impl Interpreter {
             return Err(LineFault::Syntax(SyntaxFault::LineTooLong));
         }
         let request = request_of_line(self.alloc, line)?;
-        if self.world.is_some() && request.makes_world() {
+        if self.begun && request.makes_world() {
             return Err(LineFault::Syntax(SyntaxFault::LateSeed));
         }
         Ok(request)
     }
 
-    /// Does what a line asks for, and gives what that prints.
-    pub fn obey_line(&mut self, number: u64, line: &[u8]) -> Result<Vec<u8>, LineFault>
-        ensures { ObeysLine self.old number line.now result self.new }
+    /// Does what a line asks for, and gives what that prints; or says the line's first fault.
+    pub fn obey_line(&mut self, number: u64, line: &[u8]) -> Result<String, LineFault>
+        ensures done { IfOk result (λ printed.
+            ObeysLine self.old number line.now printed.bytes.items self.new) }
+        ensures fault { IfErr result (λ e. Fails e (line_request self.old.begun number line.now)) }
     {
-        let request = self.judge(number, line)?;
+        let request = self.request(number, line)?;
         let printed = self.obey(request)?;
         Ok(printed)
     }

@@ -1,4 +1,5 @@
-//! A script is read whole, and then run line by line against a world. What is written is its transcript.
+//! A script is read whole, and then run line by line against a world. What is written is its
+//! transcript.
 #![tactic(auto)]
 
 mod delivery;
@@ -18,6 +19,3 @@ pub use fault::{ScriptFault, SyntaxFault};
 pub use limits::{MAX_DELIVERIES, MAX_LINE, MAX_LINES, MAX_TEXT, MAX_TURNS};
 pub use run::run_script;
 pub use source::{AnyReader, AnyWriter, Sink, Source};
-
-#[cfg(test)]
-mod tests;

@@ -1,4 +1,5 @@
-//! The limits of a script, which are this project's own.
+//! The limits of a script, which are this project's own. The definitions of the contracts have them
+//! as numerals.
 
 /// The most bytes of a text: 1,048,576.
 pub const MAX_TEXT: usize = 1048576;
@@ -12,5 +13,5 @@ pub const MAX_LINE: usize = 256;
 /// The most deliveries of one `settle`: 100,000.
 pub const MAX_DELIVERIES: u64 = 100000;
 
-/// The most turns over a reader: 2,097,152.
+/// The most reads of a text, and the most interruptions of one write: 2,097,152.
 pub const MAX_TURNS: u64 = 2097152;

@@ -5,25 +5,17 @@ ghost use Rattle.std.specs.Str.Lines.{lines, strip_carriage_return};
 // The place of the first newline.
 fn newline_at(text: &[u8]) -> Option<usize>
     ensures { MatchOption result ((k : ℕ) → k < length text.now → slice_index text.now k ≢ 10)
-        (λ i. (i < length text.now) × ((k : ℕ) → k < i → slice_index text.now k ≢ 10) × (slice_index text.now i ≡ 10)) }
+        (λ i. (i < length text.now) × ((k : ℕ) → k < i → slice_index text.now k ≢ 10)
+        × (slice_index text.now i ≡ 10)) }
 {
-    for (i, b) in text.iter().enumerate() {
-        if *b == b'\n' {
-            return Some(i);
-        }
-    }
-    None
+    text.iter().position(|b| *b == b'\n')
 }
 
 // The line without a carriage return at its end.
 fn stripped(line: &[u8]) -> &[u8]
     ensures { result.now ≡ strip_carriage_return line.now }
 {
-    if line.len() != 0 && line[line.len() - 1] == b'\r' {
-        &line[..line.len() - 1]
-    } else {
-        line
-    }
+    line.strip_suffix(b"\r").unwrap_or(line)
 }
 
 /// The first line of a text, and the text after it.

@@ -2,7 +2,7 @@
 ghost use Rattle.std.specs.Prelude.{◌≡◌, ℕ, ◌+◌, ◌<◌, ◌≤◌, ◌^◌, List, [], map, length, IfOk, OnOk, IfSome, nat_eq, position};
 ghost use Rattle.std.specs.List.{slice_split};
 ghost use Rattle.std.specs.Str.{bytes_eq};
-ghost use Rattle.krl_script.specs.Words.{Gives, words_of, digits_of, number_of, pair_of, pairs_of, mode_of, counted, argument, wanted, request_of, meaning_of_words, meaning_of};
+ghost use Rattle.krl_script.specs.Words.{Gives, words_of, digits_of, number_of, pair_of, pairs_of, mode_of, argument_count, argument, or_fault, request_of, meaning_of_words, meaning_of};
 
 use crate::fault::{LineFault, SyntaxFault};
 use crate::request::{Entries, Request};
@@ -17,30 +17,19 @@ fn is_text(word: &[u8], text: &str) -> bool
     word == text.as_bytes()
 }
 
-// What stands between spaces, which may be nothing.
-fn parts(alloc: Global, line: &[u8]) -> Result<Vec<&[u8]>, AllocError>
-    ensures { IfOk result (λ parts. map (λ part. part.now) parts.items ≡ slice_split (λ b. nat_eq b 32) line.now) }
-{
-    line.split(|b| *b == b' ').collect(alloc)
-}
-
+// What stands between spaces, and is not empty.
 fn words(alloc: Global, line: &[u8]) -> Result<Vec<&[u8]>, AllocError>
     ensures { IfOk result (λ words. map (λ word. word.now) words.items ≡ words_of line.now) }
 {
-    let parts = parts(alloc, line)?;
-    let mut words = Vec::new(alloc);
-    for part in &parts {
-        if part.len() != 0 {
-            words.push(*part)?;
-        }
-    }
-    Ok(words)
+    line.split(|b| *b == b' ')
+        .filter(|part| !part.is_empty())
+        .collect(alloc)
 }
 
 fn digits(word: &[u8]) -> Option<u64>
     ensures { result ≡ digits_of word.now }
 {
-    if word.len() < 1 || word.len() > 20 {
+    if word.is_empty() || word.len() > 20 {
         return None;
     }
     let mut value = 0u64;
@@ -49,10 +38,7 @@ fn digits(word: &[u8]) -> Option<u64>
             return None;
         }
         let digit = u64::from(*b - b'0');
-        if value > (u64::MAX - digit) / 10 {
-            return None;
-        }
-        value = value * 10 + digit;
+        value = value.checked_mul(10)?.checked_add(digit)?;
     }
     Some(value)
 }
@@ -92,25 +78,20 @@ fn pairs(alloc: Global, arguments: &[&[u8]]) -> Result<Entries, LineFault>
 {
     let mut entries = Vec::new(alloc);
     for word in arguments {
-        match pair(word) {
-            None => return Err(LineFault::Syntax(SyntaxFault::BadPair)),
-            Some(entry) => entries.push(entry)?,
-        }
+        let entry = pair(word).ok_or(LineFault::Syntax(SyntaxFault::BadPair))?;
+        entries.push(entry)?;
     }
-    Ok(Entries::of(entries))
+    Ok(Entries::from(entries))
 }
 
 fn mode(word: &[u8]) -> Result<Mode, LineFault>
     ensures { Gives result (mode_of word.now) }
 {
-    match Mode::from_name(word) {
-        Some(mode) => Ok(mode),
-        None => Err(LineFault::Syntax(SyntaxFault::BadMode)),
-    }
+    Mode::from_name(word).ok_or(LineFault::Syntax(SyntaxFault::BadMode))
 }
 
 fn count(n: usize, arguments: &[&[u8]]) -> Result<(), LineFault>
-    ensures said { Gives result (counted n (map (λ word. word.now) arguments.now)) }
+    ensures said { Gives result (argument_count n (map (λ word. word.now) arguments.now)) }
     ensures exact { OnOk result (length arguments.now ≡ n) }
 {
     if arguments.len() < n {
@@ -124,12 +105,10 @@ fn count(n: usize, arguments: &[&[u8]]) -> Result<(), LineFault>
 
 fn number_at(arguments: &[&[u8]], i: usize) -> Result<u64, LineFault>
     requires { i < length arguments.now }
-    ensures { Gives result (wanted SyntaxFault.BadNumber (number_of (argument (map (λ word. word.now) arguments.now) i))) }
+    ensures { Gives result (or_fault SyntaxFault.BadNumber
+        (number_of (argument (map (λ word. word.now) arguments.now) i))) }
 {
-    match number(arguments[i]) {
-        None => Err(LineFault::Syntax(SyntaxFault::BadNumber)),
-        Some(number) => Ok(number),
-    }
+    number(arguments[i]).ok_or(LineFault::Syntax(SyntaxFault::BadNumber))
 }
 
 fn mode_at(arguments: &[&[u8]], i: usize) -> Result<Mode, LineFault>
@@ -145,7 +124,7 @@ fn request(alloc: Global, word: Word, arguments: &[&[u8]]) -> Result<Request, Li
 {
     match word {
         Word::Seed => {
-            if arguments.len() < 1 {
+            if arguments.is_empty() {
                 return Err(LineFault::Syntax(SyntaxFault::MissingArgument));
             }
             let entries = pairs(alloc, arguments)?;
@@ -178,7 +157,7 @@ fn request(alloc: Global, word: Word, arguments: &[&[u8]]) -> Result<Request, Li
             count(2, arguments)?;
             let client = number_at(arguments, 0)?;
             let point = number_at(arguments, 1)?;
-            Ok(Request::Hold(client, point))
+            Ok(Request::Hold { client, point })
         }
         Word::Modes => {
             count(0, arguments)?;
@@ -190,22 +169,20 @@ fn request(alloc: Global, word: Word, arguments: &[&[u8]]) -> Result<Request, Li
 fn request_of_words(alloc: Global, words: &[&[u8]]) -> Result<Request, LineFault>
     ensures { Gives result (meaning_of_words (map (λ word. word.now) words.now)) }
 {
-    match words.split_first() {
-        None => Ok(Request::Nothing),
-        Some((text, arguments)) => match Word::from_text(text) {
-            None => Err(LineFault::Syntax(SyntaxFault::UnknownWord)),
-            Some(word) => request(alloc, word, arguments),
-        },
-    }
+    let Some((text, arguments)) = words.split_first() else {
+        return Ok(Request::Nothing);
+    };
+    let word = Word::from_text(text).ok_or(LineFault::Syntax(SyntaxFault::UnknownWord))?;
+    request(alloc, word, arguments)
 }
 
-/// What a line asks for, or its first fault: an unknown word, then the number of its arguments, then
-/// each argument from left to right.
+/// What a line asks for, or its first fault: an unknown word, then the number of its arguments,
+/// then each argument from left to right.
 #[tactic(auto, unfolding(crate::specs::Words::meaning_of))]
 pub fn request_of_line(alloc: Global, line: &[u8]) -> Result<Request, LineFault>
     ensures { Gives result (meaning_of line.now) }
 {
-    if line.len() != 0 && line[0] == b'#' {
+    if line.starts_with(b"#") {
         return Ok(Request::Nothing);
     }
     let words = words(alloc, line)?;

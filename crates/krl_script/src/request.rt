@@ -5,7 +5,7 @@ use krl_world::Step;
 use std::marker::Model;
 
 /// Entries of an index, each a key and its value, in the order of the line.
-#[derive(Debug, Drop)]
+#[derive(Drop)]
 pub struct Entries {
     pairs: Vec<(u64, u64)>,
 }
@@ -16,13 +16,15 @@ impl Model for Entries {
     ghost view = { λ e. e.pairs.items };
 }
 
-impl Entries {
-    pub fn of(pairs: Vec<(u64, u64)>) -> Entries
-        ensures { result ≡ pairs.items }
-    {
+impl From<Vec<(u64, u64)>> for Entries {
+    ghost from_gives = { λ pairs entries. entries ≡ pairs.items };
+
+    fn from(pairs: Vec<(u64, u64)>) -> Entries {
         Entries { pairs }
     }
+}
 
+impl Entries {
     pub fn into_pairs(self) -> Vec<(u64, u64)>
         ensures { result.items ≡ self }
     {
@@ -32,7 +34,7 @@ impl Entries {
 }
 
 /// What a line asks for.
-#[derive(Debug, Drop)]
+#[derive(Drop)]
 pub enum Request {
     /// Nothing: the line is a comment or has no word.
     Nothing,
@@ -42,8 +44,8 @@ pub enum Request {
     Step(Step),
     /// Deliveries until no message waits.
     Settle,
-    /// What a client holds at a point: its number, and the point.
-    Hold(u64, u64),
+    /// What a client holds at a point.
+    Hold { client: u64, point: u64 },
     /// The tables of modes.
     Modes,
 }

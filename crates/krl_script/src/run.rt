@@ -1,8 +1,9 @@
 //! A whole script.
-ghost use Rattle.std.specs.Prelude.{◌≡◌, ℕ, ◌≤◌, length, IsErrOf, OnOk};
+ghost use Rattle.std.specs.Prelude.{◌≡◌, ℕ, ◌≤◌, length, Some, IfErr, IsErrOf, OnOk};
 ghost use Rattle.std.specs.Str.Lines.{lines};
+ghost use Rattle.krl_script.specs.Limits.{most_text, most_turns};
 ghost use Rattle.krl_script.specs.Transcripts.{first_stage, Prints};
-ghost use Rattle.krl_script.specs.Runs.{Wrote, EndsInFault, RunsLine, Ran};
+ghost use Rattle.krl_script.specs.Runs.{Counts, MayEndReading, Wrote, EndsInFault, RunsLine, Ran};
 
 use crate::fault::{LineFault, ScriptFault, SyntaxFault};
 use crate::interpreter::Interpreter;
@@ -24,7 +25,7 @@ fn end_in_fault<W: Sink>(
     ensures steady { W.is_steady writer.old → ¬ IsErrOf result ScriptFault.Write }
 {
     let text = print::faulted(alloc, line, what)?;
-    write_line(writer, &text)?;
+    write_line(writer, text.as_bytes())?;
     Err(ScriptFault::Syntax { line, what })
 }
 
@@ -36,45 +37,59 @@ fn run_line<W: Sink>(
     number: u64,
     line: &[u8],
 ) -> Result<(), ScriptFault>
-    ensures runs { RunsLine (W.contents writer.old) (W.contents writer.new) interpreter.old number line.now result interpreter.new }
-    ensures steady { W.is_steady writer.old → (¬ IsErrOf result ScriptFault.Write) × OnOk result (W.is_steady writer.new) }
+    ensures runs { RunsLine (W.contents writer.old) (W.contents writer.new)
+        interpreter.old number line.now result interpreter.new }
+    ensures steady { W.is_steady writer.old →
+        (¬ IsErrOf result ScriptFault.Write) × OnOk result (W.is_steady writer.new) }
 {
     match interpreter.obey_line(number, line) {
-        Ok(printed) => write_line(writer, &printed),
+        Ok(printed) => write_line(writer, printed.as_bytes()),
         Err(LineFault::Syntax(what)) => end_in_fault(alloc, writer, number, what),
         Err(LineFault::OutOfMemory) => Err(ScriptFault::OutOfMemory),
     }
 }
 
 fn run_lines<W: Sink>(alloc: Global, text: &[u8], writer: &mut W) -> Result<(), ScriptFault>
-    requires { length text.now ≤ MAX_TEXT }
-    ensures wrote { Wrote (W.contents writer.old) (W.contents writer.new) (Prints first_stage 1 (lines text.now)) result }
+    requires { length text.now ≤ most_text }
+    ensures wrote { Wrote (W.contents writer.old) (W.contents writer.new)
+        (Prints first_stage 1 (lines text.now)) result }
     ensures steady { W.is_steady writer.old → ¬ IsErrOf result ScriptFault.Write }
 {
-    let mut interpreter = Interpreter::new(alloc);
+    let mut interpreter = Interpreter::new(alloc)?;
     let mut rest = text;
     let mut number = 1u64;
-    'lines: while rest.len() != 0 {
+    'lines: while !rest.is_empty() {
         let (line, after) = first_line(rest);
         run_line(alloc, &mut interpreter, writer, number, line)?;
         rest = after;
         number += 1;
     }
-    interpreter.begin()?;
     Ok(())
 }
 
-/// Reads a script to its end, and then runs it line by line. What a line prints is written before the
-/// next line is run. What is written is exactly a transcript of what was read, or the front of one where
-/// the reader or the writer fails, or memory runs out.
+/// Reads a script to its end, and then runs it line by line. What a line prints is written before
+/// the next line is run. What is written is exactly a transcript of what was read, or the front of
+/// one where the writer fails or memory runs out. A read or a write that is interrupted is tried
+/// again.
+///
+/// # Errors
+///
+/// `Read` where a read fails, and `NoEnd` where 2,097,152 reads gave no end: nothing is written
+/// then. `Write` where the writer fails, takes nothing, or is interrupted more than 2,097,152 times
+/// in one line. `Syntax` for the first fault of the text, which the transcript's last line says
+/// too. `OutOfMemory` at any point.
 pub fn run_script<R: Source, W: Sink>(
     alloc: Global,
     reader: &mut R,
     writer: &mut W,
 ) -> Result<(), ScriptFault>
-    ensures ran { Ran (R.remaining reader.old) (R.remaining reader.new) (W.contents writer.old) (W.contents writer.new) result }
-    // A reader that never fails is read, and a writer that never fails is written.
-    ensures read { R.is_steady reader.old → ¬ IsErrOf result ScriptFault.Read }
+    ensures ran { Ran (R.remaining reader.old) (R.remaining reader.new)
+        (W.contents writer.old) (W.contents writer.new) result }
+    // A reader that is at most interrupted is read, unless that takes too many reads; and a writer
+    // that never fails is written.
+    ensures read { (n : ℕ) → R.interruptions reader.old ≡ Some n → IfErr result (MayEndReading n) }
+    ensures turns { IsErrOf result ScriptFault.NoEnd →
+        Counts (R.reads reader.old) (R.reads reader.new) most_turns }
     ensures written { W.is_steady writer.old → ¬ IsErrOf result ScriptFault.Write }
 {
     let text = read_text(alloc, reader)?;

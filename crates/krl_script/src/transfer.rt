@@ -1,7 +1,8 @@
 //! A text is read whole, and lines are written whole, unless the reader or the writer fails.
-ghost use Rattle.std.specs.Prelude.{◌≡◌, ℕ, ◌⊎◌, ◌≤◌, List, [], ◌++◌, length, IfOk, OnOk, IfErr, IsOk, IsErrOf};
-ghost use Rattle.std.specs.Io.KnownBytes.{Appends, Consumes, IsAtEnd};
-ghost use Rattle.krl_script.specs.Runs.{ReadsWhole};
+ghost use Rattle.std.specs.Prelude.{◌≡◌, ℕ, ◌≤◌, List, [], ◌++◌, length, Some, IfOk, OnOk, IfErr, IsOk, IsErrOf};
+ghost use Rattle.std.specs.Io.KnownBytes.{Appends, Consumes};
+ghost use Rattle.krl_script.specs.Limits.{most_turns};
+ghost use Rattle.krl_script.specs.Runs.{Counts, ReadsWhole, ComesOfReading, MayEndReading};
 
 use crate::fault::ScriptFault;
 use crate::limits::{MAX_TEXT, MAX_TURNS};
@@ -9,12 +10,16 @@ use crate::source::{Sink, Source};
 use std::alloc::Global;
 use std::io::ErrorKind;
 
-/// Reads to the end, or until the text is too long.
+/// Reads to the end, or until the text is too long. A read that is interrupted is tried again.
 pub fn read_text<R: Source>(alloc: Global, reader: &mut R) -> Result<Vec<u8>, ScriptFault>
-    ensures ok { IfOk result (λ text. ReadsWhole (R.remaining reader.old) (R.remaining reader.new) text.items) }
-    ensures err { IfErr result (λ e. ((e ≡ ScriptFault.Read) ⊎ (e ≡ ScriptFault.OutOfMemory))
+    ensures ok { IfOk result (λ text.
+        ReadsWhole (R.remaining reader.old) (R.remaining reader.new) text.items) }
+    ensures err { IfErr result (λ e. ComesOfReading e
         × (taken : List ℕ) × Consumes (R.remaining reader.old) (R.remaining reader.new) taken) }
-    ensures steady { R.is_steady reader.old → ¬ IsErrOf result ScriptFault.Read }
+    ensures steady { (n : ℕ) → R.interruptions reader.old ≡ Some n →
+        IfErr result (MayEndReading n) }
+    ensures turns { IsErrOf result ScriptFault.NoEnd →
+        Counts (R.reads reader.old) (R.reads reader.new) most_turns }
 {
     let mut text = Vec::new(alloc);
     let mut buffer = [0u8; 4096];
@@ -28,22 +33,25 @@ pub fn read_text<R: Source>(alloc: Global, reader: &mut R) -> Result<Vec<u8>, Sc
             }
             Err(error) => {
                 if error.kind() != ErrorKind::Interrupted {
-                    return Err(ScriptFault::Read);
+                    return Err(ScriptFault::Read(error));
                 }
             }
         }
     }
-    Err(ScriptFault::Read)
+    Err(ScriptFault::NoEnd)
 }
 
-/// Writes the bytes, or a front of them where the writer fails.
+/// Writes the bytes, or a front of them where the writer fails. A write that is interrupted is
+/// tried again, up to `MAX_TURNS` times.
 pub fn write_line<W: Sink>(writer: &mut W, bytes: &[u8]) -> Result<(), ScriptFault>
     ensures ok { OnOk result (Appends (W.contents writer.old) (W.contents writer.new) bytes.now) }
     ensures err { IfErr result (λ e. (e ≡ ScriptFault.Write)
-        × (front : List ℕ) × (back : List ℕ) × (front ++ back ≡ bytes.now) × Appends (W.contents writer.old) (W.contents writer.new) front) }
+        × (front : List ℕ) × (back : List ℕ) × (front ++ back ≡ bytes.now)
+        × Appends (W.contents writer.old) (W.contents writer.new) front) }
     ensures steady { W.is_steady writer.old → IsOk result × W.is_steady writer.new }
 {
     let mut at = 0;
+    let mut interrupted = 0;
     while at < bytes.len() {
         match writer.write_some(&bytes[at..]) {
             Ok(n) => {
@@ -52,7 +60,15 @@ pub fn write_line<W: Sink>(writer: &mut W, bytes: &[u8]) -> Result<(), ScriptFau
                 }
                 at += n;
             }
-            Err(_) => return Err(ScriptFault::Write),
+            Err(failure) => {
+                if failure.kind() != ErrorKind::Interrupted {
+                    return Err(ScriptFault::Write);
+                }
+                if interrupted == MAX_TURNS {
+                    return Err(ScriptFault::Write);
+                }
+                interrupted += 1;
+            }
         }
     }
     Ok(())

@@ -3,7 +3,7 @@ ghost use Rattle.std.specs.Prelude.{◌≡◌};
 ghost use Rattle.krl_script.specs.Words.{word_text, word_named};
 
 /// The first word of a line, which says what the line asks for.
-#[derive(Clone, Copy, Debug, PartialEq, Eq)]
+#[derive(Clone, Copy)]
 pub enum Word {
     Seed,
     Client,
@@ -14,18 +14,18 @@ pub enum Word {
     Modes,
 }
 
-impl Word {
-    /// Every word.
-    pub const ALL: [Word; 7] = [
-        Word::Seed,
-        Word::Client,
-        Word::Lock,
-        Word::Settle,
-        Word::Scan,
-        Word::Hold,
-        Word::Modes,
-    ];
+// Every word.
+static WORDS: [Word; 7] = [
+    Word::Seed,
+    Word::Client,
+    Word::Lock,
+    Word::Settle,
+    Word::Scan,
+    Word::Hold,
+    Word::Modes,
+];
 
+impl Word {
     /// The word as it stands in a script.
     pub fn text(self) -> &'static str
         ensures { result.now ≡ word_text self }
@@ -45,7 +45,7 @@ impl Word {
     pub fn from_text(text: &[u8]) -> Option<Word>
         ensures { result ≡ word_named text.now }
     {
-        Word::ALL
+        WORDS
             .iter()
             .copied()
             .find(|word| text == word.text().as_bytes())

@@ -6,3 +6,4 @@ pub mod Sound
 pub mod Promises
 pub use Rattle.krl_modes.specs.Parts
 pub use Rattle.krl_modes.specs.Modes
+pub mod Names

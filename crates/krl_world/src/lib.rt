@@ -18,6 +18,3 @@ pub use refused::Refused;
 pub use rows::Rows;
 pub use step::{Command, Step};
 pub use world::World;
-
-#[cfg(test)]
-mod tests;

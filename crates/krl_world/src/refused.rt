@@ -1,50 +1,72 @@
 //! Refusals.
-ghost use Rattle.std.specs.Prelude.{◌≡◌};
+ghost use Rattle.std.specs.Prelude.{◌≡◌, Some};
+ghost use Rattle.krl_world.specs.Names.{refusal_name};
 ghost use Rattle.krl_world.specs.declared.refused.Refused.TheVariants.{OutOfMemory};
 
 use std::alloc::{AllocError, AllocFailed};
-use thiserror::Error;
+use std::error::Error;
+use std::fmt;
 
 /// Why a call did nothing. A refused call changes nothing.
-#[derive(Clone, Copy, Debug, PartialEq, Eq, Hash, Error)]
+#[derive(Clone, Copy, Debug, PartialEq, Eq)]
 pub enum Refused {
     /// Memory that the call needed was not there.
-    #[error("OutOfMemory")]
     OutOfMemory,
     /// A point above END.
-    #[error("BadPoint")]
     BadPoint,
     /// A span that does not begin below its end, or that ends above TOP.
-    #[error("BadSpan")]
     BadSpan,
     /// The client has not been told an epoch yet.
-    #[error("NotJoined")]
     NotJoined,
     /// The client waits for the answer to a lock request.
-    #[error("Busy")]
     Busy,
     /// A client number above 63.
-    #[error("BadClient")]
     BadClient,
     /// The client does not run.
-    #[error("Down")]
     Down,
     /// The client runs already.
-    #[error("Running")]
     Running,
     /// No message of this number can be delivered.
-    #[error("NoMessage")]
     NoMessage,
     /// A key of END or more.
-    #[error("BadKey")]
     BadKey,
     /// A key that stands twice.
-    #[error("Twice")]
     Twice,
     /// More than 65,536 entries.
-    #[error("Full")]
     Full,
 }
+
+impl Refused {
+    /// The refusal's name, which a transcript tells.
+    pub fn name(self) -> &'static str
+        ensures { result.now ≡ refusal_name self }
+    {
+        match self {
+            Refused::OutOfMemory => "OutOfMemory",
+            Refused::BadPoint => "BadPoint",
+            Refused::BadSpan => "BadSpan",
+            Refused::NotJoined => "NotJoined",
+            Refused::Busy => "Busy",
+            Refused::BadClient => "BadClient",
+            Refused::Down => "Down",
+            Refused::Running => "Running",
+            Refused::NoMessage => "NoMessage",
+            Refused::BadKey => "BadKey",
+            Refused::Twice => "Twice",
+            Refused::Full => "Full",
+        }
+    }
+}
+
+impl fmt::Display for Refused {
+    ghost output = { λ refused. Some (refusal_name refused) };
+
+    fn fmt<W: fmt::Write>(&self, f: &mut fmt::Formatter<W>) -> fmt::Result {
+        f.write_str(self.name())
+    }
+}
+
+impl Error for Refused {}
 
 impl From<AllocError> for Refused {
     ghost from_gives = { λ _ refused. refused ≡ OutOfMemory };

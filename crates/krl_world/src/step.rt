@@ -2,7 +2,7 @@
 use krl_modes::Mode;
 
 /// What a client is told to do.
-#[derive(Clone, Copy, Debug, PartialEq, Eq, Hash)]
+#[derive(Clone, Copy, Debug, PartialEq, Eq)]
 pub enum Command {
     /// Ask the server for the mode on the slot of the point.
     Lock { point: u64, mode: Mode },
@@ -11,7 +11,7 @@ pub enum Command {
 }
 
 /// One step of a world. Clients are numbered from 0 to 63, messages from 1 in the order in which they were sent.
-#[derive(Clone, Copy, Debug, PartialEq, Eq, Hash)]
+#[derive(Clone, Copy, Debug, PartialEq, Eq)]
 pub enum Step {
     /// The client of this number begins to run, and greets the server.
     StartClient(u64),

@@ -1,4 +1,4 @@
-use Rattle.std.proofs.Common.{◌≡◌, ℕ, List, Ok, Err, sym, subst}
+use Rattle.std.proofs.Common.{ℕ, List, Ok, Err, sym, subst}
 use Rattle.krl_world.specs.Steps.{Makes}
 use Rattle.krl_world.proofs.Outcomes.{Makes-ok, Makes-err}
 use Rattle.krl_script.proofs.interpreter.make_world.Goals as goal

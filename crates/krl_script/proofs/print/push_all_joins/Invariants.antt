@@ -4,4 +4,4 @@ use Rattle.krl_script.specs.Printing.{join_line}
 use Rattle.krl_script.proofs.print.push_all_joins.Given as goal
 
 abbrev pub invariant-loop-first : goal.invariant-loop-first
-invariant-loop-first l = l.lines.items ≡ l.fn.lines.items ++ flat_map join_line (take l.first-index l.pairs)
+invariant-loop-first l = l.lines.bytes.items ≡ l.fn.lines.bytes.items ++ flat_map join_line (take l.first-index l.pairs)

@@ -4,9 +4,8 @@ use Rattle.krl_script.proofs.run.run_line.Goals as goal
 
 pub returns-in-Ok-clause-runs : goal.returns-in-Ok-clause-runs
 returns-in-Ok-clause-runs g c =
-    let obeyed = c.in-Ok.ensures in
     runs_printed (g.W.Write.contents c.args.writer.now) (g.W.Write.contents c.write_line.new.writer) c.args.interpreter.now c.obey_line.new.self c.args.number c.args.line.now
-    obeyed.0 c.in-Ok.printed.items c.deref.result.now c.write_line.result obeyed.1 obeyed.2 c.deref.ensures.value c.write_line.ensures.ok c.write_line.ensures.err
+    c.in-Ok.printed.bytes.items c.as_bytes.result.now c.write_line.result c.in-Ok.ensures.done c.as_bytes.ensures.value c.write_line.ensures.ok c.write_line.ensures.err
 
 pub returns-in-Err-OutOfMemory-clause-runs : goal.returns-in-Err-OutOfMemory-clause-runs
 returns-in-Err-OutOfMemory-clause-runs g c = λ more. nothing_printed (g.W.Write.contents c.args.writer.now) c.args.interpreter.now c.args.number (c.args.line.now ∷ more)

@@ -1,14 +1,15 @@
 use Rattle.std.proofs.Common.{◌+◌, arith, refl, take, drop, length-drop}
 use Rattle.std.proofs.Math.Seq.{take-add}
+use Rattle.std.proofs.KnownBytes.{Appends-trans, Appends-kept}
 use Rattle.std.proofs.lemmas.List.{take-append-drop, take_rest}
-use Rattle.krl_script.proofs.TransferLemmas.{Appends-append, Appends-keeps}
 use Rattle.krl_script.proofs.transfer.write_line.Goals as goal
 
-pub loop-at-preserved : goal.loop-at-preserved
-loop-at-preserved g c =
+pub loop-at-preserved-in-Ok : goal.loop-at-preserved-in-Ok
+loop-at-preserved-in-Ok g c =
     record {
       inside = omega (arith, c.in-Ok.ensures.bound, length-drop c.loop-at.at c.args.bytes.now);
-      written = rw (take-add, ← take_rest c.args.bytes.now c.loop-at.at) (Appends-append _ _ _ _ _ c.loop-at.invariant.written c.in-Ok.ensures.bytes);
+      bounded = c.loop-at.invariant.bounded;
+      written = rw (take-add, ← take_rest c.args.bytes.now c.loop-at.at) (Appends-trans _ _ _ _ _ c.loop-at.invariant.written c.in-Ok.ensures.bytes);
       steady = λ h. (c.write_some.ensures.steady (c.loop-at.invariant.steady h)).1;
     }
 
@@ -18,14 +19,23 @@ returns-then-n-eq0-clause-err g c = (
   take (c.loop-at.at + c.in-Ok.n) c.args.bytes.now,
   drop (c.loop-at.at + c.in-Ok.n) c.args.bytes.now,
   take-append-drop _ _,
-  rw (take-add, ← take_rest c.args.bytes.now c.loop-at.at) (Appends-append _ _ _ _ _ c.loop-at.invariant.written c.in-Ok.ensures.bytes),
+  rw (take-add, ← take_rest c.args.bytes.now c.loop-at.at) (Appends-trans _ _ _ _ _ c.loop-at.invariant.written c.in-Ok.ensures.bytes),
 )
 
-pub returns-in-Err-clause-err : goal.returns-in-Err-clause-err
-returns-in-Err-clause-err g c = (
+pub returns-then-ne-clause-err : goal.returns-then-ne-clause-err
+returns-then-ne-clause-err g c = (
   refl,
   take c.loop-at.at c.args.bytes.now,
   drop c.loop-at.at c.args.bytes.now,
   take-append-drop _ _,
-  Appends-keeps _ _ _ _ c.loop-at.invariant.written c.in-Err.ensures.bytes,
+  Appends-kept _ _ _ _ c.loop-at.invariant.written c.in-Err.ensures.bytes,
+)
+
+pub returns-then-interrupted-eq-MAX_TURNS-clause-err : goal.returns-then-interrupted-eq-MAX_TURNS-clause-err
+returns-then-interrupted-eq-MAX_TURNS-clause-err g c = (
+  refl,
+  take c.loop-at.at c.args.bytes.now,
+  drop c.loop-at.at c.args.bytes.now,
+  take-append-drop _ _,
+  Appends-kept _ _ _ _ c.loop-at.invariant.written c.in-Err.ensures.bytes,
 )

@@ -1,13 +1,12 @@
-use Rattle.std.proofs.Common.{◌≡◌, ℕ, ◌-◌, ◌++◌, List, [], Option, true, subst, ap, ◌∙◌, unwrap_or}
-use Rattle.krl_world.specs.States.{State, fresh, sent_count}
+use Rattle.std.proofs.Common.{◌≡◌, ℕ, ◌-◌, ◌++◌, List, true, subst, ap, ◌∙◌}
+use Rattle.krl_world.specs.States.{State, sent_count}
 use Rattle.krl_world.specs.Steps.{Steps}
 use Rattle.krl_script.specs.Transcripts.{Stage, numbers}
 use Rattle.krl_script.proofs.interpreter.Interpreter.take_step.Goals as goal
 
 pub returns : goal.returns
 returns c =
-    let same : c.in_ok-world.world ≡ c.args.self.now.world =
-    c.in_ok-world.ensures ∙ (ap (λ (o : Option State). unwrap_or o (fresh [])) c.take.ensures.value ∙ ap (λ (s : Stage). s.world) c.self.view_is) in
+    let same : c.self.inside.world ≡ c.args.self.now.world = ap (λ (s : Stage). s.world) c.self.view_is in
     let before : c.sent-before.result ≡ sent_count c.args.self.now.world = c.sent-before.ensures ∙ ap sent_count same in
     let waits : c.self.inside.waiting.items ≡ c.args.self.now.waiting = ap (λ (s : Stage). s.waiting) c.self.view_is in
     let after : c.push_numbers.new.waiting.items ≡ c.args.self.now.waiting ++ numbers (sent_count c.args.self.now.world) (sent_count c.step-outcome.new.self - sent_count c.args.self.now.world) =

@@ -1,0 +1,47 @@
+-- Lists that stand for a belief, as a Report tells them. Two lists that stand for one belief are as
+-- good.
+use Rattle.std.specs.Prelude.{◌≡◌, ℕ, suc, ◌≤◌, ◌<◌, true, List, [], ◌∷◌, if◌then◌else◌, nat_eq}
+use Rattle.krl_modes.specs.declared.point.TheConstants.{END, TOP}
+use Rattle.krl_modes.specs.declared.part.RangePart.{RangePart}
+use Rattle.krl_modes.specs.declared.part.RangePart.TheVariants as range
+use Rattle.krl_modes.specs.declared.part.KeyPart.{KeyPart}
+use Rattle.krl_modes.specs.declared.part.KeyPart.TheVariants as key
+use Rattle.krl_modes.specs.Parts.{reads_key}
+use Rattle.krl_modes.specs.Spans.{contains}
+use Rattle.krl_messages.specs.declared.range_pieces.RangePiece.{RangePiece}
+use Rattle.krl_messages.specs.declared.key_pieces.KeyPiece.{KeyPiece}
+use Rattle.krl_messages.specs.declared.pieces.Pieces.{Pieces}
+use Rattle.krl_cache.specs.Beliefs.{Belief, IsBelief}
+
+-- What lists say of a point: the first that speaks of it, else N
+
+abbrev pub range_said : List RangePiece → ℕ → RangePart
+range_said [] p = range.N
+range_said (x ∷ xs) p = if contains x.span p then x.part else range_said xs p
+
+abbrev pub key_said : List KeyPiece → ℕ → KeyPart
+key_said [] p = key.N
+key_said (k ∷ ks) p = if nat_eq p k.point then k.part else key_said ks p
+
+-- spans from lo on, in order, none empty, none past END
+abbrev pub AreInOrder : ℕ → List RangePiece → Type 0
+AreInOrder lo [] = Unit {0}
+AreInOrder lo (x ∷ xs) =
+    (lo ≤ x.span.lo) × (x.span.lo < x.span.hi) × (x.span.hi ≤ TOP) × AreInOrder x.span.hi xs
+
+-- points from lo on, ascending, up to END, each read
+abbrev pub AreAscending : ℕ → List KeyPiece → Type 0
+AreAscending lo [] = Unit {0}
+AreAscending lo (k ∷ ks) =
+    (lo ≤ k.point) × (k.point ≤ END) × (reads_key k.part ≡ true) × AreAscending (suc k.point) ks
+
+-- the two lists of a Report say exactly this belief's parts
+pub record Describes (ps : Pieces) (b : Belief) : Type 0 where
+  pub ranges_in_order : AreInOrder 0 ps.ranges
+  pub keys_in_order : AreAscending 0 ps.keys
+  pub ranges : (p : ℕ) → range_said ps.ranges p ≡ b.range_at p
+  pub keys : (p : ℕ) → key_said ps.keys p ≡ b.key_at p
+
+-- some pieces describe each belief
+abbrev pub BeliefsAreDescribed : Type 0
+BeliefsAreDescribed = (b : Belief) → IsBelief b → (ps : Pieces) × Describes ps b

@@ -1,0 +1,6 @@
+pub mod Beliefs
+pub mod Kept
+pub mod Lists
+pub mod Maps
+pub mod Runs
+pub mod Walks

@@ -1,0 +1,263 @@
+-- Each call leaves a client.
+use Rattle.std.proofs.Common.{◌≡◌, ℕ, zero, suc, ◌+◌, ◌≤◌, ◌<◌, inl, inr, Bool, true, false, ◌&&◌, ◌||◌, not, Option, Some, None, is_some, refl, sym, subst, arith, nat_eq, nat_lt, nat_le, leb-false, ltb-false, if◌then◌else◌}
+use Rattle.std.proofs.lemmas.Bool.Decides.{eqb_tells}
+use Rattle.krl_modes.specs.declared.point.TheConstants.{END}
+use Rattle.krl_modes.specs.declared.mode.Mode.{Mode}
+use Rattle.krl_modes.specs.declared.mode.Mode.TheVariants as mode
+use Rattle.krl_modes.specs.Spans.{Bounds}
+use Rattle.krl_messages.specs.declared.outcome.Outcome.{Outcome}
+use Rattle.krl_messages.specs.declared.write_op.WriteOp.{WriteOp}
+use Rattle.krl_messages.specs.declared.to_client.ToClient.{ToClient}
+use Rattle.krl_messages.specs.declared.to_client.ToClientBody.{ToClientBody}
+use Rattle.krl_messages.specs.declared.to_client.ToClientBody.TheVariants as told
+use Rattle.krl_messages.specs.declared.to_client.PushBody.{PushBody}
+use Rattle.krl_messages.specs.declared.to_client.PushBody.TheVariants as push
+use Rattle.krl_messages.specs.Writes.{op_key}
+use Rattle.krl_cache.specs.Beliefs.{IsBelief, is_span}
+use Rattle.krl_cache.proofs.Calls.{calls_keep_belief}
+use Rattle.krl_client.specs.declared.refused.CommandRefused.TheVariants as refused
+use Rattle.krl_client.specs.declared.refused.StartRefused.TheVariants as start
+use Rattle.krl_client.specs.Clients.{Client, Asked, NotAsked, Granted, NoEntry, Dropped, Waiting, Written, Unwritten, Outstanding, Judged, outstanding, has_joined, is_waiting, is_writing_in, meets_pin, if_taken, free_from, free_pin, with_pin, begun}
+use Rattle.krl_client.specs.Commands.{start_refusal, lock_refusal, locked, write_refusal, wrote, holds_for, lowered, pin_refusal, pinned, unpinned}
+use Rattle.krl_client.specs.Messages.{Case, Ignores, AcksAgain, Adopts, Accepts, Lowers, case_of, case_of_body, after, fits, dropped, joined, judged_as, accepted}
+use Rattle.krl_client.specs.Keeps.{IsPin, IsClient, LiesOnSpan, BringsSpan, ClientKeeps}
+use Rattle.krl_client.proofs.Tests.{and_true, passed}
+use Rattle.krl_client.proofs.Cases.{next_fits}
+
+pub start_keeps : (c incarnation : ℕ) → start_refusal c incarnation ≡ None → IsClient (begun c incarnation)
+start_keeps c incarnation e =
+    let one = passed (nat_lt 63 c) start.BadClient _ e in
+    let two = passed (nat_lt END incarnation) start.Spent None one.1 in
+    record {
+      number = ltb-false 63 c one.0;
+      incarnation = ltb-false END incarnation two.0;
+      seen = omega arith;
+      req = omega arith;
+      writes = omega arith;
+      asked = λ point mode w. absurd (cc);
+      written = λ change w. absurd (cc);
+      pins = λ id s w. absurd (cc);
+      belief = calls_keep_belief.new;
+    }
+
+-- Commands
+
+same_point : (p q : ℕ) (m n : Mode) → Waiting p m ≡ Waiting q n → p ≡ q
+same_point p q m n e = cc
+
+same_change : (a b : WriteOp) → ◌≡◌ {A = Option WriteOp} (Some a) (Some b) → a ≡ b
+same_change a b e = cc
+
+pub lock_keeps : (k : Client) (point : ℕ) (mode : Mode) → lock_refusal k point ≡ None → IsClient k → IsClient (locked k point mode)
+lock_keeps k point mode e i =
+    let one = passed (nat_lt END point) refused.BadPoint _ e in
+    let two = passed (not (has_joined k)) refused.NotJoined _ one.1 in
+    let three = passed (is_waiting k.asked) refused.Busy _ two.1 in
+    let four = passed (nat_le END k.req) refused.Spent None three.1 in
+    let below = leb-false END k.req four.0 in
+    let at : point ≤ END = ltb-false END point one.0 in
+    record {
+      number = i.number;
+      incarnation = i.incarnation;
+      seen = i.seen;
+      req = omega (arith, below);
+      writes = i.writes;
+      asked = λ p m w. record { counted = omega arith; at = subst (λ (n : ℕ). n ≤ END) (same_point point p mode m w) at };
+      written = i.written;
+      pins = i.pins;
+      belief = i.belief;
+    }
+
+pub write_keeps : (k : Client) (change : WriteOp) → write_refusal k change ≡ None → IsClient k → IsClient (wrote k change)
+write_keeps k change e i =
+    let one = passed (nat_le END (op_key change)) refused.BadPoint _ e in
+    let two = passed (not (has_joined k)) refused.NotJoined _ one.1 in
+    let three = passed (is_some (outstanding k.written)) refused.Writing _ two.1 in
+    let four = passed (not (holds_for k.belief change)) refused.NotHeld _ three.1 in
+    let five = passed (nat_le END k.writes) refused.Spent None four.1 in
+    let below = leb-false END k.writes five.0 in
+    let key : op_key change < END = leb-false END (op_key change) one.0 in
+    record {
+      number = i.number;
+      incarnation = i.incarnation;
+      seen = i.seen;
+      req = i.req;
+      writes = omega (arith, below);
+      asked = i.asked;
+      written = λ c w. record { counted = omega arith; key = subst (λ (x : WriteOp). op_key x < END) (same_change change c w) key };
+      pins = i.pins;
+      belief = i.belief;
+    }
+
+pub lower_keeps : (k : Client) (s : Bounds) (keep : Mode) → IsClient k → IsClient (lowered k s keep)
+lower_keeps k s keep i = record {
+  number = i.number;
+  incarnation = i.incarnation;
+  seen = i.seen;
+  req = i.req;
+  writes = i.writes;
+  asked = i.asked;
+  written = i.written;
+  pins = i.pins;
+  belief = calls_keep_belief.lower s keep k.belief i.belief;
+}
+
+-- Pins
+
+free_below : (pins : ℕ → Option Bounds) (i n id : ℕ) → free_from pins i n ≡ Some id → id < i + n
+free_below pins i zero id h = absurd (let bad : None ≡ Some id = h in cc)
+free_below pins i (suc n) id h =
+    elim (pins i) as (λ (s : Option Bounds). if_taken s i (free_from pins (suc i) n) ≡ Some id → id < i + suc n) [
+      | None ↦ λ k. let is : i ≡ id = cc in omega arith
+      | Some s ↦ λ k. omega (arith, free_below pins (suc i) n id k)
+    ] h
+
+set_pin : (pins : ℕ → Option Bounds) (id j : ℕ) (new : Option Bounds) (t : Bounds) → ((q : ℕ) (s : Bounds) → pins q ≡ Some s → IsPin q s) → (new ≡ Some t → IsPin id t) → with_pin pins id new j ≡ Some t → IsPin j t
+set_pin pins id j new t old is w =
+    elim (eqb_tells j id) [
+      | inl e ↦ subst (λ (n : ℕ). IsPin n t) (sym e.1) (is (subst (λ (b : Bool). (if b then new else pins j) ≡ Some t) e.0 w))
+      | inr e ↦ old j t (subst (λ (b : Bool). (if b then new else pins j) ≡ Some t) e.0 w)
+    ]
+
+pub pin_keeps : (k : Client) (s : Bounds) (id : ℕ) → is_span s ≡ true → free_pin k ≡ Some id → IsClient k → IsClient (pinned k s id)
+pin_keeps k s id span free i = record {
+  number = i.number;
+  incarnation = i.incarnation;
+  seen = i.seen;
+  req = i.req;
+  writes = i.writes;
+  asked = i.asked;
+  written = i.written;
+  pins = λ j t w. set_pin k.pins id j (Some s) t i.pins (λ e. record { below = free_below k.pins 0 8 id free; span = let same : s ≡ t = cc in subst (λ (x : Bounds). is_span x ≡ true) same span }) w;
+  belief = i.belief;
+}
+
+pub unpin_keeps : (k : Client) (id : ℕ) → IsClient k → IsClient (unpinned k id)
+unpin_keeps k id i = record {
+  number = i.number;
+  incarnation = i.incarnation;
+  seen = i.seen;
+  req = i.req;
+  writes = i.writes;
+  asked = i.asked;
+  written = i.written;
+  pins = λ j t w. set_pin k.pins id j None t i.pins (λ e. absurd (let bad : ◌≡◌ {A = Option Bounds} None (Some t) = e in cc)) w;
+  belief = i.belief;
+}
+
+spanned : (k : Client) (s : Bounds) → pin_refusal k s ≡ None → is_span s ≡ true
+spanned k s e = yes (is_span s) (passed (not (is_span s)) refused.BadSpan _ e).0
+  where
+    yes : (b : Bool) → not b ≡ false → b ≡ true
+    yes true h = refl
+    yes false h = absurd (let bad : true ≡ false = h in cc)
+
+-- Messages
+
+none_waits : (a : Asked) (point : ℕ) (mode : Mode) → dropped a ≡ Waiting point mode → ⊥
+none_waits NotAsked point mode e = cc
+none_waits (Waiting p m) point mode e = cc
+none_waits Granted point mode e = cc
+none_waits NoEntry point mode e = cc
+none_waits Dropped point mode e = cc
+
+pub join_keeps : (k : Client) (epoch : ℕ) → IsClient k → IsClient (joined k epoch)
+join_keeps k epoch i = record {
+  number = i.number;
+  incarnation = i.incarnation;
+  seen = omega arith;
+  req = omega arith;
+  writes = i.writes;
+  asked = λ point mode w. absurd (none_waits k.asked point mode w);
+  written = i.written;
+  pins = i.pins;
+  belief = i.belief;
+}
+
+-- what waits after a reply waited before
+still_waits : (t : Bool) (now reply : Asked) (point : ℕ) (mode : Mode) → (reply ≡ Waiting point mode → ⊥) → (if t then reply else now) ≡ Waiting point mode → now ≡ Waiting point mode
+still_waits true now reply point mode other e = absurd (other e)
+still_waits false now reply point mode other e = e
+
+still_one : (t : Bool) (outcome : Outcome) (old change : WriteOp) → outstanding (if t then Judged outcome else Outstanding old) ≡ Some change → Some old ≡ Some change
+still_one true outcome old change e = absurd (let bad : ◌≡◌ {A = Option WriteOp} None (Some change) = e in cc)
+still_one false outcome old change e = e
+
+-- what is outstanding after an answer was so before
+still_out : (k : Client) (number : ℕ) (outcome : Outcome) (w : Written) (change : WriteOp) → outstanding (judged_as k number outcome w) ≡ Some change → outstanding w ≡ Some change
+still_out k number outcome Unwritten change e = e
+still_out k number outcome (Outstanding old) change e = still_one (nat_eq number k.writes) outcome old change e
+still_out k number outcome (Judged old) change e = e
+
+pub accept_keeps : (k : Client) (what : PushBody) → suc k.seen ≤ END → IsBelief (accepted k what).belief → IsClient k → IsClient (accepted k what)
+accept_keeps k (push.Grant req h) l b i = record {
+  number = i.number;
+  incarnation = i.incarnation;
+  seen = l;
+  req = i.req;
+  writes = i.writes;
+  asked = λ point mode w. i.asked point mode (still_waits (is_waiting k.asked && nat_eq req k.req) k.asked Granted point mode (λ e. cc) w);
+  written = i.written;
+  pins = i.pins;
+  belief = b;
+}
+accept_keeps k (push.Absent req point) l b i = record {
+  number = i.number;
+  incarnation = i.incarnation;
+  seen = l;
+  req = i.req;
+  writes = i.writes;
+  asked = λ p mode w. i.asked p mode (still_waits (is_waiting k.asked && nat_eq req k.req) k.asked NoEntry p mode (λ e. cc) w);
+  written = i.written;
+  pins = i.pins;
+  belief = b;
+}
+accept_keeps k (push.Answer number outcome h) l b i = record {
+  number = i.number;
+  incarnation = i.incarnation;
+  seen = l;
+  req = i.req;
+  writes = i.writes;
+  asked = i.asked;
+  written = λ change w. i.written change (still_out k number outcome k.written change w);
+  pins = i.pins;
+  belief = b;
+}
+
+accepts_belief : (k : Client) (what : PushBody) → fits what ≡ true → LiesOnSpan what → IsBelief k.belief → IsBelief (accepted k what).belief
+accepts_belief k (push.Grant req h) f s i = calls_keep_belief.adopt h k.belief s f i
+accepts_belief k (push.Absent req point) f s i = i
+accepts_belief k (push.Answer number outcome h) f s i = calls_keep_belief.adopt h k.belief s f i
+
+abbrev Keeps : Client → Case → Type 0
+Keeps k x = IsClient k → IsClient (after k x)
+
+keeps_either : (k : Client) (b : Bool) (x y : Case) → (b ≡ true → Keeps k x) → Keeps k y → Keeps k (if b then x else y)
+keeps_either k true x y f h = f refl
+keeps_either k false x y f h = h
+
+body_keeps : (k : Client) (what : ToClientBody) → BringsSpan what → Keeps k (case_of_body k what)
+body_keeps k (told.Epoch epoch) s = keeps_either k (nat_lt k.epoch epoch) (Adopts epoch) Ignores (λ t. join_keeps k epoch) (λ i. i)
+body_keeps k (told.Push epoch number what) s =
+    keeps_either k (nat_eq epoch k.epoch && fits what) _ Ignores
+    (λ t. keeps_either k (nat_eq number (suc k.seen) && nat_le number END) (Accepts what) _
+    (λ u i. accept_keeps k what (next_fits number k.seen u) (accepts_belief k what (and_true (nat_eq epoch k.epoch) (fits what) t).1 s i.belief) i)
+    (keeps_either k (nat_eq number k.seen) AcksAgain Ignores (λ w i. i) (λ i. i)))
+    (λ i. i)
+body_keeps k (told.Callback epoch s keep) b =
+    keeps_either k (nat_eq epoch k.epoch && not (is_writing_in k s || meets_pin k s)) (Lowers s keep) Ignores (λ t. lower_keeps k s keep) (λ i. i)
+
+message_keeps : (k : Client) (m : ToClient) → BringsSpan m.body → Keeps k (case_of k m)
+message_keeps k m s =
+    keeps_either k (nat_eq m.client k.number && nat_eq m.incarnation k.incarnation) (case_of_body k m.body) Ignores (λ t. body_keeps k m.body s) (λ i. i)
+
+pub client_keeps : ClientKeeps
+client_keeps = record {
+  start = start_keeps;
+  lock = lock_keeps;
+  write = write_keeps;
+  forget = λ k s. lower_keeps k s mode.N;
+  pin = λ k s id e. pin_keeps k s id (spanned k s e);
+  unpin = unpin_keeps;
+  message = message_keeps;
+}

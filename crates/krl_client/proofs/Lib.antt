@@ -1,0 +1,5 @@
+mod Pinned
+mod Cases
+mod Tests
+mod Always
+pub mod Keeping

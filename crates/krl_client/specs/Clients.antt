@@ -1,0 +1,156 @@
+-- What a client is, and what it shows of itself.
+use Rattle.std.specs.Prelude.{ℕ, zero, suc, Bool, true, false, ◌||◌, Option, Some, None, if◌then◌else◌, nat_eq, nat_lt}
+use Rattle.krl_modes.specs.declared.mode.Mode.{Mode}
+use Rattle.krl_modes.specs.declared.part.RangePart.{RangePart}
+use Rattle.krl_modes.specs.declared.part.KeyPart.{KeyPart}
+use Rattle.krl_modes.specs.Spans.{Bounds, contains, meets}
+use Rattle.krl_messages.specs.declared.write_op.WriteOp.{WriteOp}
+use Rattle.krl_messages.specs.declared.outcome.Outcome.{Outcome}
+use Rattle.krl_messages.specs.declared.to_server.ToServer.{ToServer}
+use Rattle.krl_messages.specs.declared.to_server.ToServerBody.{ToServerBody}
+use Rattle.krl_messages.specs.declared.to_server.ToServerBody.TheVariants as body
+use Rattle.krl_messages.specs.declared.to_server.RequestBody.{RequestBody}
+use Rattle.krl_messages.specs.Writes.{op_key}
+use Rattle.krl_cache.specs.Beliefs.{Belief, no_belief}
+use Rattle.krl_client.specs.declared.status.Status.{Status}
+use Rattle.krl_client.specs.declared.status.LockStatus.{LockStatus}
+use Rattle.krl_client.specs.declared.status.LockStatus.TheVariants as lock
+use Rattle.krl_client.specs.declared.status.WriteStatus.{WriteStatus}
+use Rattle.krl_client.specs.declared.status.WriteStatus.TheVariants as write
+
+-- the last lock request of this incarnation
+pub data Asked : Type 0 where
+  NotAsked Granted NoEntry Dropped : Asked
+  Waiting : (point : ℕ) (mode : Mode) → Asked
+
+-- its last write
+pub data Written : Type 0 where
+  Unwritten : Written
+  Outstanding : (change : WriteOp) → Written
+  Judged : (outcome : Outcome) → Written
+
+pub record Client : Type 0 where
+  pub number : ℕ
+  pub incarnation : ℕ
+  pub epoch : ℕ  -- 0 before it has joined
+  pub seen : ℕ  -- the number of the last push that it accepted in this epoch
+  pub req : ℕ  -- the number of its last lock request in this epoch
+  pub asked : Asked
+  pub writes : ℕ  -- the number of its last write
+  pub written : Written
+  pub belief : Belief
+  pub pins : ℕ → Option Bounds  -- 0 to 7
+
+abbrev pub no_pins : ℕ → Option Bounds
+no_pins i = None
+
+-- a client that starts
+abbrev pub begun : ℕ → ℕ → Client
+begun number incarnation = record {
+  number = number;
+  incarnation = incarnation;
+  epoch = 0;
+  seen = 0;
+  req = 0;
+  asked = NotAsked;
+  writes = 0;
+  written = Unwritten;
+  belief = no_belief;
+  pins = no_pins;
+}
+
+-- the client has been told an epoch
+abbrev pub has_joined : Client → Bool
+has_joined k = nat_lt 0 k.epoch
+
+-- Its requests and writes
+
+abbrev pub is_waiting : Asked → Bool
+is_waiting NotAsked = false
+is_waiting Granted = false
+is_waiting NoEntry = false
+is_waiting Dropped = false
+is_waiting (Waiting point mode) = true
+
+abbrev pub outstanding : Written → Option WriteOp
+outstanding Unwritten = None
+outstanding (Outstanding change) = Some change
+outstanding (Judged outcome) = None
+
+abbrev pub is_in : Bounds → Option WriteOp → Bool
+is_in s None = false
+is_in s (Some change) = contains s (op_key change)
+
+-- the span contains the outstanding write's key
+abbrev pub is_writing_in : Client → Bounds → Bool
+is_writing_in k s = is_in s (outstanding k.written)
+
+-- Its pins
+
+-- how many pins there may be
+abbrev pub most_pins : ℕ
+most_pins = 8
+
+abbrev pub pin_meets : Bounds → Option Bounds → Bool
+pin_meets s None = false
+pin_meets s (Some t) = meets s t
+
+-- the span meets one of the first n pins
+abbrev pub meets_one : (ℕ → Option Bounds) → ℕ → Bounds → Bool
+meets_one pins zero s = false
+meets_one pins (suc n) s = pin_meets s (pins n) || meets_one pins n s
+
+-- the span meets a pin
+abbrev pub meets_pin : Client → Bounds → Bool
+meets_pin k s = meets_one k.pins most_pins s
+
+abbrev pub if_taken : Option Bounds → ℕ → Option ℕ → Option ℕ
+if_taken None i later = Some i
+if_taken (Some s) i later = later
+
+-- the least free id from i on, of n
+abbrev pub free_from : (ℕ → Option Bounds) → ℕ → ℕ → Option ℕ
+free_from pins i zero = None
+free_from pins i (suc n) = if_taken (pins i) i (free_from pins (suc i) n)
+
+abbrev pub free_pin : Client → Option ℕ
+free_pin k = free_from k.pins 0 most_pins
+
+abbrev pub with_pin : (ℕ → Option Bounds) → ℕ → Option Bounds → ℕ → Option Bounds
+with_pin pins i s j = if nat_eq j i then s else pins j
+
+-- What it shows
+
+-- what it believes that it holds at a point
+abbrev pub held : Client → ℕ → RangePart × KeyPart
+held k p = (k.belief.range_at p, k.belief.key_at p)
+
+abbrev pub lock_status : Asked → LockStatus
+lock_status NotAsked = lock.NotAsked
+lock_status (Waiting point mode) = lock.Waiting
+lock_status Granted = lock.Granted
+lock_status NoEntry = lock.Absent
+lock_status Dropped = lock.Dropped
+
+abbrev pub write_status : ℕ → Written → WriteStatus
+write_status n Unwritten = write.NotWritten
+write_status n (Outstanding change) = write.Waiting n
+write_status n (Judged outcome) = write.Judged n outcome
+
+abbrev pub status_of : Client → Status
+status_of k = record {
+  epoch = k.epoch;
+  seen = k.seen;
+  lock = lock_status k.asked;
+  write = write_status k.writes k.written;
+}
+
+-- What it says
+
+abbrev pub from : Client → ToServerBody → ToServer
+from k what = record { client = k.number; incarnation = k.incarnation; body = what }
+
+-- a request, with its epoch and the last push that it accepted
+abbrev pub requests : Client → RequestBody → ToServer
+requests k what =
+    from k (body.Request (record { epoch = k.epoch; seen = k.seen; body = what }))

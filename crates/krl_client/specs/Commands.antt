@@ -1,0 +1,151 @@
+-- What a client refuses, in the written order, and what each command makes of it.
+use Rattle.std.specs.Prelude.{◌≡◌, ℕ, suc, Bool, true, false, ◌&&◌, ◌||◌, not, Option, Some, None, is_some, List, [], ◌∷◌, if◌then◌else◌, nat_lt, nat_le}
+use Rattle.krl_modes.specs.declared.point.TheConstants.{END}
+use Rattle.krl_modes.specs.declared.mode.Mode.{Mode}
+use Rattle.krl_modes.specs.declared.mode.Mode.TheVariants as mode
+use Rattle.krl_modes.specs.Parts.{lets_insert, is_range_X, is_key_X}
+use Rattle.krl_modes.specs.Spans.{Bounds, contains}
+use Rattle.krl_messages.specs.declared.write_op.WriteOp.{WriteOp}
+use Rattle.krl_messages.specs.declared.write_op.WriteOp.TheVariants as op
+use Rattle.krl_messages.specs.declared.to_server.ToServer.{ToServer}
+use Rattle.krl_messages.specs.declared.to_server.RequestBody.TheVariants as request
+use Rattle.krl_messages.specs.declared.to_server.ToServerBody.TheVariants as body
+use Rattle.krl_messages.specs.Values.{Value}
+use Rattle.krl_messages.specs.Writes.{op_key}
+use Rattle.krl_cache.specs.declared.scanned.Scanned.TheVariants as scanned
+use Rattle.krl_cache.specs.Beliefs.{Belief, is_span, lower, Scans}
+use Rattle.krl_client.specs.declared.refused.CommandRefused.{CommandRefused}
+use Rattle.krl_client.specs.declared.refused.CommandRefused.TheVariants as refused
+use Rattle.krl_client.specs.declared.refused.StartRefused.{StartRefused}
+use Rattle.krl_client.specs.declared.refused.StartRefused.TheVariants as start
+use Rattle.krl_client.specs.declared.scan_answer.ScanAnswer.{ScanAnswer}
+use Rattle.krl_client.specs.declared.scan_answer.ScanAnswer.TheVariants as answer
+use Rattle.krl_client.specs.Clients.{Client, Waiting, Outstanding, outstanding, has_joined, is_waiting, is_writing_in, most_pins, meets_pin, free_pin, with_pin, from, requests}
+
+-- what a write needs of what the client believes
+abbrev pub holds_for : Belief → WriteOp → Bool
+holds_for b (op.Insert k v) = lets_insert (b.range_at k)
+holds_for b (op.Put k v) = is_key_X (b.key_at k)
+holds_for b (op.Delete k) =
+    is_key_X (b.key_at k) && is_range_X (b.range_at k) && is_range_X (b.range_at (suc k))
+
+-- Refusals
+
+-- a test, and the refusal that is due where it holds
+pub record Reason : Type 0 where
+  pub holds : Bool
+  pub refusal : CommandRefused
+
+abbrev pub due : CommandRefused → Bool → Reason
+due r b = record { holds = b; refusal = r }
+
+-- the first that is due
+abbrev pub first_reason : List Reason → Option CommandRefused
+first_reason [] = None
+first_reason (r ∷ rs) = if r.holds then Some r.refusal else first_reason rs
+
+-- why each command is refused, in the order of judging, memory aside
+
+abbrev pub lock_refusal : Client → ℕ → Option CommandRefused
+lock_refusal k point =
+    first_reason (
+    due refused.BadPoint (nat_lt END point)
+    ∷ due refused.NotJoined (not (has_joined k))
+    ∷ due refused.Busy (is_waiting k.asked)
+    ∷ due refused.Spent (nat_le END k.req)
+    ∷ []
+    )
+
+abbrev pub write_refusal : Client → WriteOp → Option CommandRefused
+write_refusal k change =
+    first_reason (
+    due refused.BadPoint (nat_le END (op_key change))
+    ∷ due refused.NotJoined (not (has_joined k))
+    ∷ due refused.Writing (is_some (outstanding k.written))
+    ∷ due refused.NotHeld (not (holds_for k.belief change))
+    ∷ due refused.Spent (nat_le END k.writes)
+    ∷ []
+    )
+
+abbrev pub scan_refusal : Bounds → Option CommandRefused
+scan_refusal s = first_reason (due refused.BadSpan (not (is_span s)) ∷ [])
+
+abbrev pub forget_refusal : Client → Bounds → Option CommandRefused
+forget_refusal k s =
+    first_reason (
+    due refused.BadSpan (not (is_span s))
+    ∷ due refused.NotJoined (not (has_joined k))
+    ∷ due refused.Writing (is_writing_in k s)
+    ∷ due refused.Pinned (meets_pin k s)
+    ∷ []
+    )
+
+abbrev pub pin_refusal : Client → Bounds → Option CommandRefused
+pin_refusal k s =
+    first_reason (
+    due refused.BadSpan (not (is_span s))
+    ∷ due refused.TooManyPins (not (is_some (free_pin k)))
+    ∷ []
+    )
+
+abbrev pub unpin_refusal : Client → ℕ → Option CommandRefused
+unpin_refusal k id =
+    first_reason (
+    due refused.NotHeld (nat_le most_pins id || not (is_some (k.pins id)))
+    ∷ []
+    )
+
+-- why no client starts
+abbrev pub start_refusal : ℕ → ℕ → Option StartRefused
+start_refusal c incarnation =
+    if nat_lt 63 c
+    then Some start.BadClient
+    else (if nat_lt END incarnation then Some start.Spent else None)
+
+-- Effects of a command that is not refused, and what it sends
+
+abbrev pub locked : Client → ℕ → Mode → Client
+locked k point mode = record k { req = suc k.req; asked = Waiting point mode }
+
+abbrev pub says_lock : Client → ℕ → Mode → ToServer
+says_lock k point mode = requests k (request.Lock k.req point mode)
+
+abbrev pub wrote : Client → WriteOp → Client
+wrote k change = record k { writes = suc k.writes; written = Outstanding change }
+
+abbrev pub says_write : Client → WriteOp → ToServer
+says_write k change = requests k (request.Write k.writes change)
+
+abbrev pub lowered : Client → Bounds → Mode → Client
+lowered k s keep = record k { belief = lower s keep k.belief }
+
+abbrev pub says_release : Client → Bounds → Mode → ToServer
+says_release k s keep = requests k (request.Release s keep)
+
+abbrev pub forgot : Client → Bounds → Client
+forgot k s = lowered k s mode.N
+
+abbrev pub pinned : Client → Bounds → ℕ → Client
+pinned k s id = record k { pins = with_pin k.pins id (Some s) }
+
+abbrev pub unpinned : Client → ℕ → Client
+unpinned k id = record k { pins = with_pin k.pins id None }
+
+abbrev pub says_bye : Client → ToServer
+says_bye k = from k body.Bye
+
+-- Scans
+
+-- Pending exactly where the outstanding write's key lies in the span; else what the cache finds
+pub data Answers (k : Client) (s : Bounds) : ScanAnswer → Type 0 where
+  is_pending :
+      (change : WriteOp)
+      → outstanding k.written ≡ Some change → contains s (op_key change) ≡ true
+      → Answers k s (answer.Pending (op_key change))
+  finds_rows :
+      (rows : List (ℕ × Value))
+      → is_writing_in k s ≡ false → Scans k.belief s (scanned.Rows rows)
+      → Answers k s (answer.Rows rows)
+  misses :
+      (p : ℕ)
+      → is_writing_in k s ≡ false → Scans k.belief s (scanned.Miss p) → Answers k s (answer.Miss p)

@@ -1,0 +1,91 @@
+//! A client.
+ghost use Rattle.std.specs.Prelude.{◌≡◌, None, Some, IfOk, IfErr, OnOk};
+ghost use Rattle.krl_client.specs.Clients as clients;
+ghost use Rattle.krl_client.specs.Commands as commands;
+ghost use Rattle.krl_client.specs.Ticks as ticks;
+ghost use Rattle.krl_client.specs.Fields.{meaning};
+
+use crate::asked::Asked;
+use crate::pins::Pins;
+use crate::refused::StartRefused;
+use crate::written::Written;
+use krl_cache::Cache;
+use krl_messages::{ToServer, ToServerBody};
+use krl_modes::END;
+use std::alloc::Global;
+use std::marker::Model;
+
+/// A client: what it was told, what it asked and wrote, what it believes, and the spans that it
+/// pins.
+#[derive(Drop)]
+pub struct Client {
+    pub(crate) alloc: Global,
+    pub(crate) number: u64,
+    pub(crate) incarnation: u64,
+    /// 0 before it has joined one.
+    pub(crate) epoch: u64,
+    /// The number of the last push that it accepted in this epoch.
+    pub(crate) seen: u64,
+    /// The number of its last lock request in this epoch.
+    pub(crate) req: u64,
+    pub(crate) asked: Asked,
+    /// The number of its last write.
+    pub(crate) writes: u64,
+    pub(crate) written: Written,
+    pub(crate) cache: Cache,
+    pub(crate) pins: Pins,
+}
+
+impl Model for Client {
+    ghost use Rattle.krl_client.specs.Fields.{Fields, meaning};
+    ghost use Rattle.krl_client.specs.Keeps.{IsClient};
+
+    ghost Value = { Fields };
+
+    ghost view = { λ c. record { number = c.number; incarnation = c.incarnation; epoch = c.epoch; seen = c.seen; req = c.req; asked = c.asked; writes = c.writes; written = c.written; cache = c.cache; pins = c.pins } };
+
+    ghost invariant = { λ c. IsClient
+        (meaning (record { number = c.number; incarnation = c.incarnation; epoch = c.epoch; seen = c.seen; req = c.req; asked = c.asked; writes = c.writes; written = c.written; cache = c.cache; pins = c.pins })) };
+}
+
+impl Client {
+    /// A client of this number, from 0 to 63, that starts, and the Hello that it says. Each start
+    /// of a number has a greater incarnation, from 0 to END. It takes no memory.
+    ///
+    /// # Errors
+    ///
+    /// `BadClient` where the number is above 63; else `Spent` where the incarnation is above END.
+    pub fn start(
+        alloc: Global,
+        number: u64,
+        incarnation: u64,
+    ) -> Result<(Client, ToServer), StartRefused>
+        ensures due { IfErr result (λ r. commands.start_refusal number incarnation ≡ Some r) }
+        ensures none_due { OnOk result (commands.start_refusal number incarnation ≡ None) }
+        ensures client { IfOk result (λ x. meaning x.0 ≡ clients.begun number incarnation) }
+        ensures hello { IfOk result
+            (λ x. x.1 ≡ ticks.says_hello (clients.begun number incarnation)) }
+    {
+        if number > 63 {
+            return Err(StartRefused::BadClient);
+        }
+        if incarnation > END {
+            return Err(StartRefused::Spent);
+        }
+        let client = Client {
+            alloc,
+            number,
+            incarnation,
+            epoch: 0,
+            seen: 0,
+            req: 0,
+            asked: Asked::NotAsked,
+            writes: 0,
+            written: Written::Unwritten,
+            cache: Cache::new(alloc),
+            pins: Pins::new(),
+        };
+        let hello = client.says(ToServerBody::Hello);
+        Ok((client, hello))
+    }
+}

@@ -1,0 +1,27 @@
+//! The client of the lock server: its commands, what it does with a message, and its tick.
+//!
+//! Whoever embeds a client drives one value by commands, messages and ticks, and sends on what each
+//! call gives. A scan is answered from memory, with no message, by what the client was granted. The
+//! modes are those of key-range locking (the SQL Server guide; Lomet, VLDB 1993); that a client
+//! keeps what it reads, gives it back when it is called, and reports it in each epoch is this
+//! project's own.
+#![tactic(auto)]
+
+mod asked;
+mod client;
+mod commands;
+mod hears;
+pub mod laws;
+mod pins;
+mod refused;
+mod scan_answer;
+mod sends;
+mod shows;
+mod status;
+mod ticks;
+mod written;
+
+pub use client::Client;
+pub use refused::{CommandRefused, StartRefused};
+pub use scan_answer::ScanAnswer;
+pub use status::{LockStatus, Status, WriteStatus};

@@ -1,0 +1,107 @@
+//! Pins.
+ghost use Rattle.std.specs.Prelude.{◌≡◌, [], None, Some, MatchOption, MatchBool, is_some, ◌<◌};
+ghost use Rattle.krl_client.specs.Clients as clients;
+ghost use Rattle.krl_client.specs.Fields.{pins_of};
+
+use arrayvec::ArrayVec;
+use krl_modes::Span;
+use std::marker::Model;
+
+/// How many pins there may be.
+pub const MOST_PINS: u64 = 8;
+
+/// The spans that a client pins, by their ids, from 0 to 7.
+#[derive(Drop)]
+pub struct Pins {
+    spans: ArrayVec<Option<Span>, 8>,
+}
+
+impl Model for Pins {
+    ghost use Rattle.std.specs.Prelude.{List, Option};
+    ghost use Rattle.krl_modes.specs.Spans.{Bounds};
+
+    ghost Value = { List (Option Bounds) };
+
+    ghost view = { λ p. p.spans.items };
+}
+
+// Whether the span meets the other one, where there is one.
+fn meets(span: Span, pin: Option<Span>) -> bool
+    ensures { result ≡ clients.pin_meets span pin }
+{
+    match pin {
+        Some(pin) => span.meets(pin),
+        None => false,
+    }
+}
+
+impl Pins {
+    /// No pins. They take no memory.
+    pub fn new() -> Pins
+        ensures { result ≡ [] }
+    {
+        Pins {
+            spans: ArrayVec::new(),
+        }
+    }
+
+    /// The pin of this id.
+    pub fn get(&self, id: u64) -> Option<Span>
+        ensures { result ≡ pins_of self.now id }
+    {
+        let id = id as usize;
+        if id < self.spans.len() {
+            self.spans[id]
+        } else {
+            None
+        }
+    }
+
+    /// The least id that is free.
+    pub fn free(&self) -> Option<u64>
+        ensures { result ≡ clients.free_from (pins_of self.now) 0 clients.most_pins }
+    {
+        for id in 0..MOST_PINS {
+            if self.get(id).is_none() {
+                return Some(id);
+            }
+        }
+        None
+    }
+
+    /// Whether the span meets a pin.
+    pub fn meet(&self, span: Span) -> bool
+        ensures { result ≡ clients.meets_one (pins_of self.now) clients.most_pins span }
+    {
+        for id in 0..MOST_PINS {
+            if meets(span, self.get(id)) {
+                return true;
+            }
+        }
+        false
+    }
+
+    /// Pins a span under the least id that is free.
+    pub fn pin(&mut self, id: u64, span: Span)
+        requires { clients.free_from (pins_of self.old) 0 clients.most_pins ≡ Some id }
+        ensures { pins_of self.new ≡ clients.with_pin (pins_of self.old) id (Some span) }
+    {
+        let id = id as usize;
+        if id < self.spans.len() {
+            self.spans[id] = Some(span);
+        } else {
+            self.spans.push(Some(span));
+        }
+    }
+
+    /// Frees an id.
+    pub fn unpin(&mut self, id: u64)
+        requires { id < clients.most_pins }
+        ensures { pins_of self.new ≡ clients.with_pin (pins_of self.old) id None }
+    {
+        let id = id as usize;
+        if id < self.spans.len() {
+            self.spans[id] = None;
+        }
+    }
+}

@@ -1,0 +1,10 @@
+//! Tests of the client and of its cache, apart from them: a check of the tests does not prove both
+//! again.
+#![tactic(auto)]
+
+#[cfg(test)]
+mod acts;
+#[cfg(test)]
+mod cache;
+#[cfg(test)]
+mod client;

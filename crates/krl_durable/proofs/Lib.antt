@@ -1,0 +1,9 @@
+pub mod Slots
+pub mod Maps
+pub mod Rows
+pub mod Edits
+pub mod Cuts
+pub mod Kept
+pub mod Openings
+pub mod Judged
+pub mod SlotLaws

@@ -1,0 +1,19 @@
+use Rattle.std.proofs.Common.{subst}
+use Rattle.krl_durable.specs.Registers.{Durable}
+use Rattle.krl_durable.specs.Kept.{IsKept}
+use Rattle.krl_durable.proofs.Rows.{clients_seen, outcomes_seen, lasts_seen}
+use Rattle.krl_durable.proofs.durable.Durable.epoch.Goals as goal
+
+pub returns-clause-kept : goal.returns-clause-kept
+returns-clause-kept c =
+    let inside : Durable = record { index = c.self.inside.index; epoch = c.self.inside.epoch; register = c.self.inside.register } in
+    let kept : IsKept inside = record {
+      keys = c.as_slice.ensures.below;
+      few = c.as_slice.ensures.few;
+      epoch = c.self.invariant;
+      clients = clients_seen c.self.inside.register c.rows.ensures.rows;
+      once = c.rows.ensures.once;
+      outcomes = outcomes_seen c.self.inside.register c.rows.ensures.rows;
+      lasts = lasts_seen c.self.inside.register c.rows.ensures.rows;
+    } in
+    subst IsKept c.self.view_is kept

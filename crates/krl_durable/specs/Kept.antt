@@ -1,0 +1,50 @@
+-- How the index and the register are kept.
+use Rattle.std.specs.Prelude.{◌≡◌, ℕ, ◌≤◌, true, not, nat_eq, nat_lt, List, length, is_some, Option, Some, None, if◌then◌else◌}
+use Rattle.std.specs.List.{AllByRecursion, IsDistinct}
+use Rattle.std.specs.Map.{keys_of}
+use Rattle.std.specs.Ordering.{nat_cmp}
+use Rattle.std.specs.FinMap as map
+use Rattle.std.specs.FinMap.Entries.{is_sorted}
+use Rattle.krl_modes.specs.declared.point.TheConstants.{END}
+use Rattle.krl_messages.specs.Values.{Value}
+use Rattle.krl_durable.specs.declared.record.Record.{Record}
+use Rattle.krl_durable.specs.Registers.{Durable, HasOutcomes, HasLasts}
+use Rattle.krl_durable.specs.Writes.{most_entries}
+
+abbrev pub AreBelowEnd : List (ℕ × Value) → Type 0
+AreBelowEnd es = AllByRecursion (λ e. nat_lt e.0 END ≡ true) es
+
+-- entries in key order, and room for as many as there may be
+pub record IsEntries (es : List (ℕ × Value)) (capacity : ℕ) : Type 0 where
+  pub sorted : is_sorted nat_cmp es ≡ true
+  pub below : AreBelowEnd es
+  pub few : length es ≤ most_entries
+  pub room : most_entries ≤ capacity
+
+-- there is an outcome exactly where a write was judged
+abbrev pub HasOutcome : Record → Type 0
+HasOutcome r = is_some r.outcome ≡ not (nat_eq r.last 0)
+
+-- it has an outcome where it should, and its last number is one
+abbrev pub IsRecord : Record → Type 0
+IsRecord r = HasOutcome r × (r.last ≤ END)
+
+-- a client's number, and its record
+abbrev pub IsRow : ℕ × Record → Type 0
+IsRow e = (nat_lt e.0 64 ≡ true) × IsRecord e.1
+
+-- the client of a row, where it has not left
+abbrev pub missing_of : ℕ × Record → Option ℕ
+missing_of e = if e.1.left then None else Some e.0
+
+-- What holds of all that survives: the keys are below END, and no more than the greatest number; the
+-- epoch is at most END; the clients are below 64, each once, with outcomes where a write was judged, and
+-- with last numbers of at most END.
+pub record IsKept (d : Durable) : Type 0 where
+  pub keys : AreBelowEnd (map.entries d.index)
+  pub few : length (map.entries d.index) ≤ most_entries
+  pub epoch : d.epoch ≤ END
+  pub clients : AllByRecursion (λ e. nat_lt e.0 64 ≡ true) d.register
+  pub once : IsDistinct nat_eq (keys_of d.register)
+  pub outcomes : HasOutcomes d.register
+  pub lasts : HasLasts d.register

@@ -1,0 +1,198 @@
+//! What survives a restart, as its callers see it.
+ghost use Rattle.std.specs.Prelude.{◌≡◌, ◌≤◌, ◌<◌, suc, length, IsSome, IsSomeAnd, OnOk, OnErr, MatchResult, IfOk};
+ghost use Rattle.std.specs.FinMap as map;
+ghost use Rattle.krl_modes.specs.declared.point.TheConstants.{END};
+ghost use Rattle.krl_durable.specs.Index.{slot_of, span_of, IsSlotOf, IsSpanOf};
+ghost use Rattle.krl_durable.specs.Registers.{record_of, missing_order, registered, departed};
+ghost use Rattle.krl_durable.specs.Kept.{IsKept};
+ghost use Rattle.krl_durable.specs.Openings.{AreGood, Refuses, fresh};
+ghost use Rattle.krl_messages.specs.Writes.{op_key};
+ghost use Rattle.krl_durable.specs.Writes.{most_entries, judge, applied};
+
+use crate::index::Index;
+use crate::record::Record;
+use crate::refused::Refused;
+use crate::register::Register;
+use krl_messages::{Outcome, Value, WriteOp};
+use krl_modes::Span;
+use std::alloc::{AllocError, Global};
+use std::marker::Model;
+
+/// What survives a restart of the server.
+#[derive(Drop)]
+pub struct Durable {
+    index: Index,
+    epoch: u64,
+    register: Register,
+}
+
+impl Model for Durable {
+    ghost use Rattle.std.specs.Coded.{codes, coded_ℕ};
+    ghost use Rattle.std.specs.Ordering.{nat_cmp};
+    ghost use Rattle.std.specs.FinMap as map;
+    ghost use Rattle.std.specs.Prelude.{◌≤◌};
+    ghost use Rattle.krl_modes.specs.declared.point.TheConstants.{END};
+    ghost use Rattle.krl_durable.specs.Registers.{Durable as Kept};
+    ghost use Rattle.krl_durable.specs.contracts.record.Record as record_contract;
+
+    ghost Value = { Kept };
+
+    ghost coded = { Prim.hlevel (codes, map.code {R = nat_cmp} coded_ℕ coded_ℕ, record_contract.the_row.coded) };
+
+    ghost view = { λ d. record { index = d.index; epoch = d.epoch; register = d.register } };
+
+    ghost invariant = { λ d. d.epoch ≤ END };
+}
+
+impl Durable {
+    /// These entries, in any order, at epoch 0. Nobody is registered. There is room for 65,536 entries
+    /// from the start, so that no later write takes memory.
+    ///
+    /// # Errors
+    ///
+    /// `Full` above 65,536 entries; else the first bad entry in order, by `BadKey` where its key is END
+    /// or more, or by `Twice` where its key stands before; and `OutOfMemory` at any point.
+    pub fn new(alloc: Global, entries: &[(u64, Value)]) -> Result<Durable, Refused>
+        ensures { MatchResult result
+            (λ d. (length entries.now ≤ most_entries) × AreGood entries.now (length entries.now)
+            × (d ≡ fresh entries.now))
+            (Refuses entries.now) }
+    {
+        let index = Index::new(alloc, entries)?;
+        Ok(Durable {
+            index,
+            epoch: 0,
+            register: Register::new(alloc),
+        })
+    }
+
+    /// The epoch. Its clause `kept` says what holds of all that survives.
+    pub fn epoch(&self) -> u64
+        ensures epoch { result ≡ self.now.epoch }
+        ensures kept { IsKept self.now }
+    {
+        let _ = self.index.as_slice();
+        self.register.rows();
+        self.epoch
+    }
+
+    /// The epoch rises by one. It takes no memory.
+    pub fn raise(&mut self)
+        requires { self.old.epoch < END }
+        ensures { self.new ≡ record self.old { epoch = suc self.old.epoch } }
+    {
+        self.epoch += 1;
+    }
+
+    /// The entries of the index, in key order.
+    pub fn entries(&self) -> &[(u64, Value)]
+        ensures { result.now ≡ map.entries self.now.index }
+    {
+        self.index.as_slice()
+    }
+
+    /// The value at the key.
+    pub fn get(&self, key: u64) -> Option<Value>
+        ensures { result ≡ map.get self.now.index key }
+    {
+        self.index.get(key)
+    }
+
+    /// The slot of a point: the least key at or above it, or END.
+    pub fn slot_of(&self, point: u64) -> u64
+        ensures slot { result ≡ slot_of self.now.index point }
+        ensures least { point ≤ END → IsSlotOf self.now.index point result }
+    {
+        self.index.slot_of(point)
+    }
+
+    /// The span of a slot: the points after the key before it, up to the slot itself.
+    pub fn span_of(&self, slot: u64) -> Span
+        requires { slot ≤ END }
+        ensures span { result ≡ span_of self.now.index slot }
+        ensures points { IsSpanOf self.now.index slot result.lo }
+    {
+        self.index.span_of(slot)
+    }
+
+    /// The client's record, where it ever registered.
+    pub fn record(&self, c: u64) -> Option<Record>
+        ensures { result ≡ record_of self.now.register c }
+    {
+        self.register.get(c)
+    }
+
+    /// Registers the client with this incarnation: it has not left, and no write of it has been
+    /// judged. A client that is registered already keeps its place in the order.
+    ///
+    /// # Errors
+    ///
+    /// `AllocError` where memory for a new client is refused. Nothing has changed then.
+    pub fn register(&mut self, c: u64, incarnation: u64) -> Result<(), AllocError>
+        requires { c < 64 }
+        ensures ok { OnOk result (self.new ≡ registered self.old c incarnation) }
+        ensures err { OnErr result (self.new ≡ self.old) }
+    {
+        self.register.set(
+            c,
+            Record {
+                incarnation,
+                left: false,
+                last: 0,
+                outcome: None,
+            },
+        )
+    }
+
+    /// Marks a registered client as one that has left. It takes no memory.
+    pub fn leave(&mut self, c: u64)
+        requires { IsSome (record_of self.old.register c) }
+        ensures { self.new ≡ departed self.old c }
+    {
+        if let Some(record) = self.register.get(c) {
+            self.register.replace(
+                c,
+                Record {
+                    left: true,
+                    ..record
+                },
+            );
+        }
+    }
+
+    /// The clients that have not left, by first registration.
+    pub fn missing_order(&self, alloc: Global) -> Result<Vec<u64>, AllocError>
+        ensures { IfOk result (λ clients. clients.items ≡ missing_order self.now.register) }
+    {
+        self.register.missing_order(alloc)
+    }
+
+    /// How a write is judged, where the table grants what it needs or not.
+    pub fn judge(&self, op: WriteOp, held: bool) -> Outcome
+        ensures { result ≡ judge self.now.index op held }
+    {
+        self.index.judge(op, held)
+    }
+
+    /// Judges the next write of a registered client, performs it exactly where it is `Applied`, and
+    /// notes its number and outcome, all at once. It takes no memory. The rule is this project's own.
+    pub fn apply(&mut self, c: u64, op: WriteOp, held: bool) -> Outcome
+        requires key { op_key op < END }
+        requires unspent { IsSomeAnd (record_of self.old.register c) (λ r. r.last < END) }
+        ensures outcome { result ≡ judge self.old.index op held }
+        ensures applied { self.new ≡ applied self.old c op result }
+    {
+        let outcome = self.index.apply(op, held);
+        if let Some(record) = self.register.get(c) {
+            self.register.replace(
+                c,
+                Record {
+                    last: record.last + 1,
+                    outcome: Some(outcome),
+                    ..record
+                },
+            );
+        }
+        outcome
+    }
+}

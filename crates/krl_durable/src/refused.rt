@@ -1,0 +1,43 @@
+//! Refusals.
+ghost use Rattle.std.specs.Prelude.{◌≡◌};
+ghost use Rattle.krl_durable.specs.declared.refused.Refused.TheVariants.{OutOfMemory};
+ghost use Rattle.krl_durable.specs.Openings.{refused_name};
+
+use std::alloc::AllocError;
+use thiserror::Error;
+
+/// Why no index begins with some entries.
+#[derive(Clone, Copy, Debug, PartialEq, Eq, Error)]
+#[error("{name}", name = self.name())]
+pub enum Refused {
+    /// Memory that the call needed was not there.
+    OutOfMemory,
+    /// A key of END or more.
+    BadKey,
+    /// A key that stands twice.
+    Twice,
+    /// More than 65,536 entries.
+    Full,
+}
+
+impl Refused {
+    /// The refusal's name.
+    pub fn name(self) -> &'static str
+        ensures { result.now ≡ refused_name self }
+    {
+        match self {
+            Refused::OutOfMemory => "OutOfMemory",
+            Refused::BadKey => "BadKey",
+            Refused::Twice => "Twice",
+            Refused::Full => "Full",
+        }
+    }
+}
+
+impl From<AllocError> for Refused {
+    ghost from_gives = { λ _ refused. refused ≡ OutOfMemory };
+
+    fn from(_error: AllocError) -> Refused {
+        Refused::OutOfMemory
+    }
+}

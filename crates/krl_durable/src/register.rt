@@ -1,0 +1,107 @@
+//! The register of clients.
+ghost use Rattle.std.specs.Prelude.{◌≡◌, ◌<◌, nat_eq, [], IsSome, IfSome, OnOk, OnErr, IfOk};
+ghost use Rattle.std.specs.List.{AllByRecursion, IsDistinct, filter_map};
+ghost use Rattle.std.specs.Map.{keys_of};
+ghost use Rattle.krl_durable.specs.Registers.{record_of, with_record, missing_order};
+ghost use Rattle.krl_durable.specs.Kept.{IsRow, IsRecord, missing_of};
+
+use crate::record::Record;
+use indexmap::IndexMap;
+use std::alloc::{AllocError, Global};
+use std::marker::Model;
+
+/// A record of each client that ever registered, seen as a list, in order of first registration.
+#[derive(Drop)]
+pub struct Register {
+    records: IndexMap<u64, Record>,
+}
+
+impl Model for Register {
+    ghost use Rattle.std.specs.Prelude.{ℕ, List};
+    ghost use Rattle.std.specs.List.{AllByRecursion};
+    ghost use Rattle.krl_durable.specs.declared.record.Record.{Record};
+    ghost use Rattle.krl_durable.specs.Kept.{IsRow};
+
+    ghost Value = { List (ℕ × Record) };
+
+    ghost view = { λ r. r.records.entries };
+
+    ghost invariant = { λ r. AllByRecursion IsRow r.records.entries };
+}
+
+// The client, where it has not left.
+fn missing_of(c: u64, row: &Record) -> Option<u64>
+    ensures { result ≡ missing_of (c, row.now) }
+{
+    if row.left { None } else { Some(c) }
+}
+
+// The clients that have not left, in the order of the rows.
+fn clients_missing(alloc: Global, records: &IndexMap<u64, Record>) -> Result<Vec<u64>, AllocError>
+    ensures { IfOk result (λ clients. clients.items ≡ filter_map missing_of records.now.entries) }
+{
+    records
+        .iter()
+        .filter_map(|(c, row)| missing_of(*c, row))
+        .collect(alloc)
+}
+
+impl Register {
+    /// Nobody is registered.
+    pub fn new(alloc: Global) -> Register
+        ensures { result ≡ [] }
+    {
+        Register {
+            records: IndexMap::new(alloc),
+        }
+    }
+
+    /// The client's record.
+    pub fn get(&self, c: u64) -> Option<Record>
+        ensures found { result ≡ record_of self.now c }
+        ensures each { IfSome result IsRecord }
+    {
+        self.records.get(&c).copied()
+    }
+
+    /// What holds of each register.
+    pub fn rows(&self)
+        ensures rows { AllByRecursion IsRow self.now }
+        ensures once { IsDistinct nat_eq (keys_of self.now) }
+    {
+        let _ = self.records.len();
+    }
+
+    /// Gives the client this record: in place of the one that it has, or last.
+    ///
+    /// # Errors
+    ///
+    /// `AllocError` where memory for a new client is refused. Nothing has changed then.
+    pub fn set(&mut self, c: u64, row: Record) -> Result<(), AllocError>
+        requires client { c < 64 }
+        requires each { IsRecord row }
+        ensures ok { OnOk result (self.new ≡ with_record self.old c row) }
+        ensures err { OnErr result (self.new ≡ self.old) }
+    {
+        self.records.insert(c, row)?;
+        Ok(())
+    }
+
+    /// Gives a registered client this record. It takes no memory.
+    pub fn replace(&mut self, c: u64, row: Record)
+        requires registered { IsSome (record_of self.old c) }
+        requires each { IsRecord row }
+        ensures { self.new ≡ with_record self.old c row }
+    {
+        if let Some(kept) = self.records.get_mut(&c) {
+            *kept = row;
+        }
+    }
+
+    /// The clients that have not left, by first registration.
+    pub fn missing_order(&self, alloc: Global) -> Result<Vec<u64>, AllocError>
+        ensures { IfOk result (λ clients. clients.items ≡ missing_order self.now) }
+    {
+        clients_missing(alloc, &self.records)
+    }
+}

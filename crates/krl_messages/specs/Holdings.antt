@@ -1,0 +1,20 @@
+-- The rule on a holding's value.
+use Rattle.std.specs.Prelude.{Bool, true, false, ◌&&◌, not, is_some, nat_eq}
+use Rattle.krl_modes.specs.declared.point.TheConstants.{TOP}
+use Rattle.krl_modes.specs.Parts.{reads_key}
+use Rattle.krl_modes.specs.Modes.{key_of}
+use Rattle.krl_modes.specs.Spans.{Bounds}
+use Rattle.krl_messages.specs.declared.holding.Holding.{Holding}
+
+-- the span's last point is END
+abbrev pub ends_at_end : Bounds → Bool
+ends_at_end s = nat_eq s.hi TOP
+
+-- two tests have one answer
+abbrev pub same : Bool → Bool → Bool
+same true b = b
+same false b = not b
+
+-- the value is there exactly where the key part reads the entry and the slot is not END
+abbrev pub has_its_value : Holding → Bool
+has_its_value h = same (is_some h.value) (reads_key (key_of h.mode) && not (ends_at_end h.span))

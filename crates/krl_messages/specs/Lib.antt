@@ -1,0 +1,3 @@
+pub mod Values
+pub mod Holdings
+pub mod Writes

@@ -1,0 +1,185 @@
+//! What survives a restart: which entries are refused, writes, registration. A call that is refused for want of memory is
+//! made again, after a look that nothing has changed, so that each run ends alike, whichever one allocation fails.
+use krl_durable::{Durable, Record, Refused};
+use krl_messages::{Outcome, Value, WriteOp};
+use krl_modes::END;
+use std::alloc::{AllocError, Global};
+use std::test::Fail;
+
+// A durable part of these entries.
+fn durable_of(alloc: Global, entries: &[(u64, Value)]) -> Result<Durable, Refused> {
+    match Durable::new(alloc, entries) {
+        Err(Refused::OutOfMemory) => Durable::new(alloc, entries),
+        made => made,
+    }
+}
+
+// Whether these entries are refused so.
+fn is_refused(alloc: Global, entries: &[(u64, Value)], expected: Refused) -> bool {
+    match durable_of(alloc, entries) {
+        Ok(_) => false,
+        Err(refused) => refused == expected,
+    }
+}
+
+#[test]
+fn refuses_the_first_bad_entry(rt: HostRuntime) -> Result<(), Fail> {
+    assert!(rt; is_refused(rt.alloc(), &[(1, 0), (2, 0), (1, 0)], Refused::Twice));
+    assert!(rt; is_refused(rt.alloc(), &[(END, 0), (2, 0), (2, 0)], Refused::BadKey));
+    assert!(rt; is_refused(rt.alloc(), &[(2, 0), (2, 0), (END, 0)], Refused::Twice));
+    assert!(rt; is_refused(rt.alloc(), &[(2, 0), (END, 0), (2, 0)], Refused::BadKey));
+    Ok(())
+}
+
+// As many entries as this, with keys that fall or rise.
+fn many(alloc: Global, n: u64, falls: bool) -> Result<Vec<(u64, Value)>, AllocError> {
+    let mut entries = Vec::new(alloc);
+    for i in 0..n {
+        let key = if falls { n.saturating_sub(i) } else { i };
+        entries.push((key, i))?;
+    }
+    Ok(entries)
+}
+
+// The same, asked for again where memory was refused.
+fn entries_of(alloc: Global, n: u64, falls: bool) -> Result<Vec<(u64, Value)>, AllocError> {
+    match many(alloc, n, falls) {
+        Ok(entries) => Ok(entries),
+        Err(_) => many(alloc, n, falls),
+    }
+}
+
+#[test]
+fn large_index_holds_the_most_entries(rt: HostRuntime) -> Result<(), Fail> {
+    let entries = entries_of(rt.alloc(), 65537, false)?;
+    assert!(rt; is_refused(rt.alloc(), &entries, Refused::Full));
+    let entries = entries_of(rt.alloc(), 65536, false)?;
+    let mut durable = durable_of(rt.alloc(), &entries)?;
+    let more = WriteOp::Insert {
+        key: 70000,
+        value: 1,
+    };
+    let less = WriteOp::Delete { key: 5 };
+    assert!(rt; durable.judge(more, true) == Outcome::Full);
+    assert!(rt; durable.judge(more, false) == Outcome::NotHeld);
+    assert!(rt; writes(&mut durable, 1, less, true, Outcome::Applied));
+    assert!(rt; writes(&mut durable, 1, more, true, Outcome::Applied));
+    assert!(rt; durable.get(70000) == Some(1));
+    assert!(rt; durable.get(5).is_none());
+    Ok(())
+}
+
+#[test]
+fn large_index_sorts_falling_entries(rt: HostRuntime) -> Result<(), Fail> {
+    let entries = entries_of(rt.alloc(), 65536, true)?;
+    let durable = durable_of(rt.alloc(), &entries)?;
+    assert!(rt; durable.slot_of(0) == 1);
+    assert!(rt; durable.slot_of(65537) == END);
+    Ok(())
+}
+
+// Whether the client registers with this incarnation, at once or after a refusal that changed nothing.
+fn registers(durable: &mut Durable, c: u64, incarnation: u64) -> bool {
+    if c >= 64 {
+        return false;
+    }
+    let before = durable.record(c);
+    if durable.register(c, incarnation).is_err() {
+        return durable.record(c) == before && durable.register(c, incarnation).is_ok();
+    }
+    true
+}
+
+// Whether a write of a client, which registers first if it has not, is judged so and noted.
+fn writes(durable: &mut Durable, c: u64, op: WriteOp, held: bool, expected: Outcome) -> bool {
+    if c >= 64 || op.key() >= END {
+        return false;
+    }
+    if durable.record(c).is_none() && !registers(durable, c, 1) {
+        return false;
+    }
+    match durable.record(c) {
+        None => false,
+        Some(record) => {
+            if record.last >= END {
+                return false;
+            }
+            let outcome = durable.apply(c, op, held);
+            outcome == expected && is_noted(durable, c, record, expected)
+        }
+    }
+}
+
+// Whether the client's record is the next one, with this outcome.
+fn is_noted(durable: &Durable, c: u64, before: Record, outcome: Outcome) -> bool {
+    match durable.record(c) {
+        None => false,
+        Some(record) => {
+            record.last == before.last.saturating_add(1) && record.outcome == Some(outcome)
+        }
+    }
+}
+
+static WRITES: [(WriteOp, bool, Outcome); 9] = [
+    (
+        WriteOp::Insert { key: 15, value: 5 },
+        false,
+        Outcome::NotHeld,
+    ),
+    (
+        WriteOp::Insert { key: 15, value: 5 },
+        true,
+        Outcome::Applied,
+    ),
+    (WriteOp::Insert { key: 15, value: 6 }, true, Outcome::Exists),
+    (
+        WriteOp::Insert { key: 15, value: 6 },
+        false,
+        Outcome::Exists,
+    ),
+    (WriteOp::Put { key: 15, value: 7 }, false, Outcome::NotHeld),
+    (WriteOp::Put { key: 15, value: 7 }, true, Outcome::Applied),
+    (WriteOp::Put { key: 16, value: 7 }, true, Outcome::Absent),
+    (WriteOp::Delete { key: 10 }, true, Outcome::Applied),
+    (WriteOp::Delete { key: 10 }, false, Outcome::Absent),
+];
+
+#[test]
+fn judges_writes_and_notes_them(rt: HostRuntime) -> Result<(), Fail> {
+    let mut durable = durable_of(rt.alloc(), &[(20, 2), (10, 1)])?;
+    assert!(rt; durable.entries() == [(10, 1), (20, 2)].as_slice());
+    for (op, held, expected) in &WRITES {
+        assert!(rt; writes(&mut durable, 3, *op, *held, *expected));
+    }
+    assert!(rt; durable.entries() == [(15, 7), (20, 2)].as_slice());
+    assert!(rt; durable.slot_of(16) == 20);
+    assert!(rt; durable.span_of(20).lo() == 16);
+    assert!(rt; durable.span_of(20).hi() == 21);
+    assert!(rt; durable.span_of(END).lo() == 21);
+    Ok(())
+}
+
+// The clients that have not left, asked for again where memory was refused.
+fn missing(durable: &Durable, alloc: Global) -> Result<Vec<u64>, AllocError> {
+    match durable.missing_order(alloc) {
+        Ok(clients) => Ok(clients),
+        Err(_) => durable.missing_order(alloc),
+    }
+}
+
+#[test]
+fn keeps_the_order_of_first_registration(rt: HostRuntime) -> Result<(), Fail> {
+    let mut durable = durable_of(rt.alloc(), &[])?;
+    for (c, incarnation) in [(5, 1), (2, 1), (9, 1), (5, 2)] {
+        assert!(rt; registers(&mut durable, c, incarnation));
+    }
+    assert!(rt; missing(&durable, rt.alloc())?.as_slice() == [5, 2, 9].as_slice());
+    if durable.record(2).is_some() {
+        durable.leave(2);
+    }
+    assert!(rt; missing(&durable, rt.alloc())?.as_slice() == [5, 9].as_slice());
+    assert!(rt; durable.epoch() == 0);
+    durable.raise();
+    assert!(rt; durable.epoch() == 1);
+    Ok(())
+}

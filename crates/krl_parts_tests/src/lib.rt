@@ -1,0 +1,11 @@
+//! Tests of modes, messages, waiting lists and what survives a restart, through their public calls.
+#![tactic(auto)]
+
+#[cfg(test)]
+mod durable;
+#[cfg(test)]
+mod messages;
+#[cfg(test)]
+mod modes;
+#[cfg(test)]
+mod queue;

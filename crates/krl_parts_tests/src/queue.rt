@@ -1,0 +1,134 @@
+//! Waiting lists. A refused node is asked for again with the waiter that came back, so that each run ends in the same
+//! lists, whichever request for memory is refused. No other call asks for memory.
+use krl_modes::{END, Mode, Point};
+use krl_queue::{WaitList, WaitNode, Waiter};
+use std::alloc::Global;
+use std::marker::Send;
+
+/// Clients with the points that they wait for.
+static FIVE: [(u64, u64); 5] = [(1, 10), (2, 30), (3, 20), (2, 20), (4, END)];
+
+/// A node, which is asked for again with the waiter that came back.
+fn node(alloc: Global, client: u64, point: u64) -> Option<WaitNode> {
+    let waiter = Waiter {
+        client,
+        req: 7,
+        point: Point::new(point)?,
+        mode: Mode::RangeSU,
+    };
+    match WaitNode::try_new(alloc, waiter) {
+        Ok(node) => Some(node),
+        Err(refused) => WaitNode::try_new(alloc, refused.value).ok(),
+    }
+}
+
+/// Puts those five in: the first before all others, at last.
+fn fills(alloc: Global, list: &mut WaitList) -> bool {
+    for (client, point) in &FIVE[1..] {
+        let Some(node) = node(alloc, *client, *point) else {
+            return false;
+        };
+        list.push_back(node);
+    }
+    match node(alloc, 1, 10) {
+        None => false,
+        Some(node) => {
+            list.push_front(node);
+            true
+        }
+    }
+}
+
+fn is(waiter: Option<Waiter>, client: u64, point: u64) -> bool {
+    waiter.is_some_and(|w| w.client == client && w.req == 7 && w.point.get() == point)
+}
+
+/// Takes out all that wait, and says whether they were just these, in this order.
+fn drains(list: &mut WaitList, waiting: &[(u64, u64)]) -> bool {
+    for (client, point) in waiting {
+        if !is(list.pop_front(), *client, *point) {
+            return false;
+        }
+    }
+    list.is_empty()
+}
+
+#[test]
+fn takes_out_in_order(rt: HostRuntime) {
+    let mut list = WaitList::new();
+    assert!(rt; list.is_empty() && list.front().is_none());
+    assert!(rt; fills(rt.alloc(), &mut list));
+    assert!(rt; list.len() == 5 && is(list.front(), 1, 10));
+    // One in the middle, none, the first.
+    assert!(rt; is(list.remove_client(2), 2, 30));
+    assert!(rt; list.remove_client(5).is_none());
+    assert!(rt; is(list.pop_front(), 1, 10));
+    assert!(rt; list.len() == 3);
+    assert!(rt; drains(&mut list, &[(3, 20), (2, 20), (4, END)]));
+    assert!(rt; list.pop_front().is_none());
+}
+
+#[test]
+fn takes_out_the_last_and_goes_on(rt: HostRuntime) {
+    let mut list = WaitList::new();
+    assert!(rt; fills(rt.alloc(), &mut list));
+    assert!(rt; is(list.remove_client(4), 4, END));
+    assert!(rt; is(list.remove_client(1), 1, 10));
+    assert!(rt; fills(rt.alloc(), &mut list));
+    assert!(rt; list.len() == 8);
+    assert!(rt;
+        drains(
+            &mut list,
+            &[
+                (1, 10),
+                (2, 30),
+                (3, 20),
+                (2, 20),
+                (2, 30),
+                (3, 20),
+                (2, 20),
+                (4, END)
+            ]
+        )
+    );
+    // What is empty takes a node again, at either end.
+    assert!(rt; fills(rt.alloc(), &mut list));
+    assert!(rt; drains(&mut list, &FIVE));
+}
+
+#[test]
+fn splits_and_splices(rt: HostRuntime) {
+    let mut list = WaitList::new();
+    assert!(rt; fills(rt.alloc(), &mut list));
+    let Some(point) = Point::new(20) else {
+        panic!(rt; "20 is no point");
+    };
+    let mut low = list.split_at(point);
+    assert!(rt; low.len() == 3 && is(low.front(), 1, 10));
+    assert!(rt; list.len() == 2 && is(list.front(), 2, 30));
+    low.splice_front(list);
+    low.splice_front(WaitList::new());
+    let mut all = WaitList::new();
+    all.splice_front(low);
+    assert!(rt; drains(&mut all, &[(2, 30), (4, END), (1, 10), (3, 20), (2, 20)]));
+}
+
+#[test]
+fn a_dropped_list_frees_its_nodes(rt: HostRuntime) {
+    let mut list = WaitList::new();
+    assert!(rt; fills(rt.alloc(), &mut list));
+}
+
+fn crosses<T: Send>(value: T) -> T {
+    value
+}
+
+/// A list and a node may go to another thread.
+#[test]
+fn may_go_to_another_thread(rt: HostRuntime) {
+    let mut list = crosses(WaitList::new());
+    if let Some(node) = node(rt.alloc(), 1, 10) {
+        list.push_back(crosses(node));
+    }
+    assert!(rt; list.len() == 1);
+}

@@ -1,0 +1,20 @@
+use Rattle.std.proofs.Common.{ℕ, refl, arith}
+use Rattle.std.proofs.lemmas.List.{length-set}
+use Rattle.krl_table.specs.declared.row.SlotRow.{SlotRow}
+use Rattle.krl_table.specs.Kept.{table}
+use Rattle.krl_table.specs.Told.{settled_row}
+use Rattle.krl_table.proofs.Means.{alike_whole}
+use Rattle.krl_table.proofs.Walk.{walk_step, walked_all}
+use Rattle.krl_table.proofs.Changes.{changed_alike}
+use Rattle.krl_table.proofs.walks.settle.Goals as goal
+
+pub loop-at-preserved : goal.loop-at-preserved
+loop-at-preserved c =
+    let t = table c.loop-at.rows in let u = table c.settle.new.rows in let s = c.next-slot.result in
+    record {
+      whole = alike_whole t u (changed_alike t u s (λ (r : SlotRow). settled_row c.args.client r) c.next-slot.ensures.there c.settle.ensures (λ r. refl) (λ r. length-set r.modes c.args.client _)) c.loop-at.invariant.whole;
+      walked = walk_step (λ (n : ℕ) (r : SlotRow). settled_row c.args.client r) (table c.args.rows.now) t u c.loop-at.at s c.loop-at.invariant.walked c.next-slot.ensures c.settle.ensures;
+    }
+
+pub returns : goal.returns
+returns c = walked_all (λ (n : ℕ) (r : SlotRow). settled_row c.args.client r) (table c.args.rows.now) (table c.loop-at.rows) c.loop-at.at c.requires.whole (omega arith) c.loop-at.invariant.walked

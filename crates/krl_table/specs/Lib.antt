@@ -1,0 +1,10 @@
+pub mod Rows
+pub mod Points
+pub mod Calls
+pub mod Reports
+pub mod Replies
+pub mod Sound
+pub use Rattle.krl_durable.specs.Index
+pub mod Told
+pub mod Waiters
+pub mod Kept

@@ -1,0 +1,23 @@
+-- Who waits, and where somebody does.
+use Rattle.std.specs.Prelude.{◌≡◌, ◌≢◌, ℕ, ◌<◌, ◌≤◌, ◌||◌, nat_lt, nat_le, [], Option, Some, None, if◌then◌else◌}
+use Rattle.krl_queue.specs.Waiting.{first_of}
+use Rattle.krl_table.specs.Rows.{Rows}
+
+-- the client has no waiter
+abbrev pub WaitsNowhere : Rows → ℕ → Type 0
+WaitsNowhere rows c = (n : ℕ) → first_of c (rows n).queue ≡ None
+
+-- nobody waits at the slots from one up to another
+abbrev pub NobodyWaits : Rows → ℕ → ℕ → Type 0
+NobodyWaits rows from to = (n : ℕ) → from ≤ n → n < to → (rows n).queue ≡ []
+
+-- somebody waits at the slot, and nobody at those below it from this point on
+pub record IsNextWaiting (rows : Rows) (from n : ℕ) : Type 0 where
+  pub above : from ≤ n
+  pub some : (rows n).queue ≢ []
+  pub least : NobodyWaits rows from n
+
+-- the lesser of the slots, where the second counts from this point on
+abbrev pub nearer : Option ℕ → ℕ → ℕ → Option ℕ
+nearer None n from = if nat_lt n from then None else Some n
+nearer (Some k) n from = if nat_lt n from || nat_le k n then Some k else Some n

@@ -1,0 +1,384 @@
+//! The table.
+ghost use Rattle.std.specs.Prelude.{◌≡◌, ◌≢◌, ◌⊎◌, ◌↔◌, ◌<◌, ◌≤◌, true, false, [], ℕ, suc, map as map_list, Some, None, is_some, IfOk, IsOk, IsSome, IfSome, MatchOption, OnOk, OnErr};
+ghost use Rattle.std.specs.FinMap as map;
+ghost use Rattle.krl_modes.specs.declared.point.TheConstants.{END};
+ghost use Rattle.krl_modes.specs.declared.part.KeyPart.TheVariants as key_part;
+ghost use Rattle.krl_messages.specs.Writes.{op_key};
+ghost use Rattle.krl_durable.specs.Index.{Index, slot_of, span_of};
+ghost use Rattle.krl_durable.specs.Writes.{held};
+ghost use Rattle.krl_table.specs.declared.reply.Reply.TheVariants as reply;
+ghost use Rattle.krl_table.specs.Rows.{mode_at, column, front_of, blank_row, waiter_of};
+ghost use Rattle.krl_table.specs.Calls.{lowered, cleared, enqueued, granted, dropped, split, merged};
+ghost use Rattle.krl_table.specs.Kept.{rows_of, IsOver, IsNext, AreKeys};
+ghost use Rattle.krl_table.specs.Points.{range_at, key_at, MayInsert, MayDelete};
+ghost use Rattle.krl_table.specs.Replies.{answerable, asks_absent, can_have, reply_to};
+ghost use Rattle.krl_table.specs.Reports.{conflicts, adopted};
+ghost use Rattle.krl_table.specs.Sound.{IsTable};
+ghost use Rattle.krl_table.specs.Waiters.{WaitsNowhere, IsNextWaiting};
+
+use crate::conflict::Conflict;
+use crate::reply::Reply;
+use crate::row::SlotRow;
+use crate::waiting::Waiting;
+use crate::{needs, steps, walks};
+use krl_durable::Durable;
+use krl_messages::{Pieces, Value, WriteOp};
+use krl_modes::{END, Mode, Point, Span};
+use krl_queue::{WaitNode, Waiter};
+use std::alloc::{AllocError, Global};
+use std::collections::BTreeMap;
+use std::marker::Model;
+
+/// The rows of all slots: the keys of an index, and END. A clause sees them as a finite map; the
+/// table as functions of slots and clients is `rows_of` of it.
+///
+/// A table keeps no index. The effect of a call is said over each index whose keys are the table's
+/// slots but END, with any values: `IsOver`. Between a `split` and the write that follows it in the
+/// durable part such an index already has the new key.
+///
+/// Of every table holds: on each slot the modes of different clients are compatible; each waiter
+/// stands in the queue of the slot of its point; each client has at most one waiter.
+#[derive(Drop)]
+pub struct Table {
+    rows: BTreeMap<u64, SlotRow>,
+    waiting: Waiting,
+}
+
+impl Model for Table {
+    ghost use Rattle.std.specs.Ordering.{nat_cmp};
+    ghost use Rattle.std.specs.FinMap as map;
+    ghost use Rattle.std.specs.Coded.{coded_ℕ};
+    ghost use Rattle.krl_table.specs.declared.row.SlotRow.{SlotRow};
+    ghost use Rattle.krl_table.specs.contracts.row.SlotRow as slot_row;
+    ghost use Rattle.krl_table.specs.Kept.{IsSound, AreListed};
+
+    ghost Value = { map.FinMap nat_cmp SlotRow };
+
+    ghost coded = { map.code coded_ℕ slot_row.the_row.coded };
+
+    ghost view = { λ t. map.from_entries t.rows.entries };
+
+    ghost invariant = { λ t. IsSound (map.from_entries t.rows.entries) × AreListed t.waiting.by_client (map.from_entries t.rows.entries) };
+}
+
+impl Table {
+    /// A table of the index's keys and END. Nobody holds anything, and nobody waits.
+    ///
+    /// # Errors
+    ///
+    /// `AllocError` where a row's memory is refused.
+    pub fn build(alloc: Global, durable: &Durable) -> Result<Table, AllocError>
+        ensures blank { IfOk result (λ t. (n : ℕ) → rows_of t n ≡ blank_row) }
+        ensures slots { IfOk result (λ t. IsOver durable.now.index t) }
+    {
+        durable.epoch();
+        Table::of_entries(alloc, durable.entries())
+    }
+
+    /// A table of these keys, which rise, and END. Nobody holds anything, and nobody waits.
+    fn of_entries(alloc: Global, entries: &[(u64, Value)]) -> Result<Table, AllocError>
+        requires { AreKeys 0 (map_list (λ e. e.0) entries.now) }
+        ensures blank { IfOk result (λ t. (n : ℕ) → rows_of t n ≡ blank_row) }
+        ensures slots { IfOk result (λ t. (m : Index) → map.keys m ≡ map_list (λ e. e.0) entries.now → IsOver m t) }
+    {
+        let mut rows = BTreeMap::new(alloc);
+        let mut low: u64 = 0;
+        for (key, _) in entries {
+            steps::put(&mut rows, *key, SlotRow::blank(low))?;
+            low = *key + 1;
+        }
+        steps::put(&mut rows, END, SlotRow::blank(low))?;
+        Ok(Table {
+            rows,
+            waiting: Waiting::nobody(),
+        })
+    }
+
+    /// The slot's row.
+    fn row(&self, slot: u64) -> &SlotRow
+        requires { IsSome (map.get self.now slot) }
+        ensures { map.get self.now slot ≡ Some result.now }
+    {
+        &self.rows[&slot]
+    }
+
+    /// The client's mode on the slot.
+    pub fn mode(&self, slot: u64, client: u64) -> Mode
+        requires there { IsSome (map.get self.now slot) }
+        requires client { client < 64 }
+        ensures { result ≡ mode_at (rows_of self.now) slot client }
+    {
+        self.row(slot).mode(client)
+    }
+
+    /// The slot of a point: the least one at or above it.
+    pub fn slot_of(&self, point: Point) -> u64
+        ensures slot { (m : Index) → IsOver m self.now → result ≡ slot_of m point }
+        ensures next { IsNext self.now point result }
+    {
+        steps::next(&self.rows, point.get())
+    }
+
+    /// The slot's span.
+    pub fn span(&self, slot: u64) -> Span
+        requires { IsSome (map.get self.now slot) }
+        ensures { (m : Index) → IsOver m self.now → result ≡ span_of m slot }
+    {
+        Span::new(self.rows[&slot].low, slot + 1).unwrap()
+    }
+
+    /// The first waiter of the slot.
+    pub fn front(&self, slot: u64) -> Option<Waiter>
+        requires { IsSome (map.get self.now slot) }
+        ensures front { result ≡ front_of (rows_of self.now slot).queue }
+        ensures client { IfSome result (λ u. u.client < 64) }
+    {
+        self.rows[&slot].queue.front()
+    }
+
+    /// How the client waits. The clause `sound` says what holds of every table.
+    pub fn waiter_of(&self, client: u64) -> Option<Waiter>
+        requires { client < 64 }
+        ensures waiter { (m : Index) → IsOver m self.now → result ≡ waiter_of m (rows_of self.now) client }
+        ensures nowhere { result ≡ None → WaitsNowhere (rows_of self.now) client }
+        ensures sound { (m : Index) → IsOver m self.now → IsTable m (rows_of self.now) }
+    {
+        self.waiting.of(client)
+    }
+
+    /// The least slot at or above this point at which somebody waits. It takes at most 64 steps,
+    /// with a search each.
+    pub fn next_waiting(&self, from: u64) -> Option<u64>
+        ensures next { MatchOption result ((n : ℕ) → from ≤ n → (rows_of self.now n).queue ≡ []) (λ slot. IsNextWaiting (rows_of self.now) from slot) }
+        ensures there { IfSome result (λ slot. IsSome (map.get self.now slot)) }
+    {
+        let mut least: Option<u64> = None;
+        for client in 0..64u64 {
+            let waiter = self.waiting.of(client);
+            least = steps::nearer(&self.rows, &waiter, least, from);
+        }
+        least
+    }
+
+    /// Lowers the client's mode to this one on each slot whose span lies in the span. It looks at
+    /// the slots in the span, and the one after them.
+    pub fn lower(&mut self, client: u64, span: Span, keep: Mode)
+        requires { client < 64 }
+        ensures lowered { (m : Index) → IsOver m self.old → (n : ℕ) → rows_of self.new n ≡ lowered m (rows_of self.old) client span keep n }
+        ensures slots { (m : Index) → IsOver m self.old → IsOver m self.new }
+    {
+        walks::lower(&mut self.rows, client, span, keep);
+    }
+
+    /// The client holds nothing, and waits no more.
+    pub fn clear(&mut self, client: u64)
+        requires { client < 64 }
+        ensures cleared { (n : ℕ) → rows_of self.new n ≡ cleared (rows_of self.old) client n }
+        ensures slots { (m : Index) → IsOver m self.old → IsOver m self.new }
+    {
+        walks::clear(&mut self.rows, client);
+        let waiter = self.waiting.of(client);
+        steps::leave(&mut self.rows, &waiter);
+        self.waiting.leave(&waiter);
+    }
+
+    /// The waiter, of a client that has none, goes to the slot of its point: behind all others, or
+    /// before them where its client holds a mode there. It takes no memory.
+    pub fn enqueue(&mut self, node: WaitNode)
+        requires client { node.client < 64 }
+        requires free { WaitsNowhere (rows_of self.old) node.client }
+        ensures enqueued { (m : Index) → IsOver m self.old → (n : ℕ) → rows_of self.new n ≡ enqueued m (rows_of self.old) node n }
+        ensures slots { (m : Index) → IsOver m self.old → IsOver m self.new }
+    {
+        let waiter = node.waiter();
+        let slot = steps::next(&self.rows, waiter.point.get());
+        steps::enqueue(&mut self.rows, slot, node);
+        self.waiting.note(waiter);
+    }
+
+    /// The slot's first waiter gets what it wants, which can stand beside what all others hold
+    /// there, and waits no more.
+    pub fn grant(&mut self, slot: u64)
+        requires there { IsSome (map.get self.old slot) }
+        requires fits { IfSome (front_of (rows_of self.old slot).queue) (λ u. can_have (rows_of self.old) slot u ≡ true) }
+        ensures granted { (n : ℕ) → rows_of self.new n ≡ granted (rows_of self.old) slot n }
+        ensures slots { (m : Index) → IsOver m self.old → IsOver m self.new }
+    {
+        let first = steps::grant(&mut self.rows, slot);
+        self.waiting.leave(&first);
+    }
+
+    /// The slot's first waiter waits no more.
+    pub fn drop_front(&mut self, slot: u64)
+        requires { IsSome (map.get self.old slot) }
+        ensures dropped { (n : ℕ) → rows_of self.new n ≡ dropped (rows_of self.old) slot n }
+        ensures slots { (m : Index) → IsOver m self.old → IsOver m self.new }
+    {
+        let first = steps::drop_front(&mut self.rows, slot);
+        self.waiting.leave(&first);
+    }
+
+    /// The key, which is no slot yet, becomes one, written by the client, which may insert there.
+    /// The waiters up to it move there.
+    ///
+    /// # Errors
+    ///
+    /// `AllocError` where the row's memory is refused. Nothing changed.
+    pub fn split(&mut self, key: u64, client: u64) -> Result<(), AllocError>
+        requires client { client < 64 }
+        requires key { key < END }
+        requires free { map.get self.old key ≡ None }
+        requires may { (m : Index) → IsOver m self.old → MayInsert (rows_of self.old) (slot_of m key) client }
+        ensures split { OnOk result ((m : Index) → IsOver m self.old → (n : ℕ) → rows_of self.new n ≡ split m (rows_of self.old) key client n) }
+        ensures slots { OnOk result ((m : Index) (value : ℕ) → IsOver m self.old → IsOver (map.insert m key value) self.new) }
+        ensures ranges { OnOk result ((m : Index) (value : ℕ) → IsOver m self.old
+            → (d p : ℕ) → range_at (map.insert m key value) (rows_of self.new) d p ≡ range_at m (rows_of self.old) d p) }
+        ensures keys { OnOk result ((m : Index) (value : ℕ) → IsOver m self.old
+            → (d p : ℕ) → (p ≢ key) ⊎ (d ≢ client) → key_at (map.insert m key value) (rows_of self.new) d p ≡ key_at m (rows_of self.old) d p) }
+        ensures own { OnOk result ((m : Index) (value : ℕ) → IsOver m self.old
+            → key_at (map.insert m key value) (rows_of self.new) client key ≡ key_part.X) }
+        ensures refused { OnErr result (self.new ≡ self.old) }
+    {
+        let slot = steps::next(&self.rows, key);
+        let row = self.rows[&slot].split(client);
+        steps::part(&mut self.rows, slot, key, row)
+    }
+
+    /// The slot, whose entry some client may delete, goes, and its waiters stand before those of
+    /// the next. It takes no memory.
+    pub fn merge(&mut self, key: u64)
+        requires there { IsSome (map.get self.old key) }
+        requires key { key < END }
+        requires may { (c : ℕ) × ((m : Index) → IsOver m self.old → MayDelete (rows_of self.old) key (slot_of m (suc key)) c) }
+        ensures merged { (m : Index) → IsOver m self.old → (n : ℕ) → rows_of self.new n ≡ merged m (rows_of self.old) key n }
+        ensures slots { (m : Index) → IsOver m self.old → IsOver (map.remove m key) self.new }
+        ensures ranges { (m : Index) → IsOver m self.old
+            → (d p : ℕ) → range_at (map.remove m key) (rows_of self.new) d p ≡ range_at m (rows_of self.old) d p }
+        ensures keys { (m : Index) → IsOver m self.old
+            → (d p : ℕ) → key_at (map.remove m key) (rows_of self.new) d p ≡ key_at m (rows_of self.old) d p }
+    {
+        let slot = steps::next(&self.rows, key + 1);
+        steps::join(&mut self.rows, key, slot);
+    }
+
+    /// Whether the point is a key.
+    fn is_key(&self, at: u64) -> bool
+        requires { at ≤ END }
+        ensures { (m : Index) → IsOver m self.now → result ≡ is_some (map.get m at) }
+    {
+        at < END && self.rows.contains_key(&at)
+    }
+
+    /// The client's mode there, or N where there is no slot.
+    fn mode_there(&self, at: u64, client: u64) -> Mode
+        requires { client < 64 }
+        ensures { result ≡ mode_at (rows_of self.now) at client }
+    {
+        match self.rows.get(&at) {
+            Some(row) => row.mode(client),
+            None => Mode::N,
+        }
+    }
+
+    /// Whether the waiter asks for an entry where there is none.
+    fn asks_absent(&self, waiter: &Waiter) -> bool
+        ensures { (m : Index) → IsOver m self.now → result ≡ asks_absent m waiter.now }
+    {
+        let key = self.is_key(waiter.point.get());
+        waiter.mode.needs_entry() & !key
+    }
+
+    /// Whether what the waiter wants can stand beside what all others hold on the slot.
+    fn can_have(&self, slot: u64, waiter: &Waiter) -> bool
+        requires there { IsSome (map.get self.now slot) }
+        requires client { waiter.now.client < 64 }
+        ensures { result ≡ can_have (rows_of self.now) slot waiter.now }
+    {
+        let row = self.row(slot);
+        let wanted = row.mode(waiter.client).join(waiter.mode);
+        row.fits(waiter.client, wanted)
+    }
+
+    /// What the waiter can be told on the slot.
+    fn reply_to(&self, slot: u64, waiter: &Waiter) -> Option<Reply>
+        requires there { IsSome (map.get self.now slot) }
+        requires client { waiter.now.client < 64 }
+        ensures reply { (m : Index) → IsOver m self.now → result ≡ reply_to m (rows_of self.now) slot waiter.now }
+        ensures grants { result ≡ Some reply.Grant → can_have (rows_of self.now) slot waiter.now ≡ true }
+    {
+        if self.asks_absent(waiter) {
+            Some(Reply::Absent)
+        } else if self.can_have(slot, waiter) {
+            Some(Reply::Grant)
+        } else {
+            None
+        }
+    }
+
+    /// What the slot's first waiter can be told, where its client has acknowledged every push or
+    /// not.
+    ///
+    /// The clause `grants` is what `grant` asks.
+    pub fn answerable(&self, slot: u64, acked: bool) -> Option<Reply>
+        requires { IsSome (map.get self.now slot) }
+        ensures answer { (m : Index) → IsOver m self.now → result ≡ answerable m (rows_of self.now) slot acked }
+        ensures grants { result ≡ Some reply.Grant → IfSome (front_of (rows_of self.now slot).queue) (λ u. can_have (rows_of self.now) slot u ≡ true) }
+    {
+        if !acked {
+            return None;
+        }
+        match self.front(slot) {
+            None => None,
+            Some(waiter) => self.reply_to(slot, &waiter),
+        }
+    }
+
+    /// Whether the client's modes are what the write needs.
+    pub fn held(&self, client: u64, op: WriteOp) -> bool
+        requires client { client < 64 }
+        requires key { op_key op < END }
+        ensures { (m : Index) → IsOver m self.now → result ≡ held m (column (rows_of self.now) client) op }
+    {
+        match op {
+            WriteOp::Insert { key, value: _ } => {
+                let slot = steps::next(&self.rows, key);
+                needs::lets_insert(self.mode_there(slot, client))
+            }
+            WriteOp::Put { key, value: _ } => needs::is_key_x(self.mode_there(key, client)),
+            WriteOp::Delete { key } => {
+                let slot = steps::next(&self.rows, key + 1);
+                let here = self.mode_there(key, client);
+                let next = self.mode_there(slot, client);
+                needs::is_key_x(here) & needs::is_range_x(here) & needs::is_range_x(next)
+            }
+        }
+    }
+
+    /// The client, which restarts with what it still holds, has on each slot the least mode at or
+    /// above what it reports there: the join of the range parts whose spans meet the slot's, and
+    /// the greatest key part at the slot. Key parts at other points are passed over. It takes no
+    /// memory.
+    ///
+    /// # Errors
+    ///
+    /// `Conflict` where that is incompatible with another client's mode on some slot. Nothing
+    /// changed.
+    pub fn adopt_report(&mut self, client: u64, pieces: &Pieces) -> Result<(), Conflict>
+        requires { client < 64 }
+        ensures conflict { (m : Index) → IsOver m self.old → IsOk result ↔ (conflicts m (rows_of self.old) client pieces.now ≡ false) }
+        ensures adopted { OnOk result ((m : Index) → IsOver m self.old → (n : ℕ) → rows_of self.new n ≡ adopted m (rows_of self.old) client pieces.now n) }
+        ensures refused { OnErr result (self.new ≡ self.old) }
+        ensures slots { (m : Index) → IsOver m self.old → IsOver m self.new }
+    {
+        walks::tell_ranges(&mut self.rows, pieces.ranges.as_slice());
+        walks::tell_keys(&mut self.rows, pieces.keys.as_slice());
+        walks::spread(&mut self.rows);
+        if walks::all_fit(&self.rows, client) {
+            walks::settle(&mut self.rows, client);
+            Ok(())
+        } else {
+            walks::forget(&mut self.rows);
+            Err(Conflict)
+        }
+    }
+}

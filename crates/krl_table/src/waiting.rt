@@ -1,0 +1,52 @@
+//! How each client waits.
+ghost use Rattle.std.specs.Prelude.{◌≡◌, ◌<◌, ℕ, Some, None, IfSome, set, length};
+ghost use Rattle.krl_table.specs.Kept.{waiter_in, unlisted};
+
+use krl_queue::Waiter;
+
+/// The waiter of each client, where it has one. Its slot is the one of its point, so it is not kept
+/// here: a slot that parts or goes changes nothing.
+#[derive(Drop)]
+pub(crate) struct Waiting {
+    pub(crate) by_client: [Option<Waiter>; 64],
+}
+
+impl Waiting {
+    /// Nobody waits.
+    pub(crate) fn nobody() -> Waiting
+        ensures nobody { (c : ℕ) → waiter_in result.by_client c ≡ None }
+        ensures full { length result.by_client ≡ 64 }
+    {
+        Waiting {
+            by_client: [None; 64],
+        }
+    }
+
+    /// How the client waits.
+    pub(crate) fn of(&self, client: u64) -> Option<Waiter>
+        requires { client < 64 }
+        ensures { result ≡ waiter_in self.now.by_client client }
+    {
+        self.by_client[client as usize]
+    }
+
+    /// The waiter's client waits so from now on.
+    pub(crate) fn note(&mut self, waiter: Waiter)
+        requires { waiter.client < 64 }
+        ensures { self.new.by_client ≡ set self.old.by_client waiter.client (Some waiter) }
+    {
+        let client = waiter.client as usize;
+        self.by_client[client] = Some(waiter);
+    }
+
+    /// The waiter's client waits no more, where there is one.
+    pub(crate) fn leave(&mut self, waiter: &Option<Waiter>)
+        requires { IfSome waiter.now (λ w. w.client < 64) }
+        ensures { self.new.by_client ≡ unlisted self.old.by_client waiter.now }
+    {
+        if let Some(waiter) = *waiter {
+            let client = waiter.client as usize;
+            self.by_client[client] = None;
+        }
+    }
+}

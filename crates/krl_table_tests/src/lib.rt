@@ -1,0 +1,5 @@
+//! Tests of `krl_table`, apart from it so that its own proof is not made twice.
+#![tactic(auto)]
+
+#[cfg(test)]
+mod tests;

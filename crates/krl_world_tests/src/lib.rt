@@ -1,0 +1,7 @@
+//! Tests of worlds and scripts, through their public calls: what no stored script can hold.
+#![tactic(auto)]
+
+#[cfg(test)]
+mod scripts;
+#[cfg(test)]
+mod worlds;
