@@ -1,0 +1,110 @@
+-- Hello of a new incarnation, and Bye.
+use Rattle.std.proofs.Common.{◌≡◌, ◌≢◌, ℕ, ◌<◌, Bool, true, false, not, Option, Some, List, [], ◌∷◌, inl, inr, refl, sym, ap, subst, ◌∙◌, arith}
+use Rattle.std.proofs.Common.{nat_eq}
+use Rattle.std.proofs.lemmas.Bool.{eqb-false}
+use Rattle.std.specs.Prelude.{if◌then◌else◌}
+use Rattle.krl_modes.specs.declared.mode.Mode.TheVariants as mode
+use Rattle.krl_queue.specs.declared.waiter.Waiter.{Waiter}
+use Rattle.krl_protocol.specs.Links.{In, Notice, Link, next, idle, registers, sees_off, no_range, no_key}
+use Rattle.krl_protocol.specs.Worlds.{Logged}
+use Rattle.krl_protocol.proofs.Steps.{put, put_changed}
+use Rattle.krl_protocol.proofs.Points.{no_none}
+use Rattle.krl_durable.specs.declared.record.Record.{Record}
+use Rattle.krl_durable.specs.Registers.{record_of, with_record, new_record, left_by}
+use Rattle.krl_table.specs.Rows.{mode_at}
+use Rattle.krl_table.specs.Points.{range_at, key_at}
+use Rattle.krl_table.specs.Calls.{unqueue, cleared}
+use Rattle.krl_server.specs.declared.line.Line.{Line}
+use Rattle.krl_server.specs.Servers.{Server, blank_line, lists, unlist, incarnation_or_0}
+use Rattle.krl_server.specs.Effects as effects
+use Rattle.krl_server.specs.Effects.{silent, epoch_to, departs}
+use Rattle.krl_server.specs.Shows.{WasSent, IsRecord, LinkIs, IsHeardOf, Shows, machine_phase, view_of, view}
+use Rattle.krl_server.specs.Follows.{BoundStays}
+use Rattle.krl_server.proofs.Meaning.{same_range, same_key, blank_range, blank_key, mode_here, mode_other, line_here, line_other, record_here, record_other}
+use Rattle.krl_server.proofs.Follows.{Goes, at_put, put_bound, one_out, up_phase, reg_is}
+use Rattle.krl_server.proofs.Gathering.{regroup, unlist_here, unlist_other}
+
+-- who waits after the waiters of c are taken away
+pub in_unqueue : (us : List Waiter) (c : ℕ) (u : Waiter) → In u (unqueue c us) → In u us × (u.client ≢ c)
+in_unqueue [] c u h = absurd h
+in_unqueue (v ∷ vs) c u h = by_eq (nat_eq c v.client) refl (in_unqueue vs c u) h
+  where
+    by_eq : (b : Bool) → nat_eq c v.client ≡ b → (In u (unqueue c vs) → In u vs × (u.client ≢ c)) → In u (if not b then v ∷ unqueue c vs else unqueue c vs) → In u (v ∷ vs) × (u.client ≢ c)
+    by_eq true e ih k = let x = ih k in (inr x.0, x.1)
+    by_eq false e ih (inl f) = (inl f, λ g. eqb-false c v.client e (sym g ∙ ap (λ y. y.client) f))
+    by_eq false e ih (inr k) = let x = ih k in (inr x.0, x.1)
+
+-- what is shown of the others when c's modes become N
+pub cleared_rest : (s : Server) (c : ℕ) (o : Option Record) (b b' : Bool) (line line' : Line) (d : ℕ) (l : Link) → d ≢ c → b' ≡ b → line' ≡ line → LinkIs (view s) o b line (range_at s.durable.index s.rows d) (key_at s.durable.index s.rows d) l → LinkIs (view s) o b' line' (range_at s.durable.index (cleared s.rows c) d) (key_at s.durable.index (cleared s.rows c) d) l
+cleared_rest s c o b b' line line' d l ne eb el h =
+    let same : (n : ℕ) → mode_at s.rows n d ≡ mode_at (cleared s.rows c) n d = λ n. sym (mode_other (s.rows n).modes c d mode.N ne) in
+    let er = same_range s.durable.index s.rows (cleared s.rows c) d same in
+    let ek = same_key s.durable.index s.rows (cleared s.rows c) d same in
+    subst (λ y. LinkIs (view s) o b' y (range_at s.durable.index (cleared s.rows c) d) (key_at s.durable.index (cleared s.rows c) d) l) (sym el)
+    (record { known = h.known; missing = h.missing ∙ sym eb; pushed = h.pushed; acked = h.acked; unheard = h.unheard; range = λ p q. h.range p q ∙ er q; key = λ p q. h.key p q ∙ ek q; new_range = λ p q. h.new_range p q ∙ er q; new_key = λ p q. h.new_key p q ∙ ek q })
+
+bound_blank : (b : Bool) (l m : Link) → b ≡ true → m.top_range ≡ no_range → m.top_key ≡ no_key → BoundStays b l m
+bound_blank b l m e r k = subst (λ x. BoundStays x l m) (sym e) (record { range = λ p. ap (λ f. f p) r; key = λ p. ap (λ f. f p) k })
+
+pub registers_follow : (s : Server) (of : ℕ → Link) (log : List Logged) (cleared' : ℕ → Bool) (c inc : ℕ) → cleared' c ≡ true → ((d : ℕ) → d ≢ c → cleared' d ≡ false) → In inc (of c).hellos → incarnation_or_0 (record_of s.durable.register c) < inc → Shows s of → Goes s of log cleared' (let t = effects.registers s c inc in record { server = t; outs = epoch_to t c ∷ [] }) log
+registers_follow s of log cleared' c inc this others at lt h =
+    let n : Notice = record { inc = inc; epoch = s.durable.epoch } in
+    let l : Link = record (of c) { reg = inc; left = false; done = 0; missing = false; pushed = 0; acked = true; new_range = no_range; new_key = no_key; top_range = no_range; top_key = no_key; notices = n ∷ (of c).notices } in
+    let t = effects.registers s c inc in
+    let m = s.durable.index in
+    let ch = put_changed of c l in
+    let x = new_record inc in
+    let reg = reg_is (record_of s.durable.register c) (of c) (h.link c).known in
+    let none_held : (n : ℕ) → mode_at (cleared s.rows c) n c ≡ mode.N = λ n. mode_here (s.rows n).modes c mode.N in
+    regroup s t s.missing c l of log cleared' (epoch_to t c ∷ []) refl
+    (next (registers inc at (up_phase s.missing) (omega (arith, reg, lt))) idle) refl
+    (put_bound of c l cleared' (bound_blank (cleared' c) (of c) l this refl refl) others)
+    (at_put (λ d y. LinkIs (view_of t.durable (machine_phase s.missing)) (record_of t.durable.register d) (lists t.missing d) (t.lines d) (range_at m t.rows d) (key_at m t.rows d) y) of c l
+    (subst (λ y. LinkIs (view s) (record_of t.durable.register c) (lists t.missing c) y (range_at m t.rows c) (key_at m t.rows c) l) (sym (line_here s.lines c blank_line))
+    (record {
+      known = subst (λ o. IsRecord o l) (sym (record_here s.durable.register c x)) (record { reg = refl; left = refl; done = refl; applied = λ o e. absurd (no_none o e) });
+      missing = sym (unlist_here s.missing c);
+      pushed = refl;
+      acked = refl;
+      unheard = λ body e. absurd (no_none body e);
+      range = λ p q. sym (blank_range m t.rows c none_held q);
+      key = λ p q. sym (blank_key m t.rows c none_held q);
+      new_range = λ p q. sym (blank_range m t.rows c none_held q);
+      new_key = λ p q. sym (blank_key m t.rows c none_held q);
+    }))
+    (λ d ne. subst (λ o. LinkIs (view s) o (lists t.missing d) (t.lines d) (range_at m t.rows d) (key_at m t.rows d) (of d)) (sym (record_other s.durable.register c d x ne))
+    (cleared_rest s c (record_of s.durable.register d) (lists s.missing d) (lists t.missing d) (s.lines d) (t.lines d) d (of d) ne (unlist_other s.missing c d ne) (line_other s.lines c d blank_line ne) (h.link d))))
+    (λ n u v. let y = in_unqueue (s.rows n).queue c u v in subst (IsHeardOf (view s)) (sym (ch.rest u.client y.1)) (h.heard n u y.0))
+    (λ o v. let y = one_out l c (epoch_to t c) refl (inl (ap (λ z. let a : Notice = record { inc = z; epoch = s.durable.epoch } in a) (ap incarnation_or_0 (record_here s.durable.register c x)))) o v in subst (λ z. WasSent z o.incarnation o.body) (sym (ap (put of c l) y.0 ∙ ch.here)) y.1)
+
+pub leaves_follow : (s : Server) (of : ℕ → Link) (log : List Logged) (cleared' : ℕ → Bool) (c inc : ℕ) (r : Record) → cleared' c ≡ true → ((d : ℕ) → d ≢ c → cleared' d ≡ false) → record_of s.durable.register c ≡ Some r → In inc (of c).byes → inc ≡ r.incarnation → Shows s of → Goes s of log cleared' (silent (departs s c)) log
+leaves_follow s of log cleared' c inc r this others known at same h =
+    let l : Link = record (of c) { left = true; missing = false; new_range = no_range; new_key = no_key; top_range = no_range; top_key = no_key } in
+    let x : Record = record r { left = true } in
+    let d1 = record s.durable { register = with_record s.durable.register c x } in
+    let t : Server = record s { durable = d1; rows = cleared s.rows c; missing = unlist s.missing c } in
+    let m = s.durable.index in
+    let ch = put_changed of c l in
+    let k = h.link c in
+    let old : IsRecord (Some r) (of c) = subst (λ o. IsRecord o (of c)) known k.known in
+    let none_held : (n : ℕ) → mode_at (cleared s.rows c) n c ≡ mode.N = λ n. mode_here (s.rows n).modes c mode.N in
+    subst (λ d. Goes s of log cleared' (silent (record s { durable = d; rows = cleared s.rows c; missing = unlist s.missing c })) log) (sym (ap (left_by s.durable c) known))
+    (regroup s t s.missing c l of log cleared' [] refl
+    (next (sees_off inc at (up_phase s.missing) (same ∙ sym old.reg)) idle) refl
+    (put_bound of c l cleared' (bound_blank (cleared' c) (of c) l this refl refl) others)
+    (at_put (λ d y. LinkIs (view_of t.durable (machine_phase s.missing)) (record_of t.durable.register d) (lists t.missing d) (t.lines d) (range_at m t.rows d) (key_at m t.rows d) y) of c l
+    (record {
+      known = subst (λ o. IsRecord o l) (sym (record_here s.durable.register c x)) (record { reg = old.reg; left = refl; done = old.done; applied = old.applied });
+      missing = sym (unlist_here s.missing c);
+      pushed = k.pushed;
+      acked = k.acked;
+      unheard = k.unheard;
+      range = λ p q. sym (blank_range m t.rows c none_held q);
+      key = λ p q. sym (blank_key m t.rows c none_held q);
+      new_range = λ p q. sym (blank_range m t.rows c none_held q);
+      new_key = λ p q. sym (blank_key m t.rows c none_held q);
+    })
+    (λ d ne. subst (λ o. LinkIs (view s) o (lists t.missing d) (t.lines d) (range_at m t.rows d) (key_at m t.rows d) (of d)) (sym (record_other s.durable.register c d x ne))
+    (cleared_rest s c (record_of s.durable.register d) (lists s.missing d) (lists t.missing d) (s.lines d) (t.lines d) d (of d) ne (unlist_other s.missing c d ne) refl (h.link d))))
+    (λ n u v. let y = in_unqueue (s.rows n).queue c u v in subst (IsHeardOf (view s)) (sym (ch.rest u.client y.1)) (h.heard n u y.0))
+    (λ o v. absurd v))

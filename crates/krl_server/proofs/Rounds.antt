@@ -1,0 +1,221 @@
+-- One walk upward over the slots answers all who can be answered.
+use Rattle.std.proofs.Common.{◌≡◌, ◌≢◌, ℕ, suc, ◌≤◌, ◌<◌, Bool, true, false, not, ◌&&◌, ◌||◌, Option, Some, None, List, [], ◌∷◌, ◌++◌, map, inl, inr, refl, sym, ap, subst, ◌∙◌, ⊎_elim, append_assoc, arith}
+use Rattle.std.proofs.Common.{nat_eq, eqb-true}
+use Rattle.std.proofs.lemmas.Bool.{cases_lt}
+use Rattle.std.proofs.lemmas.List.{append-nil}
+use Rattle.std.specs.Prelude.{nat_lt, is_some, IsSome, if◌then◌else◌}
+use Rattle.std.specs.List.{AllByRecursion}
+use Rattle.std.specs.FinMap as fin
+use Rattle.krl_modes.specs.declared.point.TheConstants.{END}
+use Rattle.krl_messages.specs.Values.{Value}
+use Rattle.krl_messages.specs.declared.to_client.ToClient.{ToClient}
+use Rattle.krl_messages.specs.declared.to_client.PushBody.{PushBody}
+use Rattle.krl_messages.specs.declared.to_client.PushBody.TheVariants as push
+use Rattle.krl_queue.specs.declared.waiter.Waiter.{Waiter}
+use Rattle.krl_protocol.specs.Links.{In}
+use Rattle.krl_protocol.proofs.Worlds.{eq_cases}
+use Rattle.krl_protocol.proofs.Points.{no_none}
+use Rattle.krl_durable.specs.Index.{Index, slots, is_slot}
+use Rattle.krl_table.specs.Rows.{Row, all_below, most_clients}
+use Rattle.krl_table.specs.Calls.{wanted, with_queue, grant_first, granted, behind_first, dropped}
+use Rattle.krl_table.specs.Replies.{asks_absent, can_have}
+use Rattle.krl_table.specs.Sound.{IsTable}
+use Rattle.krl_server.specs.declared.line.Line.{Line}
+use Rattle.krl_server.specs.Servers.{Server, set_line}
+use Rattle.krl_server.specs.Effects.{Done, with_line, with_rows, push_to, pushes, silent, holding}
+use Rattle.krl_server.specs.Answering.{Turn, can_push, is_answerable, turn_at, turn_among, next_turn, tells_absent, grants, take_turn, Answered, goes_on, stops}
+use Rattle.krl_table.specs.Kept.{IsOver}
+use Rattle.krl_server.specs.declared.state.State.{State}
+use Rattle.krl_server.specs.Ends.{waiting}
+use Rattle.krl_server.specs.Shows.{IsSound}
+use Rattle.krl_server.specs.Doing.{turn_here, HasTurned}
+use Rattle.krl_server.proofs.Slots.{Rises, rises}
+use Rattle.krl_server.proofs.Meaning.{row_other, line_here, line_other}
+use Rattle.krl_server.proofs.Tests.{if_both}
+use Rattle.krl_server.proofs.Counted.{above_all, keys_under}
+use Rattle.krl_server.proofs.Tabled.{slots_have}
+use Rattle.krl_server.proofs.Ends.{pushes_rows, turn_durable, turn_less}
+use Rattle.krl_server.proofs.Follows.{some_same}
+use Rattle.krl_server.proofs.Turns.{turn_sound}
+use Rattle.krl_server.proofs.Kept.{turn_table}
+
+-- Answers so far
+
+-- whatever answers follow, these come before
+abbrev pub HasBegun : Server → Server → List ToClient → Type 0
+HasBegun s t outs = (u : Server) (later : List ToClient) → Answered t u later → Answered s u (outs ++ later)
+
+pub begun : (s : Server) → HasBegun s s []
+begun s u later h = h
+
+pub one_more : (s t : Server) (turn : Turn) (outs more : List ToClient) → HasBegun s t outs → next_turn t ≡ Some turn → (take_turn t turn).outs ≡ more → HasBegun s (take_turn t turn).server (outs ++ more)
+one_more s t turn outs more h e is u later rest = subst (Answered s u) (sym (append_assoc outs more later)) (h u (more ++ later) (subst (λ x. Answered t u (x ++ later)) is (goes_on t u turn later e rest)))
+
+pub all_told : (s t : Server) (outs : List ToClient) → HasBegun s t outs → next_turn t ≡ None → Answered s t outs
+all_told s t outs h e = subst (Answered s t) (append-nil outs) (h t [] (stops t e))
+
+-- The order of the slots
+
+-- each is less than all behind it
+abbrev pub Ascends : List ℕ → Type 0
+Ascends [] = Unit {0}
+Ascends (n ∷ ns) = ((k : ℕ) → In k ns → n < k) × Ascends ns
+
+keys_ascend : (es : List (ℕ × Value)) → Rises es → AllByRecursion (λ e. e.0 < END) es → Ascends (map (λ e. e.0) es ++ END ∷ [])
+keys_ascend [] h under = ((λ k at. absurd at), tt)
+keys_ascend (e ∷ es) h under = ((λ k at. let le = above_all (suc e.0) es k h.0 (let u = under.0 in omega (arith, u)) at in omega (arith, le)), keys_ascend es h.1 under.1)
+
+pub slots_ascend : (m : Index) → ((q : ℕ) → END ≤ q → fin.get m q ≡ None) → Ascends (slots m)
+slots_ascend m near = keys_ascend (fin.entries m) (rises (fin.entries m) (fin.entries_sorted m)) (keys_under (fin.entries m) (rises (fin.entries m) (fin.entries_sorted m)) (λ k a. sym (fin.get-entries m k) ∙ near k a))
+
+-- Who is next
+
+-- nobody below this point can be answered
+abbrev pub NoneBelow : Server → ℕ → Type 0
+NoneBelow s at = (n : ℕ) → n < at → turn_here s n ≡ None
+
+at_none : (s : Server) (n : ℕ) (us : List Waiter) (later : Option Turn) → turn_at s n us None ≡ None → turn_at s n us later ≡ later
+at_none s n [] later e = refl
+at_none s n (u ∷ us) later e = by_test (is_answerable s n u) e
+  where
+    by_test : (b : Bool) → (if b then Some (let x : Turn = record { slot = n; waiter = u } in x) else None) ≡ None → (if b then Some (let x : Turn = record { slot = n; waiter = u } in x) else later) ≡ later
+    by_test true e = absurd (cc)
+    by_test false e = refl
+
+at_some : (s : Server) (n : ℕ) (us : List Waiter) (later : Option Turn) (t : Turn) → turn_at s n us None ≡ Some t → turn_at s n us later ≡ Some t
+at_some s n [] later t e = absurd (no_none t e)
+at_some s n (u ∷ us) later t e = by_test (is_answerable s n u) e
+  where
+    by_test : (b : Bool) → (if b then Some (let x : Turn = record { slot = n; waiter = u } in x) else None) ≡ Some t → (if b then Some (let x : Turn = record { slot = n; waiter = u } in x) else later) ≡ Some t
+    by_test true e = e
+    by_test false e = absurd (no_none t e)
+
+among_first : (s : Server) (n : ℕ) (t : Turn) (ns : List ℕ) → Ascends ns → In n ns → NoneBelow s n → turn_here s n ≡ Some t → turn_among s ns ≡ Some t
+among_first s n t [] up at none e = absurd at
+among_first s n t (k ∷ ks) up (inl f) none e = at_some s k (s.rows k).queue (turn_among s ks) t (subst (λ x. turn_here s x ≡ Some t) f e)
+among_first s n t (k ∷ ks) up (inr at) none e = at_none s k (s.rows k).queue (turn_among s ks) (none k (up.0 n at)) ∙ among_first s n t ks up.1 at none e
+
+pub none_among : (s : Server) (ns : List ℕ) → ((n : ℕ) → turn_here s n ≡ None) → turn_among s ns ≡ None
+none_among s [] h = refl
+none_among s (n ∷ ns) h = at_none s n (s.rows n).queue (turn_among s ns) (h n) ∙ none_among s ns h
+
+-- the least slot whose first waiter can be answered
+pub next_is : (s : Server) (n : ℕ) (t : Turn) → ((q : ℕ) → END ≤ q → fin.get s.durable.index q ≡ None) → is_slot s.durable.index n ≡ true → NoneBelow s n → turn_here s n ≡ Some t → next_turn s ≡ Some t
+next_is s n t near there none e = among_first s n t (slots s.durable.index) (slots_ascend s.durable.index near) (slots_have s.durable.index n there) none e
+
+-- who waits nowhere from a point on can't be answered there
+pub empty_none : (s : Server) (n : ℕ) → (s.rows n).queue ≡ [] → turn_here s n ≡ None
+empty_none s n e = ap (λ q. turn_at s n q None) e
+
+pub none_up_to : (s : Server) (from n : ℕ) → NoneBelow s from → ((k : ℕ) → from ≤ k → k < n → (s.rows k).queue ≡ []) → NoneBelow s n
+none_up_to s from n none gap k lt = ⊎_elim (λ (a : k < from). none k a) (λ (a : from ≤ k). empty_none s k (gap k a lt)) (cases_lt k from)
+
+pub none_past : (s : Server) (n : ℕ) → NoneBelow s n → turn_here s n ≡ None → NoneBelow s (suc n)
+none_past s n none e k lt = eq_cases k n (λ f. subst (λ x. turn_here s x ≡ None) (sym f) e) (λ ne. none k (omega (arith, lt, ne)))
+
+pub none_at_all : (s : Server) (from : ℕ) → NoneBelow s from → ((k : ℕ) → from ≤ k → (s.rows k).queue ≡ []) → next_turn s ≡ None
+none_at_all s from none gap = none_among s (slots s.durable.index) (λ n. ⊎_elim (λ (a : n < from). none n a) (λ (a : from ≤ n). empty_none s n (gap n a)) (cases_lt n from))
+
+-- An answer makes nobody answerable at another slot
+
+no_push : (l : Line) (body : PushBody) → l.unheard ≡ Some body → can_push l ≡ true → ⊥
+no_push l body e f = let x = ap (λ o. not (is_some o) && nat_lt l.pushed END) e in let y : false ≡ true = sym x ∙ f in absurd (cc)
+
+pushes_can : (s : Server) (c : ℕ) (body : PushBody) (d : ℕ) → can_push ((pushes s c body).server.lines d) ≡ true → can_push (s.lines d) ≡ true
+pushes_can s c body d = if_both (λ (x : Done). can_push (x.server.lines d) ≡ true → can_push (s.lines d) ≡ true) (nat_lt (s.lines c).pushed END)
+    (record { server = with_line s c (record (s.lines c) { pushed = suc (s.lines c).pushed; unheard = Some body }); outs = push_to s c (suc (s.lines c).pushed) body ∷ [] }) (silent s)
+    (λ f. eq_cases d c
+    (λ e. absurd (no_push (set_line s.lines c (record (s.lines c) { pushed = suc (s.lines c).pushed; unheard = Some body }) d) body
+    (ap (λ l. l.unheard) (ap (set_line s.lines c (record (s.lines c) { pushed = suc (s.lines c).pushed; unheard = Some body })) e ∙ line_here s.lines c (record (s.lines c) { pushed = suc (s.lines c).pushed; unheard = Some body }))) f))
+    (λ ne. sym (ap can_push (line_other s.lines c d (record (s.lines c) { pushed = suc (s.lines c).pushed; unheard = Some body }) ne)) ∙ f))
+    (λ f. f)
+
+turn_can : (s : Server) (t : Turn) (d : ℕ) → can_push ((take_turn s t).server.lines d) ≡ true → can_push (s.lines d) ≡ true
+turn_can s t d = if_both (λ (x : Done). can_push (x.server.lines d) ≡ true → can_push (s.lines d) ≡ true) (asks_absent s.durable.index t.waiter) (tells_absent s t) (grants s t)
+    (pushes_can (with_rows s (dropped s.rows t.slot)) t.waiter.client (push.Absent t.waiter.req t.waiter.point) d)
+    (pushes_can (with_rows s (granted s.rows t.slot)) t.waiter.client (push.Grant t.waiter.req (holding (with_rows s (granted s.rows t.slot)) t.slot t.waiter.client)) d)
+
+turn_row : (s : Server) (t : Turn) (k : ℕ) → k ≢ t.slot → (take_turn s t).server.rows k ≡ s.rows k
+turn_row s t k ne = if_both (λ (x : Done). x.server.rows k ≡ s.rows k) (asks_absent s.durable.index t.waiter) (tells_absent s t) (grants s t)
+    (ap (λ r. r k) (pushes_rows (with_rows s (dropped s.rows t.slot)) t.waiter.client (push.Absent t.waiter.req t.waiter.point)) ∙ row_other s.rows t.slot (with_queue (s.rows t.slot) (behind_first (s.rows t.slot).queue)) k ne)
+    (ap (λ r. r k) (pushes_rows (with_rows s (granted s.rows t.slot)) t.waiter.client (push.Grant t.waiter.req (holding (with_rows s (granted s.rows t.slot)) t.slot t.waiter.client))) ∙ row_other s.rows t.slot (grant_first (s.rows t.slot) (s.rows t.slot).queue) k ne)
+
+module _ (s u : Server) (k : ℕ) (index : u.durable ≡ s.durable) (row : u.rows k ≡ s.rows k) (can : (c : ℕ) → can_push (u.lines c) ≡ true → can_push (s.lines c) ≡ true) where
+  same_has : (v : Waiter) → (asks_absent u.durable.index v || can_have u.rows k v) ≡ (asks_absent s.durable.index v || can_have s.rows k v)
+  same_has v = ap (λ d. asks_absent d.index v || can_have u.rows k v) index ∙ ap (λ (r : Row). asks_absent s.durable.index v || all_below most_clients (λ d. nat_eq d v.client || Rattle.krl_modes.specs.Modes.compatible (wanted r v) (r.modes d))) row
+
+  fewer : (a b x y : Bool) → (a ≡ true → b ≡ true) → x ≡ y → (b && y) ≡ false → (a && x) ≡ false
+  fewer false b x y f e g = refl
+  fewer true b x y f e g = e ∙ sym (ap (λ t. t && y) (f refl)) ∙ g
+
+  not_yet : (v : Waiter) → is_answerable s k v ≡ false → is_answerable u k v ≡ false
+  not_yet v e = fewer (can_push (u.lines v.client)) (can_push (s.lines v.client)) _ _ (can v.client) (same_has v) e
+
+  by_queue : (us : List Waiter) → turn_at s k us None ≡ None → turn_at u k us None ≡ None
+  by_queue [] e = refl
+  by_queue (v ∷ vs) e = by_test (is_answerable s k v) refl e
+    where
+      by_test : (b : Bool) → is_answerable s k v ≡ b → (if b then Some (let x : Turn = record { slot = k; waiter = v } in x) else None) ≡ None → turn_at u k (v ∷ vs) None ≡ None
+      by_test true f g = absurd (cc)
+      by_test false f g = ap (λ b. if b then Some (let x : Turn = record { slot = k; waiter = v } in x) else None) (not_yet v f)
+
+  pub still_none : turn_here s k ≡ None → turn_here u k ≡ None
+  still_none e = ap (λ r. turn_at u k r.queue None) row ∙ by_queue (s.rows k).queue e
+
+pub none_after : (s : Server) (t : Turn) → NoneBelow s t.slot → NoneBelow (take_turn s t).server t.slot
+none_after s t none k lt = still_none s (take_turn s t).server k (turn_durable s t) (turn_row s t k (λ e. omega (arith, e, lt))) (turn_can s t) (none k lt)
+
+-- One round of the walk
+
+turn_slot : (s : Server) (n : ℕ) (us : List Waiter) (t : Turn) → turn_at s n us None ≡ Some t → t.slot ≡ n
+turn_slot s n [] t e = absurd (no_none t e)
+turn_slot s n (u ∷ us) t e = by_test (is_answerable s n u) e
+  where
+    by_test : (b : Bool) → (if b then Some (let x : Turn = record { slot = n; waiter = u } in x) else None) ≡ Some t → t.slot ≡ n
+    by_test true f = let x : Turn = record { slot = n; waiter = u } in ap (λ y. y.slot) (sym (some_same x t f))
+    by_test false f = absurd (no_none t f)
+
+some_true : {A : Type 0} (o : Option A) → IsSome o → is_some o ≡ true
+some_true None h = absurd (cc)
+some_true (Some x) h = refl
+
+-- the slot is the index's
+pub slot_over : (st : State) (n : ℕ) → IsOver st.durable.index st.table → IsSome (fin.get st.table n) → is_slot st.durable.index n ≡ true
+slot_over st n over there = over.same n ∙ some_true (fin.get st.table n) there
+
+pub slot_low : (m : Index) (n : ℕ) → ((q : ℕ) → END ≤ q → fin.get m q ≡ None) → is_slot m n ≡ true → n ≤ END
+slot_low m n near e = ⊎_elim (λ (a : n < END). omega (arith, a))
+    (λ (a : END ≤ n). by_end (nat_eq n END) refl (sym (ap (λ o. nat_eq n END || is_some o) (near n a)) ∙ e))
+    (cases_lt n END)
+  where
+    by_end : (b : Bool) → nat_eq n END ≡ b → (b || false) ≡ true → n ≤ END
+    by_end true f g = let x = eqb-true n END f in omega (arith, x)
+    by_end false f g = absurd (cc)
+
+-- what holds after the turn at the next slot where somebody waits
+pub record IsRound (s u : Server) (n : ℕ) (o : ToClient) : Type 0 where
+  pub turn : Turn
+  pub next : next_turn s ≡ Some turn
+  pub outs : (take_turn s turn).outs ≡ o ∷ []
+  pub is : u ≡ (take_turn s turn).server
+  pub sound : IsSound u
+  pub table : IsTable u.durable.index u.rows
+  pub none : NoneBelow u n
+  pub less : suc (waiting u) ≤ waiting s
+
+pub round : (s u : Server) (from n : ℕ) (o : ToClient) → IsSound s → IsTable s.durable.index s.rows → NoneBelow s from → is_slot s.durable.index n ≡ true → ((k : ℕ) → from ≤ k → k < n → (s.rows k).queue ≡ []) → HasTurned s u n o → IsRound s u n o
+round s u from n o sound table none there gap h =
+    let below = none_up_to s from n none gap in
+    let next = next_is s n h.turn sound.near there below h.here in
+    let slot = turn_slot s n (s.rows n).queue h.turn h.here in
+    let v = (take_turn s h.turn).server in
+    record {
+      turn = h.turn;
+      next = next;
+      outs = h.out;
+      is = h.server;
+      sound = subst IsSound (sym h.server) (turn_sound s h.turn sound next);
+      table = subst (λ x. IsTable x.durable.index x.rows) (sym h.server) (turn_table s h.turn next table);
+      none = subst (λ x. NoneBelow x n) (sym h.server) (subst (NoneBelow v) slot (none_after s h.turn (subst (NoneBelow s) (sym slot) below)));
+      less = subst (λ x. suc (waiting x) ≤ waiting s) (sym h.server) (turn_less s h.turn next);
+    }

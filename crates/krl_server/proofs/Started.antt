@@ -1,0 +1,73 @@
+-- A server that starts, and one that has taken a step.
+use Rattle.std.proofs.Math.ListN.{replicate}
+use Rattle.krl_server.specs.declared.line.Line.{Line}
+use Rattle.std.proofs.Common.{◌≡◌, ℕ, zero, suc, ◌≤◌, ◌<◌, List, length, refl, sym, ap, subst, ◌∙◌}
+use Rattle.std.proofs.Math.Path.{fun_ext}
+use Rattle.std.proofs.lemmas.Bool.{lt-ltb}
+use Rattle.krl_modes.specs.declared.point.TheConstants.{END}
+use Rattle.krl_messages.specs.declared.to_server.ToServer.{ToServer}
+use Rattle.krl_messages.specs.declared.to_client.ToClient.{ToClient}
+use Rattle.krl_durable.specs.Registers.{Durable, HasOutcomes, missing_order}
+use Rattle.krl_table.specs.Rows.{blank_row}
+use Rattle.krl_table.specs.Kept.{rows_of, IsOver}
+use Rattle.krl_server.specs.declared.state.State.{State}
+use Rattle.krl_server.specs.declared.out.ServerOut.{ServerOut}
+use Rattle.krl_server.specs.Servers.{Server, blank_line}
+use Rattle.krl_server.specs.States.{meaning, lines_of, IsFormed}
+use Rattle.krl_server.specs.Steps.{ServerStep, start}
+use Rattle.krl_server.specs.Shows.{IsSound}
+use Rattle.krl_server.specs.Keeps.{IsOrdered}
+use Rattle.krl_server.specs.Steps.{IsSettled}
+use Rattle.std.specs.Prelude.{Result, Ok, Err, IfOk, OnOk, OnErr}
+use Rattle.krl_server.specs.Ends.{most_messages}
+use Rattle.krl_server.specs.Doing.{IsServer, IsStarted, HasStepped}
+use Rattle.krl_server.proofs.Numbers.{all_end}
+use Rattle.krl_server.proofs.Kept.{server_keeps}
+
+module _ (d : Durable) (st : State) (lt : d.epoch < END) (durable : st.durable ≡ record d { epoch = suc d.epoch }) (rows : (n : ℕ) → rows_of st.table n ≡ blank_row) (over : IsOver d.index st.table) (full : length st.lines ≡ 64) (lines : (c : ℕ) → lines_of st.lines c ≡ blank_line) (missing : st.missing ≡ missing_order d.register) where
+  means_start : meaning st ≡ start d
+  means_start =
+      ap (λ x. record (meaning st) { durable = x }) durable
+      ∙ ap (λ r. record (meaning st) { durable = record d { epoch = suc d.epoch }; rows = r }) (fun_ext rows)
+      ∙ ap (λ l. let s : Server = record { durable = record d { epoch = suc d.epoch }; rows = λ n. blank_row; lines = l; missing = st.missing } in s) (fun_ext lines)
+      ∙ ap (λ m. let s : Server = record { durable = record d { epoch = suc d.epoch }; rows = λ n. blank_row; lines = λ c. blank_line; missing = m } in s) missing
+
+  pub is_started : IsStarted d (meaning st)
+  is_started = record { epoch = lt-ltb d.epoch END lt; server = means_start }
+
+  pub is_server : HasOutcomes d.register → IsServer st
+  is_server outcomes =
+      let x = server_keeps.ordered_start d outcomes in
+      record {
+        formed = record { full = full; over = subst (λ y. IsOver y.index st.table) (sym durable) over };
+        sound = subst IsSound (sym means_start) (server_keeps.sound_start d over.near);
+        ordered = subst IsOrdered (sym means_start) x.0;
+        settled = subst IsSettled (sym means_start) x.1;
+      }
+
+-- a step keeps it
+pub server_after : (old new : State) (m : ToServer) (outs : List ToClient) → IsServer old → IsFormed new → ServerStep (meaning old) m (meaning new) outs → IsServer new
+server_after old new m outs i formed step = record {
+  formed = formed;
+  sound = server_keeps.sound_step (meaning old) (meaning new) m outs i.sound step;
+  ordered = server_keeps.ordered_step (meaning old) (meaning new) m outs i.sound i.ordered step;
+  settled = server_keeps.settled_step (meaning old) (meaning new) m outs i.settled step;
+}
+
+-- whatever comes of it
+pub server_kept : {E : Type 0} (old new : State) (m : ToServer) (r : Result ServerOut E) → IsServer old → IfOk r (λ out. HasStepped (meaning old) m (meaning new) out) → OnOk r (IsFormed new) → OnErr r (new ≡ old) → IsServer new
+server_kept old new m (Ok out) i stepped formed refused = server_after old new m out.messages i formed stepped.step
+server_kept old new m (Err e) i stepped formed refused = subst IsServer (sym refused) i
+
+pub few_sent : {E : Type 0} (old new : State) (m : ToServer) (r : Result ServerOut E) → IsServer old → IfOk r (λ out. HasStepped (meaning old) m (meaning new) out) → IfOk r (λ out. length out.messages ≤ most_messages)
+few_sent old new m (Ok out) i stepped = all_end.few (meaning old) (meaning new) m out.messages i.sound i.ordered.table stepped.step
+few_sent old new m (Err e) i stepped = tt
+
+-- a blank line for each client
+blank_all : (n c : ℕ) → lines_of (replicate n blank_line) c ≡ blank_line
+blank_all zero c = refl
+blank_all (suc n) zero = refl
+blank_all (suc n) (suc c) = blank_all n c
+
+pub blank_each : (n : ℕ) (x : Line) → x ≡ blank_line → (c : ℕ) → lines_of (replicate n x) c ≡ blank_line
+blank_each n x e c = subst (λ y. lines_of (replicate n y) c ≡ blank_line) (sym e) (blank_all n c)

@@ -1,0 +1,5 @@
+use Rattle.krl_server.proofs.Whole.{all_follow}
+use Rattle.krl_server.proofs.laws.server_follows.Goals as goal
+
+pub returns : goal.returns
+returns c = all_follow

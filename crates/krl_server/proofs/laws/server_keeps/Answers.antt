@@ -1,0 +1,5 @@
+use Rattle.krl_server.proofs.Kept.{server_keeps}
+use Rattle.krl_server.proofs.laws.server_keeps.Goals as goal
+
+pub returns : goal.returns
+returns c = server_keeps

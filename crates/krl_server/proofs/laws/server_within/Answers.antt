@@ -1,0 +1,5 @@
+use Rattle.krl_server.proofs.Within.{all_within}
+use Rattle.krl_server.proofs.laws.server_within.Goals as goal
+
+pub returns : goal.returns
+returns c = all_within

@@ -1,0 +1,5 @@
+use Rattle.krl_server.proofs.Numbers.{all_end}
+use Rattle.krl_server.proofs.laws.steps_end.Goals as goal
+
+pub returns : goal.returns
+returns c = all_end

@@ -1,0 +1,25 @@
+use Rattle.std.proofs.Common.{◌≤◌, ◌+◌, length, sym, subst, add-one, arith}
+use Rattle.krl_server.specs.States.{meaning}
+use Rattle.krl_server.specs.Outboxes.{as_list, Sends}
+use Rattle.krl_server.proofs.Called.{IsCalled, none_called, room_for_one, one_called, all_called, for_is}
+use Rattle.krl_server.proofs.state.State.call_back_for.Goals as goal
+
+pub loop-client-init : goal.loop-client-init
+loop-client-init c = none_called (meaning c.args.self.now) c.args.slot c.args.waiter.now c.args.outbox.now
+
+pub send_some-requires : goal.send_some-requires
+send_some-requires c =
+    let s = meaning c.args.self.now in
+    room_for_one s c.args.slot c.args.waiter.now c.loop-client.client c.args.outbox.now c.loop-client.outbox (as_list c.callback_if.result) c.loop-client-test.true c.loop-client.invariant c.callback_if.ensures
+    (subst (λ l. length c.args.outbox.now.sent + length l ≤ c.args.outbox.now.room) (for_is s c.args.slot c.args.waiter.now c.asks_absent.result c.asks_absent.ensures c.if-asks_absent.false) c.requires.room)
+
+pub loop-client-preserved : goal.loop-client-preserved
+loop-client-preserved c =
+    subst (λ d. IsCalled (meaning c.args.self.now) c.args.slot c.args.waiter.now d c.args.outbox.now c.send_some.new.self) (sym (add-one c.loop-client.client))
+    (one_called (meaning c.args.self.now) c.args.slot c.args.waiter.now c.loop-client.client c.args.outbox.now c.loop-client.outbox c.send_some.new.self (as_list c.callback_if.result) c.loop-client-test.true c.loop-client.invariant c.callback_if.ensures c.send_some.ensures)
+
+pub returns : goal.returns
+returns c =
+    let s = meaning c.args.self.now in
+    subst (λ l. Sends c.args.outbox.now c.loop-client.outbox l) (sym (for_is s c.args.slot c.args.waiter.now c.asks_absent.result c.asks_absent.ensures c.if-asks_absent.false))
+    (all_called s c.args.slot c.args.waiter.now c.loop-client.client c.args.outbox.now c.loop-client.outbox (omega (arith, c.loop-client-test.false)) c.loop-client.invariant)

@@ -1,0 +1,13 @@
+use Rattle.std.proofs.Common.{◌≡◌, sym, ap, ◌∙◌, arith}
+use Rattle.krl_table.specs.Kept.{rows_of}
+use Rattle.krl_table.specs.Rows.{waits}
+use Rattle.krl_server.specs.Doing.{count_below}
+use Rattle.krl_server.proofs.Numbers.{sixty_four}
+use Rattle.krl_server.proofs.state.State.count_waiting.Goals as goal
+
+pub returns-clause-count : goal.returns-clause-count
+returns-clause-count c =
+    let low = c.loop-client-test.false in
+    let high = c.loop-client.auto.client-end in
+    let all : c.loop-client.client ≡ 64 = omega (arith, low, high) in
+    c.loop-client.invariant.count ∙ ap (λ n. count_below n (waits c.args.self.now.durable.index (rows_of c.args.self.now.table))) (all ∙ sym sixty_four)

@@ -1,0 +1,91 @@
+use Rattle.std.proofs.Common.{◌<◌, sym, ap, subst, ◌∙◌}
+use Rattle.krl_queue.specs.declared.waiter.Waiter.{Waiter}
+use Rattle.krl_table.specs.Kept.{rows_of}
+use Rattle.krl_server.specs.States.{meaning, meant}
+use Rattle.krl_server.specs.Effects.{heard, answers}
+use Rattle.krl_server.specs.Outboxes.{as_list}
+use Rattle.krl_server.specs.Cases.{Judges}
+use Rattle.krl_table.specs.Waiters.{WaitsNowhere}
+use Rattle.krl_server.proofs.Facts.{facts_of, waits_nowhere, performed_write, performed_again}
+use Rattle.krl_server.proofs.state.State.perform.Goals as goal
+
+pub register-requires-clause-client : goal.register-requires-clause-client
+register-requires-clause-client c = facts_of (meaning c.args.self.now) c.args.message.now c.args.case.now _ c.requires.case c.in-Registers.is
+
+pub depart-requires-clause-client : goal.depart-requires-clause-client
+depart-requires-clause-client c = (facts_of (meaning c.args.self.now) c.args.message.now c.args.case.now _ c.requires.case c.in-Leaves.is).client
+
+pub line-number-requires-clause-client : goal.line-number-requires-clause-client
+line-number-requires-clause-client c = facts_of (meaning c.args.self.now) c.args.message.now c.args.case.now _ c.requires.case c.in-Repeats.is
+
+pub hear-requires-clause-client : goal.hear-requires-clause-client
+hear-requires-clause-client c = facts_of (meaning c.args.self.now) c.args.message.now c.args.case.now _ c.requires.case c.in-Hears.is
+
+pub lower-requires-clause-client : goal.lower-requires-clause-client
+lower-requires-clause-client c = facts_of (meaning c.args.self.now) c.args.message.now c.args.case.now _ c.requires.case c.in-Lowers.is
+
+pub enqueue-requires-clause-client : goal.enqueue-requires-clause-client
+enqueue-requires-clause-client c = subst (λ (u : Waiter). u.client < 64) (sym c.in_ok-node-in-Waits.ensures.made) ((facts_of (meaning c.args.self.now) c.args.message.now c.args.case.now _ c.requires.case c.in-Waits.is).client)
+
+pub enqueue-requires-clause-free : goal.enqueue-requires-clause-free
+enqueue-requires-clause-free c = subst (λ (u : Waiter). WaitsNowhere (rows_of c.args.self.now.table) u.client) (sym c.in_ok-node-in-Waits.ensures.made) (waits_nowhere c.args.self.now.durable.index (rows_of c.args.self.now.table) c.args.message.now.client c.requires.server.ordered.table (facts_of (meaning c.args.self.now) c.args.message.now c.args.case.now _ c.requires.case c.in-Waits.is).free)
+
+pub write-requires-clause-client : goal.write-requires-clause-client
+write-requires-clause-client c = (facts_of (meaning c.args.self.now) c.args.message.now c.args.case.now _ c.requires.case c.in-Writes.is).client
+
+pub write-requires-clause-key : goal.write-requires-clause-key
+write-requires-clause-key c = (facts_of (meaning c.args.self.now) c.args.message.now c.args.case.now _ c.requires.case c.in-Writes.is).key
+
+pub write-requires-clause-unspent : goal.write-requires-clause-unspent
+write-requires-clause-unspent c = (facts_of (meaning c.args.self.now) c.args.message.now c.args.case.now _ c.requires.case c.in-Writes.is).unspent
+
+pub hear-requires-in-Writes-clause-client : goal.hear-requires-in-Writes-clause-client
+hear-requires-in-Writes-clause-client c = (facts_of (meaning c.args.self.now) c.args.message.now c.args.case.now _ c.requires.case c.in-Writes.is).client
+
+pub answer_write-requires-clause-client : goal.answer_write-requires-clause-client
+answer_write-requires-clause-client c = (facts_of (meaning c.args.self.now) c.args.message.now c.args.case.now _ c.requires.case c.in-Writes.is).client
+
+pub answer_write-requires-clause-key : goal.answer_write-requires-clause-key
+answer_write-requires-clause-key c = (facts_of (meaning c.args.self.now) c.args.message.now c.args.case.now _ c.requires.case c.in-Writes.is).key
+
+pub hear-requires-in-AnswersAgain-clause-client : goal.hear-requires-in-AnswersAgain-clause-client
+hear-requires-in-AnswersAgain-clause-client c = (facts_of (meaning c.args.self.now) c.args.message.now c.args.case.now _ c.requires.case c.in-AnswersAgain.is).client
+
+pub answer_write-requires-in-AnswersAgain-clause-client : goal.answer_write-requires-in-AnswersAgain-clause-client
+answer_write-requires-in-AnswersAgain-clause-client c = (facts_of (meaning c.args.self.now) c.args.message.now c.args.case.now _ c.requires.case c.in-AnswersAgain.is).client
+
+pub answer_write-requires-in-AnswersAgain-clause-key : goal.answer_write-requires-in-AnswersAgain-clause-key
+answer_write-requires-in-AnswersAgain-clause-key c = (facts_of (meaning c.args.self.now) c.args.message.now c.args.case.now _ c.requires.case c.in-AnswersAgain.is).key
+
+pub returns-in_ok-outcome-in-Writes-clause-performed : goal.returns-in_ok-outcome-in-Writes-clause-performed
+returns-in_ok-outcome-in-Writes-clause-performed c =
+    let s = meaning c.args.self.now in
+    let own = c.args.message.now.client in
+    let number = c.in-Writes.number in
+    let op = c.in-Writes.op in
+    let o = c.in_ok-outcome-in-Writes.outcome in
+    let is = c.hear-in-Writes.ensures.heard ∙ ap (λ x. heard x own) c.in_ok-outcome-in-Writes.ensures.writes in
+    record {
+      outs = as_list c.answer_write.result;
+      performed = performed_write s c.args.message.now (meaning c.answer_write.new.self) number op o (as_list c.answer_write.result)
+          (ap (λ x. Judges number op x) c.in_ok-outcome-in-Writes.ensures.outcome ∙ (sym (ap (λ f. meant s own c.args.message.now.body f) c.in-Writes.is) ∙ c.requires.case))
+          (c.answer_write.ensures.server ∙ ap (λ x. (answers x own number op o).server) is)
+          (c.answer_write.ensures.outs ∙ ap (λ x. (answers x own number op o).outs) is);
+      sends = c.send_some.ensures;
+    }
+
+pub returns-in-AnswersAgain-clause-performed : goal.returns-in-AnswersAgain-clause-performed
+returns-in-AnswersAgain-clause-performed c =
+    let s = meaning c.args.self.now in
+    let own = c.args.message.now.client in
+    let number = c.in-AnswersAgain.number in
+    let op = c.in-AnswersAgain.op in
+    let o = c.in-AnswersAgain.outcome in
+    record {
+      outs = as_list c.answer_write-in-AnswersAgain.result;
+      performed = performed_again s c.args.message.now (meaning c.answer_write-in-AnswersAgain.new.self) number op o (as_list c.answer_write-in-AnswersAgain.result)
+          (sym (ap (λ f. meant s own c.args.message.now.body f) c.in-AnswersAgain.is) ∙ c.requires.case)
+          (c.answer_write-in-AnswersAgain.ensures.server ∙ ap (λ x. (answers x own number op o).server) c.hear-in-AnswersAgain.ensures.heard)
+          (c.answer_write-in-AnswersAgain.ensures.outs ∙ ap (λ x. (answers x own number op o).outs) c.hear-in-AnswersAgain.ensures.heard);
+      sends = c.send_some-in-AnswersAgain.ensures;
+    }

@@ -1,0 +1,6 @@
+use Rattle.krl_server.specs.States.{meaning}
+use Rattle.krl_server.proofs.Facts.{reporter}
+use Rattle.krl_server.proofs.state.State.take_report.Goals as goal
+
+pub report-requires-clause-client : goal.report-requires-clause-client
+report-requires-clause-client c = reporter (meaning c.args.self.now) c.args.message.now _ _ c.requires.case c.in-Report.is

@@ -1,0 +1,8 @@
+use Rattle.std.proofs.Common.{ap, ◌∙◌}
+use Rattle.std.specs.Prelude.{is_some}
+use Rattle.krl_table.specs.Kept.{rows_of}
+use Rattle.krl_server.proofs.Waited.{waiter_waits}
+use Rattle.krl_server.proofs.state.State.waits.Goals as goal
+
+pub returns : goal.returns
+returns c = c.is_some.ensures ∙ ap (λ o. is_some o) (c.waiter_of.ensures.waiter c.args.self.now.durable.index c.requires.formed.over) ∙ waiter_waits c.args.self.now.durable.index (rows_of c.args.self.now.table) c.args.client

@@ -1,0 +1,55 @@
+-- Who of the first waiters is answered next, and the answering of all that can be.
+use Rattle.std.specs.Prelude.{◌≡◌, ℕ, Bool, not, ◌&&◌, ◌||◌, Option, Some, None, List, [], ◌∷◌, ◌++◌, nat_lt, is_some, if◌then◌else◌}
+use Rattle.krl_modes.specs.declared.point.TheConstants.{END}
+use Rattle.krl_messages.specs.declared.to_client.ToClient.{ToClient}
+use Rattle.krl_messages.specs.declared.to_client.PushBody.TheVariants as push
+use Rattle.krl_queue.specs.declared.waiter.Waiter.{Waiter}
+use Rattle.krl_durable.specs.Index.{slots}
+use Rattle.krl_table.specs.Calls.{granted, dropped}
+use Rattle.krl_table.specs.Replies.{asks_absent, can_have}
+use Rattle.krl_server.specs.declared.line.Line.{Line}
+use Rattle.krl_server.specs.Servers.{Server}
+use Rattle.krl_server.specs.Effects.{Done, with_rows, holding, pushes}
+
+-- the last push is acknowledged, and there is a number for the next
+abbrev pub can_push : Line → Bool
+can_push line = not (is_some line.unheard) && nat_lt line.pushed END
+
+abbrev pub is_answerable : Server → ℕ → Waiter → Bool
+is_answerable s n u = can_push (s.lines u.client) && (asks_absent s.durable.index u || can_have s.rows n u)
+
+-- a slot and its first waiter
+pub record Turn : Type 0 where
+  pub slot : ℕ
+  pub waiter : Waiter
+
+abbrev pub turn_at : Server → ℕ → List Waiter → Option Turn → Option Turn
+turn_at s n [] later = later
+turn_at s n (u ∷ us) later = if is_answerable s n u then Some (record { slot = n; waiter = u }) else later
+
+-- the least of these slots whose first waiter is answerable
+abbrev pub turn_among : Server → List ℕ → Option Turn
+turn_among s [] = None
+turn_among s (n ∷ ns) = turn_at s n (s.rows n).queue (turn_among s ns)
+
+-- who is answered next
+abbrev pub next_turn : Server → Option Turn
+next_turn s = turn_among s (slots s.durable.index)
+
+-- the waiter is told that there is no entry
+abbrev pub tells_absent : Server → Turn → Done
+tells_absent s t = pushes (with_rows s (dropped s.rows t.slot)) t.waiter.client (push.Absent t.waiter.req t.waiter.point)
+
+-- the waiter is granted what it wants: first the row is raised, then the push is made from it
+abbrev pub grants : Server → Turn → Done
+grants s t =
+    let g = with_rows s (granted s.rows t.slot) in
+    pushes g t.waiter.client (push.Grant t.waiter.req (holding g t.slot t.waiter.client))
+
+abbrev pub take_turn : Server → Turn → Done
+take_turn s t = if asks_absent s.durable.index t.waiter then tells_absent s t else grants s t
+
+-- one answer after another, until no first waiter is answerable
+pub data Answered : Server → Server → List ToClient → Type 0 where
+  stops : (s : Server) → next_turn s ≡ None → Answered s s []
+  goes_on : (s t : Server) (turn : Turn) (outs : List ToClient) → next_turn s ≡ Some turn → Answered (take_turn s turn).server t outs → Answered s t ((take_turn s turn).outs ++ outs)

@@ -1,0 +1,122 @@
+-- The case that a message meets, in the order of judging.
+use Rattle.std.specs.Prelude.{ℕ, suc, Bool, true, false, not, ◌&&◌, ◌||◌, Option, Some, None, nat_eq, nat_lt, if◌then◌else◌}
+use Rattle.krl_modes.specs.declared.point.TheConstants.{END}
+use Rattle.krl_modes.specs.declared.mode.Mode.{Mode}
+use Rattle.krl_modes.specs.Spans.{Bounds}
+use Rattle.krl_messages.specs.declared.pieces.Pieces.{Pieces}
+use Rattle.krl_messages.specs.declared.write_op.WriteOp.{WriteOp}
+use Rattle.krl_messages.specs.declared.outcome.Outcome.{Outcome}
+use Rattle.krl_messages.specs.declared.to_server.ToServer.{ToServer}
+use Rattle.krl_messages.specs.declared.to_server.ToServerBody.{ToServerBody}
+use Rattle.krl_messages.specs.declared.to_server.ToServerBody.TheVariants as said
+use Rattle.krl_messages.specs.declared.to_server.Request.{Request}
+use Rattle.krl_messages.specs.declared.to_server.RequestBody.{RequestBody}
+use Rattle.krl_messages.specs.declared.to_server.RequestBody.TheVariants as asked
+use Rattle.krl_messages.specs.declared.to_client.PushBody.{PushBody}
+use Rattle.krl_durable.specs.declared.record.Record.{Record}
+use Rattle.krl_durable.specs.Registers.{record_of}
+use Rattle.krl_messages.specs.Writes.{op_key}
+use Rattle.krl_durable.specs.Writes.{held, judge}
+use Rattle.krl_table.specs.Rows.{most_clients, column, waits}
+use Rattle.krl_table.specs.Reports.{conflicts}
+use Rattle.krl_server.specs.Servers.{Server, is_gathering, lists}
+
+pub data Case : Type 0 where
+  Ignored : Case
+  Registers : Case  -- a new incarnation
+  Leaves : Case
+  Tells : Case  -- Epoch is sent, and nothing else happens
+  Alarms : Case  -- the report contradicts another client's modes
+  Rebuilds : Pieces → Case
+  Repeats : PushBody → Case  -- the push that is not acknowledged is sent again
+  Hears : Case  -- the last push is acknowledged, and nothing more
+  Lowers : Bounds → Mode → Case
+  Waits : ℕ → ℕ → Mode → Case  -- request number, point, mode
+  Judges : ℕ → WriteOp → Outcome → Case  -- a new write, and its number
+  AnswersAgain : ℕ → WriteOp → Outcome → Case  -- the last write, and its number
+
+-- the outcome of a new write of the client
+abbrev pub judged : Server → ℕ → WriteOp → Outcome
+judged s c op = judge s.durable.index op (held s.durable.index (column s.rows c) op)
+
+-- the last write once more. Where no write was judged there is no outcome
+abbrev pub case_of_last : ℕ → WriteOp → Option Outcome → Case
+case_of_last number op None = Hears
+case_of_last number op (Some o) = AnswersAgain number op o
+
+-- the key is no key, or the number is none of a write
+abbrev pub is_bad_write : ℕ → WriteOp → Bool
+is_bad_write number op = not (nat_lt (op_key op) END) || (nat_eq number 0 || nat_lt END number)
+
+-- the write numbers: new, the last one, or passed over
+abbrev pub case_of_write : Server → ℕ → Record → ℕ → WriteOp → Case
+case_of_write s c r number op =
+    if is_bad_write number op then Hears
+    else (if nat_eq number (suc r.last) then Judges number op (judged s c op)
+    else (if nat_eq number r.last then case_of_last number op r.outcome else Hears))
+
+-- the request numbers: new, from a client that doesn't wait, or passed over
+abbrev pub case_of_lock : Server → ℕ → ℕ → ℕ → Mode → Case
+case_of_lock s c req point g =
+    if nat_eq req (suc (s.lines c).asked) && (not (waits s.durable.index s.rows c) && not (nat_lt END point)) then Waits req point g else Hears
+
+abbrev pub case_of_request : Server → ℕ → Record → RequestBody → Case
+case_of_request s c r (asked.Lock req point g) = case_of_lock s c req point g
+case_of_request s c r (asked.Write number op) = case_of_write s c r number op
+case_of_request s c r (asked.Release span keep) = Lowers span keep
+case_of_request s c r asked.Ack = Hears
+
+-- `seen` is one less than the number of the push that is not acknowledged
+abbrev pub case_of_late : ℕ → ℕ → Option PushBody → Case
+case_of_late seen pushed None = Ignored
+case_of_late seen pushed (Some body) = if nat_eq (suc seen) pushed then Repeats body else Ignored
+
+abbrev pub case_of_seen : Server → ℕ → Record → Request → Case
+case_of_seen s c r request =
+    if nat_eq request.seen (s.lines c).pushed then case_of_request s c r request.body else case_of_late request.seen (s.lines c).pushed (s.lines c).unheard
+
+abbrev pub case_of_report : Server → ℕ → Pieces → Case
+case_of_report s c pieces = if lists s.missing c then (if conflicts s.durable.index s.rows c pieces then Alarms else Rebuilds pieces) else Ignored
+
+-- of the registered incarnation, which has not left
+abbrev pub case_of_body : Server → ℕ → Record → ToServerBody → Case
+case_of_body s c r said.Hello = Tells
+case_of_body s c r said.Bye = Leaves
+case_of_body s c r (said.Report epoch pieces) = if nat_eq epoch s.durable.epoch then case_of_report s c pieces else Tells
+case_of_body s c r (said.Request request) =
+    if nat_eq request.epoch s.durable.epoch then (if is_gathering s.missing then Ignored else case_of_seen s c r request) else Tells
+
+-- of an incarnation above the registered one, or where none is registered
+abbrev pub case_of_newer : ToServerBody → Case
+case_of_newer said.Hello = Registers
+case_of_newer said.Bye = Ignored
+case_of_newer (said.Report epoch pieces) = Ignored
+case_of_newer (said.Request request) = Ignored
+
+abbrev pub case_of_record : Server → ToServer → Option Record → Case
+case_of_record s m None = case_of_newer m.body
+case_of_record s m (Some r) =
+    if nat_lt r.incarnation m.incarnation then case_of_newer m.body
+    else (if nat_lt m.incarnation r.incarnation || r.left then Ignored else case_of_body s m.client r m.body)
+
+-- the sender's number or incarnation is none of a client
+abbrev pub is_strange : ToServer → Bool
+is_strange m = not (nat_lt m.client most_clients) || (nat_eq m.incarnation 0 || nat_lt END m.incarnation)
+
+abbrev pub case_of : Server → ToServer → Case
+case_of s m = if is_strange m then Ignored else case_of_record s m (record_of s.durable.register m.client)
+
+-- the step says Alarm
+abbrev pub is_alarm : Case → Bool
+is_alarm Ignored = false
+is_alarm Registers = false
+is_alarm Leaves = false
+is_alarm Tells = false
+is_alarm Alarms = true
+is_alarm (Rebuilds pieces) = false
+is_alarm (Repeats body) = false
+is_alarm Hears = false
+is_alarm (Lowers span keep) = false
+is_alarm (Waits req point g) = false
+is_alarm (Judges number op o) = false
+is_alarm (AnswersAgain number op o) = false

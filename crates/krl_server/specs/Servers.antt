@@ -1,0 +1,48 @@
+-- What a server is made of.
+use Rattle.std.specs.Prelude.{ℕ, Bool, true, false, not, nat_eq, List, [], ◌∷◌, Option, None, Some, if◌then◌else◌}
+use Rattle.std.specs.List.{list_any, filter}
+use Rattle.krl_durable.specs.declared.record.Record.{Record}
+use Rattle.krl_durable.specs.Registers.{Durable, record_of}
+use Rattle.krl_table.specs.Rows.{Rows}
+use Rattle.krl_server.specs.declared.line.Line.{Line}
+use Rattle.krl_server.specs.declared.phase.Phase.{Phase}
+use Rattle.krl_server.specs.declared.phase.Phase.TheVariants as phase
+
+pub record Server : Type 0 where
+  pub durable : Durable
+  pub rows : Rows
+  pub lines : ℕ → Line  -- by client
+  pub missing : List ℕ  -- the clients that have not reported since the start
+
+abbrev pub blank_line : Line
+blank_line = record { pushed = 0; unheard = None; asked = 0 }
+
+-- someone is missing
+abbrev pub is_gathering : List ℕ → Bool
+is_gathering [] = false
+is_gathering (c ∷ cs) = true
+
+abbrev pub phase_of : List ℕ → Phase
+phase_of [] = phase.Serving
+phase_of (c ∷ cs) = phase.Gathering
+
+-- the client stands in the list
+abbrev pub lists : List ℕ → ℕ → Bool
+lists clients c = list_any (λ d. nat_eq c d) clients
+
+-- the list without the client
+abbrev pub unlist : List ℕ → ℕ → List ℕ
+unlist clients c = filter (λ d. not (nat_eq c d)) clients
+
+-- the lines with another one of this client
+abbrev pub set_line : (ℕ → Line) → ℕ → Line → ℕ → Line
+set_line lines c line d = if nat_eq d c then line else lines d
+
+-- the incarnation of a record, or 0
+abbrev pub incarnation_or_0 : Option Record → ℕ
+incarnation_or_0 None = 0
+incarnation_or_0 (Some r) = r.incarnation
+
+-- the client's registered incarnation, or 0
+abbrev pub incarnation_of : Server → ℕ → ℕ
+incarnation_of s c = incarnation_or_0 (record_of s.durable.register c)

@@ -1,0 +1,63 @@
+-- What a server's state means, and the case that its code found.
+use Rattle.std.specs.Prelude.{◌≡◌, ℕ, List, length, slice_index_or, if◌then◌else◌}
+use Rattle.krl_messages.specs.declared.to_server.ToServerBody.{ToServerBody}
+use Rattle.krl_messages.specs.declared.to_server.ToServerBody.TheVariants as said
+use Rattle.krl_table.specs.Kept.{rows_of, IsOver}
+use Rattle.krl_table.specs.Reports.{conflicts}
+use Rattle.krl_server.specs.declared.state.State.{State}
+use Rattle.krl_server.specs.declared.line.Line.{Line}
+use Rattle.krl_server.specs.declared.case.Case.{Case as Found}
+use Rattle.krl_server.specs.declared.case.Case.TheVariants as found
+use Rattle.krl_server.specs.declared.case.After.{After}
+use Rattle.krl_server.specs.declared.case.After.TheVariants as after
+use Rattle.krl_server.specs.Servers.{Server, blank_line}
+use Rattle.krl_server.specs.Cases.{Case, Ignored, Registers, Leaves, Tells, Alarms, Rebuilds, Repeats, Hears, Lowers, Waits, Judges, AnswersAgain, judged}
+
+-- the line of a client
+abbrev pub lines_of : List Line → ℕ → Line
+lines_of lines c = slice_index_or lines c blank_line
+
+-- what the state means
+abbrev pub meaning : State → Server
+meaning st = record { durable = st.durable; rows = rows_of st.table; lines = lines_of st.lines; missing = st.missing }
+
+-- there is a line for each client, and the table has the slots of the index
+pub record IsFormed (st : State) : Type 0 where
+  pub full : length st.lines ≡ 64
+  pub over : IsOver st.durable.index st.table
+
+-- the case of a missing client's report
+abbrev pub case_of_pieces : Server → ℕ → ToServerBody → Case
+case_of_pieces s c said.Hello = Ignored
+case_of_pieces s c said.Bye = Ignored
+case_of_pieces s c (said.Report epoch pieces) = if conflicts s.durable.index s.rows c pieces then Alarms else Rebuilds pieces
+case_of_pieces s c (said.Request request) = Ignored
+
+-- the case that was found for what the client said: how a report or a write ends shows as it is done
+abbrev pub meant : Server → ℕ → ToServerBody → Found → Case
+meant s c b found.Ignored = Ignored
+meant s c b found.Registers = Registers
+meant s c b found.Leaves = Leaves
+meant s c b found.Tells = Tells
+meant s c b found.Reports = case_of_pieces s c b
+meant s c b (found.Repeats body) = Repeats body
+meant s c b found.Hears = Hears
+meant s c b (found.Lowers span keep) = Lowers span keep
+meant s c b (found.Waits req point g) = Waits req point g
+meant s c b (found.Writes number op) = Judges number op (judged s c op)
+meant s c b (found.AnswersAgain number op o) = AnswersAgain number op o
+
+-- what is left to be done after a case
+abbrev pub after_of : Case → After
+after_of Ignored = after.Nothing
+after_of Registers = after.Calls
+after_of Leaves = after.Calls
+after_of Tells = after.Nothing
+after_of Alarms = after.Alarm
+after_of (Rebuilds pieces) = after.Calls
+after_of (Repeats body) = after.Nothing
+after_of Hears = after.Calls
+after_of (Lowers span keep) = after.Answers
+after_of (Waits req point g) = after.Calls
+after_of (Judges number op o) = after.Calls
+after_of (AnswersAgain number op o) = after.Calls

@@ -1,0 +1,102 @@
+//! Answers to those who wait.
+ghost use Rattle.std.specs.Prelude.{◌≡◌, ◌<◌, ◌≤◌, ◌+◌, length, IsSome, IfSome, IfNone, None, true};
+ghost use Rattle.std.specs.FinMap as map;
+ghost use Rattle.krl_table.specs.Rows.{front_of};
+ghost use Rattle.krl_table.specs.Replies.{can_have};
+ghost use Rattle.krl_table.specs.Sound.{IsTable};
+ghost use Rattle.krl_server.specs.Outboxes.{as_list};
+ghost use Rattle.krl_server.specs.Answering.{grants, tells_absent};
+ghost use Rattle.krl_server.specs.States.{meaning, IsFormed};
+ghost use Rattle.krl_server.specs.Ends.{waiting};
+ghost use Rattle.krl_server.specs.Shows.{IsSound};
+ghost use Rattle.krl_server.specs.Doing.{turn_here, HasTurned, HasAnswered};
+
+use crate::out::Outbox;
+use crate::state::State;
+use krl_messages::{PushBody, ToClient};
+use krl_queue::Waiter;
+use krl_table::Reply;
+
+impl State {
+    /// Grants the slot's first waiter what it wants.
+    fn grant(&mut self, slot: u64, waiter: &Waiter) -> Option<ToClient>
+        requires formed { IsFormed self.old }
+        requires client { waiter.now.client < 64 }
+        requires there { IsSome (map.get self.old.table slot) }
+        requires fits { IfSome (front_of ((meaning self.old).rows slot).queue) (λ u. can_have (meaning self.old).rows slot u ≡ true) }
+        ensures server { meaning self.new ≡ (grants (meaning self.old) (record { slot = slot; waiter = waiter.now })).server }
+        ensures out { as_list result ≡ (grants (meaning self.old) (record { slot = slot; waiter = waiter.now })).outs }
+        ensures formed { IsFormed self.new }
+    {
+        self.table.grant(slot);
+        let holding = self.holding(slot, waiter.client);
+        self.push(
+            waiter.client,
+            PushBody::Grant {
+                req: waiter.req,
+                holding,
+            },
+        )
+    }
+
+    /// Tells the slot's first waiter that there is no entry.
+    fn tell_absent(&mut self, slot: u64, waiter: &Waiter) -> Option<ToClient>
+        requires formed { IsFormed self.old }
+        requires client { waiter.now.client < 64 }
+        requires there { IsSome (map.get self.old.table slot) }
+        ensures server { meaning self.new ≡ (tells_absent (meaning self.old) (record { slot = slot; waiter = waiter.now })).server }
+        ensures out { as_list result ≡ (tells_absent (meaning self.old) (record { slot = slot; waiter = waiter.now })).outs }
+        ensures formed { IsFormed self.new }
+    {
+        self.table.drop_front(slot);
+        let point = waiter.point.get();
+        self.push(
+            waiter.client,
+            PushBody::Absent {
+                req: waiter.req,
+                point,
+            },
+        )
+    }
+
+    /// Answers the slot's first waiter, if that is possible.
+    fn take_turn(&mut self, slot: u64) -> Option<ToClient>
+        requires formed { IsFormed self.old }
+        requires there { IsSome (map.get self.old.table slot) }
+        requires sound { IsSound (meaning self.old) }
+        ensures turned { IfSome result (λ o. HasTurned (meaning self.old) (meaning self.new) slot o) }
+        ensures blocked { IfNone result (turn_here (meaning self.old) slot ≡ None) }
+        ensures same { IfNone result (self.new ≡ self.old) }
+        ensures formed { IsFormed self.new }
+    {
+        let waiter = self.table.front(slot)?;
+        let acked = self.line(waiter.client).can_push();
+        match self.table.answerable(slot, acked) {
+            Some(Reply::Grant) => self.grant(slot, &waiter),
+            Some(Reply::Absent) => self.tell_absent(slot, &waiter),
+            None => None,
+        }
+    }
+
+    /// Answers first waiters, at the least slot first, until none can be answered. An answer makes nobody answerable
+    /// at a lower slot, so one walk upward does.
+    pub(crate) fn answer(&mut self, outbox: &mut Outbox)
+        requires formed { IsFormed self.old }
+        requires sound { IsSound (meaning self.old) }
+        requires table { IsTable self.old.durable.index (meaning self.old).rows }
+        requires room { length outbox.old.sent + waiting (meaning self.old) ≤ outbox.old.room }
+        ensures answered { HasAnswered (meaning self.old) (meaning self.new) outbox.old outbox.new }
+        ensures formed { IsFormed self.new }
+    {
+        let mut at: u64 = 0;
+        while let Some(slot) = self.table.next_waiting(at) {
+            match self.take_turn(slot) {
+                Some(message) => {
+                    outbox.send(message);
+                    at = slot;
+                }
+                None => at = slot + 1,
+            }
+        }
+    }
+}

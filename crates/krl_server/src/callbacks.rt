@@ -1,0 +1,94 @@
+//! Callbacks for those who wait first and are blocked.
+ghost use Rattle.std.specs.Prelude.{◌≡◌, ◌≤◌, ◌<◌, ◌+◌, length, IsSome};
+ghost use Rattle.std.specs.FinMap as map;
+ghost use Rattle.krl_table.specs.Replies.{asks_absent};
+ghost use Rattle.krl_server.specs.Callbacks.{callbacks_for, callbacks_at, callbacks};
+ghost use Rattle.krl_server.specs.Shows.{IsSound};
+ghost use Rattle.krl_durable.specs.Index.{span_of};
+ghost use Rattle.krl_table.specs.Calls.{wanted};
+ghost use Rattle.krl_server.specs.Outboxes.{as_list, Sends};
+ghost use Rattle.krl_server.specs.Doing.{callback_if};
+ghost use Rattle.krl_server.specs.States.{meaning, IsFormed};
+
+use crate::out::Outbox;
+use crate::state::State;
+use krl_messages::ToClient;
+use krl_modes::{Mode, Span};
+use krl_queue::Waiter;
+
+impl State {
+    /// Whether the waiter asks for an entry where there is none.
+    fn asks_absent(&self, waiter: &Waiter) -> bool
+        ensures { result ≡ asks_absent self.now.durable.index waiter.now }
+    {
+        let entry = self.durable.get(waiter.point.get()).is_some();
+        waiter.mode.needs_entry() && !entry
+    }
+
+    /// The callback to the client, if its mode blocks the slot's waiter, which wants this mode.
+    fn callback_if(
+        &self,
+        slot: u64,
+        waiter: &Waiter,
+        mode: Mode,
+        span: Span,
+        client: u64,
+    ) -> Option<ToClient>
+        requires there { IsSome (map.get self.now.table slot) }
+        requires client { client < 64 }
+        requires wanted { mode ≡ wanted ((meaning self.now).rows slot) waiter.now }
+        requires span { span ≡ span_of self.now.durable.index slot }
+        ensures { as_list result ≡ callback_if (meaning self.now) slot waiter.now client }
+    {
+        if client == waiter.client || mode.compatible(self.table.mode(slot, client)) {
+            return None;
+        }
+        Some(self.callback_to(client, span, mode.cap()))
+    }
+
+    /// Calls back all clients that block the slot's first waiter.
+    pub(crate) fn call_back_for(&self, slot: u64, waiter: &Waiter, outbox: &mut Outbox)
+        requires formed { IsFormed self.now }
+        requires there { IsSome (map.get self.now.table slot) }
+        requires client { waiter.now.client < 64 }
+        requires room { length outbox.old.sent + length (callbacks_for (meaning self.now) slot waiter.now) ≤ outbox.old.room }
+        ensures { Sends outbox.old outbox.new (callbacks_for (meaning self.now) slot waiter.now) }
+    {
+        if self.asks_absent(waiter) {
+            return;
+        }
+        let span = self.table.span(slot);
+        let wanted = self.table.mode(slot, waiter.client).join(waiter.mode);
+        for client in 0..64u64 {
+            outbox.send_some(self.callback_if(slot, waiter, wanted, span, client));
+        }
+    }
+
+    /// Calls back all clients that block the slot's first waiter, if somebody waits there.
+    fn call_back_at(&self, slot: u64, outbox: &mut Outbox)
+        requires formed { IsFormed self.now }
+        requires there { IsSome (map.get self.now.table slot) }
+        requires sound { IsSound (meaning self.now) }
+        requires room { length outbox.old.sent + length (callbacks_at (meaning self.now) slot ((meaning self.now).rows slot).queue) ≤ outbox.old.room }
+        ensures { Sends outbox.old outbox.new (callbacks_at (meaning self.now) slot ((meaning self.now).rows slot).queue) }
+    {
+        match self.table.front(slot) {
+            Some(waiter) => self.call_back_for(slot, &waiter, outbox),
+            None => {}
+        }
+    }
+
+    /// Calls back all clients that block the first waiter of a slot, at the least slot first.
+    pub(crate) fn call_back(&self, outbox: &mut Outbox)
+        requires formed { IsFormed self.now }
+        requires sound { IsSound (meaning self.now) }
+        requires room { length outbox.old.sent + length (callbacks (meaning self.now)) ≤ outbox.old.room }
+        ensures { Sends outbox.old outbox.new (callbacks (meaning self.now)) }
+    {
+        let mut at: u64 = 0;
+        while let Some(slot) = self.table.next_waiting(at) {
+            self.call_back_at(slot, outbox);
+            at = slot + 1;
+        }
+    }
+}

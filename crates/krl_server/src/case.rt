@@ -1,0 +1,86 @@
+//! The case that a message meets.
+ghost use Rattle.std.specs.Prelude.{◌≡◌, Some, None, if◌then◌else◌};
+ghost use Rattle.krl_server.specs.Afters.{does_answer, does_call, does_alarm};
+
+use krl_messages::{Outcome, PushBody, WriteOp};
+use krl_modes::{Mode, Point, Span};
+
+/// The case that a message meets, as far as it can be told before anything is tried.
+#[derive(Drop)]
+pub(crate) enum Case {
+    /// Nothing happens.
+    Ignored,
+    /// A new incarnation registers.
+    Registers,
+    /// The client leaves.
+    Leaves,
+    /// The client is told the epoch.
+    Tells,
+    /// A missing client reports.
+    Reports,
+    /// The push that is not acknowledged is sent again.
+    Repeats(PushBody),
+    /// The last push is acknowledged, and nothing more.
+    Hears,
+    /// Modes are given back.
+    Lowers {
+        span: Span,
+        keep: Mode,
+    },
+    /// A lock request is taken.
+    Waits {
+        req: u64,
+        point: Point,
+        mode: Mode,
+    },
+    /// A new write.
+    Writes {
+        number: u64,
+        op: WriteOp,
+    },
+    /// The last write once more.
+    AnswersAgain {
+        number: u64,
+        op: WriteOp,
+        outcome: Outcome,
+    },
+}
+
+/// What a message's case leaves to be done.
+#[derive(Clone, Copy)]
+pub(crate) enum After {
+    /// Nothing.
+    Nothing,
+    /// Somebody has to hear of a contradiction.
+    Alarm,
+    /// Those who wait are answered.
+    Answers,
+    /// Those who wait are answered, and those who block others are called back.
+    Calls,
+}
+
+impl After {
+    /// Whether those who wait are answered.
+    pub(crate) fn answers(self) -> bool
+        ensures { result ≡ does_answer self }
+    {
+        matches!(self, After::Answers | After::Calls)
+    }
+
+    /// Whether those who block others are called back.
+    pub(crate) fn calls_back(self) -> bool
+        ensures { result ≡ does_call self }
+    {
+        matches!(self, After::Calls)
+    }
+
+    /// The client of whose contradiction somebody has to hear.
+    pub(crate) fn alarm(self, client: u64) -> Option<u64>
+        ensures { result ≡ (if does_alarm self then Some client else None) }
+    {
+        match self {
+            After::Alarm => Some(client),
+            After::Nothing | After::Answers | After::Calls => None,
+        }
+    }
+}

@@ -1,0 +1,178 @@
+//! What each case makes of the state.
+ghost use Rattle.std.specs.Prelude.{◌≡◌, ◌<◌, ◌≤◌, false, IsSome, IsSomeAnd, IfOk, OnOk, OnErr, if◌then◌else◌};
+ghost use Rattle.krl_modes.specs.declared.point.TheConstants.{END};
+ghost use Rattle.krl_messages.specs.Writes.{op_key};
+ghost use Rattle.krl_durable.specs.Registers.{record_of};
+ghost use Rattle.krl_table.specs.Reports.{conflicts};
+ghost use Rattle.krl_table.specs.Sound.{IsTable};
+ghost use Rattle.krl_server.specs.States.{meaning, IsFormed};
+ghost use Rattle.krl_server.specs.Outboxes.{as_list};
+ghost use Rattle.krl_table.specs.Waiters.{WaitsNowhere};
+ghost use Rattle.krl_durable.specs.Writes.{index_after};
+ghost use Rattle.krl_table.specs.Kept.{IsOver};
+ghost use Rattle.krl_server.specs.Cases.{judged};
+ghost use Rattle.krl_server.specs.Effects.{rows_after, registers, departs, adopts, heard, lowers, queues, writes, answers};
+
+use crate::line::Line;
+use crate::state::State;
+use krl_messages::{Outcome, Pieces, PushBody, ToClient, WriteOp};
+use krl_modes::{Mode, Point, Span};
+use krl_queue::WaitNode;
+use std::alloc::AllocError;
+
+impl State {
+    /// Registers a new incarnation of the client: nothing that the one before held or waited for stays.
+    ///
+    /// # Errors
+    ///
+    /// `AllocError` where the memory for a new client is refused. Nothing has changed then.
+    pub(crate) fn register(&mut self, client: u64, incarnation: u64) -> Result<(), AllocError>
+        requires formed { IsFormed self.old }
+        requires client { client < 64 }
+        ensures registers { OnOk result (meaning self.new ≡ registers (meaning self.old) client incarnation) }
+        ensures formed { OnOk result (IsFormed self.new) }
+        ensures refused { OnErr result (self.new ≡ self.old) }
+    {
+        self.durable.register(client, incarnation)?;
+        self.table.clear(client);
+        self.lines[client as usize] = Line::blank();
+        self.missing.remove(client);
+        Ok(())
+    }
+
+    /// The client has left: it holds nothing, waits no more, and nobody waits for its report.
+    pub(crate) fn depart(&mut self, client: u64)
+        requires formed { IsFormed self.old }
+        requires client { client < 64 }
+        requires known { IsSome (record_of self.old.durable.register client) }
+        ensures departs { meaning self.new ≡ departs (meaning self.old) client }
+        ensures formed { IsFormed self.new }
+    {
+        self.durable.leave(client);
+        self.table.clear(client);
+        self.missing.remove(client);
+    }
+
+    /// Takes a missing client's report, unless it contradicts what others hold: then it answers `true`, and nothing
+    /// has changed.
+    pub(crate) fn report(&mut self, client: u64, pieces: &Pieces) -> bool
+        requires formed { IsFormed self.old }
+        requires client { client < 64 }
+        ensures contradicts { result ≡ conflicts self.old.durable.index (meaning self.old).rows client pieces.now }
+        ensures adopts { meaning self.new ≡ (if result then meaning self.old else adopts (meaning self.old) client pieces.now) }
+        ensures formed { IsFormed self.new }
+    {
+        if self.table.adopt_report(client, pieces).is_err() {
+            return true;
+        }
+        self.missing.remove(client);
+        false
+    }
+
+    /// The last push counts as acknowledged, and the client's modes on the span are lowered.
+    pub(crate) fn lower(&mut self, client: u64, span: Span, keep: Mode)
+        requires formed { IsFormed self.old }
+        requires client { client < 64 }
+        ensures lowers { meaning self.new ≡ lowers (heard (meaning self.old) client) client span keep }
+        ensures formed { IsFormed self.new }
+    {
+        self.hear(client);
+        self.table.lower(client, span, keep);
+    }
+
+    /// The last push counts as acknowledged, and a lock request is taken.
+    pub(crate) fn enqueue(&mut self, node: WaitNode)
+        requires formed { IsFormed self.old }
+        requires client { node.client < 64 }
+        requires free { WaitsNowhere (meaning self.old).rows node.client }
+        ensures queues { meaning self.new ≡ queues (heard (meaning self.old) node.client) node }
+        ensures formed { IsFormed self.new }
+    {
+        let waiter = node.waiter();
+        let line = self.line(waiter.client);
+        self.lines[waiter.client as usize] = Line {
+            unheard: None,
+            asked: waiter.req,
+            ..line
+        };
+        self.table.enqueue(node);
+    }
+
+    /// Judges the client's next write, and does and notes it.
+    ///
+    /// # Errors
+    ///
+    /// `AllocError` where the memory for a new slot is refused. Nothing has changed then.
+    pub(crate) fn write(&mut self, client: u64, op: WriteOp) -> Result<Outcome, AllocError>
+        requires formed { IsFormed self.old }
+        requires client { client < 64 }
+        requires key { op_key op < END }
+        requires unspent { IsSomeAnd (record_of self.old.durable.register client) (λ r. r.last < END) }
+        ensures outcome { IfOk result (λ o. o ≡ judged (meaning self.old) client op) }
+        ensures writes { IfOk result (λ o. meaning self.new ≡ writes (meaning self.old) client op o) }
+        ensures formed { OnOk result (IsFormed self.new) }
+        ensures refused { OnErr result (self.new ≡ self.old) }
+    {
+        let held = self.table.held(client, op);
+        let outcome = self.durable.judge(op, held);
+        self.change_slots(client, op, outcome)?;
+        let _outcome = self.durable.apply(client, op, held);
+        Ok(outcome)
+    }
+
+    /// An insert that is applied makes a slot, and a delete takes one away.
+    ///
+    /// # Errors
+    ///
+    /// `AllocError` where the memory for a new slot is refused. Nothing has changed then.
+    fn change_slots(&mut self, client: u64, op: WriteOp, outcome: Outcome) -> Result<(), AllocError>
+        requires formed { IsFormed self.old }
+        requires client { client < 64 }
+        requires key { op_key op < END }
+        requires judged { judged (meaning self.old) client op ≡ outcome }
+        ensures rows { OnOk result ((meaning self.new).rows ≡ rows_after self.old.durable.index (meaning self.old).rows client op outcome) }
+        ensures slots { OnOk result (IsOver (index_after self.old.durable.index op outcome) self.new.table) }
+        ensures rest { self.new ≡ record self.old { table = self.new.table } }
+        ensures refused { OnErr result (self.new ≡ self.old) }
+    {
+        match outcome {
+            Outcome::Applied => match op {
+                WriteOp::Insert { key, value: _ } => self.table.split(key, client),
+                WriteOp::Put { .. } => Ok(()),
+                WriteOp::Delete { key } => {
+                    self.table.merge(key);
+                    Ok(())
+                }
+            },
+            Outcome::Exists | Outcome::Absent | Outcome::NotHeld | Outcome::Full => Ok(()),
+        }
+    }
+
+    /// Answers a write, with what the client holds now on the slot of its key.
+    pub(crate) fn answer_write(
+        &mut self,
+        client: u64,
+        number: u64,
+        op: WriteOp,
+        outcome: Outcome,
+    ) -> Option<ToClient>
+        requires formed { IsFormed self.old }
+        requires client { client < 64 }
+        requires key { op_key op < END }
+        ensures server { meaning self.new ≡ (answers (meaning self.old) client number op outcome).server }
+        ensures outs { as_list result ≡ (answers (meaning self.old) client number op outcome).outs }
+        ensures formed { IsFormed self.new }
+    {
+        let point = Point::new(op.key()).unwrap();
+        let slot = self.table.slot_of(point);
+        let holding = self.holding(slot, client);
+        self.push(
+            client,
+            PushBody::Answer {
+                number,
+                outcome,
+                holding,
+            },
+        )
+    }
+}

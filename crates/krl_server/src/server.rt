@@ -1,0 +1,167 @@
+//! The server, as a host runs it.
+ghost use Rattle.std.specs.Prelude.{◌≡◌, ◌≤◌, ℕ, length, MatchResult, IfOk, OnErr};
+ghost use Rattle.krl_durable.specs.Registers.{missing_order};
+ghost use Rattle.krl_table.specs.Rows.{blank_row};
+ghost use Rattle.krl_table.specs.Kept.{rows_of, IsOver};
+ghost use Rattle.krl_server.specs.Servers.{phase_of};
+ghost use Rattle.krl_server.specs.Steps.{nudge, crash};
+ghost use Rattle.krl_server.specs.Ends.{most_messages};
+ghost use Rattle.krl_server.specs.States.{meaning};
+ghost use Rattle.krl_server.specs.Doing.{IsStarted, IsNotStarted, HasStepped};
+
+use crate::line::blank_lines;
+use crate::missing::Missing;
+use crate::out::ServerOut;
+use crate::phase::Phase;
+use crate::start_refused::{NotStarted, StartRefused};
+use crate::state::State;
+use krl_durable::Durable;
+use krl_messages::{Items, ToClient, ToServer};
+use krl_modes::END;
+use krl_table::Table;
+use std::alloc::{AllocError, Global};
+use std::marker::Model;
+
+/// A server between two steps.
+///
+/// Of every server holds, whoever sends it what: the table's slots are the keys of the index, and END; the modes of
+/// different clients on one slot go together; each waiter is a client's, stands in the queue of the slot of its point,
+/// and is the only one of its client; and while the server serves, no first waiter can be answered.
+#[derive(Drop)]
+pub struct Server {
+    state: State,
+}
+
+impl Model for Server {
+    ghost use Rattle.krl_server.specs.declared.state.State.{State};
+    ghost use Rattle.krl_server.specs.contracts.state.State as kept;
+    ghost use Rattle.krl_server.specs.Doing.{IsServer};
+
+    ghost Value = { State };
+
+    ghost coded = { kept.the_row.coded };
+
+    ghost view = { λ s. s.state };
+
+    ghost invariant = { λ s. IsServer s.state };
+}
+
+// What a start takes memory for.
+fn table_and_missing(alloc: Global, durable: &Durable) -> Result<(Table, Missing), AllocError>
+    ensures rows { IfOk result (λ parts. (n : ℕ) → rows_of parts.0 n ≡ blank_row) }
+    ensures slots { IfOk result (λ parts. IsOver durable.now.index parts.0) }
+    ensures missing { IfOk result (λ parts. parts.1 ≡ missing_order durable.now.register) }
+{
+    let clients = durable.missing_order(alloc)?;
+    let table = Table::build(alloc, durable)?;
+    Ok((table, Missing::new(clients)))
+}
+
+impl Server {
+    /// Starts a server on what survived: the epoch rises by one, nobody holds anything, and every client that is
+    /// registered and has not left is missing. Nothing else of what survived changes.
+    ///
+    /// # Errors
+    ///
+    /// `NotStarted`, with what survived unchanged: `Spent` where the epoch is END, else `OutOfMemory` where memory is
+    /// refused.
+    pub fn start(alloc: Global, durable: Durable) -> Result<Server, NotStarted>
+        ensures { MatchResult result (λ s. IsStarted durable (meaning s)) (IsNotStarted durable) }
+    {
+        if durable.epoch() >= END {
+            return Err(NotStarted {
+                refused: StartRefused::Spent,
+                durable,
+            });
+        }
+        match table_and_missing(alloc, &durable) {
+            Ok((table, missing)) => {
+                let mut durable = durable;
+                durable.raise();
+                Ok(Server {
+                    state: State {
+                        durable,
+                        table,
+                        lines: blank_lines(),
+                        missing,
+                    },
+                })
+            }
+            Err(_) => Err(NotStarted {
+                refused: StartRefused::OutOfMemory,
+                durable,
+            }),
+        }
+    }
+
+    /// Takes a message, whoever sent it.
+    ///
+    /// # Errors
+    ///
+    /// `AllocError` where memory is refused. Nothing has changed then, and nothing is sent.
+    pub fn step(&mut self, alloc: Global, message: &ToServer) -> Result<ServerOut, AllocError>
+        ensures stepped { IfOk result (λ out. HasStepped (meaning self.old) message.now (meaning self.new) out) }
+        ensures few { IfOk result (λ out. length out.messages ≤ most_messages) }
+        ensures refused { OnErr result (self.new ≡ self.old) }
+    {
+        self.state.step(alloc, message)
+    }
+
+    /// What is sent to move a client that seems stuck: while the server gathers, the epoch to a missing client; while
+    /// it serves, the client's push that is not acknowledged, or else the callbacks to those who block it where it waits
+    /// first; and nothing to any other. It changes nothing.
+    ///
+    /// # Errors
+    ///
+    /// `AllocError` where the list's memory is refused.
+    pub fn nudge(&self, alloc: Global, client: u64) -> Result<Items<ToClient>, AllocError>
+        ensures sent { IfOk result (λ outs. outs ≡ nudge (meaning self.now) client) }
+        ensures few { IfOk result (λ outs. length outs ≤ most_messages) }
+    {
+        self.state.nudge(alloc, client)
+    }
+
+    /// What survives a crash. It takes no memory.
+    pub fn crash(self) -> Durable
+        ensures { result ≡ crash (meaning self) }
+    {
+        let Server { state } = self;
+        let State {
+            durable,
+            table: _,
+            lines: _,
+            missing: _,
+        } = state;
+        durable
+    }
+
+    /// What would survive a crash. It takes no memory.
+    pub fn durable(&self) -> &Durable
+        ensures { result.now ≡ (meaning self.now).durable }
+    {
+        &self.state.durable
+    }
+
+    /// Whether the server gathers reports. It takes no memory.
+    pub fn phase(&self) -> Phase
+        ensures { result ≡ phase_of (meaning self.now).missing }
+    {
+        if self.state.missing.is_gathering() {
+            Phase::Gathering
+        } else {
+            Phase::Serving
+        }
+    }
+
+    /// The clients that are missing, in order of first registration.
+    ///
+    /// # Errors
+    ///
+    /// `AllocError` where the list's memory is refused.
+    pub fn missing(&self, alloc: Global) -> Result<Items<u64>, AllocError>
+        ensures { IfOk result (λ clients. clients ≡ (meaning self.now).missing) }
+    {
+        let clients = self.state.missing.to_vec(alloc)?;
+        Ok(Items::from(clients))
+    }
+}

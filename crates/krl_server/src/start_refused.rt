@@ -1,0 +1,20 @@
+//! Why a server does not start.
+use krl_durable::Durable;
+
+/// Why a server does not start.
+#[derive(Clone, Copy, PartialEq, Eq)]
+pub enum StartRefused {
+    /// The epoch is END: there is none for another start.
+    Spent,
+    /// Memory was refused.
+    OutOfMemory,
+}
+
+/// A server that did not start, and what it would have started on, unchanged.
+#[derive(Drop)]
+pub struct NotStarted {
+    /// Why.
+    pub refused: StartRefused,
+    /// What survives, as it was.
+    pub durable: Durable,
+}

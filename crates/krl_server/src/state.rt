@@ -1,0 +1,149 @@
+//! What a server keeps.
+ghost use Rattle.std.specs.Prelude.{◌≡◌, ◌<◌, ℕ, IsSome, set};
+ghost use Rattle.std.specs.FinMap as map;
+ghost use Rattle.krl_modes.specs.Modes.{key_of};
+ghost use Rattle.krl_server.specs.Servers.{incarnation_of, unlist};
+ghost use Rattle.krl_server.specs.States.{meaning, lines_of, IsFormed};
+ghost use Rattle.krl_server.specs.Outboxes.{as_list};
+ghost use Rattle.krl_server.specs.Effects.{out_to, epoch_to, push_to, callback_to, shown, holding, heard, pushes};
+
+use crate::line::Line;
+use crate::missing::Missing;
+use krl_durable::Durable;
+use krl_messages::{Holding, PushBody, ToClient, ToClientBody};
+use krl_modes::{END, KeyPart, Mode, Span};
+use krl_table::Table;
+
+/// What a server keeps, as it also is while a message is worked on.
+#[derive(Drop)]
+pub struct State {
+    /// What survives a restart.
+    pub(crate) durable: Durable,
+    /// Who holds which mode on which slot, and who waits there.
+    pub(crate) table: Table,
+    /// What was pushed and asked, by client.
+    pub(crate) lines: [Line; 64],
+    /// Who has not reported.
+    pub(crate) missing: Missing,
+}
+
+/// A value goes with a key part that reads it.
+fn shown(part: KeyPart, value: Option<u64>) -> Option<u64>
+    ensures { result ≡ shown part value }
+{
+    match part {
+        KeyPart::N => None,
+        KeyPart::S | KeyPart::U | KeyPart::X => value,
+    }
+}
+
+impl State {
+    /// The client's line.
+    pub(crate) fn line(&self, client: u64) -> Line
+        requires formed { IsFormed self.now }
+        requires client { client < 64 }
+        ensures { result ≡ lines_of self.now.lines client }
+    {
+        self.lines[client as usize]
+    }
+
+    /// A message to the client's registered incarnation.
+    pub(crate) fn out_to(&self, client: u64, body: ToClientBody) -> ToClient
+        ensures { result ≡ out_to (meaning self.now) client body }
+    {
+        let incarnation = match self.durable.record(client) {
+            Some(record) => record.incarnation,
+            None => 0,
+        };
+        ToClient {
+            client,
+            incarnation,
+            body,
+        }
+    }
+
+    /// Tells the client the epoch.
+    pub(crate) fn epoch_to(&self, client: u64) -> ToClient
+        ensures { result ≡ epoch_to (meaning self.now) client }
+    {
+        let epoch = self.durable.epoch();
+        self.out_to(client, ToClientBody::Epoch { epoch })
+    }
+
+    /// The push of this number.
+    pub(crate) fn push_to(&self, client: u64, number: u64, body: &PushBody) -> ToClient
+        ensures { result ≡ push_to (meaning self.now) client number body.now }
+    {
+        let epoch = self.durable.epoch();
+        self.out_to(
+            client,
+            ToClientBody::Push {
+                epoch,
+                number,
+                body: *body,
+            },
+        )
+    }
+
+    /// Asks the client to keep no more than this mode on the span.
+    pub(crate) fn callback_to(&self, client: u64, span: Span, keep: Mode) -> ToClient
+        ensures { result ≡ callback_to (meaning self.now) client span keep }
+    {
+        let epoch = self.durable.epoch();
+        self.out_to(client, ToClientBody::Callback { epoch, span, keep })
+    }
+
+    /// What the client holds on the slot.
+    pub(crate) fn holding(&self, slot: u64, client: u64) -> Holding
+        requires formed { IsFormed self.now }
+        requires there { IsSome (map.get self.now.table slot) }
+        requires client { client < 64 }
+        ensures { result ≡ holding (meaning self.now) slot client }
+    {
+        let mode = self.table.mode(slot, client);
+        let (_, key) = mode.parts();
+        Holding {
+            span: self.table.span(slot),
+            mode,
+            value: shown(key, self.durable.get(slot)),
+        }
+    }
+
+    /// The client's last push counts as acknowledged.
+    pub(crate) fn hear(&mut self, client: u64)
+        requires formed { IsFormed self.old }
+        requires client { client < 64 }
+        ensures heard { meaning self.new ≡ heard (meaning self.old) client }
+        ensures rest { self.new ≡ record self.old { lines = self.new.lines } }
+        ensures formed { IsFormed self.new }
+    {
+        let line = self.line(client);
+        self.lines[client as usize] = Line {
+            unheard: None,
+            ..line
+        };
+    }
+
+    /// The next push to the client. Where its number is spent none is made.
+    pub(crate) fn push(&mut self, client: u64, body: PushBody) -> Option<ToClient>
+        requires formed { IsFormed self.old }
+        requires client { client < 64 }
+        ensures server { meaning self.new ≡ (pushes (meaning self.old) client body).server }
+        ensures outs { as_list result ≡ (pushes (meaning self.old) client body).outs }
+        ensures rest { self.new ≡ record self.old { lines = self.new.lines } }
+        ensures formed { IsFormed self.new }
+    {
+        let line = self.line(client);
+        if line.pushed >= END {
+            return None;
+        }
+        let number = line.pushed + 1;
+        let message = self.push_to(client, number, &body);
+        self.lines[client as usize] = Line {
+            pushed: number,
+            unheard: Some(body),
+            ..line
+        };
+        Some(message)
+    }
+}
