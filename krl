@@ -46,7 +46,7 @@ is_stale() {
 
 if [ ! -x "$program" ] || is_stale; then
     need_rt "the program is not built from its sources as they stand"
-    echo "krl: proving and building the program: about 11 minutes of a processor the first time, less after an edit" >&2
+    echo "krl: proving and building the program: up to half an hour on four processors the first time, less after an edit" >&2
     # A script of no lines writes nothing, so the run that rt makes after the build can't be seen.
     (cd "$crate" && rt run -- script </dev/null >&2) || {
         echo "krl: the program is not built; the lines above say why" >&2

@@ -13,8 +13,11 @@ hold 1 10
 scan 0 0 11
 scan 1 0 11
 scan 1 10 11
-# An insert below 10 would change what client 0 has read, so client 1 has to wait.
+# An insert below 10 would change what client 0 has read, so client 0 is called back: it gives up the
+# gap, and keeps the entry.
 lock 1 5 RangeI-N
 settle
 hold 1 5
-lock 1 20 S
+hold 0 5
+hold 0 10
+scan 0 0 11

@@ -3,7 +3,7 @@
 #
 #   bench/script/run.sh [PROGRAM]   the program that ./krl builds, or another; needs cc and bash; about a minute
 #
-# twin.c is written from docs/PROTOCOL.md alone. Each text has 10,000 lines:
+# twin.c knows the words of these texts alone, and judges a lock at once, with no messages. Each text has 10,000 lines:
 #
 #   scans     one client that knows all of 52 entries scans them, line by line
 #   clients   64 clients lock the four slots of an index, settle and scan in turn

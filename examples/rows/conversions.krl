@@ -1,5 +1,5 @@
-# Two clients insert into one gap. One of them converts to RangeI-X on the entry; the other then can't read it, and
-# waits. Where there is no entry to update, the client is told so.
+# Two clients insert into one gap. One of them converts to RangeI-X on the entry; when the other asks to
+# read it, the first is called back to RangeI-U. Where there is no entry to update, the client is told so.
 seed 10=1
 client 0
 client 1
@@ -9,6 +9,7 @@ lock 1 5 RangeI-N
 settle
 lock 0 10 X
 settle
+hold 0 10
 lock 1 10 S
 settle
 lock 0 11 U
@@ -17,4 +18,4 @@ hold 0 10
 hold 1 10
 scan 0 0 11
 scan 0 10 11
-lock 1 10 S
+status 0

@@ -31,6 +31,8 @@ fn for_syntax(what: SyntaxFault) -> &'static str {
             "write one of N, S, U, X, RangeS-S, RangeS-U, RangeI-N, RangeI-S, RangeI-U, RangeI-X, \
              RangeX-S, RangeX-U, RangeX-X"
         }
-        SyntaxFault::LateSeed => "'seed' stands once, before every other word but 'modes'",
+        SyntaxFault::LateSeed => {
+            "'seed' or 'fill' stands once, before every other word but 'modes'"
+        }
     }
 }

@@ -13,6 +13,7 @@ mod commands;
 mod hears;
 pub mod laws;
 mod pins;
+mod refusals;
 mod refused;
 mod scan_answer;
 mod sends;

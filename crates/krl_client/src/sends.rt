@@ -18,7 +18,7 @@ use std::alloc::AllocError;
 
 impl Client {
     // Why it refuses to ask for a lock at the point.
-    fn lock_refusal(&self, point: u64) -> Option<CommandRefused>
+    pub(crate) fn lock_refusal(&self, point: u64) -> Option<CommandRefused>
         ensures { result ≡ commands.lock_refusal (meaning self.now) point }
     {
         if point > END {
@@ -84,7 +84,7 @@ impl Client {
     }
 
     // Why it refuses to write.
-    fn write_refusal(&self, change: WriteOp) -> Option<CommandRefused>
+    pub(crate) fn write_refusal(&self, change: WriteOp) -> Option<CommandRefused>
         ensures { result ≡ commands.write_refusal (meaning self.now) change }
     {
         if change.key() >= END {
@@ -141,7 +141,7 @@ impl Client {
     }
 
     // Why it refuses to forget the span.
-    fn forget_refusal(&self, span: Span) -> Option<CommandRefused>
+    pub(crate) fn forget_refusal(&self, span: Span) -> Option<CommandRefused>
         ensures { result ≡ commands.forget_refusal (meaning self.now) span }
     {
         if !self.has_joined() {

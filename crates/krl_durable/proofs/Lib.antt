@@ -7,3 +7,4 @@ pub mod Kept
 pub mod Openings
 pub mod Judged
 pub mod SlotLaws
+pub mod Registered

@@ -6,7 +6,7 @@ use Rattle.std.specs.Map.{lookup, set_value}
 use Rattle.indexmap.specs.IndexMap.{insert_entry}
 use borrow.Author.Tests.{eqb-true}
 use Rattle.krl_durable.specs.declared.record.Record.{Record}
-use Rattle.krl_durable.specs.Registers.{Register, record_of, with_record, missing_order, HasOutcomes, HasLasts}
+use Rattle.krl_durable.specs.Registers.{Register, record_of, with_record, missing_order, HasOutcomes, HasLasts, HasIncarnations}
 use Rattle.krl_durable.specs.Kept.{IsRow, IsRecord, missing_of}
 
 -- a look-up finds the client's record
@@ -65,6 +65,9 @@ outcomes_seen es h c r found = (records_seen es c r h found).0
 
 pub lasts_seen : (es : Register) → AllByRecursion IsRow es → HasLasts es
 lasts_seen es h c r found = (records_seen es c r h found).1
+
+pub incarnations_seen : (es : Register) → AllByRecursion IsRow es → HasIncarnations es
+incarnations_seen es h c r found = (records_seen es c r h found).2
 
 -- so has the one of each client that has one
 pub record_kept : (es : Register) (c : ℕ) (found : Option Record) → AllByRecursion IsRow es → found ≡ record_of es c → IfSome found IsRecord

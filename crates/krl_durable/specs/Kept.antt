@@ -8,7 +8,7 @@ use Rattle.std.specs.FinMap.Entries.{is_sorted}
 use Rattle.krl_modes.specs.declared.point.TheConstants.{END}
 use Rattle.krl_messages.specs.Values.{Value}
 use Rattle.krl_durable.specs.declared.record.Record.{Record}
-use Rattle.krl_durable.specs.Registers.{Durable, HasOutcomes, HasLasts}
+use Rattle.krl_durable.specs.Registers.{Durable, IsIncarnation, HasIncarnations, HasOutcomes, HasLasts}
 use Rattle.krl_durable.specs.Writes.{most_entries}
 
 abbrev pub AreBelowEnd : List (ℕ × Value) → Type 0
@@ -25,9 +25,9 @@ pub record IsEntries (es : List (ℕ × Value)) (capacity : ℕ) : Type 0 where
 abbrev pub HasOutcome : Record → Type 0
 HasOutcome r = is_some r.outcome ≡ not (nat_eq r.last 0)
 
--- it has an outcome where it should, and its last number is one
+-- it has an outcome where it should, its last number is one, and so is its incarnation
 abbrev pub IsRecord : Record → Type 0
-IsRecord r = HasOutcome r × (r.last ≤ END)
+IsRecord r = HasOutcome r × (r.last ≤ END) × IsIncarnation r.incarnation
 
 -- a client's number, and its record
 abbrev pub IsRow : ℕ × Record → Type 0
@@ -38,8 +38,8 @@ abbrev pub missing_of : ℕ × Record → Option ℕ
 missing_of e = if e.1.left then None else Some e.0
 
 -- What holds of all that survives: the keys are below END, and no more than the greatest number; the
--- epoch is at most END; the clients are below 64, each once, with outcomes where a write was judged, and
--- with last numbers of at most END.
+-- epoch is at most END; the clients are below 64, each once, with outcomes where a write was judged,
+-- with last numbers of at most END, and with incarnations from 1 to END.
 pub record IsKept (d : Durable) : Type 0 where
   pub keys : AreBelowEnd (map.entries d.index)
   pub few : length (map.entries d.index) ≤ most_entries
@@ -48,3 +48,4 @@ pub record IsKept (d : Durable) : Type 0 where
   pub once : IsDistinct nat_eq (keys_of d.register)
   pub outcomes : HasOutcomes d.register
   pub lasts : HasLasts d.register
+  pub incarnations : HasIncarnations d.register

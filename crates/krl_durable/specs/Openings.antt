@@ -6,7 +6,7 @@ use Rattle.krl_messages.specs.Values.{Value}
 use Rattle.krl_durable.specs.declared.refused.Refused.{Refused}
 use Rattle.krl_durable.specs.declared.refused.Refused.TheVariants as refused
 use Rattle.krl_durable.specs.Index.{has_key}
-use Rattle.krl_durable.specs.Registers.{Durable}
+use Rattle.krl_durable.specs.Registers.{Register, Durable}
 use Rattle.krl_durable.specs.Writes.{most_entries}
 
 -- the key of an entry, by its place
@@ -42,6 +42,10 @@ refused_name refused.BadKey = codes "BadKey"
 refused_name refused.Twice = codes "Twice"
 refused_name refused.Full = codes "Full"
 
+-- just these parts
+abbrev pub of_parts : List (ℕ × Value) → ℕ → Register → Durable
+of_parts es epoch register = record { index = map.from_entries es; epoch = epoch; register = register }
+
 -- nothing has happened to these entries
 abbrev pub fresh : List (ℕ × Value) → Durable
-fresh es = record { index = map.from_entries es; epoch = 0; register = [] }
+fresh es = of_parts es 0 []

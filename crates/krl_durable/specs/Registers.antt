@@ -49,6 +49,15 @@ departed d c = left_by d c (record_of d.register c)
 abbrev pub HasLasts : Register → Type 0
 HasLasts register = (c : ℕ) (r : Record) → record_of register c ≡ Some r → r.last ≤ END
 
+-- an incarnation: a number from 1 to END
+abbrev pub IsIncarnation : ℕ → Type 0
+IsIncarnation n = (1 ≤ n) × (n ≤ END)
+
+-- each client registered with an incarnation
+abbrev pub HasIncarnations : Register → Type 0
+HasIncarnations register =
+    (c : ℕ) (r : Record) → record_of register c ≡ Some r → IsIncarnation r.incarnation
+
 -- there is an outcome exactly where a write was judged
 abbrev pub HasOutcomes : Register → Type 0
 HasOutcomes register =

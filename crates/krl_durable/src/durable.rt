@@ -1,11 +1,15 @@
 //! What survives a restart, as its callers see it.
-ghost use Rattle.std.specs.Prelude.{◌≡◌, ◌≤◌, ◌<◌, suc, length, IsSome, IsSomeAnd, OnOk, OnErr, MatchResult, IfOk};
+ghost use Rattle.std.specs.Prelude.{◌≡◌, ◌≤◌, ◌<◌, suc, nat_eq, length, IsSome, IsSomeAnd, OnOk};
+ghost use Rattle.std.specs.Prelude.{OnErr, MatchResult, IfOk};
+ghost use Rattle.std.specs.List.{AllByRecursion, IsDistinct};
+ghost use Rattle.std.specs.Map.{keys_of};
 ghost use Rattle.std.specs.FinMap as map;
 ghost use Rattle.krl_modes.specs.declared.point.TheConstants.{END};
 ghost use Rattle.krl_durable.specs.Index.{slot_of, span_of, IsSlotOf, IsSpanOf};
 ghost use Rattle.krl_durable.specs.Registers.{record_of, missing_order, registered, departed};
-ghost use Rattle.krl_durable.specs.Kept.{IsKept};
-ghost use Rattle.krl_durable.specs.Openings.{AreGood, Refuses, fresh};
+ghost use Rattle.krl_durable.specs.Registers.{IsIncarnation};
+ghost use Rattle.krl_durable.specs.Kept.{IsKept, IsRow};
+ghost use Rattle.krl_durable.specs.Openings.{AreGood, Refuses, of_parts, fresh};
 ghost use Rattle.krl_messages.specs.Writes.{op_key};
 ghost use Rattle.krl_durable.specs.Writes.{most_entries, judge, applied};
 
@@ -37,7 +41,8 @@ impl Model for Durable {
 
     ghost Value = { Kept };
 
-    ghost coded = { Prim.hlevel (codes, map.code {R = nat_cmp} coded_ℕ coded_ℕ, record_contract.the_row.coded) };
+    ghost coded = { Prim.hlevel
+        (codes, map.code {R = nat_cmp} coded_ℕ coded_ℕ, record_contract.the_row.coded) };
 
     ghost view = { λ d. record { index = d.index; epoch = d.epoch; register = d.register } };
 
@@ -45,13 +50,13 @@ impl Model for Durable {
 }
 
 impl Durable {
-    /// These entries, in any order, at epoch 0. Nobody is registered. There is room for 65,536 entries
-    /// from the start, so that no later write takes memory.
+    /// These entries, in any order, at epoch 0. Nobody is registered. There is room for 65,536
+    /// entries from the start, so that no later write takes memory.
     ///
     /// # Errors
     ///
-    /// `Full` above 65,536 entries; else the first bad entry in order, by `BadKey` where its key is END
-    /// or more, or by `Twice` where its key stands before; and `OutOfMemory` at any point.
+    /// `Full` above 65,536 entries; else the first bad entry in order, by `BadKey` where its key is
+    /// END or more, or by `Twice` where its key stands before; and `OutOfMemory` at any point.
     pub fn new(alloc: Global, entries: &[(u64, Value)]) -> Result<Durable, Refused>
         ensures { MatchResult result
             (λ d. (length entries.now ≤ most_entries) × AreGood entries.now (length entries.now)
@@ -63,6 +68,41 @@ impl Durable {
             index,
             epoch: 0,
             register: Register::new(alloc),
+        })
+    }
+
+    /// What was kept elsewhere: these entries, in any order, at this epoch, and these records of
+    /// clients, in order of first registration. There is room for 65,536 entries from the start, so
+    /// that no later write takes memory.
+    ///
+    /// Clients are below 64, with one record each; an incarnation is from 1 to END, `last` at most
+    /// END, and the outcome None exactly where `last` is 0.
+    ///
+    /// # Errors
+    ///
+    /// As of `new`: `Full` above 65,536 entries; else the first bad entry in order, by `BadKey`
+    /// where its key is END or more, or by `Twice` where its key stands before; and `OutOfMemory`
+    /// at any point.
+    pub fn from_parts(
+        alloc: Global,
+        entries: &[(u64, Value)],
+        epoch: u64,
+        records: &[(u64, Record)],
+    ) -> Result<Durable, Refused>
+        requires epoch { epoch ≤ END }
+        requires each { AllByRecursion IsRow records.now }
+        requires once { IsDistinct nat_eq (keys_of records.now) }
+        ensures { MatchResult result
+            (λ d. (length entries.now ≤ most_entries) × AreGood entries.now (length entries.now)
+            × (d ≡ of_parts entries.now epoch records.now))
+            (Refuses entries.now) }
+    {
+        let index = Index::new(alloc, entries)?;
+        let register = Register::from_records(alloc, records)?;
+        Ok(Durable {
+            index,
+            epoch,
+            register,
         })
     }
 
@@ -123,13 +163,15 @@ impl Durable {
     }
 
     /// Registers the client with this incarnation: it has not left, and no write of it has been
-    /// judged. A client that is registered already keeps its place in the order.
+    /// judged. A client that is registered already keeps its place in the order. An incarnation is
+    /// from 1 to END.
     ///
     /// # Errors
     ///
     /// `AllocError` where memory for a new client is refused. Nothing has changed then.
     pub fn register(&mut self, c: u64, incarnation: u64) -> Result<(), AllocError>
-        requires { c < 64 }
+        requires client { c < 64 }
+        requires incarnation { IsIncarnation incarnation }
         ensures ok { OnOk result (self.new ≡ registered self.old c incarnation) }
         ensures err { OnErr result (self.new ≡ self.old) }
     {
@@ -175,7 +217,8 @@ impl Durable {
     }
 
     /// Judges the next write of a registered client, performs it exactly where it is `Applied`, and
-    /// notes its number and outcome, all at once. It takes no memory. The rule is this project's own.
+    /// notes its number and outcome, all at once. It takes no memory. The rule is this project's
+    /// own.
     pub fn apply(&mut self, c: u64, op: WriteOp, held: bool) -> Outcome
         requires key { op_key op < END }
         requires unspent { IsSomeAnd (record_of self.old.register c) (λ r. r.last < END) }

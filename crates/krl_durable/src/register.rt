@@ -56,6 +56,23 @@ impl Register {
         }
     }
 
+    /// These records, in this order.
+    ///
+    /// # Errors
+    ///
+    /// `AllocError` where memory is refused.
+    pub fn from_records(alloc: Global, records: &[(u64, Record)]) -> Result<Register, AllocError>
+        requires each { AllByRecursion IsRow records.now }
+        requires once { IsDistinct nat_eq (keys_of records.now) }
+        ensures { IfOk result (λ register. register ≡ records.now) }
+    {
+        let mut register = Register::new(alloc);
+        for (c, row) in records {
+            register.set(*c, *row)?;
+        }
+        Ok(register)
+    }
+
     /// The client's record.
     pub fn get(&self, c: u64) -> Option<Record>
         ensures found { result ≡ record_of self.now c }

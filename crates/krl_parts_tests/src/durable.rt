@@ -1,5 +1,6 @@
-//! What survives a restart: which entries are refused, writes, registration. A call that is refused for want of memory is
-//! made again, after a look that nothing has changed, so that each run ends alike, whichever one allocation fails.
+//! What survives a restart: which entries are refused, writes, registration. A call that is refused
+//! for want of memory is made again, after a look that nothing has changed, so that each run ends
+//! alike, whichever one allocation fails.
 use krl_durable::{Durable, Record, Refused};
 use krl_messages::{Outcome, Value, WriteOp};
 use krl_modes::END;
@@ -78,9 +79,10 @@ fn large_index_sorts_falling_entries(rt: HostRuntime) -> Result<(), Fail> {
     Ok(())
 }
 
-// Whether the client registers with this incarnation, at once or after a refusal that changed nothing.
+// Whether the client registers with this incarnation, at once or after a refusal that changed
+// nothing.
 fn registers(durable: &mut Durable, c: u64, incarnation: u64) -> bool {
-    if c >= 64 {
+    if c >= 64 || incarnation == 0 || incarnation > END {
         return false;
     }
     let before = durable.record(c);
@@ -181,5 +183,65 @@ fn keeps_the_order_of_first_registration(rt: HostRuntime) -> Result<(), Fail> {
     assert!(rt; durable.epoch() == 0);
     durable.raise();
     assert!(rt; durable.epoch() == 1);
+    Ok(())
+}
+
+// Two clients, of which the later one has left after its fourth write.
+static RECORDS: [(u64, Record); 2] = [
+    (
+        5,
+        Record {
+            incarnation: 1,
+            left: false,
+            last: 0,
+            outcome: None,
+        },
+    ),
+    (
+        2,
+        Record {
+            incarnation: 3,
+            left: true,
+            last: 4,
+            outcome: Some(Outcome::Applied),
+        },
+    ),
+];
+
+// A durable part of these entries and those two clients, at epoch 7.
+fn brought(alloc: Global, entries: &[(u64, Value)]) -> Result<Durable, Refused> {
+    match Durable::from_parts(alloc, entries, 7, &RECORDS) {
+        Err(Refused::OutOfMemory) => Durable::from_parts(alloc, entries, 7, &RECORDS),
+        made => made,
+    }
+}
+
+#[test]
+fn holds_the_parts_that_it_is_made_of(rt: HostRuntime) -> Result<(), Fail> {
+    let mut durable = brought(rt.alloc(), &[(20, 2), (10, 1)])?;
+    assert!(rt; durable.epoch() == 7);
+    assert!(rt; durable.entries() == [(10, 1), (20, 2)].as_slice());
+    assert!(rt; missing(&durable, rt.alloc())?.as_slice() == [5].as_slice());
+    for (c, record) in &RECORDS {
+        assert!(rt; durable.record(*c) == Some(*record));
+    }
+    assert!(rt; durable.record(3).is_none());
+    let more = WriteOp::Insert { key: 15, value: 5 };
+    assert!(rt; writes(&mut durable, 2, more, true, Outcome::Applied));
+    Ok(())
+}
+
+#[test]
+fn refuses_bad_entries_of_other_parts(rt: HostRuntime) -> Result<(), Fail> {
+    let bad = match brought(rt.alloc(), &[(END, 0), (2, 0), (2, 0)]) {
+        Ok(_) => false,
+        Err(refused) => refused == Refused::BadKey,
+    };
+    assert!(rt; bad);
+    let twice = match brought(rt.alloc(), &[(2, 0), (2, 0), (END, 0)]) {
+        Ok(_) => false,
+        Err(refused) => refused == Refused::Twice,
+    };
+    assert!(rt; twice);
     Ok(())
 }

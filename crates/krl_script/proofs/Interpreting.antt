@@ -1,89 +1,102 @@
 -- What each request prints, from what its parts did.
-use Rattle.std.proofs.Common.{◌≡◌, ℕ, ◌+◌, ◌++◌, length, drop, ◌≤◌, ◌<◌, Bool, true, false, nat_lt, List, [], ◌∷◌, Result, Ok, Err, refl, sym, ap, subst, ◌∙◌, arith, inl, inr, add-one}
-use Rattle.std.proofs.lemmas.Bool.Decides.{nat_tests}
-use Rattle.std.specs.Prelude.{IfOk, ◌≢◌, slice_index_or}
-use Rattle.krl_world.specs.States.{State}
-use Rattle.krl_world.specs.Steps.{Steps}
-use Rattle.krl_world.specs.declared.step.Step.{Step}
-use Rattle.krl_world.specs.declared.step.Step.TheVariants as step
-use Rattle.krl_world.specs.declared.answer.Answer.{Answer}
+use Rattle.std.proofs.Common.{◌≡◌, ℕ, zero, suc, ◌+◌, ◌≤◌, ◌<◌, true, false, length, List, [], ◌∷◌, Option, Result, Ok, Err, refl, sym, ap, subst, ◌∙◌, arith, inl, inr, add-one, length-append}
+use Rattle.std.specs.Prelude.{IfOk, OnOk, is_ok, is_some, slice_get, ◌≢◌}
+use Rattle.krl_durable.specs.Writes.{most_entries}
+use Rattle.krl_durable.specs.declared.refused.Refused.TheVariants as index
 use Rattle.krl_world.specs.declared.refused.Refused.{Refused}
-use Rattle.krl_script.specs.Limits.{most_deliveries}
+use Rattle.krl_world.specs.declared.refused.Refused.TheVariants as refused
 use Rattle.krl_script.specs.declared.delivery.Delivery.{Delivery}
 use Rattle.krl_script.specs.declared.delivery.Delivery.TheVariants as delivery
-use Rattle.krl_script.specs.Printing.{outcome_lines, refused_line, unsettled_line}
-use Rattle.krl_script.specs.Transcripts.{Stage, new_numbers, after_step, Acts, DeliversOldest, RefusesOldest, Tries, DeliversMany, Ends, Settles}
+use Rattle.krl_world.specs.declared.answer.Answer.{Answer}
+use Rattle.krl_world.specs.States.{fresh, sent_count}
+use Rattle.krl_world.specs.Fields as world
+use Rattle.krl_script.specs.Fields.{Fields, meaning}
+use Rattle.krl_script.specs.Waiting.{Waits, sent_to, without}
+use Rattle.krl_script.specs.Printing.{refused_line}
+use Rattle.krl_script.specs.Transcripts.{Stage, counted, waits_after, Tries, DeliversMany, Ends, Settles, filled, Seeds}
 
 -- a fact about an `Ok`, from another
 pub on_ok : {A E : Type 0} (P Q : A → Type 0) → ((x : A) → P x → Q x) → (r : Result A E) → IfOk r P → IfOk r Q
 on_ok P Q f (Ok x) h = f x h
 on_ok P Q f (Err e) h = h
 
-pub acts : (s s' : Stage) (what : Step) (r : Result Answer Refused) (out : List ℕ) → (w : State) × Steps s.world what r w × (s' ≡ after_step s.world s.waiting w) → out ≡ outcome_lines r → Acts s what out s'
-acts s s' what r out h e = record { outcome = r; world = h.0; steps = h.1; prints = e; leaves = h.2 }
+-- all that a world sent is counted
+sent_is : (w : world.Fields) → length w.sent ≡ sent_count (world.meaning w)
+unfolding sent_count
+sent_is w = refl
+
+-- the stage of a world once something was asked of it
+abbrev stage_of : world.Fields → Waits → Stage
+stage_of w waits = record { begun = true; world = world.meaning w; waits = waits }
+
+pub counted_on : {A E : Type 0} (w : world.Fields) (waits after : Waits) (sent : ℕ) (r : Result A E) → sent ≡ length w.sent → OnOk r (after ≡ sent_to waits sent) → IfOk r (λ done. stage_of w after ≡ counted (world.meaning w) waits)
+counted_on w waits after sent (Ok done) e h =
+    let all : after ≡ sent_to waits (sent_count (world.meaning w)) = h ∙ ap (λ (n : ℕ). sent_to waits n) (e ∙ sent_is w) in
+    ap (λ (x : Waits). stage_of w x) all
+counted_on w waits after sent (Err x) e h = tt
+
+-- which messages wait after a delivery
+pub waits_delivered : (outcome : Result Answer Refused) (number : ℕ) (waits : Waits) → is_ok outcome ≡ true → without waits number ≡ waits_after outcome number waits
+waits_delivered (Ok answer) number waits e = refl
+waits_delivered (Err r) number waits e = absurd (let bad : false ≡ true = e in cc)
+
+pub waits_refused : (outcome : Result Answer Refused) (number : ℕ) (waits : Waits) → is_ok outcome ≡ false → waits ≡ waits_after outcome number waits
+waits_refused (Ok answer) number waits e = absurd (let bad : true ≡ false = e in cc)
+waits_refused (Err r) number waits e = refl
+
+-- there is an entry for each number
+length_filled : (n : ℕ) → length (filled n) ≡ n
+length_filled zero = refl
+length_filled (suc n) = omega (arith, length-append (filled n) ((n, n) ∷ []), length_filled n)
+
+-- more than there may be are refused
+pub fill_refused : (s s' : Stage) (n : ℕ) (out : List ℕ) → 65536 < n → out ≡ refused_line refused.Full → s' ≡ record s { begun = true; world = fresh [] } → Seeds s (filled n) out s'
+unfolding most_entries
+fill_refused s s' n out l line leaves =
+    let many : most_entries < length (filled n) = omega (arith, length_filled n, l) in
+    inr (refused.Full, record { due = (index.Full, many, refl); has_memory = λ e. absurd (let other : refused.Full ≡ refused.OutOfMemory = e in cc); prints = line; leaves = leaves })
 
 -- the beginning of a settling, and how it ends
-pub settles : (s mid s' : Stage) (n : ℕ) (out : List ℕ) → n ≤ most_deliveries → DeliversMany n (record s { begun = true }) mid → Ends n mid out s' → Settles s out s'
-settles s mid s' n out l many ends = record { count = n; last = mid; bounded = l; delivers = many; ends = ends }
+pub settles : (most : ℕ) (text : List ℕ) (s mid s' : Stage) (n : ℕ) (out : List ℕ) → n ≤ most → DeliversMany n (record s { begun = true }) mid → Ends most text n mid out s' → Settles most text s out s'
+settles most text s mid s' n out l many ends = record { count = n; last = mid; bounded = l; delivers = many; ends = ends }
 
-pub settles_idle : (s mid s' : Stage) (n : ℕ) (out : List ℕ) (d : Delivery) → n < most_deliveries → DeliversMany n (record s { begun = true }) mid → Tries mid d s' → d ≡ delivery.Idle → out ≡ [] → Settles s out s'
-settles_idle s mid s' n out d l many tried is none =
+pub settles_idle : (most : ℕ) (text : List ℕ) (s mid s' : Stage) (n : ℕ) (out : List ℕ) (d : Delivery) → n < most → DeliversMany n (record s { begun = true }) mid → Tries mid d s' → d ≡ delivery.Idle → out ≡ [] → Settles most text s out s'
+settles_idle most text s mid s' n out d l many tried is none =
     let idle : Tries mid delivery.Idle s' = subst (λ (x : Delivery). Tries mid x s') is tried in
-    settles s mid s' n out (omega arith) many (inl (idle.0, none, idle.1))
+    settles most text s mid s' n out (omega arith) many (inl (idle.0, none, idle.1))
 
-pub settles_refused : (s mid s' : Stage) (n : ℕ) (out : List ℕ) (d : Delivery) (r : Refused) → n < most_deliveries → DeliversMany n (record s { begun = true }) mid → Tries mid d s' → d ≡ delivery.Refused r → out ≡ refused_line r → Settles s out s'
-settles_refused s mid s' n out d r l many tried is line =
+pub settles_refused : (most : ℕ) (text : List ℕ) (s mid s' : Stage) (n : ℕ) (out : List ℕ) (d : Delivery) (r : Refused) → n < most → DeliversMany n (record s { begun = true }) mid → Tries mid d s' → d ≡ delivery.Refused r → out ≡ refused_line r → Settles most text s out s'
+settles_refused most text s mid s' n out d r l many tried is line =
     let refuses : Tries mid (delivery.Refused r) s' = subst (λ (x : Delivery). Tries mid x s') is tried in
-    settles s mid s' n out (omega arith) many (inr (inr (l, (r, refuses, line))))
+    settles most text s mid s' n out (omega arith) many (inr (inr (l, (r, refuses, line))))
 
 pub delivers_more : (s mid s' : Stage) (n : ℕ) (d : Delivery) → DeliversMany n s mid → Tries mid d s' → d ≡ delivery.Delivered → DeliversMany (n + 1) s s'
 delivers_more s mid s' n d many tried is =
     let one : Tries mid delivery.Delivered s' = subst (λ (x : Delivery). Tries mid x s') is tried in
     rw (add-one n) (mid, many, one)
 
+-- the oldest that waits tells whether one does
+none_waits : (oldest : Option ℕ) (xs : List ℕ) → oldest ≡ slice_get xs 0 → is_some oldest ≡ false → xs ≡ []
+none_waits oldest [] e is = refl
+none_waits oldest (x ∷ xs) e is = absurd (let bad : true ≡ false = sym (ap is_some e) ∙ is in cc)
+
+some_waits : (oldest : Option ℕ) (xs : List ℕ) → oldest ≡ slice_get xs 0 → is_some oldest ≡ true → xs ≢ []
+some_waits oldest [] e is = absurd (let bad : false ≡ true = sym (ap is_some e) ∙ is in cc)
+some_waits oldest (x ∷ xs) e is = λ nil. let bad : x ∷ xs ≡ [] = nil in cc
+
+-- looking for the oldest changes nothing
+looked : (i j : Fields) (after : Waits) → i ≡ j → after ≡ i.waits → meaning j ≡ meaning (record i { waits = after })
+looked i j after is same = ap meaning (sym is) ∙ ap (λ (w : Waits). meaning (record i { waits = w })) (sym same)
+
 -- no message waits at the bound, or one does
-pub settles_at_bound : (s mid : Stage) (n : ℕ) (out : List ℕ) → n ≡ most_deliveries → DeliversMany n (record s { begun = true }) mid → mid.waiting ≡ [] → out ≡ [] → Settles s out mid
-settles_at_bound s mid n out e many none line = settles s mid mid n out (omega arith) many (inl (none, line, refl))
+pub settles_at_bound : (most : ℕ) (text : List ℕ) (s : Stage) (i j : Fields) (after : Waits) (n : ℕ) (out : List ℕ) (oldest : Option ℕ) → i ≡ j → after ≡ i.waits → n ≡ most → DeliversMany n (record s { begun = true }) (meaning j) → oldest ≡ slice_get i.waits.waiting 0 → is_some oldest ≡ false → out ≡ [] → Settles most text s out (meaning (record i { waits = after }))
+settles_at_bound most text s i j after n out oldest is same e many first none line =
+    let last : Stage = meaning (record i { waits = after }) in
+    settles most text s last last n out (omega (arith, e)) (subst (λ (m : Stage). DeliversMany n (record s { begun = true }) m) (looked i j after is same) many)
+    (inl (none_waits oldest after.waiting (first ∙ ap (λ (w : Waits). slice_get w.waiting 0) (sym same)) none, line, refl))
 
-pub settles_unsettled : (s mid : Stage) (n : ℕ) (out : List ℕ) → n ≡ most_deliveries → DeliversMany n (record s { begun = true }) mid → mid.waiting ≢ [] → out ≡ unsettled_line → Settles s out mid
-settles_unsettled s mid n out e many some line = settles s mid mid n out (omega arith) many (inr (inl (e, some, line, refl)))
-
-pub head_of : (xs : List ℕ) (n : ℕ) → 0 < length xs → n ≡ slice_index_or xs 0 n → xs ≡ n ∷ drop 1 xs
-head_of [] n l e = absurd (omega (arith, l))
-head_of (x ∷ xs) n l e = ap (λ (y : ℕ). y ∷ xs) (sym e)
-
--- a delivery that is refused
-pub refuses : (s s' : Stage) (n : ℕ) (o : Result Answer Refused) (r : Refused) → 0 < length s.waiting → n ≡ slice_index_or s.waiting 0 n → (w : State) × Steps s.world (step.Deliver n) o w × (s' ≡ after_step s.world s.waiting w) → o ≡ Err r → RefusesOldest s r s'
-refuses s s' n o r l e h is =
-    let refused = subst (λ (x : Result Answer Refused). Steps s.world (step.Deliver n) x h.0) is h.1 in
-    record { number = n; younger = drop 1 s.waiting; world = h.0; waits = head_of s.waiting n l e; steps = refused; leaves = h.2 }
-
--- a delivery that is taken: the message waits no more
-pub delivers : (s kept : Stage) (begun : Bool) (world : State) (waiting popped : List ℕ) (n : ℕ) (o : Result Answer Refused) (answer : Answer) → 0 < length s.waiting → n ≡ slice_index_or s.waiting 0 n → (w : State) × Steps s.world (step.Deliver n) o w × (kept ≡ after_step s.world s.waiting w) → o ≡ Ok answer → ◌≡◌ {A = Stage} (record { begun = begun; world = world; waiting = waiting }) kept → popped ≡ drop 1 waiting → DeliversOldest s (record { begun = begun; world = world; waiting = popped })
-delivers s kept begun world waiting popped n o answer l e h is view pop =
-    let more = drop 1 s.waiting in
-    let head : s.waiting ≡ n ∷ more = head_of s.waiting n l e in
-    let new = new_numbers s.world h.0 in
-    let whole : ◌≡◌ {A = Stage} (record { begun = begun; world = world; waiting = waiting }) (after_step s.world s.waiting h.0) = view ∙ h.2 in
-    let b : begun ≡ true = ap (λ (x : Stage). x.begun) whole in
-    let w : world ≡ h.0 = ap (λ (x : Stage). x.world) whole in
-    let i : waiting ≡ (n ∷ more) ++ new = ap (λ (x : Stage). x.waiting) whole ∙ ap (λ (xs : List ℕ). xs ++ new) head in
-    let p : popped ≡ more ++ new = pop ∙ ap (drop 1) i in
-    let begins : Bool → Stage = λ x. record { begun = x; world = world; waiting = popped } in
-    let turns : State → Stage = λ x. record { begun = true; world = x; waiting = popped } in
-    let waits : List ℕ → Stage = λ xs. record { begun = true; world = h.0; waiting = xs } in
-    let taken = subst (λ (x : Result Answer Refused). Steps s.world (step.Deliver n) x h.0) is h.1 in
-    record { number = n; younger = more; answer = answer; world = h.0; waits = head; steps = taken; leaves = ap begins b ∙ ap turns w ∙ ap waits p }
-
-pub keeps_begun : (s s' : Stage) (d : Delivery) → Tries s d s' → d ≡ delivery.Delivered → s'.begun ≡ true
-keeps_begun s s' d tried is =
-    let one : Tries s delivery.Delivered s' = subst (λ (x : Delivery). Tries s x s') is tried in
-    ap (λ (x : Stage). x.begun) one.leaves
-
-pub some_waits : (xs : List ℕ) → nat_lt 0 (length xs) ≡ true → xs ≢ []
-some_waits [] h e = absurd (let bad : false ≡ true = h in cc)
-some_waits (x ∷ xs) h e = absurd (let bad : x ∷ xs ≡ [] = e in cc)
-
-pub none_waits : (xs : List ℕ) → nat_lt 0 (length xs) ≡ false → xs ≡ []
-none_waits [] h = refl
-none_waits (x ∷ xs) h = absurd (grind (arith, nat_tests))
+pub settles_unsettled : (most : ℕ) (text : List ℕ) (s : Stage) (i j : Fields) (after : Waits) (n : ℕ) (out : List ℕ) (oldest : Option ℕ) → i ≡ j → after ≡ i.waits → n ≡ most → DeliversMany n (record s { begun = true }) (meaning j) → oldest ≡ slice_get i.waits.waiting 0 → is_some oldest ≡ true → out ≡ text → Settles most text s out (meaning (record i { waits = after }))
+settles_unsettled most text s i j after n out oldest is same e many first some line =
+    let last : Stage = meaning (record i { waits = after }) in
+    settles most text s last last n out (omega (arith, e)) (subst (λ (m : Stage). DeliversMany n (record s { begun = true }) m) (looked i j after is same) many)
+    (inr (inl (e, some_waits oldest after.waiting (first ∙ ap (λ (w : Waits). slice_get w.waiting 0) (sym same)) some, line, refl)))

@@ -2,14 +2,14 @@
 use Rattle.std.proofs.Common.{◌≡◌, ◌≢◌, ℕ, zero, suc, ◌+◌, ◌<◌, ◌≤◌, true, false, List, [], ◌∷◌, ◌++◌, length, None, Some, Result, Ok, Err, refl, sym, ap, subst, ◌∙◌, inl, inr, arith}
 use Rattle.std.proofs.lemmas.Bool.{le-ltb, lt-ltb}
 use Rattle.std.proofs.lemmas.List.{append-nil, append_assoc, nil_from_length}
-use Rattle.std.specs.Prelude.{OnOk, IfErr, nat_lt}
-use Rattle.std.specs.Result.{result_unwrap_or}
+use Rattle.std.specs.Prelude.{OnOk, IfErr, nat_lt, slice_get}
 use Rattle.std.specs.Io.KnownBytes.{Appends, Consumes}
 use Rattle.std.specs.Str.Lines.{lines}
 use Rattle.std.proofs.KnownBytes.{Appends-trans, Appends-nil}
-use Rattle.krl_world.specs.States.{fresh, range_held, key_held}
-use Rattle.krl_world.specs.Steps.{made, Steps}
-use Rattle.krl_world.proofs.Outcomes.{some_step}
+use Rattle.krl_messages.specs.Values.{Value}
+use Rattle.krl_world.specs.States.{fresh}
+use Rattle.krl_world.specs.Steps.{Steps}
+use Rattle.krl_script.proofs.SomeSteps.{some_step, can_begin_or_not}
 use Rattle.krl_world.specs.declared.step.Step.TheVariants as step
 use Rattle.krl_world.specs.declared.answer.Answer.{Answer}
 use Rattle.krl_world.specs.declared.refused.Refused.{Refused}
@@ -21,58 +21,73 @@ use Rattle.krl_script.specs.Limits.{most_text, most_deliveries}
 use Rattle.krl_script.specs.declared.fault.ScriptFault.{ScriptFault}
 use Rattle.krl_script.specs.declared.fault.ScriptFault.TheVariants as script
 use Rattle.krl_script.specs.Words.{line_request}
-use Rattle.krl_script.specs.Printing.{outcome_lines, making_lines, refused_line, unsettled_line, hold_line, modes_lines, fault_line}
-use Rattle.krl_script.specs.Transcripts.{Stage, first_stage, after_step, DeliversOldest, DeliversMany, Settles, Obeys, RefusesOldest, ObeysLine, PrintsLine, Prints, Transcript, End}
+use Rattle.krl_script.specs.Waiting.{none_waiting}
+use Rattle.krl_script.specs.Printing.{outcome_lines, refused_line, unsettled_line, shown_lines, modes_lines, fault_line}
+use Rattle.krl_script.specs.Transcripts.{Stage, first_stage, counted, waits_after, DeliversOldest, DeliversMany, Settles, filled, Seeds, Obeys, ObeysLine, PrintsLine, Prints, Transcript, End}
 use Rattle.krl_script.specs.Runs.{Known, Texts, ComesOfReading, WroteWhole, WroteFront, Failed, Wrote, EndsInFault, RunsLine, ReadsWhole, Ran}
 
 -- a way in which deliveries end, from a stage that was reached by some
-abbrev SettlesFrom : Stage → Type 0
-SettlesFrom s = (out : List ℕ) × (s' : Stage) × Settles s out s'
+abbrev SettlesFrom : ℕ → List ℕ → Stage → Type 0
+SettlesFrom most text s = (out : List ℕ) × (s' : Stage) × Settles most text s out s'
 
 -- k more deliveries may come, after n
-some_settles_from : (k n : ℕ) (s mid : Stage) (waiting : List ℕ) → mid.waiting ≡ waiting → n + k ≡ most_deliveries → DeliversMany n (record s { begun = true }) mid → SettlesFrom s
-some_settles_from k n s mid [] e total many =
+some_settles_from : (most : ℕ) (text : List ℕ) (k n : ℕ) (s mid : Stage) (waiting : List ℕ) → mid.waits.waiting ≡ waiting → n + k ≡ most → DeliversMany n (record s { begun = true }) mid → SettlesFrom most text s
+some_settles_from most text k n s mid [] e total many =
     ([], mid, record { count = n; last = mid; bounded = omega (arith, total); delivers = many; ends = inl (e, refl, refl) })
-some_settles_from zero n s mid (i ∷ more) e total many =
-    let waits : mid.waiting ≢ [] = λ nil. let bad : i ∷ more ≡ [] = sym e ∙ nil in cc in (
-      unsettled_line,
+some_settles_from most text zero n s mid (i ∷ more) e total many =
+    let waits : mid.waits.waiting ≢ [] = λ nil. let bad : i ∷ more ≡ [] = sym e ∙ nil in cc in (
+      text,
       mid,
       record { count = n; last = mid; bounded = omega (arith, total); delivers = many; ends = inr (inl (omega (arith, total), waits, refl, refl)) },
     )
-some_settles_from (suc k) n s mid (i ∷ more) e total many =
+some_settles_from most text (suc k) n s mid (i ∷ more) e total many =
     let o = some_step mid.world (step.Deliver i) in
-    elim o.0 as (λ (r : Result Answer Refused). Steps mid.world (step.Deliver i) r o.1 → SettlesFrom s) [
+    let oldest : slice_get mid.waits.waiting 0 ≡ Some i = ap (λ (xs : List ℕ). slice_get xs 0) e in
+    elim o.0 as (λ (r : Result Answer Refused). Steps mid.world (step.Deliver i) r o.1 → SettlesFrom most text s) [
       | Ok answer ↦ λ taken.
-          let next : Stage = after_step mid.world more o.1 in
-          let delivered : DeliversOldest mid next = record { number = i; younger = more; answer = answer; world = o.1; waits = e; steps = taken; leaves = refl } in
-          some_settles_from k (suc n) s next next.waiting refl (omega (arith, total)) (mid, many, delivered)
+          let next : Stage = counted o.1 (waits_after (Ok answer) i mid.waits) in
+          let delivered : DeliversOldest mid (Ok answer) next = record { number = i; waits = oldest; delivers = record { world = o.1; steps = taken; leaves = refl } } in
+          some_settles_from most text k (suc n) s next next.waits.waiting refl (omega (arith, total)) (mid, many, (answer, delivered))
       | Err r ↦ λ refused.
-          let next : Stage = after_step mid.world mid.waiting o.1 in
-          let stays : RefusesOldest mid r next = record { number = i; younger = more; world = o.1; waits = e; steps = refused; leaves = refl } in
+          let next : Stage = counted o.1 mid.waits in
+          let stays : DeliversOldest mid (Err r) next = record { number = i; waits = oldest; delivers = record { world = o.1; steps = refused; leaves = refl } } in
           (refused_line r, next, record { count = n; last = mid; bounded = omega (arith, total); delivers = many; ends = inr (inr (omega (arith, total), (r, stays, refl))) })
     ] o.2
 
 -- deliveries end in some way
-some_settles : (s : Stage) → SettlesFrom s
-some_settles s = some_settles_from most_deliveries 0 s (record s { begun = true }) s.waiting refl refl refl
+some_settles : (most : ℕ) (text : List ℕ) (s : Stage) → SettlesFrom most text s
+some_settles most text s = some_settles_from most text most 0 s (record s { begun = true }) s.waits.waiting refl (omega arith) refl
+
+-- a world is made, or the entries are refused
+some_seeds : (s : Stage) (entries : List (ℕ × Value)) → (out : List ℕ) × (s' : Stage) × Seeds s entries out s'
+some_seeds s entries =
+    elim (can_begin_or_not entries) [
+      | inl can ↦ ([], record s { begun = true; world = fresh entries }, inl (record { can = can; prints = refl; leaves = refl }))
+      | inr refusal ↦ (
+        refused_line refusal.0,
+        record s { begun = true; world = fresh [] },
+        inr (refusal.0, record { due = refusal.1; has_memory = refusal.2; prints = refl; leaves = refl }),
+      )
+    ]
 
 -- whatever is asked for is done in some way
 pub some_obeys : (s : Stage) (request : Request) → (out : List ℕ) × (s' : Stage) × Obeys s request out s'
 some_obeys s request.Nothing = ([], s, (refl, refl))
-some_obeys s (request.Seed entries) = (
-  making_lines (made entries),
-  record s { begun = true; world = result_unwrap_or (made entries) (fresh []) },
-  record { prints = refl; leaves = refl },
-)
+some_obeys s (request.Seed entries) = some_seeds s entries
+some_obeys s (request.Fill n) = some_seeds s (filled n)
 some_obeys s (request.Step step) =
     let o = some_step s.world step in
-    (outcome_lines o.0, after_step s.world s.waiting o.1, record { outcome = o.0; world = o.1; steps = o.2; prints = refl; leaves = refl })
-some_obeys s request.Settle = some_settles s
-some_obeys s (request.Hold c p) = (
-  hold_line c p (range_held s.world c p) (key_held s.world c p),
-  record s { begun = true },
-  record { prints = refl; leaves = refl },
-)
+    (outcome_lines o.0, counted o.1 s.waits, record { outcome = o.0; world = o.1; steps = o.2; prints = refl; leaves = refl })
+some_obeys s (request.Deliver i) =
+    let o = some_step s.world (step.Deliver i) in (
+      outcome_lines o.0,
+      counted o.1 (waits_after o.0 i s.waits),
+      record { outcome = o.0; delivers = record { world = o.1; steps = o.2; leaves = refl }; prints = refl },
+    )
+some_obeys s (request.Next n) = some_settles n [] s
+some_obeys s request.Settle = some_settles most_deliveries unsettled_line s
+some_obeys s request.Drop = ([], record s { begun = true; waits = none_waiting s.waits }, (refl, refl))
+some_obeys s (request.Show what) = (shown_lines s.world what, record s { begun = true }, (refl, refl))
 some_obeys s request.Modes = (modes_lines, s, (refl, refl))
 
 some_line : (j : Result Request SyntaxFault) (s : Stage) (n : ℕ) (Rest : Stage → List ℕ → End → Type 0) → ((s' : Stage) → (tail : List ℕ) × (end : End) × Rest s' tail end) → (out : List ℕ) × (end : End) × PrintsLine j s n Rest out end

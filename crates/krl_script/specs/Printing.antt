@@ -1,5 +1,5 @@
 -- The lines that a script prints.
-use Rattle.std.specs.Prelude.{ℕ, nat_lt, if◌then◌else◌, List, [], ◌∷◌, ◌++◌, codes, Result, Ok, Err}
+use Rattle.std.specs.Prelude.{ℕ, nat_lt, if◌then◌else◌, List, [], ◌∷◌, ◌++◌, codes, Option, None, Some, Result, Ok, Err}
 use Rattle.std.specs.List.{flat_map}
 use Rattle.std.specs.Fmt.{decimal}
 use Rattle.krl_modes.specs.declared.point.TheConstants.{END}
@@ -9,12 +9,26 @@ use Rattle.krl_modes.specs.declared.mode.Mode.{Mode}
 use Rattle.krl_modes.specs.declared.mode.Mode.TheVariants as mode
 use Rattle.krl_modes.specs.Parts.{range_part_name, key_part_name}
 use Rattle.krl_modes.specs.Modes.{compatible, join, mode_name}
-use Rattle.krl_world.specs.States.{State}
+use Rattle.std.specs.FinMap as map
+use Rattle.krl_messages.specs.Values.{Value}
+use Rattle.krl_messages.specs.declared.outcome.Outcome.{Outcome}
+use Rattle.krl_messages.specs.declared.outcome.Outcome.TheVariants as outcome
+use Rattle.krl_durable.specs.Index.{Index}
+use Rattle.krl_client.specs.declared.status.Status.{Status}
+use Rattle.krl_client.specs.declared.status.LockStatus.{LockStatus}
+use Rattle.krl_client.specs.declared.status.LockStatus.TheVariants as lock
+use Rattle.krl_client.specs.declared.status.WriteStatus.{WriteStatus}
+use Rattle.krl_client.specs.declared.status.WriteStatus.TheVariants as write
+use Rattle.krl_client.specs.Clients.{Client, status_of}
+use Rattle.krl_world.specs.declared.applied_write.AppliedWrite.{AppliedWrite}
+use Rattle.krl_world.specs.States.{State, ServerNode, Up, Down, client_of, index_of, range_held, key_held}
 use Rattle.krl_world.specs.declared.answer.Answer.{Answer}
 use Rattle.krl_world.specs.declared.answer.Answer.TheVariants as answer
 use Rattle.krl_world.specs.Names.{refusal_name}
 use Rattle.krl_world.specs.declared.refused.Refused.{Refused}
 use Rattle.krl_world.specs.declared.refused.Refused.TheVariants as refused
+use Rattle.krl_script.specs.declared.request.Show.{Show}
+use Rattle.krl_script.specs.declared.request.Show.TheVariants as show
 use Rattle.krl_script.specs.declared.fault.SyntaxFault.{SyntaxFault}
 use Rattle.krl_script.specs.declared.fault.SyntaxFault.TheVariants.{TextTooLong, TooManyLines, LineTooLong, UnknownWord, MissingArgument, ExtraArgument, BadNumber, BadPair, BadMode, LateSeed}
 
@@ -27,28 +41,25 @@ abbrev pub refused_line : Refused → List ℕ
 refused_line r = line_of (codes "refused " ++ refusal_name r)
 
 -- a row: a space, the key, '=' and the value
-abbrev pub row_text : ℕ × ℕ → List ℕ
+abbrev pub row_text : ℕ × Value → List ℕ
 row_text row = codes " " ++ decimal row.0 ++ codes "=" ++ decimal row.1
 
 -- the line of a scan's rows
-abbrev pub rows_line : List (ℕ × ℕ) → List ℕ
+abbrev pub rows_line : List (ℕ × Value) → List ℕ
 rows_line rows = line_of (codes "rows" ++ flat_map row_text rows)
 
 -- what an answer prints
 abbrev pub answer_lines : Answer → List ℕ
 answer_lines answer.Done = []
+answer_lines (answer.Pinned id) = line_of (codes "pin " ++ decimal id)
 answer_lines (answer.Rows rows) = rows_line rows
 answer_lines (answer.Miss p) = line_of (codes "miss " ++ decimal p)
+answer_lines (answer.Pending k) = line_of (codes "pending " ++ decimal k)
 
 -- what a step of the world prints
 abbrev pub outcome_lines : Result Answer Refused → List ℕ
 outcome_lines (Ok a) = answer_lines a
 outcome_lines (Err r) = refused_line r
-
--- what making the world prints
-abbrev pub making_lines : Result State Refused → List ℕ
-making_lines (Ok w) = []
-making_lines (Err r) = refused_line r
 
 -- The line of what a client holds at a point. A client above 63 is refused, and then a point above
 -- END.
@@ -57,6 +68,76 @@ hold_line c p r k =
     if nat_lt 63 c then refused_line refused.BadClient
     else (if nat_lt END p then refused_line refused.BadPoint
     else line_of (codes "hold " ++ range_part_name r ++ codes " " ++ key_part_name k))
+
+-- what became of the last lock request of this incarnation
+abbrev pub lock_text : LockStatus → List ℕ
+lock_text lock.NotAsked = codes "none"
+lock_text lock.Waiting = codes "waiting"
+lock_text lock.Granted = codes "granted"
+lock_text lock.Absent = codes "absent"
+lock_text lock.Dropped = codes "dropped"
+
+abbrev pub outcome_name : Outcome → List ℕ
+outcome_name outcome.Applied = codes "Applied"
+outcome_name outcome.Exists = codes "Exists"
+outcome_name outcome.Absent = codes "Absent"
+outcome_name outcome.NotHeld = codes "NotHeld"
+outcome_name outcome.Full = codes "Full"
+
+-- what became of the last write of this incarnation, after its number
+abbrev pub write_text : WriteStatus → List ℕ
+write_text write.NotWritten = codes "none"
+write_text (write.Waiting n) = decimal n ++ codes " waiting"
+write_text (write.Judged n o) = decimal n ++ codes " " ++ outcome_name o
+
+-- the epoch, the last push that was accepted, the last lock request and the last write
+abbrev pub status_text : Status → List ℕ
+status_text s =
+    codes "status " ++ decimal s.epoch ++ codes " " ++ decimal s.seen ++ codes " "
+    ++ lock_text s.lock ++ codes " " ++ write_text s.write
+
+-- the line of the client that runs, if one does
+abbrev pub state_line : Option Client → List ℕ
+state_line None = line_of (codes "status down")
+state_line (Some k) = line_of (status_text (status_of k))
+
+-- the line of a client's state; a client above 63 is refused
+abbrev pub status_line : ℕ → Option Client → List ℕ
+status_line c k = if nat_lt 63 c then refused_line refused.BadClient else state_line k
+
+-- a number after a space
+abbrev pub number_text : ℕ → List ℕ
+number_text n = codes " " ++ decimal n
+
+-- the line of the clients that have not reported, in order of first registration
+abbrev pub list_line : List ℕ → List ℕ
+list_line clients = line_of (codes "missing" ++ flat_map number_text clients)
+
+-- the same, where a server runs
+abbrev pub missing_line : ServerNode → List ℕ
+missing_line (Up s) = list_line s.missing
+missing_line (Down d) = line_of (codes "down")
+
+-- the line of the index, in key order
+abbrev pub index_line : Index → List ℕ
+index_line m = line_of (codes "index" ++ flat_map row_text (map.entries m))
+
+-- an applied write: its client, incarnation and number
+abbrev pub applied_text : AppliedWrite → List ℕ
+applied_text w =
+    codes " " ++ decimal w.client ++ codes "." ++ decimal w.incarnation ++ codes "." ++ decimal w.number
+
+-- the line of the applied writes, oldest first
+abbrev pub writes_line : List AppliedWrite → List ℕ
+writes_line writes = line_of (codes "writes" ++ flat_map applied_text writes)
+
+-- the line of what is read of a world
+abbrev pub shown_lines : State → Show → List ℕ
+shown_lines w (show.Hold c p) = hold_line c p (range_held w c p) (key_held w c p)
+shown_lines w (show.Status c) = status_line c (client_of w c)
+shown_lines w show.Missing = missing_line w.server
+shown_lines w show.Index = index_line (index_of w)
+shown_lines w show.Writes = writes_line w.writes
 
 -- the published modes, in the order of the tables
 abbrev pub published : List Mode

@@ -1,13 +1,14 @@
 -- What a script prints, line by line.
-use Rattle.std.specs.Prelude.{◌≡◌, ◌≢◌, ℕ, zero, suc, ◌+◌, ◌-◌, ◌<◌, ◌≤◌, ◌⊎◌, Bool, true, false, nat_lt, List, [], ◌∷◌, ◌++◌, length, Option, None, Some, Result, Ok, Err, MatchBool}
-use Rattle.std.specs.Result.{result_unwrap_or}
+use Rattle.std.specs.Prelude.{◌≡◌, ◌≢◌, ℕ, zero, suc, ◌+◌, ◌<◌, ◌≤◌, ◌⊎◌, Bool, true, false, nat_lt, List, [], ◌∷◌, ◌++◌, length, slice_get, Option, None, Some, Result, Ok, Err, MatchBool}
 use Rattle.std.specs.Str.Lines.{lines}
-use Rattle.krl_world.specs.States.{State, fresh, sent_count, range_held, key_held}
-use Rattle.krl_world.specs.Steps.{made, Steps}
+use Rattle.krl_messages.specs.Values.{Value}
+use Rattle.krl_world.specs.States.{State, fresh, sent_count}
+use Rattle.krl_world.specs.Steps.{CanBegin, BeginsNot, Steps}
 use Rattle.krl_world.specs.declared.step.Step.{Step}
 use Rattle.krl_world.specs.declared.step.Step.TheVariants as step
 use Rattle.krl_world.specs.declared.answer.Answer.{Answer}
 use Rattle.krl_world.specs.declared.refused.Refused.{Refused}
+use Rattle.krl_world.specs.declared.refused.Refused.TheVariants as refused
 use Rattle.krl_script.specs.Limits.{most_text, most_deliveries}
 use Rattle.krl_script.specs.declared.request.Request.{Request}
 use Rattle.krl_script.specs.declared.request.Request.TheVariants as request
@@ -16,33 +17,22 @@ use Rattle.krl_script.specs.declared.delivery.Delivery.TheVariants as delivery
 use Rattle.krl_script.specs.declared.fault.SyntaxFault.{SyntaxFault}
 use Rattle.krl_script.specs.declared.fault.SyntaxFault.TheVariants.{TextTooLong}
 use Rattle.krl_script.specs.Words.{line_request}
-use Rattle.krl_script.specs.Printing.{outcome_lines, making_lines, refused_line, unsettled_line, hold_line, modes_lines, fault_line}
+use Rattle.krl_script.specs.Waiting.{Waits, none_sent, sent_to, without, none_waiting}
+use Rattle.krl_script.specs.Printing.{outcome_lines, refused_line, unsettled_line, shown_lines, modes_lines, fault_line}
 
--- What is known between two lines: whether the world is made, the world, and the numbers of the
--- messages that wait, oldest first.
+-- What is known between two lines: whether the world is made, the world, and which messages wait.
 pub record Stage : Type 0 where
   pub begun : Bool
   pub world : State
-  pub waiting : List ℕ
+  pub waits : Waits
 
 -- Before the first line. A world that is not made yet is one with no entries.
 abbrev pub first_stage : Stage
-first_stage = record { begun = false; world = fresh []; waiting = [] }
+first_stage = record { begun = false; world = fresh []; waits = none_sent }
 
--- n numbers from the one after m
-abbrev pub numbers : ℕ → ℕ → List ℕ
-numbers m zero = []
-numbers m (suc n) = numbers m n ++ (m + suc n) ∷ []
-
--- the numbers of the messages sent between two worlds
-abbrev pub new_numbers : State → State → List ℕ
-new_numbers old w = numbers (sent_count old) (sent_count w - sent_count old)
-
--- the stage after a step from one world to the next, where these messages wait: those that the step
--- sent wait after them
-abbrev pub after_step : State → List ℕ → State → Stage
-after_step old waiting w =
-    record { begun = true; world = w; waiting = waiting ++ new_numbers old w }
+-- the stage in which the world is this one, and whatever it sent is counted
+abbrev pub counted : State → Waits → Stage
+counted w waits = record { begun = true; world = w; waits = sent_to waits (sent_count w) }
 
 -- a step of the world, whatever it answers, prints this
 pub record Acts (s : Stage) (what : Step) (out : List ℕ) (s' : Stage) : Type 0 where
@@ -50,71 +40,98 @@ pub record Acts (s : Stage) (what : Step) (out : List ℕ) (s' : Stage) : Type 0
   pub world : State
   pub steps : Steps s.world what outcome world
   pub prints : out ≡ outcome_lines outcome
-  pub leaves : s' ≡ after_step s.world s.waiting world
+  pub leaves : s' ≡ counted world s.waits
 
--- the oldest waiting message is delivered, and waits no more
-pub record DeliversOldest (s s' : Stage) : Type 0 where
-  pub number : ℕ
-  pub younger : List ℕ
-  pub answer : Answer
-  pub world : State
-  pub waits : s.waiting ≡ number ∷ younger
-  pub steps : Steps s.world (step.Deliver number) (Ok answer) world
-  pub leaves : s' ≡ after_step s.world younger world
+-- which messages wait, where this came of the delivery of one: a delivery that is refused leaves
+-- it waiting
+abbrev pub waits_after : Result Answer Refused → ℕ → Waits → Waits
+waits_after (Ok answer) number waits = without waits number
+waits_after (Err r) number waits = waits
 
--- the delivery of the oldest waiting message is refused, and it waits on
-pub record RefusesOldest (s : Stage) (r : Refused) (s' : Stage) : Type 0 where
-  pub number : ℕ
-  pub younger : List ℕ
+-- this came of the delivery of a message
+pub record Delivers (s : Stage) (number : ℕ) (outcome : Result Answer Refused) (s' : Stage) : Type 0 where
   pub world : State
-  pub waits : s.waiting ≡ number ∷ younger
-  pub steps : Steps s.world (step.Deliver number) (Err r) world
-  pub leaves : s' ≡ after_step s.world s.waiting world
+  pub steps : Steps s.world (step.Deliver number) outcome world
+  pub leaves : s' ≡ counted world (waits_after outcome number s.waits)
+
+-- the message of this number is delivered
+pub record DeliversThis (s : Stage) (number : ℕ) (out : List ℕ) (s' : Stage) : Type 0 where
+  pub outcome : Result Answer Refused
+  pub delivers : Delivers s number outcome s'
+  pub prints : out ≡ outcome_lines outcome
+
+-- this came of the delivery of the oldest waiting message
+pub record DeliversOldest (s : Stage) (outcome : Result Answer Refused) (s' : Stage) : Type 0 where
+  pub number : ℕ
+  pub waits : slice_get s.waits.waiting 0 ≡ Some number
+  pub delivers : Delivers s number outcome s'
+
+-- the oldest waiting message is delivered
+abbrev pub TakesOldest : Stage → Stage → Type 0
+TakesOldest s s' = (answer : Answer) × DeliversOldest s (Ok answer) s'
 
 -- what becomes of the oldest waiting message
 abbrev pub Tries : Stage → Delivery → Stage → Type 0
-Tries s delivery.Idle s' = (s.waiting ≡ []) × (s' ≡ s)
-Tries s delivery.Delivered s' = DeliversOldest s s'
-Tries s (delivery.Refused r) s' = RefusesOldest s r s'
+Tries s delivery.Idle s' = (s.waits.waiting ≡ []) × (s' ≡ s)
+Tries s delivery.Delivered s' = TakesOldest s s'
+Tries s (delivery.Refused r) s' = DeliversOldest s (Err r) s'
 
 -- n deliveries, one after another
 abbrev pub DeliversMany : ℕ → Stage → Stage → Type 0
 DeliversMany zero s s' = s' ≡ s
-DeliversMany (suc n) s s' = (mid : Stage) × DeliversMany n s mid × DeliversOldest mid s'
+DeliversMany (suc n) s s' = (mid : Stage) × DeliversMany n s mid × TakesOldest mid s'
 
--- Deliveries end after n: nothing waits, or the bound is reached and a message waits, or the next
--- delivery is refused.
-abbrev pub Ends : ℕ → Stage → List ℕ → Stage → Type 0
-Ends n s out s' =
-    ((s.waiting ≡ []) × (out ≡ []) × (s' ≡ s))
-    ⊎ ((n ≡ most_deliveries) × (s.waiting ≢ []) × (out ≡ unsettled_line) × (s' ≡ s))
-    ⊎ ((n < most_deliveries) × ((r : Refused) × RefusesOldest s r s' × (out ≡ refused_line r)))
+-- Deliveries, at most so many, end after n: nothing waits; or they were so many and a message
+-- waits, of which this is printed; or the next delivery is refused.
+abbrev pub Ends : ℕ → List ℕ → ℕ → Stage → List ℕ → Stage → Type 0
+Ends most unsettled n s out s' =
+    ((s.waits.waiting ≡ []) × (out ≡ []) × (s' ≡ s))
+    ⊎ ((n ≡ most) × (s.waits.waiting ≢ []) × (out ≡ unsettled) × (s' ≡ s))
+    ⊎ ((n < most) × ((r : Refused) × DeliversOldest s (Err r) s' × (out ≡ refused_line r)))
 
 -- messages are delivered, oldest first, until deliveries end
-pub record Settles (s : Stage) (out : List ℕ) (s' : Stage) : Type 0 where
+pub record Settles (most : ℕ) (unsettled : List ℕ) (s : Stage) (out : List ℕ) (s' : Stage) : Type 0 where
   pub count : ℕ
   pub last : Stage
-  pub bounded : count ≤ most_deliveries
+  pub bounded : count ≤ most
   pub delivers : DeliversMany count (record s { begun = true }) last
-  pub ends : Ends count last out s'
+  pub ends : Ends most unsettled count last out s'
+
+-- the keys from 0 on below n, each with its own number as its value
+abbrev pub filled : ℕ → List (ℕ × Value)
+filled zero = []
+filled (suc n) = filled n ++ (n, n) ∷ []
+
+-- a world begins with these entries
+pub record Begins (s : Stage) (entries : List (ℕ × Value)) (out : List ℕ) (s' : Stage) : Type 0 where
+  pub can : CanBegin entries
+  pub prints : out ≡ []
+  pub leaves : s' ≡ record s { begun = true; world = fresh entries }
+
+-- the entries are refused, and the world has none
+pub record BeginsEmpty (s : Stage) (entries : List (ℕ × Value)) (r : Refused) (out : List ℕ) (s' : Stage) : Type 0 where
+  pub due : BeginsNot entries r
+  pub has_memory : r ≢ refused.OutOfMemory
+  pub prints : out ≡ refused_line r
+  pub leaves : s' ≡ record s { begun = true; world = fresh [] }
 
 -- A world is made with these entries; where they are refused, it has none.
-pub record Seeds (s : Stage) (entries : List (ℕ × ℕ)) (out : List ℕ) (s' : Stage) : Type 0 where
-  pub prints : out ≡ making_lines (made entries)
-  pub leaves : s' ≡ record s { begun = true; world = result_unwrap_or (made entries) (fresh []) }
-
--- What a client holds at a point is printed, or the refusal.
-pub record Holds (s : Stage) (c p : ℕ) (out : List ℕ) (s' : Stage) : Type 0 where
-  pub prints : out ≡ hold_line c p (range_held s.world c p) (key_held s.world c p)
-  pub leaves : s' ≡ record s { begun = true }
+abbrev pub Seeds : Stage → List (ℕ × Value) → List ℕ → Stage → Type 0
+Seeds s entries out s' = Begins s entries out s' ⊎ ((r : Refused) × BeginsEmpty s entries r out s')
 
 -- what is asked for prints this, from one stage to the next
 abbrev pub Obeys : Stage → Request → List ℕ → Stage → Type 0
 Obeys s request.Nothing out s' = (out ≡ []) × (s' ≡ s)
 Obeys s (request.Seed entries) out s' = Seeds s entries out s'
+Obeys s (request.Fill n) out s' = Seeds s (filled n) out s'
 Obeys s (request.Step step) out s' = Acts s step out s'
-Obeys s request.Settle out s' = Settles s out s'
-Obeys s (request.Hold c p) out s' = Holds s c p out s'
+Obeys s (request.Deliver number) out s' = DeliversThis s number out s'
+Obeys s (request.Next n) out s' = Settles n [] s out s'
+Obeys s request.Settle out s' = Settles most_deliveries unsettled_line s out s'
+Obeys s request.Drop out s' =
+    (out ≡ []) × (s' ≡ record s { begun = true; waits = none_waiting s.waits })
+Obeys s (request.Show what) out s' =
+    (out ≡ shown_lines s.world what) × (s' ≡ record s { begun = true })
 Obeys s request.Modes out s' = (out ≡ modes_lines) × (s' ≡ s)
 
 -- the line of number n asks for something, which prints this

@@ -9,10 +9,21 @@ use Rattle.krl_modes.specs.Modes.{mode_named}
 use Rattle.krl_world.specs.declared.step.Step.TheVariants as step
 use Rattle.krl_world.specs.declared.step.Command.TheVariants as command
 use Rattle.krl_script.specs.Limits.{most_lines, most_line}
+use Rattle.krl_world.specs.declared.step.Command.{Command}
+use Rattle.krl_messages.specs.declared.write_op.WriteOp.TheVariants as write
 use Rattle.krl_script.specs.declared.word.Word.{Word}
 use Rattle.krl_script.specs.declared.word.Word.TheVariants as word
+use Rattle.krl_script.specs.declared.word.Alone.{Alone}
+use Rattle.krl_script.specs.declared.word.Alone.TheVariants as alone
+use Rattle.krl_script.specs.declared.word.Single.{Single}
+use Rattle.krl_script.specs.declared.word.Single.TheVariants as single
+use Rattle.krl_script.specs.declared.word.Double.{Double}
+use Rattle.krl_script.specs.declared.word.Double.TheVariants as double
+use Rattle.krl_script.specs.declared.word.Triple.{Triple}
+use Rattle.krl_script.specs.declared.word.Triple.TheVariants as triple
 use Rattle.krl_script.specs.declared.request.Request.{Request}
 use Rattle.krl_script.specs.declared.request.Request.TheVariants as request
+use Rattle.krl_script.specs.declared.request.Show.TheVariants as show
 use Rattle.krl_script.specs.declared.fault.SyntaxFault.{SyntaxFault}
 use Rattle.krl_script.specs.declared.fault.SyntaxFault.TheVariants.{TooManyLines, LineTooLong, UnknownWord, MissingArgument, ExtraArgument, BadNumber, BadPair, BadMode, LateSeed}
 use Rattle.krl_script.specs.declared.fault.LineFault.{LineFault}
@@ -86,24 +97,100 @@ pairs_of (word ∷ words) =
 abbrev pub mode_of : List ℕ → Result Mode SyntaxFault
 mode_of text = or_fault BadMode (mode_named text)
 
--- a word as it stands in a script
+-- the words as they stand in a script
+abbrev pub alone_text : Alone → List ℕ
+alone_text alone.Settle = codes "settle"
+alone_text alone.Drop = codes "drop"
+alone_text alone.Missing = codes "missing"
+alone_text alone.Index = codes "index"
+alone_text alone.Writes = codes "writes"
+alone_text alone.Modes = codes "modes"
+
+abbrev pub single_text : Single → List ℕ
+single_text single.Fill = codes "fill"
+single_text single.Client = codes "client"
+single_text single.Leave = codes "leave"
+single_text single.Tick = codes "tick"
+single_text single.Nudge = codes "nudge"
+single_text single.Deliver = codes "deliver"
+single_text single.Next = codes "next"
+single_text single.Status = codes "status"
+
+abbrev pub double_text : Double → List ℕ
+double_text double.Delete = codes "delete"
+double_text double.Unpin = codes "unpin"
+double_text double.Hold = codes "hold"
+
+abbrev pub triple_text : Triple → List ℕ
+triple_text triple.Insert = codes "insert"
+triple_text triple.Put = codes "put"
+triple_text triple.Scan = codes "scan"
+triple_text triple.Forget = codes "forget"
+triple_text triple.Pin = codes "pin"
+
 abbrev pub word_text : Word → List ℕ
 word_text word.Seed = codes "seed"
-word_text word.Client = codes "client"
 word_text word.Lock = codes "lock"
-word_text word.Settle = codes "settle"
-word_text word.Scan = codes "scan"
-word_text word.Hold = codes "hold"
-word_text word.Modes = codes "modes"
+word_text word.Crash = codes "crash"
+word_text word.Start = codes "start"
+word_text (word.Alone w) = alone_text w
+word_text (word.Single w) = single_text w
+word_text (word.Double w) = double_text w
+word_text (word.Triple w) = triple_text w
 
 -- every word
 abbrev pub all_words : List Word
 all_words =
-    word.Seed ∷ word.Client ∷ word.Lock ∷ word.Settle ∷ word.Scan ∷ word.Hold ∷ word.Modes ∷ []
+    word.Seed ∷ word.Lock ∷ word.Crash ∷ word.Start
+    ∷ word.Alone alone.Settle ∷ word.Alone alone.Drop ∷ word.Alone alone.Missing
+    ∷ word.Alone alone.Index ∷ word.Alone alone.Writes ∷ word.Alone alone.Modes
+    ∷ word.Single single.Fill ∷ word.Single single.Client ∷ word.Single single.Leave
+    ∷ word.Single single.Tick ∷ word.Single single.Nudge ∷ word.Single single.Deliver
+    ∷ word.Single single.Next ∷ word.Single single.Status
+    ∷ word.Double double.Delete ∷ word.Double double.Unpin ∷ word.Double double.Hold
+    ∷ word.Triple triple.Insert ∷ word.Triple triple.Put ∷ word.Triple triple.Scan
+    ∷ word.Triple triple.Forget ∷ word.Triple triple.Pin ∷ []
 
 -- the word of this text
 abbrev pub word_named : List ℕ → Option Word
 word_named text = find (λ w. bytes_eq text (word_text w)) all_words
+
+-- what a word that stands alone asks for
+abbrev pub alone_request : Alone → Request
+alone_request alone.Settle = request.Settle
+alone_request alone.Drop = request.Drop
+alone_request alone.Missing = request.Show show.Missing
+alone_request alone.Index = request.Show show.Index
+alone_request alone.Writes = request.Show show.Writes
+alone_request alone.Modes = request.Modes
+
+-- what a word asks for with one number
+abbrev pub single_request : Single → ℕ → Request
+single_request single.Fill n = request.Fill n
+single_request single.Client c = request.Step (step.StartClient c)
+single_request single.Leave c = request.Step (step.Command c command.Leave)
+single_request single.Tick c = request.Step (step.Tick c)
+single_request single.Nudge c = request.Step (step.Nudge c)
+single_request single.Deliver i = request.Deliver i
+single_request single.Next n = request.Next n
+single_request single.Status c = request.Show (show.Status c)
+
+-- what a word asks for with a client and one more number
+abbrev pub double_request : Double → ℕ → ℕ → Request
+double_request double.Delete c k = request.Step (step.Command c (command.Write (write.Delete k)))
+double_request double.Unpin c id = request.Step (step.Command c (command.Unpin id))
+double_request double.Hold c p = request.Show (show.Hold c p)
+
+-- what a word tells a client to do, with two numbers
+abbrev pub triple_command : Triple → ℕ → ℕ → Command
+triple_command triple.Insert k v = command.Write (write.Insert k v)
+triple_command triple.Put k v = command.Write (write.Put k v)
+triple_command triple.Scan lo hi = command.Scan lo hi
+triple_command triple.Forget lo hi = command.Forget lo hi
+triple_command triple.Pin lo hi = command.Pin lo hi
+
+abbrev pub triple_request : Triple → ℕ → ℕ → ℕ → Request
+triple_request w c m n = request.Step (step.Command c (triple_command w m n))
 
 -- there are n arguments
 abbrev pub argument_count : ℕ → List (List ℕ) → Result Unit SyntaxFault
@@ -119,28 +206,64 @@ argument arguments i = slice_index_or arguments i []
 abbrev pub number_at : List (List ℕ) → ℕ → Result ℕ SyntaxFault
 number_at arguments i = or_fault BadNumber (number_of (argument arguments i))
 
--- What a word with these arguments asks for. How many there are comes first, and then they are
--- judged from left to right.
-unfoldable pub request_of : Word → List (List ℕ) → Result Request SyntaxFault
-request_of word.Seed arguments =
+-- one number, and no more arguments
+abbrev pub single_of : List (List ℕ) → Result ℕ SyntaxFault
+single_of arguments = argument_count 1 arguments >>= λ _. number_at arguments 0
+
+-- two numbers
+abbrev pub double_of : List (List ℕ) → Result (ℕ × ℕ) SyntaxFault
+double_of arguments =
+    argument_count 2 arguments >>= λ _. number_at arguments 0 >>= λ m.
+    number_at arguments 1 >>= λ n. Ok (m, n)
+
+-- three numbers
+abbrev pub triple_of : List (List ℕ) → Result (ℕ × ℕ × ℕ) SyntaxFault
+triple_of arguments =
+    argument_count 3 arguments >>= λ _. number_at arguments 0 >>= λ l.
+    number_at arguments 1 >>= λ m. number_at arguments 2 >>= λ n. Ok (l, m, n)
+
+-- one pair at least
+abbrev pub seed_of : List (List ℕ) → Result Request SyntaxFault
+seed_of arguments =
     if nat_lt (length arguments) 1 then Err MissingArgument
     else pairs_of arguments >>= λ pairs. Ok (request.Seed pairs)
-request_of word.Client arguments =
-    argument_count 1 arguments >>= λ _. number_at arguments 0 >>= λ c.
-    Ok (request.Step (step.StartClient c))
-request_of word.Lock arguments =
+
+-- a client, a point and a mode
+abbrev pub lock_of : List (List ℕ) → Result Request SyntaxFault
+lock_of arguments =
     argument_count 3 arguments >>= λ _. number_at arguments 0 >>= λ c.
     number_at arguments 1 >>= λ p. mode_of (argument arguments 2) >>= λ m.
     Ok (request.Step (step.Command c (command.Lock p m)))
-request_of word.Settle arguments = argument_count 0 arguments >>= λ _. Ok request.Settle
-request_of word.Scan arguments =
-    argument_count 3 arguments >>= λ _. number_at arguments 0 >>= λ c.
-    number_at arguments 1 >>= λ lo. number_at arguments 2 >>= λ hi.
-    Ok (request.Step (step.Command c (command.Scan lo hi)))
-request_of word.Hold arguments =
-    argument_count 2 arguments >>= λ _. number_at arguments 0 >>= λ c.
-    number_at arguments 1 >>= λ p. Ok (request.Hold c p)
-request_of word.Modes arguments = argument_count 0 arguments >>= λ _. Ok request.Modes
+
+-- the argument is the word 'server'
+abbrev pub is_server : List (List ℕ) → Bool
+is_server arguments = bytes_eq (argument arguments 0) (codes "server")
+
+-- 'server', or a client
+abbrev pub crash_of : List (List ℕ) → Result Request SyntaxFault
+crash_of arguments =
+    argument_count 1 arguments >>= λ _.
+    if is_server arguments then Ok (request.Step step.CrashServer)
+    else number_at arguments 0 >>= λ c. Ok (request.Step (step.CrashClient c))
+
+-- 'server'; 'start' with another argument is no word
+abbrev pub start_of : List (List ℕ) → Result Request SyntaxFault
+start_of arguments =
+    if nat_lt 0 (length arguments) && not (is_server arguments) then Err UnknownWord
+    else argument_count 1 arguments >>= λ _. Ok (request.Step step.StartServer)
+
+-- What a word with these arguments asks for. How many there are comes first, and then they are
+-- judged from left to right.
+unfoldable pub request_of : Word → List (List ℕ) → Result Request SyntaxFault
+request_of word.Seed arguments = seed_of arguments
+request_of word.Lock arguments = lock_of arguments
+request_of word.Crash arguments = crash_of arguments
+request_of word.Start arguments = start_of arguments
+request_of (word.Alone w) arguments = argument_count 0 arguments >>= λ _. Ok (alone_request w)
+request_of (word.Single w) arguments = single_of arguments >>= λ n. Ok (single_request w n)
+request_of (word.Double w) arguments = double_of arguments >>= λ x. Ok (double_request w x.0 x.1)
+request_of (word.Triple w) arguments =
+    triple_of arguments >>= λ x. Ok (triple_request w x.0 x.1 x.2)
 
 -- what a line of these words asks for, none of them empty
 abbrev pub meaning_of_words : List (List ℕ) → Result Request SyntaxFault
@@ -156,6 +279,7 @@ meaning_of line =
 -- the request makes a world
 abbrev pub makes_world : Request → Bool
 makes_world (request.Seed entries) = true
+makes_world (request.Fill n) = true
 makes_world other = false
 
 -- a request that makes a world may stand before every other one alone

@@ -6,6 +6,7 @@ use krl_world::Refused;
 pub enum Delivery {
     /// None waits.
     Idle,
+    /// It is delivered, and waits no more.
     Delivered,
     /// It waits on.
     Refused(Refused),

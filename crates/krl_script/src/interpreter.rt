@@ -1,58 +1,64 @@
 //! What a script keeps between two lines, and what each request does to it.
-ghost use Rattle.std.specs.Prelude.{◌≡◌, ℕ, ◌+◌, ◌-◌, ◌<◌, ◌≤◌, ◌++◌, ◌^◌, List, [], true, false, length, None, Some, IfOk, IfErr, OnOk};
-ghost use Rattle.std.specs.Result.{result_unwrap_or};
-ghost use Rattle.krl_world.specs.States.{State, fresh, sent_count};
-ghost use Rattle.krl_world.specs.Steps.{made, Steps};
+ghost use Rattle.std.specs.Prelude.{◌≡◌, ◌≢◌, [], true, MatchResult, IfOk, IfErr};
+ghost use Rattle.krl_world.specs.States.{fresh};
+ghost use Rattle.krl_world.specs.Fields as world;
+ghost use Rattle.krl_world.specs.Steps.{CanBegin, BeginsNot};
 ghost use Rattle.krl_script.specs.Words.{Gives, Fails, line_request};
-ghost use Rattle.krl_script.specs.Transcripts.{Stage, first_stage, numbers, after_step, Acts, Seeds, Tries, Settles, Holds, Obeys, ObeysLine};
+ghost use Rattle.krl_script.specs.Transcripts.{first_stage, counted, Acts, Delivers, DeliversThis, Settles, Tries, filled, Seeds, Obeys, ObeysLine};
+ghost use Rattle.krl_script.specs.Waiting.{none_waiting};
+ghost use Rattle.krl_script.specs.Printing.{refused_line, shown_lines};
+ghost use Rattle.krl_script.specs.Fields.{meaning};
 
 use crate::delivery::Delivery;
 use crate::fault::{LineFault, SyntaxFault};
 use crate::limits::{MAX_DELIVERIES, MAX_LINE, MAX_LINES};
 use crate::parse::request_of_line;
-use crate::print;
-use crate::request::{Entries, Request};
+use crate::request::{Request, Show};
+use crate::waiting::Waiting;
+use crate::{print, shown};
+use krl_messages::Value;
 use krl_world::{Answer, Refused, Step, World};
 use std::alloc::{AllocError, Global};
-use std::collections::VecDeque;
 use std::marker::Model;
 
-/// The world, and the numbers of the messages that wait, oldest first. Before the script's world is
-/// made it has no entries.
+// The most entries of an index.
+const MAX_ENTRIES: u64 = 65536;
+
+/// The world, and the messages that wait. Before the script's world is made it has no entries.
 #[derive(Drop)]
 pub struct Interpreter {
     alloc: Global,
     begun: bool,
     world: World,
-    waiting: VecDeque<u64>,
+    waiting: Waiting,
 }
 
 impl Model for Interpreter {
     ghost use Rattle.std.specs.Coded.{codes};
     ghost use Rattle.krl_world.specs.contracts.world.World as kept_world;
-    ghost use Rattle.krl_script.specs.Transcripts.{Stage};
+    ghost use Rattle.krl_script.specs.Fields.{Fields};
 
-    ghost Value = { Stage };
+    ghost Value = { Fields };
 
     ghost coded = { Prim.hlevel (codes, kept_world.the_row.coded) };
 
-    ghost view = { λ i. record { begun = i.begun; world = i.world; waiting = i.waiting.items } };
+    ghost view = { λ i. record { begun = i.begun; world = i.world; waits = i.waiting } };
 }
 
-// Puts the numbers of the messages after the first ones at the end.
-fn push_numbers(waiting: &mut VecDeque<u64>, sent: u64, more: u64) -> Result<(), AllocError>
-    requires { sent + more < 2 ^ 64 }
-    ensures ok { OnOk result (waiting.new.items ≡ waiting.old.items ++ numbers sent more) }
+// The entries with the keys from 0 on below n, each with its own number as its value.
+fn filled(alloc: Global, n: u64) -> Result<Vec<(u64, Value)>, AllocError>
+    ensures { IfOk result (λ entries. entries.items ≡ filled n) }
 {
-    for i in 0..more {
-        waiting.push_back(sent + i + 1)?;
+    let mut entries = Vec::new(alloc);
+    for key in 0..n {
+        entries.push((key, key))?;
     }
-    Ok(())
+    Ok(entries)
 }
 
 // A world with no entries.
 fn empty_world(alloc: Global) -> Result<World, AllocError>
-    ensures { IfOk result (λ world. world ≡ fresh []) }
+    ensures { IfOk result (λ w. world.meaning w ≡ fresh []) }
 {
     let none = Vec::new(alloc);
     match World::new(alloc, none) {
@@ -62,10 +68,15 @@ fn empty_world(alloc: Global) -> Result<World, AllocError>
 }
 
 // The world of these entries, or why they make none.
-fn make_world(alloc: Global, entries: Entries) -> Result<Result<World, Refused>, AllocError>
-    ensures { IfOk result (λ outcome. outcome ≡ made entries) }
+fn make_world(
+    alloc: Global,
+    entries: Vec<(u64, Value)>,
+) -> Result<Result<World, Refused>, AllocError>
+    ensures { IfOk result (λ outcome. MatchResult outcome
+        (λ w. CanBegin entries.items × (world.meaning w ≡ fresh entries.items))
+        (λ r. BeginsNot entries.items r × (r ≢ Refused.OutOfMemory))) }
 {
-    match World::new(alloc, entries.into_pairs()) {
+    match World::new(alloc, entries) {
         Ok(world) => Ok(Ok(world)),
         Err(refused) => match refused {
             Refused::OutOfMemory => Err(AllocError),
@@ -74,111 +85,169 @@ fn make_world(alloc: Global, entries: Entries) -> Result<Result<World, Refused>,
     }
 }
 
-// The world that was made, or one with no entries.
-fn made_or_empty(alloc: Global, outcome: Result<World, Refused>) -> Result<World, AllocError>
-    ensures { IfOk result (λ world. world ≡ result_unwrap_or outcome (fresh [])) }
-{
-    match outcome {
-        Ok(world) => Ok(world),
-        Err(_) => empty_world(alloc),
-    }
-}
-
 impl Interpreter {
     /// Before the first line: no world is made.
     pub fn new(alloc: Global) -> Result<Interpreter, AllocError>
-        ensures { IfOk result (λ interpreter. interpreter ≡ first_stage) }
+        ensures { IfOk result (λ i. meaning i ≡ first_stage) }
     {
         Ok(Interpreter {
             alloc,
             begun: false,
             world: empty_world(alloc)?,
-            waiting: VecDeque::new(alloc),
+            waiting: Waiting::new(alloc),
         })
     }
 
-    // One step of the world.
-    fn take_step(&mut self, step: Step) -> Result<Result<Answer, Refused>, AllocError>
-        ensures { IfOk result (λ r. (w : State) × Steps self.old.world step r w
-            × (self.new ≡ after_step self.old.world self.old.waiting w)) }
+    // What the world has sent is counted.
+    fn count(&mut self) -> Result<(), AllocError>
+        ensures { IfOk result (λ done.
+            meaning self.new ≡ counted (world.meaning self.old.world) self.old.waits) }
     {
         self.begun = true;
-        let before = self.world.sent();
-        let outcome = self.world.step(step);
-        let after = self.world.sent();
-        push_numbers(&mut self.waiting, before, after.saturating_sub(before))?;
-        Ok(outcome)
+        let sent = self.world.sent();
+        self.waiting.count(sent)
     }
 
+    // One step of the world, and the line of what it answers.
     fn act(&mut self, step: Step) -> Result<String, AllocError>
-        ensures { IfOk result (λ line. Acts self.old step line.bytes.items self.new) }
+        ensures { IfOk result (λ line.
+            Acts (meaning self.old) step line.bytes.items (meaning self.new)) }
     {
-        let outcome = self.take_step(step)?;
+        let outcome = self.world.step(step);
+        self.count()?;
         print::outcome(self.alloc, &outcome)
     }
 
-    fn seed(&mut self, entries: Entries) -> Result<String, AllocError>
-        ensures { IfOk result (λ line. Seeds self.old entries line.bytes.items self.new) }
+    // Delivers the message of this number, which then waits no more, unless that is refused.
+    fn deliver(&mut self, number: u64) -> Result<Result<Answer, Refused>, AllocError>
+        ensures { IfOk result (λ outcome.
+            Delivers (meaning self.old) number outcome (meaning self.new)) }
     {
-        let outcome = make_world(self.alloc, entries)?;
-        let line = print::making(self.alloc, &outcome)?;
-        self.begun = true;
-        self.world = made_or_empty(self.alloc, outcome)?;
-        Ok(line)
+        let outcome = self.world.step(Step::Deliver(number));
+        if outcome.is_ok() {
+            self.waiting.remove(number);
+        }
+        self.count()?;
+        Ok(outcome)
+    }
+
+    fn deliver_this(&mut self, number: u64) -> Result<String, AllocError>
+        ensures { IfOk result (λ line.
+            DeliversThis (meaning self.old) number line.bytes.items (meaning self.new)) }
+    {
+        let outcome = self.deliver(number)?;
+        print::outcome(self.alloc, &outcome)
     }
 
     // Delivers the oldest waiting message. One whose delivery is refused waits on.
     fn deliver_oldest(&mut self) -> Result<Delivery, AllocError>
-        requires { self.old.begun ≡ true }
-        ensures { IfOk result (λ delivery. Tries self.old delivery self.new) }
+        ensures { IfOk result (λ delivery. Tries (meaning self.old) delivery (meaning self.new)) }
     {
-        let number = match self.waiting.front() {
-            None => return Ok(Delivery::Idle),
-            Some(number) => *number,
+        let Some(number) = self.waiting.oldest() else {
+            return Ok(Delivery::Idle);
         };
-        if let Err(refused) = self.take_step(Step::Deliver(number))? {
-            return Ok(Delivery::Refused(refused));
+        match self.deliver(number)? {
+            Ok(_) => Ok(Delivery::Delivered),
+            Err(refused) => Ok(Delivery::Refused(refused)),
         }
-        let _ = self.waiting.pop_front();
-        Ok(Delivery::Delivered)
     }
 
-    fn settle(&mut self) -> Result<String, AllocError>
-        ensures { IfOk result (λ line. Settles self.old line.bytes.items self.new) }
+    // Delivers waiting messages, the oldest first, at most so many. The text tells of one that
+    // still waits then.
+    fn settle(&mut self, most: u64, unsettled: &str) -> Result<String, AllocError>
+        ensures { IfOk result (λ line. Settles most unsettled.now
+            (meaning self.old) line.bytes.items (meaning self.new)) }
     {
         self.begun = true;
-        'deliveries: for _ in 0..MAX_DELIVERIES {
+        'deliveries: for _ in 0..most {
             match self.deliver_oldest()? {
                 Delivery::Idle => return Ok(String::new(self.alloc)),
                 Delivery::Delivered => {}
                 Delivery::Refused(refused) => return print::refused(self.alloc, refused),
             }
         }
-        if self.waiting.front().is_some() {
-            return print::unsettled(self.alloc);
+        if self.waiting.oldest().is_some() {
+            return print::text(self.alloc, unsettled);
         }
         Ok(String::new(self.alloc))
     }
 
-    // What the client holds at the point, or the refusal.
-    fn hold(&mut self, client: u64, point: u64) -> Result<String, AllocError>
-        ensures { IfOk result (λ line. Holds self.old client point line.bytes.items self.new) }
+    // The world has no entries, and this tells why.
+    fn refuse(&mut self, refused: Refused) -> Result<String, AllocError>
+        ensures { IfOk result (λ line. (line.bytes.items ≡ refused_line refused)
+            × (meaning self.new ≡ record (meaning self.old) { begun = true; world = fresh [] })) }
     {
         self.begun = true;
-        let (range, key) = self.world.held(client, point);
-        print::held(self.alloc, client, point, range, key)
+        self.world = empty_world(self.alloc)?;
+        print::refused(self.alloc, refused)
+    }
+
+    // A world of these entries, or the refusal and a world of none.
+    fn seed(&mut self, entries: Vec<(u64, Value)>) -> Result<String, AllocError>
+        ensures { IfOk result (λ line.
+            Seeds (meaning self.old) entries.items line.bytes.items (meaning self.new)) }
+    {
+        match make_world(self.alloc, entries)? {
+            Ok(world) => {
+                self.begun = true;
+                self.world = world;
+                Ok(String::new(self.alloc))
+            }
+            Err(refused) => self.refuse(refused),
+        }
+    }
+
+    // A world of this many entries. More than there may be are refused before they are listed.
+    fn fill(&mut self, n: u64) -> Result<String, AllocError>
+        ensures { IfOk result (λ line.
+            Seeds (meaning self.old) (filled n) line.bytes.items (meaning self.new)) }
+    {
+        if n > MAX_ENTRIES {
+            return self.refuse(Refused::Full);
+        }
+        let entries = filled(self.alloc, n)?;
+        self.seed(entries)
+    }
+
+    // No message waits any more.
+    fn drop_waiting(&mut self)
+        ensures { meaning self.new ≡ record (meaning self.old) {
+          begun = true;
+          waits = none_waiting self.old.waits;
+        } }
+    {
+        self.begun = true;
+        self.waiting.drop_all();
+    }
+
+    // The line of what is read of the world.
+    fn show(&mut self, what: Show) -> Result<String, AllocError>
+        ensures line { IfOk result (λ line.
+            line.bytes.items ≡ shown_lines (world.meaning self.old.world) what) }
+        ensures begun { meaning self.new ≡ record (meaning self.old) { begun = true } }
+    {
+        self.begun = true;
+        shown::line(self.alloc, &self.world, what)
     }
 
     /// Does what is asked for, and gives what that prints.
     pub fn obey(&mut self, request: Request) -> Result<String, AllocError>
-        ensures { IfOk result (λ line. Obeys self.old request line.bytes.items self.new) }
+        ensures { IfOk result (λ line.
+            Obeys (meaning self.old) request line.bytes.items (meaning self.new)) }
     {
         match request {
             Request::Nothing => Ok(String::new(self.alloc)),
-            Request::Seed(entries) => self.seed(entries),
+            Request::Seed(entries) => self.seed(entries.into_pairs()),
+            Request::Fill(n) => self.fill(n),
             Request::Step(step) => self.act(step),
-            Request::Settle => self.settle(),
-            Request::Hold { client, point } => self.hold(client, point),
+            Request::Deliver(number) => self.deliver_this(number),
+            Request::Next(n) => self.settle(n, ""),
+            Request::Settle => self.settle(MAX_DELIVERIES, "unsettled\n"),
+            Request::Drop => {
+                self.drop_waiting();
+                Ok(String::new(self.alloc))
+            }
+            Request::Show(what) => self.show(what),
             Request::Modes => print::modes(self.alloc),
         }
     }
@@ -204,7 +273,7 @@ impl Interpreter {
     /// Does what a line asks for, and gives what that prints; or says the line's first fault.
     pub fn obey_line(&mut self, number: u64, line: &[u8]) -> Result<String, LineFault>
         ensures done { IfOk result (λ printed.
-            ObeysLine self.old number line.now printed.bytes.items self.new) }
+            ObeysLine (meaning self.old) number line.now printed.bytes.items (meaning self.new)) }
         ensures fault { IfErr result (λ e. Fails e (line_request self.old.begun number line.now)) }
     {
         let request = self.request(number, line)?;

@@ -11,8 +11,10 @@ mod parse;
 mod print;
 mod request;
 mod run;
+mod shown;
 mod source;
 mod transfer;
+mod waiting;
 mod word;
 
 pub use fault::{ScriptFault, SyntaxFault};

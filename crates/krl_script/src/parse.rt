@@ -2,7 +2,7 @@
 ghost use Rattle.std.specs.Prelude.{◌≡◌, ℕ, ◌+◌, ◌<◌, ◌≤◌, ◌^◌, List, [], map, length, IfOk, OnOk, IfSome, nat_eq, position};
 ghost use Rattle.std.specs.List.{slice_split};
 ghost use Rattle.std.specs.Str.{bytes_eq};
-ghost use Rattle.krl_script.specs.Words.{Gives, words_of, digits_of, number_of, pair_of, pairs_of, mode_of, argument_count, argument, or_fault, request_of, meaning_of_words, meaning_of};
+ghost use Rattle.krl_script.specs.Words.{Gives, words_of, digits_of, number_of, pair_of, pairs_of, mode_of, argument_count, argument, or_fault, single_of, double_of, triple_of, seed_of, lock_of, crash_of, start_of, request_of, meaning_of_words, meaning_of};
 
 use crate::fault::{LineFault, SyntaxFault};
 use crate::request::{Entries, Request};
@@ -118,50 +118,101 @@ fn mode_at(arguments: &[&[u8]], i: usize) -> Result<Mode, LineFault>
     mode(arguments[i])
 }
 
+// The one number that a word takes.
+fn single(arguments: &[&[u8]]) -> Result<u64, LineFault>
+    ensures { Gives result (single_of (map (λ word. word.now) arguments.now)) }
+{
+    count(1, arguments)?;
+    number_at(arguments, 0)
+}
+
+// The two numbers that a word takes.
+fn double(arguments: &[&[u8]]) -> Result<(u64, u64), LineFault>
+    ensures { Gives result (double_of (map (λ word. word.now) arguments.now)) }
+{
+    count(2, arguments)?;
+    let first = number_at(arguments, 0)?;
+    let second = number_at(arguments, 1)?;
+    Ok((first, second))
+}
+
+// The three numbers that a word takes.
+fn triple(arguments: &[&[u8]]) -> Result<(u64, u64, u64), LineFault>
+    ensures { Gives result (triple_of (map (λ word. word.now) arguments.now)) }
+{
+    count(3, arguments)?;
+    let first = number_at(arguments, 0)?;
+    let second = number_at(arguments, 1)?;
+    let third = number_at(arguments, 2)?;
+    Ok((first, second, third))
+}
+
+fn seed(alloc: Global, arguments: &[&[u8]]) -> Result<Request, LineFault>
+    ensures { Gives result (seed_of (map (λ word. word.now) arguments.now)) }
+{
+    if arguments.is_empty() {
+        return Err(LineFault::Syntax(SyntaxFault::MissingArgument));
+    }
+    let entries = pairs(alloc, arguments)?;
+    Ok(Request::Seed(entries))
+}
+
+fn lock(arguments: &[&[u8]]) -> Result<Request, LineFault>
+    ensures { Gives result (lock_of (map (λ word. word.now) arguments.now)) }
+{
+    count(3, arguments)?;
+    let client = number_at(arguments, 0)?;
+    let point = number_at(arguments, 1)?;
+    let mode = mode_at(arguments, 2)?;
+    Ok(Request::Step(Step::Command(client, Command::Lock { point, mode })))
+}
+
+fn crash(arguments: &[&[u8]]) -> Result<Request, LineFault>
+    ensures { Gives result (crash_of (map (λ word. word.now) arguments.now)) }
+{
+    count(1, arguments)?;
+    if is_text(arguments[0], "server") {
+        return Ok(Request::Step(Step::CrashServer));
+    }
+    let client = number_at(arguments, 0)?;
+    Ok(Request::Step(Step::CrashClient(client)))
+}
+
+// What is started is a part of the word, so another one is an unknown word.
+fn start(arguments: &[&[u8]]) -> Result<Request, LineFault>
+    ensures { Gives result (start_of (map (λ word. word.now) arguments.now)) }
+{
+    if !arguments.is_empty() && !is_text(arguments[0], "server") {
+        return Err(LineFault::Syntax(SyntaxFault::UnknownWord));
+    }
+    count(1, arguments)?;
+    Ok(Request::Step(Step::StartServer))
+}
+
 #[tactic(auto, unfolding(crate::specs::Words::request_of))]
 fn request(alloc: Global, word: Word, arguments: &[&[u8]]) -> Result<Request, LineFault>
     ensures { Gives result (request_of word (map (λ word. word.now) arguments.now)) }
 {
     match word {
-        Word::Seed => {
-            if arguments.is_empty() {
-                return Err(LineFault::Syntax(SyntaxFault::MissingArgument));
-            }
-            let entries = pairs(alloc, arguments)?;
-            Ok(Request::Seed(entries))
-        }
-        Word::Client => {
-            count(1, arguments)?;
-            let client = number_at(arguments, 0)?;
-            Ok(Request::Step(Step::StartClient(client)))
-        }
-        Word::Lock => {
-            count(3, arguments)?;
-            let client = number_at(arguments, 0)?;
-            let point = number_at(arguments, 1)?;
-            let mode = mode_at(arguments, 2)?;
-            Ok(Request::Step(Step::Command(client, Command::Lock { point, mode })))
-        }
-        Word::Settle => {
+        Word::Seed => seed(alloc, arguments),
+        Word::Lock => lock(arguments),
+        Word::Crash => crash(arguments),
+        Word::Start => start(arguments),
+        Word::Alone(word) => {
             count(0, arguments)?;
-            Ok(Request::Settle)
+            Ok(word.request())
         }
-        Word::Scan => {
-            count(3, arguments)?;
-            let client = number_at(arguments, 0)?;
-            let lo = number_at(arguments, 1)?;
-            let hi = number_at(arguments, 2)?;
-            Ok(Request::Step(Step::Command(client, Command::Scan { lo, hi })))
+        Word::Single(word) => {
+            let number = single(arguments)?;
+            Ok(word.request(number))
         }
-        Word::Hold => {
-            count(2, arguments)?;
-            let client = number_at(arguments, 0)?;
-            let point = number_at(arguments, 1)?;
-            Ok(Request::Hold { client, point })
+        Word::Double(word) => {
+            let (client, second) = double(arguments)?;
+            Ok(word.request(client, second))
         }
-        Word::Modes => {
-            count(0, arguments)?;
-            Ok(Request::Modes)
+        Word::Triple(word) => {
+            let (client, second, third) = triple(arguments)?;
+            Ok(word.request(client, second, third))
         }
     }
 }

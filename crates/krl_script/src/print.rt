@@ -1,11 +1,12 @@
 //! The lines that are printed.
 ghost use Rattle.std.specs.Prelude.{◌≡◌, ◌++◌, IfOk, OnOk};
 ghost use Rattle.std.specs.List.{flat_map};
-ghost use Rattle.krl_script.specs.Printing.{row_text, refused_line, rows_line, answer_lines, outcome_lines, making_lines, hold_line, beside_text, compatible_line, join_line, modes_lines, unsettled_line, fault_line};
+ghost use Rattle.krl_script.specs.Printing.{row_text, refused_line, rows_line, answer_lines, outcome_lines, beside_text, compatible_line, join_line, modes_lines, fault_line};
 
 use crate::fault::SyntaxFault;
-use krl_modes::{END, KeyPart, Mode, RangePart};
-use krl_world::{Answer, Refused, World};
+use krl_messages::Value;
+use krl_modes::Mode;
+use krl_world::{Answer, Refused};
 use std::alloc::{AllocError, Global};
 
 // The pairs of published modes whose joins are the conversion modes.
@@ -25,14 +26,23 @@ pub fn refused(alloc: Global, refused: Refused) -> Result<String, AllocError>
     format!(in alloc; "refused {name}\n")
 }
 
-// The line of a scan's rows.
-fn rows(alloc: Global, rows: &[(u64, u64)]) -> Result<String, AllocError>
-    ensures { IfOk result (λ line. line.bytes.items ≡ rows_line rows.now) }
+/// Puts each row at the end of a line.
+pub fn push_rows(line: &mut String, rows: &[(u64, Value)]) -> Result<(), AllocError>
+    ensures { OnOk result
+        (line.new.bytes.items ≡ line.old.bytes.items ++ flat_map row_text rows.now) }
 {
-    let mut line = format!(in alloc; "rows")?;
     for (key, value) in rows {
         write!(line, " {key}={value}")?;
     }
+    Ok(())
+}
+
+// The line of a scan's rows.
+fn rows(alloc: Global, rows: &[(u64, Value)]) -> Result<String, AllocError>
+    ensures { IfOk result (λ line. line.bytes.items ≡ rows_line rows.now) }
+{
+    let mut line = format!(in alloc; "rows")?;
+    push_rows(&mut line, rows)?;
     line.push('\n')?;
     Ok(line)
 }
@@ -43,8 +53,10 @@ pub fn answered(alloc: Global, answer: &Answer) -> Result<String, AllocError>
 {
     match answer {
         Answer::Done => Ok(String::new(alloc)),
+        Answer::Pinned(id) => format!(in alloc; "pin {id}\n"),
         Answer::Rows(list) => rows(alloc, list.as_slice()),
         Answer::Miss(point) => format!(in alloc; "miss {point}\n"),
+        Answer::Pending(key) => format!(in alloc; "pending {key}\n"),
     }
 }
 
@@ -56,36 +68,6 @@ pub fn outcome(alloc: Global, outcome: &Result<Answer, Refused>) -> Result<Strin
         Ok(answer) => answered(alloc, answer),
         Err(reason) => refused(alloc, *reason),
     }
-}
-
-/// The lines of making the world: one for a refusal, or none.
-pub fn making(alloc: Global, outcome: &Result<World, Refused>) -> Result<String, AllocError>
-    ensures { IfOk result (λ lines. lines.bytes.items ≡ making_lines outcome.now) }
-{
-    match outcome {
-        Ok(_) => Ok(String::new(alloc)),
-        Err(reason) => refused(alloc, *reason),
-    }
-}
-
-/// The line of what a client holds at a point: its range part and its key part there. A client
-/// above 63 is refused, and then a point above END.
-pub fn held(
-    alloc: Global,
-    client: u64,
-    point: u64,
-    range: RangePart,
-    key: KeyPart,
-) -> Result<String, AllocError>
-    ensures { IfOk result (λ line. line.bytes.items ≡ hold_line client point range key) }
-{
-    if client > 63 {
-        return refused(alloc, Refused::BadClient);
-    }
-    if point > END {
-        return refused(alloc, Refused::BadPoint);
-    }
-    format!(in alloc; "hold {} {}\n", range.name(), key.name())
 }
 
 // The other mode's name, where the two go together.
@@ -165,11 +147,11 @@ pub fn modes(alloc: Global) -> Result<String, AllocError>
     Ok(lines)
 }
 
-/// The line of a `settle` that reached its bound.
-pub fn unsettled(alloc: Global) -> Result<String, AllocError>
-    ensures { IfOk result (λ line. line.bytes.items ≡ unsettled_line) }
+/// The text alone.
+pub fn text(alloc: Global, text: &str) -> Result<String, AllocError>
+    ensures { IfOk result (λ line. line.bytes.items ≡ text.now) }
 {
-    format!(in alloc; "unsettled\n")
+    format!(in alloc; "{text}")
 }
 
 /// The line of a fault in the line of this number.

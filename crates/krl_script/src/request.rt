@@ -1,36 +1,55 @@
 //! What a line asks for.
-ghost use Rattle.std.specs.Prelude.{◌≡◌, ℕ, List};
+ghost use Rattle.std.specs.Prelude.{◌≡◌};
 
+use krl_messages::Value;
 use krl_world::Step;
 use std::marker::Model;
 
 /// Entries of an index, each a key and its value, in the order of the line.
 #[derive(Drop)]
 pub struct Entries {
-    pairs: Vec<(u64, u64)>,
+    pairs: Vec<(u64, Value)>,
 }
 
 impl Model for Entries {
-    ghost Value = { List (ℕ × ℕ) };
+    ghost use Rattle.std.specs.Prelude.{ℕ, List};
+    ghost use Rattle.krl_messages.specs.Values as values;
+
+    ghost Value = { List (ℕ × values.Value) };
 
     ghost view = { λ e. e.pairs.items };
 }
 
-impl From<Vec<(u64, u64)>> for Entries {
+impl From<Vec<(u64, Value)>> for Entries {
     ghost from_gives = { λ pairs entries. entries ≡ pairs.items };
 
-    fn from(pairs: Vec<(u64, u64)>) -> Entries {
+    fn from(pairs: Vec<(u64, Value)>) -> Entries {
         Entries { pairs }
     }
 }
 
 impl Entries {
-    pub fn into_pairs(self) -> Vec<(u64, u64)>
+    pub fn into_pairs(self) -> Vec<(u64, Value)>
         ensures { result.items ≡ self }
     {
         let Entries { pairs } = self;
         pairs
     }
+}
+
+/// What is read of a world.
+#[derive(Clone, Copy)]
+pub enum Show {
+    /// What a client holds at a point.
+    Hold { client: u64, point: u64 },
+    /// The state of a client.
+    Status(u64),
+    /// The clients that have not reported to the server.
+    Missing,
+    /// The entries of the index.
+    Index,
+    /// The writes that were applied.
+    Writes,
 }
 
 /// What a line asks for.
@@ -40,12 +59,20 @@ pub enum Request {
     Nothing,
     /// A world with these entries.
     Seed(Entries),
-    /// A step of the world.
+    /// A world with this many entries: the keys from 0 on, each with its own number as its value.
+    Fill(u64),
+    /// A step of the world, other than a delivery.
     Step(Step),
+    /// The message of this number is delivered.
+    Deliver(u64),
+    /// This many deliveries, or until no message waits.
+    Next(u64),
     /// Deliveries until no message waits.
     Settle,
-    /// What a client holds at a point.
-    Hold { client: u64, point: u64 },
+    /// No message waits any longer.
+    Drop,
+    /// What is read of the world.
+    Show(Show),
     /// The tables of modes.
     Modes,
 }
@@ -57,6 +84,6 @@ impl Request {
     pub fn makes_world(&self) -> bool
         ensures { result ≡ makes_world self.now }
     {
-        matches!(self, Request::Seed(_))
+        matches!(self, Request::Seed(_) | Request::Fill(_))
     }
 }

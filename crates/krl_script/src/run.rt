@@ -3,6 +3,7 @@ ghost use Rattle.std.specs.Prelude.{◌≡◌, ℕ, ◌≤◌, length, Some, IfE
 ghost use Rattle.std.specs.Str.Lines.{lines};
 ghost use Rattle.krl_script.specs.Limits.{most_text, most_turns};
 ghost use Rattle.krl_script.specs.Transcripts.{first_stage, Prints};
+ghost use Rattle.krl_script.specs.Fields.{meaning};
 ghost use Rattle.krl_script.specs.Runs.{Counts, MayEndReading, Wrote, EndsInFault, RunsLine, Ran};
 
 use crate::fault::{LineFault, ScriptFault, SyntaxFault};
@@ -38,7 +39,7 @@ fn run_line<W: Sink>(
     line: &[u8],
 ) -> Result<(), ScriptFault>
     ensures runs { RunsLine (W.contents writer.old) (W.contents writer.new)
-        interpreter.old number line.now result interpreter.new }
+        (meaning interpreter.old) number line.now result (meaning interpreter.new) }
     ensures steady { W.is_steady writer.old →
         (¬ IsErrOf result ScriptFault.Write) × OnOk result (W.is_steady writer.new) }
 {

@@ -1,28 +1,233 @@
 //! The words that begin a line.
 ghost use Rattle.std.specs.Prelude.{◌≡◌};
-ghost use Rattle.krl_script.specs.Words.{word_text, word_named};
+ghost use Rattle.krl_script.specs.Words.{alone_text, single_text, double_text, triple_text, word_text, word_named, alone_request, single_request, double_request, triple_command, triple_request};
 
-/// The first word of a line, which says what the line asks for.
+use crate::request::{Request, Show};
+use krl_messages::WriteOp;
+use krl_world::{Command, Step};
+
+/// The words that stand alone.
 #[derive(Clone, Copy)]
-pub enum Word {
-    Seed,
-    Client,
-    Lock,
+pub enum Alone {
     Settle,
-    Scan,
-    Hold,
+    Drop,
+    Missing,
+    Index,
+    Writes,
     Modes,
 }
 
+impl Alone {
+    /// The word as it stands in a script.
+    pub fn text(self) -> &'static str
+        ensures { result.now ≡ alone_text self }
+    {
+        match self {
+            Alone::Settle => "settle",
+            Alone::Drop => "drop",
+            Alone::Missing => "missing",
+            Alone::Index => "index",
+            Alone::Writes => "writes",
+            Alone::Modes => "modes",
+        }
+    }
+
+    /// What the word asks for.
+    pub fn request(self) -> Request
+        ensures { result ≡ alone_request self }
+    {
+        match self {
+            Alone::Settle => Request::Settle,
+            Alone::Drop => Request::Drop,
+            Alone::Missing => Request::Show(Show::Missing),
+            Alone::Index => Request::Show(Show::Index),
+            Alone::Writes => Request::Show(Show::Writes),
+            Alone::Modes => Request::Modes,
+        }
+    }
+}
+
+/// The words that take one number.
+#[derive(Clone, Copy)]
+pub enum Single {
+    Fill,
+    Client,
+    Leave,
+    Tick,
+    Nudge,
+    Deliver,
+    Next,
+    Status,
+}
+
+impl Single {
+    /// The word as it stands in a script.
+    pub fn text(self) -> &'static str
+        ensures { result.now ≡ single_text self }
+    {
+        match self {
+            Single::Fill => "fill",
+            Single::Client => "client",
+            Single::Leave => "leave",
+            Single::Tick => "tick",
+            Single::Nudge => "nudge",
+            Single::Deliver => "deliver",
+            Single::Next => "next",
+            Single::Status => "status",
+        }
+    }
+
+    /// What the word asks for with this number.
+    pub fn request(self, number: u64) -> Request
+        ensures { result ≡ single_request self number }
+    {
+        match self {
+            Single::Fill => Request::Fill(number),
+            Single::Client => Request::Step(Step::StartClient(number)),
+            Single::Leave => Request::Step(Step::Command(number, Command::Leave)),
+            Single::Tick => Request::Step(Step::Tick(number)),
+            Single::Nudge => Request::Step(Step::Nudge(number)),
+            Single::Deliver => Request::Deliver(number),
+            Single::Next => Request::Next(number),
+            Single::Status => Request::Show(Show::Status(number)),
+        }
+    }
+}
+
+/// The words that take a client and one more number.
+#[derive(Clone, Copy)]
+pub enum Double {
+    Delete,
+    Unpin,
+    Hold,
+}
+
+impl Double {
+    /// The word as it stands in a script.
+    pub fn text(self) -> &'static str
+        ensures { result.now ≡ double_text self }
+    {
+        match self {
+            Double::Delete => "delete",
+            Double::Unpin => "unpin",
+            Double::Hold => "hold",
+        }
+    }
+
+    /// What the word asks for with these numbers.
+    pub fn request(self, client: u64, second: u64) -> Request
+        ensures { result ≡ double_request self client second }
+    {
+        match self {
+            Double::Delete => {
+                let op = WriteOp::Delete { key: second };
+                Request::Step(Step::Command(client, Command::Write(op)))
+            }
+            Double::Unpin => Request::Step(Step::Command(client, Command::Unpin(second))),
+            Double::Hold => Request::Show(Show::Hold {
+                client,
+                point: second,
+            }),
+        }
+    }
+}
+
+/// The words that take a client and two more numbers.
+#[derive(Clone, Copy)]
+pub enum Triple {
+    Insert,
+    Put,
+    Scan,
+    Forget,
+    Pin,
+}
+
+impl Triple {
+    /// The word as it stands in a script.
+    pub fn text(self) -> &'static str
+        ensures { result.now ≡ triple_text self }
+    {
+        match self {
+            Triple::Insert => "insert",
+            Triple::Put => "put",
+            Triple::Scan => "scan",
+            Triple::Forget => "forget",
+            Triple::Pin => "pin",
+        }
+    }
+
+    // What the client is told to do.
+    fn command(self, second: u64, third: u64) -> Command
+        ensures { result ≡ triple_command self second third }
+    {
+        let (lo, hi) = (second, third);
+        let (key, value) = (second, third);
+        match self {
+            Triple::Insert => Command::Write(WriteOp::Insert { key, value }),
+            Triple::Put => Command::Write(WriteOp::Put { key, value }),
+            Triple::Scan => Command::Scan { lo, hi },
+            Triple::Forget => Command::Forget { lo, hi },
+            Triple::Pin => Command::Pin { lo, hi },
+        }
+    }
+
+    /// What the word asks for with these numbers.
+    pub fn request(self, client: u64, second: u64, third: u64) -> Request
+        ensures { result ≡ triple_request self client second third }
+    {
+        Request::Step(Step::Command(client, self.command(second, third)))
+    }
+}
+
+/// The first word of a line, which says what the line asks for, by the arguments that it takes.
+#[derive(Clone, Copy)]
+pub enum Word {
+    /// `seed`, and pairs of a key and its value.
+    Seed,
+    /// `lock`, a client, a point and a mode.
+    Lock,
+    /// `crash`, and a client or the word `server`.
+    Crash,
+    /// `start`, and the word `server`.
+    Start,
+    /// Nothing.
+    Alone(Alone),
+    /// One number.
+    Single(Single),
+    /// A client and a number.
+    Double(Double),
+    /// A client and two numbers.
+    Triple(Triple),
+}
+
 // Every word.
-static WORDS: [Word; 7] = [
+static WORDS: [Word; 26] = [
     Word::Seed,
-    Word::Client,
     Word::Lock,
-    Word::Settle,
-    Word::Scan,
-    Word::Hold,
-    Word::Modes,
+    Word::Crash,
+    Word::Start,
+    Word::Alone(Alone::Settle),
+    Word::Alone(Alone::Drop),
+    Word::Alone(Alone::Missing),
+    Word::Alone(Alone::Index),
+    Word::Alone(Alone::Writes),
+    Word::Alone(Alone::Modes),
+    Word::Single(Single::Fill),
+    Word::Single(Single::Client),
+    Word::Single(Single::Leave),
+    Word::Single(Single::Tick),
+    Word::Single(Single::Nudge),
+    Word::Single(Single::Deliver),
+    Word::Single(Single::Next),
+    Word::Single(Single::Status),
+    Word::Double(Double::Delete),
+    Word::Double(Double::Unpin),
+    Word::Double(Double::Hold),
+    Word::Triple(Triple::Insert),
+    Word::Triple(Triple::Put),
+    Word::Triple(Triple::Scan),
+    Word::Triple(Triple::Forget),
+    Word::Triple(Triple::Pin),
 ];
 
 impl Word {
@@ -32,12 +237,13 @@ impl Word {
     {
         match self {
             Word::Seed => "seed",
-            Word::Client => "client",
             Word::Lock => "lock",
-            Word::Settle => "settle",
-            Word::Scan => "scan",
-            Word::Hold => "hold",
-            Word::Modes => "modes",
+            Word::Crash => "crash",
+            Word::Start => "start",
+            Word::Alone(word) => word.text(),
+            Word::Single(word) => word.text(),
+            Word::Double(word) => word.text(),
+            Word::Triple(word) => word.text(),
         }
     }
 

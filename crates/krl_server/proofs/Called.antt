@@ -1,14 +1,16 @@
 -- The callbacks, as the code makes them.
-use Rattle.std.proofs.Common.{◌≡◌, ℕ, zero, suc, ◌+◌, ◌≤◌, ◌<◌, Bool, true, false, Some, None, List, [], ◌∷◌, ◌++◌, length, inl, inr, refl, sym, ap, subst, ◌∙◌, append_assoc, arith, length-append}
+use Rattle.std.proofs.Common.{◌≡◌, ◌||◌, nat_eq, ℕ, zero, suc, ◌+◌, ◌≤◌, ◌<◌, Bool, true, false, Some, None, List, [], ◌∷◌, ◌++◌, length, inl, inr, refl, sym, ap, subst, ◌∙◌, append_assoc, arith, length-append}
 use Rattle.std.proofs.lemmas.List.{append-nil}
 use Rattle.std.specs.Prelude.{if◌then◌else◌}
-use Rattle.krl_modes.specs.Modes.{cap}
+use Rattle.krl_modes.specs.declared.mode.Mode.{Mode}
+use Rattle.krl_modes.specs.Spans.{Bounds}
+use Rattle.krl_modes.specs.Modes.{compatible, cap}
 use Rattle.krl_modes.specs.declared.point.TheConstants.{END}
 use Rattle.krl_messages.specs.declared.to_client.ToClient.{ToClient}
 use Rattle.krl_queue.specs.declared.waiter.Waiter.{Waiter}
 use Rattle.krl_protocol.specs.Links.{In}
 use Rattle.krl_durable.specs.Index.{is_slot, slots, span_of}
-use Rattle.krl_table.specs.Rows.{front_of, most_clients}
+use Rattle.krl_table.specs.Rows.{front_of, most_clients, mode_at}
 use Rattle.krl_table.specs.Calls.{wanted}
 use Rattle.krl_table.specs.Replies.{asks_absent}
 use Rattle.krl_server.specs.Servers.{Server}
@@ -22,6 +24,16 @@ use Rattle.krl_server.proofs.Boxes.{sends_more, sends_length}
 use Rattle.krl_server.proofs.Numbers.{sixty_four}
 use Rattle.krl_server.proofs.Turning.{front_is, front_none}
 use Rattle.krl_server.proofs.Rounds.{Ascends, slots_ascend}
+
+-- the callback to one client, by what was looked up
+pub callback_is : (s : Server) (n : ℕ) (u : Waiter) (d : ℕ) (w held : Mode) (span : Bounds) (more : List ToClient)
+    → more ≡ (if nat_eq d u.client || compatible w held then [] else callback_to s d span (cap w) ∷ [])
+    → w ≡ wanted (s.rows n) u → held ≡ mode_at s.rows n d → span ≡ span_of s.durable.index n → more ≡ callback_if s n u d
+callback_is s n u d w held span more is wants holds spans =
+    is
+    ∙ ap (λ x. if nat_eq d u.client || compatible x held then [] else callback_to s d span (cap x) ∷ []) wants
+    ∙ ap (λ x. if nat_eq d u.client || compatible (wanted (s.rows n) u) x then [] else callback_to s d span (cap (wanted (s.rows n) u)) ∷ []) holds
+    ∙ ap (λ x. if is_beside s n u d then [] else callback_to s d x (cap (wanted (s.rows n) u)) ∷ []) spans
 
 -- one client after another
 pub from_one : (s : Server) (n : ℕ) (u : Waiter) (d k : ℕ) → callbacks_from s n u d (suc k) ≡ callback_if s n u d ++ callbacks_from s n u (suc d) k

@@ -1,6 +1,7 @@
 -- What holds of the message in the case that was found, and what performing it comes to.
-use Rattle.std.proofs.Common.{◌≡◌, ℕ, ◌<◌, Bool, true, false, Option, Some, None, List, refl, sym, ap, subst, ◌∙◌, arith}
-use Rattle.std.specs.Prelude.{is_some, IsSome, IsSomeAnd, if◌then◌else◌}
+use Rattle.std.proofs.Common.{◌≡◌, ℕ, ◌≤◌, ◌<◌, Bool, true, false, not, ◌||◌, nat_eq, ltb-false, Option, Some, None, List, refl, sym, ap, subst, ◌∙◌, arith}
+use Rattle.std.proofs.lemmas.Bool.{eqb-false}
+use Rattle.std.specs.Prelude.{nat_lt, is_some, IsSome, IsSomeAnd, if◌then◌else◌}
 use Rattle.krl_modes.specs.declared.point.TheConstants.{END}
 use Rattle.krl_messages.specs.declared.to_client.ToClient.{ToClient}
 use Rattle.krl_messages.specs.declared.to_server.ToServer.{ToServer}
@@ -11,7 +12,7 @@ use Rattle.krl_messages.specs.declared.outcome.Outcome.{Outcome}
 use Rattle.krl_messages.specs.Writes.{op_key}
 use Rattle.krl_durable.specs.declared.record.Record.{Record}
 use Rattle.krl_durable.specs.Index.{Index, slots, is_slot}
-use Rattle.krl_durable.specs.Registers.{record_of}
+use Rattle.krl_durable.specs.Registers.{IsIncarnation, record_of}
 use Rattle.krl_queue.specs.Waiting.{first_of}
 use Rattle.krl_table.specs.Rows.{Rows, most_clients, waits}
 use Rattle.krl_table.specs.Reports.{conflicts}
@@ -19,11 +20,12 @@ use Rattle.krl_table.specs.Sound.{IsTable}
 use Rattle.krl_server.specs.declared.case.Case.{Case as Found}
 use Rattle.krl_server.specs.declared.case.After.TheVariants as after
 use Rattle.krl_server.specs.Servers.{Server}
-use Rattle.krl_server.specs.Cases.{Case, Ignored, Registers, Leaves, Tells, Alarms, Rebuilds, Repeats, Hears, Lowers, Waits, Judges, AnswersAgain, case_of}
+use Rattle.krl_server.specs.Cases.{Case, Ignored, Registers, Leaves, Tells, Alarms, Rebuilds, Repeats, Hears, Lowers, Waits, Judges, AnswersAgain, is_strange, case_of_record, case_of}
 use Rattle.krl_server.specs.Effects.{heard, writes, answers, effect}
 use Rattle.krl_server.specs.States.{meant, case_of_pieces}
 use Rattle.krl_table.specs.Waiters.{WaitsNowhere}
 use Rattle.krl_server.specs.Doing.{IsPerformed}
+use Rattle.krl_server.proofs.Tests.{or_false, if_case}
 use Rattle.krl_server.proofs.Cased.{by_said}
 use Rattle.krl_server.proofs.Numbers.{sixty_four}
 use Rattle.krl_server.proofs.Tabled.{slots_have, any_in}
@@ -42,13 +44,17 @@ pub record MayAnswer (m : ToServer) (op : WriteOp) : Type 0 where
   pub client : m.client < 64
   pub key : op_key op < END
 
+pub record MayRegister (m : ToServer) : Type 0 where
+  pub client : m.client < 64
+  pub incarnation : IsIncarnation m.incarnation
+
 pub record MayLeave (s : Server) (m : ToServer) : Type 0 where
   pub client : m.client < 64
   pub known : IsSome (record_of s.durable.register m.client)
 
 abbrev pub CaseFacts : Server → ToServer → Case → Type 0
 CaseFacts s m Ignored = Unit {0}
-CaseFacts s m Registers = m.client < 64
+CaseFacts s m Registers = MayRegister m
 CaseFacts s m Leaves = MayLeave s m
 CaseFacts s m Tells = Unit {0}
 CaseFacts s m Alarms = m.client < 64
@@ -70,11 +76,11 @@ module _ (s : Server) (m : ToServer) where
   some_at : (o : Option Record) (r : Record) → o ≡ Some r → IsSome o
   some_at o r e = subst (λ o. IsSome o) (sym e) refl
 
-  pub all_facts : CaseFacts s m (case_of s m)
-  all_facts = by_said s m (CaseFacts s m)
+  facts_said : 1 ≤ m.incarnation → m.incarnation ≤ END → CaseFacts s m (case_of s m)
+  facts_said some high = by_said s m (CaseFacts s m)
       (record {
         ignored = tt;
-        registers = λ lt newer body. low lt;
+        registers = λ lt newer body. record { client = low lt; incarnation = (some, high) };
         leaves = λ r from body. record { client = low from.client; known = some_at (record_of s.durable.register m.client) r from.known };
         tells = tt;
         alarms = λ r epoch pieces from body now missing bad. low from.client;
@@ -86,6 +92,16 @@ module _ (s : Server) (m : ToServer) where
         judges = λ r request number op o a under near new is. record { client = low a.served.from.client; key = under; unspent = noted_at (record_of s.durable.register m.client) r a.served.from.known (omega (arith, near, new)) };
         answers_again = λ r request number op o a under some last is. record { client = low a.served.from.client; key = under };
       })
+
+  -- a strange message is ignored
+  pub all_facts : CaseFacts s m (case_of s m)
+  all_facts = if_case (λ k. CaseFacts s m k) (is_strange m) Ignored (case_of_record s m (record_of s.durable.register m.client))
+      (λ strange. tt)
+      (λ fine.
+      let x = or_false (not (nat_lt m.client most_clients)) (nat_eq m.incarnation 0 || nat_lt END m.incarnation) fine in
+      let y = or_false (nat_eq m.incarnation 0) (nat_lt END m.incarnation) x.1 in
+      subst (CaseFacts s m) (ap (λ b. if b then Ignored else case_of_record s m (record_of s.durable.register m.client)) fine)
+      (facts_said (let ne = eqb-false m.incarnation 0 y.0 in omega (arith, ne)) (ltb-false END m.incarnation y.1)))
 
   -- what holds in the case that was found
   pub facts_of : (f g : Found) → meant s m.client m.body f ≡ case_of s m → f ≡ g → CaseFacts s m (meant s m.client m.body g)

@@ -35,7 +35,11 @@ pub mod Counted
 pub mod Numbers
 pub mod Kept
 pub mod Says
+pub mod Said
+pub mod Standing
+pub mod Here
 pub mod Within
+pub mod Known
 pub mod Means
 pub mod Turning
 pub mod Changed

@@ -23,6 +23,7 @@ use Rattle.krl_table.specs.Sound.{IsTable}
 use Rattle.krl_server.specs.Servers.{Server, is_gathering, lists}
 use Rattle.krl_server.specs.Cases.{Case, Ignored, Registers, Leaves, Tells, Alarms, Rebuilds, Repeats, Hears, Lowers, Waits, Judges, AnswersAgain, case_of}
 use Rattle.krl_server.specs.Effects.{callback_to, epoch_to, holding, heard, writes, answers, effect}
+use Rattle.krl_server.specs.Answering.{stops}
 use Rattle.krl_server.specs.Callbacks.{is_beside, callbacks_from, callbacks_for, callbacks_at, callbacks_among, callbacks_of, callbacks_of_among}
 use Rattle.krl_server.specs.Steps.{Kind, Idle, Quiet, Acts, kind_of, calls_of, at_once, gathers, serves, ServerStep, nudge_served, nudge_missing, nudge_known, nudge}
 use Rattle.krl_server.specs.Shows.{IsSound}
@@ -164,5 +165,6 @@ all_end = record {
   one = λ s t u m outs others a b. one_end (effect s m (case_of s m)) (kind_of (case_of s m)) t u outs others a b;
   answers = answered_less;
   few = λ s t m outs i table step. step_few s m t outs (effect_sound s m i) (effect_table s m i table) step;
+  nobody_left = λ s settled up. stops s (settled up);
   few_nudged = nudge_few;
 }

@@ -24,7 +24,7 @@ use Rattle.krl_server.specs.Cases.{Case, Ignored, Registers, Leaves, Tells, Alar
 use Rattle.krl_server.specs.Effects.{Done, silent, with_line, with_rows, holding, heard, push_to, callback_to, pushes, effect}
 use Rattle.krl_server.specs.Answering.{can_push, Turn, next_turn, tells_absent, grants}
 use Rattle.krl_server.specs.Callbacks.{is_beside, callbacks_from, callbacks_for, callbacks_at, callbacks_among, callbacks}
-use Rattle.krl_server.specs.Says.{is_durable, IsCallback, IsNextPush, ServerSays}
+use Rattle.krl_server.specs.Says.{changes_durable, IsCallback, IsNextPush, ServerSays}
 use Rattle.krl_server.specs.Steps.{kind_of}
 use Rattle.krl_server.proofs.Meaning.{line_here}
 use Rattle.krl_server.proofs.Follows.{in_both, some_same}
@@ -33,7 +33,7 @@ use Rattle.krl_server.proofs.Ends.{pushes_durable}
 use Rattle.krl_server.proofs.Kept.{ends_durable}
 use Rattle.krl_server.proofs.Tests.{and_true, or_false, if_both}
 
-effect_durable : (s : Server) (m : ToServer) (k : Case) → is_durable k ≡ false → (effect s m k).server.durable ≡ s.durable
+effect_durable : (s : Server) (m : ToServer) (k : Case) → changes_durable k ≡ false → (effect s m k).server.durable ≡ s.durable
 effect_durable s m Ignored e = refl
 effect_durable s m Registers e = absurd (cc)
 effect_durable s m Leaves e = absurd (cc)
@@ -49,12 +49,12 @@ effect_durable s m (AnswersAgain number op o) e = let t = heard s m.client in pu
 
 -- Callbacks
 
-into_left : {A : Type 0} (xs ys : List A) (z : A) → In z xs → In z (xs ++ ys)
+pub into_left : {A : Type 0} (xs ys : List A) (z : A) → In z xs → In z (xs ++ ys)
 into_left [] ys z at = absurd at
 into_left (x ∷ xs) ys z (inl e) = inl e
 into_left (x ∷ xs) ys z (inr at) = inr (into_left xs ys z at)
 
-into_right : {A : Type 0} (xs ys : List A) (z : A) → In z ys → In z (xs ++ ys)
+pub into_right : {A : Type 0} (xs ys : List A) (z : A) → In z ys → In z (xs ++ ys)
 into_right [] ys z at = at
 into_right (x ∷ xs) ys z at = inr (into_right xs ys z at)
 

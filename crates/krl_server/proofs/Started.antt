@@ -7,7 +7,8 @@ use Rattle.std.proofs.lemmas.Bool.{lt-ltb}
 use Rattle.krl_modes.specs.declared.point.TheConstants.{END}
 use Rattle.krl_messages.specs.declared.to_server.ToServer.{ToServer}
 use Rattle.krl_messages.specs.declared.to_client.ToClient.{ToClient}
-use Rattle.krl_durable.specs.Registers.{Durable, HasOutcomes, missing_order}
+use Rattle.krl_durable.specs.Registers.{Durable, missing_order}
+use Rattle.krl_durable.specs.Kept.{IsKept}
 use Rattle.krl_table.specs.Rows.{blank_row}
 use Rattle.krl_table.specs.Kept.{rows_of, IsOver}
 use Rattle.krl_server.specs.declared.state.State.{State}
@@ -22,7 +23,10 @@ use Rattle.std.specs.Prelude.{Result, Ok, Err, IfOk, OnOk, OnErr}
 use Rattle.krl_server.specs.Ends.{most_messages}
 use Rattle.krl_server.specs.Doing.{IsServer, IsStarted, HasStepped}
 use Rattle.krl_server.proofs.Numbers.{all_end}
+use Rattle.krl_server.specs.Within.{IsWithin, AreHere}
 use Rattle.krl_server.proofs.Kept.{server_keeps}
+use Rattle.krl_server.proofs.Within.{all_within}
+use Rattle.krl_server.proofs.Known.{durable_within}
 
 module _ (d : Durable) (st : State) (lt : d.epoch < END) (durable : st.durable ≡ record d { epoch = suc d.epoch }) (rows : (n : ℕ) → rows_of st.table n ≡ blank_row) (over : IsOver d.index st.table) (full : length st.lines ≡ 64) (lines : (c : ℕ) → lines_of st.lines c ≡ blank_line) (missing : st.missing ≡ missing_order d.register) where
   means_start : meaning st ≡ start d
@@ -35,14 +39,16 @@ module _ (d : Durable) (st : State) (lt : d.epoch < END) (durable : st.durable �
   pub is_started : IsStarted d (meaning st)
   is_started = record { epoch = lt-ltb d.epoch END lt; server = means_start }
 
-  pub is_server : HasOutcomes d.register → IsServer st
-  is_server outcomes =
-      let x = server_keeps.ordered_start d outcomes in
+  pub is_server : IsKept d → IsServer st
+  is_server kept =
+      let x = server_keeps.ordered_start d kept.outcomes in
       record {
         formed = record { full = full; over = subst (λ y. IsOver y.index st.table) (sym durable) over };
         sound = subst IsSound (sym means_start) (server_keeps.sound_start d over.near);
         ordered = subst IsOrdered (sym means_start) x.0;
         settled = subst IsSettled (sym means_start) x.1;
+        within = subst IsWithin (sym means_start) (all_within.start d (lt-ltb d.epoch END lt) (durable_within d kept));
+        here = subst AreHere (sym means_start) (all_within.here_start d);
       }
 
 -- a step keeps it
@@ -52,6 +58,8 @@ server_after old new m outs i formed step = record {
   sound = server_keeps.sound_step (meaning old) (meaning new) m outs i.sound step;
   ordered = server_keeps.ordered_step (meaning old) (meaning new) m outs i.sound i.ordered step;
   settled = server_keeps.settled_step (meaning old) (meaning new) m outs i.settled step;
+  within = all_within.step (meaning old) (meaning new) m outs i.within step;
+  here = all_within.here_step (meaning old) (meaning new) m outs i.sound i.here step;
 }
 
 -- whatever comes of it

@@ -33,6 +33,7 @@ use Rattle.krl_server.specs.Effects.{Done, heard, pushes, effect}
 use Rattle.krl_server.specs.Answering.{Turn, take_turn, tells_absent, grants, Answered, stops, goes_on}
 use Rattle.krl_server.specs.Steps.{Ends, Kind, at_once, gathers, serves, start, can_start, kind_of}
 use Rattle.krl_server.specs.Within.{AreApart, clients_of, IsEntry, IsDurableWithin, IsWithin, ServerWithin}
+use Rattle.krl_server.proofs.Here.{step_here}
 use Rattle.krl_server.proofs.Meaning.{line_here, line_other, record_here, record_other}
 use Rattle.krl_server.proofs.Follows.{some_same, not_truth}
 use Rattle.krl_server.proofs.Gathering.{unlist_here, unlist_other}
@@ -71,7 +72,7 @@ with_each Q es c x here h d r e = eq_cases d c
 with_within : (d : Durable) (c : ℕ) (x : Record) → IsEntry c x → IsDurableWithin d → IsDurableWithin (record d { register = with_record d.register c x })
 with_within d c x here w = record { epoch = w.epoch; entries = w.entries; once = with_apart d.register c x w.once; known = with_each IsEntry d.register c x here w.known }
 
-known_in : (es : Register) (c : ℕ) (r : Record) → record_of es c ≡ Some r → In c (clients_of es)
+pub known_in : (es : Register) (c : ℕ) (r : Record) → record_of es c ≡ Some r → In c (clients_of es)
 known_in [] c r e = absurd (no_none r e)
 known_in (x ∷ es) c r e = by_eq (nat_eq c x.0) refl e (known_in es c r)
   where
@@ -301,6 +302,8 @@ all_within = record {
   effect = effect_within;
   turn = turn_within;
   step = λ s t m outs w step. ends_within (effect s m (case_of s m)) (kind_of (case_of s m)) t outs step (effect_within s m w);
+  here_step = step_here;
+  here_start = λ d n u at. absurd at;
   start = start_within;
   few_known = λ d w. subst (λ n. n ≤ most_clients) (length_clients d.register) (few_apart most_clients (clients_of d.register) w.once (λ c at. let x = in_known d.register c at in (w.known c x.0 x.1).0));
   few_missing = λ s w. few_apart most_clients s.missing w.missing_once (λ c at. let x = w.missing c (listed s.missing c at) in (w.durable.known c x.0 x.1).0);

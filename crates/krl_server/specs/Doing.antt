@@ -29,6 +29,7 @@ use Rattle.krl_server.specs.Callbacks.{is_beside, callbacks_for, callbacks_of, c
 use Rattle.krl_server.specs.Steps.{ServerStep, IsSettled, alarms, start, can_start}
 use Rattle.krl_server.specs.Shows.{IsSound}
 use Rattle.krl_server.specs.Keeps.{IsOrdered}
+use Rattle.krl_server.specs.Within.{IsWithin, AreHere}
 
 -- the turn of the slot's first waiter, if it can be answered
 abbrev pub turn_here : Server → ℕ → Option Turn
@@ -149,6 +150,8 @@ pub record IsServer (st : State) : Type 0 where
   pub sound : IsSound (meaning st)
   pub ordered : IsOrdered (meaning st)
   pub settled : IsSettled (meaning st)
+  pub within : IsWithin (meaning st)
+  pub here : AreHere (meaning st)
 
 -- Starts
 

@@ -12,7 +12,7 @@ pub record Server : Type 0 where
   pub durable : Durable
   pub rows : Rows
   pub lines : ℕ → Line  -- by client
-  pub missing : List ℕ  -- the clients that have not reported since the start
+  pub missing : List ℕ  -- who was registered at the start, and has since neither reported, nor registered anew, nor left
 
 abbrev pub blank_line : Line
 blank_line = record { pushed = 0; unheard = None; asked = 0 }

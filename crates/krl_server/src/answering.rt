@@ -23,9 +23,12 @@ impl State {
         requires formed { IsFormed self.old }
         requires client { waiter.now.client < 64 }
         requires there { IsSome (map.get self.old.table slot) }
-        requires fits { IfSome (front_of ((meaning self.old).rows slot).queue) (λ u. can_have (meaning self.old).rows slot u ≡ true) }
-        ensures server { meaning self.new ≡ (grants (meaning self.old) (record { slot = slot; waiter = waiter.now })).server }
-        ensures out { as_list result ≡ (grants (meaning self.old) (record { slot = slot; waiter = waiter.now })).outs }
+        requires fits { IfSome (front_of ((meaning self.old).rows slot).queue)
+            (λ u. can_have (meaning self.old).rows slot u ≡ true) }
+        ensures server { meaning self.new
+            ≡ (grants (meaning self.old) (record { slot = slot; waiter = waiter.now })).server }
+        ensures out { as_list result
+            ≡ (grants (meaning self.old) (record { slot = slot; waiter = waiter.now })).outs }
         ensures formed { IsFormed self.new }
     {
         self.table.grant(slot);
@@ -44,8 +47,11 @@ impl State {
         requires formed { IsFormed self.old }
         requires client { waiter.now.client < 64 }
         requires there { IsSome (map.get self.old.table slot) }
-        ensures server { meaning self.new ≡ (tells_absent (meaning self.old) (record { slot = slot; waiter = waiter.now })).server }
-        ensures out { as_list result ≡ (tells_absent (meaning self.old) (record { slot = slot; waiter = waiter.now })).outs }
+        ensures server { meaning self.new
+            ≡ (tells_absent (meaning self.old)
+            (record { slot = slot; waiter = waiter.now })).server }
+        ensures out { as_list result
+            ≡ (tells_absent (meaning self.old) (record { slot = slot; waiter = waiter.now })).outs }
         ensures formed { IsFormed self.new }
     {
         self.table.drop_front(slot);
@@ -64,7 +70,8 @@ impl State {
         requires formed { IsFormed self.old }
         requires there { IsSome (map.get self.old.table slot) }
         requires sound { IsSound (meaning self.old) }
-        ensures turned { IfSome result (λ o. HasTurned (meaning self.old) (meaning self.new) slot o) }
+        ensures turned { IfSome result
+            (λ o. HasTurned (meaning self.old) (meaning self.new) slot o) }
         ensures blocked { IfNone result (turn_here (meaning self.old) slot ≡ None) }
         ensures same { IfNone result (self.new ≡ self.old) }
         ensures formed { IsFormed self.new }
@@ -78,8 +85,8 @@ impl State {
         }
     }
 
-    /// Answers first waiters, at the least slot first, until none can be answered. An answer makes nobody answerable
-    /// at a lower slot, so one walk upward does.
+    /// Answers first waiters, at the least slot first, until none can be answered. An answer makes
+    /// nobody answerable at a lower slot, so one walk upward does.
     pub(crate) fn answer(&mut self, outbox: &mut Outbox)
         requires formed { IsFormed self.old }
         requires sound { IsSound (meaning self.old) }

@@ -1,13 +1,14 @@
 //! Callbacks for those who wait first and are blocked.
-ghost use Rattle.std.specs.Prelude.{◌≡◌, ◌≤◌, ◌<◌, ◌+◌, length, IsSome};
+ghost use Rattle.std.specs.Prelude.{◌≡◌, ◌≤◌, ◌<◌, ◌+◌, ◌||◌, [], ◌∷◌, nat_eq, length, IsSome};
+ghost use Rattle.std.specs.Prelude.{if◌then◌else◌};
 ghost use Rattle.std.specs.FinMap as map;
 ghost use Rattle.krl_table.specs.Replies.{asks_absent};
 ghost use Rattle.krl_server.specs.Callbacks.{callbacks_for, callbacks_at, callbacks};
 ghost use Rattle.krl_server.specs.Shows.{IsSound};
-ghost use Rattle.krl_durable.specs.Index.{span_of};
-ghost use Rattle.krl_table.specs.Calls.{wanted};
+ghost use Rattle.krl_modes.specs.Modes.{compatible, cap};
+ghost use Rattle.krl_table.specs.Kept.{mode_of};
+ghost use Rattle.krl_server.specs.Effects.{callback_to};
 ghost use Rattle.krl_server.specs.Outboxes.{as_list, Sends};
-ghost use Rattle.krl_server.specs.Doing.{callback_if};
 ghost use Rattle.krl_server.specs.States.{meaning, IsFormed};
 
 use crate::out::Outbox;
@@ -15,6 +16,14 @@ use crate::state::State;
 use krl_messages::ToClient;
 use krl_modes::{Mode, Span};
 use krl_queue::Waiter;
+
+// The client's mode.
+fn mode_of(modes: &[Mode; 64], client: u64) -> Mode
+    requires { client < 64 }
+    ensures { result ≡ mode_of modes.now client }
+{
+    modes[client as usize]
+}
 
 impl State {
     /// Whether the waiter asks for an entry where there is none.
@@ -25,22 +34,21 @@ impl State {
         waiter.mode.needs_entry() && !entry
     }
 
-    /// The callback to the client, if its mode blocks the slot's waiter, which wants this mode.
+    /// The callback to the client for the span, if what it holds there blocks the waiter, which
+    /// wants this mode.
     fn callback_if(
         &self,
-        slot: u64,
         waiter: &Waiter,
         mode: Mode,
         span: Span,
         client: u64,
+        held: Mode,
     ) -> Option<ToClient>
-        requires there { IsSome (map.get self.now.table slot) }
-        requires client { client < 64 }
-        requires wanted { mode ≡ wanted ((meaning self.now).rows slot) waiter.now }
-        requires span { span ≡ span_of self.now.durable.index slot }
-        ensures { as_list result ≡ callback_if (meaning self.now) slot waiter.now client }
+        ensures { as_list result ≡ (if nat_eq client waiter.now.client || compatible mode held
+            then []
+            else callback_to (meaning self.now) client span (cap mode) ∷ []) }
     {
-        if client == waiter.client || mode.compatible(self.table.mode(slot, client)) {
+        if client == waiter.client || mode.compatible(held) {
             return None;
         }
         Some(self.callback_to(client, span, mode.cap()))
@@ -51,16 +59,19 @@ impl State {
         requires formed { IsFormed self.now }
         requires there { IsSome (map.get self.now.table slot) }
         requires client { waiter.now.client < 64 }
-        requires room { length outbox.old.sent + length (callbacks_for (meaning self.now) slot waiter.now) ≤ outbox.old.room }
+        requires room { length outbox.old.sent
+            + length (callbacks_for (meaning self.now) slot waiter.now) ≤ outbox.old.room }
         ensures { Sends outbox.old outbox.new (callbacks_for (meaning self.now) slot waiter.now) }
     {
         if self.asks_absent(waiter) {
             return;
         }
         let span = self.table.span(slot);
-        let wanted = self.table.mode(slot, waiter.client).join(waiter.mode);
+        let modes = self.table.modes(slot);
+        let wanted = mode_of(modes, waiter.client).join(waiter.mode);
         for client in 0..64u64 {
-            outbox.send_some(self.callback_if(slot, waiter, wanted, span, client));
+            let held = mode_of(modes, client);
+            outbox.send_some(self.callback_if(waiter, wanted, span, client, held));
         }
     }
 
@@ -69,8 +80,11 @@ impl State {
         requires formed { IsFormed self.now }
         requires there { IsSome (map.get self.now.table slot) }
         requires sound { IsSound (meaning self.now) }
-        requires room { length outbox.old.sent + length (callbacks_at (meaning self.now) slot ((meaning self.now).rows slot).queue) ≤ outbox.old.room }
-        ensures { Sends outbox.old outbox.new (callbacks_at (meaning self.now) slot ((meaning self.now).rows slot).queue) }
+        requires room { length outbox.old.sent
+            + length (callbacks_at (meaning self.now) slot ((meaning self.now).rows slot).queue)
+            ≤ outbox.old.room }
+        ensures { Sends outbox.old outbox.new
+            (callbacks_at (meaning self.now) slot ((meaning self.now).rows slot).queue) }
     {
         match self.table.front(slot) {
             Some(waiter) => self.call_back_for(slot, &waiter, outbox),
@@ -82,7 +96,8 @@ impl State {
     pub(crate) fn call_back(&self, outbox: &mut Outbox)
         requires formed { IsFormed self.now }
         requires sound { IsSound (meaning self.now) }
-        requires room { length outbox.old.sent + length (callbacks (meaning self.now)) ≤ outbox.old.room }
+        requires room { length outbox.old.sent + length (callbacks (meaning self.now))
+            ≤ outbox.old.room }
         ensures { Sends outbox.old outbox.new (callbacks (meaning self.now)) }
     {
         let mut at: u64 = 0;

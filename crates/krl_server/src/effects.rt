@@ -1,8 +1,9 @@
 //! What each case makes of the state.
-ghost use Rattle.std.specs.Prelude.{◌≡◌, ◌<◌, ◌≤◌, false, IsSome, IsSomeAnd, IfOk, OnOk, OnErr, if◌then◌else◌};
+ghost use Rattle.std.specs.Prelude.{◌≡◌, ◌<◌, ◌≤◌, false, IsSome, IsSomeAnd, IfOk, OnOk, OnErr};
+ghost use Rattle.std.specs.Prelude.{if◌then◌else◌};
 ghost use Rattle.krl_modes.specs.declared.point.TheConstants.{END};
 ghost use Rattle.krl_messages.specs.Writes.{op_key};
-ghost use Rattle.krl_durable.specs.Registers.{record_of};
+ghost use Rattle.krl_durable.specs.Registers.{IsIncarnation, record_of};
 ghost use Rattle.krl_table.specs.Reports.{conflicts};
 ghost use Rattle.krl_table.specs.Sound.{IsTable};
 ghost use Rattle.krl_server.specs.States.{meaning, IsFormed};
@@ -11,7 +12,8 @@ ghost use Rattle.krl_table.specs.Waiters.{WaitsNowhere};
 ghost use Rattle.krl_durable.specs.Writes.{index_after};
 ghost use Rattle.krl_table.specs.Kept.{IsOver};
 ghost use Rattle.krl_server.specs.Cases.{judged};
-ghost use Rattle.krl_server.specs.Effects.{rows_after, registers, departs, adopts, heard, lowers, queues, writes, answers};
+ghost use Rattle.krl_server.specs.Effects.{rows_after, registers, departs, adopts, heard, lowers};
+ghost use Rattle.krl_server.specs.Effects.{queues, writes, answers};
 
 use crate::line::Line;
 use crate::state::State;
@@ -21,7 +23,8 @@ use krl_queue::WaitNode;
 use std::alloc::AllocError;
 
 impl State {
-    /// Registers a new incarnation of the client: nothing that the one before held or waited for stays.
+    /// Registers a new incarnation of the client: nothing that the one before held or waited for
+    /// stays.
     ///
     /// # Errors
     ///
@@ -29,7 +32,9 @@ impl State {
     pub(crate) fn register(&mut self, client: u64, incarnation: u64) -> Result<(), AllocError>
         requires formed { IsFormed self.old }
         requires client { client < 64 }
-        ensures registers { OnOk result (meaning self.new ≡ registers (meaning self.old) client incarnation) }
+        requires incarnation { IsIncarnation incarnation }
+        ensures registers { OnOk result
+            (meaning self.new ≡ registers (meaning self.old) client incarnation) }
         ensures formed { OnOk result (IsFormed self.new) }
         ensures refused { OnErr result (self.new ≡ self.old) }
     {
@@ -53,13 +58,15 @@ impl State {
         self.missing.remove(client);
     }
 
-    /// Takes a missing client's report, unless it contradicts what others hold: then it answers `true`, and nothing
-    /// has changed.
+    /// Takes a missing client's report, unless it contradicts what others hold: then it answers
+    /// `true`, and nothing has changed.
     pub(crate) fn report(&mut self, client: u64, pieces: &Pieces) -> bool
         requires formed { IsFormed self.old }
         requires client { client < 64 }
-        ensures contradicts { result ≡ conflicts self.old.durable.index (meaning self.old).rows client pieces.now }
-        ensures adopts { meaning self.new ≡ (if result then meaning self.old else adopts (meaning self.old) client pieces.now) }
+        ensures contradicts { result
+            ≡ conflicts self.old.durable.index (meaning self.old).rows client pieces.now }
+        ensures adopts { meaning self.new
+            ≡ (if result then meaning self.old else adopts (meaning self.old) client pieces.now) }
         ensures formed { IsFormed self.new }
     {
         if self.table.adopt_report(client, pieces).is_err() {
@@ -73,7 +80,8 @@ impl State {
     pub(crate) fn lower(&mut self, client: u64, span: Span, keep: Mode)
         requires formed { IsFormed self.old }
         requires client { client < 64 }
-        ensures lowers { meaning self.new ≡ lowers (heard (meaning self.old) client) client span keep }
+        ensures lowers { meaning self.new
+            ≡ lowers (heard (meaning self.old) client) client span keep }
         ensures formed { IsFormed self.new }
     {
         self.hear(client);
@@ -107,9 +115,11 @@ impl State {
         requires formed { IsFormed self.old }
         requires client { client < 64 }
         requires key { op_key op < END }
-        requires unspent { IsSomeAnd (record_of self.old.durable.register client) (λ r. r.last < END) }
+        requires unspent { IsSomeAnd (record_of self.old.durable.register client)
+            (λ r. r.last < END) }
         ensures outcome { IfOk result (λ o. o ≡ judged (meaning self.old) client op) }
-        ensures writes { IfOk result (λ o. meaning self.new ≡ writes (meaning self.old) client op o) }
+        ensures writes { IfOk result
+            (λ o. meaning self.new ≡ writes (meaning self.old) client op o) }
         ensures formed { OnOk result (IsFormed self.new) }
         ensures refused { OnErr result (self.new ≡ self.old) }
     {
@@ -130,8 +140,11 @@ impl State {
         requires client { client < 64 }
         requires key { op_key op < END }
         requires judged { judged (meaning self.old) client op ≡ outcome }
-        ensures rows { OnOk result ((meaning self.new).rows ≡ rows_after self.old.durable.index (meaning self.old).rows client op outcome) }
-        ensures slots { OnOk result (IsOver (index_after self.old.durable.index op outcome) self.new.table) }
+        ensures rows { OnOk result
+            ((meaning self.new).rows
+            ≡ rows_after self.old.durable.index (meaning self.old).rows client op outcome) }
+        ensures slots { OnOk result
+            (IsOver (index_after self.old.durable.index op outcome) self.new.table) }
         ensures rest { self.new ≡ record self.old { table = self.new.table } }
         ensures refused { OnErr result (self.new ≡ self.old) }
     {
@@ -159,7 +172,8 @@ impl State {
         requires formed { IsFormed self.old }
         requires client { client < 64 }
         requires key { op_key op < END }
-        ensures server { meaning self.new ≡ (answers (meaning self.old) client number op outcome).server }
+        ensures server { meaning self.new
+            ≡ (answers (meaning self.old) client number op outcome).server }
         ensures outs { as_list result ≡ (answers (meaning self.old) client number op outcome).outs }
         ensures formed { IsFormed self.new }
     {

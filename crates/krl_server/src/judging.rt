@@ -4,7 +4,9 @@ ghost use Rattle.krl_table.specs.Rows.{waits};
 ghost use Rattle.krl_server.specs.States.{meaning, meant, lines_of, IsFormed};
 ghost use Rattle.krl_messages.specs.declared.to_server.ToServerBody.{ToServerBody};
 ghost use Rattle.krl_server.specs.Servers.{Server};
-ghost use Rattle.krl_server.specs.Cases.{is_strange, case_of, case_of_record, case_of_newer, case_of_body, case_of_request, case_of_seen, case_of_late, case_of_lock, case_of_write, case_of_last, is_bad_write};
+ghost use Rattle.krl_server.specs.Cases.{is_strange, case_of, case_of_record, case_of_newer};
+ghost use Rattle.krl_server.specs.Cases.{case_of_body, case_of_request, case_of_seen, case_of_late};
+ghost use Rattle.krl_server.specs.Cases.{case_of_lock, case_of_write, case_of_last, is_bad_write};
 
 use crate::case::Case;
 use crate::line::Line;
@@ -30,7 +32,8 @@ fn is_next(req: u64, line: &Line) -> bool
 
 /// The case of a message of an incarnation that is not registered yet.
 fn case_of_newer(body: &ToServerBody) -> Case
-    ensures { (s : Server) (c : ℕ) (b : ToServerBody) → meant s c b result ≡ case_of_newer body.now }
+    ensures { (s : Server) (c : ℕ) (b : ToServerBody)
+        → meant s c b result ≡ case_of_newer body.now }
 {
     match body {
         ToServerBody::Hello => Case::Registers,
@@ -40,7 +43,8 @@ fn case_of_newer(body: &ToServerBody) -> Case
 
 /// The case of a request that has not seen the last push.
 fn case_of_late(seen: u64, line: &Line) -> Case
-    ensures { (s : Server) (c : ℕ) (b : ToServerBody) → meant s c b result ≡ case_of_late seen line.now.pushed line.now.unheard }
+    ensures { (s : Server) (c : ℕ) (b : ToServerBody)
+        → meant s c b result ≡ case_of_late seen line.now.pushed line.now.unheard }
 {
     match line.unheard {
         Some(body) => {
@@ -56,7 +60,8 @@ fn case_of_late(seen: u64, line: &Line) -> Case
 
 /// The case of the last write's number.
 fn case_of_last(number: u64, op: WriteOp, outcome: Option<Outcome>) -> Case
-    ensures { (s : Server) (c : ℕ) (b : ToServerBody) → meant s c b result ≡ case_of_last number op outcome }
+    ensures { (s : Server) (c : ℕ) (b : ToServerBody)
+        → meant s c b result ≡ case_of_last number op outcome }
 {
     match outcome {
         Some(outcome) => Case::AnswersAgain {
@@ -77,7 +82,8 @@ fn is_bad_write(number: u64, op: WriteOp) -> bool
 
 /// The case of a write, by its number.
 fn case_of_write(known: &Record, number: u64, op: WriteOp) -> Case
-    ensures { (s : Server) (c : ℕ) (b : ToServerBody) → meant s c b result ≡ case_of_write s c known.now number op }
+    ensures { (s : Server) (c : ℕ) (b : ToServerBody)
+        → meant s c b result ≡ case_of_write s c known.now number op }
 {
     if is_bad_write(number, op) {
         Case::Hears
@@ -94,7 +100,8 @@ impl State {
     /// The case that the message meets.
     pub(crate) fn case_of(&self, message: &ToServer) -> Case
         requires { IsFormed self.now }
-        ensures { meant (meaning self.now) message.now.client message.now.body result ≡ case_of (meaning self.now) message.now }
+        ensures { meant (meaning self.now) message.now.client message.now.body result
+            ≡ case_of (meaning self.now) message.now }
     {
         if is_strange(message) {
             return Case::Ignored;
@@ -109,7 +116,8 @@ impl State {
     fn case_of_record(&self, message: &ToServer, known: &Record) -> Case
         requires formed { IsFormed self.now }
         requires client { message.now.client < 64 }
-        ensures { meant (meaning self.now) message.now.client message.now.body result ≡ case_of_record (meaning self.now) message.now (Some known.now) }
+        ensures { meant (meaning self.now) message.now.client message.now.body result
+            ≡ case_of_record (meaning self.now) message.now (Some known.now) }
     {
         if known.incarnation < message.incarnation {
             case_of_newer(&message.body)
@@ -124,7 +132,8 @@ impl State {
     fn case_of_body(&self, client: u64, known: &Record, body: &ToServerBody) -> Case
         requires formed { IsFormed self.now }
         requires client { client < 64 }
-        ensures { meant (meaning self.now) client body.now result ≡ case_of_body (meaning self.now) client known.now body.now }
+        ensures { meant (meaning self.now) client body.now result
+            ≡ case_of_body (meaning self.now) client known.now body.now }
     {
         match body {
             ToServerBody::Hello => Case::Tells,
@@ -154,7 +163,9 @@ impl State {
     fn case_of_seen(&self, client: u64, known: &Record, request: &Request) -> Case
         requires formed { IsFormed self.now }
         requires client { client < 64 }
-        ensures { (b : ToServerBody) → meant (meaning self.now) client b result ≡ case_of_seen (meaning self.now) client known.now request.now }
+        ensures { (b : ToServerBody)
+            → meant (meaning self.now) client b result
+            ≡ case_of_seen (meaning self.now) client known.now request.now }
     {
         let line = self.line(client);
         if request.seen == line.pushed {
@@ -169,7 +180,9 @@ impl State {
         requires formed { IsFormed self.now }
         requires client { client < 64 }
         requires line { line.now ≡ lines_of self.now.lines client }
-        ensures { (b : ToServerBody) → meant (meaning self.now) client b result ≡ case_of_request (meaning self.now) client known.now body.now }
+        ensures { (b : ToServerBody)
+            → meant (meaning self.now) client b result
+            ≡ case_of_request (meaning self.now) client known.now body.now }
     {
         match *body {
             RequestBody::Lock { req, point, mode } => self.case_of_lock(
@@ -186,7 +199,9 @@ impl State {
         requires formed { IsFormed self.now }
         requires client { client < 64 }
         requires line { line.now ≡ lines_of self.now.lines client }
-        ensures { (b : ToServerBody) → meant (meaning self.now) client b result ≡ case_of_lock (meaning self.now) client req point mode }
+        ensures { (b : ToServerBody)
+            → meant (meaning self.now) client b result
+            ≡ case_of_lock (meaning self.now) client req point mode }
     {
         if !is_next(req, line) {
             return Case::Hears;

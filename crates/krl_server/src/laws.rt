@@ -1,36 +1,40 @@
-//! What holds of every server, whoever sends it what: each function's contract is a law, and its body is empty.
+//! What holds of every server, whoever sends it what: each function's contract is a law, and its
+//! body is empty.
 ghost use Rattle.krl_server.specs.Ends.{StepsEnd};
 ghost use Rattle.krl_server.specs.Follows.{ServerFollows};
 ghost use Rattle.krl_server.specs.Keeps.{ServerKeeps};
 ghost use Rattle.krl_server.specs.Says.{ServerSays};
 ghost use Rattle.krl_server.specs.Within.{ServerWithin};
 
-/// Each step of a server, on a message that was sent, is some steps of the abstract machine, and so are its nudges, its
-/// crash and its start. It never says Alarm.
+/// Each step of a server, on a message that was sent, is some steps of the abstract machine, and so
+/// are its nudges, its crash and its start. On such a message it never says Alarm; on one that
+/// nobody sent it may.
 pub fn server_follows()
     ensures { ServerFollows }
 {}
 
-/// Whatever message comes, each step of a server keeps it sound, its table and its register in order, and leaves nobody
-/// who could be answered.
+/// Whatever message comes, each step of a server keeps it sound, its table and its register in
+/// order, and leaves nobody who could be answered.
 pub fn server_keeps()
     ensures { ServerKeeps }
 {}
 
-/// Each message to a server has one outcome, each answer is to one who waits no more, and a step or nudge sends at most
-/// 4,097 messages.
+/// Each message to a server has one outcome, each answer is to one who waits no more, a step or
+/// nudge sends at most 4,097 messages, and after a step that serves there is nobody to answer.
 pub fn steps_end()
     ensures { StepsEnd }
 {}
 
-/// Only a Hello, a Bye or a new write changes what survives a restart. Callbacks go to those who block a first waiter, and to
-/// no other. Each answer to a waiter is one push, with the next number.
+/// Only a Hello, a Bye or a new write changes what survives a restart. Callbacks go to those who
+/// block a first waiter, and to no other. Each answer to a waiter is one push, with the next
+/// number.
 pub fn server_says()
     ensures { ServerSays }
 {}
 
-/// The numbers of a server stay within END, its index within 65,536 entries, and its register and the missing within the number
-/// of clients, each of them once.
+/// The numbers of a server stay within END, its index within 65,536 entries, and its register and
+/// the missing within the number of clients, each of them once. Who waits or is missing is
+/// registered and has not left.
 pub fn server_within()
     ensures { ServerWithin }
 {}

@@ -14,7 +14,8 @@ pub struct Line {
     pub pushed: u64,
     /// That push, until it is acknowledged.
     pub unheard: Option<PushBody>,
-    /// The number of the last request that was taken, or 0.
+    /// The number of the last request that was taken, or 0. A stranger who asks under a client's
+    /// name may drive it past END.
     pub asked: u64,
 }
 
@@ -30,7 +31,8 @@ impl Line {
         }
     }
 
-    /// Whether another push may be made: the last one is acknowledged, and there is a number for the next.
+    /// Whether another push may be made: the last one is acknowledged, and there is a number for
+    /// the next.
     pub(crate) fn can_push(self) -> bool
         ensures { result ≡ can_push self }
     {

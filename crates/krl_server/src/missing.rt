@@ -1,11 +1,12 @@
-//! The clients that have not reported.
+//! The clients that are missing.
 ghost use Rattle.std.specs.Prelude.{◌≡◌, IfOk};
 ghost use Rattle.krl_server.specs.Servers.{is_gathering, lists, unlist};
 
 use std::alloc::{AllocError, Global};
 use std::marker::Model;
 
-/// The clients that are still missing, in order of first registration.
+/// The clients that were registered at the start and have since neither reported, nor registered
+/// anew, nor left, in order of first registration.
 #[derive(Drop)]
 pub struct Missing {
     clients: Vec<u64>,
@@ -27,7 +28,7 @@ impl Missing {
         Missing { clients }
     }
 
-    /// Whether nobody is missing.
+    /// Whether somebody is missing.
     pub(crate) fn is_gathering(&self) -> bool
         ensures { result ≡ is_gathering self.now }
     {

@@ -3,8 +3,8 @@
 /// Whether the server still gathers reports.
 #[derive(Clone, Copy, PartialEq, Eq)]
 pub enum Phase {
-    /// Somebody is missing: a client that was registered at the start has since neither reported, nor registered
-    /// anew, nor left.
+    /// Somebody is missing: a client that was registered at the start has since neither reported,
+    /// nor registered anew, nor left.
     Gathering,
     /// Nobody is missing.
     Serving,

@@ -1,13 +1,15 @@
 //! The server, as a host runs it.
-ghost use Rattle.std.specs.Prelude.{◌≡◌, ◌≤◌, ℕ, length, MatchResult, IfOk, OnErr};
+ghost use Rattle.std.specs.Prelude.{◌≡◌, ◌≤◌, ℕ, false, [], length, MatchResult, IfOk, OnErr};
 ghost use Rattle.krl_durable.specs.Registers.{missing_order};
 ghost use Rattle.krl_table.specs.Rows.{blank_row};
 ghost use Rattle.krl_table.specs.Kept.{rows_of, IsOver};
-ghost use Rattle.krl_server.specs.Servers.{phase_of};
+ghost use Rattle.krl_server.specs.Servers.{is_gathering, phase_of};
+ghost use Rattle.krl_server.specs.Answering.{Answered};
 ghost use Rattle.krl_server.specs.Steps.{nudge, crash};
 ghost use Rattle.krl_server.specs.Ends.{most_messages};
 ghost use Rattle.krl_server.specs.States.{meaning};
-ghost use Rattle.krl_server.specs.Doing.{IsStarted, IsNotStarted, HasStepped};
+ghost use Rattle.krl_server.specs.Doing.{IsStarted, IsNotStarted, HasStepped, IsServer};
+ghost use Rattle.krl_server.specs.Says.{may_change_durable, HasCallbacks, AnswersWrite, PushesStand};
 
 use crate::line::blank_lines;
 use crate::missing::Missing;
@@ -24,9 +26,11 @@ use std::marker::Model;
 
 /// A server between two steps.
 ///
-/// Of every server holds, whoever sends it what: the table's slots are the keys of the index, and END; the modes of
-/// different clients on one slot go together; each waiter is a client's, stands in the queue of the slot of its point,
-/// and is the only one of its client; and while the server serves, no first waiter can be answered.
+/// Of every server holds, whoever sends it what: the table's slots are the keys of the index, and
+/// END; the modes of different clients on one slot go together; each waiter stands in the queue of
+/// the slot of its point, is the only one of its client, and its client is registered and has not
+/// left; so is who is missing, each of them once; push numbers are at most END; and while the
+/// server serves, no first waiter can be answered.
 #[derive(Drop)]
 pub struct Server {
     state: State,
@@ -58,13 +62,14 @@ fn table_and_missing(alloc: Global, durable: &Durable) -> Result<(Table, Missing
 }
 
 impl Server {
-    /// Starts a server on what survived: the epoch rises by one, nobody holds anything, and every client that is
-    /// registered and has not left is missing. Nothing else of what survived changes.
+    /// Starts a server on what survived: the epoch rises by one, nobody holds anything, and every
+    /// client that is registered and has not left is missing. Nothing else of what survived
+    /// changes.
     ///
     /// # Errors
     ///
-    /// `NotStarted`, with what survived unchanged: `Spent` where the epoch is END, else `OutOfMemory` where memory is
-    /// refused.
+    /// `NotStarted`, with what survived unchanged: `Spent` where the epoch is END, else
+    /// `OutOfMemory` where memory is refused.
     pub fn start(alloc: Global, durable: Durable) -> Result<Server, NotStarted>
         ensures { MatchResult result (λ s. IsStarted durable (meaning s)) (IsNotStarted durable) }
     {
@@ -96,26 +101,44 @@ impl Server {
 
     /// Takes a message, whoever sent it.
     ///
+    /// Whatever comes of it, only a Hello, a Bye or a new write changes what survives. A write that
+    /// is answered, new or once more, is answered first of all, by one push with the next number;
+    /// by none where the numbers are spent. Each push that is sent is the last one to its client,
+    /// which has to acknowledge it before the next. Where the message was acted upon, a Release
+    /// apart, and the server serves then, those who block a first waiter are called back, and
+    /// nobody else ever is.
+    ///
     /// # Errors
     ///
     /// `AllocError` where memory is refused. Nothing has changed then, and nothing is sent.
     pub fn step(&mut self, alloc: Global, message: &ToServer) -> Result<ServerOut, AllocError>
-        ensures stepped { IfOk result (λ out. HasStepped (meaning self.old) message.now (meaning self.new) out) }
+        ensures stepped { IfOk result
+            (λ out. HasStepped (meaning self.old) message.now (meaning self.new) out) }
+        ensures durable { may_change_durable (meaning self.old) message.now ≡ false
+            → (meaning self.new).durable ≡ (meaning self.old).durable }
+        ensures callbacks { IfOk result (λ out.
+            HasCallbacks (meaning self.old) message.now (meaning self.new) out.messages) }
+        ensures answers { IfOk result (λ out.
+            AnswersWrite (meaning self.old) message.now (meaning self.new) out.messages) }
+        ensures pushes { IfOk result (λ out. PushesStand (meaning self.new) out.messages) }
         ensures few { IfOk result (λ out. length out.messages ≤ most_messages) }
         ensures refused { OnErr result (self.new ≡ self.old) }
     {
         self.state.step(alloc, message)
     }
 
-    /// What is sent to move a client that seems stuck: while the server gathers, the epoch to a missing client; while
-    /// it serves, the client's push that is not acknowledged, or else the callbacks to those who block it where it waits
-    /// first; and nothing to any other. It changes nothing.
+    /// What is sent to move a client that seems stuck: while the server gathers, the epoch to a
+    /// missing client; while it serves, the client's push that is not acknowledged, or else the
+    /// callbacks to those who block it where it waits first; and nothing to any other. It changes
+    /// nothing, and answers nobody: while the server serves, nobody is left who could be answered.
     ///
     /// # Errors
     ///
     /// `AllocError` where the list's memory is refused.
     pub fn nudge(&self, alloc: Global, client: u64) -> Result<Items<ToClient>, AllocError>
         ensures sent { IfOk result (λ outs. outs ≡ nudge (meaning self.now) client) }
+        ensures nobody { is_gathering (meaning self.now).missing ≡ false
+            → Answered (meaning self.now) (meaning self.now) [] }
         ensures few { IfOk result (λ outs. length outs ≤ most_messages) }
     {
         self.state.nudge(alloc, client)
@@ -142,9 +165,11 @@ impl Server {
         &self.state.durable
     }
 
-    /// Whether the server gathers reports. It takes no memory.
+    /// Whether the server gathers reports. It takes no memory. The clause `every` says what holds
+    /// of every server.
     pub fn phase(&self) -> Phase
-        ensures { result ≡ phase_of (meaning self.now).missing }
+        ensures phase { result ≡ phase_of (meaning self.now).missing }
+        ensures every { IsServer self.now }
     {
         if self.state.missing.is_gathering() {
             Phase::Gathering

@@ -5,7 +5,8 @@ ghost use Rattle.krl_modes.specs.Modes.{key_of};
 ghost use Rattle.krl_server.specs.Servers.{incarnation_of, unlist};
 ghost use Rattle.krl_server.specs.States.{meaning, lines_of, IsFormed};
 ghost use Rattle.krl_server.specs.Outboxes.{as_list};
-ghost use Rattle.krl_server.specs.Effects.{out_to, epoch_to, push_to, callback_to, shown, holding, heard, pushes};
+ghost use Rattle.krl_server.specs.Effects.{out_to, epoch_to, push_to, callback_to, shown, holding};
+ghost use Rattle.krl_server.specs.Effects.{heard, pushes};
 
 use crate::line::Line;
 use crate::missing::Missing;
@@ -23,7 +24,7 @@ pub struct State {
     pub(crate) table: Table,
     /// What was pushed and asked, by client.
     pub(crate) lines: [Line; 64],
-    /// Who has not reported.
+    /// Who is missing.
     pub(crate) missing: Missing,
 }
 

@@ -1,5 +1,6 @@
 //! A step: a message is judged, done, and whoever can be answered is.
-ghost use Rattle.std.specs.Prelude.{◌≡◌, ◌≤◌, true, ◌<◌, ◌+◌, [], length, Some, IfOk, OnOk, OnErr, IsSome, IfSome};
+ghost use Rattle.std.specs.Prelude.{◌≡◌, ◌≤◌, true, ◌<◌, ◌+◌, [], length, Some, IfOk, OnOk, OnErr};
+ghost use Rattle.std.specs.Prelude.{IsSome, IfSome};
 ghost use Rattle.std.specs.FinMap as map;
 ghost use Rattle.krl_server.specs.States.{meaning, meant, case_of_pieces, after_of, IsFormed};
 ghost use Rattle.krl_table.specs.Sound.{IsTable};
@@ -11,7 +12,9 @@ ghost use Rattle.krl_server.specs.Steps.{nudge, nudge_missing, nudge_served};
 ghost use Rattle.krl_durable.specs.Registers.{record_of};
 ghost use Rattle.krl_durable.specs.Index.{slots, slot_of};
 ghost use Rattle.krl_modes.specs.declared.point.TheConstants.{END};
-ghost use Rattle.krl_server.specs.Doing.{is_here, calls_of_first, calls_at_first, waiting_clients, room_for, own_of, IsPerformed, HasPerformed, HasRoom, HasFinished, HasStepped, IsServer};
+ghost use Rattle.krl_server.specs.Doing.{is_here, calls_of_first, calls_at_first, waiting_clients};
+ghost use Rattle.krl_server.specs.Doing.{room_for, own_of, IsPerformed, HasPerformed, HasRoom};
+ghost use Rattle.krl_server.specs.Doing.{HasFinished, HasStepped, IsServer};
 
 use crate::case::{After, Case};
 use crate::line::Line;
@@ -38,8 +41,8 @@ impl State {
         count
     }
 
-    /// How many messages a step can send: its own, an answer to each who waits, and a callback to each other client
-    /// for each who still waits.
+    /// How many messages a step can send: its own, an answer to each who waits, and a callback to
+    /// each other client for each who still waits.
     fn room(&self, case: &Case) -> usize
         requires { IsFormed self.now }
         ensures { result ≡ room_for (waiting_clients (meaning self.now)) case.now }
@@ -58,8 +61,10 @@ impl State {
     /// Takes the report that a missing client makes, or says Alarm.
     fn take_report(&mut self, message: &ToServer) -> After
         requires formed { IsFormed self.old }
-        requires case { case_of_pieces (meaning self.old) message.now.client message.now.body ≡ case_of (meaning self.old) message.now }
-        ensures performed { IsPerformed (meaning self.old) message.now (meaning self.new) result [] }
+        requires case { case_of_pieces (meaning self.old) message.now.client message.now.body
+            ≡ case_of (meaning self.old) message.now }
+        ensures performed { IsPerformed (meaning self.old) message.now
+            (meaning self.new) result [] }
         ensures formed { IsFormed self.new }
     {
         match &message.body {
@@ -87,9 +92,11 @@ impl State {
         outbox: &mut Outbox,
     ) -> Result<After, AllocError>
         requires server { IsServer self.old }
-        requires case { meant (meaning self.old) message.now.client message.now.body case.now ≡ case_of (meaning self.old) message.now }
+        requires case { meant (meaning self.old) message.now.client message.now.body case.now
+            ≡ case_of (meaning self.old) message.now }
         requires room { length outbox.old.sent + own_of case.now ≤ outbox.old.room }
-        ensures performed { IfOk result (λ after. HasPerformed (meaning self.old) message.now (meaning self.new) after outbox.old outbox.new) }
+        ensures performed { IfOk result (λ after. HasPerformed
+            (meaning self.old) message.now (meaning self.new) after outbox.old outbox.new) }
         ensures formed { OnOk result (IsFormed self.new) }
         ensures refused { OnErr result (self.new ≡ self.old) }
     {
@@ -165,7 +172,8 @@ impl State {
         message: &ToServer,
     ) -> Result<ServerOut, AllocError>
         requires { IsServer self.old }
-        ensures stepped { IfOk result (λ out. HasStepped (meaning self.old) message.now (meaning self.new) out) }
+        ensures stepped { IfOk result
+            (λ out. HasStepped (meaning self.old) message.now (meaning self.new) out) }
         ensures formed { OnOk result (IsFormed self.new) }
         ensures refused { OnErr result (self.new ≡ self.old) }
     {
@@ -179,14 +187,15 @@ impl State {
         })
     }
 
-    /// Does what is left to be done, while the server serves: it answers all who can be answered, and calls back those
-    /// who block others.
+    /// Does what is left to be done, while the server serves: it answers all who can be answered,
+    /// and calls back those who block others.
     fn finish(&mut self, after: After, outbox: &mut Outbox)
         requires formed { IsFormed self.old }
         requires sound { IsSound (meaning self.old) }
         requires table { IsTable self.old.durable.index (meaning self.old).rows }
         requires room { HasRoom (meaning self.old) after outbox.old }
-        ensures finished { HasFinished (meaning self.old) after (meaning self.new) outbox.old outbox.new }
+        ensures finished { HasFinished (meaning self.old) after
+            (meaning self.new) outbox.old outbox.new }
         ensures formed { IsFormed self.new }
     {
         if !after.answers() {
@@ -245,12 +254,13 @@ impl State {
         Ok(outbox.into_items())
     }
 
-    /// While it serves, the client's push that is not acknowledged is sent again, or else those are called back who
-    /// block it where it waits first.
+    /// While it serves, the client's push that is not acknowledged is sent again, or else those are
+    /// called back who block it where it waits first.
     fn nudge_served(&self, alloc: Global, client: u64) -> Result<Items<ToClient>, AllocError>
         requires server { IsServer self.now }
         requires client { client < 64 }
-        ensures { IfOk result (λ outs. outs ≡ nudge_served (meaning self.now) client ((meaning self.now).lines client).unheard) }
+        ensures { IfOk result (λ outs. outs ≡ nudge_served
+            (meaning self.now) client ((meaning self.now).lines client).unheard) }
     {
         let Line {
             pushed,
@@ -278,7 +288,8 @@ impl State {
         requires client { client < 64 }
         ensures there { IfSome result (λ w. IsSome (map.get self.now.table w.0)) }
         ensures client { IfSome result (λ w. w.1.client ≡ client) }
-        ensures calls { calls_of_first (meaning self.now) result ≡ callbacks_of_among client (meaning self.now) (slots self.now.durable.index) }
+        ensures calls { calls_of_first (meaning self.now) result
+            ≡ callbacks_of_among client (meaning self.now) (slots self.now.durable.index) }
     {
         match self.table.waiter_of(client) {
             Some(waiter) => self.first_at(waiter.point, client),
@@ -292,7 +303,8 @@ impl State {
         requires point { point ≤ END }
         ensures there { IfSome result (λ w. IsSome (map.get self.now.table w.0)) }
         ensures client { IfSome result (λ w. w.1.client ≡ client) }
-        ensures calls { calls_of_first (meaning self.now) result ≡ calls_at_first (meaning self.now) (slot_of self.now.durable.index point) client }
+        ensures calls { calls_of_first (meaning self.now) result
+            ≡ calls_at_first (meaning self.now) (slot_of self.now.durable.index point) client }
     {
         let slot = self.table.slot_of(point);
         match self.table.front(slot) {

@@ -5,7 +5,8 @@ ghost use Rattle.krl_table.specs.Calls.{queue_with, split_modes, mode_beside};
 ghost use Rattle.krl_modes.specs.declared.mode.Mode.TheVariants as mode;
 ghost use Rattle.krl_table.specs.Kept.{mode_of, row_of, lowered_row, cleared_row, granted_row};
 ghost use Rattle.krl_table.specs.Rows.{blank_row, front_of, all_below, most_clients};
-ghost use Rattle.krl_table.specs.Told.{nothing, told_mode, tell_range, tell_key, settled_row, forgot_row};
+ghost use Rattle.krl_table.specs.Told.{nothing, told_mode, tell_range, tell_key, settled_row};
+ghost use Rattle.krl_table.specs.Told.{forgot_row};
 
 use crate::told::{Reach, Told};
 use krl_modes::{KeyPart, Mode, RangePart, Span};
@@ -92,7 +93,8 @@ impl SlotRow {
 
     /// Whether the client may hold the mode beside what all others hold.
     pub(crate) fn fits(&self, client: u64, mode: Mode) -> bool
-        ensures { result ≡ all_below most_clients (λ d. nat_eq d client || compatible mode (mode_of self.now.modes d)) }
+        ensures { result ≡ all_below most_clients
+            (λ d. nat_eq d client || compatible mode (mode_of self.now.modes d)) }
     {
         for other in 0..64u64 {
             if other != client && !mode.compatible(self.mode(other)) {
@@ -108,7 +110,8 @@ impl SlotRow {
         ensures full { length result.modes ≡ 64 }
         ensures queue { result.queue ≡ [] }
         ensures told { result.told ≡ nothing }
-        ensures modes { (d : ℕ) → d < 64 → mode_of result.modes d ≡ split_modes (mode_of self.now.modes) client d }
+        ensures modes { (d : ℕ) → d < 64
+            → mode_of result.modes d ≡ split_modes (mode_of self.now.modes) client d }
     {
         let mut row = SlotRow::blank(self.low);
         for other in 0..64u64 {

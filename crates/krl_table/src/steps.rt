@@ -1,8 +1,10 @@
 //! A row's change, as the map sees it.
-ghost use Rattle.std.specs.Prelude.{◌≡◌, ◌++◌, ◌<◌, ◌≤◌, ℕ, [], ◌∷◌, Some, None, IsSome, IfSome, OnOk, OnErr, drop};
+ghost use Rattle.std.specs.Prelude.{◌≡◌, ◌++◌, ◌<◌, ◌≤◌, ℕ, [], ◌∷◌, Some, None, IsSome, IfSome};
+ghost use Rattle.std.specs.Prelude.{OnOk, OnErr, drop};
 ghost use Rattle.std.specs.FinMap as map;
 ghost use Rattle.krl_queue.specs.Waiting.{up_to, beyond, without_first};
-ghost use Rattle.krl_table.specs.Kept.{table, row_of, IsNext, IsParted, IsJoined, IsLeft, IsNearer, each, lowered_row, cleared_row, granted_row};
+ghost use Rattle.krl_table.specs.Kept.{table, row_of, IsNext, IsParted, IsJoined, IsLeft, IsNearer};
+ghost use Rattle.krl_table.specs.Kept.{each, lowered_row, cleared_row, granted_row};
 ghost use Rattle.krl_table.specs.Told.{tell_range, tell_keys, settled_row, forgot_row};
 ghost use Rattle.krl_table.specs.Calls.{queue_with};
 ghost use Rattle.krl_table.specs.Rows.{front_of};
@@ -61,7 +63,9 @@ pub(crate) fn lower(
 )
     requires there { IsSome (map.get (table rows.old) slot) }
     requires client { client < 64 }
-    ensures { IfSome (map.get (table rows.old) slot) (λ row. table rows.new ≡ map.insert (table rows.old) slot (lowered_row span client keep slot row)) }
+    ensures { IfSome (map.get (table rows.old) slot)
+        (λ row. table rows.new
+        ≡ map.insert (table rows.old) slot (lowered_row span client keep slot row)) }
 {
     let row = rows.get_mut(&slot).unwrap();
     row.lower(slot, client, span, keep);
@@ -71,7 +75,8 @@ pub(crate) fn lower(
 pub(crate) fn clear(rows: &mut BTreeMap<u64, SlotRow>, slot: u64, client: u64)
     requires there { IsSome (map.get (table rows.old) slot) }
     requires client { client < 64 }
-    ensures { IfSome (map.get (table rows.old) slot) (λ row. table rows.new ≡ map.insert (table rows.old) slot (cleared_row client row)) }
+    ensures { IfSome (map.get (table rows.old) slot)
+        (λ row. table rows.new ≡ map.insert (table rows.old) slot (cleared_row client row)) }
 {
     let row = rows.get_mut(&slot).unwrap();
     row.clear(client);
@@ -91,7 +96,10 @@ pub(crate) fn leave(rows: &mut BTreeMap<u64, SlotRow>, waiter: &Option<Waiter>)
 /// The client's first waiter on the slot goes.
 fn leave_slot(rows: &mut BTreeMap<u64, SlotRow>, slot: u64, client: u64)
     requires { IsSome (map.get (table rows.old) slot) }
-    ensures { IfSome (map.get (table rows.old) slot) (λ row. table rows.new ≡ map.insert (table rows.old) slot (record row { queue = without_first client row.queue })) }
+    ensures { IfSome (map.get (table rows.old) slot)
+        (λ row. table rows.new
+        ≡ map.insert (table rows.old) slot
+        (record row { queue = without_first client row.queue })) }
 {
     let row = rows.get_mut(&slot).unwrap();
     let _waiter = row.queue.remove_client(client);
@@ -101,7 +109,9 @@ fn leave_slot(rows: &mut BTreeMap<u64, SlotRow>, slot: u64, client: u64)
 pub(crate) fn enqueue(rows: &mut BTreeMap<u64, SlotRow>, slot: u64, node: WaitNode)
     requires there { IsSome (map.get (table rows.old) slot) }
     requires client { node.client < 64 }
-    ensures { IfSome (map.get (table rows.old) slot) (λ row. table rows.new ≡ map.insert (table rows.old) slot (record row { queue = queue_with (row_of row) node })) }
+    ensures { IfSome (map.get (table rows.old) slot)
+        (λ row. table rows.new
+        ≡ map.insert (table rows.old) slot (record row { queue = queue_with (row_of row) node })) }
 {
     let row = rows.get_mut(&slot).unwrap();
     row.enqueue(node);
@@ -110,8 +120,10 @@ pub(crate) fn enqueue(rows: &mut BTreeMap<u64, SlotRow>, slot: u64, node: WaitNo
 /// The first waiter there gets what it wants, and waits no more.
 pub(crate) fn grant(rows: &mut BTreeMap<u64, SlotRow>, slot: u64) -> Option<Waiter>
     requires there { IsSome (map.get (table rows.old) slot) }
-    requires client { IfSome (map.get (table rows.old) slot) (λ row. IfSome (front_of row.queue) (λ u. u.client < 64)) }
-    ensures row { IfSome (map.get (table rows.old) slot) (λ row. table rows.new ≡ map.insert (table rows.old) slot (granted_row row)) }
+    requires client { IfSome (map.get (table rows.old) slot)
+        (λ row. IfSome (front_of row.queue) (λ u. u.client < 64)) }
+    ensures row { IfSome (map.get (table rows.old) slot)
+        (λ row. table rows.new ≡ map.insert (table rows.old) slot (granted_row row)) }
     ensures waiter { IfSome (map.get (table rows.old) slot) (λ row. result ≡ front_of row.queue) }
 {
     let row = rows.get_mut(&slot).unwrap();
@@ -121,7 +133,8 @@ pub(crate) fn grant(rows: &mut BTreeMap<u64, SlotRow>, slot: u64) -> Option<Wait
 /// Notes a reported range that begins in the slot's span.
 pub(crate) fn tell_range(rows: &mut BTreeMap<u64, SlotRow>, slot: u64, part: RangePart, hi: u64)
     requires { IsSome (map.get (table rows.old) slot) }
-    ensures { IfSome (map.get (table rows.old) slot) (λ row. table rows.new ≡ map.insert (table rows.old) slot (tell_range row part hi)) }
+    ensures { IfSome (map.get (table rows.old) slot)
+        (λ row. table rows.new ≡ map.insert (table rows.old) slot (tell_range row part hi)) }
 {
     let row = rows.get_mut(&slot).unwrap();
     row.tell_range(part, hi);
@@ -130,7 +143,10 @@ pub(crate) fn tell_range(rows: &mut BTreeMap<u64, SlotRow>, slot: u64, part: Ran
 /// Gives the row what reaches it.
 pub(crate) fn set_reach(rows: &mut BTreeMap<u64, SlotRow>, slot: u64, reach: Reach)
     requires { IsSome (map.get (table rows.old) slot) }
-    ensures { IfSome (map.get (table rows.old) slot) (λ row. table rows.new ≡ map.insert (table rows.old) slot (record row { told = record { reach = reach; key = row.told.key } })) }
+    ensures { IfSome (map.get (table rows.old) slot)
+        (λ row. table rows.new
+        ≡ map.insert (table rows.old) slot
+        (record row { told = record { reach = reach; key = row.told.key } })) }
 {
     let row = rows.get_mut(&slot).unwrap();
     row.told.reach = reach;
@@ -140,7 +156,8 @@ pub(crate) fn set_reach(rows: &mut BTreeMap<u64, SlotRow>, slot: u64, reach: Rea
 pub(crate) fn settle(rows: &mut BTreeMap<u64, SlotRow>, slot: u64, client: u64)
     requires there { IsSome (map.get (table rows.old) slot) }
     requires client { client < 64 }
-    ensures { IfSome (map.get (table rows.old) slot) (λ row. table rows.new ≡ map.insert (table rows.old) slot (settled_row client row)) }
+    ensures { IfSome (map.get (table rows.old) slot)
+        (λ row. table rows.new ≡ map.insert (table rows.old) slot (settled_row client row)) }
 {
     let row = rows.get_mut(&slot).unwrap();
     row.settle(client);
@@ -149,7 +166,8 @@ pub(crate) fn settle(rows: &mut BTreeMap<u64, SlotRow>, slot: u64, client: u64)
 /// Forgets what was told of the slot.
 pub(crate) fn forget(rows: &mut BTreeMap<u64, SlotRow>, slot: u64)
     requires { IsSome (map.get (table rows.old) slot) }
-    ensures { IfSome (map.get (table rows.old) slot) (λ row. table rows.new ≡ map.insert (table rows.old) slot (forgot_row row)) }
+    ensures { IfSome (map.get (table rows.old) slot)
+        (λ row. table rows.new ≡ map.insert (table rows.old) slot (forgot_row row)) }
 {
     let row = rows.get_mut(&slot).unwrap();
     row.forget();
@@ -159,7 +177,9 @@ pub(crate) fn forget(rows: &mut BTreeMap<u64, SlotRow>, slot: u64)
 pub(crate) fn take_up_to(rows: &mut BTreeMap<u64, SlotRow>, slot: u64, point: Point) -> WaitList
     requires { IsSome (map.get (table rows.old) slot) }
     ensures taken { IfSome (map.get (table rows.old) slot) (λ row. result ≡ up_to point row.queue) }
-    ensures kept { IfSome (map.get (table rows.old) slot) (λ row. table rows.new ≡ map.insert (table rows.old) slot (record row { queue = beyond point row.queue })) }
+    ensures kept { IfSome (map.get (table rows.old) slot)
+        (λ row. table rows.new
+        ≡ map.insert (table rows.old) slot (record row { queue = beyond point row.queue })) }
 {
     let row = rows.get_mut(&slot).unwrap();
     row.queue.split_at(point)
@@ -168,7 +188,9 @@ pub(crate) fn take_up_to(rows: &mut BTreeMap<u64, SlotRow>, slot: u64, point: Po
 /// Puts the list before those who wait in the row's queue.
 pub(crate) fn put_before(rows: &mut BTreeMap<u64, SlotRow>, slot: u64, list: WaitList)
     requires { IsSome (map.get (table rows.old) slot) }
-    ensures { IfSome (map.get (table rows.old) slot) (λ row. table rows.new ≡ map.insert (table rows.old) slot (record row { queue = list ++ row.queue })) }
+    ensures { IfSome (map.get (table rows.old) slot)
+        (λ row. table rows.new
+        ≡ map.insert (table rows.old) slot (record row { queue = list ++ row.queue })) }
 {
     let row = rows.get_mut(&slot).unwrap();
     row.queue.splice_front(list);
@@ -177,7 +199,9 @@ pub(crate) fn put_before(rows: &mut BTreeMap<u64, SlotRow>, slot: u64, list: Wai
 /// Takes the first waiter out.
 pub(crate) fn drop_front(rows: &mut BTreeMap<u64, SlotRow>, slot: u64) -> Option<Waiter>
     requires { IsSome (map.get (table rows.old) slot) }
-    ensures row { IfSome (map.get (table rows.old) slot) (λ row. table rows.new ≡ map.insert (table rows.old) slot (record row { queue = drop 1 row.queue })) }
+    ensures row { IfSome (map.get (table rows.old) slot)
+        (λ row. table rows.new
+        ≡ map.insert (table rows.old) slot (record row { queue = drop 1 row.queue })) }
     ensures waiter { IfSome (map.get (table rows.old) slot) (λ row. result ≡ front_of row.queue) }
 {
     let row = rows.get_mut(&slot).unwrap();
@@ -187,7 +211,8 @@ pub(crate) fn drop_front(rows: &mut BTreeMap<u64, SlotRow>, slot: u64) -> Option
 /// Lets the slot's span begin there.
 pub(crate) fn set_low(rows: &mut BTreeMap<u64, SlotRow>, slot: u64, low: u64)
     requires { IsSome (map.get (table rows.old) slot) }
-    ensures { IfSome (map.get (table rows.old) slot) (λ row. table rows.new ≡ map.insert (table rows.old) slot (record row { low = low })) }
+    ensures { IfSome (map.get (table rows.old) slot)
+        (λ row. table rows.new ≡ map.insert (table rows.old) slot (record row { low = low })) }
 {
     let row = rows.get_mut(&slot).unwrap();
     row.low = low;
@@ -195,7 +220,8 @@ pub(crate) fn set_low(rows: &mut BTreeMap<u64, SlotRow>, slot: u64, low: u64)
 
 /// Notes a reported key part at its point, where a slot stands there.
 pub(crate) fn tell_key(rows: &mut BTreeMap<u64, SlotRow>, piece: &KeyPiece)
-    ensures { (n : ℕ) → map.get (table rows.new) n ≡ each (tell_keys (piece.now ∷ [])) n (map.get (table rows.old) n) }
+    ensures { (n : ℕ) → map.get (table rows.new) n
+        ≡ each (tell_keys (piece.now ∷ [])) n (map.get (table rows.old) n) }
 {
     if let Some(row) = rows.get_mut(&piece.point) {
         row.tell_key(piece.part);
@@ -213,7 +239,9 @@ pub(crate) fn part(
     requires there { IsSome (map.get (table rows.old) slot) }
     requires free { map.get (table rows.old) key ≡ None }
     requires key { key < END }
-    ensures parted { OnOk result (IfSome (map.get (table rows.old) slot) (λ old. IsParted (table rows.old) (table rows.new) key slot old row)) }
+    ensures parted { OnOk result
+        (IfSome (map.get (table rows.old) slot)
+        (λ old. IsParted (table rows.old) (table rows.new) key slot old row)) }
     ensures refused { OnErr result (table rows.new ≡ table rows.old) }
 {
     let point = Point::new(key).unwrap();
@@ -230,7 +258,9 @@ pub(crate) fn join(rows: &mut BTreeMap<u64, SlotRow>, key: u64, slot: u64)
     requires gone { IsSome (map.get (table rows.old) key) }
     requires kept { IsSome (map.get (table rows.old) slot) }
     requires apart { key < slot }
-    ensures { IfSome (map.get (table rows.old) key) (λ gone. IfSome (map.get (table rows.old) slot) (λ kept. IsJoined (table rows.old) (table rows.new) key slot gone kept)) }
+    ensures { IfSome (map.get (table rows.old) key)
+        (λ gone. IfSome (map.get (table rows.old) slot)
+        (λ kept. IsJoined (table rows.old) (table rows.new) key slot gone kept)) }
 {
     let SlotRow {
         low,

@@ -1,5 +1,7 @@
 //! The table.
-ghost use Rattle.std.specs.Prelude.{◌≡◌, ◌≢◌, ◌⊎◌, ◌↔◌, ◌<◌, ◌≤◌, true, false, [], ℕ, suc, map as map_list, Some, None, is_some, IfOk, IsOk, IsSome, IfSome, MatchOption, OnOk, OnErr};
+ghost use Rattle.std.specs.Prelude.{◌≡◌, ◌≢◌, ◌⊎◌, ◌↔◌, ◌<◌, ◌≤◌, true, false, [], ℕ, suc};
+ghost use Rattle.std.specs.Prelude.{map as map_list, Some, None, is_some, IfOk, IsOk, IsSome};
+ghost use Rattle.std.specs.Prelude.{IfSome, MatchOption, OnOk, OnErr};
 ghost use Rattle.std.specs.FinMap as map;
 ghost use Rattle.krl_modes.specs.declared.point.TheConstants.{END};
 ghost use Rattle.krl_modes.specs.declared.part.KeyPart.TheVariants as key_part;
@@ -8,8 +10,9 @@ ghost use Rattle.krl_durable.specs.Index.{Index, slot_of, span_of};
 ghost use Rattle.krl_durable.specs.Writes.{held};
 ghost use Rattle.krl_table.specs.declared.reply.Reply.TheVariants as reply;
 ghost use Rattle.krl_table.specs.Rows.{mode_at, column, front_of, blank_row, waiter_of};
-ghost use Rattle.krl_table.specs.Calls.{lowered, cleared, enqueued, granted, dropped, split, merged};
-ghost use Rattle.krl_table.specs.Kept.{rows_of, IsOver, IsNext, AreKeys};
+ghost use Rattle.krl_table.specs.Calls.{lowered, cleared, enqueued, granted, dropped, split};
+ghost use Rattle.krl_table.specs.Calls.{merged};
+ghost use Rattle.krl_table.specs.Kept.{mode_of, rows_of, IsOver, IsNext, AreKeys};
 ghost use Rattle.krl_table.specs.Points.{range_at, key_at, MayInsert, MayDelete};
 ghost use Rattle.krl_table.specs.Replies.{answerable, asks_absent, can_have, reply_to};
 ghost use Rattle.krl_table.specs.Reports.{conflicts, adopted};
@@ -58,7 +61,8 @@ impl Model for Table {
 
     ghost view = { λ t. map.from_entries t.rows.entries };
 
-    ghost invariant = { λ t. IsSound (map.from_entries t.rows.entries) × AreListed t.waiting.by_client (map.from_entries t.rows.entries) };
+    ghost invariant = { λ t. IsSound (map.from_entries t.rows.entries)
+        × AreListed t.waiting.by_client (map.from_entries t.rows.entries) };
 }
 
 impl Table {
@@ -79,7 +83,8 @@ impl Table {
     fn of_entries(alloc: Global, entries: &[(u64, Value)]) -> Result<Table, AllocError>
         requires { AreKeys 0 (map_list (λ e. e.0) entries.now) }
         ensures blank { IfOk result (λ t. (n : ℕ) → rows_of t n ≡ blank_row) }
-        ensures slots { IfOk result (λ t. (m : Index) → map.keys m ≡ map_list (λ e. e.0) entries.now → IsOver m t) }
+        ensures slots { IfOk result
+            (λ t. (m : Index) → map.keys m ≡ map_list (λ e. e.0) entries.now → IsOver m t) }
     {
         let mut rows = BTreeMap::new(alloc);
         let mut low: u64 = 0;
@@ -111,6 +116,14 @@ impl Table {
         self.row(slot).mode(client)
     }
 
+    /// The modes on the slot, by client.
+    pub fn modes(&self, slot: u64) -> &[Mode; 64]
+        requires { IsSome (map.get self.now slot) }
+        ensures { (c : ℕ) → mode_of result.now c ≡ mode_at (rows_of self.now) slot c }
+    {
+        &self.row(slot).modes
+    }
+
     /// The slot of a point: the least one at or above it.
     pub fn slot_of(&self, point: Point) -> u64
         ensures slot { (m : Index) → IsOver m self.now → result ≡ slot_of m point }
@@ -139,7 +152,8 @@ impl Table {
     /// How the client waits. The clause `sound` says what holds of every table.
     pub fn waiter_of(&self, client: u64) -> Option<Waiter>
         requires { client < 64 }
-        ensures waiter { (m : Index) → IsOver m self.now → result ≡ waiter_of m (rows_of self.now) client }
+        ensures waiter { (m : Index) → IsOver m self.now
+            → result ≡ waiter_of m (rows_of self.now) client }
         ensures nowhere { result ≡ None → WaitsNowhere (rows_of self.now) client }
         ensures sound { (m : Index) → IsOver m self.now → IsTable m (rows_of self.now) }
     {
@@ -149,7 +163,8 @@ impl Table {
     /// The least slot at or above this point at which somebody waits. It takes at most 64 steps,
     /// with a search each.
     pub fn next_waiting(&self, from: u64) -> Option<u64>
-        ensures next { MatchOption result ((n : ℕ) → from ≤ n → (rows_of self.now n).queue ≡ []) (λ slot. IsNextWaiting (rows_of self.now) from slot) }
+        ensures next { MatchOption result ((n : ℕ) → from ≤ n → (rows_of self.now n).queue ≡ [])
+            (λ slot. IsNextWaiting (rows_of self.now) from slot) }
         ensures there { IfSome result (λ slot. IsSome (map.get self.now slot)) }
     {
         let mut least: Option<u64> = None;
@@ -164,7 +179,8 @@ impl Table {
     /// the slots in the span, and the one after them.
     pub fn lower(&mut self, client: u64, span: Span, keep: Mode)
         requires { client < 64 }
-        ensures lowered { (m : Index) → IsOver m self.old → (n : ℕ) → rows_of self.new n ≡ lowered m (rows_of self.old) client span keep n }
+        ensures lowered { (m : Index) → IsOver m self.old → (n : ℕ)
+            → rows_of self.new n ≡ lowered m (rows_of self.old) client span keep n }
         ensures slots { (m : Index) → IsOver m self.old → IsOver m self.new }
     {
         walks::lower(&mut self.rows, client, span, keep);
@@ -187,7 +203,8 @@ impl Table {
     pub fn enqueue(&mut self, node: WaitNode)
         requires client { node.client < 64 }
         requires free { WaitsNowhere (rows_of self.old) node.client }
-        ensures enqueued { (m : Index) → IsOver m self.old → (n : ℕ) → rows_of self.new n ≡ enqueued m (rows_of self.old) node n }
+        ensures enqueued { (m : Index) → IsOver m self.old → (n : ℕ)
+            → rows_of self.new n ≡ enqueued m (rows_of self.old) node n }
         ensures slots { (m : Index) → IsOver m self.old → IsOver m self.new }
     {
         let waiter = node.waiter();
@@ -200,7 +217,8 @@ impl Table {
     /// there, and waits no more.
     pub fn grant(&mut self, slot: u64)
         requires there { IsSome (map.get self.old slot) }
-        requires fits { IfSome (front_of (rows_of self.old slot).queue) (λ u. can_have (rows_of self.old) slot u ≡ true) }
+        requires fits { IfSome (front_of (rows_of self.old slot).queue)
+            (λ u. can_have (rows_of self.old) slot u ≡ true) }
         ensures granted { (n : ℕ) → rows_of self.new n ≡ granted (rows_of self.old) slot n }
         ensures slots { (m : Index) → IsOver m self.old → IsOver m self.new }
     {
@@ -228,13 +246,21 @@ impl Table {
         requires client { client < 64 }
         requires key { key < END }
         requires free { map.get self.old key ≡ None }
-        requires may { (m : Index) → IsOver m self.old → MayInsert (rows_of self.old) (slot_of m key) client }
-        ensures split { OnOk result ((m : Index) → IsOver m self.old → (n : ℕ) → rows_of self.new n ≡ split m (rows_of self.old) key client n) }
-        ensures slots { OnOk result ((m : Index) (value : ℕ) → IsOver m self.old → IsOver (map.insert m key value) self.new) }
+        requires may { (m : Index) → IsOver m self.old
+            → MayInsert (rows_of self.old) (slot_of m key) client }
+        ensures split { OnOk result
+            ((m : Index) → IsOver m self.old → (n : ℕ)
+            → rows_of self.new n ≡ split m (rows_of self.old) key client n) }
+        ensures slots { OnOk result
+            ((m : Index) (value : ℕ) → IsOver m self.old
+            → IsOver (map.insert m key value) self.new) }
         ensures ranges { OnOk result ((m : Index) (value : ℕ) → IsOver m self.old
-            → (d p : ℕ) → range_at (map.insert m key value) (rows_of self.new) d p ≡ range_at m (rows_of self.old) d p) }
+            → (d p : ℕ) → range_at (map.insert m key value) (rows_of self.new) d p
+            ≡ range_at m (rows_of self.old) d p) }
         ensures keys { OnOk result ((m : Index) (value : ℕ) → IsOver m self.old
-            → (d p : ℕ) → (p ≢ key) ⊎ (d ≢ client) → key_at (map.insert m key value) (rows_of self.new) d p ≡ key_at m (rows_of self.old) d p) }
+            → (d p : ℕ) → (p ≢ key) ⊎ (d ≢ client)
+            → key_at (map.insert m key value) (rows_of self.new) d p
+            ≡ key_at m (rows_of self.old) d p) }
         ensures own { OnOk result ((m : Index) (value : ℕ) → IsOver m self.old
             → key_at (map.insert m key value) (rows_of self.new) client key ≡ key_part.X) }
         ensures refused { OnErr result (self.new ≡ self.old) }
@@ -249,13 +275,17 @@ impl Table {
     pub fn merge(&mut self, key: u64)
         requires there { IsSome (map.get self.old key) }
         requires key { key < END }
-        requires may { (c : ℕ) × ((m : Index) → IsOver m self.old → MayDelete (rows_of self.old) key (slot_of m (suc key)) c) }
-        ensures merged { (m : Index) → IsOver m self.old → (n : ℕ) → rows_of self.new n ≡ merged m (rows_of self.old) key n }
+        requires may { (c : ℕ) × ((m : Index) → IsOver m self.old
+            → MayDelete (rows_of self.old) key (slot_of m (suc key)) c) }
+        ensures merged { (m : Index) → IsOver m self.old → (n : ℕ)
+            → rows_of self.new n ≡ merged m (rows_of self.old) key n }
         ensures slots { (m : Index) → IsOver m self.old → IsOver (map.remove m key) self.new }
         ensures ranges { (m : Index) → IsOver m self.old
-            → (d p : ℕ) → range_at (map.remove m key) (rows_of self.new) d p ≡ range_at m (rows_of self.old) d p }
+            → (d p : ℕ) → range_at (map.remove m key) (rows_of self.new) d p
+            ≡ range_at m (rows_of self.old) d p }
         ensures keys { (m : Index) → IsOver m self.old
-            → (d p : ℕ) → key_at (map.remove m key) (rows_of self.new) d p ≡ key_at m (rows_of self.old) d p }
+            → (d p : ℕ) → key_at (map.remove m key) (rows_of self.new) d p
+            ≡ key_at m (rows_of self.old) d p }
     {
         let slot = steps::next(&self.rows, key + 1);
         steps::join(&mut self.rows, key, slot);
@@ -303,8 +333,10 @@ impl Table {
     fn reply_to(&self, slot: u64, waiter: &Waiter) -> Option<Reply>
         requires there { IsSome (map.get self.now slot) }
         requires client { waiter.now.client < 64 }
-        ensures reply { (m : Index) → IsOver m self.now → result ≡ reply_to m (rows_of self.now) slot waiter.now }
-        ensures grants { result ≡ Some reply.Grant → can_have (rows_of self.now) slot waiter.now ≡ true }
+        ensures reply { (m : Index) → IsOver m self.now
+            → result ≡ reply_to m (rows_of self.now) slot waiter.now }
+        ensures grants { result ≡ Some reply.Grant
+            → can_have (rows_of self.now) slot waiter.now ≡ true }
     {
         if self.asks_absent(waiter) {
             Some(Reply::Absent)
@@ -321,8 +353,11 @@ impl Table {
     /// The clause `grants` is what `grant` asks.
     pub fn answerable(&self, slot: u64, acked: bool) -> Option<Reply>
         requires { IsSome (map.get self.now slot) }
-        ensures answer { (m : Index) → IsOver m self.now → result ≡ answerable m (rows_of self.now) slot acked }
-        ensures grants { result ≡ Some reply.Grant → IfSome (front_of (rows_of self.now slot).queue) (λ u. can_have (rows_of self.now) slot u ≡ true) }
+        ensures answer { (m : Index) → IsOver m self.now
+            → result ≡ answerable m (rows_of self.now) slot acked }
+        ensures grants { result ≡ Some reply.Grant
+            → IfSome (front_of (rows_of self.now slot).queue)
+            (λ u. can_have (rows_of self.now) slot u ≡ true) }
     {
         if !acked {
             return None;
@@ -337,7 +372,8 @@ impl Table {
     pub fn held(&self, client: u64, op: WriteOp) -> bool
         requires client { client < 64 }
         requires key { op_key op < END }
-        ensures { (m : Index) → IsOver m self.now → result ≡ held m (column (rows_of self.now) client) op }
+        ensures { (m : Index) → IsOver m self.now
+            → result ≡ held m (column (rows_of self.now) client) op }
     {
         match op {
             WriteOp::Insert { key, value: _ } => {
@@ -365,8 +401,11 @@ impl Table {
     /// changed.
     pub fn adopt_report(&mut self, client: u64, pieces: &Pieces) -> Result<(), Conflict>
         requires { client < 64 }
-        ensures conflict { (m : Index) → IsOver m self.old → IsOk result ↔ (conflicts m (rows_of self.old) client pieces.now ≡ false) }
-        ensures adopted { OnOk result ((m : Index) → IsOver m self.old → (n : ℕ) → rows_of self.new n ≡ adopted m (rows_of self.old) client pieces.now n) }
+        ensures conflict { (m : Index) → IsOver m self.old
+            → IsOk result ↔ (conflicts m (rows_of self.old) client pieces.now ≡ false) }
+        ensures adopted { OnOk result
+            ((m : Index) → IsOver m self.old → (n : ℕ)
+            → rows_of self.new n ≡ adopted m (rows_of self.old) client pieces.now n) }
         ensures refused { OnErr result (self.new ≡ self.old) }
         ensures slots { (m : Index) → IsOver m self.old → IsOver m self.new }
     {

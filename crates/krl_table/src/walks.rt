@@ -4,9 +4,11 @@ ghost use Rattle.krl_modes.specs.declared.point.TheConstants.{END};
 ghost use Rattle.krl_messages.specs.declared.range_pieces.RangePiece.{RangePiece};
 ghost use Rattle.std.specs.FinMap as map;
 ghost use Rattle.krl_durable.specs.Index.{Index};
-ghost use Rattle.krl_table.specs.Kept.{table, row_of, each, IsEach, IsWhole, IsOver, lowered_row, cleared_row};
+ghost use Rattle.krl_table.specs.Kept.{table, row_of, each, IsEach, IsWhole, IsOver, lowered_row};
+ghost use Rattle.krl_table.specs.Kept.{cleared_row};
 ghost use Rattle.krl_table.specs.Rows.{row_fits};
-ghost use Rattle.krl_table.specs.Told.{tell_ranges, tell_keys, spread_row, settled_row, forgot_row, told_mode};
+ghost use Rattle.krl_table.specs.Told.{tell_ranges, tell_keys, spread_row, settled_row, forgot_row};
+ghost use Rattle.krl_table.specs.Told.{told_mode};
 
 use crate::row::SlotRow;
 use crate::steps;
@@ -47,7 +49,8 @@ pub(crate) fn clear(rows: &mut BTreeMap<u64, SlotRow>, client: u64)
 /// Notes each reported range at the slot of its first point.
 pub(crate) fn tell_ranges(rows: &mut BTreeMap<u64, SlotRow>, pieces: &[RangePiece])
     requires { IsWhole (table rows.old) }
-    ensures told { (m : Index) → IsOver m (table rows.old) → IsEach (tell_ranges m pieces.now) (table rows.old) (table rows.new) }
+    ensures told { (m : Index) → IsOver m (table rows.old)
+        → IsEach (tell_ranges m pieces.now) (table rows.old) (table rows.new) }
     ensures within { (i : ℕ) (x : RangePiece) → slice_get pieces.now i ≡ Some x → x.span.lo ≤ END }
 {
     for piece in pieces {
@@ -84,7 +87,9 @@ pub(crate) fn spread(rows: &mut BTreeMap<u64, SlotRow>)
 /// hold.
 pub(crate) fn all_fit(rows: &BTreeMap<u64, SlotRow>, client: u64) -> bool
     requires { IsWhole (table rows.now) }
-    ensures { (result ≡ true) ↔ ((n : ℕ) (r : SlotRow) → map.get (table rows.now) n ≡ Some r → row_fits (row_of r) client (told_mode r) ≡ true) }
+    ensures { (result ≡ true) ↔
+        ((n : ℕ) (r : SlotRow) → map.get (table rows.now) n ≡ Some r
+        → row_fits (row_of r) client (told_mode r) ≡ true) }
 {
     let mut at: u64 = 0;
     while at <= END {

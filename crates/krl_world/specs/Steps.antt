@@ -1,14 +1,38 @@
 -- What each step answers and leaves, and which refusal comes first.
-use Rattle.std.specs.Prelude.{◌≡◌, ℕ, suc, ◌+◌, ◌&&◌, ◌||◌, ◌⊎◌, Bool, true, false, not, cond, nat_eq, nat_lt, nat_le, List, [], ◌∷◌, ◌++◌, length, slice_set, slice_get, Option, Some, None, Result, Ok, Err, is_some, unwrap_or}
-use Rattle.std.specs.List.{list_all, enumerate_from}
-use Rattle.std.specs.FinMap as map
-use Rattle.krl_modes.specs.declared.point.TheConstants.{END, TOP}
-use Rattle.krl_modes.specs.declared.mode.Mode.{Mode}
+use Rattle.std.specs.Prelude.{◌≡◌, ℕ, zero, suc, ◌⊎◌, ◌≤◌, true, false, cond, nat_lt, List, [], ◌∷◌, length, slice_get, Option, Some, None, Result, Ok, Err, is_some}
+use Rattle.krl_modes.specs.Spans.{Bounds}
+use Rattle.krl_messages.specs.declared.pieces.Pieces.{Pieces}
+use Rattle.krl_messages.specs.declared.outcome.Outcome.{Outcome}
+use Rattle.krl_messages.specs.declared.outcome.Outcome.TheVariants as outcome
+use Rattle.krl_messages.specs.declared.to_server.ToServer.{ToServer}
+use Rattle.krl_messages.specs.declared.to_client.ToClient.{ToClient}
+use Rattle.krl_durable.specs.declared.refused.Refused.{Refused as IndexRefused}
+use Rattle.krl_durable.specs.declared.refused.Refused.TheVariants as index
+use Rattle.krl_durable.specs.Openings.{AreGood, Refuses}
+use Rattle.krl_durable.specs.Writes.{most_entries}
+use Rattle.krl_server.specs.declared.start_refused.StartRefused.{StartRefused as NotStarted}
+use Rattle.krl_server.specs.declared.start_refused.StartRefused.TheVariants as not_started
+use Rattle.krl_server.specs.Servers.{Server}
+use Rattle.krl_server.specs.Cases.{Case, Ignored, Registers, Leaves, Tells, Alarms, Rebuilds, Repeats, Hears, Lowers, Waits, Judges, AnswersAgain, case_of}
+use Rattle.krl_server.specs.Steps as server
+use Rattle.krl_server.specs.Steps.{ServerStep}
+use Rattle.krl_cache.specs.Beliefs.{CoversAll}
+use Rattle.krl_cache.specs.Kept.{Describes}
+use Rattle.krl_client.specs.declared.refused.CommandRefused.{CommandRefused}
+use Rattle.krl_client.specs.declared.refused.CommandRefused.TheVariants as client
+use Rattle.krl_client.specs.declared.refused.StartRefused.{StartRefused}
+use Rattle.krl_client.specs.declared.refused.StartRefused.TheVariants as beginner
+use Rattle.krl_client.specs.declared.scan_answer.ScanAnswer.TheVariants as scanned
+use Rattle.krl_client.specs.Clients.{Client, begun, is_writing_in, free_pin}
+use Rattle.krl_client.specs.Commands
+use Rattle.krl_client.specs.Commands.{lock_refusal, write_refusal, scan_refusal, forget_refusal, pin_refusal, unpin_refusal, start_refusal, says_lock, wrote, says_write, says_release, forgot, pinned, unpinned, says_bye}
+use Rattle.krl_client.specs.Messages as receiver
+use Rattle.krl_client.specs.Ticks.{tick, says_hello}
 use Rattle.krl_modes.specs.declared.mode.Mode.TheVariants as mode
-use Rattle.krl_modes.specs.Modes.{key_of, compatible, join}
-use Rattle.krl_world.specs.declared.holding.Holding.{Holding}
+use Rattle.krl_messages.specs.Values.{Value}
 use Rattle.krl_world.specs.declared.message.Message.{Message}
-use Rattle.krl_world.specs.declared.message.Message.TheVariants.{Hello, Epoch, Lock, Grant, Absent}
+use Rattle.krl_world.specs.declared.message.Message.TheVariants as message
+use Rattle.krl_world.specs.declared.applied_write.AppliedWrite.{AppliedWrite}
 use Rattle.krl_world.specs.declared.step.Step.{Step}
 use Rattle.krl_world.specs.declared.step.Step.TheVariants as step
 use Rattle.krl_world.specs.declared.step.Command.{Command}
@@ -17,194 +41,229 @@ use Rattle.krl_world.specs.declared.answer.Answer.{Answer}
 use Rattle.krl_world.specs.declared.answer.Answer.TheVariants as told
 use Rattle.krl_world.specs.declared.refused.Refused.{Refused}
 use Rattle.krl_world.specs.declared.refused.Refused.TheVariants as refused
-use Rattle.krl_world.specs.Index.{Index, slot_of, low_of, has_key}
-use Rattle.krl_world.specs.Holdings.{Holdings, CoversAll, IsLeastUncovered, reads_key, rows_in}
-use Rattle.krl_world.specs.declared.client.Client.{Client}
-use Rattle.krl_world.specs.States.{State, fresh, client_of}
+use Rattle.krl_world.specs.States.{ServerNode, Up, Down, State, fresh, client_of, with_client, seated, served}
 
 -- Making a world
 
--- the most entries of an index
-abbrev pub most_entries : ℕ
-most_entries = 65536
+-- a world may begin with these entries
+abbrev pub CanBegin : List (ℕ × Value) → Type 0
+CanBegin entries = (length entries ≤ most_entries) × AreGood entries (length entries)
 
--- the first bad entry in order, where these stand before
-abbrev pub entries_refusal_after : List (ℕ × ℕ) → List (ℕ × ℕ) → Option Refused
-entries_refusal_after before [] = None
-entries_refusal_after before (e ∷ entries) =
-    cond (nat_le END e.0) (Some refused.BadKey)
-    (cond (has_key before e.0) (Some refused.Twice) (entries_refusal_after (before ++ e ∷ []) entries))
+-- what the index refuses, by its name here
+abbrev pub refused_by_index : IndexRefused → Refused
+refused_by_index index.OutOfMemory = refused.OutOfMemory
+refused_by_index index.BadKey = refused.BadKey
+refused_by_index index.Twice = refused.Twice
+refused_by_index index.Full = refused.Full
 
 -- why no world begins with these entries
-abbrev pub entries_refusal : List (ℕ × ℕ) → Option Refused
-entries_refusal entries = cond (nat_lt most_entries (length entries)) (Some refused.Full) (entries_refusal_after [] entries)
-
-abbrev pub made_by : Option Refused → List (ℕ × ℕ) → Result State Refused
-made_by None entries = Ok (fresh entries)
-made_by (Some r) entries = Err r
-
--- what making a world gives where there is memory
-unfoldable pub made : List (ℕ × ℕ) → Result State Refused
-made entries = made_by (entries_refusal entries) entries
-
--- What making a world may give. Making one takes memory, whatever the entries.
-unfoldable pub Makes : List (ℕ × ℕ) → Result State Refused → Type 0
-Makes entries r = (r ≡ made entries) ⊎ (r ≡ Err refused.OutOfMemory)
+abbrev pub BeginsNot : List (ℕ × Value) → Refused → Type 0
+BeginsNot entries r = (e : IndexRefused) × Refuses entries e × (r ≡ refused_by_index e)
 
 -- Refusals, apart from memory: the first reason in the written order
 
--- a client that runs refuses a command so
-abbrev pub command_refusal : Client → Command → Option Refused
-command_refusal client (command.Lock p m) =
-    cond (nat_lt END p) (Some refused.BadPoint) (cond (not client.joined) (Some refused.NotJoined) (cond client.waits (Some refused.Busy) None))
-command_refusal client (command.Scan lo hi) = cond (nat_le hi lo || nat_lt TOP hi) (Some refused.BadSpan) None
+-- what a client refuses, by its name here
+abbrev pub refused_by_client : CommandRefused → Refused
+refused_by_client client.OutOfMemory = refused.OutOfMemory
+refused_by_client client.BadPoint = refused.BadPoint
+refused_by_client client.BadSpan = refused.BadSpan
+refused_by_client client.NotJoined = refused.NotJoined
+refused_by_client client.Busy = refused.Busy
+refused_by_client client.NotHeld = refused.NotHeld
+refused_by_client client.Pinned = refused.Pinned
+refused_by_client client.Writing = refused.Writing
+refused_by_client client.TooManyPins = refused.TooManyPins
+refused_by_client client.Spent = refused.Spent
+
+-- what a client's start is refused for, by its name here
+abbrev pub refused_at_start : StartRefused → Refused
+refused_at_start beginner.BadClient = refused.BadClient
+refused_at_start beginner.Spent = refused.Spent
+
+-- what a server's start is refused for, by its name here
+abbrev pub refused_by_server : NotStarted → Refused
+refused_by_server not_started.OutOfMemory = refused.OutOfMemory
+refused_by_server not_started.Spent = refused.Spent
+
+abbrev pub named : {A : Type 0} → (A → Refused) → Option A → Option Refused
+named f None = None
+named f (Some r) = Some (f r)
+
+-- the span of these ends
+abbrev pub span : ℕ → ℕ → Bounds
+span lo hi = record { lo = lo; hi = hi }
+
+-- why a client that runs refuses a command
+abbrev pub command_refusal : Client → Command → Option CommandRefused
+command_refusal k (command.Lock point m) = lock_refusal k point
+command_refusal k (command.Write op) = write_refusal k op
+command_refusal k (command.Scan lo hi) = scan_refusal (span lo hi)
+command_refusal k (command.Forget lo hi) = forget_refusal k (span lo hi)
+command_refusal k (command.Pin lo hi) = pin_refusal k (span lo hi)
+command_refusal k (command.Unpin id) = unpin_refusal k id
+command_refusal k command.Leave = None
+
+-- the i-th message ever sent, counted from 1
+abbrev pub message_at : List Message → ℕ → Option Message
+message_at sent zero = None
+message_at sent (suc i) = slice_get sent i
+
+-- the client's number is judged before all else
+abbrev pub of_client : ℕ → Option Refused → Option Refused
+of_client c r = cond (nat_lt 63 c) (Some refused.BadClient) r
+
+abbrev pub if_runs : Option Client → (Client → Option Refused) → Option Refused
+if_runs None f = Some refused.Down
+if_runs (Some k) f = f k
+
+abbrev pub server_down : ServerNode → Option Refused
+server_down (Up s) = None
+server_down (Down d) = Some refused.Down
+
+abbrev pub server_start : ServerNode → Option Refused
+server_start (Up s) = Some refused.Running
+server_start (Down d) = cond (server.can_start d) None (Some refused.Spent)
 
 abbrev pub refusal_of : State → Step → Option Refused
-refusal_of w (step.StartClient c) = cond (nat_lt 63 c) (Some refused.BadClient) (cond (client_of w c).runs (Some refused.Running) None)
-refusal_of w (step.Command c what) =
-    cond (nat_lt 63 c) (Some refused.BadClient) (cond (not (client_of w c).runs) (Some refused.Down) (command_refusal (client_of w c) what))
-refusal_of w (step.Deliver i) = cond (nat_eq i (w.delivered + 1) && nat_le i (length w.sent)) None (Some refused.NoMessage)
+refusal_of w (step.Deliver i) = cond (is_some (message_at w.sent i)) None (Some refused.NoMessage)
+refusal_of w (step.Command c what) = of_client c (if_runs (client_of w c) (λ k. named refused_by_client (command_refusal k what)))
+refusal_of w (step.Tick c) = of_client c (if_runs (client_of w c) (λ k. None))
+refusal_of w (step.Nudge c) = of_client c (server_down w.server)
+refusal_of w (step.StartClient c) =
+    of_client c (cond (is_some (client_of w c)) (Some refused.Running) (named refused_at_start (start_refusal c (suc (w.seats c).greatest))))
+refusal_of w (step.CrashClient c) = of_client c (if_runs (client_of w c) (λ k. None))
+refusal_of w step.StartServer = server_start w.server
+refusal_of w step.CrashServer = server_down w.server
 
--- What the server makes of a lock request
+-- Deliveries
 
--- what the server granted a client on a slot
-abbrev pub granted_mode : Client → ℕ → Mode
-granted_mode client n = unwrap_or (map.get client.granted n) mode.N
+abbrev pub if_applied : Outcome → AppliedWrite → List AppliedWrite
+if_applied outcome.Applied x = x ∷ []
+if_applied outcome.Exists x = []
+if_applied outcome.Absent x = []
+if_applied outcome.NotHeld x = []
+if_applied outcome.Full x = []
 
--- the mode asks for an entry alone, so there has to be one
-abbrev pub needs_entry : Mode → Bool
-needs_entry mode.N = false
-needs_entry mode.S = true
-needs_entry mode.U = true
-needs_entry mode.X = true
-needs_entry mode.RangeSS = false
-needs_entry mode.RangeSU = false
-needs_entry mode.RangeIN = false
-needs_entry mode.RangeIS = false
-needs_entry mode.RangeIU = false
-needs_entry mode.RangeIX = false
-needs_entry mode.RangeXS = false
-needs_entry mode.RangeXU = false
-needs_entry mode.RangeXX = false
+-- the write that the server applies with a message of this case, if it applies one
+abbrev pub applies : ToServer → Case → List AppliedWrite
+applies m Ignored = []
+applies m Registers = []
+applies m Leaves = []
+applies m Tells = []
+applies m Alarms = []
+applies m (Rebuilds pieces) = []
+applies m (Repeats body) = []
+applies m Hears = []
+applies m (Lowers s keep) = []
+applies m (Waits req point g) = []
+applies m (Judges number op o) = if_applied o (record { client = m.client; incarnation = m.incarnation; number = number; op = op })
+applies m (AnswersAgain number op o) = []
 
--- no entry stands at the point, and the mode needs one
-abbrev pub is_absent : Index → ℕ → Mode → Bool
-is_absent m p wanted = needs_entry wanted && not (is_some (map.get m p))
+-- the server reads the message; one that is down loses it
+abbrev pub ServerReads : State → ServerNode → ToServer → State → Type 0
+ServerReads w (Up s) m w' = (t : Server) × (outs : List ToClient) × ServerStep s m t outs × (w' ≡ served w (Up t) outs (applies m (case_of s m)))
+ServerReads w (Down d) m w' = w' ≡ w
 
--- the mode goes beside what each client but c was granted on the slot
-abbrev pub goes_beside : List Client → ℕ → ℕ → Mode → Bool
-goes_beside clients c n m = list_all (λ e. nat_eq e.0 c || compatible m (granted_mode e.1 n)) (enumerate_from 0 clients)
+-- so does a client
+abbrev pub ClientReads : State → Option Client → ToClient → State → Type 0
+ClientReads w (Some k) m w' =
+    (ps : Pieces) × Describes ps k.belief
+    × (w' ≡ with_client w m.client (Some (receiver.after k (receiver.case_of k m))) (receiver.sends ps k (receiver.case_of k m)))
+ClientReads w None m w' = w' ≡ w
 
--- the least mode above what client c wants and has on the slot
-abbrev pub wanted_join : State → ℕ → ℕ → Mode → Mode
-wanted_join w c n wanted = join wanted (granted_mode (client_of w c) n)
+abbrev pub Delivers : State → Option Message → State → Type 0
+Delivers w (Some (message.ToServer m)) w' = ServerReads w w.server m w'
+Delivers w (Some (message.ToClient m)) w' = ClientReads w (client_of w m.client) m w'
+Delivers w None w' = ⊥
 
--- the value that goes with a mode on a slot: its entry's, where the mode reads it
-abbrev pub value_for : Index → ℕ → Mode → Option ℕ
-value_for m n held = cond (reads_key (key_of held)) (map.get m n) None
+-- Commands
 
--- the holding of a mode on a slot
-abbrev pub holding_of : Index → ℕ → Mode → Holding
-holding_of m n held = record { lo = low_of m n; slot = n; mode = held; value = value_for m n held }
+-- what a client says of a scan is the answer
+abbrev pub ScanAnswers : Client → Bounds → Answer → Type 0
+ScanAnswers k s told.Done = ⊥
+ScanAnswers k s (told.Pinned id) = ⊥
+ScanAnswers k s (told.Rows rows) = Commands.Answers k s (scanned.Rows rows)
+ScanAnswers k s (told.Miss p) = Commands.Answers k s (scanned.Miss p)
+ScanAnswers k s (told.Pending n) = Commands.Answers k s (scanned.Pending n)
 
--- What each step leaves
+-- a client that runs obeys a command
+abbrev pub Obeys : State → ℕ → Client → Command → Answer → State → Type 0
+Obeys w c k (command.Lock point m) answer w' =
+    (answer ≡ told.Done) × (w' ≡ with_client w c (Some (Commands.locked k point m)) (says_lock (Commands.locked k point m) point m ∷ []))
+Obeys w c k (command.Write op) answer w' = (answer ≡ told.Done) × (w' ≡ with_client w c (Some (wrote k op)) (says_write (wrote k op) op ∷ []))
+Obeys w c k (command.Scan lo hi) answer w' = ScanAnswers k (span lo hi) answer × (w' ≡ w)
+Obeys w c k (command.Forget lo hi) answer w' =
+    (answer ≡ told.Done) × (w' ≡ with_client w c (Some (forgot k (span lo hi))) (says_release k (span lo hi) mode.N ∷ []))
+Obeys w c k (command.Pin lo hi) answer w' =
+    (id : ℕ) × (free_pin k ≡ Some id) × (answer ≡ told.Pinned id) × (w' ≡ with_client w c (Some (pinned k (span lo hi) id)) [])
+Obeys w c k (command.Unpin id) answer w' = (answer ≡ told.Done) × (w' ≡ with_client w c (Some (unpinned k id)) [])
+Obeys w c k command.Leave answer w' = (answer ≡ told.Done) × (w' ≡ with_client w c None (says_bye k ∷ []))
 
--- the client of this number is now so
-abbrev pub with_client : State → ℕ → Client → State
-with_client w c client = record w { clients = slice_set w.clients c client }
+-- Steps
 
--- this was sent
-abbrev pub sends : State → Message → State
-sends w message = record w { sent = w.sent ++ message ∷ [] }
+-- what a server that runs is nudged to send
+abbrev pub nudged : State → ServerNode → ℕ → State
+nudged w (Up s) c = served w (Up s) (server.nudge s c) []
+nudged w (Down d) c = w
 
--- the oldest message counts as delivered
-abbrev pub taken_off : State → State
-taken_off w = record w { delivered = suc w.delivered }
+abbrev pub started : State → ServerNode → State
+started w (Up s) = w
+started w (Down d) = served w (Up (server.start d)) [] []
 
--- the server reads a lock request of client c for this slot: it is granted, where it goes beside what the others have; else it waits
-abbrev pub after_request : State → ℕ → ℕ → Mode → Bool → State
-after_request w c n m true =
-    sends (with_client w c (record (client_of w c) { granted = map.insert (client_of w c).granted n m })) (Grant c (holding_of w.index n m))
-after_request w c n m false = w
+abbrev pub crashed : State → ServerNode → State
+crashed w (Up s) = served w (Down (server.crash s)) [] []
+crashed w (Down d) = w
 
-abbrev pub after_lock : State → ℕ → ℕ → Mode → Bool → State
-after_lock w c p wanted true = sends w (Absent c)
-after_lock w c p wanted false =
-    let n = slot_of w.index p in
-    after_request w c n (wanted_join w c n wanted) (goes_beside w.clients c n (wanted_join w c n wanted))
+-- a client that runs says again what is not answered
+abbrev pub Ticks : State → ℕ → Client → State → Type 0
+Ticks w c k w' = (ps : Pieces) × Describes ps k.belief × (w' ≡ with_client w c (Some k) (tick ps k))
 
--- a message is read by the server, or by the client that it names
-abbrev pub after_message : State → Message → State
-after_message w (Hello c) = sends w (Epoch c)
-after_message w (Epoch c) = with_client w c (record (client_of w c) { joined = true })
-after_message w (Lock c p wanted) = after_lock w c p wanted (is_absent w.index p wanted)
-after_message w (Grant c h) = with_client w c (record (client_of w c) { waits = false; held = map.insert (client_of w c).held h.slot h })
-after_message w (Absent c) = with_client w c (record (client_of w c) { waits = false })
-
-abbrev pub after_delivery : State → Option Message → State
-after_delivery w None = w
-after_delivery w (Some message) = taken_off (after_message w message)
-
-abbrev pub after_command : State → ℕ → Command → State
-after_command w c (command.Lock p m) = sends (with_client w c (record (client_of w c) { waits = true })) (Lock c p m)
-after_command w c (command.Scan lo hi) = w
-
--- what a step that isn't refused leaves
-abbrev pub after : State → Step → State
-after w (step.StartClient c) = sends (with_client w c (record (client_of w c) { runs = true })) (Hello c)
-after w (step.Command c what) = after_command w c what
-after w (step.Deliver i) = after_delivery w (slice_get w.sent w.delivered)
-
--- What each step answers
-
--- rows where the client knows each point of the span, else the least point that it does not know
-abbrev pub Scans : Holdings → ℕ → ℕ → Answer → Type 0
-Scans held lo hi told.Done = ⊥
-Scans held lo hi (told.Rows rows) = CoversAll held lo hi × (rows ≡ rows_in held lo hi)
-Scans held lo hi (told.Miss p) = IsLeastUncovered held lo hi p
-
-abbrev pub AnswersCommand : Client → Command → Answer → Type 0
-AnswersCommand client (command.Lock p m) answer = answer ≡ told.Done
-AnswersCommand client (command.Scan lo hi) answer = Scans client.held lo hi answer
-
-abbrev pub Answers : State → Step → Answer → Type 0
-Answers w (step.StartClient c) answer = answer ≡ told.Done
-Answers w (step.Command c what) answer = AnswersCommand (client_of w c) what answer
-Answers w (step.Deliver i) answer = answer ≡ told.Done
+-- what a step that isn't refused answers and leaves
+abbrev pub Does : State → Step → Answer → State → Type 0
+Does w (step.Deliver i) answer w' = (answer ≡ told.Done) × Delivers w (message_at w.sent i) w'
+Does w (step.Command c what) answer w' = (k : Client) × (client_of w c ≡ Some k) × Obeys w c k what answer w'
+Does w (step.Tick c) answer w' = (answer ≡ told.Done) × ((k : Client) × (client_of w c ≡ Some k) × Ticks w c k w')
+Does w (step.Nudge c) answer w' = (answer ≡ told.Done) × (w' ≡ nudged w w.server c)
+Does w (step.StartClient c) answer w' =
+    let n = suc (w.seats c).greatest in
+    (answer ≡ told.Done) × (w' ≡ seated w c (record { greatest = n; client = Some (begun c n) }) (says_hello (begun c n) ∷ []))
+Does w (step.CrashClient c) answer w' = (answer ≡ told.Done) × (w' ≡ with_client w c None [])
+Does w step.StartServer answer w' = (answer ≡ told.Done) × (w' ≡ started w w.server)
+Does w step.CrashServer answer w' = (answer ≡ told.Done) × (w' ≡ crashed w w.server)
 
 -- Which steps take memory
 
--- a request is answered, so that what is granted grows, or what is sent
-abbrev pub lock_takes_memory : State → ℕ → ℕ → Mode → Bool
-lock_takes_memory w c p wanted =
-    let n = slot_of w.index p in
-    is_absent w.index p wanted || goes_beside w.clients c n (wanted_join w c n wanted)
+-- the message's node runs
+abbrev pub Arrives : State → Option Message → Type 0
+Arrives w (Some (message.ToServer m)) = server_down w.server ≡ None
+Arrives w (Some (message.ToClient m)) = is_some (client_of w m.client) ≡ true
+Arrives w None = ⊥
 
-abbrev pub message_takes_memory : State → Message → Bool
-message_takes_memory w (Hello c) = true
-message_takes_memory w (Epoch c) = false
-message_takes_memory w (Lock c p wanted) = lock_takes_memory w c p wanted
-message_takes_memory w (Grant c h) = true
-message_takes_memory w (Absent c) = false
-
-abbrev pub delivery_takes_memory : State → Option Message → Bool
-delivery_takes_memory w None = false
-delivery_takes_memory w (Some message) = message_takes_memory w message
-
+-- a scan takes memory for its rows alone
 abbrev pub CommandTakesMemory : Client → Command → Type 0
-CommandTakesMemory client (command.Lock p m) = Unit {0}
-CommandTakesMemory client (command.Scan lo hi) = CoversAll client.held lo hi
+CommandTakesMemory k (command.Lock point m) = Unit {0}
+CommandTakesMemory k (command.Write op) = Unit {0}
+CommandTakesMemory k (command.Scan lo hi) = (is_writing_in k (span lo hi) ≡ false) × CoversAll k.belief (span lo hi)
+CommandTakesMemory k (command.Forget lo hi) = Unit {0}
+CommandTakesMemory k (command.Pin lo hi) = ⊥
+CommandTakesMemory k (command.Unpin id) = ⊥
+CommandTakesMemory k command.Leave = Unit {0}
 
 abbrev pub TakesMemory : State → Step → Type 0
+TakesMemory w (step.Deliver i) = Arrives w (message_at w.sent i)
+TakesMemory w (step.Command c what) = (k : Client) × (client_of w c ≡ Some k) × CommandTakesMemory k what
+TakesMemory w (step.Tick c) = Unit {0}
+TakesMemory w (step.Nudge c) = Unit {0}
 TakesMemory w (step.StartClient c) = Unit {0}
-TakesMemory w (step.Command c what) = CommandTakesMemory (client_of w c) what
-TakesMemory w (step.Deliver i) = delivery_takes_memory w (slice_get w.sent w.delivered) ≡ true
+TakesMemory w (step.CrashClient c) = ⊥
+TakesMemory w step.StartServer = Unit {0}
+TakesMemory w step.CrashServer = ⊥
 
--- Steps and runs
+-- Runs
 
 -- the step is taken, with this answer, and leaves this world
 abbrev pub Takes : State → Step → Answer → State → Type 0
-Takes w s answer w' = (refusal_of w s ≡ None) × Answers w s answer × (w' ≡ after w s)
+Takes w s answer w' = (refusal_of w s ≡ None) × Does w s answer w'
 
 -- The step is taken; or refused, and then nothing changes: for the first reason, or where there is none for want of memory, if it takes some.
 unfoldable pub Steps : State → Step → Result Answer Refused → State → Type 0
@@ -216,6 +275,13 @@ abbrev pub Runs : State → List Step → State → Type 0
 Runs w [] w' = w' ≡ w
 Runs w (s ∷ steps) w' = (answer : Answer) × (mid : State) × Takes w s answer mid × Runs mid steps w'
 
+-- a run: these steps are taken or refused, one after another, with these results
+abbrev pub RunsWith : State → List Step → List (Result Answer Refused) → State → Type 0
+RunsWith w [] [] w' = w' ≡ w
+RunsWith w [] (r ∷ results) w' = ⊥
+RunsWith w (s ∷ steps) [] w' = ⊥
+RunsWith w (s ∷ steps) (r ∷ results) w' = (mid : State) × Steps w s r mid × RunsWith mid steps results w'
+
 -- some list of taken steps leads here from the world's own entries
 abbrev pub IsReachable : State → Type 0
-IsReachable w = (entries_refusal w.opening ≡ None) × (steps : List Step) × Runs (fresh w.opening) steps w
+IsReachable w = CanBegin w.opening × (steps : List Step) × Runs (fresh w.opening) steps w

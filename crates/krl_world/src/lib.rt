@@ -1,20 +1,29 @@
-//! A server, its clients and every message between them, in one process: what the scripts run on.
+//! A server, its clients and every message between them, in one process.
+//!
+//! Whoever drives a `World` says what happens next: which message is delivered, how late and how
+//! often, what a client is told to do, who crashes and who starts. After every list of steps no two
+//! clients hold incompatible parts at one point; the rows that answer a scan are those of the index,
+//! though the client read its own cache alone; and each numbered write changed the index at most
+//! once, and once where its client was told Applied. `laws` says this and more of all worlds.
 #![tactic(auto)]
 
 mod answer;
-mod client;
-mod holding;
-mod index;
-mod keyed;
+mod applied_write;
+mod clients;
+pub mod laws;
 mod message;
-mod plain;
+mod node;
+mod nodes;
 mod refused;
-mod rows;
+mod sending;
+mod serving;
 mod step;
 mod world;
 
 pub use answer::Answer;
+pub use applied_write::AppliedWrite;
+pub use message::Message;
+pub use node::{Seat, ServerNode};
 pub use refused::Refused;
-pub use rows::Rows;
 pub use step::{Command, Step};
 pub use world::World;

@@ -1,8 +1,13 @@
 //! Refusals.
 ghost use Rattle.std.specs.Prelude.{◌≡◌, Some};
-ghost use Rattle.krl_world.specs.Names.{refusal_name};
 ghost use Rattle.krl_world.specs.declared.refused.Refused.TheVariants.{OutOfMemory};
+ghost use Rattle.krl_world.specs.Names.{refusal_name};
+ghost use Rattle.krl_world.specs.Steps.{refused_by_client, refused_at_start};
+ghost use Rattle.krl_world.specs.Steps.{refused_by_server, refused_by_index};
 
+use krl_client::{CommandRefused, StartRefused};
+use krl_durable::Refused as EntriesRefused;
+use krl_server::StartRefused as ServerRefused;
 use std::alloc::{AllocError, AllocFailed};
 use std::error::Error;
 use std::fmt;
@@ -12,7 +17,7 @@ use std::fmt;
 pub enum Refused {
     /// Memory that the call needed was not there.
     OutOfMemory,
-    /// A point above END.
+    /// A point above END, or a key of END or more.
     BadPoint,
     /// A span that does not begin below its end, or that ends above TOP.
     BadSpan,
@@ -20,13 +25,23 @@ pub enum Refused {
     NotJoined,
     /// The client waits for the answer to a lock request.
     Busy,
+    /// The client does not hold what the write needs, or there is no such pin.
+    NotHeld,
+    /// The span meets a pin.
+    Pinned,
+    /// A write is outstanding, or the span contains its key.
+    Writing,
+    /// The client has eight pins.
+    TooManyPins,
+    /// No number is left.
+    Spent,
     /// A client number above 63.
     BadClient,
-    /// The client does not run.
+    /// The client, or the server, does not run.
     Down,
-    /// The client runs already.
+    /// The client, or the server, runs already.
     Running,
-    /// No message of this number can be delivered.
+    /// No message of this number was sent.
     NoMessage,
     /// A key of END or more.
     BadKey,
@@ -37,7 +52,7 @@ pub enum Refused {
 }
 
 impl Refused {
-    /// The refusal's name, which a transcript tells.
+    /// The refusal's name.
     pub fn name(self) -> &'static str
         ensures { result.now ≡ refusal_name self }
     {
@@ -47,6 +62,11 @@ impl Refused {
             Refused::BadSpan => "BadSpan",
             Refused::NotJoined => "NotJoined",
             Refused::Busy => "Busy",
+            Refused::NotHeld => "NotHeld",
+            Refused::Pinned => "Pinned",
+            Refused::Writing => "Writing",
+            Refused::TooManyPins => "TooManyPins",
+            Refused::Spent => "Spent",
             Refused::BadClient => "BadClient",
             Refused::Down => "Down",
             Refused::Running => "Running",
@@ -68,6 +88,19 @@ impl fmt::Display for Refused {
 
 impl Error for Refused {}
 
+impl From<EntriesRefused> for Refused {
+    ghost from_gives = { λ error refused. refused ≡ refused_by_index error };
+
+    fn from(error: EntriesRefused) -> Refused {
+        match error {
+            EntriesRefused::OutOfMemory => Refused::OutOfMemory,
+            EntriesRefused::BadKey => Refused::BadKey,
+            EntriesRefused::Twice => Refused::Twice,
+            EntriesRefused::Full => Refused::Full,
+        }
+    }
+}
+
 impl From<AllocError> for Refused {
     ghost from_gives = { λ _ refused. refused ≡ OutOfMemory };
 
@@ -81,5 +114,46 @@ impl<T: Drop> From<AllocFailed<T>> for Refused {
 
     fn from(_error: AllocFailed<T>) -> Refused {
         Refused::OutOfMemory
+    }
+}
+
+impl From<CommandRefused> for Refused {
+    ghost from_gives = { λ error refused. refused ≡ refused_by_client error };
+
+    fn from(error: CommandRefused) -> Refused {
+        match error {
+            CommandRefused::OutOfMemory => Refused::OutOfMemory,
+            CommandRefused::BadPoint => Refused::BadPoint,
+            CommandRefused::BadSpan => Refused::BadSpan,
+            CommandRefused::NotJoined => Refused::NotJoined,
+            CommandRefused::Busy => Refused::Busy,
+            CommandRefused::NotHeld => Refused::NotHeld,
+            CommandRefused::Pinned => Refused::Pinned,
+            CommandRefused::Writing => Refused::Writing,
+            CommandRefused::TooManyPins => Refused::TooManyPins,
+            CommandRefused::Spent => Refused::Spent,
+        }
+    }
+}
+
+impl From<StartRefused> for Refused {
+    ghost from_gives = { λ error refused. refused ≡ refused_at_start error };
+
+    fn from(error: StartRefused) -> Refused {
+        match error {
+            StartRefused::BadClient => Refused::BadClient,
+            StartRefused::Spent => Refused::Spent,
+        }
+    }
+}
+
+impl From<ServerRefused> for Refused {
+    ghost from_gives = { λ error refused. refused ≡ refused_by_server error };
+
+    fn from(error: ServerRefused) -> Refused {
+        match error {
+            ServerRefused::OutOfMemory => Refused::OutOfMemory,
+            ServerRefused::Spent => Refused::Spent,
+        }
     }
 }

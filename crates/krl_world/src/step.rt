@@ -1,22 +1,66 @@
 //! What may happen in a world.
+use krl_messages::WriteOp;
 use krl_modes::Mode;
 
 /// What a client is told to do.
-#[derive(Clone, Copy, Debug, PartialEq, Eq)]
+#[derive(Clone, Copy)]
 pub enum Command {
     /// Ask the server for the mode on the slot of the point.
-    Lock { point: u64, mode: Mode },
-    /// Answer, from the client's own cache, which entries lie in the points from `lo` on below `hi`.
-    Scan { lo: u64, hi: u64 },
+    Lock {
+        /// The point.
+        point: u64,
+        /// The mode.
+        mode: Mode,
+    },
+    /// Ask the server for a change of the index.
+    Write(WriteOp),
+    /// Answer, from the client's own cache, which entries lie in the points from `lo` on below
+    /// `hi`.
+    Scan {
+        /// The first point.
+        lo: u64,
+        /// One past the last point.
+        hi: u64,
+    },
+    /// Give back all that is held of the points from `lo` on below `hi`.
+    Forget {
+        /// The first point.
+        lo: u64,
+        /// One past the last point.
+        hi: u64,
+    },
+    /// Keep what is held of the points from `lo` on below `hi`.
+    Pin {
+        /// The first point.
+        lo: u64,
+        /// One past the last point.
+        hi: u64,
+    },
+    /// Free the pin of this number.
+    Unpin(u64),
+    /// Give everything back, and end.
+    Leave,
 }
 
-/// One step of a world. Clients are numbered from 0 to 63, messages from 1 in the order in which they were sent.
-#[derive(Clone, Copy, Debug, PartialEq, Eq)]
+/// One step of a world. Clients are numbered from 0 to 63, messages from 1 in the order in which
+/// they were sent.
+#[derive(Clone, Copy)]
 pub enum Step {
-    /// The client of this number begins to run, and greets the server.
-    StartClient(u64),
+    /// The message of this number is delivered, for the first time or again.
+    Deliver(u64),
     /// The client of this number obeys the command.
     Command(u64, Command),
-    /// The message of this number is delivered.
-    Deliver(u64),
+    /// The client of this number says again what is not answered.
+    Tick(u64),
+    /// The server sends the client of this number again what it has not heard, or calls back those
+    /// who block it.
+    Nudge(u64),
+    /// The client of this number begins to run, with a new incarnation.
+    StartClient(u64),
+    /// The client of this number stops, and forgets everything.
+    CrashClient(u64),
+    /// A server begins to run, from what the one before it left.
+    StartServer,
+    /// The server stops. What is durable stays.
+    CrashServer,
 }

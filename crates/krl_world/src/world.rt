@@ -1,100 +1,153 @@
 //! The world, as its callers see it.
-ghost use Rattle.std.specs.Prelude.{◌≡◌, ◌≤◌, IfOk};
+ghost use Rattle.std.specs.Prelude.{◌≡◌, length, IfOk, OnErr, MatchResult};
+ghost use Rattle.std.specs.Option.{option_copied};
 ghost use Rattle.std.specs.FinMap as map;
-ghost use Rattle.krl_modes.specs.declared.part.RangePart.TheVariants as range;
-ghost use Rattle.krl_modes.specs.declared.part.KeyPart.TheVariants as key;
-ghost use Rattle.krl_world.specs.States.{State, sent_count, range_held, key_held};
-ghost use Rattle.krl_world.specs.Steps.{Makes, Steps, IsReachable};
-ghost use Rattle.krl_world.specs.Promises.{IsCompatible, ScansIndex};
+ghost use Rattle.krl_world.specs.States.{index_of, fresh, range_held, key_held};
+ghost use Rattle.krl_world.specs.Steps.{Steps, RunsWith, CanBegin, BeginsNot, IsReachable};
+ghost use Rattle.krl_world.specs.Promises.{IsCompatible, ScansIndex, WritesOnce};
+ghost use Rattle.krl_world.specs.Laws.{CanGoOn};
+ghost use Rattle.krl_world.specs.Bounds.{Bound, HasBound, IsBounded, HoldsOverRestarts};
+ghost use Rattle.krl_world.specs.Fields.{meaning, server_up, kept_client};
 
 use crate::answer::Answer;
-use crate::plain::Plain;
+use crate::applied_write::AppliedWrite;
+use crate::nodes::Nodes;
 use crate::refused::Refused;
 use crate::step::Step;
+use krl_client::Client;
+use krl_messages::Value;
 use krl_modes::{KeyPart, RangePart};
-use std::alloc::Global;
+use krl_server::Server;
+use std::alloc::{AllocError, Global};
 use std::marker::Model;
 
-/// One server with its index, up to 64 clients, and every message between them. Only its steps change it, so each world is reached from
-/// the entries that it began with by some list of steps.
-///
-/// For now each message is delivered once, in the order in which they were sent, no client stops, and nothing is written or released: a
-/// lock request that can't be granted waits for ever.
-#[derive(Debug, Drop)]
+/// One server with its index, up to 64 clients, and every message between them.
+#[derive(Drop)]
 pub struct World {
-    plain: Plain,
+    nodes: Nodes,
 }
 
 impl Model for World {
-    ghost use Rattle.std.specs.Coded.{codes};
-    ghost use Rattle.krl_world.specs.States.{State};
+    ghost use Rattle.krl_world.specs.Fields.{Fields, meaning};
     ghost use Rattle.krl_world.specs.Steps.{IsReachable};
-    ghost use Rattle.krl_world.specs.contracts.plain.Plain as plain_world;
+    ghost use Rattle.krl_world.specs.contracts.nodes.Nodes as kept_nodes;
 
-    ghost Value = { State };
+    ghost Value = { Fields };
 
-    ghost coded = { Prim.hlevel (codes, plain_world.the_row.coded) };
+    ghost coded = { kept_nodes.the_row.coded };
 
-    ghost view = { λ w. w.plain };
+    ghost view = { λ w. w.nodes };
 
-    ghost invariant = { λ w. IsReachable w.plain };
+    ghost invariant = { λ w. IsReachable (meaning w.nodes) };
 }
 
 impl World {
-    /// A world with these entries, each a key and its value, in any order. Nothing has happened in it.
+    /// A world with these entries, each a key and its value, in any order. Nothing has happened in
+    /// it: its server runs, in epoch 1, and no client.
     ///
     /// # Errors
     ///
-    /// `Full` above 65,536 entries; else the first bad entry in order, by `BadKey` where its key is END or more, or by `Twice` where its key
-    /// stands before; and `OutOfMemory` at any point.
-    pub fn new(alloc: Global, entries: Vec<(u64, u64)>) -> Result<World, Refused>
-        ensures made { Makes entries.items result }
-        ensures reachable { IfOk result IsReachable }
+    /// `Full` above 65,536 entries; else the first bad entry in order, by `BadKey` where its key is
+    /// END or more, or by `Twice` where its key stands before; and `OutOfMemory` at any point.
+    pub fn new(alloc: Global, entries: Vec<(u64, Value)>) -> Result<World, Refused>
+        ensures { MatchResult result
+            (λ w. CanBegin entries.items × (meaning w ≡ fresh entries.items))
+            (BeginsNot entries.items) }
     {
-        let plain = Plain::new(alloc, entries)?;
-        Ok(World { plain })
+        let nodes = Nodes::new(alloc, entries)?;
+        Ok(World { nodes })
     }
 
-    /// Takes one step, or refuses it.
-    ///
-    /// A scan's rows are the index's entries of its span at this moment, though the client reads nothing but its own cache; a miss is the
-    /// least point of the span that the client does not know. After each step no two clients hold incompatible parts at one point.
+    /// Takes one step. The rows that answer a scan are the entries of the index in its span, though
+    /// the client reads its own cache alone.
     ///
     /// # Errors
     ///
-    /// Judged in this order, and each leaves the world as it was: `BadClient` above 63; `Running` for a start of a client that runs, `Down`
-    /// for a command to one that does not, `NoMessage` for a delivery of any message but the oldest that was not delivered; then, for
-    /// a lock, `BadPoint` above END, `NotJoined` before the client was told the epoch, `Busy` while it waits for an answer; for a scan, `BadSpan`;
-    /// and `OutOfMemory`, for a step that takes memory: a start, a lock, a scan that finds rows, and a delivery that is answered or accepted.
+    /// A step that is refused changes nothing. The first reason in this order counts:
+    /// - `BadClient` where a client number is above 63, `NoMessage` where no message of the number
+    ///   was sent;
+    /// - `Down` where the client or server of the step does not run, `Running` where the one that
+    ///   is to start runs;
+    /// - `Spent` where there is no incarnation or epoch for a start; what the client refuses of a
+    ///   command;
+    /// - `OutOfMemory` where the step takes memory, and it was refused.
     pub fn step(&mut self, step: Step) -> Result<Answer, Refused>
-        ensures steps { Steps self.old step result self.new }
-        ensures scans { ScansIndex self.old.index step result }
-        ensures compatible { IsCompatible self.new }
-        ensures reachable { IsReachable self.new }
+        ensures steps { Steps (meaning self.old) step result (meaning self.new) }
+        ensures compatible { IsCompatible (meaning self.new) }
+        ensures scans { ScansIndex (index_of (meaning self.old)) step result }
+        ensures writes { WritesOnce (meaning self.new) }
+        ensures bounded { (b : Bound) → HasBound (meaning self.new) b
+            → IsBounded (meaning self.new) b }
+        ensures restarts { (b : Bound) → HasBound (meaning self.new) b
+            → HoldsOverRestarts (meaning self.new) b }
+        ensures reachable { IsReachable (meaning self.new) }
+        ensures goes_on { CanGoOn (meaning self.new) }
     {
-        self.plain.step(step)
+        self.nodes.step(step)
     }
 
-    /// The entries of the index, in key order.
-    pub fn index(&self) -> &[(u64, u64)]
-        ensures { result.now ≡ map.entries self.now.index }
+    /// Takes steps one after another, and gives what each answered, refusals too.
+    ///
+    /// # Errors
+    ///
+    /// `AllocError` where the memory for the answers is refused. No step was taken then.
+    pub fn run(
+        &mut self,
+        alloc: Global,
+        steps: &[Step],
+    ) -> Result<Vec<Result<Answer, Refused>>, AllocError>
+        ensures runs { IfOk result
+            (λ answers. RunsWith (meaning self.old) steps.now answers.items (meaning self.new)) }
+        ensures no_step { OnErr result (self.new ≡ self.old) }
     {
-        self.plain.index()
+        let mut answers = Vec::with_capacity(alloc, steps.len())?;
+        for step in steps {
+            answers.push_reserved(self.step(*step));
+        }
+        Ok(answers)
+    }
+
+    /// The entries of the index, in key order, whether a server runs or not. It takes no memory.
+    pub fn index(&self) -> &[(u64, Value)]
+        ensures { result.now ≡ map.entries (index_of (meaning self.now)) }
+    {
+        self.nodes.index()
+    }
+
+    /// The server, where one runs.
+    pub fn server(&self) -> Option<&Server>
+        ensures { option_copied result ≡ server_up self.now.server }
+    {
+        self.nodes.server()
+    }
+
+    /// The writes that were Applied, oldest first.
+    pub fn writes(&self) -> &[AppliedWrite]
+        ensures { result.now ≡ self.now.writes }
+    {
+        self.nodes.writes()
+    }
+
+    /// The client of this number, where one runs: none does above 63.
+    pub fn client(&self, client: u64) -> Option<&Client>
+        ensures { option_copied result ≡ kept_client self.now.seats client }
+    {
+        self.nodes.client(client)
+    }
+
+    /// What the client believes that it holds at the point: N and N where it does not run, and past
+    /// END.
+    pub fn held(&self, client: u64, point: u64) -> (RangePart, KeyPart)
+        ensures { let world = meaning self.now in
+            result ≡ (range_held world client point, key_held world client point) }
+    {
+        self.nodes.held(client, point)
     }
 
     /// How many messages were sent.
-    #[tactic(auto, unfolding(crate::specs::States::sent_count))]
     pub fn sent(&self) -> u64
-        ensures { result ≡ sent_count self.now }
+        ensures { result ≡ length self.now.sent }
     {
-        self.plain.sent()
-    }
-
-    /// What the client believes that it holds at the point: N, N for a client that does not run, and for a number above 63.
-    pub fn held(&self, c: u64, point: u64) -> (RangePart, KeyPart)
-        ensures parts { result ≡ (range_held self.now c point, key_held self.now c point) }
-        ensures nobody { 64 ≤ c → result ≡ (range.N, key.N) }
-    {
-        self.plain.held(c, point)
+        self.nodes.sent()
     }
 }

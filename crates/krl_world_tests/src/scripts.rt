@@ -9,8 +9,33 @@ static FIRST: &str =
 
 static TRANSCRIPT: &str = "rows 10=1\nmiss 11\n";
 
-/// Gives a byte a read. It is interrupted some times before the first byte, and perhaps once before each; after so many
-/// good reads it fails.
+/// Scripts with their transcripts: the first one; one with inserts of two clients; and one in which
+/// the server crashes before a client is told of its insert.
+static SCRIPTS: [(&str, &str); 3] = [
+    (
+        "seed 10=1 20=2\nclient 0\nsettle\nlock 0 5 RangeS-S\nsettle\nscan 0 0 11\nscan 0 0 12\n",
+        "rows 10=1\nmiss 11\n",
+    ),
+    (
+        "seed 10=1 20=2\nclient 0\nclient 1\nsettle\nlock 0 15 RangeI-N\nlock 1 15 RangeI-N\n\
+         settle\ninsert 0 15 5\nsettle\ninsert 1 17 7\nsettle\nstatus 0\nstatus 1\n\
+         scan 1 15 18\nhold 1 17\nindex\n",
+        "status 1 2 granted 1 Applied\nstatus 1 2 granted 1 Applied\nmiss 15\nhold I X\n\
+         index 10=1 15=5 17=7 20=2\n",
+    ),
+    (
+        "seed 10=1 20=2\nclient 0\nclient 1\nsettle\nlock 0 15 RangeI-N\nsettle\n\
+         insert 0 15 5\nnext 1\ncrash server\ndrop\nstart server\ntick 0\ntick 1\nsettle\n\
+         missing\nstatus 0\nlock 1 15 X\nsettle\nput 1 15 6\nsettle\nstatus 1\ntick 0\n\
+         settle\nstatus 0\nhold 0 15\nscan 0 15 16\nindex\nwrites\n",
+        "missing\nstatus 2 0 granted 1 waiting\nstatus 2 2 granted 1 Applied\n\
+         status 2 1 granted 1 Applied\nhold I N\nmiss 15\nindex 10=1 15=6 20=2\n\
+         writes 0.1.1 1.1.1\n",
+    ),
+];
+
+/// Gives a byte a read. It is interrupted some times before the first byte, and perhaps once before
+/// each; after so many good reads it fails.
 #[derive(Drop)]
 struct Dripping<'a> {
     text: &'a [u8],
@@ -52,8 +77,8 @@ impl Read for Dripping<'_> {
     }
 }
 
-/// Takes some bytes a write, and sees whether they are what is to come. It is interrupted some times before the first
-/// write, and fails once it has no room.
+/// Takes some bytes a write, and sees whether they are what is to come. It is interrupted some times
+/// before the first write, and fails once it has no room.
 #[derive(Drop)]
 struct Narrow<'a> {
     rest: &'a [u8],
@@ -88,6 +113,7 @@ impl Write for Narrow<'_> {
     }
 }
 
+/// Reads that give the text a byte at a time.
 fn reader(text: &str, interruptions: u64, good_reads: u64) -> Dripping<'_> {
     Dripping {
         text: text.as_bytes(),
@@ -152,12 +178,13 @@ fn write(alloc: Global, text: &str, taken: &mut AnyWriter<Narrow<'_>>) -> Result
 
 #[test]
 fn a_read_that_fails_ends_the_script(rt: HostRuntime) {
-    assert!(rt; fails_to_read(rt.alloc(), reader(FIRST, 0, 0), 1));
-    assert!(rt; fails_to_read(rt.alloc(), reader(FIRST, 0, 20), 21));
-    // The end of the text is a read too.
-    let bytes = FIRST.len() as u64;
-    assert!(rt; fails_to_read(rt.alloc(), reader(FIRST, 0, bytes), bytes + 1));
-    assert!(rt; is_run(rt.alloc(), reader(FIRST, 0, bytes + 1)));
+    for (text, _) in &SCRIPTS {
+        // The end of the text is a read too.
+        for good in 0..=text.len() as u64 {
+            assert!(rt; fails_to_read(rt.alloc(), reader(text, 0, good), good.saturating_add(1)));
+        }
+    }
+    assert!(rt; is_run(rt.alloc(), reader(FIRST, 0, FIRST.len() as u64 + 1)));
 }
 
 #[test]
@@ -176,21 +203,34 @@ fn a_reader_is_left_after_2097152_turns(rt: HostRuntime) {
     assert!(rt; has_no_end(rt.alloc(), reader(FIRST, u64::MAX, 1000)));
 }
 
-/// Whether the script ends as a write fault, and what was written is as much of its transcript as there was room for.
-fn is_cut(alloc: Global, room: usize) -> bool {
-    let mut taken = AnyWriter(writer(TRANSCRIPT, 2, room));
-    let result = write(alloc, FIRST, &mut taken);
+/// Whether the script ends as a write fault, and what was written is as much of its transcript as
+/// there was room for.
+fn is_cut(alloc: Global, text: &str, transcript: &str, room: usize) -> bool {
+    let mut taken = AnyWriter(writer(transcript, 2, room));
+    let result = write(alloc, text, &mut taken);
     matches!(result, Err(ScriptFault::Write))
         && taken.0.is_right
-        && taken.0.rest.len() == TRANSCRIPT.len().saturating_sub(room)
+        && taken.0.rest.len() == transcript.len().saturating_sub(room)
+}
+
+/// Whether the script is cut wherever the writer's room ends before the transcript's end.
+fn is_cut_everywhere(alloc: Global, text: &str, transcript: &str) -> bool {
+    for room in 0..transcript.len() {
+        if !is_cut(alloc, text, transcript, room) {
+            return false;
+        }
+    }
+    !is_cut(alloc, text, transcript, transcript.len())
 }
 
 #[test]
 fn a_write_that_fails_ends_the_script(rt: HostRuntime) {
-    for room in 0..TRANSCRIPT.len() {
-        assert!(rt; is_cut(rt.alloc(), room), "room for {room}");
+    for (text, transcript) in &SCRIPTS {
+        assert!(rt;
+            is_cut_everywhere(rt.alloc(), text, transcript),
+            "{transcript}"
+        );
     }
-    assert!(rt; !is_cut(rt.alloc(), TRANSCRIPT.len()));
 }
 
 /// Whether a script is written whole though its first write is interrupted so often.

@@ -1,18 +1,41 @@
-//! Worlds beyond what a script can ask for: the most entries, and a choice of the message to deliver.
-use krl_modes::{END, KeyPart, RangePart, TOP};
-use krl_world::{Refused, Step, World};
+//! Runs of a world.
+use krl_modes::Mode;
+use krl_world::{Answer, Command, Refused, Step, World};
 use std::alloc::{AllocError, Global};
 use std::test::Fail;
 
-/// Clients and points where nobody holds anything.
-static NOWHERE: [(u64, u64); 4] = [(0, 5), (0, TOP), (63, END), (64, 5)];
+/// Client 0 joins, and locks the slot of point 5. Each message is delivered as it is sent. Then the
+/// client scans as far as it knows, and a point further.
+static STEPS: [Step; 10] = [
+    Step::StartClient(0),
+    Step::Deliver(1),
+    Step::Deliver(2),
+    Step::Deliver(3),
+    Step::Command(
+        0,
+        Command::Lock {
+            point: 5,
+            mode: Mode::RangeSS,
+        },
+    ),
+    Step::Deliver(4),
+    Step::Deliver(5),
+    Step::Deliver(6),
+    Step::Command(0, Command::Scan { lo: 0, hi: 11 }),
+    Step::Command(0, Command::Scan { lo: 0, hi: 12 }),
+];
 
-static NAMES: [(Refused, &str); 12] = [
+static NAMES: [(Refused, &str); 17] = [
     (Refused::OutOfMemory, "OutOfMemory"),
     (Refused::BadPoint, "BadPoint"),
     (Refused::BadSpan, "BadSpan"),
     (Refused::NotJoined, "NotJoined"),
     (Refused::Busy, "Busy"),
+    (Refused::NotHeld, "NotHeld"),
+    (Refused::Pinned, "Pinned"),
+    (Refused::Writing, "Writing"),
+    (Refused::TooManyPins, "TooManyPins"),
+    (Refused::Spent, "Spent"),
     (Refused::BadClient, "BadClient"),
     (Refused::Down, "Down"),
     (Refused::Running, "Running"),
@@ -22,57 +45,40 @@ static NAMES: [(Refused, &str); 12] = [
     (Refused::Full, "Full"),
 ];
 
-/// So many entries, the greatest key first. Each value is its key.
-fn many(alloc: Global, count: u64) -> Result<Vec<(u64, u64)>, AllocError> {
+fn entries(alloc: Global) -> Result<Vec<(u64, u64)>, AllocError> {
     let mut entries = Vec::new(alloc);
-    for key in (0..count).rev() {
-        entries.push((key, key))?;
-    }
+    entries.push((20, 2))?;
+    entries.push((10, 1))?;
     Ok(entries)
 }
 
-fn made(alloc: Global, count: u64) -> Result<World, Refused> {
-    World::new(alloc, many(alloc, count)?)
+fn is_done(answer: &Result<Answer, Refused>) -> bool {
+    matches!(answer, Ok(Answer::Done))
 }
 
-fn is_refused(world: &mut World, step: Step, expected: Refused) -> bool {
-    match world.step(step) {
-        Ok(_) => false,
-        Err(refused) => refused == expected,
+/// Whether a scan found one row.
+fn is_row(answer: &Result<Answer, Refused>, row: (u64, u64)) -> bool {
+    match answer {
+        Ok(Answer::Rows(rows)) => rows.as_slice() == [row].as_slice(),
+        _ => false,
+    }
+}
+
+fn is_miss(answer: &Result<Answer, Refused>, point: u64) -> bool {
+    match answer {
+        Ok(Answer::Miss(missed)) => *missed == point,
+        _ => false,
     }
 }
 
 #[test]
-fn an_index_has_at_most_65536_entries(rt: HostRuntime) -> Result<(), Fail> {
-    let world = made(rt.alloc(), 65536)?;
-    assert!(rt; world.index().len() == 65536);
-    assert!(rt; world.index()[0] == (0, 0) && world.index()[65535] == (65535, 65535));
-    assert!(rt; matches!(made(rt.alloc(), 65537), Err(Refused::Full)));
-    Ok(())
-}
-
-#[test]
-fn the_oldest_message_alone_is_delivered(rt: HostRuntime) -> Result<(), Fail> {
-    let mut world = made(rt.alloc(), 2)?;
-    assert!(rt; is_refused(&mut world, Step::Deliver(1), Refused::NoMessage));
-    world.step(Step::StartClient(63))?;
-    for number in [0, 2, u64::MAX] {
-        assert!(rt; is_refused(&mut world, Step::Deliver(number), Refused::NoMessage));
-    }
-    world.step(Step::Deliver(1))?;
-    assert!(rt; world.sent() == 2);
-    assert!(rt; is_refused(&mut world, Step::Deliver(1), Refused::NoMessage));
-    world.step(Step::Deliver(2))?;
-    assert!(rt; world.sent() == 2);
-    Ok(())
-}
-
-#[test]
-fn nobody_holds_anything_before_a_lock(rt: HostRuntime) -> Result<(), Fail> {
-    let world = made(rt.alloc(), 2)?;
-    for (client, point) in &NOWHERE {
-        assert!(rt; world.held(*client, *point) == (RangePart::N, KeyPart::N));
-    }
+fn a_run_answers_each_step(rt: HostRuntime) -> Result<(), Fail> {
+    let mut world = World::new(rt.alloc(), entries(rt.alloc())?)?;
+    let answers = world.run(rt.alloc(), &STEPS)?;
+    let answers = answers.as_slice();
+    assert!(rt; answers.len() == 10 && world.sent() == 6);
+    assert!(rt; answers.iter().take(8).all(is_done));
+    assert!(rt; is_row(&answers[8], (10, 1)) && is_miss(&answers[9], 11));
     Ok(())
 }
 

@@ -1,5 +1,6 @@
 use Rattle.std.proofs.Common.{◌+◌, ◌≤◌, length}
 use Rattle.std.specs.Str.Lines.{lines}
+use Rattle.krl_script.specs.Fields.{meaning}
 use Rattle.krl_script.specs.Transcripts.{first_stage, Prints}
 use Rattle.krl_script.proofs.Runs.{Continues}
 use Rattle.krl_script.proofs.run.run_lines.Given as goal
@@ -8,7 +9,7 @@ abbrev pub invariant-lines : goal.invariant-lines
 invariant-lines g l =
     record {
       counted : l.number + length l.rest ≤ length l.text + 1;
-      continues : Continues (g.W.Write.contents l.fn.writer) (g.W.Write.contents l.writer) (Prints first_stage 1 (lines l.text)) l.interpreter l.number (lines l.rest);
+      continues : Continues (g.W.Write.contents l.fn.writer) (g.W.Write.contents l.writer) (Prints first_stage 1 (lines l.text)) (meaning l.interpreter) l.number (lines l.rest);
       steady : g.W.Sink.is_steady l.fn.writer → g.W.Sink.is_steady l.writer;
     }
 

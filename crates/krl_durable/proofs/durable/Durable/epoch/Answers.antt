@@ -1,7 +1,7 @@
 use Rattle.std.proofs.Common.{subst}
 use Rattle.krl_durable.specs.Registers.{Durable}
 use Rattle.krl_durable.specs.Kept.{IsKept}
-use Rattle.krl_durable.proofs.Rows.{clients_seen, outcomes_seen, lasts_seen}
+use Rattle.krl_durable.proofs.Rows.{clients_seen, outcomes_seen, lasts_seen, incarnations_seen}
 use Rattle.krl_durable.proofs.durable.Durable.epoch.Goals as goal
 
 pub returns-clause-kept : goal.returns-clause-kept
@@ -15,5 +15,6 @@ returns-clause-kept c =
       once = c.rows.ensures.once;
       outcomes = outcomes_seen c.self.inside.register c.rows.ensures.rows;
       lasts = lasts_seen c.self.inside.register c.rows.ensures.rows;
+      incarnations = incarnations_seen c.self.inside.register c.rows.ensures.rows;
     } in
     subst IsKept c.self.view_is kept

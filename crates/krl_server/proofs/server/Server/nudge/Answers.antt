@@ -1,6 +1,16 @@
+use Rattle.std.proofs.Common.{◌≡◌, false, [], subst}
+use Rattle.krl_server.specs.declared.state.State.{State}
+use Rattle.krl_server.specs.Servers.{is_gathering}
+use Rattle.krl_server.specs.Answering.{Answered}
 use Rattle.krl_server.specs.States.{meaning}
+use Rattle.krl_server.proofs.Numbers.{all_end}
 use Rattle.krl_server.proofs.Nudged.{few_nudges}
 use Rattle.krl_server.proofs.server.Server.nudge.Goals as goal
 
 pub returns-clause-few : goal.returns-clause-few
 returns-clause-few c = few_nudges (meaning c.self.inside.state) c.args.client c.nudge.result c.self.invariant.sound c.self.invariant.ordered.table c.nudge.ensures
+
+pub returns-clause-nobody : goal.returns-clause-nobody
+returns-clause-nobody c =
+    subst (λ (st : State). is_gathering (meaning st).missing ≡ false → Answered (meaning st) (meaning st) []) c.self.view_is
+    (all_end.nobody_left (meaning c.self.inside.state) c.self.invariant.settled)

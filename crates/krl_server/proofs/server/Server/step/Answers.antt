@@ -1,4 +1,12 @@
+use Rattle.std.proofs.Common.{◌≡◌, false, subst}
+use Rattle.std.specs.Prelude.{IfOk}
+use Rattle.krl_server.specs.declared.state.State.{State}
+use Rattle.krl_server.specs.Says.{may_change_durable, HasCallbacks, AnswersWrite}
 use Rattle.krl_server.proofs.Started.{server_kept, few_sent}
+use Rattle.std.proofs.lemmas.Result.{IfOk-weaker}
+use Rattle.krl_server.specs.States.{meaning}
+use Rattle.krl_server.proofs.Said.{durable_said, calls_said, answers_said}
+use Rattle.krl_server.proofs.Standing.{pushes_stand}
 use Rattle.krl_server.proofs.server.Server.step.Goals as goal
 
 pub invariant_of-self : goal.invariant_of-self
@@ -6,3 +14,21 @@ invariant_of-self c = server_kept c.self.inside.state c.step.new.self c.args.mes
 
 pub returns-clause-few : goal.returns-clause-few
 returns-clause-few c = few_sent c.self.inside.state c.step.new.self c.args.message.now c.step.result c.self.invariant c.step.ensures.stepped
+
+pub returns-clause-durable : goal.returns-clause-durable
+returns-clause-durable c =
+    subst (λ (old : State). may_change_durable (meaning old) c.args.message.now ≡ false → (meaning c.step.new.self).durable ≡ (meaning old).durable) c.self.view_is
+    (durable_said c.self.inside.state c.step.new.self c.args.message.now c.step.result c.step.ensures.stepped c.step.ensures.refused)
+
+pub returns-clause-callbacks : goal.returns-clause-callbacks
+returns-clause-callbacks c =
+    subst (λ (old : State). IfOk c.step.result (λ out. HasCallbacks (meaning old) c.args.message.now (meaning c.step.new.self) out.messages)) c.self.view_is
+    (IfOk-weaker c.step.result _ _ (λ out h. calls_said (meaning c.self.inside.state) (meaning c.step.new.self) c.args.message.now out.messages h.step) c.step.ensures.stepped)
+
+pub returns-clause-answers : goal.returns-clause-answers
+returns-clause-answers c =
+    subst (λ (old : State). IfOk c.step.result (λ out. AnswersWrite (meaning old) c.args.message.now (meaning c.step.new.self) out.messages)) c.self.view_is
+    (IfOk-weaker c.step.result _ _ (λ out h. answers_said (meaning c.self.inside.state) (meaning c.step.new.self) c.args.message.now out.messages h.step) c.step.ensures.stepped)
+
+pub returns-clause-pushes : goal.returns-clause-pushes
+returns-clause-pushes c = IfOk-weaker c.step.result _ _ (λ out h. pushes_stand (meaning c.self.inside.state) (meaning c.step.new.self) c.args.message.now out.messages h.step) c.step.ensures.stepped

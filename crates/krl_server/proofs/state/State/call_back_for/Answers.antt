@@ -1,8 +1,18 @@
-use Rattle.std.proofs.Common.{◌≤◌, ◌+◌, length, sym, subst, add-one, arith}
+use Rattle.std.proofs.Common.{◌≡◌, ◌≤◌, ◌+◌, length, sym, ap, subst, ◌∙◌, add-one, arith}
+use Rattle.krl_modes.specs.Modes.{join}
 use Rattle.krl_server.specs.States.{meaning}
 use Rattle.krl_server.specs.Outboxes.{as_list, Sends}
-use Rattle.krl_server.proofs.Called.{IsCalled, none_called, room_for_one, one_called, all_called, for_is}
+use Rattle.krl_server.specs.Doing.{callback_if}
+use Rattle.krl_server.proofs.Called.{IsCalled, callback_is, none_called, room_for_one, one_called, all_called, for_is}
 use Rattle.krl_server.proofs.state.State.call_back_for.Goals as goal
+
+-- the callback to one client is the one of the rules
+to_one : (c : goal.After-callback_if) → as_list c.callback_if.result ≡ callback_if (meaning c.args.self.now) c.args.slot c.args.waiter.now c.loop-client.client
+to_one c =
+    callback_is (meaning c.args.self.now) c.args.slot c.args.waiter.now c.loop-client.client c.join-wanted.result c.mode_of-held.result c.span-span.result (as_list c.callback_if.result) c.callback_if.ensures
+    (c.join-wanted.ensures.join ∙ ap (λ g. join g c.args.waiter.now.mode) (c.mode_of.ensures ∙ c.modes-modes.ensures c.args.waiter.now.client))
+    (c.mode_of-held.ensures ∙ c.modes-modes.ensures c.loop-client.client)
+    (c.span-span.ensures c.args.self.now.durable.index c.requires.formed.over)
 
 pub loop-client-init : goal.loop-client-init
 loop-client-init c = none_called (meaning c.args.self.now) c.args.slot c.args.waiter.now c.args.outbox.now
@@ -10,13 +20,13 @@ loop-client-init c = none_called (meaning c.args.self.now) c.args.slot c.args.wa
 pub send_some-requires : goal.send_some-requires
 send_some-requires c =
     let s = meaning c.args.self.now in
-    room_for_one s c.args.slot c.args.waiter.now c.loop-client.client c.args.outbox.now c.loop-client.outbox (as_list c.callback_if.result) c.loop-client-test.true c.loop-client.invariant c.callback_if.ensures
+    room_for_one s c.args.slot c.args.waiter.now c.loop-client.client c.args.outbox.now c.loop-client.outbox (as_list c.callback_if.result) c.loop-client-test.true c.loop-client.invariant (to_one c)
     (subst (λ l. length c.args.outbox.now.sent + length l ≤ c.args.outbox.now.room) (for_is s c.args.slot c.args.waiter.now c.asks_absent.result c.asks_absent.ensures c.if-asks_absent.false) c.requires.room)
 
 pub loop-client-preserved : goal.loop-client-preserved
 loop-client-preserved c =
     subst (λ d. IsCalled (meaning c.args.self.now) c.args.slot c.args.waiter.now d c.args.outbox.now c.send_some.new.self) (sym (add-one c.loop-client.client))
-    (one_called (meaning c.args.self.now) c.args.slot c.args.waiter.now c.loop-client.client c.args.outbox.now c.loop-client.outbox c.send_some.new.self (as_list c.callback_if.result) c.loop-client-test.true c.loop-client.invariant c.callback_if.ensures c.send_some.ensures)
+    (one_called (meaning c.args.self.now) c.args.slot c.args.waiter.now c.loop-client.client c.args.outbox.now c.loop-client.outbox c.send_some.new.self (as_list c.callback_if.result) c.loop-client-test.true c.loop-client.invariant (to_one c.before) c.send_some.ensures)
 
 pub returns : goal.returns
 returns c =

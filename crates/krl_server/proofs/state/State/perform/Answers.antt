@@ -10,7 +10,10 @@ use Rattle.krl_server.proofs.Facts.{facts_of, waits_nowhere, performed_write, pe
 use Rattle.krl_server.proofs.state.State.perform.Goals as goal
 
 pub register-requires-clause-client : goal.register-requires-clause-client
-register-requires-clause-client c = facts_of (meaning c.args.self.now) c.args.message.now c.args.case.now _ c.requires.case c.in-Registers.is
+register-requires-clause-client c = (facts_of (meaning c.args.self.now) c.args.message.now c.args.case.now _ c.requires.case c.in-Registers.is).client
+
+pub register-requires-clause-incarnation : goal.register-requires-clause-incarnation
+register-requires-clause-incarnation c = (facts_of (meaning c.args.self.now) c.args.message.now c.args.case.now _ c.requires.case c.in-Registers.is).incarnation
 
 pub depart-requires-clause-client : goal.depart-requires-clause-client
 depart-requires-clause-client c = (facts_of (meaning c.args.self.now) c.args.message.now c.args.case.now _ c.requires.case c.in-Leaves.is).client

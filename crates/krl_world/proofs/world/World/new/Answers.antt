@@ -1,8 +1,7 @@
-use Rattle.krl_world.proofs.Taken.{made_reachable}
+use Rattle.std.proofs.Common.{sym, subst}
+use Rattle.krl_world.specs.Steps.{IsReachable}
+use Rattle.krl_world.proofs.Shapes.{reachable_stays}
 use Rattle.krl_world.proofs.world.World.new.Goals as goal
 
 pub invariant_of-result : goal.invariant_of-result
-invariant_of-result c = made_reachable c.args.entries.items c.in_ok-plain.plain c.in_ok-plain.ensures
-
-pub returns-clause-reachable : goal.returns-clause-reachable
-returns-clause-reachable c = made_reachable c.args.entries.items c.in_ok-plain.plain c.in_ok-plain.ensures
+invariant_of-result c = let e = c.in_ok-nodes.ensures in subst IsReachable (sym e.1) (reachable_stays.first c.args.entries.items e.0)

@@ -1,24 +1,26 @@
-use Rattle.std.proofs.Common.{subst}
-use Rattle.krl_world.specs.Promises.{ScansIndex}
-use Rattle.krl_world.specs.States.{State}
-use Rattle.krl_world.proofs.Keeps.{sound_reachable}
-use Rattle.krl_world.proofs.Taken.{steps_reachable, steps_scan, reachable_compatible}
+use Rattle.krl_world.proofs.Runs.{reachable_after, compatible_after, scans_before, writes_after, bounded_after, restarts_after, goes_on_after}
 use Rattle.krl_world.proofs.world.World.step.Goals as goal
 
-pub step-requires : goal.step-requires
-step-requires c = sound_reachable c.self.inside.plain c.self.invariant
-
 pub invariant_of-self : goal.invariant_of-self
-invariant_of-self c = steps_reachable c.self.inside.plain c.step.new.self c.args.step c.step.result c.self.invariant c.step.ensures
-
-pub returns-clause-scans : goal.returns-clause-scans
-returns-clause-scans c =
-    subst (λ (w : State). ScansIndex w.index c.args.step c.step.result) c.self.view_is
-    (steps_scan c.self.inside.plain c.step.new.self c.args.step c.step.result (sound_reachable c.self.inside.plain c.self.invariant) c.step.ensures)
+invariant_of-self c = reachable_after _ _ c.args.step c.step.result c.self.invariant c.step.ensures
 
 pub returns-clause-compatible : goal.returns-clause-compatible
-returns-clause-compatible c =
-    reachable_compatible c.step.new.self (steps_reachable c.self.inside.plain c.step.new.self c.args.step c.step.result c.self.invariant c.step.ensures)
+returns-clause-compatible c = compatible_after _ _ c.args.step c.step.result c.self.invariant c.step.ensures
+
+pub returns-clause-scans : goal.returns-clause-scans
+returns-clause-scans c = rw (← c.self.view_is) (scans_before _ _ c.args.step c.step.result c.self.invariant c.step.ensures)
+
+pub returns-clause-writes : goal.returns-clause-writes
+returns-clause-writes c = writes_after _ _ c.args.step c.step.result c.self.invariant c.step.ensures
+
+pub returns-clause-bounded : goal.returns-clause-bounded
+returns-clause-bounded c = bounded_after _ _ c.args.step c.step.result c.self.invariant c.step.ensures
+
+pub returns-clause-restarts : goal.returns-clause-restarts
+returns-clause-restarts c = restarts_after _ _ c.args.step c.step.result c.self.invariant c.step.ensures
 
 pub returns-clause-reachable : goal.returns-clause-reachable
-returns-clause-reachable c = steps_reachable c.self.inside.plain c.step.new.self c.args.step c.step.result c.self.invariant c.step.ensures
+returns-clause-reachable c = reachable_after _ _ c.args.step c.step.result c.self.invariant c.step.ensures
+
+pub returns-clause-goes_on : goal.returns-clause-goes_on
+returns-clause-goes_on c = goes_on_after _ _ c.args.step c.step.result c.self.invariant c.step.ensures

@@ -1,0 +1,16 @@
+#!/bin/sh
+# What the server's steps cost at 1,024 and at 65,536 entries.
+#
+#   bench/server/run.sh         needs rt on the path; some minutes where krl_server is proved, else half an hour
+#
+# main.rt.txt, proved and built by rt, tells a server the same messages at places that no processor could guess:
+#
+#   lock-of-101        one of the Locks of a client that locks the 101 slots of a scan of 100 rows one by one; each is
+#                      answered, and acknowledges the push before
+#   release-of-101     one Release over those slots
+#   delete, insert, put    one Write, far from the last, that is Applied
+#   wait-of-64         one of the Locks by which 64 clients come to wait at a slot that each of them reads; each calls 63
+#                      others back
+#   start              a start on what survives, which registers 64 clients
+#   report-of-1000     one of the 64 reports of 1,000 ranges each that follow
+exec "$(dirname -- "$0")/../both_sizes" server krl_modes krl_messages krl_queue krl_durable krl_table krl_protocol krl_server

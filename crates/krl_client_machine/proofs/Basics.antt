@@ -1,0 +1,68 @@
+-- Messages that stand in a link stay; what a refusal that isn't due says; points of a span.
+use Rattle.std.proofs.Common.{◌≡◌, ℕ, ◌≤◌, ◌<◌, ◌-◌, Bool, true, false, Option, Some, None, List, [], ◌∷◌, ◌++◌, ◌⊎◌, inl, inr, refl, ⊎_elim, arith, if◌then◌else◌}
+use Rattle.krl_modes.specs.declared.part.RangePart.{RangePart}
+use Rattle.krl_modes.specs.declared.part.RangePart.TheVariants as range
+use Rattle.krl_modes.specs.declared.part.KeyPart.{KeyPart}
+use Rattle.krl_modes.specs.declared.mode.Mode.{Mode}
+use Rattle.krl_modes.specs.Parts.{range_meet, key_meet}
+use Rattle.krl_modes.specs.Modes.{range_of, key_of}
+use Rattle.krl_modes.specs.Spans.{Bounds, contains}
+use Rattle.krl_messages.specs.declared.to_server.ToServerBody.{ToServerBody}
+use Rattle.krl_messages.specs.declared.to_server.ToServerBody.TheVariants as body
+use Rattle.krl_messages.specs.declared.to_server.RequestBody.{RequestBody}
+use Rattle.krl_messages.specs.declared.to_server.RequestBody.TheVariants as request
+use Rattle.krl_messages.specs.declared.to_client.ToClientBody.{ToClientBody}
+use Rattle.krl_messages.specs.declared.to_client.ToClientBody.TheVariants as told
+use Rattle.krl_protocol.specs.Links.{In, Link, Head, Lowered, untouched, lowered}
+use Rattle.krl_cache.proofs.Truths.{inside_span, outside_span}
+use Rattle.krl_client.specs.declared.refused.CommandRefused.{CommandRefused}
+use Rattle.krl_modes.specs.Parts.{is_range_X}
+use Rattle.krl_client_machine.specs.Shows.{Grows, IsAsked, IsFrom, IsTo}
+
+pub in_append : {A : Type 0} (x : A) (xs bs : List A) → In x (xs ++ bs) → In x xs ⊎ In x bs
+in_append x [] bs h = inr h
+in_append x (a ∷ xs) bs (inl e) = inl (inl e)
+in_append x (a ∷ xs) bs (inr h) = ⊎_elim (λ (i : In x xs). inl (inr i)) (λ (i : In x bs). inr i) (in_append x xs bs h)
+
+pub grows_not : (l : Link) → Grows l l
+grows_not l = record { hellos = λ x h. h; byes = λ x h. h; heads = λ x h. h; releases = λ x h. h; writes = λ x h. h; reports = λ x h. h; notices = λ x h. h; pushes = λ x h. h }
+
+pub grows_on : (l m n : Link) → Grows l m → Grows m n → Grows l n
+grows_on l m n a b = record { hellos = λ x h. b.hellos x (a.hellos x h); byes = λ x h. b.byes x (a.byes x h); heads = λ x h. b.heads x (a.heads x h); releases = λ x h. b.releases x (a.releases x h); writes = λ x h. b.writes x (a.writes x h); reports = λ x h. b.reports x (a.reports x h); notices = λ x h. b.notices x (a.notices x h); pushes = λ x h. b.pushes x (a.pushes x h) }
+
+asked_stays : (l m : Link) → Grows l m → (a : Head) (b : RequestBody) → IsAsked l a b → IsAsked m a b
+asked_stays l m g a (request.Lock req point mode) h = h
+asked_stays l m g a (request.Write number change) h = g.writes _ h
+asked_stays l m g a (request.Release s keep) h = (h.0, g.releases _ h.1)
+asked_stays l m g a request.Ack h = h
+
+pub from_stays : (l m : Link) → Grows l m → (inc : ℕ) (b : ToServerBody) → IsFrom l inc b → IsFrom m inc b
+from_stays l m g inc body.Hello h = g.hellos _ h
+from_stays l m g inc body.Bye h = g.byes _ h
+from_stays l m g inc (body.Report epoch ps) h = (h.0, g.reports _ h.1, h.2, h.3, h.4)
+from_stays l m g inc (body.Request r) h = (g.heads _ h.0, asked_stays l m g _ r.body h.1)
+
+pub to_stays : (l m : Link) → Grows l m → (inc : ℕ) (b : ToClientBody) → IsTo l inc b → IsTo m inc b
+to_stays l m g inc (told.Epoch epoch) h = g.notices _ h
+to_stays l m g inc (told.Push epoch number what) h = (h.0, g.pushes _ h.1, h.2, h.3, h.4, h.5, h.6)
+to_stays l m g inc (told.Callback epoch s keep) h = h
+
+-- a reason that isn't the refusal doesn't hold
+pub passed : (b : Bool) (x : CommandRefused) (rest : Option CommandRefused) → (if b then Some x else rest) ≡ None → (b ≡ false) × (rest ≡ None)
+passed true x rest e = absurd (cc)
+passed false x rest e = (refl, e)
+
+pub it_is_x : (r : RangePart) → is_range_X r ≡ true → r ≡ range.X
+it_is_x range.N e = absurd (cc)
+it_is_x range.S e = absurd (cc)
+it_is_x range.I e = absurd (cc)
+it_is_x range.X e = refl
+
+pub before_last : (lo hi q : ℕ) → lo < hi → (q < lo) ⊎ (hi ≤ q) → (q < lo) ⊎ (hi - 1 < q)
+before_last lo hi q some (inl h) = inl h
+before_last lo hi q some (inr h) = inr (omega arith)
+
+-- one point before and after a lowering
+pub lowered_at : (s : Bounds) (keep : Mode) (r r' : RangePart) (k k' : KeyPart) (q : ℕ) (t : Bool) → contains s q ≡ t → s.lo < s.hi → r' ≡ r → k' ≡ k → Lowered s.lo (s.hi - 1) (range_of keep) (key_of keep) r k (if t then range_meet r' (range_of keep) else r') (if t then key_meet k' (key_of keep) else k') q
+lowered_at s keep r r' k k' q true e some x y = let p = inside_span s q e in lowered p.0 (omega arith) (cc) (cc)
+lowered_at s keep r r' k k' q false e some x y = untouched (before_last s.lo s.hi q some (outside_span s q e)) x y

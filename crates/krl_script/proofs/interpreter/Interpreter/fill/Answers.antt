@@ -1,0 +1,7 @@
+use Rattle.krl_script.specs.Fields.{meaning}
+use Rattle.krl_script.proofs.Interpreting.{on_ok, fill_refused}
+use Rattle.krl_script.proofs.interpreter.Interpreter.fill.Goals as goal
+
+pub returns-then-n-gt-MAX_ENTRIES : goal.returns-then-n-gt-MAX_ENTRIES
+returns-then-n-gt-MAX_ENTRIES c =
+    on_ok _ _ (λ line h. fill_refused (meaning c.args.self.now) (meaning c.refuse.new.self) c.args.n line.bytes.items c.if-n-gt-MAX_ENTRIES.true h.0 h.1) c.refuse.result c.refuse.ensures

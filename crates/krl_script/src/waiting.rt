@@ -1,0 +1,104 @@
+//! Which messages wait.
+ghost use Rattle.std.specs.Prelude.{◌≡◌, ◌≢◌, ◌+◌, ◌<◌, ◌^◌, true, length, slice_get, Some, OnOk};
+ghost use Rattle.krl_script.specs.Waiting.{none_sent, sent_to, without, none_waiting, waiting_after};
+
+use std::alloc::{AllocError, Global};
+use std::collections::VecDeque;
+use std::marker::Model;
+
+/// The messages that wait, by their numbers. Each call takes one turn for each message that was
+/// sent, or has stopped waiting, since the last.
+#[derive(Drop)]
+pub struct Waiting {
+    // So many messages come before those of the flags. None of them waits.
+    past: u64,
+    // A flag for each message after those, in order: whether it waits no more.
+    flags: VecDeque<bool>,
+}
+
+impl Model for Waiting {
+    ghost use Rattle.std.specs.Prelude.{◌+◌, ◌<◌, ◌^◌, length};
+    ghost use Rattle.krl_script.specs.Waiting.{Waits, waiting_after};
+
+    ghost Value = { Waits };
+
+    ghost view = { λ w. record {
+      sent = w.past + length w.flags.items;
+      waiting = waiting_after w.past w.flags.items;
+    } };
+
+    ghost invariant = { λ w. w.past + length w.flags.items < 2 ^ 64 };
+}
+
+// Takes the flags of messages that wait no more off the front, as long as there are some there.
+// Says how many messages then come before the others.
+fn pass(past: u64, flags: &mut VecDeque<bool>) -> u64
+    requires { past + length flags.old.items < 2 ^ 64 }
+    ensures sent { result + length flags.new.items ≡ past + length flags.old.items }
+    ensures waiting { waiting_after result flags.new.items ≡ waiting_after past flags.old.items }
+    ensures first { slice_get flags.new.items 0 ≢ Some true }
+{
+    let mut past = past;
+    'passing: while let Some(true) = flags.front().copied() {
+        let _ = flags.pop_front();
+        past += 1;
+    }
+    past
+}
+
+impl Waiting {
+    /// Nothing was sent yet.
+    pub fn new(alloc: Global) -> Waiting
+        ensures { result ≡ none_sent }
+    {
+        Waiting {
+            past: 0,
+            flags: VecDeque::new(alloc),
+        }
+    }
+
+    /// So many messages were sent by now. Those that are new wait, after the others.
+    #[tactic(auto, using(crate::proofs::WaitingLemmas::counts_more))]
+    pub fn count(&mut self, sent: u64) -> Result<(), AllocError>
+        ensures { OnOk result (self.new ≡ sent_to self.old sent) }
+    {
+        let counted = self.past + self.flags.len() as u64;
+        let more = sent.saturating_sub(counted);
+        for _ in 0..more {
+            self.flags.push_back(false)?;
+        }
+        Ok(())
+    }
+
+    /// The number of the oldest that waits.
+    #[tactic(auto, using(crate::proofs::WaitingLemmas::first_waits))]
+    pub fn oldest(&mut self) -> Option<u64>
+        ensures oldest { result ≡ slice_get self.old.waiting 0 }
+        ensures same { self.new ≡ self.old }
+    {
+        self.past = pass(self.past, &mut self.flags);
+        if self.flags.is_empty() {
+            return None;
+        }
+        Some(self.past + 1)
+    }
+
+    /// The message of this number waits no more.
+    #[tactic(auto, using(crate::proofs::WaitingLemmas::not_among))]
+    pub fn remove(&mut self, number: u64)
+        ensures { self.new ≡ without self.old number }
+    {
+        if number > self.past && number - self.past <= self.flags.len() as u64 {
+            let at = (number - self.past - 1) as usize;
+            self.flags[at] = true;
+        }
+    }
+
+    /// No message waits any more.
+    pub fn drop_all(&mut self)
+        ensures { self.new ≡ none_waiting self.old }
+    {
+        self.past += self.flags.len() as u64;
+        self.flags.clear();
+    }
+}

@@ -1,0 +1,160 @@
+-- A step changes one seat, or the server, and what was sent; so it keeps the first entries, and seats nobody above 63.
+use Rattle.std.proofs.Common.{◌≡◌, ℕ, ◌≤◌, ◌∙◌, Bool, true, false, cond, Option, Some, None, List, [], ◌∷◌, refl, sym, ap, subst, arith, nat_eq, nat_lt, if◌then◌else◌, ltb-false, eqb-true}
+use Rattle.std.specs.Prelude.{Result, Ok, Err}
+use Rattle.krl_modes.specs.declared.part.RangePart.TheVariants as range
+use Rattle.krl_modes.specs.declared.part.KeyPart.TheVariants as key
+use Rattle.krl_messages.specs.Values.{Value}
+use Rattle.krl_messages.specs.declared.to_server.ToServer.{ToServer}
+use Rattle.krl_messages.specs.declared.to_client.ToClient.{ToClient}
+use Rattle.krl_client.specs.Clients.{Client}
+use Rattle.krl_world.specs.declared.message.Message.{Message}
+use Rattle.krl_world.specs.declared.message.Message.TheVariants as message
+use Rattle.krl_world.specs.declared.applied_write.AppliedWrite.{AppliedWrite}
+use Rattle.krl_world.specs.declared.step.Step.{Step}
+use Rattle.krl_world.specs.declared.step.Step.TheVariants as step
+use Rattle.krl_world.specs.declared.step.Command.{Command}
+use Rattle.krl_world.specs.declared.step.Command.TheVariants as command
+use Rattle.krl_world.specs.declared.answer.Answer.{Answer}
+use Rattle.krl_world.specs.declared.refused.Refused.{Refused}
+use Rattle.krl_world.specs.declared.refused.Refused.TheVariants as refused
+use Rattle.krl_world.specs.States.{ServerNode, Up, Down, Seat, State, fresh, client_of, range_believed, key_believed, set_seat}
+use Rattle.krl_world.specs.Steps.{message_at, of_client, CanBegin, ServerReads, ClientReads, Delivers, Obeys, nudged, started, crashed, Takes, Steps, Runs, RunsWith, IsReachable}
+use Rattle.krl_world.specs.Laws.{ReachableStays, NobodyAbove63}
+
+-- nobody runs with a number above 63
+abbrev pub HasNobody : State → Type 0
+HasNobody w = (c : ℕ) → 64 ≤ c → client_of w c ≡ None
+
+-- what a step leaves
+pub data Left (w : State) : State → Type 0 where
+  as_it_was : Left w w
+  at_seat : (c : ℕ) (x : Seat) (sent : List Message) → (64 ≤ c → x.client ≡ None) → Left w (record w { seats = set_seat w.seats c x; sent = sent })
+  at_server : (n : ServerNode) (sent : List Message) (writes : List AppliedWrite) → Left w (record w { server = n; sent = sent; writes = writes })
+
+-- a client's number that isn't refused
+in_range : (c : ℕ) (r : Option Refused) (A : Type 0) → of_client c r ≡ None → 64 ≤ c → A
+in_range c r A e l = by_test (nat_lt 63 c) refl e
+  where
+    by_test : (t : Bool) → nat_lt 63 c ≡ t → cond t (Some refused.BadClient) r ≡ None → A
+    by_test true i f = absurd (cc)
+    by_test false i f = let x = ltb-false 63 c i in absurd (omega arith)
+
+seat_left : (w v : State) (c : ℕ) (x : Seat) (sent : List Message) → (64 ≤ c → x.client ≡ None) → v ≡ record w { seats = set_seat w.seats c x; sent = sent } → Left w v
+seat_left w v c x sent n e = subst (Left w) (sym e) (at_seat c x sent n)
+
+server_left : (w v : State) (n : ServerNode) (sent : List Message) (writes : List AppliedWrite) → v ≡ record w { server = n; sent = sent; writes = writes } → Left w v
+server_left w v n sent writes e = subst (Left w) (sym e) (at_server n sent writes)
+
+same_left : (w v : State) → v ≡ w → Left w v
+same_left w v e = subst (Left w) (sym e) as_it_was
+
+obeys_left : (w v : State) (c : ℕ) (k : Client) (what : Command) (answer : Answer) (r : Option Refused) → of_client c r ≡ None → Obeys w c k what answer v → Left w v
+obeys_left w v c k (command.Lock point m) answer r e d = seat_left w v c _ _ (in_range c r _ e) d.1
+obeys_left w v c k (command.Write op) answer r e d = seat_left w v c _ _ (in_range c r _ e) d.1
+obeys_left w v c k (command.Scan lo hi) answer r e d = same_left w v d.1
+obeys_left w v c k (command.Forget lo hi) answer r e d = seat_left w v c _ _ (in_range c r _ e) d.1
+obeys_left w v c k (command.Pin lo hi) answer r e d = seat_left w v c _ _ (in_range c r _ e) d.3
+obeys_left w v c k (command.Unpin id) answer r e d = seat_left w v c _ _ (in_range c r _ e) d.1
+obeys_left w v c k command.Leave answer r e d = seat_left w v c _ _ (in_range c r _ e) d.1
+
+client_left : (w v : State) (m : ToClient) (o : Option Client) → HasNobody w → client_of w m.client ≡ o → ClientReads w o m v → Left w v
+client_left w v m None h i d = same_left w v d
+client_left w v m (Some k) h i d = seat_left w v m.client _ _ (λ l. absurd (let x = h m.client l in let y : Some k ≡ None = sym i ∙ x in cc)) d.2
+
+reads_left : (w v : State) (m : ToServer) (n : ServerNode) → ServerReads w n m v → Left w v
+reads_left w v m (Up s) d = server_left w v _ _ _ d.3
+reads_left w v m (Down x) d = same_left w v d
+
+delivers_left : (w v : State) (o : Option Message) → HasNobody w → Delivers w o v → Left w v
+delivers_left w v None h d = absurd d
+delivers_left w v (Some (message.ToServer m)) h d = reads_left w v m w.server d
+delivers_left w v (Some (message.ToClient m)) h d = client_left w v m (client_of w m.client) h refl d
+
+nudged_left : (w v : State) (c : ℕ) (n : ServerNode) → v ≡ nudged w n c → Left w v
+nudged_left w v c (Up s) e = server_left w v _ _ _ e
+nudged_left w v c (Down d) e = same_left w v e
+
+started_left : (w v : State) (n : ServerNode) → v ≡ started w n → Left w v
+started_left w v (Up s) e = same_left w v e
+started_left w v (Down d) e = server_left w v _ _ _ e
+
+crashed_left : (w v : State) (n : ServerNode) → v ≡ crashed w n → Left w v
+crashed_left w v (Up s) e = server_left w v _ _ _ e
+crashed_left w v (Down d) e = same_left w v e
+
+pub takes_left : (w v : State) (s : Step) (answer : Answer) → HasNobody w → Takes w s answer v → Left w v
+takes_left w v (step.Deliver i) answer h t = delivers_left w v (message_at w.sent i) h t.1.1
+takes_left w v (step.Command c what) answer h t = obeys_left w v c t.1.0 what answer _ t.0 t.1.2
+takes_left w v (step.Tick c) answer h t = seat_left w v c _ _ (in_range c _ _ t.0) t.1.1.2.2
+takes_left w v (step.Nudge c) answer h t = nudged_left w v c w.server t.1.1
+takes_left w v (step.StartClient c) answer h t = seat_left w v c _ _ (in_range c _ _ t.0) t.1.1
+takes_left w v (step.CrashClient c) answer h t = seat_left w v c _ _ (λ l. refl) t.1.1
+takes_left w v step.StartServer answer h t = started_left w v w.server t.1.1
+takes_left w v step.CrashServer answer h t = crashed_left w v w.server t.1.1
+
+-- What it keeps
+
+opening_left : (w v : State) → Left w v → v.opening ≡ w.opening
+opening_left w _ as_it_was = refl
+opening_left w _ (at_seat c x sent n) = refl
+opening_left w _ (at_server n sent writes) = refl
+
+nobody_left : (w v : State) → HasNobody w → Left w v → HasNobody v
+nobody_left w _ h as_it_was = h
+nobody_left w _ h (at_seat c x sent n) = λ d l. by_test d (nat_eq d c) refl l
+  where
+    by_test : (d : ℕ) (t : Bool) → nat_eq d c ≡ t → 64 ≤ d → (if t then x else w.seats d).client ≡ None
+    by_test d true e l = n (subst (λ y. 64 ≤ y) (eqb-true d c e) l)
+    by_test d false e l = h d l
+nobody_left w _ h (at_server n sent writes) = h
+
+fresh_nobody : (entries : List (ℕ × Value)) → HasNobody (fresh entries)
+unfolding fresh
+fresh_nobody entries c l = refl
+
+fresh_opening : (entries : List (ℕ × Value)) → (fresh entries).opening ≡ entries
+unfolding fresh
+fresh_opening entries = refl
+
+-- Runs
+
+run_opening : (w v : State) (steps : List Step) → HasNobody w → Runs w steps v → v.opening ≡ w.opening
+run_opening w v [] h r = ap (λ (x : State). x.opening) r
+run_opening w v (s ∷ steps) h r = let l = takes_left w r.1 s r.0 h r.2 in run_opening r.1 v steps (nobody_left w r.1 h l) r.3 ∙ opening_left w r.1 l
+
+run_nobody : (w v : State) (steps : List Step) → HasNobody w → Runs w steps v → HasNobody v
+run_nobody w v [] h r = subst HasNobody (sym r) h
+run_nobody w v (s ∷ steps) h r = run_nobody r.1 v steps (nobody_left w r.1 h (takes_left w r.1 s r.0 h r.2)) r.3
+
+run_on : (u w v : State) (steps : List Step) (s : Step) (answer : Answer) → Runs u steps w → Takes w s answer v → (more : List Step) × Runs u more v
+run_on u w v [] s answer r t = (s ∷ [], (answer, v, subst (λ x. Takes x s answer v) r t, refl))
+run_on u w v (x ∷ steps) s answer r t = let y = run_on r.1 w v steps s answer r.3 t in (x ∷ y.0, (r.0, r.1, r.2, y.1))
+
+pub reachable_nobody : (w : State) → IsReachable w → HasNobody w
+reachable_nobody w h = run_nobody (fresh w.opening) w h.1 (fresh_nobody w.opening) h.2
+
+takes_reachable : (w v : State) (s : Step) (answer : Answer) → IsReachable w → Takes w s answer v → IsReachable v
+takes_reachable w v s answer h t =
+    let e = opening_left w v (takes_left w v s answer (reachable_nobody w h) t) in
+    let r = run_on (fresh w.opening) w v h.1 s answer h.2 t in
+    subst (λ es. CanBegin es × (steps : List Step) × Runs (fresh es) steps v) (sym e) (h.0, r.0, r.1)
+
+step_reachable : (w v : State) (s : Step) (r : Result Answer Refused) → IsReachable w → Steps w s r v → IsReachable v
+unfolding Steps
+step_reachable w v s (Ok answer) h t = takes_reachable w v s answer h t
+step_reachable w v s (Err e) h t = subst IsReachable (sym t.0) h
+
+runs_reachable : (w v : State) (steps : List Step) (results : List (Result Answer Refused)) → IsReachable w → RunsWith w steps results v → IsReachable v
+runs_reachable w v [] [] h r = subst IsReachable (sym r) h
+runs_reachable w v [] (x ∷ results) h r = absurd r
+runs_reachable w v (s ∷ steps) [] h r = absurd r
+runs_reachable w v (s ∷ steps) (x ∷ results) h r = runs_reachable r.0 v steps results (step_reachable w r.0 s x h r.1) r.2
+
+first_reachable : (entries : List (ℕ × Value)) → CanBegin entries → IsReachable (fresh entries)
+first_reachable entries e = subst (λ es. CanBegin es × (steps : List Step) × Runs (fresh es) steps (fresh entries)) (sym (fresh_opening entries)) (e, [], refl)
+
+pub reachable_stays : ReachableStays
+reachable_stays = record { first = first_reachable; step = step_reachable; run = runs_reachable }
+
+pub nobody_above_63 : NobodyAbove63
+nobody_above_63 w h c p l = let n = reachable_nobody w h c l in (subst (λ o. range_believed o p ≡ range.N) (sym n) refl, subst (λ o. key_believed o p ≡ key.N) (sym n) refl)

@@ -1,0 +1,6 @@
+use Rattle.krl_server.proofs.Whole.{all_follow}
+use Rattle.krl_world.proofs.Onward.{can_go_on}
+use Rattle.krl_world.proofs.laws.can_go_on.Goals as goal
+
+pub returns : goal.returns
+returns c = can_go_on all_follow

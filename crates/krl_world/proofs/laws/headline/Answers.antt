@@ -1,0 +1,6 @@
+use Rattle.krl_server.proofs.Whole.{all_follow}
+use Rattle.krl_world.proofs.Kept.{headline_holds}
+use Rattle.krl_world.proofs.laws.headline.Goals as goal
+
+pub returns : goal.returns
+returns c = headline_holds all_follow

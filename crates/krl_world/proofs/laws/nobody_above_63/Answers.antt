@@ -1,0 +1,5 @@
+use Rattle.krl_world.proofs.Shapes.{nobody_above_63}
+use Rattle.krl_world.proofs.laws.nobody_above_63.Goals as goal
+
+pub returns : goal.returns
+returns c = nobody_above_63

@@ -1,0 +1,5 @@
+use Rattle.krl_world.proofs.Running.{w6, reached, scans}
+use Rattle.krl_world.proofs.laws.scans_somewhere.Goals as goal
+
+pub returns : goal.returns
+returns c = (w6, reached, scans)

@@ -1,0 +1,5 @@
+use Rattle.krl_world.proofs.Shapes.{reachable_stays}
+use Rattle.krl_world.proofs.laws.stays_reachable.Goals as goal
+
+pub returns : goal.returns
+returns c = reachable_stays

@@ -1,0 +1,6 @@
+use Rattle.krl_world.proofs.Inserting.{entry}
+use Rattle.krl_world.proofs.Insertion.{v8, written_reached, listed, told_applied}
+use Rattle.krl_world.proofs.laws.writes_somewhere.Goals as goal
+
+pub returns : goal.returns
+returns c = (v8, entry, written_reached, told_applied, listed)

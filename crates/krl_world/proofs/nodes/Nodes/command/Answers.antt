@@ -1,0 +1,15 @@
+use Rattle.std.proofs.Common.{refl}
+use Rattle.krl_world.specs.declared.step.Step.TheVariants as step
+use Rattle.krl_world.specs.declared.refused.Refused.TheVariants as refused
+use Rattle.krl_world.specs.Fields.{meaning}
+use Rattle.krl_world.specs.contracts.nodes.Nodes.{the_view}
+use Rattle.krl_world.proofs.Lifts.{refuses, is_no_client}
+use Rattle.krl_world.proofs.Places.{is_at, command_at}
+use Rattle.krl_world.proofs.nodes.Nodes.command.Goals as goal
+
+pub returns-then-number-gt63 : goal.returns-then-number-gt63
+returns-then-number-gt63 c = let w = meaning c.args.self.now in refuses w w (step.Command c.args.number c.args.what) refused.BadClient refl (is_no_client c.args.number _ c.if-number-gt63.true)
+
+pub returns : goal.returns
+returns c = rw (← c.self.view_is) (let w = the_view c.self.inside in
+    command_at w c.args.number c.index_mut.result.now c.obey.new.seat c.obey.new.sent.items c.args.what c.obey.result (is_at w c.args.number c.index_mut.result.now _ c.self.invariant.full c.if-number-gt63.false c.index_mut.ensures.value) c.obey.ensures.greatest c.obey.ensures.commanded)

@@ -1,0 +1,29 @@
+use Rattle.std.proofs.Common.{refl, ap, ◌∙◌}
+use Rattle.std.proofs.lemmas.Result.{err_from_is_err_and}
+use Rattle.krl_world.specs.declared.step.Step.TheVariants as step
+use Rattle.krl_world.specs.declared.refused.Refused.TheVariants as refused
+use Rattle.krl_world.specs.Fields.{meaning, server_there}
+use Rattle.krl_world.specs.contracts.nodes.Nodes.{the_view}
+use Rattle.krl_world.proofs.Lifts.{refuses, is_no_client}
+use Rattle.krl_world.proofs.Server.{nudged_at, nudge_down_at, nudge_memory_at}
+use Rattle.krl_world.proofs.nodes.Nodes.nudge.Goals as goal
+
+pub returns-then-number-gt63 : goal.returns-then-number-gt63
+returns-then-number-gt63 c = let w = meaning c.args.self.now in refuses w w (step.Nudge c.args.number) refused.BadClient refl (is_no_client c.args.number _ c.if-number-gt63.true)
+
+pub returns-in_default : goal.returns-in_default
+returns-in_default c = rw (← c.self.view_is) (let w = the_view c.self.inside in
+    nudge_down_at w c.args.number _ c.if-number-gt63.false (ap server_there c.in_default.is))
+
+pub returns-in_default-node : goal.returns-in_default-node
+returns-in_default-node c = rw (← c.self.view_is) (let w = the_view c.self.inside in
+    nudge_down_at w c.args.number _ c.if-number-gt63.false (ap server_there c.in-Some.is ∙ c.in_default-node.is))
+
+pub returns-in_err-nudge : goal.returns-in_err-nudge
+returns-in_err-nudge c = rw (← c.self.view_is) (let w = the_view c.self.inside in
+    let p = err_from_is_err_and c.from_residual.result c.from_residual.ensures.1 in
+    rw (p.1, p.2) (nudge_memory_at w c.args.number c.in-Up.server c.nudge.new.sent.items c.if-number-gt63.false (ap server_there c.in-Some.is ∙ c.in-Up.is) c.in_err-nudge.ensures.err))
+
+pub returns : goal.returns
+returns c = rw (← c.self.view_is) (let w = the_view c.self.inside in
+    nudged_at w c.args.number c.in-Up.server c.nudge.new.sent.items c.if-number-gt63.false (ap server_there c.in-Some.is ∙ c.in-Up.is) c.in_ok-nudge.ensures.ok)

@@ -1,0 +1,16 @@
+use Rattle.std.proofs.Common.{arith}
+use Rattle.krl_world.specs.Fields.{meaning}
+use Rattle.krl_world.proofs.Runs.{run_steps, run_ends}
+use Rattle.krl_world.proofs.world.World.run.Goals as goal
+
+pub loop-step-preserved : goal.loop-step-preserved
+loop-step-preserved c = record {
+  goes =
+      run_steps (meaning c.args.self.now) (meaning c.loop-step.self) (meaning c.step.new.self) c.args.steps.now c.loop-step.step-index _ c.loop-step.answers.items _ c.step.result c.loop-step-test.true c.loop-step.invariant.goes c.step.ensures.steps
+      c.push_reserved.ensures.items;
+  counted = omega arith;
+  room = omega arith;
+}
+
+pub returns-clause-runs : goal.returns-clause-runs
+returns-clause-runs c = run_ends (meaning c.args.self.now) (meaning c.loop-step.self) c.args.steps.now c.loop-step.step-index c.loop-step.answers.items c.loop-step-test.false c.loop-step.invariant.goes

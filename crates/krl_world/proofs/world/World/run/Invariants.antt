@@ -1,0 +1,12 @@
+use Rattle.std.proofs.Common.{◌≡◌, ◌≤◌, length, drop, vec_len, vec_capacity}
+use Rattle.krl_world.specs.Fields.{meaning}
+use Rattle.krl_world.proofs.Runs.{GoesOn}
+use Rattle.krl_world.proofs.world.World.run.Given as goal
+
+-- the steps so far were taken, and there is room for the results of the others
+abbrev pub invariant-loop-step : goal.invariant-loop-step
+invariant-loop-step l = record {
+  goes : GoesOn (meaning l.fn.self) (meaning l.self) l.steps (drop l.step-index l.steps) l.answers.items;
+  counted : vec_len l.answers ≡ l.step-index;
+  room : length l.steps ≤ vec_capacity l.answers;
+}

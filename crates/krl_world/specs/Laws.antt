@@ -1,0 +1,38 @@
+-- What each step keeps of a world.
+use Rattle.std.specs.Prelude.{◌≡◌, ℕ, ◌≤◌, true, false, List, None, Result}
+use Rattle.krl_modes.specs.declared.part.RangePart.TheVariants as range
+use Rattle.krl_modes.specs.declared.part.KeyPart.TheVariants as key
+use Rattle.krl_messages.specs.Values.{Value}
+use Rattle.krl_protocol.specs.Links.{In}
+use Rattle.krl_world.specs.declared.step.Step.{Step}
+use Rattle.krl_world.specs.declared.step.Step.TheVariants as step
+use Rattle.krl_world.specs.declared.answer.Answer.{Answer}
+use Rattle.krl_world.specs.declared.refused.Refused.{Refused}
+use Rattle.krl_server.specs.Servers.{Server, is_gathering}
+use Rattle.krl_world.specs.States.{Up, State, fresh, is_serving, range_held, key_held}
+use Rattle.krl_world.specs.Bounds.{Bound, table_of, HasBound, IsTableWithin, Covers}
+use Rattle.krl_world.specs.Steps.{CanBegin, refusal_of, Takes, Steps, Runs, RunsWith, IsReachable}
+
+-- the first world is reachable, and so is what a step or a run leaves of a reachable one
+pub record ReachableStays : Type 0 where
+  pub first : (entries : List (ℕ × Value)) → CanBegin entries → IsReachable (fresh entries)
+  pub step : (w v : State) (s : Step) (r : Result Answer Refused) → IsReachable w → Steps w s r v → IsReachable v
+  pub run : (w v : State) (steps : List Step) (results : List (Result Answer Refused)) → IsReachable w → RunsWith w steps results v → IsReachable v
+
+-- nobody has a number above 63
+abbrev pub NobodyAbove63 : Type 0
+NobodyAbove63 = (w : State) → IsReachable w → (c p : ℕ) → 64 ≤ c → (range_held w c p ≡ range.N) × (key_held w c p ≡ key.N)
+
+-- each step that this world does not refuse can be taken
+abbrev pub CanGoOn : State → Type 0
+CanGoOn w = (s : Step) → refusal_of w s ≡ None → (answer : Answer) × (v : State) × Takes w s answer v
+
+-- a server that never crashed serves
+abbrev pub ServesOn : Type 0
+ServesOn = (entries : List (ℕ × Value)) (steps : List Step) (w : State) → (In step.CrashServer steps → ⊥) → Runs (fresh entries) steps w → is_serving w.server ≡ true
+
+-- nobody gets anything by a restart: where a server gathered and now serves, its table is within the bound until then, and it
+-- has what each client believes
+abbrev pub GatheringsEnd : Type 0
+GatheringsEnd = (w v : State) (b : Bound) (s t : Server) (taken : Step) (answer : Answer) → HasBound w b → w.server ≡ Up s → is_gathering s.missing ≡ true
+    → Takes w taken answer v → v.server ≡ Up t → is_gathering t.missing ≡ false → IsTableWithin (table_of t) b × ((c : ℕ) → Covers (table_of t) v c)

@@ -1,0 +1,152 @@
+-- What a client that runs does with the list of all that was sent, and what a server does, before a world is put together of
+-- them.
+use Rattle.std.specs.Prelude.{◌≡◌, ℕ, suc, ◌⊎◌, cond, is_some, Bool, true, false, ◌&&◌, nat_lt, nat_eq, if◌then◌else◌, List, [], ◌∷◌, ◌++◌, Option, Some, None, Result, Ok, Err}
+use Rattle.krl_modes.specs.declared.mode.Mode.TheVariants as mode
+use Rattle.krl_messages.specs.declared.outcome.Outcome.{Outcome}
+use Rattle.krl_messages.specs.declared.outcome.Outcome.TheVariants as outcome
+use Rattle.krl_messages.specs.declared.write_op.WriteOp.{WriteOp}
+use Rattle.krl_messages.specs.declared.to_server.ToServer.{ToServer}
+use Rattle.krl_messages.specs.declared.to_server.ToServerBody.{ToServerBody}
+use Rattle.krl_messages.specs.declared.to_server.ToServerBody.TheVariants as said
+use Rattle.krl_messages.specs.declared.to_server.RequestBody.{RequestBody}
+use Rattle.krl_messages.specs.declared.to_server.RequestBody.TheVariants as asked
+use Rattle.krl_durable.specs.declared.record.Record.{Record}
+use Rattle.krl_messages.specs.declared.to_client.ToClient.{ToClient}
+use Rattle.krl_server.specs.Servers.{Server}
+use Rattle.krl_server.specs.Cases.{case_of}
+use Rattle.krl_server.specs.Steps.{ServerStep}
+use Rattle.krl_client.specs.Clients.{Client, begun, free_pin}
+use Rattle.krl_client.specs.Commands
+use Rattle.krl_client.specs.Commands.{wrote, says_lock, says_write, says_release, forgot, pinned, unpinned, says_bye, start_refusal}
+use Rattle.krl_client.specs.Fields.{Follows, IsTick}
+use Rattle.krl_client.specs.Messages as receiver
+use Rattle.krl_client.specs.Ticks.{says_hello}
+use Rattle.krl_world.specs.declared.message.Message.{Message}
+use Rattle.krl_world.specs.declared.applied_write.AppliedWrite.{AppliedWrite}
+use Rattle.krl_world.specs.declared.step.Command.{Command}
+use Rattle.krl_world.specs.declared.step.Command.TheVariants as command
+use Rattle.krl_world.specs.declared.answer.Answer.{Answer}
+use Rattle.krl_world.specs.declared.answer.Answer.TheVariants as told
+use Rattle.krl_world.specs.declared.refused.Refused.{Refused}
+use Rattle.krl_world.specs.declared.refused.Refused.TheVariants as refused
+use Rattle.krl_world.specs.States.{ServerNode, Up, Down, Seat, from_clients, from_server}
+use Rattle.krl_world.specs.Steps.{span, named, refused_by_client, refused_at_start, command_refusal, ScanAnswers, CommandTakesMemory, applies}
+
+-- Refusals: the one that is due; or, where none is, want of memory, in what takes some
+abbrev pub IsRefused : Option Refused → Type 0 → Refused → Type 0
+IsRefused due takes r = (due ≡ Some r) ⊎ ((due ≡ None) × (r ≡ refused.OutOfMemory) × takes)
+
+-- Commands
+
+-- a client that obeys a command, and goes on as this one, or no longer; and all that was sent, before and after
+abbrev pub Does : Client → Command → Answer → Option Client → List Message → List Message → Type 0
+Does k (command.Lock point m) answer next old new =
+    (answer ≡ told.Done) × (next ≡ Some (Commands.locked k point m))
+    × (new ≡ old ++ from_clients (says_lock (Commands.locked k point m) point m ∷ []))
+Does k (command.Write op) answer next old new =
+    (answer ≡ told.Done) × (next ≡ Some (wrote k op)) × (new ≡ old ++ from_clients (says_write (wrote k op) op ∷ []))
+Does k (command.Scan lo hi) answer next old new = ScanAnswers k (span lo hi) answer × (next ≡ Some k) × (new ≡ old)
+Does k (command.Forget lo hi) answer next old new =
+    (answer ≡ told.Done) × (next ≡ Some (forgot k (span lo hi)))
+    × (new ≡ old ++ from_clients (says_release k (span lo hi) mode.N ∷ []))
+Does k (command.Pin lo hi) answer next old new =
+    (id : ℕ) × (free_pin k ≡ Some id) × (answer ≡ told.Pinned id) × (next ≡ Some (pinned k (span lo hi) id)) × (new ≡ old)
+Does k (command.Unpin id) answer next old new = (answer ≡ told.Done) × (next ≡ Some (unpinned k id)) × (new ≡ old)
+Does k command.Leave answer next old new = (answer ≡ told.Done) × (next ≡ None) × (new ≡ old ++ from_clients (says_bye k ∷ []))
+
+-- a command is obeyed or refused
+abbrev pub Commanded : Client → Command → Option Client → List Message → List Message → Result Answer Refused → Type 0
+Commanded k what next old new (Ok answer) = (command_refusal k what ≡ None) × Does k what answer next old new
+Commanded k what next old new (Err r) =
+    (next ≡ Some k) × (new ≡ old) × IsRefused (named refused_by_client (command_refusal k what)) (CommandTakesMemory k what) r
+
+-- where a client runs; none that doesn't obeys
+abbrev pub CommandedAt : Option Client → Command → Option Client → List Message → List Message → Result Answer Refused → Type 0
+CommandedAt (Some k) what next old new r = Commanded k what next old new r
+CommandedAt None what next old new r = (r ≡ Err refused.Down) × (next ≡ None) × (new ≡ old)
+
+-- Starts
+
+-- why no client starts at this seat
+abbrev pub starting_refusal : ℕ → Seat → Option Refused
+starting_refusal c x = cond (is_some x.client) (Some refused.Running) (named refused_at_start (start_refusal c (suc x.greatest)))
+
+-- a client started at the seat x, which became y
+pub record Started (c : ℕ) (x y : Seat) (old new : List Message) : Type 0 where
+  pub none_due : starting_refusal c x ≡ None
+  pub seat : y ≡ record { greatest = suc x.greatest; client = Some (begun c (suc x.greatest)) }
+  pub sent : new ≡ old ++ from_clients (says_hello (begun c (suc x.greatest)) ∷ [])
+
+-- Ticks and messages
+
+-- the client ticked
+pub record Ticked (k : Client) (old new : List Message) : Type 0 where
+  pub list : List ToServer
+  pub tick : IsTick k list
+  pub sent : new ≡ old ++ from_clients list
+
+-- the client read the message, and goes on as this one
+pub record HasRead (k : Client) (m : ToClient) (next : Client) (old new : List Message) : Type 0 where
+  pub list : List ToServer
+  pub follows : Follows k (receiver.case_of k m) next list
+  pub sent : new ≡ old ++ from_clients list
+
+-- the server read the message, and became t
+pub record HasServed (s : Server) (m : ToServer) (t : Server) (old new : List Message) (writes written : List AppliedWrite) : Type 0 where
+  pub outs : List ToClient
+  pub step : ServerStep s m t outs
+  pub sent : new ≡ old ++ from_server outs
+  pub writes_are : written ≡ writes ++ applies m (case_of s m)
+
+-- the message came where a server runs, which read it, or where none runs, and there it is lost
+abbrev pub HasArrived : ServerNode → ToServer → ServerNode → List Message → List Message → List AppliedWrite → List AppliedWrite → Type 0
+HasArrived (Up s) m (Up t) old new writes written = HasServed s m t old new writes written
+HasArrived (Up s) m (Down d) old new writes written = ⊥
+HasArrived (Down d) m next old new writes written = (next ≡ Down d) × (new ≡ old) × (written ≡ writes)
+
+-- Writes that were applied
+
+abbrev pub write_asked : RequestBody → Option (ℕ × WriteOp)
+write_asked (asked.Lock req point g) = None
+write_asked (asked.Write number op) = Some (number, op)
+write_asked (asked.Release s keep) = None
+write_asked asked.Ack = None
+
+-- the write that a message asks for, by its number
+abbrev pub write_of : ToServerBody → Option (ℕ × WriteOp)
+write_of said.Hello = None
+write_of said.Bye = None
+write_of (said.Report epoch pieces) = None
+write_of (said.Request request) = write_asked request.body
+
+abbrev pub is_applied : Option Outcome → Bool
+is_applied None = false
+is_applied (Some outcome.Applied) = true
+is_applied (Some outcome.Exists) = false
+is_applied (Some outcome.Absent) = false
+is_applied (Some outcome.NotHeld) = false
+is_applied (Some outcome.Full) = false
+
+-- the write of this number was applied between these two records of its client
+abbrev pub was_applied : ℕ → Record → Record → Bool
+was_applied number before after = nat_lt before.last number && nat_eq after.last number && is_applied after.outcome
+
+abbrev pub applied_between : ToServer → ℕ → WriteOp → Option Record → Option Record → Option AppliedWrite
+applied_between m number op None after = None
+applied_between m number op (Some before) None = None
+applied_between m number op (Some before) (Some after) =
+    if was_applied number before after
+    then Some (record { client = m.client; incarnation = m.incarnation; number = number; op = op })
+    else None
+
+abbrev pub applied_of : ToServer → Option (ℕ × WriteOp) → Option Record → Option Record → Option AppliedWrite
+applied_of m None before after = None
+applied_of m (Some x) before after = applied_between m x.0 x.1 before after
+
+-- the write that was applied with this message, by its client's record before and after
+abbrev pub applied_by : ToServer → Option Record → Option Record → Option AppliedWrite
+applied_by m before after = applied_of m (write_of m.body) before after
+
+abbrev pub as_list : {A : Type 0} → Option A → List A
+as_list None = []
+as_list (Some a) = a ∷ []

@@ -1,0 +1,39 @@
+-- Runs that come to where something happens, so that what holds of all runs is not said in vain.
+use Rattle.std.specs.Prelude.{◌≡◌, true, [], ◌∷◌, None, Ok}
+use Rattle.std.specs.FinMap as map
+use Rattle.krl_modes.specs.declared.mode.Mode.TheVariants as mode
+use Rattle.krl_messages.specs.declared.holding.Holding.{Holding}
+use Rattle.krl_messages.specs.declared.outcome.Outcome.TheVariants as outcome
+use Rattle.krl_messages.specs.declared.write_op.WriteOp.TheVariants as write
+use Rattle.krl_messages.specs.declared.to_client.ToClientBody.TheVariants as heard
+use Rattle.krl_protocol.specs.Links.{In}
+use Rattle.krl_world.specs.declared.message.Message.TheVariants as message
+use Rattle.krl_world.specs.declared.step.Step.TheVariants as step
+use Rattle.krl_world.specs.declared.step.Command.TheVariants as command
+use Rattle.krl_world.specs.declared.answer.Answer.TheVariants as told
+use Rattle.krl_world.specs.States.{State, durable_of, index_of, is_serving}
+use Rattle.krl_world.specs.Steps.{span, Steps, IsReachable}
+use Rattle.krl_world.specs.Promises.{answer_message}
+
+-- a scan from a cache gives an entry
+abbrev pub ScansSomewhere : Type 0
+ScansSomewhere = (w : State) × IsReachable w × Steps w (step.Command 0 (command.Scan 0 11)) (Ok (told.Rows ((10, 1) ∷ []))) w
+
+-- a client was told that its insert is Applied, and it stands in the list of writes
+abbrev pub WritesSomewhere : Type 0
+WritesSomewhere = (w : State) × (h : Holding) × IsReachable w × In (answer_message 0 1 1 2 1 outcome.Applied h) w.sent
+    × (w.writes ≡ record { client = 0; incarnation = 1; number = 1; op = write.Insert 15 5 } ∷ [])
+
+-- one run through all this: a client that read a gap was called back; the server crashed, started again and serves with
+-- what its clients reported; and the client that got the gap alone deleted the key there, and was told Applied
+pub record HasComeThrough (w : State) : Type 0 where
+  pub reached : IsReachable w
+  pub called_back : In (message.ToClient (record { client = 0; incarnation = 1; body = heard.Callback 1 (span 0 11) mode.N })) w.sent
+  pub epoch : (durable_of w.server).epoch ≡ 2
+  pub serves : is_serving w.server ≡ true
+  pub told : (h : Holding) × In (answer_message 1 1 2 2 1 outcome.Applied h) w.sent
+  pub listed : w.writes ≡ record { client = 1; incarnation = 1; number = 1; op = write.Delete 10 } ∷ []
+  pub gone : map.get (index_of w) 10 ≡ None
+
+abbrev pub ComesThroughSomewhere : Type 0
+ComesThroughSomewhere = (w : State) × HasComeThrough w

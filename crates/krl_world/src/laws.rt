@@ -1,0 +1,77 @@
+//! What holds of every world: each function's contract is a law, and its body is empty.
+ghost use Rattle.krl_world.specs.States.{State};
+ghost use Rattle.krl_world.specs.Steps.{IsReachable};
+ghost use Rattle.krl_world.specs.Promises.{Headline};
+ghost use Rattle.krl_world.specs.Laws.{ReachableStays, NobodyAbove63};
+ghost use Rattle.krl_world.specs.Laws.{CanGoOn, ServesOn, GatheringsEnd};
+ghost use Rattle.krl_world.specs.Runs.{ScansSomewhere, WritesSomewhere, ComesThroughSomewhere};
+ghost use Rattle.krl_world.specs.Bounds.{Bound, HasBound, BoundIsTable};
+ghost use Rattle.krl_world.specs.Bounds.{IsBounded, HoldsOverRestarts};
+
+/// After every list of steps no two clients hold incompatible parts at one point, each scan that is
+/// answered from a cache is that range of the index, and each numbered write changed the index at
+/// most once, and once where its client was told Applied.
+pub fn headline()
+    ensures { (w : State) → IsReachable w → Headline w }
+{}
+
+/// Each run has a bound table.
+pub fn bound_of_a_run()
+    ensures { (w : State) → IsReachable w → (b : Bound) × HasBound w b }
+{}
+
+/// While a server serves, the bound table is the server's table.
+pub fn bound_is_the_table()
+    ensures { BoundIsTable }
+{}
+
+/// What clients believe, and what live pushes say, is within the bound table of each run; so is
+/// what a gathering server hears and rebuilds, no message has an epoch above the durable one, and
+/// no message alarms the server.
+pub fn within_the_bound()
+    ensures bounded { (w : State) (b : Bound) → HasBound w b → IsBounded w b }
+    ensures restarts { (w : State) (b : Bound) → HasBound w b → HoldsOverRestarts w b }
+{}
+
+/// The first world is reachable, and each step and run leaves a reachable one.
+pub fn stays_reachable()
+    ensures { ReachableStays }
+{}
+
+/// A client number above 63 holds N everywhere.
+pub fn nobody_above_63()
+    ensures { NobodyAbove63 }
+{}
+
+/// Each step that is not refused can be taken: it has an answer, and a world that it leaves.
+pub fn can_go_on()
+    ensures { (w : State) → IsReachable w → CanGoOn w }
+{}
+
+/// As long as the server does not crash, it serves.
+pub fn serves_on()
+    ensures { ServesOn }
+{}
+
+/// Nobody gets anything by a restart: the table of the server that serves when a gathering ends is
+/// at most the bound table until then, and at least what each client believes.
+pub fn gatherings_end()
+    ensures { GatheringsEnd }
+{}
+
+/// Some run comes to a world in which a scan from a cache gives an entry.
+pub fn scans_somewhere()
+    ensures { ScansSomewhere }
+{}
+
+/// Some run comes to a world in which a client was told that its insert is Applied, and it stands
+/// in the list of writes.
+pub fn writes_somewhere()
+    ensures { WritesSomewhere }
+{}
+
+/// Some run passes through a callback, a crash and a start of the server, Reports that are taken,
+/// and a delete that is Applied.
+pub fn comes_through_somewhere()
+    ensures { ComesThroughSomewhere }
+{}

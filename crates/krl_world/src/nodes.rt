@@ -1,0 +1,320 @@
+//! What a world keeps, and how each step changes it.
+ghost use Rattle.std.specs.Prelude.{◌≡◌, suc, ◌<◌, ℕ, length, slice_get, replicate};
+ghost use Rattle.std.specs.Prelude.{IfOk, MatchResult, Some};
+ghost use Rattle.std.specs.Option.{option_copied};
+ghost use Rattle.std.specs.FinMap as map;
+ghost use Rattle.krl_messages.specs.declared.to_server.ToServer.{ToServer};
+ghost use Rattle.krl_world.specs.declared.message.Message.TheVariants as sent_message;
+ghost use Rattle.krl_world.specs.declared.step.Step.TheVariants as steps;
+ghost use Rattle.krl_world.specs.States.{index_of, fresh, range_held, key_held};
+ghost use Rattle.krl_world.specs.Steps.{Steps, CanBegin, BeginsNot};
+ghost use Rattle.krl_world.specs.Fields.{meaning, server_up, kept_client, kept_nobody};
+
+use crate::answer::Answer;
+use crate::applied_write::AppliedWrite;
+use crate::message::Message;
+use crate::node::{Seat, ServerNode};
+use crate::refused::Refused;
+use crate::step::{Command, Step};
+use crate::{clients, serving};
+use krl_client::Client;
+use krl_durable::Durable;
+use krl_messages::{ToClient, Value};
+use krl_modes::{KeyPart, RangePart};
+use krl_server::{NotStarted, Server};
+use std::alloc::{AllocError, Global};
+use std::marker::Model;
+
+/// The server, the clients, every message ever sent, and the writes that were Applied.
+#[derive(Drop)]
+pub struct Nodes {
+    alloc: Global,
+    opening: Vec<(u64, Value)>,
+    // There is one but within a step that moves it.
+    server: Option<ServerNode>,
+    // By client number: 64.
+    seats: Vec<Seat>,
+    sent: Vec<Message>,
+    writes: Vec<AppliedWrite>,
+}
+
+impl Model for Nodes {
+    ghost use Rattle.std.specs.Coded.{codes};
+    ghost use Rattle.krl_world.specs.contracts.node.ServerNode as server_node;
+    ghost use Rattle.krl_world.specs.contracts.node.Seat as seat;
+    ghost use Rattle.krl_world.specs.contracts.message.Message as message;
+    ghost use Rattle.krl_world.specs.contracts.applied_write.AppliedWrite as applied_write;
+    ghost use Rattle.krl_world.specs.Fields.{Fields, server_there, AreThere};
+
+    ghost Value = { Fields };
+
+    ghost coded = { Prim.hlevel (
+      codes,
+      server_node.the_row.coded,
+      seat.the_row.coded,
+      message.the_row.coded,
+      applied_write.the_row.coded,
+    ) };
+
+    ghost view = { λ n. record {
+      opening = n.opening.items;
+      server = server_there n.server;
+      seats = n.seats.items;
+      sent = n.sent.items;
+      writes = n.writes.items;
+    } };
+
+    ghost invariant = { λ n. AreThere n.server n.seats.items };
+}
+
+/// The seats of 64 clients, none of which was ever started.
+fn seats_of_nobody(alloc: Global) -> Result<Vec<Seat>, AllocError>
+    ensures { IfOk result (λ seats. seats.items ≡ replicate 64 kept_nobody) }
+{
+    let mut seats = Vec::with_capacity(alloc, 64)?;
+    for _ in 0..64u64 {
+        seats.push(Seat::nobody())?;
+    }
+    Ok(seats)
+}
+
+impl Nodes {
+    /// A world with these entries, in which nothing has happened: its server runs, and no client.
+    pub(crate) fn new(alloc: Global, entries: Vec<(u64, Value)>) -> Result<Nodes, Refused>
+        ensures { MatchResult result
+            (λ w. CanBegin entries.items × (meaning w ≡ fresh entries.items))
+            (BeginsNot entries.items) }
+    {
+        let durable = Durable::new(alloc, entries.as_slice())?;
+        let server = match Server::start(alloc, durable) {
+            Ok(server) => server,
+            Err(_) => return Err(Refused::OutOfMemory),
+        };
+        let seats = seats_of_nobody(alloc)?;
+        Ok(Nodes {
+            alloc,
+            opening: entries,
+            server: Some(ServerNode::Up(server)),
+            seats,
+            sent: Vec::new(alloc),
+            writes: Vec::new(alloc),
+        })
+    }
+
+    /// One step.
+    pub(crate) fn step(&mut self, step: Step) -> Result<Answer, Refused>
+        ensures { Steps (meaning self.old) step result (meaning self.new) }
+    {
+        match step {
+            Step::Deliver(number) => self.deliver(number),
+            Step::Command(client, what) => self.command(client, what),
+            Step::Tick(client) => self.tick(client),
+            Step::Nudge(client) => self.nudge(client),
+            Step::StartClient(client) => self.start_client(client),
+            Step::CrashClient(client) => self.crash_client(client),
+            Step::StartServer => self.start_server(),
+            Step::CrashServer => self.crash_server(),
+        }
+    }
+
+    fn deliver(&mut self, number: u64) -> Result<Answer, Refused>
+        ensures { Steps (meaning self.old) (steps.Deliver number) result (meaning self.new) }
+    {
+        if number == 0 || number > self.sent.len() as u64 {
+            return Err(Refused::NoMessage);
+        }
+        let at = (number - 1) as usize;
+        match &self.sent[at] {
+            Message::ToServer(_) => self.deliver_to_server(at),
+            Message::ToClient(message) => {
+                let message = *message;
+                self.deliver_to_client(message)
+            }
+        }
+    }
+
+    fn deliver_to_server(&mut self, at: usize) -> Result<Answer, Refused>
+        requires { at < length self.old.sent }
+        ensures { (m : ToServer) → slice_get self.old.sent at ≡ Some (sent_message.ToServer m)
+            → Steps (meaning self.old) (steps.Deliver (suc at)) result (meaning self.new) }
+    {
+        let Some(node) = &mut self.server else {
+            return Ok(Answer::Done);
+        };
+        serving::arrive(self.alloc, node, &mut self.sent, &mut self.writes, at)?;
+        Ok(Answer::Done)
+    }
+
+    fn deliver_to_client(&mut self, message: ToClient) -> Result<Answer, Refused>
+        ensures { (at : ℕ) → slice_get self.old.sent at ≡ Some (sent_message.ToClient message)
+            → Steps (meaning self.old) (steps.Deliver (suc at)) result (meaning self.new) }
+    {
+        if message.client >= self.seats.len() as u64 {
+            return Ok(Answer::Done);
+        }
+        let Some(client) = &mut self.seats[message.client as usize].client else {
+            return Ok(Answer::Done);
+        };
+        clients::read(client, &mut self.sent, &message)?;
+        Ok(Answer::Done)
+    }
+
+    fn command(&mut self, number: u64, what: Command) -> Result<Answer, Refused>
+        ensures { Steps (meaning self.old) (steps.Command number what) result (meaning self.new) }
+    {
+        if number > 63 {
+            return Err(Refused::BadClient);
+        }
+        clients::obey(&mut self.seats[number as usize], &mut self.sent, what)
+    }
+
+    fn tick(&mut self, number: u64) -> Result<Answer, Refused>
+        ensures { Steps (meaning self.old) (steps.Tick number) result (meaning self.new) }
+    {
+        if number > 63 {
+            return Err(Refused::BadClient);
+        }
+        let Some(client) = &self.seats[number as usize].client else {
+            return Err(Refused::Down);
+        };
+        clients::tick(client, &mut self.sent)?;
+        Ok(Answer::Done)
+    }
+
+    fn nudge(&mut self, number: u64) -> Result<Answer, Refused>
+        ensures { Steps (meaning self.old) (steps.Nudge number) result (meaning self.new) }
+    {
+        if number > 63 {
+            return Err(Refused::BadClient);
+        }
+        let Some(node) = &self.server else {
+            return Err(Refused::Down);
+        };
+        let ServerNode::Up(server) = node else {
+            return Err(Refused::Down);
+        };
+        serving::nudge(self.alloc, server, &mut self.sent, number)?;
+        Ok(Answer::Done)
+    }
+
+    fn start_client(&mut self, number: u64) -> Result<Answer, Refused>
+        ensures { Steps (meaning self.old) (steps.StartClient number) result (meaning self.new) }
+    {
+        if number > 63 {
+            return Err(Refused::BadClient);
+        }
+        clients::start(
+            self.alloc,
+            &mut self.seats[number as usize],
+            &mut self.sent,
+            number,
+        )?;
+        Ok(Answer::Done)
+    }
+
+    fn crash_client(&mut self, number: u64) -> Result<Answer, Refused>
+        ensures { Steps (meaning self.old) (steps.CrashClient number) result (meaning self.new) }
+    {
+        if number > 63 {
+            return Err(Refused::BadClient);
+        }
+        match self.seats[number as usize].client.take() {
+            Some(_) => Ok(Answer::Done),
+            None => Err(Refused::Down),
+        }
+    }
+
+    fn start_server(&mut self) -> Result<Answer, Refused>
+        ensures { Steps (meaning self.old) steps.StartServer result (meaning self.new) }
+    {
+        match self.server.take() {
+            Some(ServerNode::Down(durable)) => match Server::start(self.alloc, durable) {
+                Ok(server) => {
+                    self.server = Some(ServerNode::Up(server));
+                    Ok(Answer::Done)
+                }
+                Err(NotStarted { refused, durable }) => {
+                    self.server = Some(ServerNode::Down(durable));
+                    Err(Refused::from(refused))
+                }
+            },
+            Some(ServerNode::Up(server)) => {
+                self.server = Some(ServerNode::Up(server));
+                Err(Refused::Running)
+            }
+            None => Err(Refused::Running),
+        }
+    }
+
+    fn crash_server(&mut self) -> Result<Answer, Refused>
+        ensures { Steps (meaning self.old) steps.CrashServer result (meaning self.new) }
+    {
+        match self.server.take() {
+            Some(ServerNode::Up(server)) => {
+                self.server = Some(ServerNode::Down(server.crash()));
+                Ok(Answer::Done)
+            }
+            Some(ServerNode::Down(durable)) => {
+                self.server = Some(ServerNode::Down(durable));
+                Err(Refused::Down)
+            }
+            None => Err(Refused::Down),
+        }
+    }
+
+    /// The entries of the index, in key order.
+    pub(crate) fn index(&self) -> &[(u64, Value)]
+        ensures { result.now ≡ map.entries (index_of (meaning self.now)) }
+    {
+        match &self.server {
+            Some(ServerNode::Up(server)) => server.durable().entries(),
+            Some(ServerNode::Down(durable)) => durable.entries(),
+            None => &[],
+        }
+    }
+
+    /// The server, where one runs.
+    pub(crate) fn server(&self) -> Option<&Server>
+        ensures { option_copied result ≡ server_up self.now.server }
+    {
+        match &self.server {
+            Some(ServerNode::Up(server)) => Some(server),
+            _ => None,
+        }
+    }
+
+    /// The writes that were Applied, oldest first.
+    pub(crate) fn writes(&self) -> &[AppliedWrite]
+        ensures { result.now ≡ self.now.writes }
+    {
+        self.writes.as_slice()
+    }
+
+    /// The client of this number, where one runs.
+    pub(crate) fn client(&self, number: u64) -> Option<&Client>
+        ensures { option_copied result ≡ kept_client self.now.seats number }
+    {
+        if number >= self.seats.len() as u64 {
+            return None;
+        }
+        self.seats[number as usize].client.as_ref()
+    }
+
+    /// What the client believes that it holds at the point.
+    pub(crate) fn held(&self, number: u64, point: u64) -> (RangePart, KeyPart)
+        ensures { let world = meaning self.now in
+            result ≡ (range_held world number point, key_held world number point) }
+    {
+        match self.client(number) {
+            Some(client) => client.held(point),
+            None => (RangePart::N, KeyPart::N),
+        }
+    }
+
+    /// How many messages were sent.
+    pub(crate) fn sent(&self) -> u64
+        ensures { result ≡ length self.now.sent }
+    {
+        self.sent.len() as u64
+    }
+}

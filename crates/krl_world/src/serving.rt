@@ -1,0 +1,138 @@
+//! What a server does, with all that was sent.
+ghost use Rattle.std.specs.Prelude.{◌≡◌, ◌<◌, ◌++◌, None, Some, length, slice_get, OnOk, OnErr};
+ghost use Rattle.krl_messages.specs.declared.to_server.ToServer.{ToServer};
+ghost use Rattle.krl_server.specs.States.{meaning};
+ghost use Rattle.krl_server.specs.Steps as steps;
+ghost use Rattle.krl_world.specs.declared.message.Message.TheVariants as sent_message;
+ghost use Rattle.krl_world.specs.States.{from_server};
+ghost use Rattle.krl_world.specs.Steps.{server_down};
+ghost use Rattle.krl_world.specs.Fields.{node_of};
+ghost use Rattle.krl_world.specs.Moves.{HasServed, HasArrived, write_of, was_applied, applied_by};
+
+use crate::applied_write::AppliedWrite;
+use crate::message::Message;
+use crate::node::ServerNode;
+use crate::sending::{MOST_OF_A_SERVER, send_to_clients};
+use krl_durable::Record;
+use krl_messages::{Outcome, Request, RequestBody, ToServer, ToServerBody, WriteOp};
+use krl_server::Server;
+use std::alloc::{AllocError, Global};
+
+/// The write that a message asks for, by its number.
+fn write_of(message: &ToServer) -> Option<(u64, WriteOp)>
+    ensures { result ≡ write_of message.now.body }
+{
+    match &message.body {
+        ToServerBody::Request(
+            Request {
+                body: RequestBody::Write { number, op },
+                ..
+            },
+        ) => Some((*number, *op)),
+        _ => None,
+    }
+}
+
+/// Whether the write of this number was applied between these two records of its client.
+fn was_applied(number: u64, before: Record, after: Record) -> bool
+    ensures { result ≡ was_applied number before after }
+{
+    before.last < number && after.last == number && after.outcome == Some(Outcome::Applied)
+}
+
+/// The write that the server applied with this message, where its client's record was this one
+/// before and is that one now.
+fn applied_by(
+    message: &ToServer,
+    before: Option<Record>,
+    after: Option<Record>,
+) -> Option<AppliedWrite>
+    ensures { result ≡ applied_by message.now before after }
+{
+    let (number, op) = write_of(message)?;
+    let before = before?;
+    let after = after?;
+    if was_applied(number, before, after) {
+        Some(AppliedWrite {
+            client: message.client,
+            incarnation: message.incarnation,
+            number,
+            op,
+        })
+    } else {
+        None
+    }
+}
+
+/// The server reads a message that was sent. A write that it applies is noted.
+fn read(
+    alloc: Global,
+    server: &mut Server,
+    sent: &mut Vec<Message>,
+    writes: &mut Vec<AppliedWrite>,
+    at: usize,
+) -> Result<(), AllocError>
+    requires { at < length sent.old.items }
+    ensures ok { OnOk result
+        ((m : ToServer) → slice_get sent.old.items at ≡ Some (sent_message.ToServer m)
+        → HasServed (meaning server.old) m (meaning server.new) sent.old.items sent.new.items
+        writes.old.items writes.new.items) }
+    ensures err { OnErr result
+        ((server.new ≡ server.old) × (sent.new.items ≡ sent.old.items)
+        × (writes.new.items ≡ writes.old.items)) }
+{
+    sent.reserve(MOST_OF_A_SERVER)?;
+    writes.reserve(1)?;
+    let Message::ToServer(message) = &sent[at] else {
+        return Ok(());
+    };
+    let before = server.durable().record(message.client);
+    let out = server.step(alloc, message)?;
+    let applied = applied_by(message, before, server.durable().record(message.client));
+    if let Some(write) = applied {
+        writes.push_reserved(write);
+    }
+    send_to_clients(sent, out.messages);
+    Ok(())
+}
+
+/// A message that was sent comes to the server, which reads it; one that is down loses it.
+pub(crate) fn arrive(
+    alloc: Global,
+    node: &mut ServerNode,
+    sent: &mut Vec<Message>,
+    writes: &mut Vec<AppliedWrite>,
+    at: usize,
+) -> Result<(), AllocError>
+    requires { at < length sent.old.items }
+    ensures ok { OnOk result
+        ((m : ToServer) → slice_get sent.old.items at ≡ Some (sent_message.ToServer m)
+        → HasArrived (node_of node.old) m (node_of node.new) sent.old.items sent.new.items
+        writes.old.items writes.new.items) }
+    ensures up { OnErr result (server_down (node_of node.old) ≡ None) }
+    ensures err { OnErr result
+        ((node.new ≡ node.old) × (sent.new.items ≡ sent.old.items)
+        × (writes.new.items ≡ writes.old.items)) }
+{
+    match node {
+        ServerNode::Up(server) => read(alloc, server, sent, writes, at),
+        ServerNode::Down(_) => Ok(()),
+    }
+}
+
+/// The server is nudged for a client.
+pub(crate) fn nudge(
+    alloc: Global,
+    server: &Server,
+    sent: &mut Vec<Message>,
+    client: u64,
+) -> Result<(), AllocError>
+    ensures ok { OnOk result
+        (sent.new.items ≡ sent.old.items ++ from_server (steps.nudge (meaning server.now) client)) }
+    ensures err { OnErr result (sent.new.items ≡ sent.old.items) }
+{
+    sent.reserve(MOST_OF_A_SERVER)?;
+    let messages = server.nudge(alloc, client)?;
+    send_to_clients(sent, messages);
+    Ok(())
+}
