@@ -1,7 +1,7 @@
 #!/bin/sh
 # What a script costs over a large index: 10,000 lines beside the first half of them, over 60,000 entries.
 #
-#   bench/world/run.sh [PROGRAM]    the program that ./krl builds, or another; needs bash; about a minute
+#   bench/world/run.sh [PROGRAM]    the program that ./krl builds, or another; needs bash; some minutes
 #
 # Each text has 10,000 lines, the first of which make its world:
 #
@@ -11,7 +11,7 @@
 #   scans       scans of 100 rows, of a client that knows 200 of them
 #   deliveries  messages that were sent before, again and in no order
 #
-# Each is run five times in a row, five times over; the least processor time, user and system, counts, less that of the
+# Each is run 20 times in a row, five times over; the least processor time, user and system, counts, less that of the
 # lines that make the world. A line gives the text, the milliseconds of the whole and of the half, and their ratio: near
 # 2 where a line costs the same wherever it stands. It stops where the half's transcript does not begin the whole's.
 set -eu
@@ -57,9 +57,9 @@ BEGIN {
     while (lines < 10000) say("deliver " 1 + (lines * 7919) % 600)
 }'
 
-# Gives the processor milliseconds of five runs of the text $1, whose output goes to $1.out.
-five() {
-    LC_ALL=C bash -c 'TIMEFORMAT="%3U %3S"; time for run in {1..5}; do "$1" script <"$2" >"$2.out"; done' \
+# Gives the processor milliseconds of 20 runs of the text $1, whose output goes to $1.out.
+twenty() {
+    LC_ALL=C bash -c 'TIMEFORMAT="%3U %3S"; time for run in {1..20}; do "$1" script <"$2" >"$2.out"; done' \
         bash "$program" "$work/$1" 2>&1 | awk '{ print ($1 + $2) * 1000 }'
 }
 
@@ -67,7 +67,7 @@ texts='locks puts inserts scans deliveries'
 for text in $texts; do
     for turn in 1 2 3 4 5; do
         for part in "$text" "$text.half" "$text.opening"; do
-            echo "$part $(five "$part")" >>"$work/times"
+            echo "$part $(twenty "$part")" >>"$work/times"
         done
     done
     size=$(wc -c <"$work/$text.half.out")
@@ -86,8 +86,8 @@ awk -v texts="$texts" '
         count = split(texts, text, " ")
         for (i = 1; i <= count; i++) {
             opening = least[text[i] ".opening"]
-            whole = (least[text[i]] - opening) / 5
-            half = (least[text[i] ".half"] - opening) / 5
-            printf "%-12s %10.2f %10.2f %8.2f %12.2f\n", text[i], whole, half, whole / half, opening / 5
+            whole = (least[text[i]] - opening) / 20
+            half = (least[text[i] ".half"] - opening) / 20
+            printf "%-12s %10.2f %10.2f %8.2f %12.2f\n", text[i], whole, half, whole / half, opening / 20
         }
     }' "$work/times"
