@@ -15,6 +15,14 @@ pub fn for_fault(fault: ScriptFault) -> &'static str {
     }
 }
 
+/// What to do about a fault of a random run, which has no text that could be wrong.
+pub fn for_random(fault: ScriptFault) -> &'static str {
+    match fault {
+        ScriptFault::Write => "see that standard output is open and has room",
+        _ => "nothing is written; free some memory",
+    }
+}
+
 fn for_syntax(what: SyntaxFault) -> &'static str {
     match what {
         SyntaxFault::TextTooLong => "no line was run; a script has at most 1,048,576 bytes",

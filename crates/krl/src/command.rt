@@ -1,6 +1,34 @@
 //! The words of the command line.
-use clap::{Command, Error};
-use std::alloc::Global;
+ghost use Rattle.std.specs.Prelude.{◌≤◌};
+ghost use Rattle.krl_modes.specs.declared.point.TheConstants.{END};
+ghost use Rattle.krl_script.specs.declared.random.TheConstants.{MAX_STEPS};
+
+use clap::builder::ValueParser;
+use clap::{Arg, ArgAction, ArgMatches, Command, Error};
+use krl_modes::END;
+use krl_script::MAX_STEPS;
+use std::alloc::{AllocError, Global};
+
+/// The options of a random run, in their ranges.
+#[derive(Clone, Copy)]
+pub struct RandomOptions {
+    /// What the run draws from.
+    pub seed: u64,
+    /// How many steps it takes.
+    pub steps: u64,
+    /// Whether it tells how far it is, wherever standard error goes.
+    pub progress: bool,
+    pub ghost in_range: { (seed ≤ END) × (1 ≤ steps) × (steps ≤ MAX_STEPS) },
+}
+
+/// What a command line asks for.
+#[derive(Clone, Copy)]
+pub enum Request {
+    /// A script from standard input.
+    Script,
+    /// A random run; None where its options are out of range, which clap refuses.
+    Random(Option<RandomOptions>),
+}
 
 const WORDS: &str = "\
 A script has one request a line, in words with spaces between them. A line that begins with #
@@ -26,10 +54,87 @@ is passed over.
   status C          prints client C's epoch, last push seen, last lock and last write
   missing           prints the clients that have not reported to the server
   index, writes     print the entries, and the writes that were applied
+  check             prints whether the clients hold what goes together: sound, or unsound and a
+                    point
   modes             prints which modes go together, and the joins of modes
 
 A number has 1 to 20 digits, or is END (the last point) or TOP (one past it). What the lines print
 goes to standard output. A line that can't be read ends the script with status 1.";
+
+const RANDOM: &str = "\
+A random run begins with the entries 10=1 and 20=2, and takes N steps that are drawn from the seed:
+four clients lock, write, scan, give back, start and stop, the server stops and starts, and messages
+come late, again or never. After each step the run looks whether every two clients hold what goes
+together at each point from 0 to 63, and whether the rows of a scan are those of the index. Then
+the line 'random SEED STEPS sound' is printed, and the status is 0. The same words give the same run.";
+
+// A number from `least` to `most` that has to be given.
+fn number<'a>(
+    alloc: Global,
+    name: &'a str,
+    range: &'a str,
+    least: u64,
+    most: u64,
+    help: &'a str,
+) -> Arg<'a> {
+    Arg::new(alloc, name)
+        .long(name)
+        .value_name(range)
+        .required(true)
+        .action(ArgAction::Set)
+        .value_parser(ValueParser::unsigned(least, most))
+        .help(help)
+}
+
+fn random_command<'a>(alloc: Global) -> Result<Command<'a>, AllocError> {
+    let seed = number(
+        alloc,
+        "seed",
+        "0 to 9223372036854775807",
+        0,
+        END,
+        "What the steps are drawn from",
+    );
+    let steps = number(
+        alloc,
+        "steps",
+        "1 to 100000",
+        1,
+        MAX_STEPS,
+        "How many steps are taken, refused ones too",
+    );
+    let progress = Arg::new(alloc, "progress")
+        .long("progress")
+        .action(ArgAction::SetTrue)
+        .help("Tell of every 10,000th step on standard error, also where it is no terminal");
+    Command::new(alloc, "random")
+        .about("Drive a world through steps that are drawn, and say whether it stayed sound")
+        .after_help(RANDOM)
+        .arg(seed)?
+        .arg(steps)?
+        .arg(progress)
+}
+
+// What clap found, which is in the ranges that it was told.
+fn random_options(matches: &ArgMatches) -> Option<RandomOptions> {
+    let seed = matches.get_one::<u64>("seed")?;
+    let steps = matches.get_one::<u64>("steps")?;
+    if seed > END || steps == 0 || steps > MAX_STEPS {
+        return None;
+    }
+    Some(RandomOptions {
+        seed,
+        steps,
+        progress: matches.get_flag("progress"),
+    })
+}
+
+fn request_of(matches: &ArgMatches) -> Request {
+    match matches.subcommand() {
+        Some(("random", options)) => Request::Random(random_options(options)),
+        _ => Request::Script,
+    }
+}
 
 /// Reads the words of a command line, the first of which is the program's name.
 ///
@@ -37,15 +142,17 @@ goes to standard output. A line that can't be read ends the script with status 1
 ///
 /// What clap says of words that it refuses, of `--help` and of `--version`; its kind is
 /// `OutOfMemory` where memory ran out.
-pub fn matches(alloc: Global, words: &[String]) -> Result<(), Error> {
+pub fn read(alloc: Global, words: &[String]) -> Result<Request, Error> {
     let script = Command::new(alloc, "script")
         .about("Run a script from standard input, and write its transcript to standard output")
         .after_help(WORDS);
+    let random = random_command(alloc)?;
     let command = Command::new(alloc, "krl")
         .version("0.1.0")
         .about("A key-range lock server with client range caches")
         .subcommand_required(true)
-        .subcommand(script)?;
-    let _ = command.try_get_matches_from(words)?;
-    Ok(())
+        .subcommand(script)?
+        .subcommand(random)?;
+    let matches = command.try_get_matches_from(words)?;
+    Ok(request_of(&matches))
 }

@@ -1,12 +1,17 @@
-//! The program: `krl script` runs a script that is read from standard input.
+//! The program: `krl script` runs a script that is read from standard input, and `krl random` drives
+//! a world through steps that are drawn.
 #![tactic(auto)]
 
 mod advice;
 mod command;
+mod progress;
 
 use clap::error::ErrorKind;
-use krl_script::{AnyReader, AnyWriter, ScriptFault, run_script};
+use command::{RandomOptions, Request};
+use krl_script::{AnyReader, AnyWriter, ScriptFault, random_run, run_script};
+use progress::Told;
 use std::io;
+use std::io::IsTerminal;
 use std::process::ExitCode;
 
 // The status of a command line that asks for no run.
@@ -23,8 +28,10 @@ fn run(rt: &HostRuntime) -> io::Result<ExitCode> {
         words => words?,
     };
     let words: Vec<String> = words.collect(rt.alloc())?;
-    match command::matches(rt.alloc(), words.as_slice()) {
-        Ok(()) => script(rt),
+    match command::read(rt.alloc(), words.as_slice()) {
+        Ok(Request::Script) => script(rt),
+        Ok(Request::Random(Some(options))) => random(rt, &options),
+        Ok(Request::Random(None)) => Ok(ExitCode::from(USAGE)),
         Err(error) if error.kind() == ErrorKind::OutOfMemory => {
             Err(io::Error::from(io::ErrorKind::OutOfMemory))
         }
@@ -43,6 +50,27 @@ fn script<R: Print + Eprint + Input + AllocGlobal>(rt: &R) -> io::Result<ExitCod
         Ok(()) => Ok(ExitCode::SUCCESS),
         Err(fault) => {
             report(rt, fault)?;
+            Ok(ExitCode::from(1))
+        }
+    }
+}
+
+// Takes the steps of a random run, and prints whether all was sound.
+fn random(rt: &HostRuntime, options: &RandomOptions) -> io::Result<ExitCode> {
+    let is_told = options.progress || rt.stderr().is_terminal();
+    let mut progress = Told::new(rt, is_told, options.steps);
+    let mut writer = AnyWriter(io::writer(rt));
+    match random_run(
+        rt.alloc(),
+        &mut writer,
+        &mut progress,
+        options.seed,
+        options.steps,
+    ) {
+        Ok((_, true)) => Ok(ExitCode::SUCCESS),
+        Ok((_, false)) => Ok(ExitCode::from(1)),
+        Err(fault) => {
+            eprintln!(rt; "krl: {fault} ({})", advice::for_random(fault))?;
             Ok(ExitCode::from(1))
         }
     }

@@ -21,7 +21,9 @@ Shown k after ms = (s : Shared) (l : Link) (c g : ℕ) → ShowsSeat c g (Some k
 
 -- a client starts
 abbrev pub StartShows : Type 0
-StartShows = (s : Shared) (l : Link) (c g : ℕ) → ShowsSeat c g None l → Leads s l c (suc g) (Some (begun c (suc g))) (says_hello (begun c (suc g)) ∷ [])
+StartShows =
+    (s : Shared) (l : Link) (c g : ℕ) → ShowsSeat c g None l →
+    Leads s l c (suc g) (Some (begun c (suc g))) (says_hello (begun c (suc g)) ∷ [])
 
 -- it crashes
 abbrev pub CrashShows : Type 0
@@ -29,10 +31,13 @@ CrashShows = (k : Client) → Shown k None []
 
 -- it obeys a command that it doesn't refuse
 pub record CommandsShow : Type 0 where
-  pub lock : (k : Client) (point : ℕ) (mode : Mode) → lock_refusal k point ≡ None → Shown k (Some (locked k point mode)) (says_lock (locked k point mode) point mode ∷ [])
-  pub write : (k : Client) (change : WriteOp) → write_refusal k change ≡ None → Shown k (Some (wrote k change)) (says_write (wrote k change) change ∷ [])
+  pub lock : (k : Client) (point : ℕ) (mode : Mode) → lock_refusal k point ≡ None →
+      Shown k (Some (locked k point mode)) (says_lock (locked k point mode) point mode ∷ [])
+  pub write : (k : Client) (change : WriteOp) → write_refusal k change ≡ None →
+      Shown k (Some (wrote k change)) (says_write (wrote k change) change ∷ [])
   pub scan : (k : Client) → Shown k (Some k) []
-  pub forget : (k : Client) (span : Bounds) → forget_refusal k span ≡ None → Shown k (Some (forgot k span)) (says_release k span mode.N ∷ [])
+  pub forget : (k : Client) (span : Bounds) → forget_refusal k span ≡ None →
+      Shown k (Some (forgot k span)) (says_release k span mode.N ∷ [])
   pub pin : (k : Client) (span : Bounds) (id : ℕ) → Shown k (Some (pinned k span id)) []
   pub unpin : (k : Client) (id : ℕ) → Shown k (Some (unpinned k id)) []
   pub leave : (k : Client) → Shown k None (says_bye k ∷ [])
@@ -43,4 +48,7 @@ TicksShow = (k : Client) (ps : Pieces) → Describes ps k.belief → Shown k (So
 
 -- a message of the client's number that stands in the link
 abbrev pub MessagesShow : Type 0
-MessagesShow = (k : Client) (ps : Pieces) (m : ToClient) → Describes ps k.belief → (s : Shared) (l : Link) (c g : ℕ) → ShowsSeat c g (Some k) l → (m.client ≡ c → IsTo l m.incarnation m.body) → Leads s l c g (Some (after k (case_of k m))) (sends ps k (case_of k m))
+MessagesShow =
+    (k : Client) (ps : Pieces) (m : ToClient) → Describes ps k.belief → (s : Shared) (l : Link) (c g : ℕ) →
+    ShowsSeat c g (Some k) l → (m.client ≡ c → IsTo l m.incarnation m.body) →
+    Leads s l c g (Some (after k (case_of k m))) (sends ps k (case_of k m))

@@ -26,7 +26,8 @@ IsNoMode r k = ((r ≡ range.S) × (k ≡ key.N)) ⊎ (((r ≡ range.S) × (k �
 pub record IsLeastModeAbove (r : RangePart) (k : KeyPart) (bound : Mode) : Type 0 where
   pub above_range : IsTrue (range_at_most r (range_of bound))
   pub above_key : IsTrue (key_at_most k (key_of bound))
-  pub least : (m : Mode) → IsTrue (range_at_most r (range_of m)) → IsTrue (key_at_most k (key_of m)) → IsTrue (at_most bound m)
+  pub least : (m : Mode) → IsTrue (range_at_most r (range_of m)) → IsTrue (key_at_most k (key_of m)) →
+      IsTrue (at_most bound m)
 
 -- the bound is compatible with q, and each mode that is compatible with q is at most the bound
 pub record IsGreatestBeside (q bound : Mode) : Type 0 where

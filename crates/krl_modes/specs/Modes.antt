@@ -121,7 +121,8 @@ mode_name mode.RangeXX = codes "RangeX-X"
 -- every mode, in the order of the tables
 abbrev pub all_modes : List Mode
 all_modes =
-    mode.N ∷ mode.S ∷ mode.U ∷ mode.X ∷ mode.RangeSS ∷ mode.RangeSU ∷ mode.RangeIN ∷ mode.RangeIS ∷ mode.RangeIU ∷ mode.RangeIX ∷ mode.RangeXS ∷ mode.RangeXU
+    mode.N ∷ mode.S ∷ mode.U ∷ mode.X ∷ mode.RangeSS ∷ mode.RangeSU ∷ mode.RangeIN ∷ mode.RangeIS ∷ mode.RangeIU ∷
+    mode.RangeIX ∷ mode.RangeXS ∷ mode.RangeXU
     ∷ mode.RangeXX ∷ []
 
 -- the mode of this name

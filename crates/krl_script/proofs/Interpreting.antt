@@ -21,7 +21,7 @@ on_ok P Q f (Ok x) h = f x h
 on_ok P Q f (Err e) h = h
 
 -- all that a world sent is counted
-sent_is : (w : world.Fields) → length w.sent ≡ sent_count (world.meaning w)
+pub sent_is : (w : world.Fields) → length w.sent ≡ sent_count (world.meaning w)
 unfolding sent_count
 sent_is w = refl
 

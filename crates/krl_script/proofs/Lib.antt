@@ -1,7 +1,9 @@
 pub mod Digits
 pub mod PairsLemmas
 pub mod LinesLemmas
+pub mod SoundnessLemmas
 pub mod WaitingLemmas
 pub mod SomeSteps
 pub mod Runs
 pub mod Interpreting
+pub mod RandomLemmas

@@ -1,7 +1,10 @@
 pub mod Limits
 pub mod Words
+pub mod Soundness
 pub mod Printing
 pub mod Waiting
 pub mod Transcripts
+pub mod Draws
 pub mod Fields
 pub mod Runs
+pub mod RandomRuns

@@ -29,6 +29,7 @@ use Rattle.krl_world.specs.declared.refused.Refused.{Refused}
 use Rattle.krl_world.specs.declared.refused.Refused.TheVariants as refused
 use Rattle.krl_script.specs.declared.request.Show.{Show}
 use Rattle.krl_script.specs.declared.request.Show.TheVariants as show
+use Rattle.krl_script.specs.Soundness.{unsound_point}
 use Rattle.krl_script.specs.declared.fault.SyntaxFault.{SyntaxFault}
 use Rattle.krl_script.specs.declared.fault.SyntaxFault.TheVariants.{TextTooLong, TooManyLines, LineTooLong, UnknownWord, MissingArgument, ExtraArgument, BadNumber, BadPair, BadMode, LateSeed}
 
@@ -131,6 +132,11 @@ applied_text w =
 abbrev pub writes_line : List AppliedWrite → List ℕ
 writes_line writes = line_of (codes "writes" ++ flat_map applied_text writes)
 
+-- the line of whether clients hold what goes together, or the least point at which two do not
+abbrev pub check_line : Option ℕ → List ℕ
+check_line None = line_of (codes "sound")
+check_line (Some p) = line_of (codes "unsound " ++ decimal p)
+
 -- the line of what is read of a world
 abbrev pub shown_lines : State → Show → List ℕ
 shown_lines w (show.Hold c p) = hold_line c p (range_held w c p) (key_held w c p)
@@ -138,6 +144,7 @@ shown_lines w (show.Status c) = status_line c (client_of w c)
 shown_lines w show.Missing = missing_line w.server
 shown_lines w show.Index = index_line (index_of w)
 shown_lines w show.Writes = writes_line w.writes
+shown_lines w show.Check = check_line (unsound_point w)
 
 -- the published modes, in the order of the tables
 abbrev pub published : List Mode

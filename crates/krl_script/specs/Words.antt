@@ -104,6 +104,7 @@ alone_text alone.Drop = codes "drop"
 alone_text alone.Missing = codes "missing"
 alone_text alone.Index = codes "index"
 alone_text alone.Writes = codes "writes"
+alone_text alone.Check = codes "check"
 alone_text alone.Modes = codes "modes"
 
 abbrev pub single_text : Single → List ℕ
@@ -143,7 +144,8 @@ abbrev pub all_words : List Word
 all_words =
     word.Seed ∷ word.Lock ∷ word.Crash ∷ word.Start
     ∷ word.Alone alone.Settle ∷ word.Alone alone.Drop ∷ word.Alone alone.Missing
-    ∷ word.Alone alone.Index ∷ word.Alone alone.Writes ∷ word.Alone alone.Modes
+    ∷ word.Alone alone.Index ∷ word.Alone alone.Writes ∷ word.Alone alone.Check
+    ∷ word.Alone alone.Modes
     ∷ word.Single single.Fill ∷ word.Single single.Client ∷ word.Single single.Leave
     ∷ word.Single single.Tick ∷ word.Single single.Nudge ∷ word.Single single.Deliver
     ∷ word.Single single.Next ∷ word.Single single.Status
@@ -162,6 +164,7 @@ alone_request alone.Drop = request.Drop
 alone_request alone.Missing = request.Show show.Missing
 alone_request alone.Index = request.Show show.Index
 alone_request alone.Writes = request.Show show.Writes
+alone_request alone.Check = request.Show show.Check
 alone_request alone.Modes = request.Modes
 
 -- what a word asks for with one number

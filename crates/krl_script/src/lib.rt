@@ -1,17 +1,20 @@
 //! A script is read whole, and then run line by line against a world. What is written is its
-//! transcript.
+//! transcript. A random run drives a world through steps that are drawn from a seed.
 #![tactic(auto)]
 
 mod delivery;
+mod draws;
 mod fault;
 mod interpreter;
 mod limits;
 mod lines;
 mod parse;
 mod print;
+mod random;
 mod request;
 mod run;
 mod shown;
+mod soundness;
 mod source;
 mod transfer;
 mod waiting;
@@ -19,5 +22,6 @@ mod word;
 
 pub use fault::{ScriptFault, SyntaxFault};
 pub use limits::{MAX_DELIVERIES, MAX_LINE, MAX_LINES, MAX_TEXT, MAX_TURNS};
+pub use random::{MAX_STEPS, Progress, Untold, random_run};
 pub use run::run_script;
 pub use source::{AnyReader, AnyWriter, Sink, Source};

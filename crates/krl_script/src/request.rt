@@ -50,6 +50,8 @@ pub enum Show {
     Index,
     /// The writes that were applied.
     Writes,
+    /// Whether what clients hold goes together.
+    Check,
 }
 
 /// What a line asks for.

@@ -5,10 +5,12 @@ ghost use Rattle.krl_client.specs.Clients as clients;
 ghost use Rattle.krl_client.specs.Fields as client_fields;
 ghost use Rattle.krl_world.specs.States.{client_of};
 ghost use Rattle.krl_world.specs.Fields as world_fields;
-ghost use Rattle.krl_script.specs.Printing.{line_of, row_text, hold_line, lock_text, outcome_name, write_text, status_text, state_line, status_line, number_text, list_line, missing_line, index_line, applied_text, writes_line, shown_lines};
+ghost use Rattle.krl_script.specs.Printing.{line_of, row_text, hold_line, lock_text, outcome_name, write_text, status_text, state_line, status_line, number_text, list_line, missing_line, index_line, applied_text, writes_line, check_line, shown_lines};
+ghost use Rattle.krl_script.specs.Soundness.{unsound_point};
 
 use crate::print::{push_rows, refused};
 use crate::request::Show;
+use crate::soundness::unsound_point;
 use krl_client::{LockStatus, Status, WriteStatus};
 use krl_messages::{Outcome, Value};
 use krl_modes::{END, KeyPart, RangePart};
@@ -164,6 +166,17 @@ fn writes(alloc: Global, writes: &[AppliedWrite]) -> Result<String, AllocError>
     Ok(line)
 }
 
+// The line of whether clients hold what goes together.
+fn check(alloc: Global, world: &World) -> Result<String, AllocError>
+    ensures { IfOk result (λ line.
+        line.bytes.items ≡ check_line (unsound_point (world_fields.meaning world.now))) }
+{
+    match unsound_point(world) {
+        None => format!(in alloc; "sound\n"),
+        Some(point) => format!(in alloc; "unsound {point}\n"),
+    }
+}
+
 /// The line of what is read of a world.
 pub fn line(alloc: Global, world: &World, what: Show) -> Result<String, AllocError>
     ensures { IfOk result (λ line.
@@ -178,5 +191,6 @@ pub fn line(alloc: Global, world: &World, what: Show) -> Result<String, AllocErr
         Show::Missing => server(alloc, world),
         Show::Index => index(alloc, world.index()),
         Show::Writes => writes(alloc, world.writes()),
+        Show::Check => check(alloc, world),
     }
 }

@@ -14,6 +14,7 @@ pub enum Alone {
     Missing,
     Index,
     Writes,
+    Check,
     Modes,
 }
 
@@ -28,6 +29,7 @@ impl Alone {
             Alone::Missing => "missing",
             Alone::Index => "index",
             Alone::Writes => "writes",
+            Alone::Check => "check",
             Alone::Modes => "modes",
         }
     }
@@ -42,6 +44,7 @@ impl Alone {
             Alone::Missing => Request::Show(Show::Missing),
             Alone::Index => Request::Show(Show::Index),
             Alone::Writes => Request::Show(Show::Writes),
+            Alone::Check => Request::Show(Show::Check),
             Alone::Modes => Request::Modes,
         }
     }
@@ -201,7 +204,7 @@ pub enum Word {
 }
 
 // Every word.
-static WORDS: [Word; 26] = [
+static WORDS: [Word; 27] = [
     Word::Seed,
     Word::Lock,
     Word::Crash,
@@ -211,6 +214,7 @@ static WORDS: [Word; 26] = [
     Word::Alone(Alone::Missing),
     Word::Alone(Alone::Index),
     Word::Alone(Alone::Writes),
+    Word::Alone(Alone::Check),
     Word::Alone(Alone::Modes),
     Word::Single(Single::Fill),
     Word::Single(Single::Client),

@@ -38,7 +38,8 @@ next_turn s = turn_among s (slots s.durable.index)
 
 -- the waiter is told that there is no entry
 abbrev pub tells_absent : Server → Turn → Done
-tells_absent s t = pushes (with_rows s (dropped s.rows t.slot)) t.waiter.client (push.Absent t.waiter.req t.waiter.point)
+tells_absent s t =
+    pushes (with_rows s (dropped s.rows t.slot)) t.waiter.client (push.Absent t.waiter.req t.waiter.point)
 
 -- the waiter is granted what it wants: first the row is raised, then the push is made from it
 abbrev pub grants : Server → Turn → Done
@@ -52,4 +53,5 @@ take_turn s t = if asks_absent s.durable.index t.waiter then tells_absent s t el
 -- one answer after another, until no first waiter is answerable
 pub data Answered : Server → Server → List ToClient → Type 0 where
   stops : (s : Server) → next_turn s ≡ None → Answered s s []
-  goes_on : (s t : Server) (turn : Turn) (outs : List ToClient) → next_turn s ≡ Some turn → Answered (take_turn s turn).server t outs → Answered s t ((take_turn s turn).outs ++ outs)
+  goes_on : (s t : Server) (turn : Turn) (outs : List ToClient) → next_turn s ≡ Some turn →
+      Answered (take_turn s turn).server t outs → Answered s t ((take_turn s turn).outs ++ outs)

@@ -58,7 +58,8 @@ case_of_write s c r number op =
 -- the request numbers: new, from a client that doesn't wait, or passed over
 abbrev pub case_of_lock : Server → ℕ → ℕ → ℕ → Mode → Case
 case_of_lock s c req point g =
-    if nat_eq req (suc (s.lines c).asked) && (not (waits s.durable.index s.rows c) && not (nat_lt END point)) then Waits req point g else Hears
+    if nat_eq req (suc (s.lines c).asked) && (not (waits s.durable.index s.rows c) && not (nat_lt END point))
+    then Waits req point g else Hears
 
 abbrev pub case_of_request : Server → ℕ → Record → RequestBody → Case
 case_of_request s c r (asked.Lock req point g) = case_of_lock s c req point g
@@ -73,18 +74,23 @@ case_of_late seen pushed (Some body) = if nat_eq (suc seen) pushed then Repeats 
 
 abbrev pub case_of_seen : Server → ℕ → Record → Request → Case
 case_of_seen s c r request =
-    if nat_eq request.seen (s.lines c).pushed then case_of_request s c r request.body else case_of_late request.seen (s.lines c).pushed (s.lines c).unheard
+    if nat_eq request.seen (s.lines c).pushed then case_of_request s c r request.body
+    else case_of_late request.seen (s.lines c).pushed (s.lines c).unheard
 
 abbrev pub case_of_report : Server → ℕ → Pieces → Case
-case_of_report s c pieces = if lists s.missing c then (if conflicts s.durable.index s.rows c pieces then Alarms else Rebuilds pieces) else Ignored
+case_of_report s c pieces =
+    if lists s.missing c then (if conflicts s.durable.index s.rows c pieces then Alarms else Rebuilds pieces)
+    else Ignored
 
 -- of the registered incarnation, which has not left
 abbrev pub case_of_body : Server → ℕ → Record → ToServerBody → Case
 case_of_body s c r said.Hello = Tells
 case_of_body s c r said.Bye = Leaves
-case_of_body s c r (said.Report epoch pieces) = if nat_eq epoch s.durable.epoch then case_of_report s c pieces else Tells
+case_of_body s c r (said.Report epoch pieces) =
+    if nat_eq epoch s.durable.epoch then case_of_report s c pieces else Tells
 case_of_body s c r (said.Request request) =
-    if nat_eq request.epoch s.durable.epoch then (if is_gathering s.missing then Ignored else case_of_seen s c r request) else Tells
+    if nat_eq request.epoch s.durable.epoch
+    then (if is_gathering s.missing then Ignored else case_of_seen s c r request) else Tells
 
 -- of an incarnation above the registered one, or where none is registered
 abbrev pub case_of_newer : ToServerBody → Case

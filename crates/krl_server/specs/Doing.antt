@@ -59,7 +59,8 @@ pub record HasAnswered (s t : Server) (old new : Sent) : Type 0 where
 
 -- the callback to the client d for the waiter u of the slot n, if d blocks it
 abbrev pub callback_if : Server → ℕ → Waiter → ℕ → List ToClient
-callback_if s n u d = if is_beside s n u d then [] else callback_to s d (span_of s.durable.index n) (cap (wanted (s.rows n) u)) ∷ []
+callback_if s n u d =
+    if is_beside s n u d then [] else callback_to s d (span_of s.durable.index n) (cap (wanted (s.rows n) u)) ∷ []
 
 -- the callbacks for a slot's waiter, if there is one
 abbrev pub calls_of_first : Server → Option (ℕ × Waiter) → List ToClient
@@ -86,7 +87,8 @@ calls_after left t = if does_call left then callbacks t else []
 pub data Finished (s : Server) (left : After) : Server → List ToClient → Type 0 where
   rests : does_answer left ≡ false → Finished s left s []
   gathered : is_gathering s.missing ≡ true → Finished s left s []
-  served : (t : Server) (answers : List ToClient) → does_answer left ≡ true → is_gathering s.missing ≡ false → Answered s t answers → Finished s left t (answers ++ calls_after left t)
+  served : (t : Server) (answers : List ToClient) → does_answer left ≡ true → is_gathering s.missing ≡ false →
+      Answered s t answers → Finished s left t (answers ++ calls_after left t)
 
 pub record HasFinished (s : Server) (left : After) (t : Server) (old new : Sent) : Type 0 where
   pub outs : List ToClient

@@ -130,7 +130,10 @@ writes s c op o = record s { durable = applied s.durable c op o; rows = rows_aft
 abbrev pub pushes : Server → ℕ → PushBody → Done
 pushes s c body =
     if nat_lt (s.lines c).pushed END
-    then record { server = with_line s c (record (s.lines c) { pushed = suc (s.lines c).pushed; unheard = Some body }); outs = push_to s c (suc (s.lines c).pushed) body ∷ [] }
+    then record {
+      server = with_line s c (record (s.lines c) { pushed = suc (s.lines c).pushed; unheard = Some body });
+      outs = push_to s c (suc (s.lines c).pushed) body ∷ [];
+    }
     else silent s
 
 -- a write is answered, with the client's present holding on the slot of its key
@@ -139,7 +142,8 @@ answers s c number op o = pushes s c (push.Answer number o (holding s (slot_of s
 
 abbrev pub effect : Server → ToServer → Case → Done
 effect s m Ignored = silent s
-effect s m Registers = let t = registers s m.client m.incarnation in record { server = t; outs = epoch_to t m.client ∷ [] }
+effect s m Registers =
+    let t = registers s m.client m.incarnation in record { server = t; outs = epoch_to t m.client ∷ [] }
 effect s m Leaves = silent (departs s m.client)
 effect s m Tells = record { server = s; outs = epoch_to s m.client ∷ [] }
 effect s m Alarms = silent s
@@ -147,6 +151,7 @@ effect s m (Rebuilds pieces) = silent (adopts s m.client pieces)
 effect s m (Repeats body) = record { server = s; outs = push_to s m.client (s.lines m.client).pushed body ∷ [] }
 effect s m Hears = silent (heard s m.client)
 effect s m (Lowers span keep) = silent (lowers (heard s m.client) m.client span keep)
-effect s m (Waits req point g) = silent (queues (heard s m.client) (record { client = m.client; req = req; point = point; mode = g }))
+effect s m (Waits req point g) =
+    silent (queues (heard s m.client) (record { client = m.client; req = req; point = point; mode = g }))
 effect s m (Judges number op o) = answers (writes (heard s m.client) m.client op o) m.client number op o
 effect s m (AnswersAgain number op o) = answers (heard s m.client) m.client number op o

@@ -12,7 +12,8 @@ pub record Server : Type 0 where
   pub durable : Durable
   pub rows : Rows
   pub lines : ℕ → Line  -- by client
-  pub missing : List ℕ  -- who was registered at the start, and has since neither reported, nor registered anew, nor left
+  -- who was registered at the start, and has since neither reported, nor registered anew, nor left
+  pub missing : List ℕ
 
 abbrev pub blank_line : Line
 blank_line = record { pushed = 0; unheard = None; asked = 0 }

@@ -60,9 +60,11 @@ is_applied outcome.Absent = false
 is_applied outcome.NotHeld = false
 is_applied outcome.Full = false
 
--- the machine has one push for an answer to a write, where applied says how it was judged, and for a grant, which answers no write
+-- the machine has one push for an answer to a write, where applied says how it was judged, and for a grant, which
+-- answers no write
 abbrev pub push_with : ℕ → ℕ → ℕ → ℕ → Bool → List Holding → links.Push
-push_with inc epoch number answers applied hs = record { inc = inc; epoch = epoch; number = number; answers = answers; applied = applied; says = said_by hs }
+push_with inc epoch number answers applied hs =
+    record { inc = inc; epoch = epoch; number = number; answers = answers; applied = applied; says = said_by hs }
 
 abbrev pub push_of : ℕ → ℕ → ℕ → PushBody → links.Push
 push_of inc epoch number (push.Grant req h) = push_with inc epoch number 0 false (h ∷ [])
@@ -75,7 +77,8 @@ range_said [] q = range.N
 range_said (x ∷ xs) q = if contains x.span q then range_join x.part (range_said xs q) else range_said xs q
 
 abbrev pub report_of : ℕ → ℕ → Pieces → links.Report
-report_of inc epoch pieces = record { inc = inc; epoch = epoch; range = range_said pieces.ranges; key = reported_key pieces.keys }
+report_of inc epoch pieces =
+    record { inc = inc; epoch = epoch; range = range_said pieces.ranges; key = reported_key pieces.keys }
 
 -- Messages in a link
 
@@ -87,7 +90,9 @@ IsWhole span = span.lo < span.hi
 abbrev pub RequestStands : Link → Head → RequestBody → Type 0
 RequestStands l a (asked.Lock req point g) = Unit {0}
 RequestStands l a (asked.Write number op) = In (record { head = a; number = number; op = op_of op }) l.writes
-RequestStands l a (asked.Release span keep) = IsWhole span × In (record { head = a; lo = span.lo; last = last_of span; range = range_of keep; key = key_of keep }) l.releases
+RequestStands l a (asked.Release span keep) =
+    IsWhole span
+    × In (record { head = a; lo = span.lo; last = last_of span; range = range_of keep; key = key_of keep }) l.releases
 RequestStands l a asked.Ack = Unit {0}
 
 abbrev pub head_of : ℕ → Request → Head
@@ -97,8 +102,10 @@ head_of inc request = record { inc = inc; epoch = request.epoch; seen = request.
 abbrev pub Stands : Link → ℕ → ToServerBody → Type 0
 Stands l inc said.Hello = In inc l.hellos
 Stands l inc said.Bye = In inc l.byes
-Stands l inc (said.Report epoch pieces) = In (report_of inc epoch pieces) l.reports × AllByRecursion (λ x. IsWhole x.span) pieces.ranges
-Stands l inc (said.Request request) = In (head_of inc request) l.heads × RequestStands l (head_of inc request) request.body
+Stands l inc (said.Report epoch pieces) =
+    In (report_of inc epoch pieces) l.reports × AllByRecursion (λ x. IsWhole x.span) pieces.ranges
+Stands l inc (said.Request request) =
+    In (head_of inc request) l.heads × RequestStands l (head_of inc request) request.body
 
 -- what a client may rely on in a push
 abbrev pub IsTold : PushBody → Type 0
@@ -129,10 +136,17 @@ view s = view_of s.durable (machine_phase s.missing)
 -- what a link has of the client's record. Before the first write there is no outcome
 abbrev pub IsRecord : Option Record → Link → Type 0
 IsRecord None l = record { reg : l.reg ≡ 0; left : l.left ≡ false; done : l.done ≡ 0 }
-IsRecord (Some r) l = record { reg : l.reg ≡ r.incarnation; left : l.left ≡ r.left; done : l.done ≡ r.last; applied : (o : Outcome) → r.outcome ≡ Some o → l.applied ≡ is_applied o }
+IsRecord (Some r) l = record {
+  reg : l.reg ≡ r.incarnation;
+  left : l.left ≡ r.left;
+  done : l.done ≡ r.last;
+  applied : (o : Outcome) → r.outcome ≡ Some o → l.applied ≡ is_applied o;
+}
 
--- what a link has of the server, by the shared part, the client's record, whether it is missing, its line, and its parts at each point
-pub record LinkIs (s : Shared) (of : Option Record) (is_missing : Bool) (line : Line) (range_part : ℕ → RangePart) (key_part : ℕ → KeyPart) (l : Link) : Type 0 where
+-- what a link has of the server, by the shared part, the client's record, whether it is missing, its line, and its
+-- parts at each point
+pub record LinkIs (s : Shared) (of : Option Record) (is_missing : Bool) (line : Line)
+    (range_part : ℕ → RangePart) (key_part : ℕ → KeyPart) (l : Link) : Type 0 where
   pub known : IsRecord of l
   pub missing : l.missing ≡ is_missing
   pub pushed : l.pushed ≡ line.pushed
@@ -144,7 +158,9 @@ pub record LinkIs (s : Shared) (of : Option Record) (is_missing : Bool) (line : 
   pub new_key : s.phase ≡ links.Gathering → (q : ℕ) → l.new_key q ≡ key_part q
 
 abbrev pub LinkShows : Server → ℕ → Link → Type 0
-LinkShows s c l = LinkIs (view s) (record_of s.durable.register c) (lists s.missing c) (s.lines c) (range_at s.durable.index s.rows c) (key_at s.durable.index s.rows c) l
+LinkShows s c l =
+    LinkIs (view s) (record_of s.durable.register c) (lists s.missing c) (s.lines c)
+    (range_at s.durable.index s.rows c) (key_at s.durable.index s.rows c) l
 
 -- a message of the registered incarnation in this epoch stands in the link, and the client has not left
 abbrev pub IsHeardOf : Shared → Link → Type 0
@@ -179,12 +195,16 @@ logged m (Repeats body) log = log
 logged m Hears log = log
 logged m (Lowers span keep) log = log
 logged m (Waits req point g) log = log
-logged m (Judges number op o) log = if is_applied o then record { client = m.client; wrote = record { inc = m.incarnation; number = number; op = op_of op } } ∷ log else log
+logged m (Judges number op o) log =
+    if is_applied o
+    then record { client = m.client; wrote = record { inc = m.incarnation; number = number; op = op_of op } } ∷ log
+    else log
 logged m (AnswersAgain number op o) log = log
 
 -- Of every server
 
--- keys lie below END, nobody past the last client holds anything, each waiter is a client's and stands at the slot of its point
+-- keys lie below END, nobody past the last client holds anything, each waiter is a client's and stands at the slot of
+-- its point
 pub record IsSound (s : Server) : Type 0 where
   pub near : (q : ℕ) → END ≤ q → map.get s.durable.index q ≡ None
   pub begun : 1 ≤ s.durable.epoch

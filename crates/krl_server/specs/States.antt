@@ -30,7 +30,8 @@ pub record IsFormed (st : State) : Type 0 where
 abbrev pub case_of_pieces : Server → ℕ → ToServerBody → Case
 case_of_pieces s c said.Hello = Ignored
 case_of_pieces s c said.Bye = Ignored
-case_of_pieces s c (said.Report epoch pieces) = if conflicts s.durable.index s.rows c pieces then Alarms else Rebuilds pieces
+case_of_pieces s c (said.Report epoch pieces) =
+    if conflicts s.durable.index s.rows c pieces then Alarms else Rebuilds pieces
 case_of_pieces s c (said.Request request) = Ignored
 
 -- the case that was found for what the client said: how a report or a write ends shows as it is done

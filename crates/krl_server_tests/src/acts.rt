@@ -383,3 +383,15 @@ pub fn started(alloc: Global, durable: Durable) -> Option<Server> {
         }
     }
 }
+
+// Whether a server is refused on what survives since no epoch is left, and that comes back as it
+// was.
+pub fn is_spent(alloc: Global, durable: Durable) -> bool {
+    let before = surviving(&durable);
+    match Server::start(alloc, durable) {
+        Ok(_) => false,
+        Err(NotStarted { refused, durable }) => {
+            refused == StartRefused::Spent && surviving(&durable) == before
+        }
+    }
+}

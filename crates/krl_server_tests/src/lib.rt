@@ -4,6 +4,14 @@
 #[cfg(test)]
 mod acts;
 #[cfg(test)]
-mod rows;
+mod exchange;
+#[cfg(test)]
+mod gathering;
+#[cfg(test)]
+mod named;
+#[cfg(test)]
+mod strangers;
 #[cfg(test)]
 mod tests;
+#[cfg(test)]
+mod writes;

@@ -58,7 +58,8 @@ split_modes modes c d = if nat_eq d c then at_or_above (range_of (modes c)) key.
 
 abbrev pub split_at : Rows → ℕ → ℕ → ℕ → Rows
 split_at rows n k c =
-    set_row (set_row rows n (with_queue (rows n) (beyond k (rows n).queue))) k (record { modes = split_modes (rows n).modes c; queue = up_to k (rows n).queue })
+    set_row (set_row rows n (with_queue (rows n) (beyond k (rows n).queue))) k
+    (record { modes = split_modes (rows n).modes c; queue = up_to k (rows n).queue })
 
 -- split: k, which is no key yet, becomes a slot, written by c; the waiters up to k move there
 abbrev pub split : Index → Rows → ℕ → ℕ → Rows

@@ -66,7 +66,10 @@ pub record IsNext (t : Kept) (p n : ℕ) : Type 0 where
 
 -- the row of slot n, where the client's mode is lowered if the slot's span lies in this one
 abbrev pub lowered_row : Bounds → ℕ → Mode → ℕ → SlotRow → SlotRow
-lowered_row span c keep n r = if nat_le span.lo r.low && nat_lt n span.hi then record r { modes = set r.modes c (meet (mode_of r.modes c) keep) } else r
+lowered_row span c keep n r =
+    if nat_le span.lo r.low && nat_lt n span.hi
+    then record r { modes = set r.modes c (meet (mode_of r.modes c) keep) }
+    else r
 
 -- the row where the client's mode is N
 abbrev pub cleared_row : ℕ → SlotRow → SlotRow
@@ -91,7 +94,9 @@ granted_row r = granted_to r r.queue
 -- the waiter goes, which is the first of its client on the slot of its point; or none
 abbrev pub IsLeft : Kept → Kept → Option Waiter → Type 0
 IsLeft t u None = u ≡ t
-IsLeft t u (Some w) = (n : ℕ) × IsNext t w.point n × IfSome (map.get t n) (λ row. u ≡ map.insert t n (record row { queue = without_first w.client row.queue }))
+IsLeft t u (Some w) =
+    (n : ℕ) × IsNext t w.point n
+    × IfSome (map.get t n) (λ row. u ≡ map.insert t n (record row { queue = without_first w.client row.queue }))
 
 -- the lesser of a slot and the waiter's, where the waiter's counts from this point on
 abbrev pub IsNearer : Kept → Option Waiter → Option ℕ → ℕ → Option ℕ → Type 0
@@ -154,7 +159,8 @@ unlisted waiting (Some u) = set waiting u.client None
 pub record AreListed (waiting : List (Option Waiter)) (t : Kept) : Type 0 where
   pub full : length waiting ≡ 64
   pub here : (n : ℕ) (u : Waiter) → In u (rows_of t n).queue → waiter_in waiting u.client ≡ Some u
-  pub there : (c : ℕ) (u : Waiter) → waiter_in waiting c ≡ Some u → (u.client ≡ c) × ((n : ℕ) × In u (rows_of t n).queue)
+  pub there : (c : ℕ) (u : Waiter) → waiter_in waiting c ≡ Some u →
+      (u.client ≡ c) × ((n : ℕ) × In u (rows_of t n).queue)
 
 -- the keys strictly rise, the first is not below this point, and all lie below END
 abbrev pub AreKeys : ℕ → List ℕ → Type 0

@@ -32,4 +32,5 @@ MayInsert rows n c = lets_insert (range_of (mode_at rows n c)) ≡ true
 -- the writer has RangeX-X on the slot k, and range part X on the next slot n
 abbrev pub MayDelete : Rows → ℕ → ℕ → ℕ → Type 0
 MayDelete rows k n c =
-    (is_key_X (key_of (mode_at rows k c)) && is_range_X (range_of (mode_at rows k c)) && is_range_X (range_of (mode_at rows n c))) ≡ true
+    (is_key_X (key_of (mode_at rows k c)) && is_range_X (range_of (mode_at rows k c))
+    && is_range_X (range_of (mode_at rows n c))) ≡ true

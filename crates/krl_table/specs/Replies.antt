@@ -19,7 +19,8 @@ can_have rows n u = fits rows n u.client (wanted (rows n) u)
 
 -- what a waiter can be told, where its client has acknowledged every push
 abbrev pub reply_to : Index → Rows → ℕ → Waiter → Option Reply
-reply_to m rows n u = if asks_absent m u then Some reply.Absent else (if can_have rows n u then Some reply.Grant else None)
+reply_to m rows n u =
+    if asks_absent m u then Some reply.Absent else (if can_have rows n u then Some reply.Grant else None)
 
 abbrev pub first_reply : Index → Rows → ℕ → List Waiter → Option Reply
 first_reply m rows n [] = None

@@ -50,14 +50,17 @@ part_past part low hi = if nat_lt low hi then part else range.N
 
 -- the least part above all that reach past the point
 abbrev pub range_past : Reach → ℕ → RangePart
-range_past r low = range_join (range_join (part_past range.S low r.shared) (part_past range.I low r.insert)) (part_past range.X low r.exclusive)
+range_past r low =
+    range_join (range_join (part_past range.S low r.shared) (part_past range.I low r.insert))
+    (part_past range.X low r.exclusive)
 
 -- what is told of the row's slot
 abbrev pub told_mode : SlotRow → Mode
 told_mode r = at_or_above (range_past r.told.reach r.low) r.told.key
 
 abbrev pub tell_range : SlotRow → RangePart → ℕ → SlotRow
-tell_range r part hi = record r { told = record { reach = reach_join r.told.reach (reach_of part hi); key = r.told.key } }
+tell_range r part hi =
+    record r { told = record { reach = reach_join r.told.reach (reach_of part hi); key = r.told.key } }
 
 abbrev pub tell_key : SlotRow → KeyPart → SlotRow
 tell_key r part = record r { told = record { reach = r.told.reach; key = key_join r.told.key part } }
@@ -65,7 +68,8 @@ tell_key r part = record r { told = record { reach = r.told.reach; key = key_joi
 -- the row of slot n, after these range pieces: each is noted at the slot of its first point
 abbrev pub tell_ranges : Index → List RangePiece → ℕ → SlotRow → SlotRow
 tell_ranges m [] n r = r
-tell_ranges m (x ∷ xs) n r = tell_ranges m xs n (if nat_eq n (slot_of m x.span.lo) then tell_range r x.part x.span.hi else r)
+tell_ranges m (x ∷ xs) n r =
+    tell_ranges m xs n (if nat_eq n (slot_of m x.span.lo) then tell_range r x.part x.span.hi else r)
 
 -- the row of slot n, after these key pieces: each is noted at its point
 abbrev pub tell_keys : List KeyPiece → ℕ → SlotRow → SlotRow

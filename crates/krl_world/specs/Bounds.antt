@@ -51,7 +51,11 @@ pub record Bound : Type 0 where
 
 -- the server's table at each point
 abbrev pub table_of : Server → Bound
-table_of s = record { range_at = table.range_at s.durable.index s.rows; key_at = table.key_at s.durable.index s.rows; index = s.durable.index }
+table_of s = record {
+  range_at = table.range_at s.durable.index s.rows;
+  key_at = table.key_at s.durable.index s.rows;
+  index = s.durable.index;
+}
 
 -- the bound of the first world, in which the server serves
 abbrev pub first_bound : List (ℕ × Value) → Bound
@@ -76,7 +80,11 @@ step_clears w step.CrashServer c = false
 
 -- while nobody serves the bound stays, but for those clients
 abbrev pub cleared : (ℕ → Bool) → Bound → Bound
-cleared gone b = record { range_at = λ c p. if gone c then range.N else b.range_at c p; key_at = λ c p. if gone c then key.N else b.key_at c p; index = b.index }
+cleared gone b = record {
+  range_at = λ c p. if gone c then range.N else b.range_at c p;
+  key_at = λ c p. if gone c then key.N else b.key_at c p;
+  index = b.index;
+}
 
 abbrev pub bound_at : ServerNode → Bound → Bound
 bound_at (Up s) kept = if is_gathering s.missing then kept else table_of s
@@ -89,7 +97,8 @@ bound_after w s b w' = bound_at w'.server (cleared (step_clears w s) b)
 -- these steps are taken one after another, and the bound goes along
 abbrev pub RunsWithin : State → Bound → List Step → State → Bound → Type 0
 RunsWithin w b [] w' b' = (w' ≡ w) × (b' ≡ b)
-RunsWithin w b (s ∷ steps) w' b' = (answer : Answer) × (mid : State) × Takes w s answer mid × RunsWithin mid (bound_after w s b mid) steps w' b'
+RunsWithin w b (s ∷ steps) w' b' =
+    (answer : Answer) × (mid : State) × Takes w s answer mid × RunsWithin mid (bound_after w s b mid) steps w' b'
 
 -- the world is reached by some list of taken steps, of which this is the bound table
 abbrev pub HasBound : State → Bound → Type 0
@@ -97,7 +106,9 @@ HasBound w b = CanBegin w.opening × (steps : List Step) × RunsWithin (fresh w.
 
 -- while a server serves, the bound of a run is its table
 abbrev pub BoundIsTable : Type 0
-BoundIsTable = (w : State) (b : Bound) (s : Server) → HasBound w b → w.server ≡ Up s → is_gathering s.missing ≡ false → b ≡ table_of s
+BoundIsTable =
+    (w : State) (b : Bound) (s : Server) → HasBound w b → w.server ≡ Up s → is_gathering s.missing ≡ false →
+    b ≡ table_of s
 
 -- What lies within it
 
@@ -109,7 +120,8 @@ IsKeyWithin k top = key_at_most k top ≡ true
 
 -- the table gives each client, at each point, at most what the bound does
 abbrev pub IsTableWithin : Bound → Bound → Type 0
-IsTableWithin t b = (c p : ℕ) → IsRangeWithin (t.range_at c p) (b.range_at c p) × IsKeyWithin (t.key_at c p) (b.key_at c p)
+IsTableWithin t b =
+    (c p : ℕ) → IsRangeWithin (t.range_at c p) (b.range_at c p) × IsKeyWithin (t.key_at c p) (b.key_at c p)
 
 -- the table gives the client, at each point, at least what it believes
 abbrev pub Covers : Bound → State → ℕ → Type 0
@@ -126,7 +138,8 @@ IsPushWithin b c (push.Absent req point) = Unit {0}
 IsPushWithin b c (push.Answer number o h) = IsHoldingWithin b c h
 
 abbrev pub push_message : ℕ → ℕ → ℕ → ℕ → PushBody → Message
-push_message c incarnation epoch number body = message.ToClient (record { client = c; incarnation = incarnation; body = heard.Push epoch number body })
+push_message c incarnation epoch number body =
+    message.ToClient (record { client = c; incarnation = incarnation; body = heard.Push epoch number body })
 
 -- what clients believe, and the holdings of live pushes, are within the bound; and the index has stood still since
 pub record IsBounded (w : State) (b : Bound) : Type 0 where
@@ -134,7 +147,8 @@ pub record IsBounded (w : State) (b : Bound) : Type 0 where
   pub held_range : (c p : ℕ) → IsRangeWithin (range_held w c p) (b.range_at c p)
   pub held_key : (c p : ℕ) → IsKeyWithin (key_held w c p) (b.key_at c p)
   -- a push is live where its client is up, its incarnation and epoch are the client's own, and its number is the next
-  pub live : (c : ℕ) (k : Client) (body : PushBody) → client_of w c ≡ Some k → In (push_message c k.incarnation k.epoch (suc k.seen) body) w.sent → IsPushWithin b c body
+  pub live : (c : ℕ) (k : Client) (body : PushBody) → client_of w c ≡ Some k →
+      In (push_message c k.incarnation k.epoch (suc k.seen) body) w.sent → IsPushWithin b c body
 
 -- Over restarts
 
@@ -150,7 +164,8 @@ epoch_told (heard.Push epoch number body) = epoch
 epoch_told (heard.Callback epoch s keep) = epoch
 
 abbrev pub report_message : ℕ → ℕ → ℕ → Pieces → Message
-report_message c incarnation epoch pieces = message.ToServer (record { client = c; incarnation = incarnation; body = said.Report epoch pieces })
+report_message c incarnation epoch pieces =
+    message.ToServer (record { client = c; incarnation = incarnation; body = said.Report epoch pieces })
 
 -- a report that the server would take: its client is missing, and it is of the registered incarnation and this epoch
 pub record IsAwaited (w : State) (s : Server) (c : ℕ) (r : Record) (pieces : Pieces) : Type 0 where
@@ -165,14 +180,21 @@ table_with s c pieces = table_of (adopts s c pieces)
 -- what a server that gathers has heard, or may still hear, is within the bound
 pub record IsGatheredWithin (w : State) (b : Bound) (s : Server) : Type 0 where
   -- an awaited report is, and it is at least what its client believes
-  pub report : (c : ℕ) (r : Record) (pieces : Pieces) → IsAwaited w s c r pieces → (p : ℕ) → IsRangeWithin (range_said pieces.ranges p) (b.range_at c p) × IsKeyWithin (reported_key pieces.keys p) (b.key_at c p)
-  pub report_covers : (c : ℕ) (r : Record) (k : Client) (pieces : Pieces) → IsAwaited w s c r pieces → client_of w c ≡ Some k → k.incarnation ≡ r.incarnation → (p : ℕ) → IsRangeWithin (range_held w c p) (range_said pieces.ranges p) × IsKeyWithin (key_held w c p) (reported_key pieces.keys p)
+  pub report : (c : ℕ) (r : Record) (pieces : Pieces) → IsAwaited w s c r pieces → (p : ℕ) →
+      IsRangeWithin (range_said pieces.ranges p) (b.range_at c p)
+      × IsKeyWithin (reported_key pieces.keys p) (b.key_at c p)
+  pub report_covers : (c : ℕ) (r : Record) (k : Client) (pieces : Pieces) → IsAwaited w s c r pieces →
+      client_of w c ≡ Some k → k.incarnation ≡ r.incarnation → (p : ℕ) →
+      IsRangeWithin (range_held w c p) (range_said pieces.ranges p)
+      × IsKeyWithin (key_held w c p) (reported_key pieces.keys p)
   -- a row that was rebuilt is, and it is at least what its client believes
   pub row : IsTableWithin (table_of s) b
   pub row_covers : (c : ℕ) → lists s.missing c ≡ false → Covers (table_of s) w c
   -- so it is as soon as an awaited report is taken, also where it is the last and the server serves from then on
-  pub taken : (c : ℕ) (r : Record) (pieces : Pieces) → IsAwaited w s c r pieces → IsTableWithin (table_with s c pieces) b
-  pub taken_covers : (c : ℕ) (r : Record) (pieces : Pieces) → IsAwaited w s c r pieces → (d : ℕ) → lists (adopts s c pieces).missing d ≡ false → Covers (table_with s c pieces) w d
+  pub taken : (c : ℕ) (r : Record) (pieces : Pieces) → IsAwaited w s c r pieces →
+      IsTableWithin (table_with s c pieces) b
+  pub taken_covers : (c : ℕ) (r : Record) (pieces : Pieces) → IsAwaited w s c r pieces → (d : ℕ) →
+      lists (adopts s c pieces).missing d ≡ false → Covers (table_with s c pieces) w d
 
 pub record HoldsOverRestarts (w : State) (b : Bound) : Type 0 where
   -- no message has an epoch above the durable one

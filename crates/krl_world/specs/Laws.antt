@@ -17,11 +17,13 @@ use Rattle.krl_world.specs.Steps.{CanBegin, refusal_of, Takes, Steps, Runs, Runs
 pub record ReachableStays : Type 0 where
   pub first : (entries : List (ℕ × Value)) → CanBegin entries → IsReachable (fresh entries)
   pub step : (w v : State) (s : Step) (r : Result Answer Refused) → IsReachable w → Steps w s r v → IsReachable v
-  pub run : (w v : State) (steps : List Step) (results : List (Result Answer Refused)) → IsReachable w → RunsWith w steps results v → IsReachable v
+  pub run : (w v : State) (steps : List Step) (results : List (Result Answer Refused)) → IsReachable w →
+      RunsWith w steps results v → IsReachable v
 
 -- nobody has a number above 63
 abbrev pub NobodyAbove63 : Type 0
-NobodyAbove63 = (w : State) → IsReachable w → (c p : ℕ) → 64 ≤ c → (range_held w c p ≡ range.N) × (key_held w c p ≡ key.N)
+NobodyAbove63 =
+    (w : State) → IsReachable w → (c p : ℕ) → 64 ≤ c → (range_held w c p ≡ range.N) × (key_held w c p ≡ key.N)
 
 -- each step that this world does not refuse can be taken
 abbrev pub CanGoOn : State → Type 0
@@ -29,10 +31,14 @@ CanGoOn w = (s : Step) → refusal_of w s ≡ None → (answer : Answer) × (v :
 
 -- a server that never crashed serves
 abbrev pub ServesOn : Type 0
-ServesOn = (entries : List (ℕ × Value)) (steps : List Step) (w : State) → (In step.CrashServer steps → ⊥) → Runs (fresh entries) steps w → is_serving w.server ≡ true
+ServesOn =
+    (entries : List (ℕ × Value)) (steps : List Step) (w : State) → (In step.CrashServer steps → ⊥) →
+    Runs (fresh entries) steps w → is_serving w.server ≡ true
 
--- nobody gets anything by a restart: where a server gathered and now serves, its table is within the bound until then, and it
--- has what each client believes
+-- nobody gets anything by a restart: where a server gathered and now serves, its table is within the bound until then,
+-- and it has what each client believes
 abbrev pub GatheringsEnd : Type 0
-GatheringsEnd = (w v : State) (b : Bound) (s t : Server) (taken : Step) (answer : Answer) → HasBound w b → w.server ≡ Up s → is_gathering s.missing ≡ true
-    → Takes w taken answer v → v.server ≡ Up t → is_gathering t.missing ≡ false → IsTableWithin (table_of t) b × ((c : ℕ) → Covers (table_of t) v c)
+GatheringsEnd =
+    (w v : State) (b : Bound) (s t : Server) (taken : Step) (answer : Answer) → HasBound w b → w.server ≡ Up s →
+    is_gathering s.missing ≡ true → Takes w taken answer v → v.server ≡ Up t → is_gathering t.missing ≡ false →
+    IsTableWithin (table_of t) b × ((c : ℕ) → Covers (table_of t) v c)

@@ -1,5 +1,5 @@
--- What a client that runs does with the list of all that was sent, and what a server does, before a world is put together of
--- them.
+-- What a client that runs does with the list of all that was sent, and what a server does, before a world is put
+-- together of them.
 use Rattle.std.specs.Prelude.{◌≡◌, ℕ, suc, ◌⊎◌, cond, is_some, Bool, true, false, ◌&&◌, nat_lt, nat_eq, if◌then◌else◌, List, [], ◌∷◌, ◌++◌, Option, Some, None, Result, Ok, Err}
 use Rattle.krl_modes.specs.declared.mode.Mode.TheVariants as mode
 use Rattle.krl_messages.specs.declared.outcome.Outcome.{Outcome}
@@ -50,18 +50,22 @@ Does k (command.Forget lo hi) answer next old new =
     (answer ≡ told.Done) × (next ≡ Some (forgot k (span lo hi)))
     × (new ≡ old ++ from_clients (says_release k (span lo hi) mode.N ∷ []))
 Does k (command.Pin lo hi) answer next old new =
-    (id : ℕ) × (free_pin k ≡ Some id) × (answer ≡ told.Pinned id) × (next ≡ Some (pinned k (span lo hi) id)) × (new ≡ old)
+    (id : ℕ) × (free_pin k ≡ Some id) × (answer ≡ told.Pinned id) × (next ≡ Some (pinned k (span lo hi) id))
+    × (new ≡ old)
 Does k (command.Unpin id) answer next old new = (answer ≡ told.Done) × (next ≡ Some (unpinned k id)) × (new ≡ old)
-Does k command.Leave answer next old new = (answer ≡ told.Done) × (next ≡ None) × (new ≡ old ++ from_clients (says_bye k ∷ []))
+Does k command.Leave answer next old new =
+    (answer ≡ told.Done) × (next ≡ None) × (new ≡ old ++ from_clients (says_bye k ∷ []))
 
 -- a command is obeyed or refused
 abbrev pub Commanded : Client → Command → Option Client → List Message → List Message → Result Answer Refused → Type 0
 Commanded k what next old new (Ok answer) = (command_refusal k what ≡ None) × Does k what answer next old new
 Commanded k what next old new (Err r) =
-    (next ≡ Some k) × (new ≡ old) × IsRefused (named refused_by_client (command_refusal k what)) (CommandTakesMemory k what) r
+    (next ≡ Some k) × (new ≡ old)
+    × IsRefused (named refused_by_client (command_refusal k what)) (CommandTakesMemory k what) r
 
 -- where a client runs; none that doesn't obeys
-abbrev pub CommandedAt : Option Client → Command → Option Client → List Message → List Message → Result Answer Refused → Type 0
+abbrev pub CommandedAt : Option Client → Command → Option Client → List Message → List Message → Result Answer Refused →
+    Type 0
 CommandedAt (Some k) what next old new r = Commanded k what next old new r
 CommandedAt None what next old new r = (r ≡ Err refused.Down) × (next ≡ None) × (new ≡ old)
 
@@ -69,7 +73,8 @@ CommandedAt None what next old new r = (r ≡ Err refused.Down) × (next ≡ Non
 
 -- why no client starts at this seat
 abbrev pub starting_refusal : ℕ → Seat → Option Refused
-starting_refusal c x = cond (is_some x.client) (Some refused.Running) (named refused_at_start (start_refusal c (suc x.greatest)))
+starting_refusal c x =
+    cond (is_some x.client) (Some refused.Running) (named refused_at_start (start_refusal c (suc x.greatest)))
 
 -- a client started at the seat x, which became y
 pub record Started (c : ℕ) (x y : Seat) (old new : List Message) : Type 0 where
@@ -92,14 +97,16 @@ pub record HasRead (k : Client) (m : ToClient) (next : Client) (old new : List M
   pub sent : new ≡ old ++ from_clients list
 
 -- the server read the message, and became t
-pub record HasServed (s : Server) (m : ToServer) (t : Server) (old new : List Message) (writes written : List AppliedWrite) : Type 0 where
+pub record HasServed (s : Server) (m : ToServer) (t : Server) (old new : List Message)
+    (writes written : List AppliedWrite) : Type 0 where
   pub outs : List ToClient
   pub step : ServerStep s m t outs
   pub sent : new ≡ old ++ from_server outs
   pub writes_are : written ≡ writes ++ applies m (case_of s m)
 
 -- the message came where a server runs, which read it, or where none runs, and there it is lost
-abbrev pub HasArrived : ServerNode → ToServer → ServerNode → List Message → List Message → List AppliedWrite → List AppliedWrite → Type 0
+abbrev pub HasArrived : ServerNode → ToServer → ServerNode → List Message → List Message → List AppliedWrite →
+    List AppliedWrite → Type 0
 HasArrived (Up s) m (Up t) old new writes written = HasServed s m t old new writes written
 HasArrived (Up s) m (Down d) old new writes written = ⊥
 HasArrived (Down d) m next old new writes written = (next ≡ Down d) × (new ≡ old) × (written ≡ writes)

@@ -17,7 +17,8 @@ use Rattle.krl_world.specs.Promises.{answer_message}
 
 -- a scan from a cache gives an entry
 abbrev pub ScansSomewhere : Type 0
-ScansSomewhere = (w : State) × IsReachable w × Steps w (step.Command 0 (command.Scan 0 11)) (Ok (told.Rows ((10, 1) ∷ []))) w
+ScansSomewhere =
+    (w : State) × IsReachable w × Steps w (step.Command 0 (command.Scan 0 11)) (Ok (told.Rows ((10, 1) ∷ []))) w
 
 -- a client was told that its insert is Applied, and it stands in the list of writes
 abbrev pub WritesSomewhere : Type 0
@@ -28,7 +29,11 @@ WritesSomewhere = (w : State) × (h : Holding) × IsReachable w × In (answer_me
 -- what its clients reported; and the client that got the gap alone deleted the key there, and was told Applied
 pub record HasComeThrough (w : State) : Type 0 where
   pub reached : IsReachable w
-  pub called_back : In (message.ToClient (record { client = 0; incarnation = 1; body = heard.Callback 1 (span 0 11) mode.N })) w.sent
+  pub called_back : In (message.ToClient (record {
+    client = 0;
+    incarnation = 1;
+    body = heard.Callback 1 (span 0 11) mode.N;
+  })) w.sent
   pub epoch : (durable_of w.server).epoch ≡ 2
   pub serves : is_serving w.server ≡ true
   pub told : (h : Holding) × In (answer_message 1 1 2 2 1 outcome.Applied h) w.sent

@@ -126,11 +126,13 @@ server_start (Down d) = cond (server.can_start d) None (Some refused.Spent)
 
 abbrev pub refusal_of : State → Step → Option Refused
 refusal_of w (step.Deliver i) = cond (is_some (message_at w.sent i)) None (Some refused.NoMessage)
-refusal_of w (step.Command c what) = of_client c (if_runs (client_of w c) (λ k. named refused_by_client (command_refusal k what)))
+refusal_of w (step.Command c what) =
+    of_client c (if_runs (client_of w c) (λ k. named refused_by_client (command_refusal k what)))
 refusal_of w (step.Tick c) = of_client c (if_runs (client_of w c) (λ k. None))
 refusal_of w (step.Nudge c) = of_client c (server_down w.server)
 refusal_of w (step.StartClient c) =
-    of_client c (cond (is_some (client_of w c)) (Some refused.Running) (named refused_at_start (start_refusal c (suc (w.seats c).greatest))))
+    of_client c (cond (is_some (client_of w c)) (Some refused.Running)
+    (named refused_at_start (start_refusal c (suc (w.seats c).greatest))))
 refusal_of w (step.CrashClient c) = of_client c (if_runs (client_of w c) (λ k. None))
 refusal_of w step.StartServer = server_start w.server
 refusal_of w step.CrashServer = server_down w.server
@@ -156,19 +158,23 @@ applies m (Repeats body) = []
 applies m Hears = []
 applies m (Lowers s keep) = []
 applies m (Waits req point g) = []
-applies m (Judges number op o) = if_applied o (record { client = m.client; incarnation = m.incarnation; number = number; op = op })
+applies m (Judges number op o) =
+    if_applied o (record { client = m.client; incarnation = m.incarnation; number = number; op = op })
 applies m (AnswersAgain number op o) = []
 
 -- the server reads the message; one that is down loses it
 abbrev pub ServerReads : State → ServerNode → ToServer → State → Type 0
-ServerReads w (Up s) m w' = (t : Server) × (outs : List ToClient) × ServerStep s m t outs × (w' ≡ served w (Up t) outs (applies m (case_of s m)))
+ServerReads w (Up s) m w' =
+    (t : Server) × (outs : List ToClient) × ServerStep s m t outs
+    × (w' ≡ served w (Up t) outs (applies m (case_of s m)))
 ServerReads w (Down d) m w' = w' ≡ w
 
 -- so does a client
 abbrev pub ClientReads : State → Option Client → ToClient → State → Type 0
 ClientReads w (Some k) m w' =
     (ps : Pieces) × Describes ps k.belief
-    × (w' ≡ with_client w m.client (Some (receiver.after k (receiver.case_of k m))) (receiver.sends ps k (receiver.case_of k m)))
+    × (w' ≡ with_client w m.client (Some (receiver.after k (receiver.case_of k m)))
+    (receiver.sends ps k (receiver.case_of k m)))
 ClientReads w None m w' = w' ≡ w
 
 abbrev pub Delivers : State → Option Message → State → Type 0
@@ -189,13 +195,17 @@ ScanAnswers k s (told.Pending n) = Commands.Answers k s (scanned.Pending n)
 -- a client that runs obeys a command
 abbrev pub Obeys : State → ℕ → Client → Command → Answer → State → Type 0
 Obeys w c k (command.Lock point m) answer w' =
-    (answer ≡ told.Done) × (w' ≡ with_client w c (Some (Commands.locked k point m)) (says_lock (Commands.locked k point m) point m ∷ []))
-Obeys w c k (command.Write op) answer w' = (answer ≡ told.Done) × (w' ≡ with_client w c (Some (wrote k op)) (says_write (wrote k op) op ∷ []))
+    (answer ≡ told.Done)
+    × (w' ≡ with_client w c (Some (Commands.locked k point m)) (says_lock (Commands.locked k point m) point m ∷ []))
+Obeys w c k (command.Write op) answer w' =
+    (answer ≡ told.Done) × (w' ≡ with_client w c (Some (wrote k op)) (says_write (wrote k op) op ∷ []))
 Obeys w c k (command.Scan lo hi) answer w' = ScanAnswers k (span lo hi) answer × (w' ≡ w)
 Obeys w c k (command.Forget lo hi) answer w' =
-    (answer ≡ told.Done) × (w' ≡ with_client w c (Some (forgot k (span lo hi))) (says_release k (span lo hi) mode.N ∷ []))
+    (answer ≡ told.Done)
+    × (w' ≡ with_client w c (Some (forgot k (span lo hi))) (says_release k (span lo hi) mode.N ∷ []))
 Obeys w c k (command.Pin lo hi) answer w' =
-    (id : ℕ) × (free_pin k ≡ Some id) × (answer ≡ told.Pinned id) × (w' ≡ with_client w c (Some (pinned k (span lo hi) id)) [])
+    (id : ℕ) × (free_pin k ≡ Some id) × (answer ≡ told.Pinned id)
+    × (w' ≡ with_client w c (Some (pinned k (span lo hi) id)) [])
 Obeys w c k (command.Unpin id) answer w' = (answer ≡ told.Done) × (w' ≡ with_client w c (Some (unpinned k id)) [])
 Obeys w c k command.Leave answer w' = (answer ≡ told.Done) × (w' ≡ with_client w c None (says_bye k ∷ []))
 
@@ -226,7 +236,8 @@ Does w (step.Tick c) answer w' = (answer ≡ told.Done) × ((k : Client) × (cli
 Does w (step.Nudge c) answer w' = (answer ≡ told.Done) × (w' ≡ nudged w w.server c)
 Does w (step.StartClient c) answer w' =
     let n = suc (w.seats c).greatest in
-    (answer ≡ told.Done) × (w' ≡ seated w c (record { greatest = n; client = Some (begun c n) }) (says_hello (begun c n) ∷ []))
+    (answer ≡ told.Done)
+    × (w' ≡ seated w c (record { greatest = n; client = Some (begun c n) }) (says_hello (begun c n) ∷ []))
 Does w (step.CrashClient c) answer w' = (answer ≡ told.Done) × (w' ≡ with_client w c None [])
 Does w step.StartServer answer w' = (answer ≡ told.Done) × (w' ≡ started w w.server)
 Does w step.CrashServer answer w' = (answer ≡ told.Done) × (w' ≡ crashed w w.server)
@@ -265,10 +276,12 @@ TakesMemory w step.CrashServer = ⊥
 abbrev pub Takes : State → Step → Answer → State → Type 0
 Takes w s answer w' = (refusal_of w s ≡ None) × Does w s answer w'
 
--- The step is taken; or refused, and then nothing changes: for the first reason, or where there is none for want of memory, if it takes some.
+-- The step is taken; or refused, and then nothing changes: for the first reason, or where there is none for want of
+-- memory, if it takes some.
 unfoldable pub Steps : State → Step → Result Answer Refused → State → Type 0
 Steps w s (Ok answer) w' = Takes w s answer w'
-Steps w s (Err r) w' = (w' ≡ w) × ((refusal_of w s ≡ Some r) ⊎ ((refusal_of w s ≡ None) × (r ≡ refused.OutOfMemory) × TakesMemory w s))
+Steps w s (Err r) w' =
+    (w' ≡ w) × ((refusal_of w s ≡ Some r) ⊎ ((refusal_of w s ≡ None) × (r ≡ refused.OutOfMemory) × TakesMemory w s))
 
 -- these steps are taken one after another
 abbrev pub Runs : State → List Step → State → Type 0

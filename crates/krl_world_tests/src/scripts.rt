@@ -80,9 +80,9 @@ impl Read for Dripping<'_> {
 /// Takes some bytes a write, and sees whether they are what is to come. It is interrupted some times
 /// before the first write, and fails once it has no room.
 #[derive(Drop)]
-struct Narrow<'a> {
-    rest: &'a [u8],
-    is_right: bool,
+pub struct Narrow<'a> {
+    pub rest: &'a [u8],
+    pub is_right: bool,
     at_once: usize,
     room: usize,
     interruptions: u64,
@@ -125,7 +125,8 @@ fn reader(text: &str, interruptions: u64, good_reads: u64) -> Dripping<'_> {
     }
 }
 
-fn writer(transcript: &str, at_once: usize, room: usize) -> Narrow<'_> {
+/// A writer that wants this transcript.
+pub fn writer(transcript: &str, at_once: usize, room: usize) -> Narrow<'_> {
     Narrow {
         rest: transcript.as_bytes(),
         is_right: true,

@@ -1,0 +1,188 @@
+-- What a random run keeps from step to step.
+use Rattle.std.proofs.Common.{◌≡◌, ◌≢◌, ℕ, suc, ◌+◌, ◌<◌, ◌≤◌, ◌&&◌, Bool, true, false, length, drop, get_or, List, [], ◌∷◌, Option, None, Result, Ok, Err, refl, sym, ap, subst, ◌∙◌, arith, add-one, drop-cons, length-drop, eq-eqb, eqb-true, nat_le, nat_eq}
+use Rattle.std.specs.Prelude.{not, is_some, is_none, slice_get, nat_lt}
+use Rattle.std.specs.FinMap as map
+use Rattle.std.proofs.lemmas.List.{nil_from_length}
+use Rattle.krl_durable.specs.Index.{Index}
+use Rattle.std.specs.List.{filter}
+use Rattle.rand_pcg.specs.Lcg.{Lcg}
+use Rattle.krl_messages.specs.Values.{Value}
+use Rattle.krl_world.specs.declared.node.ServerNode.{ServerNode as KeptNode}
+use Rattle.krl_world.specs.declared.node.ServerNode.TheVariants as kept
+use Rattle.krl_world.specs.declared.step.Step.{Step}
+use Rattle.krl_world.specs.declared.step.Step.TheVariants as step
+use Rattle.krl_world.specs.declared.step.Command.{Command}
+use Rattle.krl_world.specs.declared.step.Command.TheVariants as command
+use Rattle.krl_world.specs.declared.answer.Answer.{Answer}
+use Rattle.krl_world.specs.declared.answer.Answer.TheVariants as told
+use Rattle.krl_world.specs.declared.refused.Refused.{Refused}
+use Rattle.krl_world.specs.States.{State, fresh, index_of}
+use Rattle.krl_world.specs.Steps.{Steps}
+use Rattle.krl_world.specs.Promises.{IsCompatible, ScansIndex, CommandIsRange}
+use Rattle.krl_world.specs.Fields as world
+use Rattle.krl_script.specs.declared.random.RandomRun.{RandomRun}
+use Rattle.krl_script.specs.Waiting.{Waits, sent_to}
+use Rattle.krl_script.specs.Soundness.{go_together, all_below, is_sound_at, first_unsound, numbers_below}
+use Rattle.krl_script.specs.RandomRuns.{RandomStage, stage_of, first_of, is_down, sight_of, waits_since, TakesDrawn, RunsRandomly, EndsRandomRun}
+use Rattle.krl_script.proofs.Interpreting.{sent_is}
+use Rattle.krl_script.proofs.SoundnessLemmas.{all_of_below, none_unsound}
+
+-- A sound world
+
+-- two clients of a compatible world
+together : (w : State) → IsCompatible w → (p c d : ℕ) → d < c → go_together w p c d ≡ true
+together w h p c d l =
+    let apart : c ≢ d = λ e. absurd (let here : d < d = subst (λ (n : ℕ). d < n) e l in omega (arith, here)) in
+    let both = h c d p apart in
+    rw (both.0, both.1) refl
+
+sound_at : (w : State) → IsCompatible w → (n p : ℕ) → is_sound_at w n p ≡ true
+sound_at w h n p = all_of_below n (λ (c : ℕ). all_below c (go_together w p c)) (λ c lt. all_of_below c (go_together w p c) (λ d l. together w h p c d l))
+
+not_false : (b : Bool) → not b ≡ false → b ≡ true
+not_false true e = refl
+not_false false e = absurd (let bad : true ≡ false = e in cc)
+
+pub sound_points : (w : State) (n m : ℕ) (r : Option ℕ) (b : Bool) → r ≡ first_unsound w n (numbers_below m) → is_some r ≡ not b → IsCompatible w → b ≡ true
+sound_points w n m r b e is h =
+    let none : first_unsound w n (numbers_below m) ≡ None = none_unsound m (λ (p : ℕ). not (is_sound_at w n p)) (λ p. rw (sound_at w h n p) refl) in
+    not_false b (sym is ∙ ap is_some (e ∙ none))
+
+-- a world in which nothing has happened
+fresh_compatible : (entries : List (ℕ × Value)) → IsCompatible (fresh entries)
+unfolding fresh
+fresh_compatible entries c d p apart = (refl, refl)
+
+pub first_compatible : (r : RandomRun) (seed : ℕ) → stage_of r ≡ first_of seed → IsCompatible (world.meaning r.world)
+first_compatible r seed e =
+    subst (λ (s : RandomStage). IsCompatible s.world) (sym e) (fresh_compatible ((10, 1) ∷ (20, 2) ∷ []))
+
+-- Scans
+
+scan_stays : (w v : State) (c lo hi : ℕ) (r : Result Answer Refused) → Steps w (step.Command c (command.Scan lo hi)) r v → v ≡ w
+unfolding Steps
+scan_stays w v c lo hi (Ok answer) t = t.1.2.1
+scan_stays w v c lo hi (Err e) t = t.0
+
+command_same : (w v : State) (c : ℕ) (what : Command) (r : Result Answer Refused) → Steps w (step.Command c what) r v → ScansIndex (index_of w) (step.Command c what) r → ScansIndex (index_of v) (step.Command c what) r
+command_same w v c (command.Lock p m) (Ok answer) t h = tt
+command_same w v c (command.Write op) (Ok answer) t h = tt
+command_same w v c (command.Scan lo hi) (Ok answer) t h =
+    subst (λ (u : State). CommandIsRange (index_of u) (command.Scan lo hi) answer) (sym (scan_stays w v c lo hi (Ok answer) t)) h
+command_same w v c (command.Forget lo hi) (Ok answer) t h = tt
+command_same w v c (command.Pin lo hi) (Ok answer) t h = tt
+command_same w v c (command.Unpin id) (Ok answer) t h = tt
+command_same w v c command.Leave (Ok answer) t h = tt
+command_same w v c what (Err e) t h = tt
+
+-- a scan's rows are the index's after it too
+scans_same : (w v : State) (what : Step) (r : Result Answer Refused) → Steps w what r v → ScansIndex (index_of w) what r → ScansIndex (index_of v) what r
+scans_same w v (step.Deliver i) r t h = tt
+scans_same w v (step.Command c what) r t h = command_same w v c what r t h
+scans_same w v (step.Tick c) r t h = tt
+scans_same w v (step.Nudge c) r t h = tt
+scans_same w v (step.StartClient c) r t h = tt
+scans_same w v (step.CrashClient c) r t h = tt
+scans_same w v step.StartServer r t h = tt
+scans_same w v step.CrashServer r t h = tt
+
+-- Steps
+
+down_is : (n : KeptNode) → is_none (world.server_up n) ≡ is_down (world.node_of n)
+down_is (kept.Up s) = refl
+down_is (kept.Down d) = refl
+
+-- what is read of a world
+pub sight_is : (w : world.Fields) (waits : Waits) (g : Lcg) (waiting : Option ℕ) (sent : ℕ) (is_down : Bool) → waiting ≡ slice_get waits.waiting 0 → sent ≡ length w.sent → is_down ≡ is_none (world.server_up w.server) → record { waiting = waiting; sent = sent; is_down = is_down } ≡ sight_of (record { world = world.meaning w; waits = waits; generator = g })
+sight_is w waits g waiting sent down oldest all none = rw (oldest, all, sent_is w, none, down_is w.server) refl
+
+-- a step was taken, and what it sent is counted
+pub taken : (w v : world.Fields) (waits passed counted : Waits) (g : Lcg) (what : Step) (r : Result Answer Refused) (sent : ℕ) → Steps (world.meaning w) what r (world.meaning v) → passed ≡ waits_since what r waits → sent ≡ length v.sent → counted ≡ sent_to passed sent → TakesDrawn (world.meaning w) waits what g (record { world = world.meaning v; waits = counted; generator = g })
+taken w v waits passed counted g what r sent t p e h = record {
+  outcome = r;
+  world = world.meaning v;
+  steps = t;
+  leaves = rw (h, p, e, sent_is v) refl;
+}
+
+pub answers_right : (w v : world.Fields) (what : Step) (r : Result Answer Refused) (b : Bool) → Steps (world.meaning w) what r (world.meaning v) → ScansIndex (index_of (world.meaning w)) what r → (ScansIndex (index_of (world.meaning v)) what r → b ≡ true) → b ≡ true
+answers_right w v what r b t h f = f (scans_same (world.meaning w) (world.meaning v) what r t h)
+
+-- Rows
+
+-- the entries that are left, from the one at i on
+drop_at : (es : List (ℕ × Value)) (i : ℕ) (d : ℕ × Value) → i < length es → drop i es ≡ get_or es i d ∷ drop (i + 1) es
+drop_at es i d l = drop-cons es i d l ∙ ap (λ (k : ℕ). get_or es i d ∷ drop k es) (sym (add-one i))
+
+-- where an entry passes, it is the next row
+pub row_next : (p : ℕ × Value → Bool) (es rows : List (ℕ × Value)) (i at : ℕ) (d : ℕ × Value) → i < length es → p (get_or es i d) ≡ true → drop at rows ≡ filter p (drop i es) → at < length rows
+row_next p es rows i at d l pass h =
+    let here : drop at rows ≡ get_or es i d ∷ filter p (drop (i + 1) es) = h ∙ rw (drop_at es i d l, pass) refl in
+    let size : length (drop at rows) ≡ suc (length (filter p (drop (i + 1) es))) = ap length here in
+    omega (arith, length-drop at rows, size)
+
+row_split : (p : ℕ × Value → Bool) (es rows : List (ℕ × Value)) (i at : ℕ) (d : ℕ × Value) → i < length es → p (get_or es i d) ≡ true → drop at rows ≡ filter p (drop i es) → get_or rows at d ∷ drop (at + 1) rows ≡ get_or es i d ∷ filter p (drop (i + 1) es)
+row_split p es rows i at d l pass h =
+    sym (drop_at rows at d (row_next p es rows i at d l pass h)) ∙ h ∙ rw (drop_at es i d l, pass) refl
+
+pub row_same : (p : ℕ × Value → Bool) (es rows : List (ℕ × Value)) (i at : ℕ) (d : ℕ × Value) → i < length es → p (get_or es i d) ≡ true → drop at rows ≡ filter p (drop i es) → get_or rows at d ≡ get_or es i d
+row_same p es rows i at d l pass h = ap (λ (xs : List (ℕ × Value)). get_or xs 0 d) (row_split p es rows i at d l pass h)
+
+pub rows_left : (p : ℕ × Value → Bool) (es rows : List (ℕ × Value)) (i at : ℕ) (d : ℕ × Value) → i < length es → p (get_or es i d) ≡ true → drop at rows ≡ filter p (drop i es) → drop (at + 1) rows ≡ filter p (drop (i + 1) es)
+rows_left p es rows i at d l pass h = ap (λ (xs : List (ℕ × Value)). drop 1 xs) (row_split p es rows i at d l pass h)
+
+pub row_passed : (p : ℕ × Value → Bool) (es rows : List (ℕ × Value)) (i at : ℕ) (d : ℕ × Value) → i < length es → p (get_or es i d) ≡ false → drop at rows ≡ filter p (drop i es) → drop at rows ≡ filter p (drop (i + 1) es)
+row_passed p es rows i at d l fail h = h ∙ rw (drop_at es i d l, fail) refl
+
+-- the same the other way round: what holds where the rest of the rows is the rest of the range, holds where it is so one
+-- entry earlier
+pub row_back : (whole : Type 0) (p : ℕ × Value → Bool) (es rows : List (ℕ × Value)) (i at : ℕ) (d : ℕ × Value) → i < length es → p (get_or es i d) ≡ true → at < length rows → get_or rows at d ≡ get_or es i d → (drop at rows ≡ filter p (drop i es) → whole) → drop (at + 1) rows ≡ filter p (drop (i + 1) es) → whole
+row_back whole p es rows i at d l pass l' same back h =
+    let rest : get_or rows at d ∷ drop (at + 1) rows ≡ get_or es i d ∷ filter p (drop (i + 1) es) = rw (same, h) refl in
+    let range : filter p (drop i es) ≡ get_or es i d ∷ filter p (drop (i + 1) es) = rw (drop_at es i d l, pass) refl in
+    back (drop_at rows at d l' ∙ rest ∙ sym range)
+
+pub passed_back : (whole : Type 0) (p : ℕ × Value → Bool) (es rows : List (ℕ × Value)) (i at : ℕ) (d : ℕ × Value) → i < length es → p (get_or es i d) ≡ false → (drop at rows ≡ filter p (drop i es) → whole) → drop at rows ≡ filter p (drop (i + 1) es) → whole
+passed_back whole p es rows i at d l fail back h =
+    let range : filter p (drop i es) ≡ filter p (drop (i + 1) es) = rw (drop_at es i d l, fail) refl in
+    back (h ∙ sym range)
+
+pub end_back : (whole : Type 0) (p : ℕ × Value → Bool) (es rows : List (ℕ × Value)) (i at : ℕ) → length es ≤ i → nat_eq at (length rows) ≡ true → (drop at rows ≡ filter p (drop i es) → whole) → whole
+end_back whole p es rows i at past is back =
+    let no_row : drop at rows ≡ [] = nil_from_length (drop at rows) (omega (arith, length-drop at rows, eqb-true at (length rows) is)) in
+    let no_entry : drop i es ≡ [] = nil_from_length (drop i es) (omega (arith, length-drop i es)) in
+    let range : filter p (drop i es) ≡ [] = rw no_entry refl in
+    back (no_row ∙ sym range)
+
+-- after the last entry no row is left
+pub rows_end : (p : ℕ × Value → Bool) (es rows : List (ℕ × Value)) (i at : ℕ) → at ≤ length rows → length es ≤ i → drop at rows ≡ filter p (drop i es) → nat_eq at (length rows) ≡ true
+rows_end p es rows i at l past h =
+    let none : drop i es ≡ [] = nil_from_length (drop i es) (omega (arith, length-drop i es)) in
+    let size : length (drop at rows) ≡ 0 = ap length (h ∙ ap (λ (xs : List (ℕ × Value)). filter p xs) none) in
+    eq-eqb at (length rows) (omega (arith, length-drop at rows, size))
+
+-- what a scan answered
+pub range_answered : (m : Index) (s : Step) (r : Result Answer Refused) (c : ℕ) (what : Command) (lo hi : ℕ) (answer : Answer) (rows shown entries : List (ℕ × Value)) → s ≡ step.Command c what → what ≡ command.Scan lo hi → r ≡ Ok answer → answer ≡ told.Rows rows → shown ≡ rows → entries ≡ map.entries m → ScansIndex m s r → shown ≡ filter (λ e. nat_le lo e.0 && nat_lt e.0 hi) entries
+range_answered m s r c what lo hi answer rows shown entries of_client scans ok gives same all h =
+    let of_scan : ScansIndex m (step.Command c (command.Scan lo hi)) r = subst (λ (x : Step). ScansIndex m x r) (of_client ∙ ap (λ (x : Command). step.Command c x) scans) h in
+    let range : ScansIndex m (step.Command c (command.Scan lo hi)) (Ok (told.Rows rows)) = subst (λ (x : Result Answer Refused). ScansIndex m (step.Command c (command.Scan lo hi)) x) (ok ∙ ap Ok gives) of_scan in
+    same ∙ range ∙ ap (λ (xs : List (ℕ × Value)). filter (λ e. nat_le lo e.0 && nat_lt e.0 hi) xs) (sym all)
+
+pub answered_range : (m : Index) (s : Step) (r : Result Answer Refused) (c : ℕ) (what : Command) (lo hi : ℕ) (answer : Answer) (rows shown entries : List (ℕ × Value)) → s ≡ step.Command c what → what ≡ command.Scan lo hi → r ≡ Ok answer → answer ≡ told.Rows rows → shown ≡ rows → entries ≡ map.entries m → shown ≡ filter (λ e. nat_le lo e.0 && nat_lt e.0 hi) entries → ScansIndex m s r
+answered_range m s r c what lo hi answer rows shown entries of_client scans ok gives same all h =
+    let range : ScansIndex m (step.Command c (command.Scan lo hi)) (Ok (told.Rows rows)) = sym same ∙ h ∙ ap (λ (xs : List (ℕ × Value)). filter (λ e. nat_le lo e.0 && nat_lt e.0 hi) xs) all in
+    let of_scan : ScansIndex m (step.Command c (command.Scan lo hi)) r = subst (λ (x : Result Answer Refused). ScansIndex m (step.Command c (command.Scan lo hi)) x) (sym (ok ∙ ap Ok gives)) range in
+    subst (λ (x : Step). ScansIndex m x r) (sym (of_client ∙ ap (λ (x : Command). step.Command c x) scans)) of_scan
+
+-- Whole runs
+
+pub ended : (r last : RandomRun) (seed steps : ℕ) (unsound : Option ℕ) → stage_of r ≡ first_of seed → (IsCompatible (world.meaning r.world) → (unsound ≡ None) × RunsRandomly steps (stage_of r) (stage_of last)) → (unsound ≡ None) × EndsRandomRun seed steps (world.meaning last.world)
+ended r last seed steps unsound first runs =
+    let done = runs (first_compatible r seed first) in (
+      done.0,
+      record {
+        last = stage_of last;
+        runs = subst (λ (s : RandomStage). RunsRandomly steps s (stage_of last)) first done.1;
+        world = refl;
+      },
+    )

@@ -1,0 +1,116 @@
+-- What a random run does and writes.
+use Rattle.std.specs.Prelude.{◌≡◌, ℕ, zero, suc, List, [], ◌∷◌, ◌++◌, codes, slice_get, Bool, true, false, Option, None, Some, Result, Ok, Err}
+use Rattle.std.specs.Fmt.{decimal}
+use Rattle.std.specs.Io.KnownBytes.{Appends}
+use Rattle.rand_pcg.specs.Lcg.{Lcg}
+use Rattle.krl_messages.specs.Values.{Value}
+use Rattle.krl_world.specs.States.{State, ServerNode, Up, Down, fresh, sent_count}
+use Rattle.krl_world.specs.Steps.{Steps}
+use Rattle.krl_world.specs.Fields as world
+use Rattle.krl_world.specs.declared.step.Step.{Step}
+use Rattle.krl_world.specs.declared.step.Step.TheVariants as step
+use Rattle.krl_world.specs.declared.answer.Answer.{Answer}
+use Rattle.krl_world.specs.declared.refused.Refused.{Refused}
+use Rattle.krl_script.specs.declared.draws.Sight.{Sight}
+use Rattle.krl_script.specs.declared.random.RandomRun.{RandomRun}
+use Rattle.krl_script.specs.declared.fault.ScriptFault.{ScriptFault}
+use Rattle.krl_script.specs.declared.fault.ScriptFault.TheVariants as script
+use Rattle.krl_script.specs.Draws.{generator_of, drawn}
+use Rattle.krl_script.specs.Printing.{line_of}
+use Rattle.krl_script.specs.Transcripts.{waits_after}
+use Rattle.krl_script.specs.Waiting.{Waits, none_sent, sent_to}
+use Rattle.krl_script.specs.Runs.{Known}
+
+-- a random run between two steps: its world, which messages wait, and its generator
+pub record RandomStage : Type 0 where
+  pub world : State
+  pub waits : Waits
+  pub generator : Lcg
+
+-- the stage that the fields stand for
+abbrev pub stage_of : RandomRun → RandomStage
+stage_of r = record { world = world.meaning r.world; waits = r.waiting; generator = r.draws }
+
+-- the entries with which its world begins
+abbrev pub first_entries : List (ℕ × Value)
+first_entries = (10, 1) ∷ (20, 2) ∷ []
+
+-- before the first step
+abbrev pub first_of : ℕ → RandomStage
+first_of seed =
+    record { world = fresh first_entries; waits = none_sent; generator = generator_of seed }
+
+abbrev pub is_down : ServerNode → Bool
+is_down (Up s) = false
+is_down (Down d) = true
+
+-- what a draw sees
+abbrev pub sight_of : RandomStage → Sight
+sight_of s = record {
+  waiting = slice_get s.waits.waiting 0;
+  sent = sent_count s.world;
+  is_down = is_down s.world.server;
+}
+
+-- which messages wait after a step, apart from those that it sent: one that was delivered waits no
+-- more
+abbrev pub waits_since : Step → Result Answer Refused → Waits → Waits
+waits_since (step.Deliver number) outcome waits = waits_after outcome number waits
+waits_since other outcome waits = waits
+
+-- the world takes the step, or refuses it, and what it sent waits
+pub record TakesDrawn (w : State) (waits : Waits) (what : Step) (generator : Lcg)
+    (s' : RandomStage) : Type 0 where
+  pub outcome : Result Answer Refused
+  pub world : State
+  pub steps : Steps w what outcome world
+  pub leaves : s' ≡ record {
+    world = world;
+    waits = sent_to (waits_since what outcome waits) (sent_count world);
+    generator = generator;
+  }
+
+-- what was drawn is done, and the generator is this one then
+abbrev pub GoesBy : RandomStage → Option Step → Lcg → RandomStage → Type 0
+GoesBy s None generator s' = s' ≡ record s { generator = generator }
+GoesBy s (Some what) generator s' = TakesDrawn s.world s.waits what generator s'
+
+-- the next step is drawn and done
+abbrev pub GoesOn : RandomStage → RandomStage → Type 0
+GoesOn s s' = let d = drawn (sight_of s) s.generator in GoesBy s d.0 d.1 s'
+
+-- so many steps, one after another
+abbrev pub RunsRandomly : ℕ → RandomStage → RandomStage → Type 0
+RunsRandomly zero s s' = s' ≡ s
+RunsRandomly (suc n) s s' = (mid : RandomStage) × RunsRandomly n s mid × GoesOn mid s'
+
+-- the world ends a run of so many steps that this seed draws
+pub record EndsRandomRun (seed steps : ℕ) (w : State) : Type 0 where
+  pub last : RandomStage
+  pub runs : RunsRandomly steps (first_of seed) last
+  pub world : last.world ≡ w
+
+-- how the line of a random run ends: nothing was found, or this is the first step after which
+-- something was not sound
+abbrev pub verdict_end : Option ℕ → List ℕ
+verdict_end None = line_of (codes " sound")
+verdict_end (Some number) = codes " unsound at " ++ line_of (decimal number)
+
+-- the line of a random run
+abbrev pub random_line : ℕ → ℕ → Option ℕ → List ℕ
+random_line seed steps unsound =
+    codes "random " ++ (decimal seed ++ (codes " " ++ (decimal steps ++ verdict_end unsound)))
+
+-- the front of these bytes was written
+abbrev pub WroteFrontOf : Known → Known → List ℕ → Type 0
+WroteFrontOf before after bytes =
+    (front : List ℕ) × (back : List ℕ) × (front ++ back ≡ bytes) × Appends before after front
+
+-- a line was written, or how far the writer got
+abbrev pub WroteLineOf : {A : Type 0} → Known → Known → List ℕ → Result A ScriptFault → Type 0
+WroteLineOf before after line (Ok done) = Appends before after line
+WroteLineOf before after line (Err (script.Read e)) = ⊥
+WroteLineOf before after line (Err script.NoEnd) = ⊥
+WroteLineOf before after line (Err script.Write) = WroteFrontOf before after line
+WroteLineOf before after line (Err script.OutOfMemory) = Appends before after []
+WroteLineOf before after line (Err (script.Syntax n what)) = ⊥

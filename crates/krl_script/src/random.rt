@@ -1,0 +1,280 @@
+//! Random runs.
+ghost use Rattle.std.specs.Prelude.{◌≡◌, ◌≤◌, ◌&&◌, None, Some, true, IfOk, IsErrOf, filter, is_none, nat_le, nat_lt};
+ghost use Rattle.krl_world.specs.States.{index_of};
+ghost use Rattle.krl_world.specs.Fields.{meaning};
+ghost use Rattle.krl_world.specs.Promises.{IsCompatible, ScansIndex};
+ghost use Rattle.krl_script.specs.Soundness.{first_unsound, numbers_below};
+ghost use Rattle.krl_script.specs.RandomRuns.{stage_of, first_entries, first_of, sight_of, waits_since, TakesDrawn, GoesOn, RunsRandomly, EndsRandomRun, random_line, WroteLineOf};
+
+use crate::draws::{Draws, Sight};
+use crate::fault::ScriptFault;
+use crate::soundness::least_unsound;
+use crate::source::Sink;
+use crate::transfer::write_line;
+use crate::waiting::Waiting;
+use krl_messages::Value;
+use krl_modes::END;
+use krl_world::{Answer, Command, Refused, Step, World};
+use std::alloc::{AllocError, Global};
+
+/// The most steps of a random run: 100,000.
+pub const MAX_STEPS: u64 = 100000;
+
+// How many clients a run draws.
+const CLIENTS: u64 = 4;
+
+// They are looked at at the points below this one.
+const POINTS: u64 = 64;
+
+// How many steps are taken from one report to the next.
+const STRIDE: u64 = 10000;
+
+/// Who is told how far a random run is.
+pub trait Progress {
+    /// So many steps were taken by now. It is told of every 10,000th step.
+    fn taken(&mut self, steps: u64);
+}
+
+/// Nobody is told.
+#[derive(Drop)]
+pub struct Untold;
+
+impl Progress for Untold {
+    fn taken(&mut self, _steps: u64) {}
+}
+
+/// A world that takes the steps that are drawn.
+#[derive(Drop)]
+struct RandomRun {
+    draws: Draws,
+    world: World,
+    waiting: Waiting,
+}
+
+fn opening(alloc: Global) -> Result<Vec<(u64, Value)>, AllocError>
+    ensures { IfOk result (λ entries. entries.items ≡ first_entries) }
+{
+    let mut entries = Vec::new(alloc);
+    entries.push((10, 1))?;
+    entries.push((20, 2))?;
+    Ok(entries)
+}
+
+// Whether these rows are the entries with keys from lo on below hi.
+fn are_range(entries: &[(u64, Value)], rows: &[(u64, Value)], lo: u64, hi: u64) -> bool
+    ensures sound { rows.now ≡ filter (λ e. nat_le lo e.0 && nat_lt e.0 hi) entries.now
+        → result ≡ true }
+    ensures looks { result ≡ true
+        → rows.now ≡ filter (λ e. nat_le lo e.0 && nat_lt e.0 hi) entries.now }
+{
+    let mut at = 0;
+    'entries: for entry in entries {
+        if entry.0 < lo || entry.0 >= hi {
+            continue;
+        }
+        if at == rows.len() || rows[at] != *entry {
+            return false;
+        }
+        at += 1;
+    }
+    at == rows.len()
+}
+
+// Whether what a step answered is what the index has, where it is a scan's rows.
+fn answers_index(world: &World, step: Step, outcome: &Result<Answer, Refused>) -> bool
+    ensures sound { ScansIndex (index_of (meaning world.now)) step outcome.now → result ≡ true }
+    ensures looks { result ≡ true → ScansIndex (index_of (meaning world.now)) step outcome.now }
+{
+    let Step::Command(_, command) = step else {
+        return true;
+    };
+    let Command::Scan { lo, hi } = command else {
+        return true;
+    };
+    let Ok(answer) = outcome else {
+        return true;
+    };
+    let Answer::Rows(rows) = answer else {
+        return true;
+    };
+    are_range(world.index(), rows.as_slice(), lo, hi)
+}
+
+// A message that the step delivered waits no more.
+fn pass(waiting: &mut Waiting, step: Step, outcome: &Result<Answer, Refused>)
+    ensures { waiting.new ≡ waits_since step outcome.now waiting.old }
+{
+    let Step::Deliver(number) = step else {
+        return;
+    };
+    if outcome.is_err() {
+        return;
+    }
+    waiting.remove(number);
+}
+
+impl RandomRun {
+    fn new(alloc: Global, seed: u64) -> Result<RandomRun, AllocError>
+        ensures { IfOk result (λ run. stage_of run ≡ first_of seed) }
+    {
+        let entries = opening(alloc)?;
+        match World::new(alloc, entries) {
+            Ok(world) => Ok(RandomRun {
+                draws: Draws::new(seed),
+                world,
+                waiting: Waiting::new(alloc),
+            }),
+            Err(_) => Err(AllocError),
+        }
+    }
+
+    fn sight(&mut self) -> Sight
+        ensures seen { result ≡ sight_of (stage_of self.old) }
+        ensures same { self.new ≡ self.old }
+    {
+        let waiting = self.waiting.oldest();
+        Sight {
+            waiting,
+            sent: self.world.sent(),
+            is_down: self.world.server().is_none(),
+        }
+    }
+
+    // Whether the clients hold what goes together.
+    fn is_sound(&self) -> bool
+        ensures sound { IsCompatible (meaning self.now.world) → result ≡ true }
+        ensures looks { result
+            ≡ is_none (first_unsound (meaning self.now.world) 4 (numbers_below 64)) }
+    {
+        least_unsound(&self.world, CLIENTS, POINTS).is_none()
+    }
+
+    // Takes a step, and says whether what it answered is what the index has.
+    fn take(&mut self, step: Step) -> Result<bool, AllocError>
+        ensures takes { IfOk result (λ answers. TakesDrawn (meaning self.old.world)
+            self.old.waiting step self.old.draws (stage_of self.new)) }
+        ensures sound { IfOk result (λ answers.
+            (answers ≡ true) × IsCompatible (meaning self.new.world)) }
+    {
+        let outcome = self.world.step(step);
+        pass(&mut self.waiting, step, &outcome);
+        let sent = self.world.sent();
+        self.waiting.count(sent)?;
+        Ok(answers_index(&self.world, step, &outcome))
+    }
+
+    // Draws the next step and takes it, and says whether all is sound after it.
+    fn go_on(&mut self) -> Result<bool, AllocError>
+        ensures goes { IfOk result (λ sound. GoesOn (stage_of self.old) (stage_of self.new)) }
+        ensures sound { IsCompatible (meaning self.old.world) → IfOk result (λ sound.
+            (sound ≡ true) × IsCompatible (meaning self.new.world)) }
+        ensures looks { IfOk result (λ sound. sound ≡ true
+            → is_none (first_unsound (meaning self.new.world) 4 (numbers_below 64)) ≡ true) }
+    {
+        let seen = self.sight();
+        let Some(step) = self.draws.step(&seen) else {
+            return Ok(self.is_sound());
+        };
+        let answers = self.take(step)?;
+        Ok(answers & self.is_sound())
+    }
+}
+
+// Tells of every 10,000th step.
+fn tell<P: Progress>(progress: &mut P, steps: u64) {
+    if steps % STRIDE == 0 {
+        progress.taken(steps);
+    }
+}
+
+// Takes so many steps. Gives the first after which something was not sound, and then no more are
+// taken.
+fn first_unsound<P: Progress>(
+    run: &mut RandomRun,
+    progress: &mut P,
+    steps: u64,
+) -> Result<Option<u64>, AllocError>
+    ensures { IsCompatible (meaning run.old.world) → IfOk result (λ unsound. (unsound ≡ None)
+        × RunsRandomly steps (stage_of run.old) (stage_of run.new)) }
+{
+    'steps: for before in 0..steps {
+        let number = before + 1;
+        if !run.go_on()? {
+            return Ok(Some(number));
+        }
+        tell(progress, number);
+    }
+    Ok(None)
+}
+
+// Takes so many steps of this seed. Gives the last world, and the first step after which something
+// was not sound.
+fn driven<P: Progress>(
+    alloc: Global,
+    progress: &mut P,
+    seed: u64,
+    steps: u64,
+) -> Result<(World, Option<u64>), AllocError>
+    ensures { IfOk result (λ end. (end.1 ≡ None) × EndsRandomRun seed steps (meaning end.0)) }
+{
+    let mut run = RandomRun::new(alloc, seed)?;
+    let unsound = first_unsound(&mut run, progress, steps)?;
+    let RandomRun { world, .. } = run;
+    Ok((world, unsound))
+}
+
+// The line of a random run.
+fn verdict(alloc: Global, seed: u64, steps: u64, unsound: Option<u64>) -> Result<String, AllocError>
+    ensures { IfOk result (λ line. line.bytes.items ≡ random_line seed steps unsound) }
+{
+    match unsound {
+        None => format!(in alloc; "random {seed} {steps} sound\n"),
+        Some(number) => format!(in alloc; "random {seed} {steps} unsound at {number}\n"),
+    }
+}
+
+// Writes the line of a random run.
+fn write_verdict<W: Sink>(
+    alloc: Global,
+    writer: &mut W,
+    seed: u64,
+    steps: u64,
+    unsound: Option<u64>,
+) -> Result<(), ScriptFault>
+    ensures wrote { WroteLineOf (W.contents writer.old) (W.contents writer.new)
+        (random_line seed steps unsound) result }
+    ensures steady { W.is_steady writer.old → ¬ IsErrOf result ScriptFault.Write }
+{
+    let line = verdict(alloc, seed, steps, unsound)?;
+    write_line(writer, line.as_bytes())
+}
+
+/// Drives a world with the entries 10=1 and 20=2 through steps that are drawn, and looks after each
+/// at every two of the four clients and every point from 0 to 63, and at the rows of each scan.
+/// Writes the line that says that all was sound, and gives the world and `true`. A step that is
+/// refused, also for want of memory, is a step.
+///
+/// # Errors
+///
+/// `Write` where the writer fails; `OutOfMemory` where the making of the world or the run's own
+/// growth finds no memory: nothing is written then.
+pub fn random_run<W: Sink, P: Progress>(
+    alloc: Global,
+    writer: &mut W,
+    progress: &mut P,
+    seed: u64,
+    steps: u64,
+) -> Result<(World, bool), ScriptFault>
+    requires seed { seed ≤ END }
+    requires some { 1 ≤ steps }
+    requires bounded { steps ≤ MAX_STEPS }
+    ensures ran { IfOk result
+        (λ end. (end.1 ≡ true) × EndsRandomRun seed steps (meaning end.0)) }
+    ensures wrote { WroteLineOf (W.contents writer.old) (W.contents writer.new)
+        (random_line seed steps None) result }
+    ensures steady { W.is_steady writer.old → ¬ IsErrOf result ScriptFault.Write }
+{
+    let (world, unsound) = driven(alloc, progress, seed, steps)?;
+    write_verdict(alloc, writer, seed, steps, unsound)?;
+    Ok((world, unsound.is_none()))
+}

@@ -1,0 +1,84 @@
+//! Whether clients hold what goes together, looked at point by point.
+ghost use Rattle.std.specs.Prelude.{◌≡◌, ◌&&◌};
+ghost use Rattle.krl_modes.specs.Parts.{ranges_compatible, keys_compatible};
+ghost use Rattle.krl_world.specs.States.{range_held, key_held};
+ghost use Rattle.krl_world.specs.Fields.{meaning};
+ghost use Rattle.krl_script.specs.Soundness.{go_together, all_below, is_sound_at, numbers_below, first_unsound, unsound_point};
+
+use krl_modes::{END, KeyPart, RangePart};
+use krl_world::World;
+
+// How many clients `check` looks at.
+const CLIENTS: u64 = 64;
+
+// It looks at the points below this one, and at the last two.
+const POINTS: u64 = 64;
+
+// Whether the client holds at the point what goes beside these parts.
+fn goes_beside(world: &World, range: RangePart, key: KeyPart, client: u64, point: u64) -> bool
+    ensures { result ≡ ranges_compatible range (range_held (meaning world.now) client point)
+        && keys_compatible key (key_held (meaning world.now) client point) }
+{
+    let (other_range, other_key) = world.held(client, point);
+    range.compatible(other_range) && key.compatible(other_key)
+}
+
+// Whether what the client holds at the point goes beside what each client before it holds there.
+fn goes_beside_lower(world: &World, client: u64, point: u64) -> bool
+    ensures { result ≡ all_below client (go_together (meaning world.now) point client) }
+{
+    let (range, key) = world.held(client, point);
+    // N goes beside everything.
+    if range == RangePart::N && key == KeyPart::N {
+        return true;
+    }
+    'others: for other in 0..client {
+        if !goes_beside(world, range, key, other, point) {
+            return false;
+        }
+    }
+    true
+}
+
+/// Whether what the first so many clients hold at the point goes together.
+pub fn is_sound_at(world: &World, clients: u64, point: u64) -> bool
+    ensures { result ≡ is_sound_at (meaning world.now) clients point }
+{
+    'clients: for client in 0..clients {
+        if !goes_beside_lower(world, client, point) {
+            return false;
+        }
+    }
+    true
+}
+
+/// The least point below this one at which what the first so many clients hold does not go
+/// together.
+pub fn least_unsound(world: &World, clients: u64, below: u64) -> Option<u64>
+    ensures { result ≡ first_unsound (meaning world.now) clients (numbers_below below) }
+{
+    'points: for point in 0..below {
+        if !is_sound_at(world, clients, point) {
+            return Some(point);
+        }
+    }
+    None
+}
+
+/// The least of the points 0 to 63, END - 1 and END at which two clients hold what does not go
+/// together.
+pub fn unsound_point(world: &World) -> Option<u64>
+    ensures { result ≡ unsound_point (meaning world.now) }
+{
+    let below = least_unsound(world, CLIENTS, POINTS);
+    if below.is_some() {
+        return below;
+    }
+    if !is_sound_at(world, CLIENTS, END - 1) {
+        return Some(END - 1);
+    }
+    if !is_sound_at(world, CLIENTS, END) {
+        return Some(END);
+    }
+    None
+}

@@ -1,0 +1,92 @@
+//! Random runs, on writers that have room or too little.
+ghost use Rattle.std.specs.Prelude.{◌≤◌};
+
+use crate::scripts::writer;
+use krl_modes::END;
+use krl_script::{AnyWriter, MAX_STEPS, Progress, ScriptFault, Untold, random_run};
+use std::alloc::Global;
+use std::test::Fail;
+
+/// Counts how often it is told of steps, and keeps the last number.
+#[derive(Drop)]
+struct Counted {
+    times: u64,
+    last: u64,
+}
+
+impl Progress for Counted {
+    fn taken(&mut self, steps: u64) {
+        self.times = self.times.saturating_add(1);
+        self.last = steps;
+    }
+}
+
+/// Whether the run is sound, and writes this line and no more.
+fn writes(alloc: Global, seed: u64, steps: u64, line: &str) -> bool
+    requires seed { seed ≤ END }
+    requires some { 1 ≤ steps }
+    requires bounded { steps ≤ MAX_STEPS }
+{
+    let mut taken = AnyWriter(writer(line, 7, 1000));
+    let end = random_run(alloc, &mut taken, &mut Untold, seed, steps);
+    matches!(end, Ok((_, true))) && taken.0.is_right && taken.0.rest.is_empty()
+}
+
+/// Whether the run ends as a write fault, with as much of its line as there was room for.
+fn is_cut(alloc: Global, line: &str, room: usize) -> bool {
+    let mut taken = AnyWriter(writer(line, 2, room));
+    let end = random_run(alloc, &mut taken, &mut Untold, 7, 10);
+    matches!(end, Err(ScriptFault::Write))
+        && taken.0.is_right
+        && taken.0.rest.len() == line.len().saturating_sub(room)
+}
+
+#[test]
+fn each_seed_is_sound(rt: HostRuntime) -> Result<(), Fail> {
+    for seed in 0..20u64 {
+        let line = format!(in rt.alloc(); "random {seed} 200 sound\n")?;
+        assert!(rt; writes(rt.alloc(), seed, 200, &line), "seed {seed}");
+    }
+    assert!(rt; writes(rt.alloc(), END, 1, "random 9223372036854775807 1 sound\n"));
+    Ok(())
+}
+
+/// How many writes the run applied.
+fn applied(alloc: Global, seed: u64) -> usize
+    requires { seed ≤ END }
+{
+    let mut taken = AnyWriter(writer("", 1000, 1000));
+    match random_run(alloc, &mut taken, &mut Untold, seed, 200) {
+        Ok((world, _)) => world.writes().len(),
+        Err(_) => 0,
+    }
+}
+
+#[test]
+fn some_runs_apply_writes(rt: HostRuntime) {
+    let mut writing = 0u64;
+    for seed in 0..20u64 {
+        if applied(rt.alloc(), seed) > 0 {
+            writing = writing.saturating_add(1);
+        }
+    }
+    assert!(rt; writing > 0);
+}
+
+#[test]
+fn a_write_that_fails_ends_the_run(rt: HostRuntime) {
+    let line = "random 7 10 sound\n";
+    for room in 0..line.len() {
+        assert!(rt; is_cut(rt.alloc(), line, room), "room {room}");
+    }
+    assert!(rt; !is_cut(rt.alloc(), line, line.len()));
+}
+
+#[test]
+fn every_10000th_step_is_told(rt: HostRuntime) {
+    let mut told = Counted { times: 0, last: 0 };
+    let mut taken = AnyWriter(writer("random 3 20001 sound\n", 1000, 1000));
+    let end = random_run(rt.alloc(), &mut taken, &mut told, 3, 20001);
+    assert!(rt; end.is_ok());
+    assert!(rt; told.times == 2 && told.last == 20000);
+}
