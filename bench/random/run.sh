@@ -8,9 +8,7 @@
 # steps a second the longer one takes.
 set -eu
 
-top=$(CDPATH='' cd -- "$(dirname -- "$0")/../.." && pwd)
-program=${1-$top/crates/krl/out/krl}
-[ -x "$program" ] || { echo "there is no program $program: build it by ./krl" >&2; exit 1; }
+. "$(dirname -- "$0")/../program.sh"
 
 # Gives the processor milliseconds of a run of seed $1 with $2 steps.
 once() {

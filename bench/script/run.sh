@@ -21,11 +21,7 @@
 # held. It stops where the two transcripts differ, or where the half's does not begin the whole's.
 set -eu
 
-top=$(CDPATH='' cd -- "$(dirname -- "$0")/../.." && pwd)
-program=${1-$top/crates/krl/out/krl}
-[ -x "$program" ] || { echo "there is no program $program: build it by ./krl" >&2; exit 1; }
-work=$(mktemp -d)
-trap 'rm -rf "$work"' EXIT
+. "$(dirname -- "$0")/../program.sh"
 
 cc -O2 -o "$work/twin" "$top/bench/script/twin.c"
 

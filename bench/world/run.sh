@@ -16,11 +16,7 @@
 # 2 where a line costs the same wherever it stands. It stops where the half's transcript does not begin the whole's.
 set -eu
 
-top=$(CDPATH='' cd -- "$(dirname -- "$0")/../.." && pwd)
-program=${1-$top/crates/krl/out/krl}
-[ -x "$program" ] || { echo "there is no program $program: build it by ./krl" >&2; exit 1; }
-work=$(mktemp -d)
-trap 'rm -rf "$work"' EXIT
+. "$(dirname -- "$0")/../program.sh"
 
 awk -v to="$work" '
 function text(name) { file = to "/" name; opening = file ".opening"; begun = 0; lines = 0; say("fill 60000"); say("client 0"); say("settle") }
