@@ -3,8 +3,9 @@
 #
 #     ./krl script < examples/first.krl
 #
-# The proved program is built first, where it is not built yet or its sources are newer; `rt` is asked for only then.
-# With --unproved before the words the same sources are run at once and nothing is proved.
+# Where the program is proved and built, and none of its sources is newer, that program runs. Where it is not, the same
+# sources run unproved, within about a minute. With --prove before the words, or alone, every crate of the program is
+# proved first, and the program is built. Only these two ask for `rt`, the command of the Rattle kit.
 set -eu
 
 # The folder of this file itself, whatever link it was called by.
@@ -19,41 +20,201 @@ done
 top=$(CDPATH='' cd -- "$(dirname -- "$self")" && pwd -P)
 crate=$top/crates/krl
 program=$crate/out/krl
+usage=$crate/usage
+
+# An unproved run is slow: ten thousand lines of a script were seen to take three minutes.
+seconds=900
+
+say() {
+    echo "krl: $1" >&2
+}
 
 need_rt() {
     command -v rt >/dev/null && return
-    echo "krl: 'rt', the command of the Rattle kit, is not on the PATH, and $1" >&2
+    say "'rt', the command of the Rattle kit, is not on the PATH, and $1 needs it"
     exit 1
 }
 
-if [ "${1-}" = --unproved ]; then
-    shift
-    need_rt "an unproved run needs it"
-    echo "krl: nothing of this run is proved; it takes about a minute, and has room for 1 MiB of output" >&2
-    status=0
-    (cd "$crate" && rt try -- "$@") || status=$?
-    if [ "$status" = 6 ]; then
-        echo "krl: an unproved run gives no answer past 1 MiB of output or 60 seconds: leave --unproved out" >&2
-    fi
-    exit "$status"
-fi
-
-# Whether some file that the program is made from is newer than the program.
-is_stale() {
-    [ -n "$(find "$top/crates" "$top/crates.txt" \
-        \( -name out -o -name must-fail -o -name '*_tests' \) -prune -o -type f -newer "$program" -print | head -n 1)" ]
+# Whether the program is built, and no file that it is made from is newer.
+is_built() {
+    [ -x "$program" ] && [ -z "$(find "$top/crates" "$top/crates.txt" \
+        \( -name out -o -name must-fail -o -name wrong -o -name usage -o -name '*_tests' \) -prune \
+        -o -type f -newer "$program" -print | head -n 1)" ]
 }
 
-if [ ! -x "$program" ] || is_stale; then
-    need_rt "the program is not built from its sources as they stand"
-    echo "krl: proving and building the program: up to half an hour on four processors the first time, less after an edit" >&2
+# Answers as the program itself does where its words ask for no run.
+answer() {
+    case "$#:${1-}:${2-}" in
+    0:*) text=none ;;
+    *:--help:* | *:-h:* | 1:help:*) text=help ;;
+    *:--version:* | *:-V:*) text=version ;;
+    2:script:--help | 2:script:-h | 2:help:script) text=script ;;
+    2:random:--help | 2:random:-h | 2:help:random) text=random ;;
+    *:script:* | *:random:*) return 0 ;;
+    *:help:*) refuse "unrecognized subcommand '$2'" ;;
+    *:-*) refuse "unexpected argument '$1' found" ;;
+    *) refuse "unrecognized subcommand '$1'" ;;
+    esac
+    cat "$usage/$text.txt" >&2
+    exit 2
+}
+
+refuse() {
+    printf 'error: %s\n\n' "$1" >&2
+    sed -n '/^Usage/,$p' "$usage/none.txt" >&2
+    exit 2
+}
+
+# Runs the sources as they stand, unproved.
+run_unproved() {
+    need_rt "a program that is not built"
+    say "not proved here yet: this run of the sources is unproved, and takes about a minute"
+    say "'./krl --prove' proves and builds it, in about 20 minutes on four processors; then a run takes milliseconds"
+    status=0
+    (cd "$crate" && rt try --seconds "$seconds" -- "$@" 2>"$work/said") || status=$?
+    if grep -q '^run=ended' "$work/said"; then
+        grep -v -e '^checked: ' -e '^interpreter: ' -e '^run=' "$work/said" >&2 || :
+    else
+        cat "$work/said" >&2
+        say "no answer: an unproved run has room for 1 MiB of output, and for $seconds seconds; a proved one has no such limit"
+    fi
+    exit "$status"
+}
+
+# The crates of the repository that the crate $1 is made of, itself too, lowest first.
+made_of() {
+    awk -v top="$1" '
+        { sub(/#.*/, ""); colon = index($0, ":") }
+        colon { name[++count] = substr($0, 1, colon - 1); uses[count] = substr($0, colon + 1) }
+        END {
+            needed[top]
+            for (i = count; i > 0; i--)
+                if (name[i] in needed) {
+                    split(uses[i], below, " ")
+                    for (at in below) needed[below[at]]
+                }
+            for (i = 1; i <= count; i++)
+                if (name[i] in needed) print name[i]
+        }' "$top/crates.txt"
+}
+
+# The lines of the list $1 that are in the list $2, or, with -v before them, those that are not.
+among() {
+    invert=
+    [ "$1" != -v ] || { invert=-v; shift; }
+    echo "$1" | grep -Fx $invert -e "$2" || :
+}
+
+# Calls rt in the folder $1 with the words behind $2, and keeps what it says as $2.log. Where it fails, the end of that
+# is shown.
+call_rt() {
+    folder=$1 log=$work/$2.log
+    shift 2
+    (cd "$folder" && exec rt "$@") </dev/null >"$log" 2>&1 &
+    running=$!
+    wait "$running" && running= && return
+    tail -n 40 "$log" >&2
+    return 1
+}
+
+tell() {
+    at=$(echo "$all" | grep -nFx "$1" | cut -d : -f 1)
+    say "proving $1, crate $at of $count; $((($(date +%s) - began) / 60)) minutes so far"
+}
+
+# Proves the crates of the list $2 in the tree $1, one after another.
+prove() {
+    for name in $2; do
+        tell "$name"
+        call_rt "$1/crates/$name" "$name" lib || {
+            say "$name is not proved; the lines above say why"
+            return 1
+        }
+    done
+}
+
+# Whether there are processors and memory for two proofs side by side.
+has_room_for_two() {
+    [ "$(nproc)" -ge 4 ] && awk '$1 == "MemAvailable:" { room = $2 } END { exit room < 12000000 }' /proc/meminfo
+}
+
+# Proves what the client is made of beside what the server is made of. Two runs of rt in one tree wait for each other,
+# so the client's part is proved in a copy of the tree, and what rt keeps of it is brought back.
+prove_side_by_side() {
+    copy=$work/copy
+    mkdir "$copy"
+    (cd "$top" && tar cf - --exclude out crates.txt crates) | (cd "$copy" && tar xf -)
+    for name in $(made_of krl_client_machine); do
+        [ ! -d "$top/crates/$name/out" ] || cp -Rp "$top/crates/$name/out" "$copy/crates/$name"
+    done
+    (
+        trap 'kill "$running"' TERM
+        prove "$copy" "$1"
+    ) &
+    other=$!
+    failed=0
+    prove "$top" "$2" || failed=1
+    wait "$other" || failed=1
+    other=
+    for name in $1; do
+        rm -rf "$top/crates/$name/out"
+        [ ! -d "$copy/crates/$name/out" ] || mv "$copy/crates/$name/out" "$top/crates/$name/out"
+    done
+    rm -rf "$copy"
+    return "$failed"
+}
+
+# Proves all that the program is made of, lowest first, and builds it.
+prove_and_build() {
+    need_rt "a proof"
+    began=$(date +%s)
+    all=$(made_of krl)
+    count=$(echo "$all" | wc -l)
+    server=$(made_of krl_server)
+    client=$(made_of krl_client_machine)
+    say "proving and building the program: about 20 minutes on four processors the first time, less after an edit"
+    left=$(among -v "$all" krl)
+    if has_room_for_two; then
+        prove "$top" "$(among "$server" "$client")" || exit 1
+        prove_side_by_side "$(among -v "$client" "$server")" "$(among -v "$server" "$client")" || exit 1
+        left=$(among -v "$(among -v "$left" "$server")" "$client")
+    fi
+    prove "$top" "$left" || exit 1
+    tell krl
     # A script of no lines writes nothing, so the run that rt makes after the build can't be seen.
-    (cd "$crate" && rt run -- script </dev/null >&2) || {
-        echo "krl: the program is not built; the lines above say why" >&2
+    call_rt "$crate" krl run -- script || {
+        say "the program is not built; the lines above say why"
         exit 1
     }
     touch "$program"
-    echo "krl: built" >&2
-fi
+    say "proved and built, in $((($(date +%s) - began) / 60)) minutes"
+}
 
+asked=
+if [ "${1-}" = --prove ]; then
+    asked=--prove
+    shift
+fi
+if is_built; then
+    [ -z "$asked" ] || [ $# -gt 0 ] || { say "proved and built"; exit 0; }
+    exec "$program" "$@"
+fi
+[ -n "$asked" ] || answer "$@"
+
+# Whatever ends the launcher ends what it started.
+running='' other=''
+clear() {
+    # shellcheck disable=SC2086
+    [ -z "$running$other" ] || kill $running $other 2>/dev/null || :
+    rm -rf "$work"
+}
+
+work=$(mktemp -d)
+trap clear EXIT
+trap 'exit 130' INT
+trap 'exit 143' TERM HUP
+[ -n "$asked" ] || run_unproved "$@"
+prove_and_build
+[ $# -gt 0 ] || exit 0
+rm -rf "$work"
 exec "$program" "$@"

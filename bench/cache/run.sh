@@ -21,7 +21,7 @@ crates=$(cd "$here/../../crates" && pwd)
 room=$(mktemp -d)
 trap 'rm -rf "$room"' EXIT
 
-for crate in krl_modes krl_messages krl_cache; do
+for crate in krl_modes krl_messages krl_cache krl_cache_laws; do
     mkdir -p "$room/crates/$crate"
     for part in src specs proofs; do
         if [ -d "$crates/$crate/$part" ]; then cp -r "$crates/$crate/$part" "$room/crates/$crate/"; fi
@@ -34,7 +34,8 @@ mkdir -p "$room/crates/cache/src"
 cp "$here/main.rt.txt" "$room/crates/cache/src/main.rt"
 {
     printf 'krl_modes: thiserror\nkrl_messages: krl_modes\n'
-    printf 'krl_cache: krl_modes krl_messages\ncache: krl_modes krl_messages krl_cache\n'
+    printf 'krl_cache: krl_modes krl_messages\nkrl_cache_laws: krl_modes krl_messages krl_cache\n'
+    printf 'cache: krl_modes krl_messages krl_cache krl_cache_laws\n'
 } >"$room/crates.txt"
 printf 'Handles allowed: none.\n' >"$room/HANDLES"
 

@@ -5,10 +5,12 @@
 #
 # main.rt.txt, proved and built by rt, tells a server the same messages at places that no processor could guess:
 #
-#   lock-of-101        one of the Locks of a client that locks the 101 slots of a scan of 100 rows one by one; each is
-#                      answered, and acknowledges the push before
-#   release-of-101     one Release over those slots
+#   scan-by-101        the Locks of a client that locks the 101 slots of a scan of 100 rows one by one, all of them; each
+#                      is answered, and acknowledges the push before
+#   scan-by-13         the same slots by 13 Locks of a range, each of which gets up to eight slots
+#   release-of-101, release-of-13    one Release over those slots
 #   delete, insert, put    one Write, far from the last, that is Applied
+#   ack-at-63-slots, ack-at-one-slot    an Ack while 63 other clients wait for what its sender holds
 #   wait-of-64         one of the Locks by which 64 clients come to wait at a slot that each of them reads; each calls 63
 #                      others back
 #   start              a start on what survives, which registers 64 clients

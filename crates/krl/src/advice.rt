@@ -35,6 +35,9 @@ fn for_syntax(what: SyntaxFault) -> &'static str {
         SyntaxFault::BadNumber =>
             "write 1 to 20 digits, at most 18446744073709551615, or END or TOP",
         SyntaxFault::BadPair => "write a key and its value as 10=1",
+        SyntaxFault::BadValue => {
+            "a value is a number, or x and an even number of hexadecimal digits, at most 64"
+        }
         SyntaxFault::BadMode => {
             "write one of N, S, U, X, RangeS-S, RangeS-U, RangeI-N, RangeI-S, RangeI-U, RangeI-X, \
              RangeX-S, RangeX-U, RangeX-X"

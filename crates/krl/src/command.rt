@@ -1,11 +1,12 @@
 //! The words of the command line.
 ghost use Rattle.std.specs.Prelude.{◌≤◌};
 ghost use Rattle.krl_modes.specs.declared.point.TheConstants.{END};
-ghost use Rattle.krl_script.specs.declared.random.TheConstants.{MAX_STEPS};
+ghost use Rattle.krl_script.specs.Limits.{most_steps};
 
 use clap::builder::ValueParser;
 use clap::{Arg, ArgAction, ArgMatches, Command, Error};
 use krl_modes::END;
+use krl_picture::Form;
 use krl_script::MAX_STEPS;
 use std::alloc::{AllocError, Global};
 
@@ -18,14 +19,16 @@ pub struct RandomOptions {
     pub steps: u64,
     /// Whether it tells how far it is, wherever standard error goes.
     pub progress: bool,
-    pub ghost in_range: { (seed ≤ END) × (1 ≤ steps) × (steps ≤ MAX_STEPS) },
+    pub ghost in_range: { (seed ≤ END) × (1 ≤ steps) × (steps ≤ most_steps) },
 }
 
 /// What a command line asks for.
 #[derive(Clone, Copy)]
 pub enum Request {
-    /// A script from standard input.
+    /// A script from standard input, and its transcript.
     Script,
+    /// A script from standard input, and a picture of its run.
+    Picture(Form),
     /// A random run; None where its options are out of range, which clap refuses.
     Random(Option<RandomOptions>),
 }
@@ -38,14 +41,15 @@ is passed over.
   fill N            makes the world with the keys 0 to N-1, each its own value, in place of seed
   client C          starts client C, 0 to 63
   lock C P MODE     client C asks for the slot of point P in this mode, as S or RangeS-U
+  lock C P MODE HI  the same, and for the slots after it that begin below HI, up to 8 if free
   insert C K V      client C asks for an entry with key K and value V; put changes one
-  delete C K        client C asks that the entry with key K goes
+  delete C K        client C asks for the end of the entry with key K
   scan C LO HI      client C reads its cache from LO on below HI: rows, or the first point it
                     misses, or the key of its write that is pending there
   forget C LO HI    client C gives back what it holds from LO on below HI
   pin C LO HI       client C keeps it, and prints the pin's number; unpin C ID frees that pin
   leave C           client C gives everything back and ends
-  tick C            client C says again what is not answered; nudge C asks the server to
+  tick C            client C repeats what is not answered; nudge C asks the server to
   crash C           client C, or with the word server the server, stops; start server starts one
   deliver I         delivers message I, counted from 1, for the first time or again
   next N            delivers the oldest N waiting messages; settle delivers until none waits
@@ -54,18 +58,19 @@ is passed over.
   status C          prints client C's epoch, last push seen, last lock and last write
   missing           prints the clients that have not reported to the server
   index, writes     print the entries, and the writes that were applied
-  check             prints whether the clients hold what goes together: sound, or unsound and a
+  check             prints whether what the clients hold is compatible: sound, or unsound and a
                     point
-  modes             prints which modes go together, and the joins of modes
+  modes             prints which modes are compatible, and the joins of modes
 
-A number has 1 to 20 digits, or is END (the last point) or TOP (one past it). What the lines print
-goes to standard output. A line that can't be read ends the script with status 1.";
+A number has 1 to 20 digits, or is END (the last point) or TOP (one past it). A value is a number,
+which stands for its 8 bytes, or x and 0 to 64 hexadecimal digits, two for each byte. What the
+lines print goes to standard output. A line that can't be read ends the script with status 1.";
 
 const RANDOM: &str = "\
 A random run begins with the entries 10=1 and 20=2, and takes N steps that are drawn from the seed:
 four clients lock, write, scan, give back, start and stop, the server stops and starts, and messages
-come late, again or never. After each step the run looks whether every two clients hold what goes
-together at each point from 0 to 63, and whether the rows of a scan are those of the index. Then
+come late, again or never. After each step the run looks whether what every two clients hold is
+compatible at each point from 0 to 63, and whether the rows of a scan are those of the index. Then
 the line 'random SEED STEPS sound' is printed, and the status is 0. The same words give the same run.";
 
 // A number from `least` to `most` that has to be given.
@@ -86,33 +91,51 @@ fn number<'a>(
         .help(help)
 }
 
-fn random_command<'a>(alloc: Global) -> Result<Command<'a>, AllocError> {
-    let seed = number(
-        alloc,
-        "seed",
-        "0 to 9223372036854775807",
-        0,
-        END,
-        "What the steps are drawn from",
-    );
-    let steps = number(
-        alloc,
-        "steps",
-        "1 to 100000",
-        1,
-        MAX_STEPS,
-        "How many steps are taken, refused ones too",
-    );
-    let progress = Arg::new(alloc, "progress")
-        .long("progress")
+// A word that stands or does not.
+fn flag<'a>(alloc: Global, name: &'a str, help: &'a str) -> Arg<'a> {
+    Arg::new(alloc, name)
+        .long(name)
         .action(ArgAction::SetTrue)
-        .help("Tell of every 10,000th step on standard error, also where it is no terminal");
+        .help(help)
+}
+
+fn script_command<'a>(alloc: Global) -> Result<Command<'a>, AllocError> {
+    Command::new(alloc, "script")
+        .about("Run a script from standard input, and write its transcript to standard output")
+        .after_help(WORDS)
+        .arg(flag(
+            alloc,
+            "picture",
+            "Write a picture of the run in its place: each message, crash and start, in 120 columns",
+        ))?
+        .arg(flag(alloc, "svg", "Write that picture as a drawing in SVG"))
+}
+
+fn random_command<'a>(alloc: Global) -> Result<Command<'a>, AllocError> {
     Command::new(alloc, "random")
         .about("Drive a world through steps that are drawn, and say whether it stayed sound")
         .after_help(RANDOM)
-        .arg(seed)?
-        .arg(steps)?
-        .arg(progress)
+        .arg(number(
+            alloc,
+            "seed",
+            "0 to 9223372036854775807",
+            0,
+            END,
+            "What the steps are drawn from",
+        ))?
+        .arg(number(
+            alloc,
+            "steps",
+            "1 to 100000",
+            1,
+            MAX_STEPS,
+            "How many steps are taken, refused ones too",
+        ))?
+        .arg(flag(
+            alloc,
+            "progress",
+            "Tell of every 10,000th step on standard error, also where it is no terminal",
+        ))
 }
 
 // What clap found, which is in the ranges that it was told.
@@ -129,10 +152,21 @@ fn random_options(matches: &ArgMatches) -> Option<RandomOptions> {
     })
 }
 
+fn script_request(matches: &ArgMatches) -> Request {
+    if matches.get_flag("svg") {
+        Request::Picture(Form::Svg)
+    } else if matches.get_flag("picture") {
+        Request::Picture(Form::Text)
+    } else {
+        Request::Script
+    }
+}
+
 fn request_of(matches: &ArgMatches) -> Request {
     match matches.subcommand() {
         Some(("random", options)) => Request::Random(random_options(options)),
-        _ => Request::Script,
+        Some((_, options)) => script_request(options),
+        None => Request::Script,
     }
 }
 
@@ -143,9 +177,7 @@ fn request_of(matches: &ArgMatches) -> Request {
 /// What clap says of words that it refuses, of `--help` and of `--version`; its kind is
 /// `OutOfMemory` where memory ran out.
 pub fn read(alloc: Global, words: &[String]) -> Result<Request, Error> {
-    let script = Command::new(alloc, "script")
-        .about("Run a script from standard input, and write its transcript to standard output")
-        .after_help(WORDS);
+    let script = script_command(alloc)?;
     let random = random_command(alloc)?;
     let command = Command::new(alloc, "krl")
         .version("0.1.0")

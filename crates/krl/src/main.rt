@@ -1,93 +1,138 @@
-//! The program: `krl script` runs a script that is read from standard input, and `krl random` drives
-//! a world through steps that are drawn.
+//! The program: `krl script` runs a script that is read from standard input, and `krl random`
+//! drives a world through steps that are drawn.
 #![tactic(auto)]
+
+ghost use Rattle.std.specs.Prelude.{None};
+ghost use Rattle.krl_script.specs.RandomRuns.{random_line};
+ghost use Rattle.krl.specs.Statuses.{RanTo, DroveTo};
 
 mod advice;
 mod command;
 mod progress;
+mod status;
 
+use clap::Error;
 use clap::error::ErrorKind;
 use command::{RandomOptions, Request};
-use krl_script::{AnyReader, AnyWriter, ScriptFault, random_run, run_script};
+use krl_picture::{Form, write_picture};
+use krl_script::{
+    AnyReader, AnyWriter, Progress, ScriptFault, Sink, Source, random_run, run_script,
+};
 use progress::Told;
+use status::NO_RUN;
 use std::io;
 use std::io::IsTerminal;
 use std::process::ExitCode;
 
-// The status of a command line that asks for no run.
-const USAGE: u8 = 2;
-
-// Does what the command line says. Words that are refused are status 2, also where standard error
-// can't be written to say so, and every other failure is status 1.
-fn run(rt: &HostRuntime) -> io::Result<ExitCode> {
+// Does what the command line says, and gives the exit status. Words that are refused are status 2,
+// also where standard error can't be written to say so, and every other failure is status 1.
+fn run(rt: &HostRuntime) -> io::Result<u8> {
     let words = match std::env::args(rt) {
         Err(error) if error.kind() == io::ErrorKind::InvalidData => {
             let _ = eprintln!(rt; "krl: a word of the command line is no UTF-8 (try 'krl --help')");
-            return Ok(ExitCode::from(USAGE));
+            return Ok(NO_RUN);
         }
         words => words?,
     };
     let words: Vec<String> = words.collect(rt.alloc())?;
-    match command::read(rt.alloc(), words.as_slice()) {
+    Ok(obey(rt, command::read(rt.alloc(), words.as_slice())))
+}
+
+// Does what was asked for.
+fn obey(rt: &HostRuntime, request: Result<Request, Error>) -> u8 {
+    match request {
         Ok(Request::Script) => script(rt),
+        Ok(Request::Picture(form)) => picture(rt, form),
         Ok(Request::Random(Some(options))) => random(rt, &options),
-        Ok(Request::Random(None)) => Ok(ExitCode::from(USAGE)),
-        Err(error) if error.kind() == ErrorKind::OutOfMemory => {
-            Err(io::Error::from(io::ErrorKind::OutOfMemory))
-        }
+        Ok(Request::Random(None)) => NO_RUN,
         Err(error) => {
-            let _ = rt.eprint(&error);
-            Ok(ExitCode::from(USAGE))
+            complain(rt, &error);
+            status::of_words(&error)
         }
+    }
+}
+
+// Says what clap found.
+fn complain(rt: &HostRuntime, error: &Error) {
+    if error.kind() == ErrorKind::OutOfMemory {
+        let _ = eprintln!(rt; "krl: {}", io::Error::from(io::ErrorKind::OutOfMemory));
+    } else {
+        let _ = rt.eprint(error);
     }
 }
 
 // Runs a script from standard input, and writes its transcript to standard output.
-fn script<R: Print + Eprint + Input + AllocGlobal>(rt: &R) -> io::Result<ExitCode> {
+fn script<R: Print + Eprint + Input + AllocGlobal>(rt: &R) -> u8 {
     let mut reader = AnyReader(rt.reader());
     let mut writer = AnyWriter(io::writer(rt));
-    match run_script(rt.alloc(), &mut reader, &mut writer) {
-        Ok(()) => Ok(ExitCode::SUCCESS),
-        Err(fault) => {
-            report(rt, fault)?;
-            Ok(ExitCode::from(1))
-        }
+    run_over(rt, &mut reader, &mut writer)
+}
+
+// Runs a script from standard input, and writes a picture of its run to standard output.
+fn picture(rt: &HostRuntime, form: Form) -> u8 {
+    let mut reader = AnyReader(rt.reader());
+    let mut writer = AnyWriter(io::writer(rt));
+    let ended = write_picture(rt.alloc(), &mut reader, &mut writer, form);
+    if let Err(fault) = &ended {
+        report(rt, *fault, advice::for_fault(*fault));
     }
+    status::of_script(&ended)
+}
+
+// Runs the script that is read, writes its transcript, and says on standard error why it ended
+// before its last line.
+fn run_over<H: Eprint + AllocGlobal, R: Source, W: Sink>(
+    rt: &H,
+    reader: &mut R,
+    writer: &mut W,
+) -> u8
+    ensures { RanTo (R.remaining reader.old) (R.remaining reader.new)
+        (W.contents writer.old) (W.contents writer.new) result }
+{
+    let ended = run_script(rt.alloc(), reader, writer);
+    if let Err(fault) = &ended {
+        report(rt, *fault, advice::for_fault(*fault));
+    }
+    status::of_script(&ended)
 }
 
 // Takes the steps of a random run, and prints whether all was sound.
-fn random(rt: &HostRuntime, options: &RandomOptions) -> io::Result<ExitCode> {
+fn random(rt: &HostRuntime, options: &RandomOptions) -> u8 {
     let is_told = options.progress || rt.stderr().is_terminal();
     let mut progress = Told::new(rt, is_told, options.steps);
     let mut writer = AnyWriter(io::writer(rt));
-    match random_run(
-        rt.alloc(),
-        &mut writer,
-        &mut progress,
-        options.seed,
-        options.steps,
-    ) {
-        Ok((_, true)) => Ok(ExitCode::SUCCESS),
-        Ok((_, false)) => Ok(ExitCode::from(1)),
-        Err(fault) => {
-            eprintln!(rt; "krl: {fault} ({})", advice::for_random(fault))?;
-            Ok(ExitCode::from(1))
-        }
-    }
+    random_over(rt, &mut writer, &mut progress, options)
 }
 
-// Says on standard error why a script ended before its last line, and what can be done about it.
-fn report(rt: &impl Eprint, fault: ScriptFault) -> io::Result<()> {
-    eprintln!(rt; "krl: {fault} ({})", advice::for_fault(fault))
+// Takes the steps, writes the line of the run, and says on standard error why it can't be written.
+fn random_over<H: Eprint + AllocGlobal, W: Sink, P: Progress>(
+    rt: &H,
+    writer: &mut W,
+    progress: &mut P,
+    options: &RandomOptions,
+) -> u8
+    ensures { DroveTo (W.contents writer.old) (W.contents writer.new)
+        (random_line options.now.seed options.now.steps None) result }
+{
+    let ended = random_run(rt.alloc(), writer, progress, options.seed, options.steps);
+    if let Err(fault) = &ended {
+        report(rt, *fault, advice::for_random(*fault));
+    }
+    status::of_random(&ended)
+}
+
+// Says on standard error why a run ended, and what can be done about it. Where that can't be
+// written, the status alone is left to say it.
+fn report(rt: &impl Eprint, fault: ScriptFault, advice: &str) {
+    let _ = eprintln!(rt; "krl: {fault} ({advice})");
 }
 
 fn main(rt: HostRuntime) -> ExitCode {
     match run(&rt) {
-        Ok(code) => code,
+        Ok(status) => ExitCode::from(status),
         Err(error) => {
-            // Where standard error can't be written, the status alone is left to say it.
             let _ = eprintln!(rt; "krl: {error}");
-            ExitCode::from(1)
+            ExitCode::FAILURE
         }
     }
 }

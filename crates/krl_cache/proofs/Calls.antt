@@ -1,5 +1,5 @@
 -- Calls leave a belief.
-use Rattle.std.proofs.Common.{◌≡◌, ◌≢◌, ℕ, suc, ◌≤◌, ◌<◌, Bool, true, false, ◌&&◌, not, Option, Some, None, is_some, refl, sym, subst, arith, nat_lt, nat_le, if◌then◌else◌, leb-true, eqb-true}
+use Rattle.std.proofs.Common.{◌≡◌, ◌≢◌, ℕ, suc, ◌≤◌, ◌<◌, Bool, true, false, ◌&&◌, not, List, [], ◌∷◌, Option, Some, None, is_some, refl, sym, subst, arith, nat_lt, nat_le, if◌then◌else◌, leb-true, eqb-true}
 use Rattle.std.proofs.lemmas.Bool.{eqb-false}
 use Rattle.std.proofs.lemmas.Bool.Decides.{nat_tests}
 use Rattle.krl_modes.specs.declared.point.TheConstants.{END, TOP}
@@ -11,9 +11,12 @@ use Rattle.krl_modes.specs.declared.mode.Mode.{Mode}
 use Rattle.krl_modes.specs.Parts.{range_meet, key_meet, reads_key}
 use Rattle.krl_modes.specs.Modes.{range_of, key_of}
 use Rattle.krl_modes.specs.Spans.{Bounds, contains}
+use Rattle.krl_messages.specs.Values.{Value}
 use Rattle.krl_messages.specs.declared.holding.Holding.{Holding}
+use Rattle.std.specs.List.{AllByRecursion}
 use Rattle.krl_messages.specs.Holdings.{has_its_value, same, ends_at_end}
-use Rattle.krl_cache.specs.Beliefs.{Belief, IsBelief, is_span, is_last, adopt, lower, CallsKeepBelief}
+use Rattle.krl_messages.specs.Several.{have_values}
+use Rattle.krl_cache.specs.Beliefs.{Belief, IsBelief, is_span, is_last, adopt, adopt_all, lower, CallsKeepBelief}
 use Rattle.krl_cache.proofs.Truths.{and_true, none_left, some_left, inside_span}
 
 -- Points of the last slot
@@ -42,7 +45,7 @@ last_is_end s e = by_test (ends_at_end s) refl
     by_test false i = let a = eqb-true (suc END) s.hi e in let b = eqb-false s.hi TOP i in let c = past_end in absurd (b (omega arith))
 
 -- the holding's value, by the rule on values
-pub held_value : (h : Holding) (p : ℕ) → has_its_value h ≡ true → is_last h.span p ≡ true → p ≢ END → reads_key (key_of h.mode) ≡ true → (v : ℕ) × (h.value ≡ Some v)
+pub held_value : (h : Holding) (p : ℕ) → has_its_value h ≡ true → is_last h.span p ≡ true → p ≢ END → reads_key (key_of h.mode) ≡ true → (v : Value) × (h.value ≡ Some v)
 held_value h p rule e n k = let a = same_of (is_some h.value) _ rule in let b = last_not_end h.span p e n in
     some_left h.value (cc)
 
@@ -65,7 +68,7 @@ not_key key.X e = absurd (cc)
 
 -- Adopting
 
-adopt_valued : (h : Holding) (b : Belief) (p : ℕ) (t u : Bool) → has_its_value h ≡ true → IsBelief b → is_last h.span p ≡ u → p ≢ END → reads_key (if t then (if u then key_of h.mode else key.N) else b.key_at p) ≡ true → (v : ℕ) × ((if t then (if u then h.value else None) else b.value_at p) ≡ Some v)
+adopt_valued : (h : Holding) (b : Belief) (p : ℕ) (t u : Bool) → has_its_value h ≡ true → IsBelief b → is_last h.span p ≡ u → p ≢ END → reads_key (if t then (if u then key_of h.mode else key.N) else b.key_at p) ≡ true → (v : Value) × ((if t then (if u then h.value else None) else b.value_at p) ≡ Some v)
 adopt_valued h b p true true rule i e n k = held_value h p rule e n k
 adopt_valued h b p true false rule i e n k = absurd (cc)
 adopt_valued h b p false u rule i e n k = i.valued p n k
@@ -92,15 +95,15 @@ meet_keeps key.S keep h = refl
 meet_keeps key.U keep h = refl
 meet_keeps key.X keep h = refl
 
-if_key : (x : Option ℕ) (u : Bool) (v : ℕ) → u ≡ true → x ≡ Some v → (if u then x else None) ≡ Some v
+if_key : (x : Option Value) (u : Bool) (v : Value) → u ≡ true → x ≡ Some v → (if u then x else None) ≡ Some v
 if_key x true v e h = h
 if_key x false v e h = absurd (cc)
 
-if_not_key : (x : Option ℕ) (u : Bool) → u ≡ false → (if u then x else None) ≡ None
+if_not_key : (x : Option Value) (u : Bool) → u ≡ false → (if u then x else None) ≡ None
 if_not_key x false e = refl
 if_not_key x true e = absurd (cc)
 
-lower_valued : (keep : Mode) (b : Belief) (p : ℕ) (t : Bool) → IsBelief b → p ≢ END → reads_key (if t then key_meet (b.key_at p) (key_of keep) else b.key_at p) ≡ true → (v : ℕ) × ((if t then (if reads_key (key_meet (b.key_at p) (key_of keep)) then b.value_at p else None) else b.value_at p) ≡ Some v)
+lower_valued : (keep : Mode) (b : Belief) (p : ℕ) (t : Bool) → IsBelief b → p ≢ END → reads_key (if t then key_meet (b.key_at p) (key_of keep) else b.key_at p) ≡ true → (v : Value) × ((if t then (if reads_key (key_meet (b.key_at p) (key_of keep)) then b.value_at p else None) else b.value_at p) ≡ Some v)
 lower_valued keep b p true i n k = let x = i.valued p n (meet_keeps (b.key_at p) (key_of keep) k) in (x.0, if_key (b.value_at p) (reads_key (key_meet (b.key_at p) (key_of keep))) x.0 k x.1)
 lower_valued keep b p false i n k = i.valued p n k
 
@@ -108,7 +111,7 @@ lower_no_entry : (keep : Mode) (b : Belief) (p : ℕ) (t : Bool) → IsBelief b 
 lower_no_entry keep b p true i k = if_not_key (b.value_at p) _ (not_key (key_meet (b.key_at p) (key_of keep)) k)
 lower_no_entry keep b p false i k = i.no_entry p k
 
-pub either_none : (t u : Bool) (x : Option ℕ) → x ≡ None → (if t then (if u then x else None) else x) ≡ None
+pub either_none : (t u : Bool) (x : Option Value) → x ≡ None → (if t then (if u then x else None) else x) ≡ None
 either_none true true x e = e
 either_none true false x e = refl
 either_none false u x e = e
@@ -142,3 +145,11 @@ adopted_belief h old new s rule e i = subst (λ (b : Belief). IsBelief b) (sym e
 
 pub lowered_belief : (s : Bounds) (keep : Mode) (old new : Belief) → new ≡ lower s keep old → IsBelief old → IsBelief new
 lowered_belief s keep old new e i = subst (λ (b : Belief). IsBelief b) (sym e) (calls_keep_belief.lower s keep old i)
+
+-- several holdings, one after another
+pub adopted_all : (hs : List Holding) (b : Belief) → AllByRecursion (λ h. is_span h.span ≡ true) hs → have_values hs ≡ true → IsBelief b → IsBelief (adopt_all hs b)
+adopted_all [] b spans rules i = i
+adopted_all (h ∷ hs) b spans rules i = let x = and_true (has_its_value h) (have_values hs) rules in adopted_all hs (adopt h b) spans.1 x.1 (calls_keep_belief.adopt h b spans.0 x.0 i)
+
+pub several_belief : (hs : List Holding) (old new : Belief) → AllByRecursion (λ h. is_span h.span ≡ true) hs → have_values hs ≡ true → new ≡ adopt_all hs old → IsBelief old → IsBelief new
+several_belief hs old new spans rules e i = subst (λ (b : Belief). IsBelief b) (sym e) (adopted_all hs old spans rules i)

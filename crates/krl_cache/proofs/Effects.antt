@@ -8,6 +8,7 @@ use Rattle.krl_modes.specs.declared.mode.Mode.{Mode}
 use Rattle.krl_modes.specs.Parts.{range_meet, key_meet, reads_key}
 use Rattle.krl_modes.specs.Modes.{range_of, key_of}
 use Rattle.krl_modes.specs.Spans.{Bounds, contains}
+use Rattle.krl_messages.specs.Values.{Value}
 use Rattle.krl_messages.specs.declared.holding.Holding.{Holding}
 use Rattle.krl_cache.specs.declared.entry.Entry.{Entry}
 use Rattle.krl_messages.specs.Holdings.{has_its_value}
@@ -18,19 +19,19 @@ use Rattle.krl_cache.specs.Lists.{part_of, value_of, belief_by, entry_of, entry_
 pub same_belief : (a b : Belief) → ((p : ℕ) → a.range_at p ≡ b.range_at p) → ((p : ℕ) → a.key_at p ≡ b.key_at p) → ((p : ℕ) → a.value_at p ≡ b.value_at p) → a ≡ b
 same_belief a b r k v = λ i. record { range_at = λ p. r p i; key_at = λ p. k p i; value_at = λ p. v p i }
 
-part_of_own : (part : KeyPart) (value : Option ℕ) → part_of (entry_of part value) ≡ part
+part_of_own : (part : KeyPart) (value : Option Value) → part_of (entry_of part value) ≡ part
 part_of_own key.N value = refl
 part_of_own key.S value = refl
 part_of_own key.U value = refl
 part_of_own key.X value = refl
 
-value_of_own : (part : KeyPart) (value : Option ℕ) → value_of (entry_of part value) ≡ cond (reads_key part) value None
+value_of_own : (part : KeyPart) (value : Option Value) → value_of (entry_of part value) ≡ cond (reads_key part) value None
 value_of_own key.N value = refl
 value_of_own key.S value = refl
 value_of_own key.U value = refl
 value_of_own key.X value = refl
 
-no_value : (part : KeyPart) (value : Option ℕ) → (reads_key part ≡ false → value ≡ None) → cond (reads_key part) value None ≡ value
+no_value : (part : KeyPart) (value : Option Value) → (reads_key part ≡ false → value ≡ None) → cond (reads_key part) value None ≡ value
 no_value key.N value h = sym (h refl)
 no_value key.S value h = refl
 no_value key.U value h = refl
@@ -51,7 +52,7 @@ adopts h old new was is rule r e =
     r
     (λ p. ap part_of (e p) ∙ through part_of (contains h.span p) (is_last h.span p) (own_entry h) (was p) ∙ ap (λ (k : KeyPart). cond (contains h.span p) (cond (is_last h.span p) k key.N) (part_of (was p))) (part_of_own (key_of h.mode) h.value))
     (λ p. ap value_of (e p) ∙ through value_of (contains h.span p) (is_last h.span p) (own_entry h) (was p)
-    ∙ ap (λ (v : Option ℕ). cond (contains h.span p) (cond (is_last h.span p) v None) (value_of (was p))) (value_of_own (key_of h.mode) h.value ∙ no_value (key_of h.mode) h.value (own_value h rule)))
+    ∙ ap (λ (v : Option Value). cond (contains h.span p) (cond (is_last h.span p) v None) (value_of (was p))) (value_of_own (key_of h.mode) h.value ∙ no_value (key_of h.mode) h.value (own_value h rule)))
 
 part_lowered : (keep : KeyPart) (o : Option Entry) → part_of (option_and_then (entry_lowered keep) o) ≡ key_meet (part_of o) keep
 part_lowered keep None = refl
@@ -70,4 +71,4 @@ lowers s keep old new was is r e =
     same_belief (belief_by new is) (lower s keep (belief_by old was))
     r
     (λ p. ap part_of (e p) ∙ inside part_of (contains s p) (option_and_then (entry_lowered (key_of keep)) (was p)) (was p) ∙ ap (λ (k : KeyPart). cond (contains s p) k (part_of (was p))) (part_lowered (key_of keep) (was p)))
-    (λ p. ap value_of (e p) ∙ inside value_of (contains s p) (option_and_then (entry_lowered (key_of keep)) (was p)) (was p) ∙ ap (λ (v : Option ℕ). cond (contains s p) v (value_of (was p))) (value_lowered (key_of keep) (was p)))
+    (λ p. ap value_of (e p) ∙ inside value_of (contains s p) (option_and_then (entry_lowered (key_of keep)) (was p)) (was p) ∙ ap (λ (v : Option Value). cond (contains s p) v (value_of (was p))) (value_lowered (key_of keep) (was p)))

@@ -13,7 +13,6 @@ pub mod Told
 pub mod Truths
 pub mod Calls
 pub mod OneScan
-pub mod RunsLemmas
-pub mod Agreement
 pub mod Walked
 pub mod Described
+pub mod Rooms

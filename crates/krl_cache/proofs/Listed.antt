@@ -1,63 +1,27 @@
--- What the lists of a cache stand for, after each call.
-use Rattle.std.proofs.Common.{◌≡◌, ℕ, ◌<◌, true, cond, List, map, Option, None, Some, refl, sym, ap, subst, ◌∙◌, arith}
+-- The entries of a span are the rows of a scan.
+use Rattle.std.proofs.Common.{◌≡◌, ℕ, ◌<◌, cond, List, Option, None, Some, refl, sym, ap, ◌∙◌, arith}
 use Rattle.std.specs.List.{filter_map}
 use Rattle.std.specs.Option.{option_and_then}
 use Rattle.std.specs.Ordering.{nat_cmp}
 use Rattle.std.specs.FinMap.{find, is_sorted}
-use Rattle.krl_modes.specs.declared.point.TheConstants.{TOP}
-use Rattle.krl_modes.specs.declared.part.RangePart.{RangePart}
-use Rattle.krl_modes.specs.declared.part.KeyPart.{KeyPart}
-use Rattle.krl_modes.specs.declared.mode.Mode.{Mode}
-use Rattle.krl_modes.specs.Parts.{range_meet}
-use Rattle.krl_modes.specs.Modes.{range_of, key_of}
 use Rattle.krl_modes.specs.Spans.{Bounds, contains}
-use Rattle.krl_messages.specs.declared.holding.Holding.{Holding}
-use Rattle.krl_messages.specs.declared.range_pieces.RangePiece.{RangePiece}
-use Rattle.krl_messages.specs.declared.key_pieces.KeyPiece.{KeyPiece}
+use Rattle.krl_messages.specs.Values.{Value}
 use Rattle.krl_cache.specs.declared.entry.Entry.{Entry}
-use Rattle.krl_messages.specs.Holdings.{has_its_value}
-use Rattle.krl_cache.specs.Beliefs.{Belief, is_last, adopt, lower, AreRows}
-use Rattle.krl_cache.specs.Kept.{range_said, key_said, AreAscending, Describes}
-use Rattle.krl_cache.specs.Lists.{value_of, pick, row_value, key_piece, entry_of, entry_lowered, lists_believe, RiseWithin, StandWithin, AreKept}
-use Rattle.krl_cache.proofs.Effects.{adopts, lowers}
-use Rattle.krl_cache.proofs.Pieces.{stand_in_order}
-use Rattle.krl_cache.proofs.Entries.{find-pick, rise-pick, rise_sorted, keys_say, keys_ascend}
-
-pub lists_adopt : (h : Holding) (rs xs new : List RangePiece) (es ys is : List (ℕ × Entry)) (parts : RangePart × KeyPart) → has_its_value h ≡ true → parts ≡ (range_of h.mode, key_of h.mode) → xs ≡ rs → ys ≡ es → ((p : ℕ) → range_said new p ≡ cond (contains h.span p) parts.0 (range_said xs p)) → ((p : ℕ) → find nat_cmp p is ≡ cond (contains h.span p) (cond (is_last h.span p) (entry_of parts.1 h.value) None) (find nat_cmp p ys)) → lists_believe (record { ranges = new; entries = is }) ≡ adopt h (lists_believe (record { ranges = rs; entries = es }))
-lists_adopt h rs xs new es ys is parts rule e ex ey said found =
-    adopts h (range_said rs) (range_said new) (λ p. find nat_cmp p es) (λ p. find nat_cmp p is) rule
-    (λ p. said p ∙ ap (λ (x : RangePart × KeyPart). cond (contains h.span p) x.0 (range_said xs p)) e ∙ ap (λ (x : List RangePiece). cond (contains h.span p) (range_of h.mode) (range_said x p)) ex)
-    (λ p. found p ∙ ap (λ (x : RangePart × KeyPart). cond (contains h.span p) (cond (is_last h.span p) (entry_of x.1 h.value) None) (find nat_cmp p ys)) e
-    ∙ ap (λ (y : List (ℕ × Entry)). cond (contains h.span p) (cond (is_last h.span p) (entry_of (key_of h.mode) h.value) None) (find nat_cmp p y)) ey)
-
-pub lists_lower : (s : Bounds) (keep : Mode) (rs xs new : List RangePiece) (es ys is : List (ℕ × Entry)) (parts : RangePart × KeyPart) → parts ≡ (range_of keep, key_of keep) → xs ≡ rs → ys ≡ es → ((p : ℕ) → range_said new p ≡ cond (contains s p) (range_meet (range_said xs p) parts.0) (range_said xs p)) → ((p : ℕ) → find nat_cmp p is ≡ cond (contains s p) (option_and_then (entry_lowered parts.1) (find nat_cmp p ys)) (find nat_cmp p ys)) → lists_believe (record { ranges = new; entries = is }) ≡ lower s keep (lists_believe (record { ranges = rs; entries = es }))
-lists_lower s keep rs xs new es ys is parts e ex ey said found =
-    lowers s keep (range_said rs) (range_said new) (λ p. find nat_cmp p es) (λ p. find nat_cmp p is)
-    (λ p. said p ∙ ap (λ (x : RangePart × KeyPart). cond (contains s p) (range_meet (range_said xs p) x.0) (range_said xs p)) e ∙ ap (λ (x : List RangePiece). cond (contains s p) (range_meet (range_said x p) (range_of keep)) (range_said x p)) ex)
-    (λ p. found p ∙ ap (λ (x : RangePart × KeyPart). cond (contains s p) (option_and_then (entry_lowered x.1) (find nat_cmp p ys)) (find nat_cmp p ys)) e
-    ∙ ap (λ (y : List (ℕ × Entry)). cond (contains s p) (option_and_then (entry_lowered (key_of keep)) (find nat_cmp p y)) (find nat_cmp p y)) ey)
+use Rattle.krl_cache.specs.Beliefs.{Belief, AreRows}
+use Rattle.krl_cache.specs.Lists.{value_of, pick, row_value, RiseWithin}
+use Rattle.krl_cache.proofs.Entries.{find-pick, rise-pick, rise_sorted}
 
 row_is_value : (o : Option Entry) → option_and_then row_value o ≡ value_of o
 row_is_value None = refl
 row_is_value (Some e) = refl
 
 -- the rows of the entries in a span are a scan's
-pub rows_are : (b : Belief) (s : Bounds) (top : ℕ) (es ys : List (ℕ × Entry)) (rows : List (ℕ × ℕ)) (lo hi : ℕ) → ((p : ℕ) → b.value_at p ≡ value_of (find nat_cmp p es)) → RiseWithin 0 top es → s.lo < s.hi → lo ≡ s.lo → hi ≡ s.hi → ys ≡ es → rows ≡ filter_map (pick lo hi row_value) ys → AreRows b s rows
+pub rows_are : (b : Belief) (s : Bounds) (top : ℕ) (es ys : List (ℕ × Entry)) (rows : List (ℕ × Value)) (lo hi : ℕ) → ((p : ℕ) → b.value_at p ≡ value_of (find nat_cmp p es)) → RiseWithin 0 top es → s.lo < s.hi → lo ≡ s.lo → hi ≡ s.hi → ys ≡ es → rows ≡ filter_map (pick lo hi row_value) ys → AreRows b s rows
 rows_are b s top es ys rows lo hi value rise l el eh ey e =
     let whole : rows ≡ filter_map (pick s.lo s.hi row_value) es =
     e ∙ ap (λ (y : List (ℕ × Entry)). filter_map (pick lo hi row_value) y) ey ∙ ap (λ (n : ℕ). filter_map (pick n hi row_value) es) el ∙ ap (λ (n : ℕ). filter_map (pick s.lo n row_value) es) eh in
     record {
-      sorted = ap (λ (x : List (ℕ × ℕ)). is_sorted nat_cmp x) whole ∙ rise_sorted s.lo s.hi (filter_map (pick s.lo s.hi row_value) es) (rise-pick s.lo s.hi row_value 0 top s.lo es rise (omega (arith, l)) (omega arith));
-      at = λ p. ap (λ (x : List (ℕ × ℕ)). find nat_cmp p x) whole ∙ find-pick s.lo s.hi row_value 0 top es p rise
-          ∙ ap (λ (o : Option ℕ). cond (contains s p) o None) (row_is_value (find nat_cmp p es) ∙ sym (value p));
-    }
-
-pub lists_describe : (rs xs : List RangePiece) (es ys : List (ℕ × Entry)) (keys : List KeyPiece) → AreKept (record { ranges = rs; entries = es }) → xs ≡ rs → ys ≡ es → keys ≡ map key_piece ys → Describes (record { ranges = xs; keys = keys }) (lists_believe (record { ranges = rs; entries = es }))
-lists_describe rs xs es ys keys kept ex ey e =
-    let whole : keys ≡ map key_piece es = e ∙ ap (λ (y : List (ℕ × Entry)). map key_piece y) ey in
-    record {
-      ranges_in_order = stand_in_order 0 TOP xs (omega arith) (subst (λ (x : List RangePiece). StandWithin 0 TOP x) (sym ex) kept.ranges);
-      keys_in_order = subst (λ (x : List KeyPiece). AreAscending 0 x) (sym whole) (keys_ascend 0 TOP es (omega arith) kept.entries.rise kept.entries.read);
-      ranges = λ p. ap (λ (x : List RangePiece). range_said x p) ex;
-      keys = λ p. ap (λ (x : List KeyPiece). key_said x p) whole ∙ keys_say es p;
+      sorted = ap (λ (x : List (ℕ × Value)). is_sorted nat_cmp x) whole ∙ rise_sorted s.lo s.hi (filter_map (pick s.lo s.hi row_value) es) (rise-pick s.lo s.hi row_value 0 top s.lo es rise (omega (arith, l)) (omega arith));
+      at = λ p. ap (λ (x : List (ℕ × Value)). find nat_cmp p x) whole ∙ find-pick s.lo s.hi row_value 0 top es p rise
+          ∙ ap (λ (o : Option Value). cond (contains s p) o None) (row_is_value (find nat_cmp p es) ∙ sym (value p));
     }

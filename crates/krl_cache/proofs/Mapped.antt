@@ -17,6 +17,7 @@ use Rattle.krl_modes.specs.declared.mode.Mode.{Mode}
 use Rattle.krl_modes.specs.Parts.{range_meet, key_meet, reads_key}
 use Rattle.krl_modes.specs.Modes.{range_of, key_of}
 use Rattle.krl_modes.specs.Spans.{Bounds, contains}
+use Rattle.krl_messages.specs.Values.{Value}
 use Rattle.krl_messages.specs.declared.holding.Holding.{Holding}
 use Rattle.krl_messages.specs.declared.range_pieces.RangePiece.{RangePiece}
 use Rattle.krl_messages.specs.declared.key_pieces.KeyPiece.{KeyPiece}
@@ -55,7 +56,7 @@ maps_new ss es s e =
 
 -- Adopting and lowering keep what holds of the maps
 
-read_entry : (part : KeyPart) (value : Option ℕ) (e : Entry) → entry_of part value ≡ Some e → reads_key e.part ≡ true
+pub read_entry : (part : KeyPart) (value : Option Value) (e : Entry) → entry_of part value ≡ Some e → reads_key e.part ≡ true
 read_entry key.N value e h = absurd (let bad : None ≡ Some e = h in cc)
 read_entry key.S value e h = let same : ◌≡◌ {A = Entry} (record { part = key.S; value = value }) e = cc in subst (λ (x : Entry). reads_key x.part ≡ true) same refl
 read_entry key.U value e h = let same : ◌≡◌ {A = Entry} (record { part = key.U; value = value }) e = cc in subst (λ (x : Entry). reads_key x.part ≡ true) same refl
@@ -85,7 +86,7 @@ still_kept s old new m mid kept top parts ends entries read = record {
       ] refl (sym (entries q) ∙ h);
 }
 
-last_read : (b : Bool) (part : KeyPart) (value : Option ℕ) (e : Entry) → cond b (entry_of part value) None ≡ Some e → reads_key e.part ≡ true
+last_read : (b : Bool) (part : KeyPart) (value : Option Value) (e : Entry) → cond b (entry_of part value) None ≡ Some e → reads_key e.part ≡ true
 last_read true part value e h = read_entry part value e h
 last_read false part value e h = absurd (let bad : None ≡ Some e = h in cc)
 
@@ -129,11 +130,11 @@ rows_chosen lo hi (e ∷ es) =
     let rest = rows_chosen lo hi es in
     let others = filter (λ (x : ℕ × Entry). lies_in lo hi x.0) es in
     elim (lies_in lo hi e.0) as (λ (b : Bool). filter_map row_of (cond b (e ∷ others) others) ≡ cons_option (cond b (tagged e.0 (row_value e.1)) None) (filter_map (pick lo hi row_value) es)) [
-      | true ↦ ap (λ (xs : List (ℕ × ℕ)). cons_option (tagged e.0 e.1.value) xs) rest
+      | true ↦ ap (λ (xs : List (ℕ × Value)). cons_option (tagged e.0 e.1.value) xs) rest
       | false ↦ rest
     ]
 
-pub maps_rows : (s : Bounds) (x : Maps) (rows : List (ℕ × ℕ)) (lo hi : ℕ) → AreMapsKept x → IsStrictlySortedBy nat_cmp (keys_of x.entries) → s.lo < s.hi → lo ≡ s.lo → hi ≡ s.hi → rows ≡ filter_map row_of (entries_between nat_cmp (Included lo) (Excluded hi) x.entries) → AreRows (maps_believe x) s rows
+pub maps_rows : (s : Bounds) (x : Maps) (rows : List (ℕ × Value)) (lo hi : ℕ) → AreMapsKept x → IsStrictlySortedBy nat_cmp (keys_of x.entries) → s.lo < s.hi → lo ≡ s.lo → hi ≡ s.hi → rows ≡ filter_map row_of (entries_between nat_cmp (Included lo) (Excluded hi) x.entries) → AreRows (maps_believe x) s rows
 maps_rows s x rows lo hi kept sorted l el eh e =
     rows_are (maps_believe x) s TOP x.entries x.entries rows lo hi (λ p. ap value_of (at_find x.entries p)) (rise_within 0 TOP x.entries (omega arith) (rise_of x.entries sorted) (λ q v f. (kept.entries q v f).0)) l el eh refl
     (e ∙ ap (λ (xs : List (ℕ × Entry)). filter_map row_of xs) (between lo hi x.entries) ∙ rows_chosen lo hi x.entries)

@@ -1,6 +1,6 @@
 -- What a client believes: a range part, a key part and a value at each point; what each call of a
 -- cache makes of it.
-use Rattle.std.specs.Prelude.{◌≡◌, ◌≢◌, ℕ, suc, ◌≤◌, ◌<◌, Bool, true, false, ◌&&◌, ◌||◌, Option, Some, None, List, if◌then◌else◌, nat_eq, nat_lt, nat_le}
+use Rattle.std.specs.Prelude.{◌≡◌, ◌≢◌, ℕ, suc, ◌≤◌, ◌<◌, Bool, true, false, ◌&&◌, ◌||◌, Option, Some, None, List, [], ◌∷◌, if◌then◌else◌, nat_eq, nat_lt, nat_le}
 use Rattle.std.specs.Ordering.{nat_cmp}
 use Rattle.std.specs.FinMap.{find, is_sorted}
 use Rattle.krl_modes.specs.declared.point.TheConstants.{END, TOP}
@@ -53,6 +53,11 @@ adopt h b = record {
       then (if is_last h.span p then h.value else None)
       else b.value_at p;
 }
+
+-- each holding in its turn
+abbrev pub adopt_all : List Holding → Belief → Belief
+adopt_all [] b = b
+adopt_all (h ∷ hs) b = adopt_all hs (adopt h b)
 
 -- at each point of the span the meet of both parts; an entry whose key part becomes N goes
 abbrev pub lower : Bounds → Mode → Belief → Belief

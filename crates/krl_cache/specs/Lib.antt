@@ -2,5 +2,5 @@ pub mod Beliefs
 pub mod Kept
 pub mod Lists
 pub mod Maps
-pub mod Runs
+pub mod Several
 pub mod Walks

@@ -1,19 +1,16 @@
--- A cache kept in plain lists: pieces in order, entries in the order of their points.
-use Rattle.std.specs.Prelude.{◌≡◌, ℕ, suc, ◌≤◌, ◌<◌, ◌&&◌, Bool, true, min, max, nat_le, nat_lt, List, [], ◌∷◌, Option, Some, None, if◌then◌else◌}
-use Rattle.std.specs.Ordering.{nat_cmp}
-use Rattle.std.specs.FinMap.{find}
-use Rattle.krl_modes.specs.declared.point.TheConstants.{TOP}
+-- What lists of pieces and of entries say: pieces in order, entries in the order of their points.
+use Rattle.std.specs.Prelude.{◌≡◌, ℕ, suc, ◌≤◌, ◌<◌, ◌&&◌, Bool, true, nat_le, nat_lt, List, [], ◌∷◌, Option, Some, None, if◌then◌else◌}
 use Rattle.krl_modes.specs.declared.part.RangePart.{RangePart}
 use Rattle.krl_modes.specs.declared.part.KeyPart.{KeyPart}
 use Rattle.krl_modes.specs.declared.part.KeyPart.TheVariants as key
-use Rattle.krl_modes.specs.Parts.{range_meet, key_meet, reads_key}
+use Rattle.krl_modes.specs.Parts.{key_meet, reads_key}
 use Rattle.krl_modes.specs.Modes.{key_of}
+use Rattle.krl_messages.specs.Values.{Value}
 use Rattle.krl_messages.specs.declared.holding.Holding.{Holding}
 use Rattle.krl_messages.specs.declared.range_pieces.RangePiece.{RangePiece}
 use Rattle.krl_messages.specs.declared.key_pieces.KeyPiece.{KeyPiece}
 use Rattle.krl_cache.specs.declared.entry.Entry.{Entry}
-use Rattle.krl_cache.specs.Beliefs.{Belief, is_covered}
-use Rattle.krl_cache.specs.Kept.{range_said}
+use Rattle.krl_cache.specs.Beliefs.{Belief}
 
 -- What an entry says, where there is one
 
@@ -21,7 +18,7 @@ abbrev pub part_of : Option Entry → KeyPart
 part_of None = key.N
 part_of (Some e) = e.part
 
-abbrev pub value_of : Option Entry → Option ℕ
+abbrev pub value_of : Option Entry → Option Value
 value_of None = None
 value_of (Some e) = e.value
 
@@ -35,7 +32,7 @@ belief_by ranges entries = record {
 }
 
 -- an entry that is read; none otherwise
-abbrev pub entry_of : KeyPart → Option ℕ → Option Entry
+abbrev pub entry_of : KeyPart → Option Value → Option Entry
 entry_of part value = if reads_key part then Some (record { part = part; value = value }) else None
 
 -- what is left of an entry that is lowered
@@ -51,13 +48,6 @@ own_entry h = entry_of (key_of h.mode) h.value
 abbrev pub lies_in : ℕ → ℕ → ℕ → Bool
 lies_in lo hi p = nat_le lo p && nat_lt p hi
 
--- what of a piece lies from lo on below hi, lowered
-abbrev pub clip : ℕ → ℕ → RangePart → RangePiece → Option RangePiece
-clip lo hi keep x =
-    if nat_lt (max x.span.lo lo) (min x.span.hi hi)
-    then Some (record { span = record { lo = max x.span.lo lo; hi = min x.span.hi hi }; part = range_meet x.part keep })
-    else None
-
 abbrev pub tagged : {A : Type 0} → ℕ → Option A → Option (ℕ × A)
 tagged k None = None
 tagged k (Some a) = Some (k, a)
@@ -67,20 +57,13 @@ abbrev pub pick : {A B : Type 0} → ℕ → ℕ → (A → Option B) → ℕ ×
 pick lo hi f e = if lies_in lo hi e.0 then tagged e.0 (f e.1) else None
 
 -- the value of an entry
-abbrev pub row_value : Entry → Option ℕ
+abbrev pub row_value : Entry → Option Value
 row_value e = e.value
 
 abbrev pub key_piece : ℕ × Entry → KeyPiece
 key_piece e = record { point = e.0; part = e.1.part }
 
--- What is kept
-
-pub record Lists : Type 0 where
-  pub ranges : List RangePiece
-  pub entries : List (ℕ × Entry)
-
-abbrev pub lists_believe : Lists → Belief
-lists_believe x = belief_by (range_said x.ranges) (λ p. find nat_cmp p x.entries)
+-- Lists in order
 
 -- spans in order from lo on, none empty, none past hi
 abbrev pub StandWithin : ℕ → ℕ → List RangePiece → Type 0
@@ -96,22 +79,3 @@ RiseWithin lo hi (e ∷ es) = (lo ≤ e.0) × RiseWithin (suc e.0) hi es
 abbrev pub AreRead : List (ℕ × Entry) → Type 0
 AreRead [] = Unit {0}
 AreRead (e ∷ es) = (reads_key e.1.part ≡ true) × AreRead es
-
--- entries in the order of their points, none past END, each read
-pub record ArePlaced (es : List (ℕ × Entry)) : Type 0 where
-  pub rise : RiseWithin 0 TOP es
-  pub read : AreRead es
-
-pub record AreKept (x : Lists) : Type 0 where
-  pub ranges : StandWithin 0 TOP x.ranges
-  pub entries : ArePlaced x.entries
-
--- the part holds at each point from p on below the end
-pub record Holds (f : ℕ → RangePart) (p : ℕ) (part : RangePart) (end : ℕ) : Type 0 where
-  pub more : p < end
-  pub holds : (q : ℕ) → p ≤ q → q < end → f q ≡ part
-
--- each point from p on below the end is known
-pub record KnowsFrom (b : Belief) (p end : ℕ) : Type 0 where
-  pub more : p < end
-  pub knows : (q : ℕ) → p ≤ q → q < end → is_covered b q ≡ true

@@ -10,6 +10,7 @@ use Rattle.krl_modes.specs.declared.point.TheConstants.{TOP}
 use Rattle.krl_modes.specs.declared.part.RangePart.{RangePart}
 use Rattle.krl_modes.specs.declared.part.RangePart.TheVariants as range
 use Rattle.krl_modes.specs.Parts.{range_meet, reads_key}
+use Rattle.krl_messages.specs.Values.{Value}
 use Rattle.krl_messages.specs.declared.range_pieces.RangePiece.{RangePiece}
 use Rattle.krl_cache.specs.declared.entry.Entry.{Entry}
 use Rattle.krl_cache.specs.Beliefs.{Belief}
@@ -114,7 +115,7 @@ AreNext f lo hi [] = IsFree f lo hi
 AreNext f lo hi (e ∷ es) = IsFirst f lo hi e × AreNext f (suc e.0) hi es
 
 -- the row of an entry, where it has a value
-abbrev pub row_of : ℕ × Entry → Option (ℕ × ℕ)
+abbrev pub row_of : ℕ × Entry → Option (ℕ × Value)
 row_of e = tagged e.0 e.1.value
 
 -- the part is more than N

@@ -1,11 +1,12 @@
 //! What every form of a cache does.
 ghost use Rattle.std.specs.Prelude.{◌≡◌, true, IfOk, OnOk, OnErr, MatchResult};
 ghost use Rattle.krl_messages.specs.Holdings.{has_its_value};
+ghost use Rattle.krl_messages.specs.Several.{have_values};
 ghost use Rattle.krl_cache.specs.Beliefs as beliefs;
 ghost use Rattle.krl_cache.specs.Kept.{Describes};
 
 use crate::scanned::Scanned;
-use krl_messages::{Holding, Pieces, Value};
+use krl_messages::{Holding, Holdings, Pieces, Value};
 use krl_modes::{KeyPart, Mode, RangePart, Span};
 use std::alloc::{AllocError, Global};
 
@@ -36,6 +37,19 @@ pub trait Belief {
     fn adopt(&mut self, holding: Holding) -> Result<(), AllocError>
         requires { has_its_value holding ≡ true }
         ensures ok { OnOk result (believed self.new ≡ beliefs.adopt holding (believed self.old)) }
+        ensures belief { OnOk result
+            (beliefs.IsBelief (believed self.old) → beliefs.IsBelief (believed self.new)) }
+        ensures err { OnErr result (self.new ≡ self.old) };
+
+    /// Takes several holdings over, one after another, or none of them.
+    ///
+    /// # Errors
+    ///
+    /// `AllocError` where memory is refused. Nothing has changed then.
+    fn adopt_all(&mut self, holdings: &Holdings) -> Result<(), AllocError>
+        requires { have_values holdings.now ≡ true }
+        ensures ok { OnOk result
+            (believed self.new ≡ beliefs.adopt_all holdings.now (believed self.old)) }
         ensures belief { OnOk result
             (beliefs.IsBelief (believed self.old) → beliefs.IsBelief (believed self.new)) }
         ensures err { OnErr result (self.new ≡ self.old) };

@@ -13,13 +13,15 @@ ghost use Rattle.krl_cache.specs.Maps.{Maps, maps_believe, at, part_at, IsPast, 
 
 use crate::belief::Belief;
 use crate::entry::Entry;
-use crate::maps;
 use crate::maps::part_at;
 use crate::parts::{part_of, value_of};
 use crate::rows::Rows;
 use crate::scanned::Scanned;
 use crate::walk::first_unknown;
-use krl_messages::{Holding, KeyPiece, KeyPieces, Pieces, RangePiece, RangePieces, Value};
+use crate::{maps, several};
+use krl_messages::{
+    Holding, Holdings, KeyPiece, KeyPieces, Pieces, RangePiece, RangePieces, Value,
+};
 use krl_modes::{KeyPart, Mode, RangePart, Span, TOP};
 use std::alloc::{AllocError, Global};
 use std::collections::BTreeMap;
@@ -170,6 +172,11 @@ impl Belief for Cache {
 
     fn adopt(&mut self, holding: Holding) -> Result<(), AllocError> {
         maps::adopt(&mut self.starts, &mut self.entries, holding)?;
+        Ok(())
+    }
+
+    fn adopt_all(&mut self, holdings: &Holdings) -> Result<(), AllocError> {
+        several::adopt_all(&mut self.starts, &mut self.entries, holdings)?;
         Ok(())
     }
 

@@ -9,14 +9,16 @@
 mod belief;
 mod cache;
 mod entry;
-pub mod laws;
 mod maps;
 mod parts;
 mod rows;
 mod scanned;
+mod several;
 mod walk;
 
 pub use belief::Belief;
 pub use cache::Cache;
+pub use entry::Entry;
+pub use parts::{part_of, reads_gap, reads_key, value_of};
 pub use rows::Rows;
 pub use scanned::Scanned;

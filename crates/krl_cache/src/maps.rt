@@ -104,7 +104,7 @@ pub fn clear<V: Copy + Drop>(map: &mut BTreeMap<u64, V>, lo: u64, hi: u64)
 }
 
 // Has a part begin at the point, as it holds there, and answers whether none began.
-fn mark_at(starts: &mut BTreeMap<u64, RangePart>, p: u64) -> Result<bool, AllocError>
+pub fn mark_at(starts: &mut BTreeMap<u64, RangePart>, p: u64) -> Result<bool, AllocError>
     ensures placed { IfOk result
         (IsPlaced starts.old starts.new p (part_at (at starts.old.entries) p)) }
     ensures err { OnErr result (starts.new.entries ≡ starts.old.entries) }
@@ -131,7 +131,7 @@ fn mark(starts: &mut BTreeMap<u64, RangePart>, lo: u64, hi: u64) -> Result<(), A
 }
 
 // Has one part begin at `lo`, and none after it below `hi`.
-fn fill(starts: &mut BTreeMap<u64, RangePart>, lo: u64, hi: u64, part: RangePart)
+pub fn fill(starts: &mut BTreeMap<u64, RangePart>, lo: u64, hi: u64, part: RangePart)
     requires span { lo < hi }
     requires begins { IsSome (at starts.old.entries lo) }
     ensures { (q : ℕ) → at starts.new.entries q
@@ -172,7 +172,7 @@ fn is_same(a: RangePart, b: RangePart) -> bool
 }
 
 // The part that holds before the point.
-fn part_before(starts: &BTreeMap<u64, RangePart>, p: u64) -> RangePart
+pub fn part_before(starts: &BTreeMap<u64, RangePart>, p: u64) -> RangePart
     ensures { HoldsBefore (at starts.now.entries) p result }
 {
     match p.checked_sub(1) {
@@ -182,7 +182,7 @@ fn part_before(starts: &BTreeMap<u64, RangePart>, p: u64) -> RangePart
 }
 
 // Takes a start out where the part that begins there held before.
-fn merge_at(starts: &mut BTreeMap<u64, RangePart>, p: u64, before: RangePart)
+pub fn merge_at(starts: &mut BTreeMap<u64, RangePart>, p: u64, before: RangePart)
     requires { HoldsBefore (at starts.old.entries) p before }
     ensures { KeepsParts (at starts.old.entries) (at starts.new.entries) }
 {
@@ -262,7 +262,11 @@ fn lower_part(
 
 // Has an entry stand at the point, where the part is read: one with key part N that changes no
 // answer, where none stood. Answers whether it was put.
-fn hold(entries: &mut BTreeMap<u64, Entry>, point: u64, part: KeyPart) -> Result<bool, AllocError>
+pub fn hold(
+    entries: &mut BTreeMap<u64, Entry>,
+    point: u64,
+    part: KeyPart,
+) -> Result<bool, AllocError>
     ensures undo { IfOk result (CanUndo entries.old entries.new point) }
     ensures others { OnOk result
         ((q : ℕ) → q ≢ point → at entries.new.entries q ≡ at entries.old.entries q) }
@@ -281,7 +285,7 @@ fn hold(entries: &mut BTreeMap<u64, Entry>, point: u64, part: KeyPart) -> Result
 }
 
 // Puts an entry at the span's last point, where it is read, in place of those of the span.
-fn adopt_entry(entries: &mut BTreeMap<u64, Entry>, span: Span, own: Entry)
+pub fn adopt_entry(entries: &mut BTreeMap<u64, Entry>, span: Span, own: Entry)
     requires { reads_key own.part ≡ true → IsSome (at entries.old.entries (span.hi - 1)) }
     ensures { (p : ℕ) → at entries.new.entries p
         ≡ (if contains span p

@@ -7,21 +7,21 @@ use crate::entry::Entry;
 use krl_messages::Value;
 use krl_modes::{KeyPart, RangePart};
 
-// Whether the part reads the entry.
+/// Whether the part reads the entry.
 pub fn reads_key(part: KeyPart) -> bool
     ensures { result ≡ parts.reads_key part }
 {
     KeyPart::S.at_most(part)
 }
 
-// Whether the part reads the gap.
+/// Whether the part reads the gap.
 pub fn reads_gap(part: RangePart) -> bool
     ensures { result ≡ parts.reads_gap part }
 {
     RangePart::S.at_most(part)
 }
 
-// What an entry says of its key, where there is one.
+/// What an entry says of its key, where there is one.
 pub fn part_of(entry: Option<Entry>) -> KeyPart
     ensures { result ≡ part_of entry }
 {
@@ -31,7 +31,7 @@ pub fn part_of(entry: Option<Entry>) -> KeyPart
     }
 }
 
-// The value of an entry, where there is one.
+/// The value of an entry, where there is one.
 pub fn value_of(entry: Option<Entry>) -> Option<Value>
     ensures { result ≡ value_of entry }
 {

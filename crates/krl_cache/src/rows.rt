@@ -20,7 +20,8 @@ impl Model for Rows {
 }
 
 impl Rows {
-    pub(crate) fn of(entries: Vec<(u64, Value)>) -> Rows
+    /// These entries, in key order.
+    pub fn of(entries: Vec<(u64, Value)>) -> Rows
         ensures { result ≡ entries.items }
     {
         Rows { entries }

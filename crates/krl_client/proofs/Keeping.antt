@@ -14,7 +14,7 @@ use Rattle.krl_messages.specs.declared.to_client.PushBody.{PushBody}
 use Rattle.krl_messages.specs.declared.to_client.PushBody.TheVariants as push
 use Rattle.krl_messages.specs.Writes.{op_key}
 use Rattle.krl_cache.specs.Beliefs.{IsBelief, is_span}
-use Rattle.krl_cache.proofs.Calls.{calls_keep_belief}
+use Rattle.krl_cache.proofs.Calls.{calls_keep_belief, adopted_all}
 use Rattle.krl_client.specs.declared.refused.CommandRefused.TheVariants as refused
 use Rattle.krl_client.specs.declared.refused.StartRefused.TheVariants as start
 use Rattle.krl_client.specs.Clients.{Client, Asked, NotAsked, Granted, NoEntry, Dropped, Waiting, Written, Unwritten, Outstanding, Judged, outstanding, has_joined, is_waiting, is_writing_in, meets_pin, if_taken, free_from, free_pin, with_pin, begun}
@@ -34,7 +34,7 @@ start_keeps c incarnation e =
       seen = omega arith;
       req = omega arith;
       writes = omega arith;
-      asked = λ point mode w. absurd (cc);
+      asked = λ point hi mode w. absurd (cc);
       written = λ change w. absurd (cc);
       pins = λ id s w. absurd (cc);
       belief = calls_keep_belief.new;
@@ -42,31 +42,41 @@ start_keeps c incarnation e =
 
 -- Commands
 
-same_point : (p q : ℕ) (m n : Mode) → Waiting p m ≡ Waiting q n → p ≡ q
-same_point p q m n e = cc
+same_points : (p q i j : ℕ) (m n : Mode) → Waiting p i m ≡ Waiting q j n → (p ≡ q) × (i ≡ j)
+same_points p q i j m n e = (cc, cc)
 
 same_change : (a b : WriteOp) → ◌≡◌ {A = Option WriteOp} (Some a) (Some b) → a ≡ b
 same_change a b e = cc
 
-pub lock_keeps : (k : Client) (point : ℕ) (mode : Mode) → lock_refusal k point ≡ None → IsClient k → IsClient (locked k point mode)
-lock_keeps k point mode e i =
+pub lock_keeps : (k : Client) (point hi : ℕ) (mode : Mode) → lock_refusal k point hi ≡ None → IsClient k → IsClient (locked k point hi mode)
+lock_keeps k point hi mode e i =
     let one = passed (nat_lt END point) refused.BadPoint _ e in
-    let two = passed (not (has_joined k)) refused.NotJoined _ one.1 in
+    let span = passed (not (is_span (record { lo = point; hi = hi }))) refused.BadSpan _ one.1 in
+    let two = passed (not (has_joined k)) refused.NotJoined _ span.1 in
     let three = passed (is_waiting k.asked) refused.Busy _ two.1 in
     let four = passed (nat_le END k.req) refused.Spent None three.1 in
     let below = leb-false END k.req four.0 in
     let at : point ≤ END = ltb-false END point one.0 in
+    let reach : is_span (record { lo = point; hi = hi }) ≡ true = known (is_span (record { lo = point; hi = hi })) span.0 in
     record {
       number = i.number;
       incarnation = i.incarnation;
       seen = i.seen;
       req = omega (arith, below);
       writes = i.writes;
-      asked = λ p m w. record { counted = omega arith; at = subst (λ (n : ℕ). n ≤ END) (same_point point p mode m w) at };
+      asked = λ p j m w. let same = same_points point p hi j mode m w in record {
+        counted = omega arith;
+        at = subst (λ (n : ℕ). n ≤ END) same.0 at;
+        reach = subst (λ (n : ℕ). is_span (record { lo = p; hi = n }) ≡ true) same.1 (subst (λ (n : ℕ). is_span (record { lo = n; hi = hi }) ≡ true) same.0 reach);
+      };
       written = i.written;
       pins = i.pins;
       belief = i.belief;
     }
+  where
+    known : (b : Bool) → not b ≡ false → b ≡ true
+    known true h = refl
+    known false h = absurd (let bad : true ≡ false = h in cc)
 
 pub write_keeps : (k : Client) (change : WriteOp) → write_refusal k change ≡ None → IsClient k → IsClient (wrote k change)
 write_keeps k change e i =
@@ -154,12 +164,12 @@ spanned k s e = yes (is_span s) (passed (not (is_span s)) refused.BadSpan _ e).0
 
 -- Messages
 
-none_waits : (a : Asked) (point : ℕ) (mode : Mode) → dropped a ≡ Waiting point mode → ⊥
-none_waits NotAsked point mode e = cc
-none_waits (Waiting p m) point mode e = cc
-none_waits Granted point mode e = cc
-none_waits NoEntry point mode e = cc
-none_waits Dropped point mode e = cc
+none_waits : (a : Asked) (point hi : ℕ) (mode : Mode) → dropped a ≡ Waiting point hi mode → ⊥
+none_waits NotAsked point hi mode e = cc
+none_waits (Waiting p j m) point hi mode e = cc
+none_waits Granted point hi mode e = cc
+none_waits NoEntry point hi mode e = cc
+none_waits Dropped point hi mode e = cc
 
 pub join_keeps : (k : Client) (epoch : ℕ) → IsClient k → IsClient (joined k epoch)
 join_keeps k epoch i = record {
@@ -168,16 +178,16 @@ join_keeps k epoch i = record {
   seen = omega arith;
   req = omega arith;
   writes = i.writes;
-  asked = λ point mode w. absurd (none_waits k.asked point mode w);
+  asked = λ point hi mode w. absurd (none_waits k.asked point hi mode w);
   written = i.written;
   pins = i.pins;
   belief = i.belief;
 }
 
 -- what waits after a reply waited before
-still_waits : (t : Bool) (now reply : Asked) (point : ℕ) (mode : Mode) → (reply ≡ Waiting point mode → ⊥) → (if t then reply else now) ≡ Waiting point mode → now ≡ Waiting point mode
-still_waits true now reply point mode other e = absurd (other e)
-still_waits false now reply point mode other e = e
+still_waits : (t : Bool) (now reply : Asked) (point hi : ℕ) (mode : Mode) → (reply ≡ Waiting point hi mode → ⊥) → (if t then reply else now) ≡ Waiting point hi mode → now ≡ Waiting point hi mode
+still_waits true now reply point hi mode other e = absurd (other e)
+still_waits false now reply point hi mode other e = e
 
 still_one : (t : Bool) (outcome : Outcome) (old change : WriteOp) → outstanding (if t then Judged outcome else Outstanding old) ≡ Some change → Some old ≡ Some change
 still_one true outcome old change e = absurd (let bad : ◌≡◌ {A = Option WriteOp} None (Some change) = e in cc)
@@ -190,13 +200,13 @@ still_out k number outcome (Outstanding old) change e = still_one (nat_eq number
 still_out k number outcome (Judged old) change e = e
 
 pub accept_keeps : (k : Client) (what : PushBody) → suc k.seen ≤ END → IsBelief (accepted k what).belief → IsClient k → IsClient (accepted k what)
-accept_keeps k (push.Grant req h) l b i = record {
+accept_keeps k (push.Grant req hs) l b i = record {
   number = i.number;
   incarnation = i.incarnation;
   seen = l;
   req = i.req;
   writes = i.writes;
-  asked = λ point mode w. i.asked point mode (still_waits (is_waiting k.asked && nat_eq req k.req) k.asked Granted point mode (λ e. cc) w);
+  asked = λ point hi mode w. i.asked point hi mode (still_waits (is_waiting k.asked && nat_eq req k.req) k.asked Granted point hi mode (λ e. cc) w);
   written = i.written;
   pins = i.pins;
   belief = b;
@@ -207,7 +217,7 @@ accept_keeps k (push.Absent req point) l b i = record {
   seen = l;
   req = i.req;
   writes = i.writes;
-  asked = λ p mode w. i.asked p mode (still_waits (is_waiting k.asked && nat_eq req k.req) k.asked NoEntry p mode (λ e. cc) w);
+  asked = λ p hi mode w. i.asked p hi mode (still_waits (is_waiting k.asked && nat_eq req k.req) k.asked NoEntry p hi mode (λ e. cc) w);
   written = i.written;
   pins = i.pins;
   belief = b;
@@ -225,7 +235,7 @@ accept_keeps k (push.Answer number outcome h) l b i = record {
 }
 
 accepts_belief : (k : Client) (what : PushBody) → fits what ≡ true → LiesOnSpan what → IsBelief k.belief → IsBelief (accepted k what).belief
-accepts_belief k (push.Grant req h) f s i = calls_keep_belief.adopt h k.belief s f i
+accepts_belief k (push.Grant req hs) f s i = adopted_all hs k.belief s f i
 accepts_belief k (push.Absent req point) f s i = i
 accepts_belief k (push.Answer number outcome h) f s i = calls_keep_belief.adopt h k.belief s f i
 

@@ -21,7 +21,7 @@ use Rattle.krl_client.specs.declared.status.WriteStatus.TheVariants as write
 -- the last lock request of this incarnation
 pub data Asked : Type 0 where
   NotAsked Granted NoEntry Dropped : Asked
-  Waiting : (point : ℕ) (mode : Mode) → Asked
+  Waiting : (point hi : ℕ) (mode : Mode) → Asked
 
 -- its last write
 pub data Written : Type 0 where
@@ -70,7 +70,7 @@ is_waiting NotAsked = false
 is_waiting Granted = false
 is_waiting NoEntry = false
 is_waiting Dropped = false
-is_waiting (Waiting point mode) = true
+is_waiting (Waiting point hi mode) = true
 
 abbrev pub outstanding : Written → Option WriteOp
 outstanding Unwritten = None
@@ -127,7 +127,7 @@ held k p = (k.belief.range_at p, k.belief.key_at p)
 
 abbrev pub lock_status : Asked → LockStatus
 lock_status NotAsked = lock.NotAsked
-lock_status (Waiting point mode) = lock.Waiting
+lock_status (Waiting point hi mode) = lock.Waiting
 lock_status Granted = lock.Granted
 lock_status NoEntry = lock.Absent
 lock_status Dropped = lock.Dropped

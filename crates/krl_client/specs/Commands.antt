@@ -46,10 +46,11 @@ first_reason (r ∷ rs) = if r.holds then Some r.refusal else first_reason rs
 
 -- why each command is refused, in the order of judging, memory aside
 
-abbrev pub lock_refusal : Client → ℕ → Option CommandRefused
-lock_refusal k point =
+abbrev pub lock_refusal : Client → ℕ → ℕ → Option CommandRefused
+lock_refusal k point hi =
     first_reason (
     due refused.BadPoint (nat_lt END point)
+    ∷ due refused.BadSpan (not (is_span (record { lo = point; hi = hi })))
     ∷ due refused.NotJoined (not (has_joined k))
     ∷ due refused.Busy (is_waiting k.asked)
     ∷ due refused.Spent (nat_le END k.req)
@@ -104,11 +105,11 @@ start_refusal c incarnation =
 
 -- Effects of a command that is not refused, and what it sends
 
-abbrev pub locked : Client → ℕ → Mode → Client
-locked k point mode = record k { req = suc k.req; asked = Waiting point mode }
+abbrev pub locked : Client → ℕ → ℕ → Mode → Client
+locked k point hi mode = record k { req = suc k.req; asked = Waiting point hi mode }
 
-abbrev pub says_lock : Client → ℕ → Mode → ToServer
-says_lock k point mode = requests k (request.Lock k.req point mode)
+abbrev pub says_lock : Client → ℕ → ℕ → Mode → ToServer
+says_lock k point hi mode = requests k (request.Lock k.req point hi mode)
 
 abbrev pub wrote : Client → WriteOp → Client
 wrote k change = record k { writes = suc k.writes; written = Outstanding change }

@@ -19,7 +19,7 @@ use Rattle.krl_client.specs.Ticks.{tick}
 
 abbrev pub asked_of : kept_asked.Asked → Asked
 asked_of asked.NotAsked = NotAsked
-asked_of (asked.Waiting point mode) = Waiting point mode
+asked_of (asked.Waiting point hi mode) = Waiting point hi mode
 asked_of asked.Granted = Granted
 asked_of asked.Absent = NoEntry
 asked_of asked.Dropped = Dropped

@@ -1,6 +1,7 @@
 -- What each client keeps, from call to call: numbers within their ranges, spans that are spans, and
 -- a belief.
 use Rattle.std.specs.Prelude.{◌≡◌, ℕ, ◌≤◌, ◌<◌, true, Some, None}
+use Rattle.std.specs.List.{AllByRecursion}
 use Rattle.krl_modes.specs.declared.point.TheConstants.{END}
 use Rattle.krl_modes.specs.declared.mode.Mode.{Mode}
 use Rattle.krl_modes.specs.Spans.{Bounds}
@@ -21,10 +22,11 @@ pub record IsWrite (number : ℕ) (change : WriteOp) : Type 0 where
   pub counted : 1 ≤ number
   pub key : op_key change < END
 
--- a lock request of this number, and the point is one
-pub record IsRequest (number point : ℕ) : Type 0 where
+-- a lock request of this number, from a point on below another
+pub record IsRequest (number point hi : ℕ) : Type 0 where
   pub counted : 1 ≤ number
   pub at : point ≤ END
+  pub reach : is_span (record { lo = point; hi = hi }) ≡ true
 
 -- the id is one, and the pin is a span
 pub record IsPin (id : ℕ) (s : Bounds) : Type 0 where
@@ -37,14 +39,14 @@ pub record IsClient (k : Client) : Type 0 where
   pub seen : k.seen ≤ END
   pub req : k.req ≤ END
   pub writes : k.writes ≤ END
-  pub asked : (point : ℕ) (mode : Mode) → k.asked ≡ Waiting point mode → IsRequest k.req point
+  pub asked : (point hi : ℕ) (mode : Mode) → k.asked ≡ Waiting point hi mode → IsRequest k.req point hi
   pub written : (change : WriteOp) → outstanding k.written ≡ Some change → IsWrite k.writes change
   pub pins : (id : ℕ) (s : Bounds) → k.pins id ≡ Some s → IsPin id s
   pub belief : IsBelief k.belief
 
--- the holding of a push, if it brings one, lies on a span
+-- each holding of a push lies on a span
 abbrev pub LiesOnSpan : PushBody → Type 0
-LiesOnSpan (push.Grant req h) = is_span h.span ≡ true
+LiesOnSpan (push.Grant req hs) = AllByRecursion (λ h. is_span h.span ≡ true) hs
 LiesOnSpan (push.Absent req point) = Unit {0}
 LiesOnSpan (push.Answer number outcome h) = is_span h.span ≡ true
 
@@ -58,8 +60,8 @@ pub record ClientKeeps : Type 0 where
   pub start :
       (c incarnation : ℕ) → start_refusal c incarnation ≡ None → IsClient (begun c incarnation)
   pub lock :
-      (k : Client) (point : ℕ) (mode : Mode) → lock_refusal k point ≡ None
-      → IsClient k → IsClient (locked k point mode)
+      (k : Client) (point hi : ℕ) (mode : Mode) → lock_refusal k point hi ≡ None
+      → IsClient k → IsClient (locked k point hi mode)
   pub write :
       (k : Client) (change : WriteOp) → write_refusal k change ≡ None
       → IsClient k → IsClient (wrote k change)

@@ -14,7 +14,8 @@ use Rattle.krl_messages.specs.declared.to_client.ToClientBody.TheVariants as tol
 use Rattle.krl_messages.specs.declared.to_client.PushBody.{PushBody}
 use Rattle.krl_messages.specs.declared.to_client.PushBody.TheVariants as push
 use Rattle.krl_messages.specs.Holdings.{has_its_value}
-use Rattle.krl_cache.specs.Beliefs.{adopt}
+use Rattle.krl_messages.specs.Several.{have_values}
+use Rattle.krl_cache.specs.Beliefs.{adopt, adopt_all}
 use Rattle.krl_client.specs.Clients.{Client, Asked, NotAsked, Granted, NoEntry, Dropped, Waiting, Written, Unwritten, Outstanding, Judged, is_waiting, is_writing_in, meets_pin, from, requests}
 use Rattle.krl_client.specs.Commands.{lowered, says_release}
 
@@ -24,9 +25,9 @@ pub data Case : Type 0 where
   Accepts : (what : PushBody) → Case
   Lowers : (span : Bounds) (keep : Mode) → Case
 
--- a push with a holding has its value by the rule
+-- each holding of a push has its value by the rule
 abbrev pub fits : PushBody → Bool
-fits (push.Grant req h) = has_its_value h
+fits (push.Grant req hs) = have_values hs
 fits (push.Absent req point) = true
 fits (push.Answer number outcome h) = has_its_value h
 
@@ -66,10 +67,10 @@ judged_as k number outcome (Outstanding change) =
 judged_as k number outcome (Judged old) = Judged old
 
 abbrev pub accepted : Client → PushBody → Client
-accepted k (push.Grant req h) = record k {
+accepted k (push.Grant req hs) = record k {
   seen = suc k.seen;
   asked = asked_after k req k.asked Granted;
-  belief = adopt h k.belief;
+  belief = adopt_all hs k.belief;
 }
 accepted k (push.Absent req point) = record k {
   seen = suc k.seen;
@@ -89,7 +90,7 @@ dropped NotAsked = NotAsked
 dropped Granted = Granted
 dropped NoEntry = NoEntry
 dropped Dropped = Dropped
-dropped (Waiting point mode) = Dropped
+dropped (Waiting point hi mode) = Dropped
 
 -- the outstanding write, the cache and the pins stay
 abbrev pub joined : Client → ℕ → Client

@@ -14,7 +14,7 @@ lock_again k NotAsked = []
 lock_again k Granted = []
 lock_again k NoEntry = []
 lock_again k Dropped = []
-lock_again k (Waiting point mode) = says_lock k point mode ∷ []
+lock_again k (Waiting point hi mode) = says_lock k point hi mode ∷ []
 
 -- the outstanding write
 abbrev pub write_again : Client → Option WriteOp → List ToServer

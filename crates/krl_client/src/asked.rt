@@ -14,8 +14,10 @@ pub enum Asked {
     NotAsked,
     /// It is not answered yet.
     Waiting {
-        /// The point that it asked for.
+        /// The first point that it asked for.
         point: u64,
+        /// One past the last point that it asked for.
+        hi: u64,
         /// The mode that it asked for.
         mode: Mode,
     },

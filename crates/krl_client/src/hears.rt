@@ -4,6 +4,7 @@ ghost use Rattle.krl_modes.specs.declared.point.TheConstants.{END};
 ghost use Rattle.krl_messages.specs.declared.to_client.ToClientBody.TheVariants as told;
 ghost use Rattle.krl_messages.specs.declared.to_client.PushBody.TheVariants as push;
 ghost use Rattle.krl_messages.specs.Holdings.{has_its_value};
+ghost use Rattle.krl_messages.specs.Several.{have_values};
 ghost use Rattle.krl_client.specs.Clients as clients;
 ghost use Rattle.krl_client.specs.Messages as messages;
 ghost use Rattle.krl_client.specs.Messages.{Adopts, Accepts, Lowers, AcksAgain, Ignores};
@@ -14,20 +15,19 @@ use crate::client::Client;
 use crate::shows::one;
 use krl_cache::Belief;
 use krl_messages::{
-    Holding, Outcome, PushBody, Request, RequestBody, ToClient, ToClientBody, ToServer,
+    Holding, Holdings, Outcome, PushBody, Request, RequestBody, ToClient, ToClientBody, ToServer,
     ToServerBody,
 };
 use krl_modes::{END, Mode, Span};
 use std::alloc::AllocError;
 
-// Whether a push that has a holding has its value by the rule.
+// Whether each holding of a push has its value by the rule.
 fn fits(body: PushBody) -> bool
     ensures { result ≡ messages.fits body }
 {
     match body {
-        PushBody::Grant { holding, .. } | PushBody::Answer { holding, .. } => {
-            holding.has_its_value()
-        }
+        PushBody::Grant { holdings, .. } => holdings.have_values(),
+        PushBody::Answer { holding, .. } => holding.has_its_value(),
         PushBody::Absent { .. } => true,
     }
 }
@@ -86,16 +86,16 @@ impl Client {
     }
 
     // Takes over what is granted.
-    fn accept_grant(&mut self, req: u64, holding: Holding) -> Result<Vec<ToServer>, AllocError>
+    fn accept_grant(&mut self, req: u64, holdings: Holdings) -> Result<Vec<ToServer>, AllocError>
         requires last { suc (self.old).seen ≤ END }
-        requires fits { has_its_value holding ≡ true }
+        requires fits { have_values holdings ≡ true }
         ensures unchanged { OnErr result (self.new ≡ self.old) }
         ensures follows { IfOk result
-            (λ list. Follows (meaning self.old) (Accepts (push.Grant req holding))
+            (λ list. Follows (meaning self.old) (Accepts (push.Grant req holdings))
             (meaning self.new) list.items) }
     {
         let list = self.ack_next()?;
-        self.cache.adopt(holding)?;
+        self.cache.adopt_all(&holdings)?;
         self.asked = self.asked.answered(req == self.req, Asked::Granted);
         self.seen += 1;
         Ok(list)
@@ -145,8 +145,8 @@ impl Client {
             (λ list. Follows (meaning self.old) (Accepts body) (meaning self.new) list.items) }
     {
         match body {
-            PushBody::Grant { req, holding } => {
-                let grant = self.accept_grant(req, holding)?;
+            PushBody::Grant { req, holdings } => {
+                let grant = self.accept_grant(req, holdings)?;
                 Ok(grant)
             }
             PushBody::Absent { req, point } => {

@@ -11,10 +11,10 @@ use krl_modes::Span;
 impl Client {
     /// Why it would refuse to ask for a lock on the slot of the point, apart from memory: the first
     /// of `BadPoint`, `NotJoined`, `Busy`, `Spent`.
-    pub fn refuses_lock(&self, point: u64) -> Option<CommandRefused>
-        ensures { result ≡ commands.lock_refusal (meaning self.now) point }
+    pub fn refuses_lock(&self, point: u64, hi: u64) -> Option<CommandRefused>
+        ensures { result ≡ commands.lock_refusal (meaning self.now) point hi }
     {
-        self.lock_refusal(point)
+        self.lock_refusal(point, hi)
     }
 
     /// Why it would refuse to write, apart from memory: the first of `BadPoint`, `NotJoined`,

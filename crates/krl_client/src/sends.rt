@@ -13,16 +13,19 @@ use crate::shows::one;
 use crate::written::Written;
 use krl_cache::Belief;
 use krl_messages::{RequestBody, ToServer, ToServerBody, WriteOp};
-use krl_modes::{END, KeyPart, Mode, RangePart, Span};
+use krl_modes::{END, KeyPart, Mode, RangePart, Span, TOP};
 use std::alloc::AllocError;
 
 impl Client {
-    // Why it refuses to ask for a lock at the point.
-    pub(crate) fn lock_refusal(&self, point: u64) -> Option<CommandRefused>
-        ensures { result ≡ commands.lock_refusal (meaning self.now) point }
+    // Why it refuses to ask for a lock of the points from this one on below `hi`.
+    pub(crate) fn lock_refusal(&self, point: u64, hi: u64) -> Option<CommandRefused>
+        ensures { result ≡ commands.lock_refusal (meaning self.now) point hi }
     {
         if point > END {
             return Some(CommandRefused::BadPoint);
+        }
+        if hi <= point || hi > TOP {
+            return Some(CommandRefused::BadSpan);
         }
         if !self.has_joined() {
             return Some(CommandRefused::NotJoined);
@@ -36,34 +39,41 @@ impl Client {
         None
     }
 
-    /// Asks for a lock of this mode on the slot of the point, from 0 to END. The request waits for
-    /// its answer, and each tick says it again.
+    /// Asks for a lock of this mode on the slot of the point, from 0 to END, and on the slots after
+    /// it that begin below `hi`, as far as they are free. The request waits for its answer, and
+    /// each tick says it again.
     ///
     /// # Errors
     ///
-    /// In this order: `BadPoint` where the point is above END; `NotJoined` before the client was
-    /// told an epoch; `Busy` while a request waits; `Spent` where no number is left for it;
-    /// `OutOfMemory`. The client is as it was.
-    pub fn lock(&mut self, point: u64, mode: Mode) -> Result<Vec<ToServer>, CommandRefused>
-        ensures due { IfErr result (λ r. IsDue (commands.lock_refusal (meaning self.old) point) r) }
+    /// In this order: `BadPoint` where the point is above END; `BadSpan` where `hi` is not above
+    /// the point, or is above TOP; `NotJoined` before the client was told an epoch; `Busy` while a
+    /// request waits; `Spent` where no number is left for it; `OutOfMemory`. The client is as it
+    /// was.
+    pub fn lock(&mut self, point: u64, hi: u64, mode: Mode) -> Result<Vec<ToServer>, CommandRefused>
+        ensures due { IfErr result (λ r. IsDue (commands.lock_refusal (meaning self.old) point hi) r) }
         ensures unchanged { OnErr result (self.new ≡ self.old) }
-        ensures none_due { OnOk result (commands.lock_refusal (meaning self.old) point ≡ None) }
+        ensures none_due { OnOk result (commands.lock_refusal (meaning self.old) point hi ≡ None) }
         ensures client { OnOk result
-            (meaning self.new ≡ commands.locked (meaning self.old) point mode) }
+            (meaning self.new ≡ commands.locked (meaning self.old) point hi mode) }
         ensures says { IfOk result
             (λ list. list.items ≡ commands.says_lock
-            (commands.locked (meaning self.old) point mode) point mode ∷ []) }
+            (commands.locked (meaning self.old) point hi mode) point hi mode ∷ []) }
     {
-        if let Some(refusal) = self.lock_refusal(point) {
+        if let Some(refusal) = self.lock_refusal(point, hi) {
             return Err(refusal);
         }
         let req = self.req + 1;
         let list = one(
             self.alloc,
-            self.requests(RequestBody::Lock { req, point, mode }),
+            self.requests(RequestBody::Lock {
+                req,
+                point,
+                hi,
+                mode,
+            }),
         )?;
         self.req = req;
-        self.asked = Asked::Waiting { point, mode };
+        self.asked = Asked::Waiting { point, hi, mode };
         Ok(list)
     }
 
@@ -87,7 +97,8 @@ impl Client {
     pub(crate) fn write_refusal(&self, change: WriteOp) -> Option<CommandRefused>
         ensures { result ≡ commands.write_refusal (meaning self.now) change }
     {
-        if change.key() >= END {
+        let asked = change;
+        if asked.key() >= END {
             return Some(CommandRefused::BadPoint);
         }
         if !self.has_joined() {
@@ -127,14 +138,13 @@ impl Client {
             (λ list. list.items ≡ commands.says_write
             (commands.wrote (meaning self.old) change) change ∷ []) }
     {
-        if let Some(refusal) = self.write_refusal(change) {
+        let asked = change;
+        if let Some(refusal) = self.write_refusal(asked) {
             return Err(refusal);
         }
         let number = self.writes + 1;
-        let list = one(
-            self.alloc,
-            self.requests(RequestBody::Write { number, op: change }),
-        )?;
+        let op = change;
+        let list = one(self.alloc, self.requests(RequestBody::Write { number, op }))?;
         self.writes = number;
         self.written = Written::Outstanding(change);
         Ok(list)

@@ -37,9 +37,14 @@ impl Client {
         ensures { as_list result ≡ ticks.lock_again (meaning self.now) (meaning self.now).asked }
     {
         match self.asked {
-            Asked::Waiting { point, mode } => {
+            Asked::Waiting { point, hi, mode } => {
                 let req = self.req;
-                Some(self.requests(RequestBody::Lock { req, point, mode }))
+                Some(self.requests(RequestBody::Lock {
+                    req,
+                    point,
+                    hi,
+                    mode,
+                }))
             }
             Asked::NotAsked | Asked::Granted | Asked::Absent | Asked::Dropped => None,
         }

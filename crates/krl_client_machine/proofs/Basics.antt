@@ -31,7 +31,7 @@ pub grows_on : (l m n : Link) → Grows l m → Grows m n → Grows l n
 grows_on l m n a b = record { hellos = λ x h. b.hellos x (a.hellos x h); byes = λ x h. b.byes x (a.byes x h); heads = λ x h. b.heads x (a.heads x h); releases = λ x h. b.releases x (a.releases x h); writes = λ x h. b.writes x (a.writes x h); reports = λ x h. b.reports x (a.reports x h); notices = λ x h. b.notices x (a.notices x h); pushes = λ x h. b.pushes x (a.pushes x h) }
 
 asked_stays : (l m : Link) → Grows l m → (a : Head) (b : RequestBody) → IsAsked l a b → IsAsked m a b
-asked_stays l m g a (request.Lock req point mode) h = h
+asked_stays l m g a (request.Lock req point hi mode) h = h
 asked_stays l m g a (request.Write number change) h = g.writes _ h
 asked_stays l m g a (request.Release s keep) h = (h.0, g.releases _ h.1)
 asked_stays l m g a request.Ack h = h

@@ -23,8 +23,8 @@ use Rattle.krl_protocol.specs.Links.{In, Op, Said, Link, Shared, belief, adopted
 use Rattle.krl_protocol.specs.Holdings.{said_at, or_by, said_by}
 use Rattle.krl_modes.specs.Parts.{reads_key}
 use Rattle.krl_messages.specs.Holdings.{ends_at_end, has_its_value}
-use Rattle.krl_client_machine.specs.Several.{adopt_all}
-use Rattle.krl_cache.specs.Beliefs.{Belief, is_last, adopt}
+use Rattle.krl_messages.specs.Several.{have_values}
+use Rattle.krl_cache.specs.Beliefs.{Belief, is_last, adopt, adopt_all}
 use Rattle.krl_cache.specs.Kept.{Describes}
 use Rattle.krl_cache.proofs.Truths.{and_true, or_false, not_is_true}
 use Rattle.krl_cache.proofs.Calls.{same_of, last_not_end, none_at_end}
@@ -61,6 +61,10 @@ value_shown h q rule f n =
 
 abbrev AllFit : List Holding → Type 0
 AllFit hs = AllByRecursion (λ h. has_its_value h ≡ true) hs
+
+each_fits : (hs : List Holding) → have_values hs ≡ true → AllFit hs
+each_fits [] e = tt
+each_fits (h ∷ hs) e = let x = and_true (has_its_value h) (have_values hs) e in (x.0, each_fits hs x.1)
 
 one_first : (o : Option Said) (h : Holding) (q : ℕ) (x : Said) → unwrap_or o (unwrap_or (or_by None h q) x) ≡ unwrap_or (or_by o h q) x
 one_first None h q x = refl
@@ -169,7 +173,7 @@ takes_push s l c g k p hs asked w out x d says rules after o n = took s l _ c g 
     (inl (cc (x.1.inc, x.1.epoch, x.1.seen)), tt)
 
 accept_shows : (s : Shared) (l : Link) (c g : ℕ) (k : Client) (p : Links.Push) (what : PushBody) → ShowsSeat c g (Some k) l → fits what ≡ true → IsDue k l p → Tells what p → Leads s l c g (Some (accepted k what)) (says_ack (accepted k what) ∷ [])
-accept_shows s l c g k p (push.Grant req h) x rule d tells = takes_push s l c g k p (h ∷ []) (asked_after k req k.asked Granted) k.written l.out x d tells.1 (rule, tt)
+accept_shows s l c g k p (push.Grant req hs) x rule d tells = takes_push s l c g k p hs (asked_after k req k.asked Granted) k.written l.out x d tells.1 (each_fits hs rule)
     (grant_out l p (nat_eq p.answers l.issued) refl tells.0 (issued_or_none c k l x.1)) x.1.out x.1.numbered
 accept_shows s l c g k p (push.Absent req point) x rule d tells = takes_push s l c g k p [] (asked_after k req k.asked NoEntry) k.written l.out x d tells.1 tt
     (grant_out l p (nat_eq p.answers l.issued) refl tells.0 (issued_or_none c k l x.1)) x.1.out x.1.numbered

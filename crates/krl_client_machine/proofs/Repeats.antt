@@ -57,7 +57,7 @@ lock_again_shows s l c g k NotAsked h old = rests s l c g (Some k) h
 lock_again_shows s l c g k Granted h old = rests s l c g (Some k) h
 lock_again_shows s l c g k NoEntry h old = rests s l c g (Some k) h
 lock_again_shows s l c g k Dropped h old = rests s l c g (Some k) h
-lock_again_shows s l c g k (Waiting point mode) h old = speaks_shows s l c g k _ h.1.number h old (λ m i. (i, tt))
+lock_again_shows s l c g k (Waiting point hi mode) h old = speaks_shows s l c g k _ h.1.number h old (λ m i. (i, tt))
 
 write_again_shows : (s : Shared) (l : Link) (c g : ℕ) (k : Client) (out : Option WriteOp) → outstanding k.written ≡ out → ShowsSeat c g (Some k) l → 1 ≤ l.epoch → Leads s l c g (Some k) (write_again k out)
 write_again_shows s l c g k None e h old = rests s l c g (Some k) h

@@ -14,7 +14,7 @@ crash_shows k s l c g h = crashing s l c g k h
 
 pub commands_show : CommandsShow
 commands_show = record {
-  lock = λ k point mode e s l c g h. locks_show s l c g k point mode h e;
+  lock = λ k point hi mode e s l c g h. locks_show s l c g k point hi mode h e;
   write = λ k change e s l c g h. writes_show s l c g k change h e;
   scan = λ k s l c g h. rests s l c g (Some k) h;
   forget = λ k span e s l c g h. forgets_show s l c g k span h e;

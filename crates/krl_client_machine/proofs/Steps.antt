@@ -1,5 +1,5 @@
 -- Starts, crashes and commands are steps of the client's link.
-use Rattle.std.proofs.Common.{◌≡◌, ℕ, suc, ◌≤◌, ◌<◌, ◌-◌, Bool, true, false, ◌&&◌, Option, Some, None, [], ◌∷◌, ◌⊎◌, inl, inr, refl, sym, subst, ◌∙◌, ⊎_elim, arith, nat_lt, nat_le, if◌then◌else◌, ltb-true}
+use Rattle.std.proofs.Common.{◌≡◌, ℕ, suc, ◌≤◌, ◌<◌, ◌-◌, Bool, true, false, ◌&&◌, Option, Some, None, [], ◌∷◌, ◌⊎◌, inl, inr, refl, sym, subst, ◌∙◌, ⊎_elim, arith, nat_lt, nat_le, not, if◌then◌else◌, ltb-true}
 use Rattle.krl_modes.specs.declared.point.TheConstants.{END, TOP}
 use Rattle.krl_modes.specs.declared.part.KeyPart.{KeyPart}
 use Rattle.krl_modes.specs.declared.part.KeyPart.TheVariants as key
@@ -17,7 +17,8 @@ use Rattle.krl_protocol.specs.Links
 use Rattle.krl_protocol.specs.Links.{In, Op, op_key, Link, Shared, LinkStep, idle, next, MayIssue, head_of, starts, crashes, leaves, lowers, issues, speaks}
 use Rattle.krl_protocol.proofs.Modes.{mode_parts}
 use Rattle.krl_modes.specs.Parts.{reads_key}
-use Rattle.krl_cache.specs.Beliefs.{lower}
+use Rattle.krl_cache.specs.Beliefs.{lower, is_span}
+use Rattle.krl_client.specs.declared.refused.CommandRefused.TheVariants as refused
 use Rattle.krl_cache.proofs.Truths.{and_true, not_is_false, none_left, outside_span}
 use Rattle.krl_cache.proofs.Calls.{either_none}
 use Rattle.krl_messages.specs.Writes.{op_key as key_of_op}
@@ -82,9 +83,9 @@ leaving s l c g k h = took s l _ c g None _ h.1.number refl (leaves h.1.up)
 pub more_heads : (l : Link) → Grows l (record l { heads = head_of l ∷ l.heads })
 more_heads l = record { hellos = λ x i. i; byes = λ x i. i; heads = λ x i. inr i; releases = λ x i. i; writes = λ x i. i; reports = λ x i. i; notices = λ x i. i; pushes = λ x i. i }
 
-pub locks_show : (s : Shared) (l : Link) (c g : ℕ) (k : Client) (point : ℕ) (mode : Mode) → ShowsSeat c g (Some k) l → lock_refusal k point ≡ None → Leads s l c g (Some (locked k point mode)) (says_lock (locked k point mode) point mode ∷ [])
-locks_show s l c g k point mode h e = let p = passed _ _ _ e in let q = passed _ _ _ p.1 in
-    took s l _ c g _ _ h.1.number refl (speaks h.1.up (joined_epoch c k l h.1 (not_is_false _ q.0))) (more_heads l) (h.0, other_parts c k l.client (suc k.req) (Waiting point mode) k.pins h.1) (inl (sym (head_is c k l h.1)), tt)
+pub locks_show : (s : Shared) (l : Link) (c g : ℕ) (k : Client) (point hi : ℕ) (mode : Mode) → ShowsSeat c g (Some k) l → lock_refusal k point hi ≡ None → Leads s l c g (Some (locked k point hi mode)) (says_lock (locked k point hi mode) point hi mode ∷ [])
+locks_show s l c g k point hi mode h e = let p = passed (nat_lt END point) refused.BadPoint _ e in let r = passed (not (is_span (record { lo = point; hi = hi }))) refused.BadSpan _ p.1 in let q = passed (not (has_joined k)) refused.NotJoined _ r.1 in
+    took s l _ c g _ _ h.1.number refl (speaks h.1.up (joined_epoch c k l h.1 (not_is_false _ q.0))) (more_heads l) (h.0, other_parts c k l.client (suc k.req) (Waiting point hi mode) k.pins h.1) (inl (sym (head_is c k l h.1)), tt)
 
 -- Writes
 

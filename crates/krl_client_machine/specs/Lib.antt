@@ -1,3 +1,2 @@
-pub mod Several
 pub mod Shows
 pub mod Simulation

@@ -31,8 +31,8 @@ CrashShows = (k : Client) → Shown k None []
 
 -- it obeys a command that it doesn't refuse
 pub record CommandsShow : Type 0 where
-  pub lock : (k : Client) (point : ℕ) (mode : Mode) → lock_refusal k point ≡ None →
-      Shown k (Some (locked k point mode)) (says_lock (locked k point mode) point mode ∷ [])
+  pub lock : (k : Client) (point hi : ℕ) (mode : Mode) → lock_refusal k point hi ≡ None →
+      Shown k (Some (locked k point hi mode)) (says_lock (locked k point hi mode) point hi mode ∷ [])
   pub write : (k : Client) (change : WriteOp) → write_refusal k change ≡ None →
       Shown k (Some (wrote k change)) (says_write (wrote k change) change ∷ [])
   pub scan : (k : Client) → Shown k (Some k) []

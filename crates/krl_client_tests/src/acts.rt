@@ -2,10 +2,18 @@
 //! allocation is refused, a client shows what it showed, and the refused call is made again.
 use krl_client::{Client, CommandRefused, LockStatus, ScanAnswer, Status, WriteStatus};
 use krl_messages::{
-    Holding, Outcome, Pieces, PushBody, Request, RequestBody, ToClient, ToClientBody, ToServer,
-    ToServerBody, Value, WriteOp,
+    Holding, Holdings, Outcome, Pieces, PushBody, Request, RequestBody, ToClient, ToClientBody,
+    ToServer, ToServerBody, Value, WriteOp,
 };
 use krl_modes::{END, KeyPart, Mode, RangePart, Span};
+
+// A write. Its value is the eight bytes of a number.
+#[derive(Clone, Copy)]
+pub enum Change {
+    Insert(u64, u64),
+    Put(u64, u64),
+    Delete(u64),
+}
 
 // What a client is told or asked to do, by the ends of its span.
 #[derive(Clone, Copy)]
@@ -20,7 +28,8 @@ pub enum Act {
     ForAnother(u64),
     ForAnEarlier(u64),
     Lock(u64, Mode),
-    Write(WriteOp),
+    LockTo(u64, u64, Mode),
+    Write(Change),
     Forget(u64, u64),
     Pin(u64, u64),
     Unpin(u64),
@@ -30,16 +39,16 @@ pub enum Act {
     Status,
 }
 
-// A holding, by the ends of its span.
+// A holding, by the ends of its span. Its value is the eight bytes of a number.
 #[derive(Clone, Copy)]
-pub struct Held(pub u64, pub u64, pub Mode, pub Option<Value>);
+pub struct Held(pub u64, pub u64, pub Mode, pub Option<u64>);
 
 // What it says, with its epoch and the last push that it has accepted.
 pub enum Says {
     Hello,
     Ack(u64, u64),
     Lock(u64, u64, u64, u64, Mode),
-    Write(u64, u64, u64, WriteOp),
+    Write(u64, u64, u64, Change),
     Release(u64, u64, u64, u64, Mode),
     Report(u64, &'static [(u64, u64, RangePart)], &'static [(u64, KeyPart)]),
 }
@@ -51,7 +60,7 @@ pub enum Gives {
     Two(Says, Says),
     Three(Says, Says, Says),
     Refused(CommandRefused),
-    Rows(&'static [(u64, Value)]),
+    Rows(&'static [(u64, u64)]),
     Miss(u64),
     Pending(u64),
     Id(u64),
@@ -60,6 +69,20 @@ pub enum Gives {
 }
 
 static POINTS: [u64; 8] = [0, 3, 8, 10, 15, 20, 30, END];
+
+fn op_of(change: Change) -> WriteOp {
+    match change {
+        Change::Insert(key, number) => WriteOp::Insert {
+            key,
+            value: Value::from_u64(number),
+        },
+        Change::Put(key, number) => WriteOp::Put {
+            key,
+            value: Value::from_u64(number),
+        },
+        Change::Delete(key) => WriteOp::Delete { key },
+    }
+}
 
 // What the client shows: its status, and what it holds at the points that the rows speak of.
 fn seen(client: &Client) -> (Status, [(RangePart, KeyPart); 8]) {
@@ -102,9 +125,18 @@ fn is_request(request: &Request, expected: &Says) -> bool {
     match *expected {
         Says::Ack(e, s) => (*epoch, *seen) == (e, s) && *body == RequestBody::Ack,
         Says::Lock(e, s, req, point, mode) => {
-            (*epoch, *seen) == (e, s) && *body == RequestBody::Lock { req, point, mode }
+            let hi = point.saturating_add(1);
+            (*epoch, *seen) == (e, s)
+                && *body
+                    == RequestBody::Lock {
+                        req,
+                        point,
+                        hi,
+                        mode,
+                    }
         }
-        Says::Write(e, s, number, op) => {
+        Says::Write(e, s, number, change) => {
+            let op = op_of(change);
             (*epoch, *seen) == (e, s) && *body == RequestBody::Write { number, op }
         }
         Says::Release(e, s, lo, hi, keep) => {
@@ -142,7 +174,8 @@ fn are_said(messages: &[ToServer], expected: &Gives) -> bool {
 }
 
 fn holding(held: Held) -> Option<Holding> {
-    let Held(lo, hi, mode, value) = held;
+    let Held(lo, hi, mode, number) = held;
+    let value = number.map(Value::from_u64);
     match Span::new(lo, hi) {
         Ok(span) => Some(Holding { span, mode, value }),
         Err(_) => None,
@@ -164,8 +197,8 @@ fn told(act: Act) -> Option<ToClientBody> {
             Some(ToClientBody::Epoch { epoch })
         }
         Act::Grant(epoch, number, req, held) => {
-            let holding = holding(held)?;
-            Some(push(epoch, number, PushBody::Grant { req, holding }))
+            let holdings = Holdings::one(holding(held)?);
+            Some(push(epoch, number, PushBody::Grant { req, holdings }))
         }
         Act::Absent(epoch, number, req, point) => {
             Some(push(epoch, number, PushBody::Absent { req, point }))
@@ -219,8 +252,9 @@ fn hears(client: &mut Client, message: &ToClient, expected: &Gives) -> bool {
 // A command that sends.
 fn command(client: &mut Client, act: Act) -> Result<Vec<ToServer>, CommandRefused> {
     match act {
-        Act::Lock(point, mode) => client.lock(point, mode),
-        Act::Write(op) => client.write(op),
+        Act::Lock(point, mode) => client.lock(point, point.saturating_add(1), mode),
+        Act::LockTo(point, hi, mode) => client.lock(point, hi, mode),
+        Act::Write(change) => client.write(op_of(change)),
         Act::Forget(lo, hi) => client.forget(lo, hi),
         _ => match client.tick() {
             Ok(list) => Ok(list),
@@ -249,9 +283,16 @@ fn commands(client: &mut Client, act: Act, expected: &Gives) -> bool {
     }
 }
 
+fn are_rows(rows: &[(u64, Value)], expected: &[(u64, u64)]) -> bool {
+    rows.len() == expected.len()
+        && rows.iter().zip(expected.iter()).all(|(row, told)| {
+            row.0 == told.0 && row.1.as_u64() == Some(told.1)
+        })
+}
+
 fn is_found(answer: &ScanAnswer, expected: &Gives) -> bool {
     match (answer, expected) {
-        (ScanAnswer::Rows(rows), Gives::Rows(entries)) => rows.as_slice() == *entries,
+        (ScanAnswer::Rows(rows), Gives::Rows(entries)) => are_rows(rows.as_slice(), entries),
         (ScanAnswer::Miss(p), Gives::Miss(point)) => p == point,
         (ScanAnswer::Pending(key), Gives::Pending(point)) => key == point,
         _ => false,

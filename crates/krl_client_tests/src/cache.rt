@@ -3,38 +3,21 @@
 //! --test --fail-alloc N`, for N from 1 to 24.
 ghost use Rattle.std.specs.Prelude.{◌≡◌};
 
-use krl_cache::laws::{CacheCall, CacheReply, PlainCache, run_cache};
+use crate::asks::{Ask, Bytes, Gives, all_give, are_told, has_rows};
 use krl_cache::{Belief, Cache, Scanned};
-use krl_messages::{Holding, KeyPiece, Pieces, RangePiece, Value};
+use krl_cache_laws::{CacheCall, CacheReply, PlainCache, run_cache};
+use krl_messages::{Holding, Value};
 use krl_modes::{END, KeyPart, Mode, RangePart, Span, TOP};
 use std::alloc::{AllocError, Global};
 use std::process::Abort;
 use std::test::Fail;
 
-// A call, by the ends of its span.
-enum Ask {
-    Adopt(u64, u64, Mode, Option<Value>),
-    Lower(u64, u64, Mode),
-    Scan(u64, u64),
-    At(u64),
-    Pieces,
-}
-
-// What it gives.
-enum Gives {
-    Done,
-    Rows(&'static [(u64, Value)]),
-    Miss(u64),
-    Here(RangePart, KeyPart, Option<Value>),
-    Told(&'static [(u64, u64, RangePart)], &'static [(u64, KeyPart)]),
-}
-
 // Two holdings side by side: the one reads its gap and its entry, the other inserts into its gap.
 static TWO_HOLDINGS: [(Ask, Gives); 10] = [
     (Ask::Scan(0, 11), Gives::Miss(0)),
-    (Ask::Adopt(0, 11, Mode::RangeSS, Some(1)), Gives::Done),
+    (Ask::Adopt(0, 11, Mode::RangeSS, Some(b"one")), Gives::Done),
     (Ask::Adopt(11, 21, Mode::RangeIN, None), Gives::Done),
-    (Ask::Scan(0, 11), Gives::Rows(&[(10, 1)])),
+    (Ask::Scan(0, 11), Gives::Rows(&[(10, b"one")])),
     (Ask::Scan(0, 21), Gives::Miss(11)),
     (
         Ask::Pieces,
@@ -52,12 +35,18 @@ static TWO_HOLDINGS: [(Ask, Gives); 10] = [
 // An entry of the span that is not its last point goes, and so does the value that was there
 // before.
 static ADOPTS_OVER: [(Ask, Gives); 9] = [
-    (Ask::Adopt(0, 6, Mode::RangeXX, Some(7)), Gives::Done),
-    (Ask::Adopt(6, 11, Mode::RangeXX, Some(8)), Gives::Done),
-    (Ask::Scan(0, 11), Gives::Rows(&[(5, 7), (10, 8)])),
-    (Ask::Adopt(0, 11, Mode::RangeSU, Some(9)), Gives::Done),
+    (Ask::Adopt(0, 6, Mode::RangeXX, Some(b"seven")), Gives::Done),
+    (
+        Ask::Adopt(6, 11, Mode::RangeXX, Some(b"eight")),
+        Gives::Done,
+    ),
+    (
+        Ask::Scan(0, 11),
+        Gives::Rows(&[(5, b"seven"), (10, b"eight")]),
+    ),
+    (Ask::Adopt(0, 11, Mode::RangeSU, Some(b"nine")), Gives::Done),
     (Ask::At(5), Gives::Here(RangePart::S, KeyPart::N, None)),
-    (Ask::Scan(0, 11), Gives::Rows(&[(10, 9)])),
+    (Ask::Scan(0, 11), Gives::Rows(&[(10, b"nine")])),
     (Ask::Adopt(3, 11, Mode::N, None), Gives::Done),
     (Ask::Scan(0, 11), Gives::Miss(3)),
     (Ask::At(10), Gives::Here(RangePart::N, KeyPart::N, None)),
@@ -65,13 +54,16 @@ static ADOPTS_OVER: [(Ask, Gives); 9] = [
 
 // Entries that are read side by side are known though no gap is; the last gap has no value.
 static KEYS_AND_THE_END: [(Ask, Gives); 9] = [
-    (Ask::Adopt(4, 5, Mode::S, Some(40)), Gives::Done),
-    (Ask::Adopt(5, 6, Mode::RangeIX, Some(50)), Gives::Done),
-    (Ask::Adopt(7, 8, Mode::U, Some(70)), Gives::Done),
-    (Ask::Scan(4, 6), Gives::Rows(&[(4, 40), (5, 50)])),
+    (Ask::Adopt(4, 5, Mode::S, Some(b"forty")), Gives::Done),
+    (Ask::Adopt(5, 6, Mode::RangeIX, Some(b"fifty")), Gives::Done),
+    (Ask::Adopt(7, 8, Mode::U, Some(b"seventy")), Gives::Done),
+    (
+        Ask::Scan(4, 6),
+        Gives::Rows(&[(4, b"forty"), (5, b"fifty")]),
+    ),
     (Ask::Scan(4, 8), Gives::Miss(6)),
     (Ask::Adopt(8, TOP, Mode::RangeXU, None), Gives::Done),
-    (Ask::Scan(7, TOP), Gives::Rows(&[(7, 70)])),
+    (Ask::Scan(7, TOP), Gives::Rows(&[(7, b"seventy")])),
     (Ask::Lower(5, TOP, Mode::RangeSS), Gives::Done),
     (
         Ask::Pieces,
@@ -87,138 +79,165 @@ static KEYS_AND_THE_END: [(Ask, Gives); 9] = [
     ),
 ];
 
-static POINTS: [u64; 9] = [0, 3, 4, 5, 7, 10, 11, 20, END];
+// Two holdings at once, and then others over them and past them.
+static ADOPTS_SEVERAL: [(Ask, Gives); 8] = [
+    (
+        Ask::AdoptAll(&[
+            (0, 11, Mode::RangeSS, Some(b"one")),
+            (11, 21, Mode::RangeSU, Some(b"two")),
+        ]),
+        Gives::Done,
+    ),
+    (Ask::Scan(0, 21), Gives::Rows(&[(10, b"one"), (20, b"two")])),
+    (
+        Ask::AdoptAll(&[
+            (5, 11, Mode::RangeIN, None),
+            (11, 21, Mode::RangeSS, Some(b"three")),
+            (30, TOP, Mode::RangeSS, None),
+        ]),
+        Gives::Done,
+    ),
+    (Ask::Scan(0, 11), Gives::Miss(5)),
+    (Ask::Scan(11, 21), Gives::Rows(&[(20, b"three")])),
+    (
+        Ask::Pieces,
+        Gives::Told(
+            &[
+                (0, 5, RangePart::S),
+                (5, 11, RangePart::I),
+                (11, 21, RangePart::S),
+                (30, TOP, RangePart::S),
+            ],
+            &[(20, KeyPart::S), (END, KeyPart::S)],
+        ),
+    ),
+    (
+        Ask::AdoptAll(&[
+            (0, 5, Mode::N, None),
+            (5, 11, Mode::N, None),
+            (11, TOP, Mode::N, None),
+        ]),
+        Gives::Done,
+    ),
+    (Ask::Pieces, Gives::Told(&[], &[])),
+];
 
-// What is believed at a point.
-fn at<B: Belief>(cache: &B, p: u64) -> (RangePart, KeyPart, Option<Value>) {
-    (cache.range_at(p), cache.key_at(p), cache.value_at(p))
-}
+// As many as one message carries.
+static ADOPTS_EIGHT: [(Ask, Gives); 8] = [
+    (
+        Ask::AdoptAll(&[
+            (0, 11, Mode::RangeSS, Some(b"one")),
+            (11, 21, Mode::RangeIN, None),
+            (21, 31, Mode::RangeSU, Some(b"three")),
+            (35, 36, Mode::S, Some(b"four")),
+            (36, 37, Mode::U, Some(b"five")),
+            (37, 41, Mode::RangeIX, Some(b"six")),
+            (41, 51, Mode::RangeXX, Some(b"seven")),
+            (51, TOP, Mode::RangeSS, None),
+        ]),
+        Gives::Done,
+    ),
+    (
+        Ask::Pieces,
+        Gives::Told(
+            &[
+                (0, 11, RangePart::S),
+                (11, 21, RangePart::I),
+                (21, 31, RangePart::S),
+                (37, 41, RangePart::I),
+                (41, 51, RangePart::X),
+                (51, TOP, RangePart::S),
+            ],
+            &[
+                (10, KeyPart::S),
+                (30, KeyPart::U),
+                (35, KeyPart::S),
+                (36, KeyPart::U),
+                (40, KeyPart::X),
+                (50, KeyPart::X),
+                (END, KeyPart::S),
+            ],
+        ),
+    ),
+    (Ask::Scan(0, 11), Gives::Rows(&[(10, b"one")])),
+    (Ask::Scan(21, 31), Gives::Rows(&[(30, b"three")])),
+    (
+        Ask::Scan(35, 37),
+        Gives::Rows(&[(35, b"four"), (36, b"five")]),
+    ),
+    (
+        Ask::Scan(40, TOP),
+        Gives::Rows(&[(40, b"six"), (50, b"seven")]),
+    ),
+    (Ask::Scan(0, TOP), Gives::Miss(11)),
+    (Ask::At(20), Gives::Here(RangePart::I, KeyPart::N, None)),
+];
 
-// What is believed at the points that the rows speak of.
-fn seen<B: Belief>(cache: &B) -> [(RangePart, KeyPart, Option<Value>); 9] {
-    let mut all = [(RangePart::N, KeyPart::N, None); 9];
-    for i in 0..9usize {
-        all[i] = at(cache, POINTS[i]);
-    }
-    all
-}
+const THIRTY_ONE: Bytes = b"1234567890123456789012345678901";
 
-// Whether the holding is adopted, perhaps the second time, and a refusal changes nothing.
-fn adopts<B: Belief>(cache: &mut B, holding: Holding) -> bool {
-    let judged = holding;
-    let again = holding;
-    if !judged.has_its_value() {
-        return false;
-    }
-    let before = seen(cache);
-    cache.adopt(holding).is_ok() || (seen(cache) == before && cache.adopt(again).is_ok())
-}
+const THIRTY_TWO: Bytes = b"12345678901234567890123456789012";
 
-fn lowers<B: Belief>(cache: &mut B, span: Span, keep: Mode) -> bool {
-    let before = seen(cache);
-    cache.lower(span, keep).is_ok() || (seen(cache) == before && cache.lower(span, keep).is_ok())
-}
+// Values of 0, 1, 7, 8, 9, 31 and 32 bytes.
+const EACH_LENGTH: &[(u64, Bytes)] = &[
+    (10, b""),
+    (20, b"1"),
+    (30, b"1234567"),
+    (40, b"12345678"),
+    (50, b"123456789"),
+    (60, THIRTY_ONE),
+    (70, THIRTY_TWO),
+];
 
-fn has_rows(found: &Scanned, expected: &[(u64, Value)]) -> bool {
-    match found {
-        Scanned::Rows(rows) => rows.as_slice() == expected,
-        Scanned::Miss(_) => false,
-    }
-}
-
-fn is_found(found: &Scanned, gives: &Gives) -> bool {
-    match (found, gives) {
-        (Scanned::Rows(rows), Gives::Rows(expected)) => rows.as_slice() == *expected,
-        (Scanned::Miss(p), Gives::Miss(expected)) => p == expected,
-        _ => false,
-    }
-}
-
-fn scans<B: Belief>(alloc: Global, cache: &B, span: Span, gives: &Gives) -> bool {
-    match cache.scan(alloc, span) {
-        Ok(found) => is_found(&found, gives),
-        Err(_) => match cache.scan(alloc, span) {
-            Ok(found) => is_found(&found, gives),
-            Err(_) => false,
-        },
-    }
-}
-
-// Whether these are the pieces that hold something: a piece with N says what none says.
-fn are_ranges(pieces: &[RangePiece], expected: &[(u64, u64, RangePart)]) -> bool {
-    let mut found = 0usize;
-    for piece in pieces {
-        if piece.part != RangePart::N {
-            let told = (piece.span.lo(), piece.span.hi(), piece.part);
-            if found >= expected.len() || told != expected[found] {
-                return false;
-            }
-            found += 1;
-        }
-    }
-    found == expected.len()
-}
-
-fn are_keys(pieces: &[KeyPiece], expected: &[(u64, KeyPart)]) -> bool {
-    pieces.len() == expected.len()
-        && pieces
-            .iter()
-            .zip(expected.iter())
-            .all(|(piece, told)| (piece.point, piece.part) == *told)
-}
-
-fn are_told(pieces: &Pieces, ranges: &[(u64, u64, RangePart)], keys: &[(u64, KeyPart)]) -> bool {
-    are_ranges(pieces.ranges.as_slice(), ranges) && are_keys(pieces.keys.as_slice(), keys)
-}
-
-fn tells<B: Belief>(
-    alloc: Global,
-    cache: &B,
-    ranges: &[(u64, u64, RangePart)],
-    keys: &[(u64, KeyPart)],
-) -> bool {
-    match cache.pieces(alloc) {
-        Ok(pieces) => are_told(&pieces, ranges, keys),
-        Err(_) => match cache.pieces(alloc) {
-            Ok(pieces) => are_told(&pieces, ranges, keys),
-            Err(_) => false,
-        },
-    }
-}
-
-// Whether the call gives this.
-fn answers<B: Belief>(alloc: Global, cache: &mut B, ask: &Ask, expected: &Gives) -> bool {
-    match (ask, expected) {
-        (Ask::Adopt(lo, hi, mode, value), Gives::Done) => match Span::new(*lo, *hi) {
-            Ok(span) => {
-                let (mode, value) = (*mode, *value);
-                adopts(cache, Holding { span, mode, value })
-            }
-            Err(_) => false,
-        },
-        (Ask::Lower(lo, hi, keep), Gives::Done) => match Span::new(*lo, *hi) {
-            Ok(span) => lowers(cache, span, *keep),
-            Err(_) => false,
-        },
-        (Ask::Scan(lo, hi), _) => match Span::new(*lo, *hi) {
-            Ok(span) => scans(alloc, cache, span, expected),
-            Err(_) => false,
-        },
-        (Ask::At(p), Gives::Here(range, key, value)) => at(cache, *p) == (*range, *key, *value),
-        (Ask::Pieces, Gives::Told(ranges, keys)) => tells(alloc, cache, ranges, keys),
-        _ => false,
-    }
-}
-
-// Whether each call of the rows gives what stands beside it.
-fn all_give<B: Belief>(alloc: Global, cache: &mut B, rows: &[(Ask, Gives)]) -> bool {
-    for (ask, expected) in rows {
-        if !answers(alloc, cache, ask, expected) {
-            return false;
-        }
-    }
-    true
-}
+// They are adopted and lowered. Then longer ones stand in the places of the shorter, and shorter ones
+// in those of the longer.
+static ADOPTS_EACH_LENGTH: [(Ask, Gives); 10] = [
+    (
+        Ask::AdoptAll(&[
+            (0, 11, Mode::RangeXX, Some(b"")),
+            (11, 21, Mode::RangeXX, Some(b"1")),
+            (21, 31, Mode::RangeXX, Some(b"1234567")),
+            (31, 41, Mode::RangeXX, Some(b"12345678")),
+            (41, 51, Mode::RangeXX, Some(b"123456789")),
+            (51, 61, Mode::RangeXX, Some(THIRTY_ONE)),
+            (61, 71, Mode::RangeXX, Some(THIRTY_TWO)),
+        ]),
+        Gives::Done,
+    ),
+    (Ask::Scan(0, 71), Gives::Rows(EACH_LENGTH)),
+    (Ask::Lower(0, 71, Mode::RangeSS), Gives::Done),
+    (Ask::Scan(0, 71), Gives::Rows(EACH_LENGTH)),
+    (Ask::Lower(5, 61, Mode::RangeIN), Gives::Done),
+    (Ask::Scan(0, 71), Gives::Miss(5)),
+    (Ask::Scan(61, 71), Gives::Rows(&[(70, THIRTY_TWO)])),
+    (
+        Ask::AdoptAll(&[
+            (0, 11, Mode::RangeSS, Some(THIRTY_TWO)),
+            (11, 21, Mode::RangeSS, Some(THIRTY_ONE)),
+            (21, 31, Mode::RangeSS, Some(b"123456789")),
+            (31, 41, Mode::RangeSS, Some(b"12345678")),
+            (41, 51, Mode::RangeSS, Some(b"1234567")),
+            (51, 61, Mode::RangeSS, Some(b"1")),
+            (61, 71, Mode::RangeSS, Some(b"")),
+        ]),
+        Gives::Done,
+    ),
+    (
+        Ask::Scan(0, 71),
+        Gives::Rows(&[
+            (10, THIRTY_TWO),
+            (20, THIRTY_ONE),
+            (30, b"123456789"),
+            (40, b"12345678"),
+            (50, b"1234567"),
+            (60, b"1"),
+            (70, b""),
+        ]),
+    ),
+    (
+        Ask::At(20),
+        Gives::Here(RangePart::S, KeyPart::S, Some(THIRTY_ONE)),
+    ),
+];
 
 #[test]
 fn cache_gives_each_row(rt: HostRuntime) {
@@ -226,6 +245,9 @@ fn cache_gives_each_row(rt: HostRuntime) {
         TWO_HOLDINGS.as_slice(),
         ADOPTS_OVER.as_slice(),
         KEYS_AND_THE_END.as_slice(),
+        ADOPTS_SEVERAL.as_slice(),
+        ADOPTS_EIGHT.as_slice(),
+        ADOPTS_EACH_LENGTH.as_slice(),
     ] {
         assert!(rt; all_give(rt.alloc(), &mut Cache::new(rt.alloc()), rows));
     }
@@ -237,6 +259,9 @@ fn plain_cache_gives_each_row(rt: HostRuntime) {
         TWO_HOLDINGS.as_slice(),
         ADOPTS_OVER.as_slice(),
         KEYS_AND_THE_END.as_slice(),
+        ADOPTS_SEVERAL.as_slice(),
+        ADOPTS_EIGHT.as_slice(),
+        ADOPTS_EACH_LENGTH.as_slice(),
     ] {
         assert!(rt; all_give(rt.alloc(), &mut PlainCache::new(rt.alloc()), rows));
     }
@@ -268,7 +293,10 @@ fn are_replies(replies: &[CacheReply]) -> bool {
             CacheReply::Value(None),
             CacheReply::Found(Scanned::Miss(0)),
             CacheReply::Told(pieces),
-        ] => { has_rows(first, &[(10, 1)]) && are_told(pieces, &[(11, 21, RangePart::I)], &[]) }
+        ] => {
+            has_rows(first, &[(10, &[0, 0, 0, 0, 0, 0, 0, 1])])
+                && are_told(pieces, &[(11, 21, RangePart::I)], &[])
+        }
         _ => false,
     }
 }
@@ -283,7 +311,7 @@ fn run<B: Belief>(
     let read = Holding {
         span: first,
         mode: Mode::RangeSS,
-        value: Some(1),
+        value: Some(Value::from_u64(1)),
     };
     let inserts = Holding {
         span: span(rt, 11, 21),

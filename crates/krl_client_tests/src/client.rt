@@ -1,31 +1,47 @@
 //! Clients that are told everything by hand. Each run ends alike, whichever one allocation fails:
 //! `rt try --test --fail-alloc N`, for N from 1 to 40.
-use crate::acts::{Act, Gives, Held, Says, fails, is_said};
+use crate::acts::{Act, Change, Gives, Held, Says, fails, is_said};
 use krl_client::{Client, CommandRefused, LockStatus, StartRefused, WriteStatus};
-use krl_messages::{Outcome, ToServer, ToServerBody, WriteOp};
+use krl_messages::{Outcome, ToServer, ToServerBody};
 use krl_modes::{END, KeyPart, Mode, RangePart, TOP};
 use std::alloc::{AllocError, Global};
 use std::process::Abort;
 use std::test::Fail;
 
-const PUT: WriteOp = WriteOp::Put { key: 10, value: 9 };
+const PUT: Change = Change::Put(10, 9);
 
-const INSERT: WriteOp = WriteOp::Insert { key: 15, value: 5 };
+const INSERT: Change = Change::Insert(15, 5);
 
-const DELETE: WriteOp = WriteOp::Delete { key: 10 };
+const DELETE: Change = Change::Delete(10);
 
 // Each refusal in its order, before the client has joined an epoch; and what it ignores.
-static BEFORE_IT_JOINS: [(Act, Gives); 22] = [
+static BEFORE_IT_JOINS: [(Act, Gives); 26] = [
     (
         Act::Lock(END + 1, Mode::S),
         Gives::Refused(CommandRefused::BadPoint),
+    ),
+    (
+        Act::LockTo(END + 1, TOP, Mode::S),
+        Gives::Refused(CommandRefused::BadPoint),
+    ),
+    (
+        Act::LockTo(5, 5, Mode::S),
+        Gives::Refused(CommandRefused::BadSpan),
+    ),
+    (
+        Act::LockTo(0, TOP + 1, Mode::S),
+        Gives::Refused(CommandRefused::BadSpan),
+    ),
+    (
+        Act::LockTo(0, TOP, Mode::S),
+        Gives::Refused(CommandRefused::NotJoined),
     ),
     (
         Act::Lock(END, Mode::S),
         Gives::Refused(CommandRefused::NotJoined),
     ),
     (
-        Act::Write(WriteOp::Put { key: END, value: 1 }),
+        Act::Write(Change::Put(END, 1)),
         Gives::Refused(CommandRefused::BadPoint),
     ),
     (Act::Write(PUT), Gives::Refused(CommandRefused::NotJoined)),

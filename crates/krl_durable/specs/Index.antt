@@ -58,5 +58,5 @@ pub record IsSpanOf (m : Index) (n low : ℕ) : Type 0 where
   pub behind : (k : ℕ) → low ≡ suc k → is_slot m k ≡ true
 
 -- some entry has this key
-abbrev pub has_key : List (ℕ × Value) → ℕ → Bool
+abbrev pub has_key : {V : Type 0} → List (ℕ × V) → ℕ → Bool
 has_key entries k = list_any (λ e. nat_eq e.0 k) entries

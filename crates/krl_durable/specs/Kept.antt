@@ -11,10 +11,16 @@ use Rattle.krl_durable.specs.declared.record.Record.{Record}
 use Rattle.krl_durable.specs.Registers.{Durable, IsIncarnation, HasIncarnations, HasOutcomes, HasLasts}
 use Rattle.krl_durable.specs.Writes.{most_entries}
 
-abbrev pub AreBelowEnd : List (ℕ × Value) → Type 0
+abbrev pub AreBelowEnd : {V : Type 0} → List (ℕ × V) → Type 0
 AreBelowEnd es = AllByRecursion (λ e. nat_lt e.0 END ≡ true) es
 
--- entries in key order, and room for as many as there may be
+-- entries in key order, not too many, with keys below END
+pub record AreOrdered {V : Type 0} (es : List (ℕ × V)) : Type 0 where
+  pub sorted : is_sorted nat_cmp es ≡ true
+  pub below : AreBelowEnd es
+  pub few : length es ≤ most_entries
+
+-- and with room for as many as there may be
 pub record IsEntries (es : List (ℕ × Value)) (capacity : ℕ) : Type 0 where
   pub sorted : is_sorted nat_cmp es ≡ true
   pub below : AreBelowEnd es

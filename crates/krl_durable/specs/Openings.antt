@@ -1,6 +1,7 @@
 -- The entries with which an index may begin, and why others are refused.
 use Rattle.std.specs.Prelude.{◌≡◌, ℕ, ◌<◌, ◌≤◌, Bool, true, false, List, [], length, codes, take, slice_index_or}
 use Rattle.std.specs.FinMap as map
+use Rattle.std.specs.Map.{keys_of}
 use Rattle.krl_modes.specs.declared.point.TheConstants.{END}
 use Rattle.krl_messages.specs.Values.{Value}
 use Rattle.krl_durable.specs.declared.refused.Refused.{Refused}
@@ -10,24 +11,24 @@ use Rattle.krl_durable.specs.Registers.{Register, Durable}
 use Rattle.krl_durable.specs.Writes.{most_entries}
 
 -- the key of an entry, by its place
-abbrev pub key_of_entry : List (ℕ × Value) → ℕ → ℕ
-key_of_entry es i = (slice_index_or es i (0, 0)).0
+abbrev pub key_of_entry : {V : Type 0} → List (ℕ × V) → ℕ → ℕ
+key_of_entry es i = slice_index_or (keys_of es) i 0
 
 -- the entry's key stands in an earlier entry
-abbrev pub stands_before : List (ℕ × Value) → ℕ → Bool
+abbrev pub stands_before : {V : Type 0} → List (ℕ × V) → ℕ → Bool
 stands_before es i = has_key (take i es) (key_of_entry es i)
 
 -- the entry's key is below END, and stands in no earlier entry
-abbrev pub IsGood : List (ℕ × Value) → ℕ → Type 0
+abbrev pub IsGood : {V : Type 0} → List (ℕ × V) → ℕ → Type 0
 IsGood es i = (key_of_entry es i < END) × (stands_before es i ≡ false)
 
 -- each entry before this place is good
-abbrev pub AreGood : List (ℕ × Value) → ℕ → Type 0
+abbrev pub AreGood : {V : Type 0} → List (ℕ × V) → ℕ → Type 0
 AreGood es n = (i : ℕ) → i < n → IsGood es i
 
 -- Why these entries may be refused: there are too many; or the first entry that is not good has a key of
 -- END or more, or one that stands before; or memory was not there, whatever the entries.
-abbrev pub Refuses : List (ℕ × Value) → Refused → Type 0
+abbrev pub Refuses : {V : Type 0} → List (ℕ × V) → Refused → Type 0
 Refuses es refused.OutOfMemory = Unit {0}
 Refuses es refused.Full = most_entries < length es
 Refuses es refused.BadKey =

@@ -1,5 +1,5 @@
 //! What survives a restart, as its callers see it.
-ghost use Rattle.std.specs.Prelude.{◌≡◌, ◌≤◌, ◌<◌, suc, nat_eq, length, IsSome, IsSomeAnd, OnOk};
+ghost use Rattle.std.specs.Prelude.{◌≡◌, ◌≤◌, ◌<◌, suc, nat_eq, [], length, IsSome, IsSomeAnd, OnOk};
 ghost use Rattle.std.specs.Prelude.{OnErr, MatchResult, IfOk};
 ghost use Rattle.std.specs.List.{AllByRecursion, IsDistinct};
 ghost use Rattle.std.specs.Map.{keys_of};
@@ -10,10 +10,13 @@ ghost use Rattle.krl_durable.specs.Registers.{record_of, missing_order, register
 ghost use Rattle.krl_durable.specs.Registers.{IsIncarnation};
 ghost use Rattle.krl_durable.specs.Kept.{IsKept, IsRow};
 ghost use Rattle.krl_durable.specs.Openings.{AreGood, Refuses, of_parts, fresh};
+ghost use Rattle.krl_durable.specs.Migrations.{migrated_entries, migrated, MigratesNot};
 ghost use Rattle.krl_messages.specs.Writes.{op_key};
 ghost use Rattle.krl_durable.specs.Writes.{most_entries, judge, applied};
 
+use crate::durable_v1::DurableV1;
 use crate::index::Index;
+use crate::not_migrated::NotMigrated;
 use crate::record::Record;
 use crate::refused::Refused;
 use crate::register::Register;
@@ -31,7 +34,7 @@ pub struct Durable {
 }
 
 impl Model for Durable {
-    ghost use Rattle.std.specs.Coded.{codes, coded_ℕ};
+    ghost use Rattle.std.specs.Coded.{codes, coded_ℕ, coded_list};
     ghost use Rattle.std.specs.Ordering.{nat_cmp};
     ghost use Rattle.std.specs.FinMap as map;
     ghost use Rattle.std.specs.Prelude.{◌≤◌};
@@ -42,11 +45,21 @@ impl Model for Durable {
     ghost Value = { Kept };
 
     ghost coded = { Prim.hlevel
-        (codes, map.code {R = nat_cmp} coded_ℕ coded_ℕ, record_contract.the_row.coded) };
+        (codes, map.code {R = nat_cmp} coded_ℕ (coded_list coded_ℕ), record_contract.the_row.coded) };
 
     ghost view = { λ d. record { index = d.index; epoch = d.epoch; register = d.register } };
 
     ghost invariant = { λ d. d.epoch ≤ END };
+}
+
+// These entries, each value its eight bytes.
+fn migrated_entries(alloc: Global, entries: &[(u64, u64)]) -> Result<Vec<(u64, Value)>, AllocError>
+    ensures { IfOk result (λ list. list.items ≡ migrated_entries entries.now) }
+{
+    entries
+        .iter()
+        .map(|(key, value)| (*key, Value::from_u64(*value)))
+        .collect(alloc)
 }
 
 impl Durable {
@@ -104,6 +117,31 @@ impl Durable {
             epoch,
             register,
         })
+    }
+
+    /// What survived when values were numbers, as it is kept now: the same keys, epoch, register
+    /// and records, each value its eight bytes, the highest first. There is room for 65,536
+    /// entries.
+    ///
+    /// # Errors
+    ///
+    /// `StillRegistered`, with the first of `missing_order`, where some registered client has not
+    /// left; and `OutOfMemory` at any point.
+    pub fn migrate(alloc: Global, old: &DurableV1) -> Result<Durable, NotMigrated>
+        ensures { MatchResult result
+            (λ d. (missing_order old.now.register ≡ []) × (d ≡ migrated old.now))
+            (MigratesNot old.now) }
+    {
+        let missing = old.missing_order(alloc)?;
+        if let Some(client) = missing.first() {
+            return Err(NotMigrated::StillRegistered(*client));
+        }
+        let entries = migrated_entries(alloc, old.entries())?;
+        let records = old.records(alloc)?;
+        match Durable::from_parts(alloc, &entries, old.epoch(), &records) {
+            Ok(durable) => Ok(durable),
+            Err(_) => Err(NotMigrated::OutOfMemory),
+        }
     }
 
     /// The epoch. Its clause `kept` says what holds of all that survives.

@@ -46,6 +46,13 @@ fn clients_missing(alloc: Global, records: &IndexMap<u64, Record>) -> Result<Vec
         .collect(alloc)
 }
 
+// The records, in the order of the rows.
+fn rows_of(alloc: Global, records: &IndexMap<u64, Record>) -> Result<Vec<(u64, Record)>, AllocError>
+    ensures { IfOk result (λ rows. rows.items ≡ records.now.entries) }
+{
+    records.iter().map(|(c, row)| (*c, *row)).collect(alloc)
+}
+
 impl Register {
     /// Nobody is registered.
     pub fn new(alloc: Global) -> Register
@@ -113,6 +120,15 @@ impl Register {
         if let Some(kept) = self.records.get_mut(&c) {
             *kept = row;
         }
+    }
+
+    /// The records, in order of first registration.
+    pub fn records(&self, alloc: Global) -> Result<Vec<(u64, Record)>, AllocError>
+        ensures { IfOk result (λ records. (records.items ≡ self.now)
+            × AllByRecursion IsRow records.items × IsDistinct nat_eq (keys_of records.items)) }
+    {
+        self.rows();
+        rows_of(alloc, &self.records)
     }
 
     /// The clients that have not left, by first registration.

@@ -8,12 +8,13 @@ use krl_modes::{END, KeyPart, Mode, Span};
 /// What the server's table gives a client of one slot, when the message was made.
 #[derive(Clone, Copy, PartialEq, Eq)]
 pub struct Holding {
-    /// The slot's span: the points after the entry before, up to the slot itself, which is its last point.
+    /// The slot's span: the points after the entry before, up to the slot itself, which is its last
+    /// point.
     pub span: Span,
     /// The client's mode there: its range part covers the whole span, its key part the last point.
     pub mode: Mode,
-    /// The entry's value. It is present exactly where the key part is at least S and the slot is not END;
-    /// a client ignores a push that breaks this rule, which is this project's own.
+    /// The entry's value. It is present exactly where the key part is at least S and the slot is
+    /// not END; a client ignores a push that breaks this rule, which is this project's own.
     pub value: Option<Value>,
 }
 
@@ -25,8 +26,8 @@ impl Holding {
         self.span.last()
     }
 
-    /// Whether the value is there exactly where it has to be: where the key part is at least S and the slot
-    /// is not END.
+    /// Whether the value is there exactly where it has to be: where the key part is at least S and
+    /// the slot is not END.
     pub fn has_its_value(self) -> bool
         ensures { result ≡ has_its_value self }
     {

@@ -4,8 +4,8 @@ ghost use Rattle.std.specs.Prelude.{◌≡◌, IfOk};
 use std::alloc::{AllocError, Global};
 use std::marker::Model;
 
-/// A list that a message carries, seen as a list. It is made from a `Vec` and gives it back; neither takes
-/// memory.
+/// A list that a message carries, seen as a list. It is made from a `Vec` and gives it back;
+/// neither takes memory.
 #[derive(Drop)]
 pub struct Items<T> {
     items: Vec<T>,

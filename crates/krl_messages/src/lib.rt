@@ -1,11 +1,12 @@
 //! What a client and the server say to each other, as plain data.
 //!
-//! A point, a key or a number in a message is a plain `u64`: a stranger may set it to anything, and whoever
-//! receives it judges it. A span or a mode is one by its type. Whatever needs no memory is `Copy`; what holds
-//! lists has a `try_clone`.
+//! A point, a key or a number in a message is a plain `u64`: a stranger may set it to anything, and
+//! whoever receives it judges it. A span or a mode is one by its type. Whatever needs no memory is
+//! `Copy`; what holds lists has a `try_clone`.
 #![tactic(auto)]
 
 mod holding;
+mod holdings;
 mod items;
 mod key_pieces;
 mod outcome;
@@ -17,6 +18,7 @@ mod value;
 mod write_op;
 
 pub use holding::Holding;
+pub use holdings::Holdings;
 pub use items::Items;
 pub use key_pieces::{KeyPiece, KeyPieces};
 pub use outcome::Outcome;

@@ -10,8 +10,8 @@ use std::alloc::{AllocError, Global};
 pub struct Pieces {
     /// The range parts. Where spans overlap, the least part counts that is at least each of theirs.
     pub ranges: RangePieces,
-    /// The key parts. At a point that stands here twice the greater part counts; one that is no slot is passed
-    /// over.
+    /// The key parts. At a point that stands here twice the greater part counts; one that is no
+    /// slot is passed over.
     pub keys: KeyPieces,
 }
 

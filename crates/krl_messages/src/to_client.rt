@@ -1,9 +1,11 @@
 //! Messages to a client.
 use crate::holding::Holding;
+use crate::holdings::Holdings;
 use crate::outcome::Outcome;
 use krl_modes::{Mode, Span};
 
-/// A message from the server to one client. It takes no memory, so a copy of it is the language's own.
+/// A message from the server to one client. It takes no memory, so a copy of it is the language's
+/// own.
 #[derive(Clone, Copy, PartialEq, Eq)]
 pub struct ToClient {
     /// The number of the client that is spoken to.
@@ -17,16 +19,16 @@ pub struct ToClient {
 /// What the server says to a client.
 #[derive(Clone, Copy, PartialEq, Eq)]
 pub enum ToClientBody {
-    /// Answers a Hello and a message of another epoch, and reminds a client whose report the server still
-    /// waits for. A client that knows only a lower epoch adopts this one and reports what it holds; others
-    /// ignore it.
+    /// Answers a Hello and a message of another epoch, and reminds a client whose report the server
+    /// still waits for. A client that knows only a lower epoch adopts this one and reports what it
+    /// holds; others ignore it.
     Epoch {
         /// The server's epoch. Epochs are counted from 1, one for each start of the server.
         epoch: u64,
     },
-    /// Made when something is to be told and the push before it is acknowledged; sent again, unchanged, where
-    /// the client shows that it has not accepted it yet. A client accepts the pushes of its epoch in the order
-    /// of their numbers, each once.
+    /// Made when something is to be told and the push before it is acknowledged; sent again,
+    /// unchanged, where the client shows that it has not accepted it yet. A client accepts the
+    /// pushes of its epoch in the order of their numbers, each once.
     Push {
         /// The server's epoch.
         epoch: u64,
@@ -35,8 +37,9 @@ pub enum ToClientBody {
         /// What is pushed.
         body: PushBody,
     },
-    /// A hint: someone waits, first in the slot's queue, for what this client's lock forbids. Nobody
-    /// acknowledges it, and losing or repeating it does no harm. A client that can do so answers with a Release.
+    /// A hint: someone waits, first in the slot's queue, for what this client's lock forbids.
+    /// Nobody acknowledges it, and losing or repeating it does no harm. A client that can do so
+    /// answers with a Release.
     Callback {
         /// The server's epoch.
         epoch: u64,
@@ -50,14 +53,17 @@ pub enum ToClientBody {
 /// What a push carries.
 #[derive(Clone, Copy, PartialEq, Eq)]
 pub enum PushBody {
-    /// Answers a lock request: it is granted. The client had to wait for it until nobody's lock forbade it.
+    /// Answers a lock request: it is granted. The client had to wait for it until nobody's lock
+    /// forbade it.
     Grant {
         /// The request's number.
         req: u64,
-        /// What the client holds now of the slot that it asked for.
-        holding: Holding,
+        /// What the client holds now of the slot that it asked for, and of each slot after it that
+        /// it got beside.
+        holdings: Holdings,
     },
-    /// Answers a lock request in mode S, U or X at a point that is no entry: there is nothing to lock.
+    /// Answers a lock request in mode S, U or X at a point that is no entry: there is nothing to
+    /// lock.
     Absent {
         /// The request's number.
         req: u64,

@@ -24,8 +24,9 @@ pub enum ToServerBody {
     Hello,
     /// Sent by a client as it leaves: all that it held is given back. The client is gone then.
     Bye,
-    /// Sent by a client that has adopted a new epoch, again and again until it accepts a push of that epoch:
-    /// what it holds. From these reports a server that has started anew makes its table.
+    /// Sent by a client that has adopted a new epoch, again and again until it accepts a push of
+    /// that epoch: what it holds. From these reports a server that has started anew makes its
+    /// table.
     Report {
         /// The epoch that the client has adopted.
         epoch: u64,
@@ -41,8 +42,8 @@ pub enum ToServerBody {
 pub struct Request {
     /// The epoch that the client has joined.
     pub epoch: u64,
-    /// The number of the last push that the client has accepted in this epoch, or 0: it acknowledges that
-    /// push.
+    /// The number of the last push that the client has accepted in this epoch, or 0: it
+    /// acknowledges that push.
     pub seen: u64,
     /// What is asked.
     pub body: RequestBody,
@@ -51,17 +52,20 @@ pub struct Request {
 /// What a request asks.
 #[derive(Clone, Copy, PartialEq, Eq)]
 pub enum RequestBody {
-    /// Asks for a lock on the slot of a point. A client sends it again until it is answered.
+    /// Asks for a lock on the slot of a point, and on the slots after it that begin below `hi`, as
+    /// far as they are free. A client sends it again until it is answered.
     Lock {
         /// The request's number, counted from 1 for each client, incarnation and epoch.
         req: u64,
-        /// A point of the slot: up to END.
+        /// A point of the first slot: up to END.
         point: u64,
+        /// One past the last point that is asked for: above `point`, and at most TOP.
+        hi: u64,
         /// The mode that is asked for, beside what the client holds.
         mode: Mode,
     },
-    /// Asks for a change of the index. A client sends it again until it is answered, over a restart of the
-    /// server too.
+    /// Asks for a change of the index. A client sends it again until it is answered, over a restart
+    /// of the server too.
     Write {
         /// The write's number, counted from 1 for each client and incarnation.
         number: u64,

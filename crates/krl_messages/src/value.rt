@@ -1,4 +1,86 @@
 //! The values of entries.
+ghost use Rattle.std.specs.Prelude.{◌≡◌, ◌≤◌, ◌↔◌, length, IsSome, IfSome};
+ghost use Rattle.std.specs.Int.{w64, to_be_bytes};
+ghost use Rattle.krl_messages.specs.Values.{number_of};
 
-/// What an entry of the index is worth: a number of 64 bits. Nothing computes with it.
-pub type Value = u64;
+use std::marker::Model;
+
+/// The most bytes of a value.
+const MAX_BYTES: usize = 32;
+
+/// What an entry of the index is worth: 0 to 32 bytes, seen as a list. Nothing computes with it.
+#[derive(Clone, Copy, PartialEq, Eq)]
+pub struct Value {
+    // The bytes, and zeros behind them.
+    bytes: [u8; 32],
+    len: u8,
+}
+
+impl Model for Value {
+    ghost use Rattle.std.specs.Prelude.{◌≡◌, ◌≤◌, ◌++◌, ◌-◌, ℕ, List, length, take, replicate};
+    ghost use Rattle.krl_messages.specs.Padded.{IsPadded, padded, padded_back};
+
+    ghost Value = { List ℕ };
+
+    ghost view = { λ v. take v.len v.bytes };
+
+    ghost invariant = { λ v. IsPadded v.len v.bytes };
+
+    ghost inverse = { λ bytes. record { bytes = padded bytes; len = length bytes } };
+
+    ghost inverse_ok = { λ v h i. record {
+      bytes = (padded_back v.len v.bytes h).0 i;
+      len = (padded_back v.len v.bytes h).1 i;
+    } };
+}
+
+impl Value {
+    /// The value of these bytes; None where there are more than 32.
+    pub fn new(bytes: &[u8]) -> Option<Value>
+        ensures value { IfSome result (λ v. v ≡ bytes.now) }
+        ensures fits { IsSome result ↔ (length bytes.now ≤ 32) }
+    {
+        let len = bytes.len();
+        if len > MAX_BYTES {
+            return None;
+        }
+        let mut padded = [0; 32];
+        padded[..len].copy_from_slice(bytes);
+        Some(Value {
+            bytes: padded,
+            len: len as u8,
+        })
+    }
+
+    /// The eight bytes of the number, the highest first.
+    pub fn from_u64(number: u64) -> Value
+        ensures { result ≡ to_be_bytes w64 number }
+    {
+        let mut padded = [0; 32];
+        padded[..8].copy_from_slice(&number.to_be_bytes());
+        Value {
+            bytes: padded,
+            len: 8,
+        }
+    }
+
+    /// The number whose eight bytes these are, the highest first; None where they are not eight.
+    pub fn as_u64(self) -> Option<u64>
+        ensures { result ≡ number_of self }
+    {
+        if self.len != 8 {
+            return None;
+        }
+        let mut eight = [0; 8];
+        eight.copy_from_slice(&self.bytes[..8]);
+        Some(u64::from_be_bytes(eight))
+    }
+
+    /// The bytes, at most 32.
+    pub fn bytes(&self) -> &[u8]
+        ensures bytes { result.now ≡ self.now }
+        ensures few { length result.now ≤ 32 }
+    {
+        &self.bytes[..self.len as usize]
+    }
+}

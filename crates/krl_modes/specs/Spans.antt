@@ -1,6 +1,14 @@
 -- Spans, as the points in them.
 use Rattle.std.specs.Prelude.{ℕ, Bool, ◌&&◌, ◌<◌, ◌≤◌, nat_lt, nat_le}
 
+-- the last point, 2^63 - 1: it ends every index and is never a key
+abbrev pub last_point : ℕ
+last_point = 9223372036854775807
+
+-- one past the last point, 2^63: where the longest span ends
+abbrev pub past_points : ℕ
+past_points = 9223372036854775808
+
 -- the ends of a span: its first point, and one past its last
 pub record Bounds : Type 0 where
   pub lo : ℕ

@@ -8,13 +8,13 @@ ghost use Rattle.krl_modes.specs.declared.mode.Mode.{Mode};
 
 use crate::part::{KeyPart, RangePart};
 
-/// What a client holds of a slot, or asks of it: a range part for the gap below the slot's entry, and a
-/// key part for the entry. A mode is named by both parts, as RangeS-U, or by the key part alone where it
-/// holds nothing of the gap.
+/// What a client holds of a slot, or asks of it: a range part for the gap below the slot's entry,
+/// and a key part for the entry. A mode is named by both parts, as RangeS-U, or by the key part
+/// alone where it holds nothing of the gap.
 ///
-/// S, U, X, RangeS-S, RangeS-U, RangeI-N and RangeX-X are the published modes of the SQL Server guide's
-/// table, and RangeI-S, RangeI-U, RangeI-X, RangeX-S and RangeX-U its conversion modes. N is the absence
-/// of a lock. What goes with what is this project's own table, after the guide's.
+/// S, U, X, RangeS-S, RangeS-U, RangeI-N and RangeX-X are the published modes of the SQL Server
+/// guide's table, and RangeI-S, RangeI-U, RangeI-X, RangeX-S and RangeX-U its conversion modes. N
+/// is the absence of a lock. What goes with what is this project's own table, after the guide's.
 #[derive(Clone, Copy, Debug, PartialEq, Eq)]
 pub enum Mode {
     /// No lock.
@@ -45,8 +45,8 @@ pub enum Mode {
     RangeXX,
 }
 
-// The least mode at or above each pair of parts: a row for each range part, in the order N, S, I, X, and
-// a column for each key part, in the order N, S, U, X.
+// The least mode at or above each pair of parts: a row for each range part, in the order N, S, I,
+// X, and a column for each key part, in the order N, S, U, X.
 static AT_OR_ABOVE: [[Mode; 4]; 4] = [
     [Mode::N, Mode::S, Mode::U, Mode::X],
     [Mode::RangeSS, Mode::RangeSS, Mode::RangeSU, Mode::RangeXX],
@@ -106,8 +106,8 @@ impl Mode {
         }
     }
 
-    /// The mode of these parts; None for the three pairs that are no mode: a range part S with a key part
-    /// N or X, and a range part X with a key part N.
+    /// The mode of these parts; None for the three pairs that are no mode: a range part S with a
+    /// key part N or X, and a range part X with a key part N.
     pub fn of(range: RangePart, key: KeyPart) -> Option<Mode>
         ensures of { result ≡ mode_of range key }
         ensures parts { IfSome result (λ m. HasParts m range key) }
@@ -119,8 +119,8 @@ impl Mode {
         }
     }
 
-    /// The least mode whose parts are at least these: the mode of these parts where there is one, and
-    /// otherwise RangeS-S for S and N, RangeX-X for S and X, RangeX-S for X and N.
+    /// The least mode whose parts are at least these: the mode of these parts where there is one,
+    /// and otherwise RangeS-S for S and N, RangeX-X for S and X, RangeX-S for X and N.
     pub fn at_or_above(range: RangePart, key: KeyPart) -> Mode
         ensures mode { result ≡ at_or_above range key }
         ensures least { IsLeastModeAbove range key result }
@@ -150,8 +150,8 @@ impl Mode {
         range.compatible(other_range) & key.compatible(other_key)
     }
 
-    /// The least mode above both. Its parts are the least above the parts of both, but where those are S
-    /// and X, as for RangeS-S and X: then it is RangeX-X.
+    /// The least mode above both. Its parts are the least above the parts of both, but where those
+    /// are S and X, as for RangeS-S and X: then it is RangeX-X.
     pub fn join(self, other: Mode) -> Mode
         ensures join { result ≡ join self other }
         ensures least { IsLeastUpperBound at_most self other result }
@@ -173,8 +173,8 @@ impl Mode {
         Mode::at_or_above(range.meet(other_range), key.meet(other_key))
     }
 
-    /// The greatest mode that is compatible with this one: what another client may keep beside it. A mode
-    /// is at most this one exactly where it is compatible with `self`.
+    /// The greatest mode that is compatible with this one: what another client may keep beside it.
+    /// A mode is at most this one exactly where it is compatible with `self`.
     pub fn cap(self) -> Mode
         ensures cap { result ≡ cap self }
         ensures greatest { IsGreatestBeside self result }
@@ -196,8 +196,8 @@ impl Mode {
         }
     }
 
-    /// Whether the mode asks for an entry alone, so that there has to be one: S, U or X. That such a lock
-    /// is answered `Absent` where there is no entry is this project's own rule.
+    /// Whether the mode asks for an entry alone, so that there has to be one: S, U or X. That such
+    /// a lock is answered `Absent` where there is no entry is this project's own rule.
     pub fn needs_entry(self) -> bool
         ensures { result ≡ needs_entry self }
     {
@@ -227,7 +227,8 @@ impl Mode {
         }
     }
 
-    /// The mode of this name, which is the whole text, letter for letter; None for every other text.
+    /// The mode of this name, which is the whole text, letter for letter; None for every other
+    /// text.
     pub fn from_name(text: &[u8]) -> Option<Mode>
         ensures mode { result ≡ mode_named text.now }
         ensures named { IfSome result (λ m. text.now ≡ mode_name m) }

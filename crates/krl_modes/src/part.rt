@@ -3,11 +3,11 @@ ghost use Rattle.std.specs.Prelude.{◌≡◌};
 ghost use Rattle.krl_modes.specs.Parts.{range_at_most, key_at_most, ranges_compatible, keys_compatible, range_join, range_meet, key_join, key_meet, range_part_name, key_part_name};
 ghost use Rattle.krl_modes.specs.Orders.{IsPartialOrder, IsLeastUpperBound, IsGreatestLowerBound, IsCompatibility};
 
-/// What a mode holds of a gap: the points between an entry and the one before it, and the entry's own
-/// point. N lies below S and I, and both lie below X; S and I are not ordered.
+/// What a mode holds of a gap: the points between an entry and the one before it, and the entry's
+/// own point. N lies below S and I, and both lie below X; S and I are not ordered.
 ///
-/// The idea of a part for the gap is Lomet's (VLDB 1993) and the SQL Server guide's; that it covers the
-/// entry's own point too is this project's own.
+/// The idea of a part for the gap is Lomet's (VLDB 1993) and the SQL Server guide's; that it covers
+/// the entry's own point too is this project's own.
 #[derive(Clone, Copy, Debug, PartialEq, Eq)]
 pub enum RangePart {
     /// Nothing.
@@ -33,8 +33,8 @@ pub enum KeyPart {
     X,
 }
 
-// The tables have a row and a column for each part, in the order of the enums. A look-up has no branch
-// that the processor would have to guess.
+// The tables have a row and a column for each part, in the order of the enums. A look-up has no
+// branch that the processor would have to guess.
 
 static RANGE_AT_MOST: [[bool; 4]; 4] = [
     [true, true, true, true],
@@ -80,8 +80,8 @@ impl RangePart {
         RANGE_AT_MOST[self as usize][other as usize]
     }
 
-    /// Whether two clients may hold these parts of one gap: N beside all, S beside S, I beside I. This
-    /// table is the project's own, after the SQL Server guide's.
+    /// Whether two clients may hold these parts of one gap: N beside all, S beside S, I beside I.
+    /// This table is the project's own, after the SQL Server guide's.
     pub fn compatible(self, other: RangePart) -> bool
         ensures compatible { result ≡ ranges_compatible self other }
         ensures relation { IsCompatibility range_at_most ranges_compatible }
@@ -127,8 +127,8 @@ impl KeyPart {
         self as u8 <= other as u8
     }
 
-    /// Whether two clients may hold these parts of one entry: N beside all, S beside S and U. This table
-    /// is the project's own, after the SQL Server guide's.
+    /// Whether two clients may hold these parts of one entry: N beside all, S beside S and U. This
+    /// table is the project's own, after the SQL Server guide's.
     pub fn compatible(self, other: KeyPart) -> bool
         ensures compatible { result ≡ keys_compatible self other }
         ensures relation { IsCompatibility key_at_most keys_compatible }

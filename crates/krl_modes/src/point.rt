@@ -1,4 +1,5 @@
 //! Points.
+ghost use Rattle.krl_modes.specs.Spans.{last_point, past_points};
 ghost use Rattle.std.specs.Prelude.{◌≡◌, ◌≤◌, IsSome, IfSome, ◌↔◌};
 
 use std::marker::Model;
@@ -10,7 +11,7 @@ pub const END: u64 = 9223372036854775807;
 pub const TOP: u64 = 9223372036854775808;
 
 /// A place in the order of keys: a number from 0 to END. Each number below END may be a key.
-#[derive(Clone, Copy, Debug, PartialEq, Eq, PartialOrd, Ord)]
+#[derive(Clone, Copy, Debug, Default, PartialEq, Eq, PartialOrd, Ord)]
 pub struct Point {
     at: u64,
 }
@@ -41,6 +42,8 @@ impl Point {
     pub fn get(self) -> u64
         ensures number { result ≡ self }
         ensures in_range { result ≤ END }
+        ensures last { END ≡ last_point }
+        ensures past { TOP ≡ past_points }
     {
         self.at
     }

@@ -1,6 +1,7 @@
 //! What survives a restart: which entries are refused, writes, registration. A call that is refused
 //! for want of memory is made again, after a look that nothing has changed, so that each run ends
 //! alike, whichever one allocation fails.
+use crate::values::{LENGTHS, first_bytes};
 use krl_durable::{Durable, Record, Refused};
 use krl_messages::{Outcome, Value, WriteOp};
 use krl_modes::END;
@@ -23,13 +24,21 @@ fn is_refused(alloc: Global, entries: &[(u64, Value)], expected: Refused) -> boo
     }
 }
 
+// Three keys, of which some are bad, and how the first of those is refused.
+static BAD_KEYS: [(u64, u64, u64, Refused); 4] = [
+    (1, 2, 1, Refused::Twice),
+    (END, 2, 2, Refused::BadKey),
+    (2, 2, END, Refused::Twice),
+    (2, END, 2, Refused::BadKey),
+];
+
 #[test]
-fn refuses_the_first_bad_entry(rt: HostRuntime) -> Result<(), Fail> {
-    assert!(rt; is_refused(rt.alloc(), &[(1, 0), (2, 0), (1, 0)], Refused::Twice));
-    assert!(rt; is_refused(rt.alloc(), &[(END, 0), (2, 0), (2, 0)], Refused::BadKey));
-    assert!(rt; is_refused(rt.alloc(), &[(2, 0), (2, 0), (END, 0)], Refused::Twice));
-    assert!(rt; is_refused(rt.alloc(), &[(2, 0), (END, 0), (2, 0)], Refused::BadKey));
-    Ok(())
+fn refuses_the_first_bad_entry(rt: HostRuntime) {
+    let zero = Value::from_u64(0);
+    for (a, b, c, refused) in &BAD_KEYS {
+        let entries = [(*a, zero), (*b, zero), (*c, zero)];
+        assert!(rt; is_refused(rt.alloc(), &entries, *refused), "{a}, {b}, {c}");
+    }
 }
 
 // As many entries as this, with keys that fall or rise.
@@ -37,7 +46,7 @@ fn many(alloc: Global, n: u64, falls: bool) -> Result<Vec<(u64, Value)>, AllocEr
     let mut entries = Vec::new(alloc);
     for i in 0..n {
         let key = if falls { n.saturating_sub(i) } else { i };
-        entries.push((key, i))?;
+        entries.push((key, Value::from_u64(i)))?;
     }
     Ok(entries)
 }
@@ -56,16 +65,14 @@ fn large_index_holds_the_most_entries(rt: HostRuntime) -> Result<(), Fail> {
     assert!(rt; is_refused(rt.alloc(), &entries, Refused::Full));
     let entries = entries_of(rt.alloc(), 65536, false)?;
     let mut durable = durable_of(rt.alloc(), &entries)?;
-    let more = WriteOp::Insert {
-        key: 70000,
-        value: 1,
-    };
-    let less = WriteOp::Delete { key: 5 };
-    assert!(rt; durable.judge(more, true) == Outcome::Full);
-    assert!(rt; durable.judge(more, false) == Outcome::NotHeld);
+    let value = Value::from_u64(1);
+    let more = &WriteOp::Insert { key: 70000, value };
+    let less = &WriteOp::Delete { key: 5 };
+    assert!(rt; durable.judge(*more, true) == Outcome::Full);
+    assert!(rt; durable.judge(*more, false) == Outcome::NotHeld);
     assert!(rt; writes(&mut durable, 1, less, true, Outcome::Applied));
     assert!(rt; writes(&mut durable, 1, more, true, Outcome::Applied));
-    assert!(rt; durable.get(70000) == Some(1));
+    assert!(rt; durable.get(70000) == Some(value));
     assert!(rt; durable.get(5).is_none());
     Ok(())
 }
@@ -93,7 +100,7 @@ fn registers(durable: &mut Durable, c: u64, incarnation: u64) -> bool {
 }
 
 // Whether a write of a client, which registers first if it has not, is judged so and noted.
-fn writes(durable: &mut Durable, c: u64, op: WriteOp, held: bool, expected: Outcome) -> bool {
+fn writes(durable: &mut Durable, c: u64, op: &WriteOp, held: bool, expected: Outcome) -> bool {
     if c >= 64 || op.key() >= END {
         return false;
     }
@@ -106,7 +113,7 @@ fn writes(durable: &mut Durable, c: u64, op: WriteOp, held: bool, expected: Outc
             if record.last >= END {
                 return false;
             }
-            let outcome = durable.apply(c, op, held);
+            let outcome = durable.apply(c, *op, held);
             outcome == expected && is_noted(durable, c, record, expected)
         }
     }
@@ -122,42 +129,142 @@ fn is_noted(durable: &Durable, c: u64, before: Record, outcome: Outcome) -> bool
     }
 }
 
-static WRITES: [(WriteOp, bool, Outcome); 9] = [
-    (
-        WriteOp::Insert { key: 15, value: 5 },
-        false,
-        Outcome::NotHeld,
-    ),
-    (
-        WriteOp::Insert { key: 15, value: 5 },
-        true,
-        Outcome::Applied,
-    ),
-    (WriteOp::Insert { key: 15, value: 6 }, true, Outcome::Exists),
-    (
-        WriteOp::Insert { key: 15, value: 6 },
-        false,
-        Outcome::Exists,
-    ),
-    (WriteOp::Put { key: 15, value: 7 }, false, Outcome::NotHeld),
-    (WriteOp::Put { key: 15, value: 7 }, true, Outcome::Applied),
-    (WriteOp::Put { key: 16, value: 7 }, true, Outcome::Absent),
-    (WriteOp::Delete { key: 10 }, true, Outcome::Applied),
-    (WriteOp::Delete { key: 10 }, false, Outcome::Absent),
+// A write of a number, as a table can hold it.
+enum Change {
+    Insert(u64, u64),
+    Put(u64, u64),
+    Delete(u64),
+}
+
+fn write_of(change: &Change) -> WriteOp {
+    match change {
+        Change::Insert(key, number) => WriteOp::Insert {
+            key: *key,
+            value: Value::from_u64(*number),
+        },
+        Change::Put(key, number) => WriteOp::Put {
+            key: *key,
+            value: Value::from_u64(*number),
+        },
+        Change::Delete(key) => WriteOp::Delete { key: *key },
+    }
+}
+
+static WRITES: [(Change, bool, Outcome); 9] = [
+    (Change::Insert(15, 5), false, Outcome::NotHeld),
+    (Change::Insert(15, 5), true, Outcome::Applied),
+    (Change::Insert(15, 6), true, Outcome::Exists),
+    (Change::Insert(15, 6), false, Outcome::Exists),
+    (Change::Put(15, 7), false, Outcome::NotHeld),
+    (Change::Put(15, 7), true, Outcome::Applied),
+    (Change::Put(16, 7), true, Outcome::Absent),
+    (Change::Delete(10), true, Outcome::Applied),
+    (Change::Delete(10), false, Outcome::Absent),
 ];
+
+// Whether the index holds just these two entries, whose values are numbers.
+fn holds_two(durable: &Durable, first: (u64, u64), second: (u64, u64)) -> bool {
+    let (key, number) = first;
+    let (next, next_number) = second;
+    let entries = [
+        (key, Value::from_u64(number)),
+        (next, Value::from_u64(next_number)),
+    ];
+    durable.entries() == entries.as_slice()
+}
 
 #[test]
 fn judges_writes_and_notes_them(rt: HostRuntime) -> Result<(), Fail> {
-    let mut durable = durable_of(rt.alloc(), &[(20, 2), (10, 1)])?;
-    assert!(rt; durable.entries() == [(10, 1), (20, 2)].as_slice());
-    for (op, held, expected) in &WRITES {
-        assert!(rt; writes(&mut durable, 3, *op, *held, *expected));
+    let entries = [(20, Value::from_u64(2)), (10, Value::from_u64(1))];
+    let mut durable = durable_of(rt.alloc(), &entries)?;
+    assert!(rt; holds_two(&durable, (10, 1), (20, 2)));
+    for (change, held, expected) in &WRITES {
+        assert!(rt; writes(&mut durable, 3, &write_of(change), *held, *expected));
     }
-    assert!(rt; durable.entries() == [(15, 7), (20, 2)].as_slice());
+    assert!(rt; holds_two(&durable, (15, 7), (20, 2)));
     assert!(rt; durable.slot_of(16) == 20);
     assert!(rt; durable.span_of(20).lo() == 16);
     assert!(rt; durable.span_of(20).hi() == 21);
     assert!(rt; durable.span_of(END).lo() == 21);
+    Ok(())
+}
+
+// The epoch rises, and nothing else changes.
+fn rises(durable: &mut Durable) -> bool {
+    if durable.epoch() >= END {
+        return false;
+    }
+    durable.raise();
+    true
+}
+
+// Whether the entry's value is these bytes.
+fn has_bytes(durable: &Durable, key: u64, bytes: &[u8]) -> bool {
+    match durable.get(key) {
+        None => false,
+        Some(value) => value.bytes() == bytes,
+    }
+}
+
+// Inserts an entry of these bytes.
+fn inserts(durable: &mut Durable, key: u64, bytes: &[u8]) -> bool {
+    match Value::new(bytes) {
+        None => false,
+        Some(value) => {
+            let write = WriteOp::Insert { key, value };
+            writes(durable, 1, &write, true, Outcome::Applied) && has_bytes(durable, key, bytes)
+        }
+    }
+}
+
+// Gives the entry these bytes.
+fn puts(durable: &mut Durable, key: u64, bytes: &[u8]) -> bool {
+    match Value::new(bytes) {
+        None => false,
+        Some(value) => {
+            let write = WriteOp::Put { key, value };
+            writes(durable, 1, &write, true, Outcome::Applied) && has_bytes(durable, key, bytes)
+        }
+    }
+}
+
+// Takes the entry away.
+fn deletes(durable: &mut Durable, key: u64) -> bool {
+    let write = WriteOp::Delete { key };
+    writes(durable, 1, &write, true, Outcome::Applied) && durable.get(key).is_none()
+}
+
+#[test]
+fn keeps_values_of_each_length(rt: HostRuntime) -> Result<(), Fail> {
+    let mut durable = durable_of(rt.alloc(), &[])?;
+    for len in &LENGTHS {
+        assert!(rt;
+            inserts(&mut durable, *len as u64, first_bytes(*len)),
+            "{len}"
+        );
+    }
+    assert!(rt; rises(&mut durable));
+    // The longest value takes the place of the shortest, and so on.
+    for (len, other) in LENGTHS.iter().zip(LENGTHS.iter().rev()) {
+        assert!(rt;
+            has_bytes(&durable, *len as u64, first_bytes(*len)),
+            "{len}"
+        );
+        assert!(rt;
+            puts(&mut durable, *len as u64, first_bytes(*other)),
+            "{len}"
+        );
+    }
+    assert!(rt; rises(&mut durable));
+    assert!(rt; durable.entries().len() == LENGTHS.len());
+    for (len, other) in LENGTHS.iter().zip(LENGTHS.iter().rev()) {
+        assert!(rt;
+            has_bytes(&durable, *len as u64, first_bytes(*other)),
+            "{len}"
+        );
+        assert!(rt; deletes(&mut durable, *len as u64), "{len}");
+    }
+    assert!(rt; durable.entries().is_empty());
     Ok(())
 }
 
@@ -218,30 +325,43 @@ fn brought(alloc: Global, entries: &[(u64, Value)]) -> Result<Durable, Refused> 
 
 #[test]
 fn holds_the_parts_that_it_is_made_of(rt: HostRuntime) -> Result<(), Fail> {
-    let mut durable = brought(rt.alloc(), &[(20, 2), (10, 1)])?;
+    let entries = [(20, Value::from_u64(2)), (10, Value::from_u64(1))];
+    let mut durable = brought(rt.alloc(), &entries)?;
     assert!(rt; durable.epoch() == 7);
-    assert!(rt; durable.entries() == [(10, 1), (20, 2)].as_slice());
+    assert!(rt; holds_two(&durable, (10, 1), (20, 2)));
     assert!(rt; missing(&durable, rt.alloc())?.as_slice() == [5].as_slice());
     for (c, record) in &RECORDS {
         assert!(rt; durable.record(*c) == Some(*record));
     }
     assert!(rt; durable.record(3).is_none());
-    let more = WriteOp::Insert { key: 15, value: 5 };
-    assert!(rt; writes(&mut durable, 2, more, true, Outcome::Applied));
+    assert!(rt;
+        writes(
+            &mut durable,
+            2,
+            &write_of(&Change::Insert(15, 5)),
+            true,
+            Outcome::Applied
+        )
+    );
     Ok(())
 }
 
+// Whether other parts with these entries are refused so.
+fn is_not_brought(alloc: Global, entries: &[(u64, Value)], expected: Refused) -> bool {
+    match brought(alloc, entries) {
+        Ok(_) => false,
+        Err(refused) => refused == expected,
+    }
+}
+
 #[test]
-fn refuses_bad_entries_of_other_parts(rt: HostRuntime) -> Result<(), Fail> {
-    let bad = match brought(rt.alloc(), &[(END, 0), (2, 0), (2, 0)]) {
-        Ok(_) => false,
-        Err(refused) => refused == Refused::BadKey,
-    };
-    assert!(rt; bad);
-    let twice = match brought(rt.alloc(), &[(2, 0), (2, 0), (END, 0)]) {
-        Ok(_) => false,
-        Err(refused) => refused == Refused::Twice,
-    };
-    assert!(rt; twice);
-    Ok(())
+fn refuses_bad_entries_of_other_parts(rt: HostRuntime) {
+    let zero = Value::from_u64(0);
+    for (a, b, c, refused) in &BAD_KEYS {
+        let entries = [(*a, zero), (*b, zero), (*c, zero)];
+        assert!(rt;
+            is_not_brought(rt.alloc(), &entries, *refused),
+            "{a}, {b}, {c}"
+        );
+    }
 }

@@ -1,4 +1,5 @@
-//! Tests of modes, messages, waiting lists and what survives a restart, through their public calls.
+//! Tests of modes, values, messages, waiting lists and what survives a restart, through their public
+//! calls.
 #![tactic(auto)]
 
 #[cfg(test)]
@@ -6,6 +7,10 @@ mod durable;
 #[cfg(test)]
 mod messages;
 #[cfg(test)]
+mod migration;
+#[cfg(test)]
 mod modes;
 #[cfg(test)]
 mod queue;
+#[cfg(test)]
+mod values;

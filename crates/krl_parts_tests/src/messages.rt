@@ -1,8 +1,8 @@
-//! Messages: their lists, their clones, and what is read off them. A refused call is made again, so that each run ends
-//! alike, whichever request for memory is refused.
+//! Messages: their lists, their clones, and what is read off them. A refused call is made again, so
+//! that each run ends alike, whichever request for memory is refused.
 use krl_messages::{
-    Holding, Items, KeyPiece, KeyPieces, Pieces, RangePiece, RangePieces, ToServer, ToServerBody,
-    WriteOp,
+    Holding, Holdings, Items, KeyPiece, KeyPieces, Pieces, RangePiece, RangePieces, ToServer,
+    ToServerBody, Value, WriteOp,
 };
 use krl_modes::{END, KeyPart, Mode, RangePart, Span, TOP};
 use std::alloc::{AllocError, Global};
@@ -19,7 +19,8 @@ static KEYS: [KeyPiece; 2] = [
     },
 ];
 
-/// A span's ends, a mode and a value, and whether the value is there exactly where it has to be.
+/// A span's ends, a mode and a value, which is a number, and whether the value is there exactly
+/// where it has to be.
 static HOLDINGS: [(u64, u64, Mode, Option<u64>, bool); 6] = [
     (0, 11, Mode::RangeSS, Some(1), true),
     (0, 11, Mode::RangeSS, None, false),
@@ -83,7 +84,7 @@ fn a_holding_has_a_value_where_it_reads_an_entry(rt: HostRuntime) -> Result<(), 
         let holding = Holding {
             span: Span::new(*lo, *hi)?,
             mode: *mode,
-            value: *value,
+            value: value.map(Value::from_u64),
         };
         assert!(rt; holding.has_its_value() == *has);
         assert!(rt; holding.slot() == holding.span.last());
@@ -91,9 +92,88 @@ fn a_holding_has_a_value_where_it_reads_an_entry(rt: HostRuntime) -> Result<(), 
     Ok(())
 }
 
+/// What a client reads of the nth slot, whose entry is the number n.
+fn nth(n: u64) -> Option<Holding> {
+    let lo = n.saturating_mul(10);
+    let span = Span::new(lo, lo.saturating_add(10)).ok()?;
+    Some(Holding {
+        span,
+        mode: Mode::RangeSS,
+        value: Some(Value::from_u64(n)),
+    })
+}
+
+/// Puts the holding behind the others, where it lies behind them and there is room.
+fn push_behind(holdings: &mut Holdings, holding: Holding) -> bool {
+    let list = holdings.as_slice();
+    let last = list[list.len() - 1];
+    if list.len() == 8 || holding.span.lo() < last.span.hi() {
+        return false;
+    }
+    holdings.push(holding);
+    true
+}
+
+/// The holdings of the first slots, as many as this.
+fn first(n: u64) -> Option<Holdings> {
+    let mut holdings = Holdings::one(nth(0)?);
+    for i in 1..n {
+        if !push_behind(&mut holdings, nth(i)?) {
+            return None;
+        }
+    }
+    Some(holdings)
+}
+
+/// Whether these are the holdings of the first slots.
+fn are_first(holdings: &[Holding]) -> bool {
+    for (n, holding) in (0..8).zip(holdings) {
+        if nth(n) != Some(*holding) {
+            return false;
+        }
+    }
+    true
+}
+
+#[test]
+fn holdings_are_those_that_were_pushed(rt: HostRuntime) -> Result<(), Fail> {
+    for n in 1..9 {
+        let holdings = first(n).ok_or("there is room for eight")?;
+        assert!(rt; holdings.as_slice().len() as u64 == n, "{n}");
+        assert!(rt; are_first(holdings.as_slice()), "{n}");
+        assert!(rt; holdings.have_values(), "{n}");
+        assert!(rt;
+            first(n) == Some(holdings) && first(9 - n) != Some(holdings),
+            "{n}"
+        );
+    }
+    assert!(rt; first(9).is_none());
+    Ok(())
+}
+
+#[test]
+fn one_holding_without_its_value_is_seen_among_others(rt: HostRuntime) -> Result<(), Fail> {
+    for n in 1..8 {
+        let mut holdings = first(n).ok_or("there is room for eight")?;
+        let last = nth(n).ok_or("its span is good")?;
+        assert!(rt;
+            push_behind(
+                &mut holdings,
+                Holding {
+                    value: None,
+                    ..last
+                }
+            ),
+            "{n}"
+        );
+        assert!(rt; !holdings.have_values(), "{n}");
+    }
+    Ok(())
+}
+
 #[test]
 fn a_write_names_its_key(rt: HostRuntime) {
-    let value = 5;
+    let value = Value::from_u64(5);
     assert!(rt; WriteOp::Insert { key: 1, value }.key() == 1);
     assert!(rt; WriteOp::Put { key: END, value }.key() == END);
     assert!(rt; WriteOp::Delete { key: u64::MAX }.key() == u64::MAX);

@@ -14,6 +14,7 @@ fn node(alloc: Global, client: u64, point: u64) -> Option<WaitNode> {
         client,
         req: 7,
         point: Point::new(point)?,
+        hi: point.saturating_add(1),
         mode: Mode::RangeSU,
     };
     match WaitNode::try_new(alloc, waiter) {

@@ -13,8 +13,8 @@ use std::alloc::Global;
 use std::marker::{Model, PhantomData, Send, Sync};
 use std::ptr::null_mut;
 
-/// The owner of the memory of linked nodes. It takes no space: a list keeps the pointers to its ends.
-/// No step below makes or frees a node.
+/// The owner of the memory of linked nodes. It takes no space: a list keeps the pointers to its
+/// ends. No step below makes or frees a node.
 pub(crate) struct Chain {
     mark: PhantomData<*mut Node>,
     pub(crate) ghost spots: { List Spot },
@@ -127,8 +127,8 @@ impl Chain {
         unsafe { &(*at.ptr).waiter }
     }
 
-    /// Where the client's first waiter lies, and its index; null and the chain's length where it has
-    /// none.
+    /// Where the client's first waiter lies, and its index; null and the chain's length where it
+    /// has none.
     pub(crate) fn find(&self, head: NodePtr, client: u64) -> (NodePtr, Index)
         requires head { head.ptr ≡ first_or null_ptr self.now.spots }
         requires places { ArePlaces self.now.spots }

@@ -12,10 +12,11 @@ use std::fmt;
 use std::marker::Model;
 use std::mem::{replace, swap};
 
-/// The waiters of one slot, in the order in which they are answered. Dropping the list frees the memory
-/// of every waiter in it.
+/// The waiters of one slot, in the order in which they are answered. Dropping the list frees the
+/// memory of every waiter in it.
 ///
-/// The nodes are linked both ways, and the list takes no memory beside theirs. So no call can be refused.
+/// The nodes are linked both ways, and the list takes no memory beside theirs. So no call can be
+/// refused.
 pub struct WaitList {
     head: NodePtr,
     tail: NodePtr,
@@ -47,8 +48,8 @@ impl WaitList {
         }
     }
 
-    /// How many wait, or the greatest `usize` where more do. It takes time in proportion to the list's
-    /// length: no count is kept.
+    /// How many wait, or the greatest `usize` where more do. It takes time in proportion to the
+    /// list's length: no count is kept.
     pub fn len(&self) -> usize
         ensures { result ≡ min (length self.now) usize.MAX }
     {
@@ -94,7 +95,8 @@ impl WaitList {
         Some(*self.chain.waiter(self.head, &Index::first()))
     }
 
-    /// Takes the first waiter out and frees its node; None where nobody waits. It takes constant time.
+    /// Takes the first waiter out and frees its node; None where nobody waits. It takes constant
+    /// time.
     pub fn pop_front(&mut self) -> Option<Waiter>
         ensures first { result ≡ slice_get self.old 0 }
         ensures rest { self.new ≡ drop 1 self.old }
@@ -102,8 +104,8 @@ impl WaitList {
         self.pop_node().map(|node| node.into_waiter())
     }
 
-    /// Takes the first waiter of this client out and frees its node; None where the client has none here.
-    /// It takes time in proportion to the waiter's place.
+    /// Takes the first waiter of this client out and frees its node; None where the client has none
+    /// here. It takes time in proportion to the waiter's place.
     pub fn remove_client(&mut self, client: u64) -> Option<Waiter>
         ensures taken { result ≡ first_of client self.old }
         ensures rest { self.new ≡ without_first client self.old }
@@ -130,8 +132,8 @@ impl WaitList {
         Some(node.into_waiter())
     }
 
-    /// Takes those waiters out whose point is at most this one. Both lists keep their order. It takes time
-    /// in proportion to the list's length.
+    /// Takes those waiters out whose point is at most this one. Both lists keep their order. It
+    /// takes time in proportion to the list's length.
     pub fn split_at(&mut self, point: Point) -> WaitList
         ensures taken { result ≡ up_to point self.old }
         ensures kept { self.new ≡ beyond point self.old }

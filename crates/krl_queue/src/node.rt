@@ -14,7 +14,8 @@ pub(crate) struct Node {
     pub(crate) prev: *mut Node,
     pub(crate) next: *mut Node,
     pub(crate) waiter: Waiter,
-    // A list is made without an allocator, so each node keeps the one that frees it. It takes no bytes.
+    // A list is made without an allocator, so each node keeps the one that frees it. It takes no
+    // bytes.
     pub(crate) alloc: Global,
 }
 

@@ -46,8 +46,8 @@ unsafe impl Send for NodePtr {}
 
 unsafe impl Sync for NodePtr {}
 
-/// How many nodes of a chain lie before one. It takes no space, and clauses alone read it: so a chain
-/// may have more nodes than a `usize` counts.
+/// How many nodes of a chain lie before one. It takes no space, and clauses alone read it: so a
+/// chain may have more nodes than a `usize` counts.
 #[derive(Drop)]
 pub(crate) struct Index {
     mark: PhantomData<u8>,

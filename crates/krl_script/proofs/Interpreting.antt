@@ -1,6 +1,7 @@
 -- What each request prints, from what its parts did.
 use Rattle.std.proofs.Common.{◌≡◌, ℕ, zero, suc, ◌+◌, ◌≤◌, ◌<◌, true, false, length, List, [], ◌∷◌, Option, Result, Ok, Err, refl, sym, ap, subst, ◌∙◌, arith, inl, inr, add-one, length-append}
 use Rattle.std.specs.Prelude.{IfOk, OnOk, is_ok, is_some, slice_get, ◌≢◌}
+use Rattle.std.specs.Int.{w64, to_be_bytes}
 use Rattle.krl_durable.specs.Writes.{most_entries}
 use Rattle.krl_durable.specs.declared.refused.Refused.TheVariants as index
 use Rattle.krl_world.specs.declared.refused.Refused.{Refused}
@@ -47,7 +48,7 @@ waits_refused (Err r) number waits e = refl
 -- there is an entry for each number
 length_filled : (n : ℕ) → length (filled n) ≡ n
 length_filled zero = refl
-length_filled (suc n) = omega (arith, length-append (filled n) ((n, n) ∷ []), length_filled n)
+length_filled (suc n) = omega (arith, length-append (filled n) ((n, to_be_bytes w64 n) ∷ []), length_filled n)
 
 -- more than there may be are refused
 pub fill_refused : (s s' : Stage) (n : ℕ) (out : List ℕ) → 65536 < n → out ≡ refused_line refused.Full → s' ≡ record s { begun = true; world = fresh [] } → Seeds s (filled n) out s'

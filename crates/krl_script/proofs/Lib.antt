@@ -1,3 +1,4 @@
+pub mod BytesLemmas
 pub mod Digits
 pub mod PairsLemmas
 pub mod LinesLemmas
@@ -7,3 +8,4 @@ pub mod SomeSteps
 pub mod Runs
 pub mod Interpreting
 pub mod RandomLemmas
+pub mod WritingLemmas

@@ -1,12 +1,17 @@
 -- What a random run keeps from step to step.
-use Rattle.std.proofs.Common.{◌≡◌, ◌≢◌, ℕ, suc, ◌+◌, ◌<◌, ◌≤◌, ◌&&◌, Bool, true, false, length, drop, get_or, List, [], ◌∷◌, Option, None, Result, Ok, Err, refl, sym, ap, subst, ◌∙◌, arith, add-one, drop-cons, length-drop, eq-eqb, eqb-true, nat_le, nat_eq}
+use Rattle.std.proofs.Common.{◌≡◌, ◌≢◌, ℕ, suc, ◌+◌, ◌<◌, ◌≤◌, ◌&&◌, Bool, true, false, ◌-◌, length, take, drop, get_or, List, [], ◌∷◌, Option, None, Result, Ok, Err, refl, sym, ap, subst, ◌∙◌, arith, add-one, drop-cons, length-drop, eq-eqb, eqb-true, nat_le, nat_eq}
 use Rattle.std.specs.Prelude.{not, is_some, is_none, slice_get, nat_lt}
 use Rattle.std.specs.FinMap as map
+use Rattle.std.specs.Cmp.Lexicographic.{pointwise, same_text, other_text}
+use Rattle.std.proofs.Math.ListN.{replicate}
+use Rattle.std.proofs.Math.Seq.{take-append_seam}
 use Rattle.std.proofs.lemmas.List.{nil_from_length}
+use Rattle.std.proofs.lemmas.Bool.Decides.{nat_tests}
 use Rattle.krl_durable.specs.Index.{Index}
 use Rattle.std.specs.List.{filter}
 use Rattle.rand_pcg.specs.Lcg.{Lcg}
 use Rattle.krl_messages.specs.Values.{Value}
+use Rattle.krl_messages.specs.Padded.{padded}
 use Rattle.krl_world.specs.declared.node.ServerNode.{ServerNode as KeptNode}
 use Rattle.krl_world.specs.declared.node.ServerNode.TheVariants as kept
 use Rattle.krl_world.specs.declared.step.Step.{Step}
@@ -16,14 +21,14 @@ use Rattle.krl_world.specs.declared.step.Command.TheVariants as command
 use Rattle.krl_world.specs.declared.answer.Answer.{Answer}
 use Rattle.krl_world.specs.declared.answer.Answer.TheVariants as told
 use Rattle.krl_world.specs.declared.refused.Refused.{Refused}
-use Rattle.krl_world.specs.States.{State, fresh, index_of}
+use Rattle.krl_world.specs.States.{State, fresh, index_of, opened}
 use Rattle.krl_world.specs.Steps.{Steps}
 use Rattle.krl_world.specs.Promises.{IsCompatible, ScansIndex, CommandIsRange}
 use Rattle.krl_world.specs.Fields as world
 use Rattle.krl_script.specs.declared.random.RandomRun.{RandomRun}
 use Rattle.krl_script.specs.Waiting.{Waits, sent_to}
 use Rattle.krl_script.specs.Soundness.{go_together, all_below, is_sound_at, first_unsound, numbers_below}
-use Rattle.krl_script.specs.RandomRuns.{RandomStage, stage_of, first_of, is_down, sight_of, waits_since, TakesDrawn, RunsRandomly, EndsRandomRun}
+use Rattle.krl_script.specs.RandomRuns.{RandomStage, stage_of, first_entries, first_of, is_down, sight_of, waits_since, TakesDrawn, RunsRandomly, EndsRandomRun}
 use Rattle.krl_script.proofs.Interpreting.{sent_is}
 use Rattle.krl_script.proofs.SoundnessLemmas.{all_of_below, none_unsound}
 
@@ -50,12 +55,12 @@ sound_points w n m r b e is h =
 
 -- a world in which nothing has happened
 fresh_compatible : (entries : List (ℕ × Value)) → IsCompatible (fresh entries)
-unfolding fresh
+unfolding opened
 fresh_compatible entries c d p apart = (refl, refl)
 
 pub first_compatible : (r : RandomRun) (seed : ℕ) → stage_of r ≡ first_of seed → IsCompatible (world.meaning r.world)
 first_compatible r seed e =
-    subst (λ (s : RandomStage). IsCompatible s.world) (sym e) (fresh_compatible ((10, 1) ∷ (20, 2) ∷ []))
+    subst (λ (s : RandomStage). IsCompatible s.world) (sym e) (fresh_compatible first_entries)
 
 -- Scans
 
@@ -65,7 +70,7 @@ scan_stays w v c lo hi (Ok answer) t = t.1.2.1
 scan_stays w v c lo hi (Err e) t = t.0
 
 command_same : (w v : State) (c : ℕ) (what : Command) (r : Result Answer Refused) → Steps w (step.Command c what) r v → ScansIndex (index_of w) (step.Command c what) r → ScansIndex (index_of v) (step.Command c what) r
-command_same w v c (command.Lock p m) (Ok answer) t h = tt
+command_same w v c (command.Lock p hi m) (Ok answer) t h = tt
 command_same w v c (command.Write op) (Ok answer) t h = tt
 command_same w v c (command.Scan lo hi) (Ok answer) t h =
     subst (λ (u : State). CommandIsRange (index_of u) (command.Scan lo hi) answer) (sym (scan_stays w v c lo hi (Ok answer) t)) h
@@ -160,6 +165,64 @@ rows_end p es rows i at l past h =
     let none : drop i es ≡ [] = nil_from_length (drop i es) (omega (arith, length-drop i es)) in
     let size : length (drop at rows) ≡ 0 = ap length (h ∙ ap (λ (xs : List (ℕ × Value)). filter p xs) none) in
     eq-eqb at (length rows) (omega (arith, length-drop at rows, size))
+
+-- how two rows are compared: by their keys, by their values with the zeros behind them, and by how long these are
+abbrev pub same_row : ℕ × Value → ℕ × Value → Bool
+same_row r e = nat_eq r.0 e.0 && (pointwise nat_eq (padded r.1) (padded e.1) && nat_eq (length r.1) (length e.1))
+
+both_true : (a b : Bool) → (a && b) ≡ true → (a ≡ true) × (b ≡ true)
+both_true true b e = (refl, e)
+both_true false b e = absurd (let bad : false ≡ true = e in cc)
+
+not_true : (b : Bool) → not b ≡ true → b ≡ false
+not_true true e = absurd (let bad : false ≡ true = e in cc)
+not_true false e = refl
+
+from_padded : (xs : List ℕ) → take (length xs) (padded xs) ≡ xs
+from_padded xs = take-append_seam xs (replicate (32 - length xs) 0)
+
+rows_equal : (r e : ℕ × Value) → same_row r e ≡ true → r ≡ e
+rows_equal r e is =
+    let key = both_true (nat_eq r.0 e.0) (pointwise nat_eq (padded r.1) (padded e.1) && nat_eq (length r.1) (length e.1)) is in
+    let rest = both_true (pointwise nat_eq (padded r.1) (padded e.1)) (nat_eq (length r.1) (length e.1)) key.1 in
+    let bytes = same_text (padded r.1) (padded e.1) (sym rest.0) in
+    let same : r.1 ≡ e.1 =
+    sym (from_padded r.1) ∙ ap (λ (n : ℕ). take n (padded r.1)) (eqb-true (length r.1) (length e.1) rest.1) ∙ ap (λ (xs : List ℕ). take (length e.1) xs) bytes ∙ from_padded e.1 in
+    let keys = eqb-true r.0 e.0 key.0 in
+    λ i. (keys i, same i)
+
+itself : (r : ℕ × Value) → same_row r r ≡ true
+itself r = by_test (pointwise nat_eq (padded r.1) (padded r.1)) refl
+  where
+    by_test : (b : Bool) → pointwise nat_eq (padded r.1) (padded r.1) ≡ b → same_row r r ≡ true
+    by_test true e = rw (eq-eqb r.0 r.0 refl, e, eq-eqb (length r.1) (length r.1) refl) refl
+    by_test false e = absurd (other_text (padded r.1) (padded r.1) (sym e) refl)
+
+-- what stands at a place is there whatever would stand past the end
+row_there : (rows : List (ℕ × Value)) (at : ℕ) (d e : ℕ × Value) → at < length rows → get_or rows at d ≡ get_or rows at e
+row_there rows at d e l = ap (λ (xs : List (ℕ × Value)). get_or xs 0 d) (sym (drop_at rows at d l) ∙ drop_at rows at e l)
+
+pub within : (lo hi n : ℕ) → lo ≤ n → n < hi → (nat_le lo n && nat_lt n hi) ≡ true
+within lo hi n a b = grind (arith, nat_tests)
+
+-- an entry that lies in the range, where no row is left for it
+pub none_left : (p : ℕ × Value → Bool) (es rows : List (ℕ × Value)) (i at : ℕ) (e : ℕ × Value) → i < length es → e ≡ get_or es i e → p e ≡ true → at ≡ length rows → drop at rows ≡ filter p (drop i es) → false ≡ true
+none_left p es rows i at e l is pass end h = absurd (omega (arith, end, row_next p es rows i at e l (ap p (sym is) ∙ pass) h))
+
+-- an entry that lies in the range, where the next row is another
+pub other_row : (p : ℕ × Value → Bool) (es rows : List (ℕ × Value)) (i at : ℕ) (r e : ℕ × Value) (ne : Bool) → i < length es → e ≡ get_or es i e → p e ≡ true → r ≡ get_or rows at r → ne ≡ not (same_row r e) → ne ≡ true → drop at rows ≡ filter p (drop i es) → false ≡ true
+other_row p es rows i at r e ne l is pass row said differs h =
+    let same : r ≡ e = row ∙ row_there rows at r e (row_next p es rows i at e l (ap p (sym is) ∙ pass) h) ∙ row_same p es rows i at e l (ap p (sym is) ∙ pass) h ∙ sym is in
+    sym (not_true (same_row r e) (sym said ∙ differs)) ∙ ap (λ (x : ℕ × Value). same_row x e) same ∙ itself e
+
+-- an entry that lies in the range, and is the next row
+pub same_left : (p : ℕ × Value → Bool) (es rows : List (ℕ × Value)) (i at : ℕ) (e : ℕ × Value) → i < length es → e ≡ get_or es i e → p e ≡ true → drop at rows ≡ filter p (drop i es) → drop (at + 1) rows ≡ filter p (drop (i + 1) es)
+same_left p es rows i at e l is pass h = rows_left p es rows i at e l (ap p (sym is) ∙ pass) h
+
+pub same_back : (whole : Type 0) (p : ℕ × Value → Bool) (es rows : List (ℕ × Value)) (i at : ℕ) (r e : ℕ × Value) (ne : Bool) → i < length es → e ≡ get_or es i e → p e ≡ true → at < length rows → r ≡ get_or rows at r → ne ≡ not (same_row r e) → ne ≡ false → (drop at rows ≡ filter p (drop i es) → whole) → drop (at + 1) rows ≡ filter p (drop (i + 1) es) → whole
+same_back whole p es rows i at r e ne l is pass l' row said agrees back h =
+    let same : r ≡ e = rows_equal r e (not_false (same_row r e) (sym said ∙ agrees)) in
+    row_back whole p es rows i at e l (ap p (sym is) ∙ pass) l' (row_there rows at e r l' ∙ sym row ∙ same ∙ is) back h
 
 -- what a scan answered
 pub range_answered : (m : Index) (s : Step) (r : Result Answer Refused) (c : ℕ) (what : Command) (lo hi : ℕ) (answer : Answer) (rows shown entries : List (ℕ × Value)) → s ≡ step.Command c what → what ≡ command.Scan lo hi → r ≡ Ok answer → answer ≡ told.Rows rows → shown ≡ rows → entries ≡ map.entries m → ScansIndex m s r → shown ≡ filter (λ e. nat_le lo e.0 && nat_lt e.0 hi) entries

@@ -145,7 +145,7 @@ free true None e = absurd (let bad : ◌≡◌ {A = Option CommandRefused} (Some
 free false None e = absurd (let bad : ◌≡◌ {A = Option CommandRefused} (Some client.BadSpan) None = e in cc)
 
 some_command : (w : State) (c : ℕ) (what : Command) (k : Client) → client_of w c ≡ Some k → command_refusal k what ≡ None → refusal_of w (step.Command c what) ≡ None → Outcome w (step.Command c what)
-some_command w c (command.Lock p m) k is may e = starved w (step.Command c (command.Lock p m)) e (k, is, tt)
+some_command w c (command.Lock p hi m) k is may e = starved w (step.Command c (command.Lock p hi m)) e (k, is, tt)
 some_command w c (command.Write op) k is may e = starved w (step.Command c (command.Write op)) e (k, is, tt)
 some_command w c (command.Scan lo hi) k is may e = some_scan w c lo hi k is e
 some_command w c (command.Forget lo hi) k is may e = starved w (step.Command c (command.Forget lo hi)) e (k, is, tt)

@@ -1,11 +1,12 @@
 -- What a random run draws: which step comes next, by the words of its generator.
-use Rattle.std.specs.Prelude.{ℕ, ◌+◌, ◌%◌, Bool, nat_eq, nat_lt, if◌then◌else◌, get_or, Option, None, Some}
+use Rattle.std.specs.Prelude.{ℕ, zero, suc, List, [], ◌∷◌, ◌+◌, ◌%◌, Bool, nat_eq, nat_lt, if◌then◌else◌, get_or, Option, None, Some}
 use Rattle.rand_core.specs.Pcg32Seed.{pcg32_seed}
 use Rattle.rand_pcg.specs.Lcg.{Lcg}
 use Rattle.rand_pcg.specs.Pcg.{pcg32, pcg32_of_seed}
 use Rattle.krl_modes.specs.Modes.{all_modes}
 use Rattle.krl_modes.specs.declared.mode.Mode.{Mode}
 use Rattle.krl_modes.specs.declared.mode.Mode.TheVariants as mode
+use Rattle.krl_messages.specs.Values.{Value}
 use Rattle.krl_messages.specs.declared.write_op.WriteOp.TheVariants as write
 use Rattle.krl_world.specs.declared.step.Step.{Step}
 use Rattle.krl_world.specs.declared.step.Step.TheVariants as step
@@ -41,8 +42,14 @@ client = below 4
 abbrev pub point : Draw ℕ
 point = below 32
 
-abbrev pub value : Draw ℕ
-value = below 100
+-- so many bytes
+abbrev pub bytes : ℕ → Draw (List ℕ)
+bytes zero = always []
+bytes (suc n) = below 256 >>= λ b. bytes n >>= λ rest. always (b ∷ rest)
+
+-- a value of 0 to 32 bytes
+abbrev pub value : Draw Value
+value = below 33 >>= bytes
 
 -- a mode, by its place in the tables
 abbrev pub a_mode : Draw Mode
@@ -57,7 +64,7 @@ abbrev pub of_client : Draw Command → Draw Step
 of_client d = client >>= λ c. d >>= λ what. always (step.Command c what)
 
 abbrev pub lock : Draw Step
-lock = of_client (point >>= λ p. a_mode >>= λ m. always (command.Lock p m))
+lock = of_client (point >>= λ p. a_mode >>= λ m. below 8 >>= λ more. always (command.Lock p (p + 1 + more) m))
 
 abbrev pub insert : Draw Step
 insert = of_client (point >>= λ k. value >>= λ v. always (command.Write (write.Insert k v)))

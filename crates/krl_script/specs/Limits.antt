@@ -1,4 +1,4 @@
--- The limits of a script, as numerals.
+-- The limits of a script and of a random run, as numerals.
 use Rattle.std.specs.Prelude.{ℕ}
 
 -- the most bytes of a text
@@ -20,3 +20,11 @@ most_deliveries = 100000
 -- the most reads of a text
 abbrev pub most_turns : ℕ
 most_turns = 2097152
+
+-- the most interruptions in the writing of one line
+abbrev pub most_interruptions : ℕ
+most_interruptions = 2097152
+
+-- the most steps of a random run
+abbrev pub most_steps : ℕ
+most_steps = 100000

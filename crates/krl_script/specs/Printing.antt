@@ -10,7 +10,8 @@ use Rattle.krl_modes.specs.declared.mode.Mode.TheVariants as mode
 use Rattle.krl_modes.specs.Parts.{range_part_name, key_part_name}
 use Rattle.krl_modes.specs.Modes.{compatible, join, mode_name}
 use Rattle.std.specs.FinMap as map
-use Rattle.krl_messages.specs.Values.{Value}
+use Rattle.hex.specs.Hex.{encode_lower}
+use Rattle.krl_messages.specs.Values.{Value, number_of}
 use Rattle.krl_messages.specs.declared.outcome.Outcome.{Outcome}
 use Rattle.krl_messages.specs.declared.outcome.Outcome.TheVariants as outcome
 use Rattle.krl_durable.specs.Index.{Index}
@@ -31,7 +32,7 @@ use Rattle.krl_script.specs.declared.request.Show.{Show}
 use Rattle.krl_script.specs.declared.request.Show.TheVariants as show
 use Rattle.krl_script.specs.Soundness.{unsound_point}
 use Rattle.krl_script.specs.declared.fault.SyntaxFault.{SyntaxFault}
-use Rattle.krl_script.specs.declared.fault.SyntaxFault.TheVariants.{TextTooLong, TooManyLines, LineTooLong, UnknownWord, MissingArgument, ExtraArgument, BadNumber, BadPair, BadMode, LateSeed}
+use Rattle.krl_script.specs.declared.fault.SyntaxFault.TheVariants.{TextTooLong, TooManyLines, LineTooLong, UnknownWord, MissingArgument, ExtraArgument, BadNumber, BadPair, BadValue, BadMode, LateSeed}
 
 -- a text as a line
 abbrev pub line_of : List ℕ → List ℕ
@@ -41,9 +42,17 @@ line_of text = text ++ 10 ∷ []
 abbrev pub refused_line : Refused → List ℕ
 refused_line r = line_of (codes "refused " ++ refusal_name r)
 
+abbrev pub number_or_bytes : Option ℕ → Value → List ℕ
+number_or_bytes (Some n) v = decimal n
+number_or_bytes None v = codes "x" ++ encode_lower v
+
+-- a value: its number where it has eight bytes; else 'x' and its bytes as two hexadecimal digits each
+abbrev pub value_text : Value → List ℕ
+value_text v = number_or_bytes (number_of v) v
+
 -- a row: a space, the key, '=' and the value
 abbrev pub row_text : ℕ × Value → List ℕ
-row_text row = codes " " ++ decimal row.0 ++ codes "=" ++ decimal row.1
+row_text row = codes " " ++ decimal row.0 ++ codes "=" ++ value_text row.1
 
 -- the line of a scan's rows
 abbrev pub rows_line : List (ℕ × Value) → List ℕ
@@ -176,6 +185,23 @@ join_line pair =
 unfoldable pub modes_lines : List ℕ
 modes_lines = flat_map compatible_line published ++ flat_map join_line conversions
 
+-- the same tables, as they are read
+abbrev pub tables_of_modes : List (List ℕ)
+tables_of_modes =
+    codes "compat S: S U RangeS-S RangeS-U RangeI-N"
+    ∷ codes "compat U: S RangeS-S RangeI-N"
+    ∷ codes "compat X: RangeI-N"
+    ∷ codes "compat RangeS-S: S U RangeS-S RangeS-U"
+    ∷ codes "compat RangeS-U: S RangeS-S"
+    ∷ codes "compat RangeI-N: S U X RangeI-N"
+    ∷ codes "compat RangeX-X:"
+    ∷ codes "join S RangeI-N = RangeI-S"
+    ∷ codes "join U RangeI-N = RangeI-U"
+    ∷ codes "join X RangeI-N = RangeI-X"
+    ∷ codes "join RangeI-N RangeS-S = RangeX-S"
+    ∷ codes "join RangeI-N RangeS-U = RangeX-U"
+    ∷ []
+
 -- the line of deliveries that reached their bound
 abbrev pub unsettled_line : List ℕ
 unsettled_line = line_of (codes "unsettled")
@@ -190,6 +216,7 @@ fault_text MissingArgument = codes "missing argument"
 fault_text ExtraArgument = codes "extra argument"
 fault_text BadNumber = codes "bad number"
 fault_text BadPair = codes "bad pair"
+fault_text BadValue = codes "bad value"
 fault_text BadMode = codes "bad mode"
 fault_text LateSeed = codes "late seed"
 

@@ -3,6 +3,7 @@ use Rattle.std.specs.Prelude.{◌≡◌, ℕ, zero, suc, List, [], ◌∷◌, �
 use Rattle.std.specs.Fmt.{decimal}
 use Rattle.std.specs.Io.KnownBytes.{Appends}
 use Rattle.rand_pcg.specs.Lcg.{Lcg}
+use Rattle.std.specs.Int.{w64, to_be_bytes}
 use Rattle.krl_messages.specs.Values.{Value}
 use Rattle.krl_world.specs.States.{State, ServerNode, Up, Down, fresh, sent_count}
 use Rattle.krl_world.specs.Steps.{Steps}
@@ -33,7 +34,7 @@ stage_of r = record { world = world.meaning r.world; waits = r.waiting; generato
 
 -- the entries with which its world begins
 abbrev pub first_entries : List (ℕ × Value)
-first_entries = (10, 1) ∷ (20, 2) ∷ []
+first_entries = (10, to_be_bytes w64 1) ∷ (20, to_be_bytes w64 2) ∷ []
 
 -- before the first step
 abbrev pub first_of : ℕ → RandomStage

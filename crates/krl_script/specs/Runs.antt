@@ -8,7 +8,7 @@ use Rattle.std.specs.Io.KnownBytes.{Appends, Consumes, IsAtEnd}
 use Rattle.krl_script.specs.declared.fault.SyntaxFault.{SyntaxFault}
 use Rattle.krl_script.specs.declared.fault.ScriptFault.{ScriptFault}
 use Rattle.krl_script.specs.declared.fault.ScriptFault.TheVariants as script
-use Rattle.krl_script.specs.Limits.{most_text}
+use Rattle.krl_script.specs.Limits.{most_interruptions, most_text}
 use Rattle.krl_script.specs.Printing.{fault_line}
 use Rattle.krl_script.specs.Transcripts.{Stage, ObeysLine, Prints, Transcript, End}
 
@@ -29,6 +29,20 @@ ReadsOn None after r = ⊤
 ReadsOn (Some n) after (Ok count) = after ≡ Some n
 ReadsOn (Some n) after (Err e) =
     (error_kind e ≡ Interrupted) × (m : ℕ) × (n ≡ m + 1) × (after ≡ Some m)
+
+-- A write of so many bytes to a writer that is interrupted at most n times, and fails in no other
+-- way, where such an n is known.
+abbrev pub WritesOn : Option ℕ → Option ℕ → ℕ → Result ℕ Error → Type 0
+WritesOn None after given r = ⊤
+WritesOn (Some n) after given (Ok count) = (0 < given → 0 < count) × (after ≡ Some n)
+WritesOn (Some n) after given (Err e) =
+    (error_kind e ≡ Interrupted) × (m : ℕ) × (n ≡ m + 1) × (after ≡ Some m)
+
+-- Of a writer: it is interrupted no more often than is tried again in one line, and fails in no
+-- other way.
+abbrev pub IsSteady : Option ℕ → Type 0
+IsSteady None = ⊥
+IsSteady (Some n) = n ≤ most_interruptions
 
 -- A fault that comes of reading. A read that is interrupted is no fault.
 abbrev pub ComesOfReading : ScriptFault → Type 0

@@ -1,6 +1,7 @@
 -- What a script prints, line by line.
 use Rattle.std.specs.Prelude.{◌≡◌, ◌≢◌, ℕ, zero, suc, ◌+◌, ◌<◌, ◌≤◌, ◌⊎◌, Bool, true, false, nat_lt, List, [], ◌∷◌, ◌++◌, length, slice_get, Option, None, Some, Result, Ok, Err, MatchBool}
 use Rattle.std.specs.Str.Lines.{lines}
+use Rattle.std.specs.Int.{w64, to_be_bytes}
 use Rattle.krl_messages.specs.Values.{Value}
 use Rattle.krl_world.specs.States.{State, fresh, sent_count}
 use Rattle.krl_world.specs.Steps.{CanBegin, BeginsNot, Steps}
@@ -100,7 +101,7 @@ pub record Settles (most : ℕ) (unsettled : List ℕ) (s : Stage) (out : List �
 -- the keys from 0 on below n, each with its own number as its value
 abbrev pub filled : ℕ → List (ℕ × Value)
 filled zero = []
-filled (suc n) = filled n ++ (n, n) ∷ []
+filled (suc n) = filled n ++ (n, to_be_bytes w64 n) ∷ []
 
 -- a world begins with these entries
 pub record Begins (s : Stage) (entries : List (ℕ × Value)) (out : List ℕ) (s' : Stage) : Type 0 where
@@ -160,8 +161,8 @@ Prints s n (line ∷ more) out end =
     PrintsLine (line_request s.begun n line) s n
     (λ s' tail end'. Prints s' (n + 1) more tail end') out end
 
--- What a script of this text may print, and the fault in which it ends, or none. It depends on
--- memory alone.
+-- What a script of this text may print, and the fault in which it ends, or none. There may be more
+-- than one such output: each step that takes memory may be refused for want of it.
 abbrev pub Transcript : List ℕ → List ℕ → End → Type 0
 Transcript text out end =
     MatchBool (nat_lt most_text (length text))

@@ -1,5 +1,6 @@
 -- What a line of a script asks for, and when it is a fault.
-use Rattle.std.specs.Prelude.{◌≡◌, ℕ, ◌+◌, ◌^◌, ◌&&◌, Bool, true, false, not, if◌then◌else◌, find, nat_eq, nat_lt, nat_le, List, [], ◌∷◌, length, filter, take, drop, slice_index, slice_index_or, position, codes, Option, None, Some, Result, Ok, Err}
+use Rattle.std.specs.Prelude.{◌≡◌, ℕ, ◌+◌, ◌^◌, ◌&&◌, min, Bool, true, false, not, if◌then◌else◌, find, nat_eq, nat_lt, nat_le, List, [], ◌∷◌, length, filter, take, drop, slice_index, slice_index_or, position, codes, Option, None, Some, Result, Ok, Err}
+use Rattle.std.specs.Int.{w64, to_be_bytes}
 use Rattle.std.specs.List.{slice_split}
 use Rattle.std.specs.Str.{bytes_eq, all_ascii_digits}
 use Rattle.std.specs.Str.Parse.{digits_value}
@@ -10,6 +11,10 @@ use Rattle.krl_world.specs.declared.step.Step.TheVariants as step
 use Rattle.krl_world.specs.declared.step.Command.TheVariants as command
 use Rattle.krl_script.specs.Limits.{most_lines, most_line}
 use Rattle.krl_world.specs.declared.step.Command.{Command}
+use Rattle.hex.specs.Hex.{decode_of}
+use Rattle.hex.specs.declared.error.FromHexError.{FromHexError}
+use Rattle.krl_messages.specs.Values.{Value}
+use Rattle.krl_messages.specs.declared.write_op.WriteOp.{WriteOp}
 use Rattle.krl_messages.specs.declared.write_op.WriteOp.TheVariants as write
 use Rattle.krl_script.specs.declared.word.Word.{Word}
 use Rattle.krl_script.specs.declared.word.Word.TheVariants as word
@@ -19,13 +24,15 @@ use Rattle.krl_script.specs.declared.word.Single.{Single}
 use Rattle.krl_script.specs.declared.word.Single.TheVariants as single
 use Rattle.krl_script.specs.declared.word.Double.{Double}
 use Rattle.krl_script.specs.declared.word.Double.TheVariants as double
+use Rattle.krl_script.specs.declared.word.Valued.{Valued}
+use Rattle.krl_script.specs.declared.word.Valued.TheVariants as valued
 use Rattle.krl_script.specs.declared.word.Triple.{Triple}
 use Rattle.krl_script.specs.declared.word.Triple.TheVariants as triple
 use Rattle.krl_script.specs.declared.request.Request.{Request}
 use Rattle.krl_script.specs.declared.request.Request.TheVariants as request
 use Rattle.krl_script.specs.declared.request.Show.TheVariants as show
 use Rattle.krl_script.specs.declared.fault.SyntaxFault.{SyntaxFault}
-use Rattle.krl_script.specs.declared.fault.SyntaxFault.TheVariants.{TooManyLines, LineTooLong, UnknownWord, MissingArgument, ExtraArgument, BadNumber, BadPair, BadMode, LateSeed}
+use Rattle.krl_script.specs.declared.fault.SyntaxFault.TheVariants.{TooManyLines, LineTooLong, UnknownWord, MissingArgument, ExtraArgument, BadNumber, BadPair, BadValue, BadMode, LateSeed}
 use Rattle.krl_script.specs.declared.fault.LineFault.{LineFault}
 use Rattle.krl_script.specs.declared.fault.LineFault.TheVariants as fault
 
@@ -71,24 +78,42 @@ number_of word =
     if bytes_eq word (codes "END") then Some END
     else (if bytes_eq word (codes "TOP") then Some TOP else digits_of word)
 
--- both numbers, where both are there
-abbrev pub both : Option ℕ → Option ℕ → Option (ℕ × ℕ)
+-- the eight bytes of a number, where there is one, the highest first
+abbrev pub eight_of : Option ℕ → Option Value
+eight_of None = None
+eight_of (Some n) = Some (to_be_bytes w64 n)
+
+abbrev pub decoded : Result Value FromHexError → Option Value
+decoded (Ok bytes) = Some bytes
+decoded (Err e) = None
+
+-- the bytes that an even number of hexadecimal digits spell, at most 64 of them, in either case
+abbrev pub bytes_of : List ℕ → Option Value
+bytes_of digits = if nat_le (length digits) 64 then decoded (decode_of digits) else None
+
+-- the value that a word spells: 'x' and its bytes, or a number, which stands for its eight bytes
+abbrev pub value_of : List ℕ → Option Value
+value_of [] = None
+value_of (b ∷ bs) = if nat_eq b 120 then bytes_of bs else eight_of (number_of (b ∷ bs))
+
+-- both, where both are there
+abbrev pub both : Option ℕ → Option Value → Option (ℕ × Value)
 both None v = None
 both (Some k) None = None
 both (Some k) (Some v) = Some (k, v)
 
--- the numbers on the two sides of the '=' at this place
-abbrev pub pair_at : List ℕ → Option ℕ → Option (ℕ × ℕ)
+-- the key and the value on the two sides of the '=' at this place
+abbrev pub pair_at : List ℕ → Option ℕ → Option (ℕ × Value)
 pair_at word None = None
-pair_at word (Some i) = both (number_of (take i word)) (number_of (drop (i + 1) word))
+pair_at word (Some i) = both (number_of (take i word)) (value_of (drop (i + 1) word))
 
--- The pair that a word spells: two numbers round its first '='. No number has an '=' in it, so
--- there is no second.
-abbrev pub pair_of : List ℕ → Option (ℕ × ℕ)
+-- The pair that a word spells: a key and a value round its first '='. No key or value has an '='
+-- in it, so there is no second.
+abbrev pub pair_of : List ℕ → Option (ℕ × Value)
 pair_of word = pair_at word (position (λ b. nat_eq b 61) word)
 
 -- the pairs that words spell
-abbrev pub pairs_of : List (List ℕ) → Result (List (ℕ × ℕ)) SyntaxFault
+abbrev pub pairs_of : List (List ℕ) → Result (List (ℕ × Value)) SyntaxFault
 pairs_of [] = Ok []
 pairs_of (word ∷ words) =
     or_fault BadPair (pair_of word) >>= λ pair. pairs_of words >>= λ pairs. Ok (pair ∷ pairs)
@@ -122,9 +147,11 @@ double_text double.Delete = codes "delete"
 double_text double.Unpin = codes "unpin"
 double_text double.Hold = codes "hold"
 
+abbrev pub valued_text : Valued → List ℕ
+valued_text valued.Insert = codes "insert"
+valued_text valued.Put = codes "put"
+
 abbrev pub triple_text : Triple → List ℕ
-triple_text triple.Insert = codes "insert"
-triple_text triple.Put = codes "put"
 triple_text triple.Scan = codes "scan"
 triple_text triple.Forget = codes "forget"
 triple_text triple.Pin = codes "pin"
@@ -137,6 +164,7 @@ word_text word.Start = codes "start"
 word_text (word.Alone w) = alone_text w
 word_text (word.Single w) = single_text w
 word_text (word.Double w) = double_text w
+word_text (word.Valued w) = valued_text w
 word_text (word.Triple w) = triple_text w
 
 -- every word
@@ -150,7 +178,7 @@ all_words =
     ∷ word.Single single.Tick ∷ word.Single single.Nudge ∷ word.Single single.Deliver
     ∷ word.Single single.Next ∷ word.Single single.Status
     ∷ word.Double double.Delete ∷ word.Double double.Unpin ∷ word.Double double.Hold
-    ∷ word.Triple triple.Insert ∷ word.Triple triple.Put ∷ word.Triple triple.Scan
+    ∷ word.Valued valued.Insert ∷ word.Valued valued.Put ∷ word.Triple triple.Scan
     ∷ word.Triple triple.Forget ∷ word.Triple triple.Pin ∷ []
 
 -- the word of this text
@@ -184,10 +212,16 @@ double_request double.Delete c k = request.Step (step.Command c (command.Write (
 double_request double.Unpin c id = request.Step (step.Command c (command.Unpin id))
 double_request double.Hold c p = request.Show (show.Hold c p)
 
+-- what a word has a client write, with a key and a value
+abbrev pub valued_change : Valued → ℕ → Value → WriteOp
+valued_change valued.Insert k v = write.Insert k v
+valued_change valued.Put k v = write.Put k v
+
+abbrev pub valued_request : Valued → ℕ → ℕ → Value → Request
+valued_request w c k v = request.Step (step.Command c (command.Write (valued_change w k v)))
+
 -- what a word tells a client to do, with two numbers
 abbrev pub triple_command : Triple → ℕ → ℕ → Command
-triple_command triple.Insert k v = command.Write (write.Insert k v)
-triple_command triple.Put k v = command.Write (write.Put k v)
 triple_command triple.Scan lo hi = command.Scan lo hi
 triple_command triple.Forget lo hi = command.Forget lo hi
 triple_command triple.Pin lo hi = command.Pin lo hi
@@ -200,6 +234,12 @@ abbrev pub argument_count : ℕ → List (List ℕ) → Result Unit SyntaxFault
 argument_count n arguments =
     if nat_lt (length arguments) n then Err MissingArgument
     else (if nat_lt n (length arguments) then Err ExtraArgument else Ok tt)
+
+-- there are no fewer and no more than these
+abbrev pub argument_count_within : ℕ → ℕ → List (List ℕ) → Result Unit SyntaxFault
+argument_count_within few most arguments =
+    if nat_lt (length arguments) few then Err MissingArgument
+    else (if nat_lt most (length arguments) then Err ExtraArgument else Ok tt)
 
 -- the argument at a place, from 0
 abbrev pub argument : List (List ℕ) → ℕ → List ℕ
@@ -225,18 +265,29 @@ triple_of arguments =
     argument_count 3 arguments >>= λ _. number_at arguments 0 >>= λ l.
     number_at arguments 1 >>= λ m. number_at arguments 2 >>= λ n. Ok (l, m, n)
 
+-- a client, a key and a value
+abbrev pub valued_of : List (List ℕ) → Result (ℕ × ℕ × Value) SyntaxFault
+valued_of arguments =
+    argument_count 3 arguments >>= λ _. number_at arguments 0 >>= λ c.
+    number_at arguments 1 >>= λ k. or_fault BadValue (value_of (argument arguments 2)) >>= λ v. Ok (c, k, v)
+
 -- one pair at least
 abbrev pub seed_of : List (List ℕ) → Result Request SyntaxFault
 seed_of arguments =
     if nat_lt (length arguments) 1 then Err MissingArgument
     else pairs_of arguments >>= λ pairs. Ok (request.Seed pairs)
 
--- a client, a point and a mode
+-- where a lock ends: the fourth argument, or one past its point. Past the last point there is none, and such a lock is
+-- refused for its point
+abbrev pub reach_of : ℕ → List (List ℕ) → Result ℕ SyntaxFault
+reach_of p arguments = if nat_lt 3 (length arguments) then number_at arguments 3 else Ok (min (p + 1) 18446744073709551615)
+
+-- a client, a point and a mode, and where it ends
 abbrev pub lock_of : List (List ℕ) → Result Request SyntaxFault
 lock_of arguments =
-    argument_count 3 arguments >>= λ _. number_at arguments 0 >>= λ c.
-    number_at arguments 1 >>= λ p. mode_of (argument arguments 2) >>= λ m.
-    Ok (request.Step (step.Command c (command.Lock p m)))
+    argument_count_within 3 4 arguments >>= λ _. number_at arguments 0 >>= λ c.
+    number_at arguments 1 >>= λ p. mode_of (argument arguments 2) >>= λ m. reach_of p arguments >>= λ hi.
+    Ok (request.Step (step.Command c (command.Lock p hi m)))
 
 -- the argument is the word 'server'
 abbrev pub is_server : List (List ℕ) → Bool
@@ -265,6 +316,8 @@ request_of word.Start arguments = start_of arguments
 request_of (word.Alone w) arguments = argument_count 0 arguments >>= λ _. Ok (alone_request w)
 request_of (word.Single w) arguments = single_of arguments >>= λ n. Ok (single_request w n)
 request_of (word.Double w) arguments = double_of arguments >>= λ x. Ok (double_request w x.0 x.1)
+request_of (word.Valued w) arguments =
+    valued_of arguments >>= λ x. Ok (valued_request w x.0 x.1 x.2)
 request_of (word.Triple w) arguments =
     triple_of arguments >>= λ x. Ok (triple_request w x.0 x.1 x.2)
 

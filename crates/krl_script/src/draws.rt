@@ -2,7 +2,7 @@
 ghost use Rattle.std.specs.Prelude.{◌≡◌, ◌<◌};
 ghost use Rattle.krl_script.specs.Draws as draw;
 
-use krl_messages::WriteOp;
+use krl_messages::{Value, WriteOp};
 use krl_modes::Mode;
 use krl_world::{Command, Step};
 use rand_core::SeedableRng;
@@ -68,10 +68,16 @@ impl Draws {
         self.below(32)
     }
 
-    fn value(&mut self) -> u64
+    // A value of 0 to 32 bytes.
+    fn value(&mut self) -> Value
         ensures { (result, self.new) ≡ draw.value self.old }
     {
-        self.below(100)
+        let len = self.below(33) as usize;
+        let mut bytes = [0; 32];
+        for i in 0..len {
+            bytes[i] = self.below(256) as u8;
+        }
+        Value::new(&bytes[..len]).unwrap()
     }
 
     // A span of one to eight points.
@@ -117,7 +123,9 @@ impl Draws {
         let client = self.client();
         let point = self.point();
         let mode = self.mode();
-        Step::Command(client, Command::Lock { point, mode })
+        let more = self.below(8);
+        let hi = point + 1 + more;
+        Step::Command(client, Command::Lock { point, hi, mode })
     }
 
     fn insert(&mut self) -> Step

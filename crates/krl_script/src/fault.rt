@@ -27,6 +27,8 @@ pub enum SyntaxFault {
     BadNumber,
     /// An argument that has to be a pair is none.
     BadPair,
+    /// The value of an `insert` or `put` is none.
+    BadValue,
     /// The mode is no name of one that `lock` takes.
     BadMode,
     /// The world is made already.
@@ -47,6 +49,7 @@ impl SyntaxFault {
             SyntaxFault::ExtraArgument => "extra argument",
             SyntaxFault::BadNumber => "bad number",
             SyntaxFault::BadPair => "bad pair",
+            SyntaxFault::BadValue => "bad value",
             SyntaxFault::BadMode => "bad mode",
             SyntaxFault::LateSeed => "late seed",
         }

@@ -1,5 +1,5 @@
 //! What a script keeps between two lines, and what each request does to it.
-ghost use Rattle.std.specs.Prelude.{◌≡◌, ◌≢◌, [], true, MatchResult, IfOk, IfErr};
+ghost use Rattle.std.specs.Prelude.{◌≡◌, ◌≢◌, [], true, slice_get, MatchResult, IfOk, IfErr};
 ghost use Rattle.krl_world.specs.States.{fresh};
 ghost use Rattle.krl_world.specs.Fields as world;
 ghost use Rattle.krl_world.specs.Steps.{CanBegin, BeginsNot};
@@ -25,7 +25,6 @@ use std::marker::Model;
 const MAX_ENTRIES: u64 = 65536;
 
 /// The world, and the messages that wait. Before the script's world is made it has no entries.
-#[derive(Drop)]
 pub struct Interpreter {
     alloc: Global,
     begun: bool,
@@ -45,13 +44,24 @@ impl Model for Interpreter {
     ghost view = { λ i. record { begun = i.begun; world = i.world; waits = i.waiting } };
 }
 
+impl Drop for Interpreter {
+    fn drop(self) {
+        let Interpreter {
+            alloc: _,
+            begun: _,
+            world: _world,
+            waiting: _waiting,
+        } = self;
+    }
+}
+
 // The entries with the keys from 0 on below n, each with its own number as its value.
 fn filled(alloc: Global, n: u64) -> Result<Vec<(u64, Value)>, AllocError>
     ensures { IfOk result (λ entries. entries.items ≡ filled n) }
 {
     let mut entries = Vec::new(alloc);
     for key in 0..n {
-        entries.push((key, key))?;
+        entries.push((key, Value::from_u64(key)))?;
     }
     Ok(entries)
 }
@@ -172,13 +182,24 @@ impl Interpreter {
         Ok(String::new(self.alloc))
     }
 
+    // The script's world is this one from now on.
+    fn begin(&mut self, new_world: World)
+        ensures { meaning self.new ≡ record (meaning self.old) {
+          begun = true;
+          world = world.meaning new_world;
+        } }
+    {
+        self.begun = true;
+        self.world = new_world;
+    }
+
     // The world has no entries, and this tells why.
     fn refuse(&mut self, refused: Refused) -> Result<String, AllocError>
         ensures { IfOk result (λ line. (line.bytes.items ≡ refused_line refused)
             × (meaning self.new ≡ record (meaning self.old) { begun = true; world = fresh [] })) }
     {
-        self.begun = true;
-        self.world = empty_world(self.alloc)?;
+        let world = empty_world(self.alloc)?;
+        self.begin(world);
         print::refused(self.alloc, refused)
     }
 
@@ -189,8 +210,7 @@ impl Interpreter {
     {
         match make_world(self.alloc, entries)? {
             Ok(world) => {
-                self.begun = true;
-                self.world = world;
+                self.begin(world);
                 Ok(String::new(self.alloc))
             }
             Err(refused) => self.refuse(refused),
@@ -252,9 +272,24 @@ impl Interpreter {
         }
     }
 
-    // What the line of this number asks for, or its first fault.
+    /// The world as it is now. Before the script's world is made it has no entries.
+    pub fn world(&self) -> &World
+        ensures { result.now ≡ self.now.world }
+    {
+        &self.world
+    }
+
+    /// The number of the oldest message that waits.
+    pub fn oldest(&mut self) -> Option<u64>
+        ensures oldest { result ≡ slice_get self.old.waits.waiting 0 }
+        ensures same { self.new ≡ self.old }
+    {
+        self.waiting.oldest()
+    }
+
+    /// What the line of this number asks for, or its first fault.
     #[tactic(auto, unfolding(crate::specs::Words::line_request))]
-    fn request(&self, number: u64, line: &[u8]) -> Result<Request, LineFault>
+    pub fn request(&self, number: u64, line: &[u8]) -> Result<Request, LineFault>
         ensures { Gives result (line_request self.now.begun number line.now) }
     {
         if number > MAX_LINES {

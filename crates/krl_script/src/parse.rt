@@ -2,11 +2,12 @@
 ghost use Rattle.std.specs.Prelude.{◌≡◌, ℕ, ◌+◌, ◌<◌, ◌≤◌, ◌^◌, List, [], map, length, IfOk, OnOk, IfSome, nat_eq, position};
 ghost use Rattle.std.specs.List.{slice_split};
 ghost use Rattle.std.specs.Str.{bytes_eq};
-ghost use Rattle.krl_script.specs.Words.{Gives, words_of, digits_of, number_of, pair_of, pairs_of, mode_of, argument_count, argument, or_fault, single_of, double_of, triple_of, seed_of, lock_of, crash_of, start_of, request_of, meaning_of_words, meaning_of};
+ghost use Rattle.krl_script.specs.Words.{Gives, words_of, digits_of, number_of, bytes_of, value_of, pair_of, pairs_of, mode_of, argument_count, argument, or_fault, single_of, double_of, triple_of, valued_of, seed_of, argument_count_within, reach_of, lock_of, crash_of, start_of, request_of, meaning_of_words, meaning_of};
 
 use crate::fault::{LineFault, SyntaxFault};
 use crate::request::{Entries, Request};
 use crate::word::Word;
+use krl_messages::Value;
 use krl_modes::{END, Mode, TOP};
 use krl_world::{Command, Step};
 use std::alloc::{AllocError, Global};
@@ -63,13 +64,37 @@ fn equals_at(word: &[u8]) -> Option<usize>
     word.iter().position(|b| *b == b'=')
 }
 
-// No number has an '=' in it, so a pair has exactly one.
-fn pair(word: &[u8]) -> Option<(u64, u64)>
+// The bytes that an even number of hexadecimal digits spell.
+fn bytes(digits: &[u8]) -> Option<Value>
+    ensures { result ≡ bytes_of digits.now }
+{
+    if digits.len() > 64 {
+        return None;
+    }
+    let len = digits.len() / 2;
+    let mut bytes = [0; 32];
+    let room = &mut bytes[..len];
+    hex::decode_to_slice(digits, room).ok()?;
+    Value::new(&bytes[..len])
+}
+
+fn value(word: &[u8]) -> Option<Value>
+    ensures { result ≡ value_of word.now }
+{
+    match word.split_first() {
+        None => None,
+        Some((b'x', digits)) => bytes(digits),
+        Some(_) => Some(Value::from_u64(number(word)?)),
+    }
+}
+
+// No key and no value has an '=' in it, so a pair has exactly one.
+fn pair(word: &[u8]) -> Option<(u64, Value)>
     ensures { result ≡ pair_of word.now }
 {
     let at = equals_at(word)?;
     let key = number(&word[..at])?;
-    let value = number(&word[at + 1..])?;
+    let value = value(&word[at + 1..])?;
     Some((key, value))
 }
 
@@ -97,6 +122,20 @@ fn count(n: usize, arguments: &[&[u8]]) -> Result<(), LineFault>
     if arguments.len() < n {
         Err(LineFault::Syntax(SyntaxFault::MissingArgument))
     } else if arguments.len() > n {
+        Err(LineFault::Syntax(SyntaxFault::ExtraArgument))
+    } else {
+        Ok(())
+    }
+}
+
+fn count_within(few: usize, most: usize, arguments: &[&[u8]]) -> Result<(), LineFault>
+    ensures said { Gives result
+        (argument_count_within few most (map (λ word. word.now) arguments.now)) }
+    ensures some { OnOk result (few ≤ length arguments.now) }
+{
+    if arguments.len() < few {
+        Err(LineFault::Syntax(SyntaxFault::MissingArgument))
+    } else if arguments.len() > most {
         Err(LineFault::Syntax(SyntaxFault::ExtraArgument))
     } else {
         Ok(())
@@ -147,6 +186,17 @@ fn triple(arguments: &[&[u8]]) -> Result<(u64, u64, u64), LineFault>
     Ok((first, second, third))
 }
 
+// A client, a key and a value.
+fn valued(arguments: &[&[u8]]) -> Result<(u64, u64, Value), LineFault>
+    ensures { Gives result (valued_of (map (λ word. word.now) arguments.now)) }
+{
+    count(3, arguments)?;
+    let client = number_at(arguments, 0)?;
+    let key = number_at(arguments, 1)?;
+    let value = value(arguments[2]).ok_or(LineFault::Syntax(SyntaxFault::BadValue))?;
+    Ok((client, key, value))
+}
+
 fn seed(alloc: Global, arguments: &[&[u8]]) -> Result<Request, LineFault>
     ensures { Gives result (seed_of (map (λ word. word.now) arguments.now)) }
 {
@@ -157,14 +207,27 @@ fn seed(alloc: Global, arguments: &[&[u8]]) -> Result<Request, LineFault>
     Ok(Request::Seed(entries))
 }
 
+// How far a lock is asked for: to where the fourth argument says, or one past its point. Past the
+// last point there is none, and such a lock is refused for its point.
+fn reach(point: u64, arguments: &[&[u8]]) -> Result<u64, LineFault>
+    ensures { Gives result (reach_of point (map (λ word. word.now) arguments.now)) }
+{
+    if arguments.len() > 3 {
+        number_at(arguments, 3)
+    } else {
+        Ok(point.saturating_add(1))
+    }
+}
+
 fn lock(arguments: &[&[u8]]) -> Result<Request, LineFault>
     ensures { Gives result (lock_of (map (λ word. word.now) arguments.now)) }
 {
-    count(3, arguments)?;
+    count_within(3, 4, arguments)?;
     let client = number_at(arguments, 0)?;
     let point = number_at(arguments, 1)?;
     let mode = mode_at(arguments, 2)?;
-    Ok(Request::Step(Step::Command(client, Command::Lock { point, mode })))
+    let hi = reach(point, arguments)?;
+    Ok(Request::Step(Step::Command(client, Command::Lock { point, hi, mode })))
 }
 
 fn crash(arguments: &[&[u8]]) -> Result<Request, LineFault>
@@ -209,6 +272,10 @@ fn request(alloc: Global, word: Word, arguments: &[&[u8]]) -> Result<Request, Li
         Word::Double(word) => {
             let (client, second) = double(arguments)?;
             Ok(word.request(client, second))
+        }
+        Word::Valued(word) => {
+            let (client, key, value) = valued(arguments)?;
+            Ok(word.request(client, key, value))
         }
         Word::Triple(word) => {
             let (client, second, third) = triple(arguments)?;

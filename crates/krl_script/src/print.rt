@@ -1,7 +1,7 @@
 //! The lines that are printed.
 ghost use Rattle.std.specs.Prelude.{◌≡◌, ◌++◌, IfOk, OnOk};
 ghost use Rattle.std.specs.List.{flat_map};
-ghost use Rattle.krl_script.specs.Printing.{row_text, refused_line, rows_line, answer_lines, outcome_lines, beside_text, compatible_line, join_line, modes_lines, fault_line};
+ghost use Rattle.krl_script.specs.Printing.{value_text, row_text, refused_line, rows_line, answer_lines, outcome_lines, beside_text, compatible_line, join_line, modes_lines, fault_line};
 
 use crate::fault::SyntaxFault;
 use krl_messages::Value;
@@ -26,13 +26,27 @@ pub fn refused(alloc: Global, refused: Refused) -> Result<String, AllocError>
     format!(in alloc; "refused {name}\n")
 }
 
+/// The text of a value: its number where it has eight bytes, else x and two digits for each byte.
+fn value(alloc: Global, value: &Value) -> Result<String, AllocError>
+    ensures { IfOk result (λ text. text.bytes.items ≡ value_text value.now) }
+{
+    match value.as_u64() {
+        Some(number) => format!(in alloc; "{number}"),
+        None => {
+            let digits = hex::encode(alloc, value.bytes())?;
+            format!(in alloc; "x{digits}")
+        }
+    }
+}
+
 /// Puts each row at the end of a line.
-pub fn push_rows(line: &mut String, rows: &[(u64, Value)]) -> Result<(), AllocError>
+pub fn push_rows(alloc: Global, line: &mut String, rows: &[(u64, Value)]) -> Result<(), AllocError>
     ensures { OnOk result
         (line.new.bytes.items ≡ line.old.bytes.items ++ flat_map row_text rows.now) }
 {
-    for (key, value) in rows {
-        write!(line, " {key}={value}")?;
+    for (key, held) in rows {
+        let text = value(alloc, held)?;
+        write!(line, " {key}={text}")?;
     }
     Ok(())
 }
@@ -42,7 +56,7 @@ fn rows(alloc: Global, rows: &[(u64, Value)]) -> Result<String, AllocError>
     ensures { IfOk result (λ line. line.bytes.items ≡ rows_line rows.now) }
 {
     let mut line = format!(in alloc; "rows")?;
-    push_rows(&mut line, rows)?;
+    push_rows(alloc, &mut line, rows)?;
     line.push('\n')?;
     Ok(line)
 }

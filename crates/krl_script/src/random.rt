@@ -1,9 +1,11 @@
 //! Random runs.
-ghost use Rattle.std.specs.Prelude.{◌≡◌, ◌≤◌, ◌&&◌, None, Some, true, IfOk, IsErrOf, filter, is_none, nat_le, nat_lt};
+ghost use Rattle.std.specs.Prelude.{◌≡◌, ℕ, ◌≤◌, ◌&&◌, None, Some, true, IfOk, IsErrOf, filter, is_none, nat_le, nat_lt};
 ghost use Rattle.krl_world.specs.States.{index_of};
 ghost use Rattle.krl_world.specs.Fields.{meaning};
 ghost use Rattle.krl_world.specs.Promises.{IsCompatible, ScansIndex};
+ghost use Rattle.krl_script.specs.Limits.{most_interruptions, most_steps};
 ghost use Rattle.krl_script.specs.Soundness.{first_unsound, numbers_below};
+ghost use Rattle.krl_script.specs.Runs.{IsSteady};
 ghost use Rattle.krl_script.specs.RandomRuns.{stage_of, first_entries, first_of, sight_of, waits_since, TakesDrawn, GoesOn, RunsRandomly, EndsRandomRun, random_line, WroteLineOf};
 
 use crate::draws::{Draws, Sight};
@@ -55,8 +57,8 @@ fn opening(alloc: Global) -> Result<Vec<(u64, Value)>, AllocError>
     ensures { IfOk result (λ entries. entries.items ≡ first_entries) }
 {
     let mut entries = Vec::new(alloc);
-    entries.push((10, 1))?;
-    entries.push((20, 2))?;
+    entries.push((10, Value::from_u64(1)))?;
+    entries.push((20, Value::from_u64(2)))?;
     Ok(entries)
 }
 
@@ -156,8 +158,9 @@ impl RandomRun {
         ensures sound { IfOk result (λ answers.
             (answers ≡ true) × IsCompatible (meaning self.new.world)) }
     {
-        let outcome = self.world.step(step);
-        pass(&mut self.waiting, step, &outcome);
+        let (taken, passed) = (*&step, *&step);
+        let outcome = self.world.step(taken);
+        pass(&mut self.waiting, passed, &outcome);
         let sent = self.world.sent();
         self.waiting.count(sent)?;
         Ok(answers_index(&self.world, step, &outcome))
@@ -189,7 +192,7 @@ fn tell<P: Progress>(progress: &mut P, steps: u64) {
 
 // Takes so many steps. Gives the first after which something was not sound, and then no more are
 // taken.
-fn first_unsound<P: Progress>(
+fn first_unsound_step<P: Progress>(
     run: &mut RandomRun,
     progress: &mut P,
     steps: u64,
@@ -218,7 +221,7 @@ fn driven<P: Progress>(
     ensures { IfOk result (λ end. (end.1 ≡ None) × EndsRandomRun seed steps (meaning end.0)) }
 {
     let mut run = RandomRun::new(alloc, seed)?;
-    let unsound = first_unsound(&mut run, progress, steps)?;
+    let unsound = first_unsound_step(&mut run, progress, steps)?;
     let RandomRun { world, .. } = run;
     Ok((world, unsound))
 }
@@ -243,7 +246,8 @@ fn write_verdict<W: Sink>(
 ) -> Result<(), ScriptFault>
     ensures wrote { WroteLineOf (W.contents writer.old) (W.contents writer.new)
         (random_line seed steps unsound) result }
-    ensures steady { W.is_steady writer.old → ¬ IsErrOf result ScriptFault.Write }
+    ensures steady { IsSteady (W.interruptions writer.old) →
+        ¬ IsErrOf result ScriptFault.Write }
 {
     let line = verdict(alloc, seed, steps, unsound)?;
     write_line(writer, line.as_bytes())
@@ -267,12 +271,14 @@ pub fn random_run<W: Sink, P: Progress>(
 ) -> Result<(World, bool), ScriptFault>
     requires seed { seed ≤ END }
     requires some { 1 ≤ steps }
-    requires bounded { steps ≤ MAX_STEPS }
+    requires bounded { steps ≤ most_steps }
+    ensures limit { MAX_STEPS ≡ most_steps }
     ensures ran { IfOk result
         (λ end. (end.1 ≡ true) × EndsRandomRun seed steps (meaning end.0)) }
     ensures wrote { WroteLineOf (W.contents writer.old) (W.contents writer.new)
         (random_line seed steps None) result }
-    ensures steady { W.is_steady writer.old → ¬ IsErrOf result ScriptFault.Write }
+    ensures steady { (n : ℕ) → W.interruptions writer.old ≡ Some n → n ≤ most_interruptions →
+        ¬ IsErrOf result ScriptFault.Write }
 {
     let (world, unsound) = driven(alloc, progress, seed, steps)?;
     write_verdict(alloc, writer, seed, steps, unsound)?;

@@ -1,10 +1,10 @@
 //! A whole script.
 ghost use Rattle.std.specs.Prelude.{◌≡◌, ℕ, ◌≤◌, length, Some, IfErr, IsErrOf, OnOk};
 ghost use Rattle.std.specs.Str.Lines.{lines};
-ghost use Rattle.krl_script.specs.Limits.{most_text, most_turns};
+ghost use Rattle.krl_script.specs.Limits.{most_text, most_turns, most_interruptions};
 ghost use Rattle.krl_script.specs.Transcripts.{first_stage, Prints};
 ghost use Rattle.krl_script.specs.Fields.{meaning};
-ghost use Rattle.krl_script.specs.Runs.{Counts, MayEndReading, Wrote, EndsInFault, RunsLine, Ran};
+ghost use Rattle.krl_script.specs.Runs.{Counts, MayEndReading, IsSteady, Wrote, EndsInFault, RunsLine, Ran};
 
 use crate::fault::{LineFault, ScriptFault, SyntaxFault};
 use crate::interpreter::Interpreter;
@@ -23,7 +23,8 @@ fn end_in_fault<W: Sink>(
     what: SyntaxFault,
 ) -> Result<(), ScriptFault>
     ensures ends { EndsInFault (W.contents writer.old) (W.contents writer.new) line what result }
-    ensures steady { W.is_steady writer.old → ¬ IsErrOf result ScriptFault.Write }
+    ensures steady { IsSteady (W.interruptions writer.old) →
+        ¬ IsErrOf result ScriptFault.Write }
 {
     let text = print::faulted(alloc, line, what)?;
     write_line(writer, text.as_bytes())?;
@@ -40,8 +41,9 @@ fn run_line<W: Sink>(
 ) -> Result<(), ScriptFault>
     ensures runs { RunsLine (W.contents writer.old) (W.contents writer.new)
         (meaning interpreter.old) number line.now result (meaning interpreter.new) }
-    ensures steady { W.is_steady writer.old →
-        (¬ IsErrOf result ScriptFault.Write) × OnOk result (W.is_steady writer.new) }
+    ensures steady { IsSteady (W.interruptions writer.old) →
+        (¬ IsErrOf result ScriptFault.Write)
+        × OnOk result (IsSteady (W.interruptions writer.new)) }
 {
     match interpreter.obey_line(number, line) {
         Ok(printed) => write_line(writer, printed.as_bytes()),
@@ -50,22 +52,39 @@ fn run_line<W: Sink>(
     }
 }
 
-fn run_lines<W: Sink>(alloc: Global, text: &[u8], writer: &mut W) -> Result<(), ScriptFault>
+// Obeys the lines of a text, one after another.
+fn obey_lines<W: Sink>(
+    alloc: Global,
+    interpreter: &mut Interpreter,
+    text: &[u8],
+    writer: &mut W,
+) -> Result<(), ScriptFault>
     requires { length text.now ≤ most_text }
     ensures wrote { Wrote (W.contents writer.old) (W.contents writer.new)
-        (Prints first_stage 1 (lines text.now)) result }
-    ensures steady { W.is_steady writer.old → ¬ IsErrOf result ScriptFault.Write }
+        (Prints (meaning interpreter.old) 1 (lines text.now)) result }
+    ensures steady { IsSteady (W.interruptions writer.old) →
+        ¬ IsErrOf result ScriptFault.Write }
 {
-    let mut interpreter = Interpreter::new(alloc)?;
     let mut rest = text;
     let mut number = 1u64;
     'lines: while !rest.is_empty() {
         let (line, after) = first_line(rest);
-        run_line(alloc, &mut interpreter, writer, number, line)?;
+        run_line(alloc, interpreter, writer, number, line)?;
         rest = after;
         number += 1;
     }
     Ok(())
+}
+
+fn run_lines<W: Sink>(alloc: Global, text: &[u8], writer: &mut W) -> Result<(), ScriptFault>
+    requires { length text.now ≤ most_text }
+    ensures wrote { Wrote (W.contents writer.old) (W.contents writer.new)
+        (Prints first_stage 1 (lines text.now)) result }
+    ensures steady { IsSteady (W.interruptions writer.old) →
+        ¬ IsErrOf result ScriptFault.Write }
+{
+    let mut interpreter = Interpreter::new(alloc)?;
+    obey_lines(alloc, &mut interpreter, text, writer)
 }
 
 /// Reads a script to its end, and then runs it line by line. What a line prints is written before
@@ -87,11 +106,12 @@ pub fn run_script<R: Source, W: Sink>(
     ensures ran { Ran (R.remaining reader.old) (R.remaining reader.new)
         (W.contents writer.old) (W.contents writer.new) result }
     // A reader that is at most interrupted is read, unless that takes too many reads; and a writer
-    // that never fails is written.
+    // that is at most interrupted is written, unless that takes too many writes.
     ensures read { (n : ℕ) → R.interruptions reader.old ≡ Some n → IfErr result (MayEndReading n) }
     ensures turns { IsErrOf result ScriptFault.NoEnd →
         Counts (R.reads reader.old) (R.reads reader.new) most_turns }
-    ensures written { W.is_steady writer.old → ¬ IsErrOf result ScriptFault.Write }
+    ensures written { (n : ℕ) → W.interruptions writer.old ≡ Some n → n ≤ most_interruptions →
+        ¬ IsErrOf result ScriptFault.Write }
 {
     let text = read_text(alloc, reader)?;
     if text.len() > MAX_TEXT {

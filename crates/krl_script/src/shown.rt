@@ -137,7 +137,7 @@ fn index(alloc: Global, entries: &[(u64, Value)]) -> Result<String, AllocError>
         line.bytes.items ≡ line_of (codes "index" ++ flat_map row_text entries.now)) }
 {
     let mut line = format!(in alloc; "index")?;
-    push_rows(&mut line, entries)?;
+    push_rows(alloc, &mut line, entries)?;
     line.push('\n')?;
     Ok(line)
 }

@@ -2,7 +2,7 @@
 ghost use Rattle.std.specs.Prelude.{◌≡◌, ℕ, ◌≤◌, List, [], ◌++◌, length, Some, IfOk, OnOk, IfErr, IsOk, IsErrOf};
 ghost use Rattle.std.specs.Io.KnownBytes.{Appends, Consumes};
 ghost use Rattle.krl_script.specs.Limits.{most_turns};
-ghost use Rattle.krl_script.specs.Runs.{Counts, ReadsWhole, ComesOfReading, MayEndReading};
+ghost use Rattle.krl_script.specs.Runs.{Counts, ReadsWhole, ComesOfReading, MayEndReading, IsSteady};
 
 use crate::fault::ScriptFault;
 use crate::limits::{MAX_TEXT, MAX_TURNS};
@@ -48,7 +48,8 @@ pub fn write_line<W: Sink>(writer: &mut W, bytes: &[u8]) -> Result<(), ScriptFau
     ensures err { IfErr result (λ e. (e ≡ ScriptFault.Write)
         × (front : List ℕ) × (back : List ℕ) × (front ++ back ≡ bytes.now)
         × Appends (W.contents writer.old) (W.contents writer.new) front) }
-    ensures steady { W.is_steady writer.old → IsOk result × W.is_steady writer.new }
+    ensures steady { IsSteady (W.interruptions writer.old) →
+        IsOk result × IsSteady (W.interruptions writer.new) }
 {
     let mut at = 0;
     let mut interrupted = 0;

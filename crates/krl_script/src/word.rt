@@ -1,9 +1,9 @@
 //! The words that begin a line.
 ghost use Rattle.std.specs.Prelude.{◌≡◌};
-ghost use Rattle.krl_script.specs.Words.{alone_text, single_text, double_text, triple_text, word_text, word_named, alone_request, single_request, double_request, triple_command, triple_request};
+ghost use Rattle.krl_script.specs.Words.{alone_text, single_text, double_text, triple_text, word_text, word_named, alone_request, single_request, double_request, valued_text, valued_change, valued_request, triple_command, triple_request};
 
 use crate::request::{Request, Show};
-use krl_messages::WriteOp;
+use krl_messages::{Value, WriteOp};
 use krl_world::{Command, Step};
 
 /// The words that stand alone.
@@ -135,11 +135,45 @@ impl Double {
     }
 }
 
+/// The words that take a client, a key and a value.
+#[derive(Clone, Copy)]
+pub enum Valued {
+    Insert,
+    Put,
+}
+
+impl Valued {
+    /// The word as it stands in a script.
+    pub fn text(self) -> &'static str
+        ensures { result.now ≡ valued_text self }
+    {
+        match self {
+            Valued::Insert => "insert",
+            Valued::Put => "put",
+        }
+    }
+
+    // What is written.
+    fn change(self, key: u64, value: Value) -> WriteOp
+        ensures { result ≡ valued_change self key value }
+    {
+        match self {
+            Valued::Insert => WriteOp::Insert { key, value },
+            Valued::Put => WriteOp::Put { key, value },
+        }
+    }
+
+    /// What the word asks for with this client, key and value.
+    pub fn request(self, client: u64, key: u64, value: Value) -> Request
+        ensures { result ≡ valued_request self client key value }
+    {
+        Request::Step(Step::Command(client, Command::Write(self.change(key, value))))
+    }
+}
+
 /// The words that take a client and two more numbers.
 #[derive(Clone, Copy)]
 pub enum Triple {
-    Insert,
-    Put,
     Scan,
     Forget,
     Pin,
@@ -151,8 +185,6 @@ impl Triple {
         ensures { result.now ≡ triple_text self }
     {
         match self {
-            Triple::Insert => "insert",
-            Triple::Put => "put",
             Triple::Scan => "scan",
             Triple::Forget => "forget",
             Triple::Pin => "pin",
@@ -164,10 +196,7 @@ impl Triple {
         ensures { result ≡ triple_command self second third }
     {
         let (lo, hi) = (second, third);
-        let (key, value) = (second, third);
         match self {
-            Triple::Insert => Command::Write(WriteOp::Insert { key, value }),
-            Triple::Put => Command::Write(WriteOp::Put { key, value }),
             Triple::Scan => Command::Scan { lo, hi },
             Triple::Forget => Command::Forget { lo, hi },
             Triple::Pin => Command::Pin { lo, hi },
@@ -199,6 +228,8 @@ pub enum Word {
     Single(Single),
     /// A client and a number.
     Double(Double),
+    /// A client, a key and a value.
+    Valued(Valued),
     /// A client and two numbers.
     Triple(Triple),
 }
@@ -227,8 +258,8 @@ static WORDS: [Word; 27] = [
     Word::Double(Double::Delete),
     Word::Double(Double::Unpin),
     Word::Double(Double::Hold),
-    Word::Triple(Triple::Insert),
-    Word::Triple(Triple::Put),
+    Word::Valued(Valued::Insert),
+    Word::Valued(Valued::Put),
     Word::Triple(Triple::Scan),
     Word::Triple(Triple::Forget),
     Word::Triple(Triple::Pin),
@@ -247,6 +278,7 @@ impl Word {
             Word::Alone(word) => word.text(),
             Word::Single(word) => word.text(),
             Word::Double(word) => word.text(),
+            Word::Valued(word) => word.text(),
             Word::Triple(word) => word.text(),
         }
     }

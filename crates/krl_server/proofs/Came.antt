@@ -36,7 +36,7 @@ asks (Rebuilds pieces) = false
 asks (Repeats body) = false
 asks Hears = false
 asks (Lowers span keep) = false
-asks (Waits req point g) = true
+asks (Waits req point hi g) = true
 asks (Judges number op o) = false
 asks (AnswersAgain number op o) = false
 
@@ -68,13 +68,13 @@ module _ (s : Server) (m : ToServer) (sound : IsSound s) where
         repeats = λ r body served unheard n u at. inl (n, at);
         hears = λ r served n u at. inl (n, at);
         lowers = λ r span keep served n u at. inl (n, subst (In u) (if_both (λ (x : Row). x.queue ≡ (s.rows n).queue) _ _ _ refl refl) at);
-        waits = λ r req point g served new free near n u at. ⊎_elim
-            (λ (x : (n ≡ slot_of s.durable.index point) × In u (queue_with (s.rows (slot_of s.durable.index point)) (let w : Waiter = record { client = m.client; req = req; point = point; mode = g } in w))). ⊎_elim
-            (λ (e : u ≡ (let w : Waiter = record { client = m.client; req = req; point = point; mode = g } in w)). inr (refl, ap (λ w. w.client) e))
+        waits = λ r req point hi g served new free near n u at. ⊎_elim
+            (λ (x : (n ≡ slot_of s.durable.index point) × In u (queue_with (s.rows (slot_of s.durable.index point)) (let w : Waiter = record { client = m.client; req = req; point = point; hi = hi; mode = g } in w))). ⊎_elim
+            (λ (e : u ≡ (let w : Waiter = record { client = m.client; req = req; point = point; hi = hi; mode = g } in w)). inr (refl, ap (λ w. w.client) e))
             (λ (old : In u (s.rows (slot_of s.durable.index point)).queue). inl (slot_of s.durable.index point, old))
-            (in_queue_with (s.rows (slot_of s.durable.index point)) (record { client = m.client; req = req; point = point; mode = g }) u x.1))
+            (in_queue_with (s.rows (slot_of s.durable.index point)) (record { client = m.client; req = req; point = point; hi = hi; mode = g }) u x.1))
             (λ (old : In u (s.rows n).queue). inl (n, old))
-            (in_row s.rows (slot_of s.durable.index point) (with_queue (s.rows (slot_of s.durable.index point)) (queue_with (s.rows (slot_of s.durable.index point)) (record { client = m.client; req = req; point = point; mode = g }))) n u at);
+            (in_row s.rows (slot_of s.durable.index point) (with_queue (s.rows (slot_of s.durable.index point)) (queue_with (s.rows (slot_of s.durable.index point)) (record { client = m.client; req = req; point = point; hi = hi; mode = g }))) n u at);
         judges = λ r number op o served under near new is n u at. let x = writes t m.client op o in
             inl (came_written op o served.from.client under is n u (subst (λ rows. In u (rows n).queue) (pushes_rows x m.client (push.Answer number o (holding x (slot_of x.durable.index (op_key op)) m.client))) at));
         answers_again = λ r number op o served under some last is n u at.

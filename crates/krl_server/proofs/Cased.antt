@@ -2,8 +2,8 @@
 use Rattle.std.proofs.Common.{◌≡◌, ℕ, suc, ◌≤◌, ◌<◌, true, false, not, ◌&&◌, ◌||◌, Option, Some, None, refl, sym, subst, arith}
 use Rattle.std.proofs.Common.{nat_eq, eqb-true, ltb-true, ltb-false}
 use Rattle.std.proofs.lemmas.Bool.{eqb-false}
-use Rattle.std.specs.Prelude.{nat_lt}
-use Rattle.krl_modes.specs.declared.point.TheConstants.{END}
+use Rattle.std.specs.Prelude.{nat_lt, nat_le}
+use Rattle.krl_modes.specs.declared.point.TheConstants.{END, TOP}
 use Rattle.krl_modes.specs.declared.mode.Mode.{Mode}
 use Rattle.krl_modes.specs.Spans.{Bounds}
 use Rattle.krl_messages.specs.declared.pieces.Pieces.{Pieces}
@@ -22,7 +22,7 @@ use Rattle.krl_messages.specs.Writes.{op_key}
 use Rattle.krl_table.specs.Rows.{most_clients, waits}
 use Rattle.krl_table.specs.Reports.{conflicts}
 use Rattle.krl_server.specs.Servers.{Server, is_gathering, lists, incarnation_or_0}
-use Rattle.krl_server.specs.Cases.{Case, Ignored, Registers, Leaves, Tells, Alarms, Rebuilds, Repeats, Hears, Lowers, Waits, Judges, AnswersAgain, judged, case_of_last, is_bad_write, case_of_write, case_of_request, case_of_late, case_of_seen, case_of_report, case_of_body, case_of_newer, case_of_record, is_strange, case_of}
+use Rattle.krl_server.specs.Cases.{Case, Ignored, Registers, Leaves, Tells, Alarms, Rebuilds, Repeats, Hears, Lowers, Waits, Judges, AnswersAgain, judged, case_of_last, is_bad_write, case_of_write, is_reach, case_of_request, case_of_late, case_of_seen, case_of_report, case_of_body, case_of_newer, case_of_record, is_strange, case_of}
 use Rattle.krl_server.proofs.Tests.{and_true, or_false, not_true, not_false, if_case}
 
 -- the message is the registered incarnation's, which has not left
@@ -56,7 +56,7 @@ pub record EachSaid (s : Server) (m : ToServer) (P : Case → Type 0) : Type 0 w
   pub repeats : (r : Record) (body : PushBody) → IsServed s m r → (s.lines m.client).unheard ≡ Some body → P (Repeats body)
   pub hears : (r : Record) (request : Request) (b : RequestBody) → IsAsked s m r request b → P Hears
   pub lowers : (r : Record) (request : Request) (span : Bounds) (keep : Mode) → IsAsked s m r request (asked.Release span keep) → P (Lowers span keep)
-  pub waits : (r : Record) (request : Request) (req point : ℕ) (g : Mode) → IsAsked s m r request (asked.Lock req point g) → req ≡ suc (s.lines m.client).asked → waits s.durable.index s.rows m.client ≡ false → point ≤ END → P (Waits req point g)
+  pub waits : (r : Record) (request : Request) (req point hi : ℕ) (g : Mode) → IsAsked s m r request (asked.Lock req point hi g) → req ≡ suc (s.lines m.client).asked → waits s.durable.index s.rows m.client ≡ false → point ≤ END → P (Waits req point hi g)
   pub judges : (r : Record) (request : Request) (number : ℕ) (op : WriteOp) (o : Outcome) → IsAsked s m r request (asked.Write number op) → op_key op < END → number ≤ END → number ≡ suc r.last → judged s m.client op ≡ o → P (Judges number op o)
   pub answers_again : (r : Record) (request : Request) (number : ℕ) (op : WriteOp) (o : Outcome) → IsAsked s m r request (asked.Write number op) → op_key op < END → 1 ≤ number → number ≡ r.last → r.outcome ≡ Some o → P (AnswersAgain number op o)
 
@@ -93,12 +93,13 @@ module _ (s : Server) (m : ToServer) (P : Case → Type 0) (each : EachSaid s m 
           (λ old. if_case P (nat_eq number r.last) _ Hears (λ last. of_last number op r.outcome a under (omega (arith, ne)) (eqb-true number r.last last) refl) (λ other. each.hears r request (asked.Write number op) a)))
 
       of_request : (b : RequestBody) → IsAsked s m r request b → P (case_of_request s m.client r b)
-      of_request (asked.Lock req point g) a = if_case P (nat_eq req (suc (s.lines m.client).asked) && (not (waits s.durable.index s.rows m.client) && not (nat_lt END point))) (Waits req point g) Hears
+      of_request (asked.Lock req point hi g) a = if_case P (nat_eq req (suc (s.lines m.client).asked) && (not (waits s.durable.index s.rows m.client) && is_reach point hi)) (Waits req point hi g) Hears
           (λ yes.
-          let x = and_true (nat_eq req (suc (s.lines m.client).asked)) (not (waits s.durable.index s.rows m.client) && not (nat_lt END point)) yes in
-          let y = and_true (not (waits s.durable.index s.rows m.client)) (not (nat_lt END point)) x.1 in
-          each.waits r request req point g a (eqb-true req (suc (s.lines m.client).asked) x.0) (not_true (waits s.durable.index s.rows m.client) y.0) (ltb-false END point (not_true (nat_lt END point) y.1)))
-          (λ no. each.hears r request (asked.Lock req point g) a)
+          let x = and_true (nat_eq req (suc (s.lines m.client).asked)) (not (waits s.durable.index s.rows m.client) && is_reach point hi) yes in
+          let y = and_true (not (waits s.durable.index s.rows m.client)) (is_reach point hi) x.1 in
+          let z = and_true (not (nat_lt END point)) (nat_lt point hi && nat_le hi TOP) y.1 in
+          each.waits r request req point hi g a (eqb-true req (suc (s.lines m.client).asked) x.0) (not_true (waits s.durable.index s.rows m.client) y.0) (ltb-false END point (not_true (nat_lt END point) z.0)))
+          (λ no. each.hears r request (asked.Lock req point hi g) a)
       of_request (asked.Write number op) a = of_write number op a
       of_request (asked.Release span keep) a = each.lowers r request span keep a
       of_request asked.Ack a = each.hears r request asked.Ack a
@@ -148,7 +149,7 @@ pub record EachCase (s : Server) (m : ToServer) (P : Case → Type 0) : Type 0 w
   pub repeats : (r : Record) (body : PushBody) → IsServed s m r → (s.lines m.client).unheard ≡ Some body → P (Repeats body)
   pub hears : (r : Record) → IsServed s m r → P Hears
   pub lowers : (r : Record) (span : Bounds) (keep : Mode) → IsServed s m r → P (Lowers span keep)
-  pub waits : (r : Record) (req point : ℕ) (g : Mode) → IsServed s m r → req ≡ suc (s.lines m.client).asked → waits s.durable.index s.rows m.client ≡ false → point ≤ END → P (Waits req point g)
+  pub waits : (r : Record) (req point hi : ℕ) (g : Mode) → IsServed s m r → req ≡ suc (s.lines m.client).asked → waits s.durable.index s.rows m.client ≡ false → point ≤ END → P (Waits req point hi g)
   pub judges : (r : Record) (number : ℕ) (op : WriteOp) (o : Outcome) → IsServed s m r → op_key op < END → number ≤ END → number ≡ suc r.last → judged s m.client op ≡ o → P (Judges number op o)
   pub answers_again : (r : Record) (number : ℕ) (op : WriteOp) (o : Outcome) → IsServed s m r → op_key op < END → 1 ≤ number → number ≡ r.last → r.outcome ≡ Some o → P (AnswersAgain number op o)
 
@@ -164,7 +165,7 @@ by_case s m P each = by_said s m P
       repeats = each.repeats;
       hears = λ r request b a. each.hears r a.served;
       lowers = λ r request span keep a. each.lowers r span keep a.served;
-      waits = λ r request req point g a new free near. each.waits r req point g a.served new free near;
+      waits = λ r request req point hi g a new free near. each.waits r req point hi g a.served new free near;
       judges = λ r request number op o a under near new is. each.judges r number op o a.served under near new is;
       answers_again = λ r request number op o a under some last is. each.answers_again r number op o a.served under some last is;
     })

@@ -21,7 +21,7 @@ use Rattle.krl_server.specs.Effects.{silent, epoch_to, departs}
 use Rattle.krl_server.specs.Shows.{WasSent, IsRecord, LinkIs, IsHeardOf, Shows, machine_phase, view_of, view}
 use Rattle.krl_server.specs.Follows.{BoundStays}
 use Rattle.krl_server.proofs.Meaning.{same_range, same_key, blank_range, blank_key, mode_here, mode_other, line_here, line_other, record_here, record_other}
-use Rattle.krl_server.proofs.Follows.{Goes, at_put, put_bound, one_out, up_phase, reg_is}
+use Rattle.krl_server.proofs.Follows.{Goes, at_put, put_bound, one_out, up_phase, reg_is, not_truth}
 use Rattle.krl_server.proofs.Gathering.{regroup, unlist_here, unlist_other}
 
 -- who waits after the waiters of c are taken away
@@ -62,7 +62,7 @@ registers_follow s of log cleared' c inc this others at lt h =
     (at_put (λ d y. LinkIs (view_of t.durable (machine_phase s.missing)) (record_of t.durable.register d) (lists t.missing d) (t.lines d) (range_at m t.rows d) (key_at m t.rows d) y) of c l
     (subst (λ y. LinkIs (view s) (record_of t.durable.register c) (lists t.missing c) y (range_at m t.rows c) (key_at m t.rows c) l) (sym (line_here s.lines c blank_line))
     (record {
-      known = subst (λ o. IsRecord o l) (sym (record_here s.durable.register c x)) (record { reg = refl; left = refl; done = refl; applied = λ o e. absurd (no_none o e) });
+      known = subst (λ o. IsRecord o l) (sym (record_here s.durable.register c x)) (record { reg = refl; left = refl; done = λ n. refl; applied = λ o n e. absurd (no_none o e) });
       missing = sym (unlist_here s.missing c);
       pushed = refl;
       acked = refl;
@@ -94,7 +94,7 @@ leaves_follow s of log cleared' c inc r this others known at same h =
     (put_bound of c l cleared' (bound_blank (cleared' c) (of c) l this refl refl) others)
     (at_put (λ d y. LinkIs (view_of t.durable (machine_phase s.missing)) (record_of t.durable.register d) (lists t.missing d) (t.lines d) (range_at m t.rows d) (key_at m t.rows d) y) of c l
     (record {
-      known = subst (λ o. IsRecord o l) (sym (record_here s.durable.register c x)) (record { reg = old.reg; left = refl; done = old.done; applied = old.applied });
+      known = subst (λ o. IsRecord o l) (sym (record_here s.durable.register c x)) (record { reg = old.reg; left = refl; done = λ n. absurd (not_truth true n refl); applied = λ o n e. absurd (not_truth true n refl) });
       missing = sym (unlist_here s.missing c);
       pushed = k.pushed;
       acked = k.acked;

@@ -62,7 +62,7 @@ CaseFacts s m (Rebuilds pieces) = m.client < 64
 CaseFacts s m (Repeats body) = m.client < 64
 CaseFacts s m Hears = m.client < 64
 CaseFacts s m (Lowers span keep) = m.client < 64
-CaseFacts s m (Waits req point g) = MayWait s m
+CaseFacts s m (Waits req point hi g) = MayWait s m
 CaseFacts s m (Judges number op o) = MayWrite s m op
 CaseFacts s m (AnswersAgain number op o) = MayAnswer m op
 
@@ -88,7 +88,7 @@ module _ (s : Server) (m : ToServer) where
         repeats = λ r body served unheard. low served.from.client;
         hears = λ r request b a. low a.served.from.client;
         lowers = λ r request span keep a. low a.served.from.client;
-        waits = λ r request req point g a new free near. record { client = low a.served.from.client; free = free };
+        waits = λ r request req point hi g a new free near. record { client = low a.served.from.client; free = free };
         judges = λ r request number op o a under near new is. record { client = low a.served.from.client; key = under; unspent = noted_at (record_of s.durable.register m.client) r a.served.from.known (omega (arith, near, new)) };
         answers_again = λ r request number op o a under some last is. record { client = low a.served.from.client; key = under };
       })

@@ -125,7 +125,7 @@ reg_is (Some r) l h = h.reg
 -- what stays of a record where the link's durable part does
 pub record_kept : (o : Option Record) (l m : Link) → m.reg ≡ l.reg → m.left ≡ l.left → m.done ≡ l.done → m.applied ≡ l.applied → IsRecord o l → IsRecord o m
 record_kept None l m a b c d h = record { reg = a ∙ h.reg; left = b ∙ h.left; done = c ∙ h.done }
-record_kept (Some r) l m a b c d h = record { reg = a ∙ h.reg; left = b ∙ h.left; done = c ∙ h.done; applied = λ o e. d ∙ h.applied o e }
+record_kept (Some r) l m a b c d h = record { reg = a ∙ h.reg; left = b ∙ h.left; done = λ n. c ∙ h.done n; applied = λ o n e. d ∙ h.applied o n e }
 
 pub line_rest : (s : Server) (c : ℕ) (x : Line) (d : ℕ) (l : Link) → d ≢ c → LinkShows s d l → LinkShows (with_line s c x) d l
 line_rest s c x d l ne h = subst (λ y. LinkIs (view s) (record_of s.durable.register d) (lists s.missing d) y (range_at s.durable.index s.rows d) (key_at s.durable.index s.rows d) l) (sym (line_other s.lines c d x ne)) h

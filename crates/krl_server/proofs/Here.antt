@@ -12,7 +12,8 @@ use Rattle.krl_durable.specs.Index.{slot_of}
 use Rattle.krl_durable.specs.Registers.{Register, Durable, with_record, new_record, left_by}
 use Rattle.krl_durable.specs.Writes.{noted, applied_by}
 use Rattle.krl_table.specs.Rows.{Row, Rows, set_row}
-use Rattle.krl_table.specs.Calls.{with_queue, grant_first, granted, behind_first, dropped, cleared}
+use Rattle.krl_table.specs.Calls.{with_queue, grant_first, behind_first, dropped, cleared}
+use Rattle.krl_table.specs.Grants.{taken, granted}
 use Rattle.krl_table.specs.Replies.{asks_absent}
 use Rattle.krl_server.specs.Servers.{Server}
 use Rattle.krl_server.specs.Cases.{Case, Rebuilds, Lowers, Waits, Judges, AnswersAgain, case_of}
@@ -25,6 +26,7 @@ use Rattle.krl_server.specs.Within.{IsHere, AreHere}
 use Rattle.krl_server.proofs.Meaning.{record_here, record_other}
 use Rattle.krl_server.proofs.Tests.{if_both}
 use Rattle.krl_server.proofs.Cased.{IsFrom, by_case}
+use Rattle.krl_server.proofs.Grants.{granted_queue}
 use Rattle.krl_server.proofs.Turns.{in_row}
 use Rattle.krl_server.proofs.Ends.{pushes_rows, pushes_durable, turn_durable}
 use Rattle.krl_server.proofs.Comings.{in_unqueue}
@@ -65,7 +67,7 @@ turn_came s t m u = if_both (λ (x : Done). In u (x.server.rows m).queue → In 
     (subst (λ (r : Rows). In u (r m).queue) (pushes_rows (effects.with_rows s (dropped s.rows t.slot)) t.waiter.client _) at))
     (λ at. row_came s.rows t.slot (grant_first (s.rows t.slot) (s.rows t.slot).queue)
     (λ v x. ⊎_elim (λ (y : In v (s.rows t.slot).queue). y) (λ (y : In v (s.rows t.slot).queue). y) (granted_in (s.rows t.slot) (s.rows t.slot).queue v x)) m u
-    (subst (λ (r : Rows). In u (r m).queue) (pushes_rows (effects.with_rows s (granted s.rows t.slot)) t.waiter.client _) at))
+    (subst (In u) (granted_queue s.durable.index s.rows t.slot m) (subst (λ (r : Rows). In u (r m).queue) (pushes_rows (effects.with_rows s (granted s.durable.index s.rows t.slot)) t.waiter.client _) at)))
 
 turn_here : (s : Server) (t : Turn) → AreHere s → AreHere (take_turn s t).server
 turn_here s t h n u at = subst (λ (d : Durable). IsHere d.register u.client) (sym (turn_durable s t)) (h n u (turn_came s t n u at))
@@ -101,7 +103,7 @@ module _ (s : Server) (m : ToServer) (h : AreHere s) where
         repeats = λ r body served unheard came. h;
         hears = λ r served came. h;
         lowers = λ r span keep served. same_here (Lowers span keep) r served.from refl;
-        waits = λ r req point g served new free near. same_here (Waits req point g) r served.from refl;
+        waits = λ r req point hi g served new free near. same_here (Waits req point hi g) r served.from refl;
         judges = λ r number op o served under near new is came n u at. let x = effects.writes t m.client op o in
             subst (λ (d : Durable). IsHere d.register u.client) (sym (pushes_durable x m.client (push.Answer number o (effects.holding x (slot_of x.durable.index (op_key op)) m.client))))
             (subst (λ y. IsHere (applied_by s.durable m.client op o y).register u.client) (sym served.from.known)

@@ -24,7 +24,7 @@ use Rattle.krl_durable.specs.Index.{slot_of}
 use Rattle.krl_messages.specs.Writes.{op_key}
 use Rattle.krl_table.specs.Rows.{column, mode_at}
 use Rattle.krl_server.specs.Servers.{Server}
-use Rattle.krl_server.specs.Effects.{shown, holding, heard, answers}
+use Rattle.krl_server.specs.Effects.{shown, holding, holdings, heard, answers}
 use Rattle.krl_server.specs.Shows.{op_of, is_applied, LinkShows, Shows, view, IsSound}
 use Rattle.krl_server.proofs.Slots.{slot_here, slot_high, span_here}
 use Rattle.krl_server.proofs.Meaning.{range_is, key_is, line_here}
@@ -43,10 +43,6 @@ entry_shown o key.N h = absurd (omega (arith, h))
 entry_shown o key.S h = refl
 entry_shown o key.U h = refl
 entry_shown o key.X h = refl
-
-abbrev holdings : Server → ℕ → List ℕ → List Holding
-holdings s c [] = []
-holdings s c (n ∷ ns) = holding s n c ∷ holdings s c ns
 
 -- what the client holds on slots is what a push may say
 module _ (s : Server) (i : IsSound s) (c : ℕ) (l : Link) (k : LinkShows s c l) (serving : (view s).phase ≡ links.Serving) where

@@ -17,7 +17,8 @@ use Rattle.krl_durable.specs.Registers.{Durable, Register, record_of, with_recor
 use Rattle.krl_messages.specs.Writes.{op_key}
 use Rattle.krl_durable.specs.Writes.{noted, applied_by}
 use Rattle.krl_table.specs.Rows.{blank_rows, most_clients}
-use Rattle.krl_table.specs.Calls.{cleared, dropped, granted, behind_first}
+use Rattle.krl_table.specs.Calls.{cleared, dropped, behind_first}
+use Rattle.krl_table.specs.Grants.{taken, granted}
 use Rattle.krl_table.specs.Replies.{asks_absent, can_have}
 use Rattle.krl_table.specs.Sound.{IsTable}
 use Rattle.krl_server.specs.Servers.{Server, is_gathering}
@@ -74,7 +75,7 @@ effect_outcomes s m h = let t = heard s m.client in
       repeats = λ r body served unheard. h;
       hears = λ r served. h;
       lowers = λ r span keep served. h;
-      waits = λ r req point g served new free near. h;
+      waits = λ r req point hi g served new free near. h;
       judges = λ r number op o served under near new is. let u = effects.writes t m.client op o in
           subst (λ d. HasOutcomes d.register) (sym (pushes_durable u m.client (push.Answer number o (effects.holding u (slot_of u.durable.index (op_key op)) m.client))))
           (subst (λ x. HasOutcomes (applied_by s.durable m.client op o x).register) (sym served.from.known) (effect_of_write s.durable.register m.client o r h));
@@ -122,7 +123,7 @@ effect_kept s m i k = let t = heard s m.client in
       repeats = λ r body served unheard. k;
       hears = λ r served. k;
       lowers = λ r span keep served. lowered_kept s.durable.index s.rows m.client span keep served.from.client k;
-      waits = λ r req point g served new free near. enqueued_kept s.durable.index s.rows (record { client = m.client; req = req; point = point; mode = g }) i.near served.from.client near free k;
+      waits = λ r req point hi g served new free near. enqueued_kept s.durable.index s.rows (record { client = m.client; req = req; point = point; hi = hi; mode = g }) i.near served.from.client near free k;
       judges = λ r number op o served under near new is. let u = effects.writes t m.client op o in
           pushes_kept u m.client (push.Answer number o (effects.holding u (slot_of u.durable.index (op_key op)) m.client)) (write_kept s m.client op o r i served.from.client under served.from.known is k);
       answers_again = λ r number op o served under some last is. pushes_kept t m.client (push.Answer number o (effects.holding t (slot_of t.durable.index (op_key op)) m.client)) k;
@@ -132,8 +133,8 @@ pub turn_kept : (s : Server) (t : Turn) → next_turn s ≡ Some t → ServerKep
 turn_kept s t e k = let x = turn_is s t e in
     if_case (λ (y : Done). ServerKept y.server) (asks_absent s.durable.index t.waiter) (tells_absent s t) (grants s t)
     (λ f. pushes_kept (effects.with_rows s (dropped s.rows t.slot)) t.waiter.client (push.Absent t.waiter.req t.waiter.point) (dropped_kept s.durable.index s.rows t.slot t.waiter (behind_first (s.rows t.slot).queue) k x.first))
-    (λ f. let u = effects.with_rows s (granted s.rows t.slot) in
-    pushes_kept u t.waiter.client (push.Grant t.waiter.req (effects.holding u t.slot t.waiter.client))
+    (λ f. let u = effects.with_rows s (granted s.durable.index s.rows t.slot) in
+    pushes_kept u t.waiter.client (push.Grant t.waiter.req (effects.holdings u t.waiter.client (taken s.durable.index s.rows t.slot)))
     (granted_kept s.durable.index s.rows t.slot t.waiter (behind_first (s.rows t.slot).queue) k x.first (or_true (asks_absent s.durable.index t.waiter) (can_have s.rows t.slot t.waiter) (and_true (can_push (s.lines t.waiter.client)) _ x.answerable).1 f)))
 
 pub answered_kept : (s t : Server) (outs : List ToClient) → Answered s t outs → ServerKept s → ServerKept t
@@ -174,7 +175,7 @@ idle_same s m (Rebuilds pieces) e = absurd (cc)
 idle_same s m (Repeats body) e = refl
 idle_same s m Hears e = absurd (cc)
 idle_same s m (Lowers span keep) e = absurd (cc)
-idle_same s m (Waits req point g) e = absurd (cc)
+idle_same s m (Waits req point hi g) e = absurd (cc)
 idle_same s m (Judges number op o) e = absurd (cc)
 idle_same s m (AnswersAgain number op o) e = absurd (cc)
 

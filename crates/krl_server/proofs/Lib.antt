@@ -7,6 +7,7 @@ pub mod Judged
 pub mod Refused
 pub mod Gathering
 pub mod Tests
+pub mod Grants
 pub mod Turns
 pub mod Served
 pub mod Waiting

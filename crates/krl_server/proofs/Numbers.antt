@@ -117,7 +117,7 @@ effect_few s m (Rebuilds pieces) = omega arith
 effect_few s m (Repeats body) = omega arith
 effect_few s m Hears = omega arith
 effect_few s m (Lowers span keep) = omega arith
-effect_few s m (Waits req point g) = omega arith
+effect_few s m (Waits req point hi g) = omega arith
 effect_few s m (Judges number op o) = answers_few (writes (heard s m.client) m.client op o) m.client number op o
 effect_few s m (AnswersAgain number op o) = answers_few (heard s m.client) m.client number op o
 

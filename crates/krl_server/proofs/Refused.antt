@@ -32,7 +32,7 @@ applied_is d c op o r e = ap (applied_by d c op o) e
 pub noted_known : (es : Register) (c : ℕ) (o : Outcome) (r : Record) (l m : Link) → IsRecord (Some r) l → m.reg ≡ l.reg → m.left ≡ l.left → m.done ≡ suc l.done → m.applied ≡ is_applied o → IsRecord (record_of (with_record es c (noted r o)) c) m
 noted_known es c o r l m k reg left done applied =
     subst (λ x. IsRecord x m) (sym (record_here es c (noted r o)))
-    (record { reg = reg ∙ k.reg; left = left ∙ k.left; done = done ∙ ap (λ x. suc x) k.done; applied = λ p e. applied ∙ ap is_applied (some_same o p e) })
+    (record { reg = reg ∙ k.reg; left = left ∙ k.left; done = λ n. done ∙ ap (λ x. suc x) (k.done n); applied = λ p n e. applied ∙ ap is_applied (some_same o p e) })
 
 -- the records of the others
 pub noted_rest : (s : Shared) (es : Register) (c : ℕ) (x : Record) (d : ℕ) (b : Bool) (line : Line) (r : ℕ → Rattle.krl_modes.specs.declared.part.RangePart.RangePart) (k : ℕ → Rattle.krl_modes.specs.declared.part.KeyPart.KeyPart) (l : Link) → d ≢ c → LinkIs s (record_of es d) b line r k l → LinkIs s (record_of (with_record es c x) d) b line r k l
@@ -74,7 +74,7 @@ refused s of log cleared c a number op o r known not i at head ok num under h =
     let w : Write = record { head = a; number = number; op = op_of op } in
     let ch = put_changed of c l in
     let passed : Passes (view s) l1 a = record { serving = ok.serving; here = ok.here; inc = ok.inc; epoch = ok.epoch; seen = ok.seen } in
-    let next_one : number ≡ suc (of c).done = num ∙ ap (λ x. suc x) (sym old.done) in
+    let next_one : number ≡ suc (of c).done = num ∙ ap (λ x. suc x) (sym (old.done (sym old.left ∙ ok.here))) in
     subst (λ x. Goes s of log cleared (answers x c number op o) log) (refusal_is (heard s c) c op o r known not)
     (steps_then s t of (put of c l) log log log cleared _ (pushes_serve t c _ (not_gathering s.missing ok.serving)) (put_client of c l refl)
     (link_steps (view s) log c (of c) l of (put of c l) refl (next (takes_head a head ok) (next (refuses w at passed refl next_one) idle)) ch)

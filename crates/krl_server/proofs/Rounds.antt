@@ -17,12 +17,13 @@ use Rattle.krl_protocol.proofs.Worlds.{eq_cases}
 use Rattle.krl_protocol.proofs.Points.{no_none}
 use Rattle.krl_durable.specs.Index.{Index, slots, is_slot}
 use Rattle.krl_table.specs.Rows.{Row, all_below, most_clients}
-use Rattle.krl_table.specs.Calls.{wanted, with_queue, grant_first, granted, behind_first, dropped}
+use Rattle.krl_table.specs.Calls.{wanted, with_queue, grant_first, behind_first, dropped}
+use Rattle.krl_table.specs.Grants.{taken, granted}
 use Rattle.krl_table.specs.Replies.{asks_absent, can_have}
 use Rattle.krl_table.specs.Sound.{IsTable}
 use Rattle.krl_server.specs.declared.line.Line.{Line}
 use Rattle.krl_server.specs.Servers.{Server, set_line}
-use Rattle.krl_server.specs.Effects.{Done, with_line, with_rows, push_to, pushes, silent, holding}
+use Rattle.krl_server.specs.Effects.{Done, with_line, with_rows, push_to, pushes, silent, holding, holdings}
 use Rattle.krl_server.specs.Answering.{Turn, can_push, is_answerable, turn_at, turn_among, next_turn, tells_absent, grants, take_turn, Answered, goes_on, stops}
 use Rattle.krl_table.specs.Kept.{IsOver}
 use Rattle.krl_server.specs.declared.state.State.{State}
@@ -36,6 +37,7 @@ use Rattle.krl_server.proofs.Counted.{above_all, keys_under}
 use Rattle.krl_server.proofs.Tabled.{slots_have}
 use Rattle.krl_server.proofs.Ends.{pushes_rows, turn_durable, turn_less}
 use Rattle.krl_server.proofs.Follows.{some_same}
+use Rattle.krl_server.proofs.Grants.{granted_below}
 use Rattle.krl_server.proofs.Turns.{turn_sound}
 use Rattle.krl_server.proofs.Kept.{turn_table}
 
@@ -116,7 +118,7 @@ none_past s n none e k lt = eq_cases k n (λ f. subst (λ x. turn_here s x ≡ N
 pub none_at_all : (s : Server) (from : ℕ) → NoneBelow s from → ((k : ℕ) → from ≤ k → (s.rows k).queue ≡ []) → next_turn s ≡ None
 none_at_all s from none gap = none_among s (slots s.durable.index) (λ n. ⊎_elim (λ (a : n < from). none n a) (λ (a : from ≤ n). empty_none s n (gap n a)) (cases_lt n from))
 
--- An answer makes nobody answerable at another slot
+-- An answer makes nobody answerable at a lower slot
 
 no_push : (l : Line) (body : PushBody) → l.unheard ≡ Some body → can_push l ≡ true → ⊥
 no_push l body e f = let x = ap (λ o. not (is_some o) && nat_lt l.pushed END) e in let y : false ≡ true = sym x ∙ f in absurd (cc)
@@ -133,12 +135,12 @@ pushes_can s c body d = if_both (λ (x : Done). can_push (x.server.lines d) ≡ 
 turn_can : (s : Server) (t : Turn) (d : ℕ) → can_push ((take_turn s t).server.lines d) ≡ true → can_push (s.lines d) ≡ true
 turn_can s t d = if_both (λ (x : Done). can_push (x.server.lines d) ≡ true → can_push (s.lines d) ≡ true) (asks_absent s.durable.index t.waiter) (tells_absent s t) (grants s t)
     (pushes_can (with_rows s (dropped s.rows t.slot)) t.waiter.client (push.Absent t.waiter.req t.waiter.point) d)
-    (pushes_can (with_rows s (granted s.rows t.slot)) t.waiter.client (push.Grant t.waiter.req (holding (with_rows s (granted s.rows t.slot)) t.slot t.waiter.client)) d)
+    (pushes_can (with_rows s (granted s.durable.index s.rows t.slot)) t.waiter.client (push.Grant t.waiter.req (holdings (with_rows s (granted s.durable.index s.rows t.slot)) t.waiter.client (taken s.durable.index s.rows t.slot))) d)
 
-turn_row : (s : Server) (t : Turn) (k : ℕ) → k ≢ t.slot → (take_turn s t).server.rows k ≡ s.rows k
-turn_row s t k ne = if_both (λ (x : Done). x.server.rows k ≡ s.rows k) (asks_absent s.durable.index t.waiter) (tells_absent s t) (grants s t)
-    (ap (λ r. r k) (pushes_rows (with_rows s (dropped s.rows t.slot)) t.waiter.client (push.Absent t.waiter.req t.waiter.point)) ∙ row_other s.rows t.slot (with_queue (s.rows t.slot) (behind_first (s.rows t.slot).queue)) k ne)
-    (ap (λ r. r k) (pushes_rows (with_rows s (granted s.rows t.slot)) t.waiter.client (push.Grant t.waiter.req (holding (with_rows s (granted s.rows t.slot)) t.slot t.waiter.client))) ∙ row_other s.rows t.slot (grant_first (s.rows t.slot) (s.rows t.slot).queue) k ne)
+turn_row : (s : Server) (t : Turn) (k : ℕ) → k < t.slot → (take_turn s t).server.rows k ≡ s.rows k
+turn_row s t k lt = if_both (λ (x : Done). x.server.rows k ≡ s.rows k) (asks_absent s.durable.index t.waiter) (tells_absent s t) (grants s t)
+    (ap (λ r. r k) (pushes_rows (with_rows s (dropped s.rows t.slot)) t.waiter.client (push.Absent t.waiter.req t.waiter.point)) ∙ row_other s.rows t.slot (with_queue (s.rows t.slot) (behind_first (s.rows t.slot).queue)) k (λ e. omega (arith, e, lt)))
+    (ap (λ r. r k) (pushes_rows (with_rows s (granted s.durable.index s.rows t.slot)) t.waiter.client (push.Grant t.waiter.req (holdings (with_rows s (granted s.durable.index s.rows t.slot)) t.waiter.client (taken s.durable.index s.rows t.slot)))) ∙ granted_below s.durable.index s.rows t.slot k lt)
 
 module _ (s u : Server) (k : ℕ) (index : u.durable ≡ s.durable) (row : u.rows k ≡ s.rows k) (can : (c : ℕ) → can_push (u.lines c) ≡ true → can_push (s.lines c) ≡ true) where
   same_has : (v : Waiter) → (asks_absent u.durable.index v || can_have u.rows k v) ≡ (asks_absent s.durable.index v || can_have s.rows k v)
@@ -163,7 +165,7 @@ module _ (s u : Server) (k : ℕ) (index : u.durable ≡ s.durable) (row : u.row
   still_none e = ap (λ r. turn_at u k r.queue None) row ∙ by_queue (s.rows k).queue e
 
 pub none_after : (s : Server) (t : Turn) → NoneBelow s t.slot → NoneBelow (take_turn s t).server t.slot
-none_after s t none k lt = still_none s (take_turn s t).server k (turn_durable s t) (turn_row s t k (λ e. omega (arith, e, lt))) (turn_can s t) (none k lt)
+none_after s t none k lt = still_none s (take_turn s t).server k (turn_durable s t) (turn_row s t k lt) (turn_can s t) (none k lt)
 
 -- One round of the walk
 

@@ -16,7 +16,8 @@ use Rattle.krl_messages.specs.Writes.{op_key}
 use Rattle.krl_protocol.specs.Links.{In}
 use Rattle.krl_durable.specs.Index.{slot_of}
 use Rattle.krl_durable.specs.Registers.{Durable, record_of}
-use Rattle.krl_table.specs.Calls.{granted, dropped}
+use Rattle.krl_table.specs.Calls.{dropped}
+use Rattle.krl_table.specs.Grants.{taken, granted}
 use Rattle.krl_table.specs.Replies.{asks_absent}
 use Rattle.krl_server.specs.declared.state.State.{State}
 use Rattle.krl_server.specs.declared.out.ServerOut.{ServerOut}
@@ -24,7 +25,7 @@ use Rattle.krl_server.specs.Servers.{Server, is_gathering, incarnation_or_0}
 use Rattle.krl_server.specs.States.{meaning}
 use Rattle.krl_server.specs.Cases.{Case, Ignored, Registers, Leaves, Tells, Alarms, Rebuilds, Repeats, Hears, Lowers, Waits, Judges, AnswersAgain, case_of}
 use Rattle.krl_server.specs.Effects as effects
-use Rattle.krl_server.specs.Effects.{Done, holding, heard, push_to, pushes, effect}
+use Rattle.krl_server.specs.Effects.{Done, holding, holdings, heard, push_to, pushes, effect}
 use Rattle.krl_server.specs.Answering.{Turn, take_turn, tells_absent, grants, Answered, stops, goes_on}
 use Rattle.krl_server.specs.Steps.{Kind, Idle, Quiet, Acts, kind_of, calls_of, Ends, at_once, gathers, serves, ServerStep}
 use Rattle.krl_server.specs.Says.{changes_durable, is_new_write, may_change, may_change_durable, is_callback, IsCallback, HasCallbacks, is_answer, answered_write, IsAnswered, AnswersWrite}
@@ -52,7 +53,7 @@ changes_said s m = by_said s m (λ k. may_change_durable s m ≡ false → chang
       repeats = λ r body served unheard no. refl;
       hears = λ r request b a no. refl;
       lowers = λ r request span keep a no. refl;
-      waits = λ r request req point g a new free near no. refl;
+      waits = λ r request req point hi g a new free near no. refl;
       judges = λ r request number op o a under near new is no. absurd (not_truth (may_change_durable s m) no
           (ap (λ x. may_change x m.body) a.served.from.known
           ∙ ap (may_change (Some r)) a.said
@@ -82,12 +83,12 @@ module _ (f : ToClientBody → Bool) where
   none_pushed : (s : Server) (c : ℕ) (body : PushBody) → ((epoch number : ℕ) → f (told.Push epoch number body) ≡ false) → NoneIs f (pushes s c body).outs
   none_pushed s c body h = if_both (λ (x : Done). NoneIs f x.outs) (nat_lt (s.lines c).pushed END) _ _ (one_is _ (h s.durable.epoch (suc (s.lines c).pushed))) (λ o at. absurd at)
 
-  module _ (grant : (epoch number req : ℕ) (h : Holding) → f (told.Push epoch number (push.Grant req h)) ≡ false) (absent : (epoch number req point : ℕ) → f (told.Push epoch number (push.Absent req point)) ≡ false) where
+  module _ (grant : (epoch number req : ℕ) (hs : List Holding) → f (told.Push epoch number (push.Grant req hs)) ≡ false) (absent : (epoch number req point : ℕ) → f (told.Push epoch number (push.Absent req point)) ≡ false) where
     none_turned : (s : Server) (t : Turn) → NoneIs f (take_turn s t).outs
     none_turned s t = if_both (λ (x : Done). NoneIs f x.outs) (asks_absent s.durable.index t.waiter) (tells_absent s t) (grants s t)
         (none_pushed (effects.with_rows s (dropped s.rows t.slot)) t.waiter.client (push.Absent t.waiter.req t.waiter.point) (λ epoch number. absent epoch number t.waiter.req t.waiter.point))
-        (let g = effects.with_rows s (granted s.rows t.slot) in
-        none_pushed g t.waiter.client (push.Grant t.waiter.req (holding g t.slot t.waiter.client)) (λ epoch number. grant epoch number t.waiter.req (holding g t.slot t.waiter.client)))
+        (let g = effects.with_rows s (granted s.durable.index s.rows t.slot) in
+        none_pushed g t.waiter.client (push.Grant t.waiter.req (holdings g t.waiter.client (taken s.durable.index s.rows t.slot))) (λ epoch number. grant epoch number t.waiter.req (holdings g t.waiter.client (taken s.durable.index s.rows t.slot))))
 
     none_answered : (s t : Server) (outs : List ToClient) → Answered s t outs → NoneIs f outs
     none_answered s t outs (stops s' e) = λ o at. absurd at
@@ -112,7 +113,7 @@ no_own_calls s m (Rebuilds pieces) = λ o at. absurd at
 no_own_calls s m (Repeats body) = one_is is_callback _ refl
 no_own_calls s m Hears = λ o at. absurd at
 no_own_calls s m (Lowers span keep) = λ o at. absurd at
-no_own_calls s m (Waits req point g) = λ o at. absurd at
+no_own_calls s m (Waits req point hi g) = λ o at. absurd at
 no_own_calls s m (Judges number op o) = let t = effects.writes (heard s m.client) m.client op o in none_pushed is_callback t m.client (push.Answer number o (holding t (slot_of t.durable.index (op_key op)) m.client)) (λ epoch number. refl)
 no_own_calls s m (AnswersAgain number op o) = let t = heard s m.client in none_pushed is_callback t m.client (push.Answer number o (holding t (slot_of t.durable.index (op_key op)) m.client)) (λ epoch number. refl)
 
@@ -216,7 +217,7 @@ answers_of s t m outs (Rebuilds pieces) ends = tt
 answers_of s t m outs (Repeats body) ends = tt
 answers_of s t m outs Hears ends = tt
 answers_of s t m outs (Lowers span keep) ends = tt
-answers_of s t m outs (Waits req point g) ends = tt
+answers_of s t m outs (Waits req point hi g) ends = tt
 answers_of s t m outs (Judges number op o) ends =
     let x = effects.writes (heard s m.client) m.client op o in
     answered_so s x m.client number o (holding x (slot_of x.durable.index (op_key op)) m.client) (heard_pushed s m.client) Acts t outs ends

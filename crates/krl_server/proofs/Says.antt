@@ -16,12 +16,13 @@ use Rattle.krl_protocol.proofs.Worlds.{eq_cases}
 use Rattle.krl_durable.specs.Index.{slot_of, span_of, slots}
 use Rattle.krl_messages.specs.Writes.{op_key}
 use Rattle.krl_table.specs.Rows.{most_clients, mode_at, front_of}
-use Rattle.krl_table.specs.Calls.{wanted, granted, dropped}
+use Rattle.krl_table.specs.Calls.{wanted, dropped}
+use Rattle.krl_table.specs.Grants.{taken, granted}
 use Rattle.krl_table.specs.Replies.{asks_absent, can_have}
 use Rattle.krl_server.specs.declared.line.Line.{Line}
 use Rattle.krl_server.specs.Servers.{Server}
 use Rattle.krl_server.specs.Cases.{Case, Ignored, Registers, Leaves, Tells, Alarms, Rebuilds, Repeats, Hears, Lowers, Waits, Judges, AnswersAgain, case_of}
-use Rattle.krl_server.specs.Effects.{Done, silent, with_line, with_rows, holding, heard, push_to, callback_to, pushes, effect}
+use Rattle.krl_server.specs.Effects.{Done, silent, with_line, with_rows, holding, holdings, heard, push_to, callback_to, pushes, effect}
 use Rattle.krl_server.specs.Answering.{can_push, Turn, next_turn, tells_absent, grants}
 use Rattle.krl_server.specs.Callbacks.{is_beside, callbacks_from, callbacks_for, callbacks_at, callbacks_among, callbacks}
 use Rattle.krl_server.specs.Says.{changes_durable, IsCallback, IsNextPush, ServerSays}
@@ -43,7 +44,7 @@ effect_durable s m (Rebuilds pieces) e = refl
 effect_durable s m (Repeats body) e = refl
 effect_durable s m Hears e = refl
 effect_durable s m (Lowers span keep) e = refl
-effect_durable s m (Waits req point g) e = refl
+effect_durable s m (Waits req point hi g) e = refl
 effect_durable s m (Judges number op o) e = absurd (cc)
 effect_durable s m (AnswersAgain number op o) e = let t = heard s m.client in pushes_durable t m.client (push.Answer number o (holding t (slot_of t.durable.index (op_key op)) m.client))
 
@@ -143,7 +144,7 @@ answer_is s t e =
     let lt = (and_true (not (is_some (s.lines c).unheard)) (nat_lt (s.lines c).pushed END) (and_true (can_push (s.lines c)) (asks_absent s.durable.index t.waiter || can_have s.rows t.slot t.waiter) x.answerable).0).1 in
     if_both (λ (d : Done). IsPush s c d) (asks_absent s.durable.index t.waiter) (tells_absent s t) (grants s t)
     (one_push (with_rows s (dropped s.rows t.slot)) c (push.Absent t.waiter.req t.waiter.point) lt)
-    (let g = with_rows s (granted s.rows t.slot) in one_push g c (push.Grant t.waiter.req (holding g t.slot c)) lt)
+    (let g = with_rows s (granted s.durable.index s.rows t.slot) in one_push g c (push.Grant t.waiter.req (holdings g c (taken s.durable.index s.rows t.slot))) lt)
 
 pub all_said : ServerSays
 all_said = record {

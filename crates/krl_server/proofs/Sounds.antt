@@ -113,7 +113,7 @@ effect_sound s m i = let t = heard s m.client in let j = heard_sound s m.client 
       repeats = λ r body served unheard. i;
       hears = λ r served. j;
       lowers = λ r span keep served. lowered_sound t m.client span keep served.from.client j;
-      waits = λ r req point g served new free near. queues_sound t (record { client = m.client; req = req; point = point; mode = g }) served.from.client near j;
+      waits = λ r req point hi g served new free near. queues_sound t (record { client = m.client; req = req; point = point; hi = hi; mode = g }) served.from.client near j;
       judges = λ r number op o served under near new is. judges_sound s m r number op o served.from i under is;
       answers_again = λ r number op o served under some last is. pushes_sound t m.client (push.Answer number o (effects.holding t (slot_of t.durable.index (op_key op)) m.client)) j;
     })

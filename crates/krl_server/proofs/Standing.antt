@@ -12,7 +12,8 @@ use Rattle.krl_messages.specs.Writes.{op_key}
 use Rattle.krl_protocol.specs.Links.{In}
 use Rattle.krl_protocol.proofs.Points.{no_none}
 use Rattle.krl_durable.specs.Index.{slot_of}
-use Rattle.krl_table.specs.Calls.{granted, dropped}
+use Rattle.krl_table.specs.Calls.{dropped}
+use Rattle.krl_table.specs.Grants.{taken, granted}
 use Rattle.krl_table.specs.Replies.{asks_absent, can_have}
 use Rattle.krl_server.specs.declared.line.Line.{Line}
 use Rattle.krl_server.specs.Servers.{Server}
@@ -71,12 +72,12 @@ others_pushed s c a d ne = if_both (λ (x : Done). x.server.lines d ≡ s.lines 
 others_turned : (s : Server) (t : Turn) (d : ℕ) → d ≢ t.waiter.client → (take_turn s t).server.lines d ≡ s.lines d
 others_turned s t d ne = if_both (λ (x : Done). x.server.lines d ≡ s.lines d) (asks_absent s.durable.index t.waiter) (tells_absent s t) (grants s t)
     (others_pushed (effects.with_rows s (dropped s.rows t.slot)) t.waiter.client _ d ne)
-    (others_pushed (effects.with_rows s (granted s.rows t.slot)) t.waiter.client _ d ne)
+    (others_pushed (effects.with_rows s (granted s.durable.index s.rows t.slot)) t.waiter.client _ d ne)
 
 turned_stands : (s : Server) (t : Turn) → PushesStand (take_turn s t).server (take_turn s t).outs
 turned_stands s t = if_both (λ (x : Done). PushesStand x.server x.outs) (asks_absent s.durable.index t.waiter) (tells_absent s t) (grants s t)
     (pushed_stands (effects.with_rows s (dropped s.rows t.slot)) t.waiter.client _)
-    (pushed_stands (effects.with_rows s (granted s.rows t.slot)) t.waiter.client _)
+    (pushed_stands (effects.with_rows s (granted s.durable.index s.rows t.slot)) t.waiter.client _)
 
 -- who is answered has acknowledged every push
 all_heard : (s : Server) (t : Turn) → next_turn s ≡ Some t → (s.lines t.waiter.client).unheard ≡ None
@@ -128,7 +129,7 @@ own_stands s m = let t = heard s m.client in
       repeats = λ r body served unheard. one_stands s m.client s.durable.epoch _ (s.lines m.client).pushed body refl unheard;
       hears = λ r request b a. none_stand t;
       lowers = λ r request span keep a. none_stand (effects.lowers t m.client span keep);
-      waits = λ r request req point g a new free near. none_stand (effects.queues t (record { client = m.client; req = req; point = point; mode = g }));
+      waits = λ r request req point hi g a new free near. none_stand (effects.queues t (record { client = m.client; req = req; point = point; hi = hi; mode = g }));
       judges = λ r request number op o a under near new is. let x = effects.writes t m.client op o in
           pushed_stands x m.client (push.Answer number o (holding x (slot_of x.durable.index (op_key op)) m.client));
       answers_again = λ r request number op o a under some last is. pushed_stands t m.client (push.Answer number o (holding t (slot_of t.durable.index (op_key op)) m.client));

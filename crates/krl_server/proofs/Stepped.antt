@@ -61,7 +61,7 @@ module _ (s : Server) (m : ToServer) where
   own_few (found.Repeats body) = omega arith
   own_few found.Hears = omega arith
   own_few (found.Lowers span keep) = omega arith
-  own_few (found.Waits req point g) = omega arith
+  own_few (found.Waits req point hi g) = omega arith
   own_few (found.Writes number op) = answers_few (writes (heard s m.client) m.client op (judged s m.client op)) m.client number op (judged s m.client op)
   own_few (found.AnswersAgain number op o) = answers_few (heard s m.client) m.client number op o
 
@@ -74,7 +74,7 @@ module _ (s : Server) (m : ToServer) where
   own_room (found.Repeats body) w = omega arith
   own_room found.Hears w = omega arith
   own_room (found.Lowers span keep) w = omega arith
-  own_room (found.Waits req point g) w = omega arith
+  own_room (found.Waits req point hi g) w = omega arith
   own_room (found.Writes number op) w = omega arith
   own_room (found.AnswersAgain number op o) w = omega arith
 
@@ -87,7 +87,7 @@ module _ (s : Server) (m : ToServer) where
   answers_room (found.Repeats body) w u few more e = absurd (cc)
   answers_room found.Hears w u few more e = let x = few refl in omega (arith, x)
   answers_room (found.Lowers span keep) w u few more e = let x = few refl in omega (arith, x)
-  answers_room (found.Waits req point g) w u few more e = omega (arith, more)
+  answers_room (found.Waits req point hi g) w u few more e = omega (arith, more)
   answers_room (found.Writes number op) w u few more e = let x = few refl in omega (arith, x)
   answers_room (found.AnswersAgain number op o) w u few more e = let x = few refl in omega (arith, x)
 
@@ -100,7 +100,7 @@ module _ (s : Server) (m : ToServer) where
   calls_room (found.Repeats body) w u few more e = absurd (cc)
   calls_room found.Hears w u few more e = let x = few refl in omega (arith, x)
   calls_room (found.Lowers span keep) w u few more e = absurd (cc)
-  calls_room (found.Waits req point g) w u few more e = omega (arith, more)
+  calls_room (found.Waits req point hi g) w u few more e = omega (arith, more)
   calls_room (found.Writes number op) w u few more e = let x = few refl in omega (arith, x)
   calls_room (found.AnswersAgain number op o) w u few more e = let x = few refl in omega (arith, x)
 
@@ -145,7 +145,7 @@ idle_of (Rebuilds pieces) e = absurd (cc)
 idle_of (Repeats body) e = refl
 idle_of Hears e = absurd (cc)
 idle_of (Lowers span keep) e = absurd (cc)
-idle_of (Waits req point g) e = absurd (cc)
+idle_of (Waits req point hi g) e = absurd (cc)
 idle_of (Judges number op o) e = absurd (cc)
 idle_of (AnswersAgain number op o) e = absurd (cc)
 
@@ -159,7 +159,7 @@ acts_of (Rebuilds pieces) e f = absurd (cc)
 acts_of (Repeats body) e f = absurd (cc)
 acts_of Hears e f = absurd (cc)
 acts_of (Lowers span keep) e f = absurd (cc)
-acts_of (Waits req point g) e f = absurd (cc)
+acts_of (Waits req point hi g) e f = absurd (cc)
 acts_of (Judges number op o) e f = absurd (cc)
 acts_of (AnswersAgain number op o) e f = absurd (cc)
 
@@ -173,7 +173,7 @@ calls_are (Rebuilds pieces) t = refl
 calls_are (Repeats body) t = refl
 calls_are Hears t = refl
 calls_are (Lowers span keep) t = refl
-calls_are (Waits req point g) t = refl
+calls_are (Waits req point hi g) t = refl
 calls_are (Judges number op o) t = refl
 calls_are (AnswersAgain number op o) t = refl
 
@@ -187,7 +187,7 @@ alarm_is (Rebuilds pieces) = refl
 alarm_is (Repeats body) = refl
 alarm_is Hears = refl
 alarm_is (Lowers span keep) = refl
-alarm_is (Waits req point g) = refl
+alarm_is (Waits req point hi g) = refl
 alarm_is (Judges number op o) = refl
 alarm_is (AnswersAgain number op o) = refl
 

@@ -12,10 +12,11 @@ use Rattle.krl_durable.specs.Index.{Index}
 use Rattle.krl_table.specs.declared.reply.Reply.{Reply}
 use Rattle.krl_table.specs.declared.reply.Reply.TheVariants as reply
 use Rattle.krl_table.specs.Rows.{Rows, front_of}
-use Rattle.krl_table.specs.Calls.{granted, dropped, behind_first}
+use Rattle.krl_table.specs.Calls.{dropped, behind_first}
+use Rattle.krl_table.specs.Grants.{taken, granted}
 use Rattle.krl_table.specs.Replies.{asks_absent, can_have, reply_to, first_reply, answerable}
 use Rattle.krl_server.specs.Servers.{Server}
-use Rattle.krl_server.specs.Effects.{with_rows, holding, push_to}
+use Rattle.krl_server.specs.Effects.{with_rows, holding, holdings, push_to}
 use Rattle.krl_server.specs.Answering.{Turn, can_push, is_answerable, turn_at, tells_absent, grants}
 use Rattle.krl_server.specs.Outboxes.{as_list}
 use Rattle.krl_server.specs.Doing.{turn_here, HasTurned}
@@ -101,9 +102,9 @@ module _ (s : Server) (n : ℕ) (u : Waiter) (first : front_of (s.rows n).queue 
     turned_grant t o a server outs =
         let r = some_reply acked (reply_to s.durable.index s.rows n u) reply.Grant (sym (a ∙ answer acked)) in
         let g = grant_says s.durable.index s.rows n u r.1 in
-        let body = push.Grant u.req (holding (with_rows s (granted s.rows n)) n u.client) in
-        let x = push_to (with_rows s (granted s.rows n)) u.client (suc (s.lines u.client).pushed) body in
-        let next = pushes_next (with_rows s (granted s.rows n)) u.client body (pushable r.0) in
+        let body = push.Grant u.req (holdings (with_rows s (granted s.durable.index s.rows n)) u.client (taken s.durable.index s.rows n)) in
+        let x = push_to (with_rows s (granted s.durable.index s.rows n)) u.client (suc (s.lines u.client).pushed) body in
+        let next = pushes_next (with_rows s (granted s.durable.index s.rows n)) u.client body (pushable r.0) in
         let here_is = yes (ap (λ b. b && (asks_absent s.durable.index u || can_have s.rows n u)) (sym is ∙ r.0) ∙ ap (λ b. b || can_have s.rows n u) g.0 ∙ g.1) in
         let same = ap (λ b. if b then tells_absent s turn else grants s turn) g.0 in (
           x,

@@ -112,7 +112,7 @@ module _ (first : ℕ → Option Value) (s : Server) (of : ℕ → Link) (log : 
         repeats = λ r body served unheard. (refl, repeats s of log (cleared (Repeats body)) m.client body unheard nobody h);
         hears = λ r request b a. (refl, hears s of log (cleared Hears) m.client (head_of m.incarnation request) (stands r request b a).0 (passes r request b a) h);
         lowers = λ r request span keep a. (refl, lowers_follow s of log (cleared (Lowers span keep)) m.client (head_of m.incarnation request) span keep a.served.from.client i (asks r request (asked.Release span keep) a).1 (stands r request (asked.Release span keep) a).0 (passes r request (asked.Release span keep) a) h);
-        waits = λ r request req point g a new free near. (refl, waits_follow s of log (cleared (Waits req point g)) (record { client = m.client; req = req; point = point; mode = g }) (head_of m.incarnation request) (stands r request (asked.Lock req point g) a).0 (passes r request (asked.Lock req point g) a) h);
+        waits = λ r request req point hi g a new free near. (refl, waits_follow s of log (cleared (Waits req point hi g)) (record { client = m.client; req = req; point = point; hi = hi; mode = g }) (head_of m.incarnation request) (stands r request (asked.Lock req point hi g) a).0 (passes r request (asked.Lock req point hi g) a) h);
         judges = λ r request number op o a under near new is. on_judged r request number op o a under new is;
-        answers_again = λ r request number op o a under some last is. (refl, answers_again s of log (cleared (AnswersAgain number op o)) m.client (head_of m.incarnation request) number op o i (asks r request (asked.Write number op) a) (stands r request (asked.Write number op) a).0 (passes r request (asked.Write number op) a) (last ∙ sym (shown r a.served.from).done) some (sym ((shown r a.served.from).applied o is)) under h);
+        answers_again = λ r request number op o a under some last is. (refl, answers_again s of log (cleared (AnswersAgain number op o)) m.client (head_of m.incarnation request) number op o i (asks r request (asked.Write number op) a) (stands r request (asked.Write number op) a).0 (passes r request (asked.Write number op) a) (last ∙ sym ((shown r a.served.from).done a.served.from.here)) some (sym ((shown r a.served.from).applied o a.served.from.here is)) under h);
       })

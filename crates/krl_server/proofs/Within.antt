@@ -23,7 +23,8 @@ use Rattle.krl_durable.specs.Registers.{Register, Durable, record_of, with_recor
 use Rattle.krl_messages.specs.Writes.{op_key}
 use Rattle.krl_durable.specs.Writes.{most_entries, judge, judged_insert, noted, index_after, applied_by}
 use Rattle.krl_table.specs.Rows.{Rows, most_clients}
-use Rattle.krl_table.specs.Calls.{granted, dropped}
+use Rattle.krl_table.specs.Calls.{dropped}
+use Rattle.krl_table.specs.Grants.{taken, granted}
 use Rattle.krl_table.specs.Replies.{asks_absent}
 use Rattle.krl_server.specs.declared.line.Line.{Line}
 use Rattle.krl_server.specs.Servers.{Server, is_gathering, lists, unlist, set_line, blank_line}
@@ -207,7 +208,7 @@ rows_within s rows w = record { durable = w.durable; pushed = w.pushed; missing 
 turn_within : (s : Server) (t : Turn) → IsWithin s → IsWithin (take_turn s t).server
 turn_within s t w = if_both (λ (x : Done). IsWithin x.server) (asks_absent s.durable.index t.waiter) (tells_absent s t) (grants s t)
     (pushes_within (effects.with_rows s (dropped s.rows t.slot)) t.waiter.client _ (rows_within s (dropped s.rows t.slot) w))
-    (pushes_within (effects.with_rows s (granted s.rows t.slot)) t.waiter.client _ (rows_within s (granted s.rows t.slot) w))
+    (pushes_within (effects.with_rows s (granted s.durable.index s.rows t.slot)) t.waiter.client _ (rows_within s (granted s.durable.index s.rows t.slot) w))
 
 answered_within : (s t : Server) (outs : List ToClient) → Answered s t outs → IsWithin s → IsWithin t
 answered_within s t outs (stops s' e) w = w
@@ -264,7 +265,7 @@ module _ (s : Server) (m : ToServer) (w : IsWithin s) where
         repeats = λ r body served unheard. w;
         hears = λ r served. u;
         lowers = λ r span keep served. rows_within t _ u;
-        waits = λ r req point g served new free near. record { durable = w.durable; pushed = lines_within t.lines m.client (record (t.lines m.client) { asked = req }) (u.pushed m.client) u.pushed; missing = w.missing; missing_once = w.missing_once };
+        waits = λ r req point hi g served new free near. record { durable = w.durable; pushed = lines_within t.lines m.client (record (t.lines m.client) { asked = req }) (u.pushed m.client) u.pushed; missing = w.missing; missing_once = w.missing_once };
         judges = λ r number op o served under near new is. let x = effects.writes t m.client op o in
             pushes_within x m.client (push.Answer number o (effects.holding x (slot_of x.durable.index (op_key op)) m.client)) (writes_within r number op o served.from.known served.serves near new is);
         answers_again = λ r number op o served under some last is. pushes_within t m.client (push.Answer number o (effects.holding t (slot_of t.durable.index (op_key op)) m.client)) u;

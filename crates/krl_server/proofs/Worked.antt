@@ -1,5 +1,5 @@
 -- Worked rows: small servers, computed.
-use Rattle.std.proofs.Common.{◌≡◌, ℕ, List, [], ◌∷◌, ◌++◌, map, Option, Some, None, refl}
+use Rattle.std.proofs.Common.{◌≡◌, ℕ, suc, List, [], ◌∷◌, ◌++◌, map, Option, Some, None, refl}
 use Rattle.std.specs.Prelude.{nat_eq, if◌then◌else◌}
 use Rattle.std.specs.FinMap as map
 use Rattle.krl_modes.specs.declared.part.RangePart.TheVariants as range
@@ -37,6 +37,10 @@ use Rattle.krl_server.specs.Effects.{Done, effect}
 use Rattle.krl_server.specs.Answering.{Turn, next_turn, take_turn}
 use Rattle.krl_server.specs.Steps.{crash, start}
 
+-- a value of one byte
+abbrev byte : ℕ → Value
+byte n = n ∷ []
+
 abbrev asks : ℕ → ℕ → RequestBody → ToServer
 asks c seen body = record { client = c; incarnation = 1; body = said.Request (record { epoch = 1; seen = seen; body = body }) }
 
@@ -50,7 +54,7 @@ abbrev held : ℕ → ℕ → Mode → Option Value → Holding
 held lo hi g value = record { span = record { lo = lo; hi = hi }; mode = g; value = value }
 
 abbrev two : List (ℕ × Value)
-two = (10, 1) ∷ (20, 2) ∷ []
+two = (10, byte 1) ∷ (20, byte 2) ∷ []
 
 -- two clients of incarnation 1, which have acknowledged their last pushes
 abbrev server : Index → Rows → (ℕ → Line) → Server
@@ -60,7 +64,7 @@ abbrev line : ℕ → ℕ → ℕ → Line
 line pushed asked c = record { pushed = pushed; unheard = None; asked = asked }
 
 abbrev waiter : ℕ → ℕ → ℕ → Mode → Waiter
-waiter c req point g = record { client = c; req = req; point = point; mode = g }
+waiter c req point g = record { client = c; req = req; point = point; hi = suc point; mode = g }
 
 abbrev turn : ℕ → Waiter → Turn
 turn n u = record { slot = n; waiter = u }
@@ -77,10 +81,10 @@ abbrev joined : Index → Server
 joined m = (effect (begun m) (hello 0) Registers).server
 
 abbrev lock_gap : ToServer
-lock_gap = asks 0 0 (asked.Lock 1 5 mode.RangeSS)
+lock_gap = asks 0 0 (asked.Lock 1 5 6 mode.RangeSS)
 
 abbrev gap_asked : Index → Server
-gap_asked m = (effect (joined m) lock_gap (Waits 1 5 mode.RangeSS)).server
+gap_asked m = (effect (joined m) lock_gap (Waits 1 5 6 mode.RangeSS)).server
 
 abbrev gap_turn : Turn
 gap_turn = turn 10 (waiter 0 1 5 mode.RangeSS)
@@ -92,7 +96,7 @@ row_1_hello m = refl
 row_1_told : (m : Index) → (effect (begun m) (hello 0) Registers).outs ≡ record { client = 0; incarnation = 1; body = told.Epoch 1 } ∷ []
 row_1_told m = refl
 
-row_1_lock : (m : Index) → map.entries m ≡ two → case_of (joined m) lock_gap ≡ Waits 1 5 mode.RangeSS
+row_1_lock : (m : Index) → map.entries m ≡ two → case_of (joined m) lock_gap ≡ Waits 1 5 6 mode.RangeSS
 unfolding most_clients
 row_1_lock m e = simp (e, map.get-entries)
 
@@ -100,7 +104,7 @@ row_1_turn : (m : Index) → map.entries m ≡ two → next_turn (gap_asked m) �
 unfolding most_clients
 row_1_turn m e = simp (e, map.get-entries)
 
-row_1_granted : (m : Index) → map.entries m ≡ two → (take_turn (gap_asked m) gap_turn).outs ≡ pushed 0 1 (push.Grant 1 (held 0 11 mode.RangeSS (Some 1))) ∷ []
+row_1_granted : (m : Index) → map.entries m ≡ two → (take_turn (gap_asked m) gap_turn).outs ≡ pushed 0 1 (push.Grant 1 (held 0 11 mode.RangeSS (Some (byte 1)) ∷ [])) ∷ []
 unfolding most_clients
 row_1_granted m e = simp (e, map.get-entries)
 
@@ -111,25 +115,25 @@ row_1_ends m e = simp (e, map.get-entries)
 -- Two clients that hold RangeI-N on one gap: the first inserts
 
 abbrev insert_15 : ToServer
-insert_15 = asks 0 1 (asked.Write 1 (write.Insert 15 5))
+insert_15 = asks 0 1 (asked.Write 1 (write.Insert 15 (byte 5)))
 
 abbrev shared_gap : Index → Server
 shared_gap m = server m (λ n. if nat_eq n 20 then row mode.RangeIN mode.RangeIN [] else blank_row) (line 1 1)
 
 abbrev inserted : Index → Done
-inserted m = effect (shared_gap m) insert_15 (Judges 1 (write.Insert 15 5) outcome.Applied)
+inserted m = effect (shared_gap m) insert_15 (Judges 1 (write.Insert 15 (byte 5)) outcome.Applied)
 
-row_5_case : (m : Index) → map.entries m ≡ two → case_of (shared_gap m) insert_15 ≡ Judges 1 (write.Insert 15 5) outcome.Applied
+row_5_case : (m : Index) → map.entries m ≡ two → case_of (shared_gap m) insert_15 ≡ Judges 1 (write.Insert 15 (byte 5)) outcome.Applied
 unfolding most_clients most_entries
 row_5_case m e = simp (e, map.get-entries)
 
-row_5_answer : (m : Index) → map.entries m ≡ two → map.entries (map.insert m 15 5) ≡ (10, 1) ∷ (15, 5) ∷ (20, 2) ∷ [] → (inserted m).outs ≡ pushed 0 2 (push.Answer 1 outcome.Applied (held 11 16 mode.RangeIX (Some 5))) ∷ []
+row_5_answer : (m : Index) → map.entries m ≡ two → map.entries (map.insert m 15 (byte 5)) ≡ (10, byte 1) ∷ (15, byte 5) ∷ (20, byte 2) ∷ [] → (inserted m).outs ≡ pushed 0 2 (push.Answer 1 outcome.Applied (held 11 16 mode.RangeIX (Some (byte 5)))) ∷ []
 row_5_answer m e f = simp (e, f, map.get-entries)
 
 row_5_modes : (m : Index) → map.entries m ≡ two → map (mode_at (inserted m).server.rows 15) (0 ∷ 1 ∷ 2 ∷ []) ++ map (mode_at (inserted m).server.rows 20) (0 ∷ 1 ∷ 2 ∷ []) ≡ mode.RangeIX ∷ mode.RangeIN ∷ mode.N ∷ mode.RangeIN ∷ mode.RangeIN ∷ mode.N ∷ []
 row_5_modes m e = simp e
 
-row_5_points : (m : Index) → map.entries (map.insert m 15 5) ≡ (10, 1) ∷ (15, 5) ∷ (20, 2) ∷ [] → map.entries m ≡ two → map (range_at (map.insert m 15 5) (inserted m).server.rows 1) (10 ∷ 11 ∷ 15 ∷ 17 ∷ []) ≡ range.N ∷ range.I ∷ range.I ∷ range.I ∷ []
+row_5_points : (m : Index) → map.entries (map.insert m 15 (byte 5)) ≡ (10, byte 1) ∷ (15, byte 5) ∷ (20, byte 2) ∷ [] → map.entries m ≡ two → map (range_at (map.insert m 15 (byte 5)) (inserted m).server.rows 1) (10 ∷ 11 ∷ 15 ∷ 17 ∷ []) ≡ range.N ∷ range.I ∷ range.I ∷ range.I ∷ []
 row_5_points m f e = simp (e, f)
 
 -- An old Release is passed over. Who waits for an entry that another reads calls it back, and is granted it then
@@ -145,13 +149,13 @@ unfolding most_clients
 row_8_old m = refl
 
 abbrev lock_10 : ToServer
-lock_10 = asks 1 0 (asked.Lock 1 10 mode.X)
+lock_10 = asks 1 0 (asked.Lock 1 10 11 mode.X)
 
-row_8_case : (m : Index) → map.entries m ≡ two → case_of (read_gap m) lock_10 ≡ Waits 1 10 mode.X
+row_8_case : (m : Index) → map.entries m ≡ two → case_of (read_gap m) lock_10 ≡ Waits 1 10 11 mode.X
 unfolding most_clients
 row_8_case m e = simp e
 
-row_8_queue : (m : Index) → map.entries m ≡ two → ((effect (read_gap m) lock_10 (Waits 1 10 mode.X)).server.rows 10).queue ≡ waiter 1 1 10 mode.X ∷ []
+row_8_queue : (m : Index) → map.entries m ≡ two → ((effect (read_gap m) lock_10 (Waits 1 10 11 mode.X)).server.rows 10).queue ≡ waiter 1 1 10 mode.X ∷ []
 row_8_queue m e = simp e
 
 abbrev entry_asked : Index → Server
@@ -181,23 +185,23 @@ row_8_turn : (m : Index) → map.entries m ≡ two → next_turn (released m) �
 unfolding most_clients
 row_8_turn m e = simp (e, map.get-entries)
 
-row_8_granted : (m : Index) → map.entries m ≡ two → (take_turn (released m) (turn 10 (waiter 1 1 10 mode.X))).outs ≡ pushed 1 1 (push.Grant 1 (held 0 11 mode.X (Some 1))) ∷ []
+row_8_granted : (m : Index) → map.entries m ≡ two → (take_turn (released m) (turn 10 (waiter 1 1 10 mode.X))).outs ≡ pushed 1 1 (push.Grant 1 (held 0 11 mode.X (Some (byte 1)) ∷ [])) ∷ []
 unfolding most_clients
 row_8_granted m e = simp (e, map.get-entries)
 
 -- A put
 
 abbrev put_10 : ToServer
-put_10 = asks 0 2 (asked.Write 1 (write.Put 10 9))
+put_10 = asks 0 2 (asked.Write 1 (write.Put 10 (byte 9)))
 
 abbrev all_read : Index → Server
 all_read m = server m (λ n. if nat_eq n 10 then row mode.RangeXX mode.N [] else (if nat_eq n 20 then row mode.RangeSS mode.N [] else blank_row)) (line 2 2)
 
-row_10_case : (m : Index) → map.entries m ≡ two → case_of (all_read m) put_10 ≡ Judges 1 (write.Put 10 9) outcome.Applied
+row_10_case : (m : Index) → map.entries m ≡ two → case_of (all_read m) put_10 ≡ Judges 1 (write.Put 10 (byte 9)) outcome.Applied
 unfolding most_clients
 row_10_case m e = simp (e, map.get-entries)
 
-row_10_answer : (m : Index) → map.entries (map.insert m 10 9) ≡ (10, 9) ∷ (20, 2) ∷ [] → (effect (all_read m) put_10 (Judges 1 (write.Put 10 9) outcome.Applied)).outs ≡ pushed 0 3 (push.Answer 1 outcome.Applied (held 0 11 mode.RangeXX (Some 9))) ∷ []
+row_10_answer : (m : Index) → map.entries (map.insert m 10 (byte 9)) ≡ (10, byte 9) ∷ (20, byte 2) ∷ [] → (effect (all_read m) put_10 (Judges 1 (write.Put 10 (byte 9)) outcome.Applied)).outs ≡ pushed 0 3 (push.Answer 1 outcome.Applied (held 0 11 mode.RangeXX (Some (byte 9)))) ∷ []
 row_10_answer m f = simp (f, map.get-entries)
 
 -- A delete, then a restart and a report; and the answer once more
@@ -215,7 +219,7 @@ row_12_case : (m : Index) → map.entries m ≡ two → case_of (all_held m) del
 unfolding most_clients
 row_12_case m e = simp (e, map.get-entries)
 
-row_12_answer : (m : Index) → map.entries m ≡ two → map.entries (map.remove m 10) ≡ (20, 2) ∷ [] → (deleted m).outs ≡ pushed 0 3 (push.Answer 1 outcome.Applied (held 0 21 mode.RangeXX (Some 2))) ∷ []
+row_12_answer : (m : Index) → map.entries m ≡ two → map.entries (map.remove m 10) ≡ (20, byte 2) ∷ [] → (deleted m).outs ≡ pushed 0 3 (push.Answer 1 outcome.Applied (held 0 21 mode.RangeXX (Some (byte 2)))) ∷ []
 row_12_answer m e f = simp (e, f, map.get-entries)
 
 abbrev restarted : Index → Server
@@ -233,23 +237,23 @@ pieces = record {
 abbrev report : ToServer
 report = record { client = 0; incarnation = 1; body = said.Report 2 pieces }
 
-row_12_report : (m : Index) → map.entries (map.remove m 10) ≡ (20, 2) ∷ [] → case_of (restarted m) report ≡ Rebuilds pieces
+row_12_report : (m : Index) → map.entries (map.remove m 10) ≡ (20, byte 2) ∷ [] → case_of (restarted m) report ≡ Rebuilds pieces
 unfolding most_clients
 row_12_report m f = simp f
 
 abbrev reported : Index → Rows
 reported m = adopted (map.remove m 10) (λ n. blank_row) 0 pieces
 
-row_12_rebuilt : (m : Index) → map.entries (map.remove m 10) ≡ (20, 2) ∷ [] → mode_at (reported m) 20 0 ≡ mode.RangeXX
+row_12_rebuilt : (m : Index) → map.entries (map.remove m 10) ≡ (20, byte 2) ∷ [] → mode_at (reported m) 20 0 ≡ mode.RangeXX
 row_12_rebuilt m f = simp (map.get-entries, f, adopted, is_slot)
 
-row_12_end : (m : Index) → map.entries (map.remove m 10) ≡ (20, 2) ∷ [] → mode_at (reported m) END 0 ≡ mode.N
+row_12_end : (m : Index) → map.entries (map.remove m 10) ≡ (20, byte 2) ∷ [] → mode_at (reported m) END 0 ≡ mode.N
 row_12_end m f = simp f
 
-row_12_range : (m : Index) → map.entries (map.remove m 10) ≡ (20, 2) ∷ [] → range_at (map.remove m 10) (reported m) 0 10 ≡ range.X
+row_12_range : (m : Index) → map.entries (map.remove m 10) ≡ (20, byte 2) ∷ [] → range_at (map.remove m 10) (reported m) 0 10 ≡ range.X
 row_12_range m f = simp (f, map.get-entries, adopted, is_slot)
 
-row_12_key : (m : Index) → map.entries (map.remove m 10) ≡ (20, 2) ∷ [] → key_at (map.remove m 10) (reported m) 0 10 ≡ key.X
+row_12_key : (m : Index) → map.entries (map.remove m 10) ≡ (20, byte 2) ∷ [] → key_at (map.remove m 10) (reported m) 0 10 ≡ key.X
 row_12_key m f = simp (f, map.get-entries, adopted, is_slot)
 
 row_12_again : (m : Index) → case_of (record (restarted m) { missing = [] }) (record { client = 0; incarnation = 1; body = said.Request (record { epoch = 2; seen = 0; body = asked.Write 1 (write.Delete 10) }) }) ≡ AnswersAgain 1 (write.Delete 10) outcome.Applied
@@ -262,20 +266,20 @@ abbrev both_read : Index → Server
 both_read m = server m (λ n. if nat_eq n 10 then row mode.S mode.S [] else blank_row) (line 1 1)
 
 abbrev converts : ℕ → Server → Server
-converts c s = (effect s (asks c 1 (asked.Lock 2 10 mode.X)) (Waits 2 10 mode.X)).server
+converts c s = (effect s (asks c 1 (asked.Lock 2 10 11 mode.X)) (Waits 2 10 11 mode.X)).server
 
-row_18_queue : (m : Index) → map.entries m ≡ (10, 1) ∷ [] → ((converts 1 (converts 0 (both_read m))).rows 10).queue ≡ waiter 1 2 10 mode.X ∷ waiter 0 2 10 mode.X ∷ []
+row_18_queue : (m : Index) → map.entries m ≡ (10, byte 1) ∷ [] → ((converts 1 (converts 0 (both_read m))).rows 10).queue ≡ waiter 1 2 10 mode.X ∷ waiter 0 2 10 mode.X ∷ []
 row_18_queue m e = simp e
 
 abbrev converting : Index → Mode → Mode → List Waiter → Server
 converting m a b queue = server m (λ n. if nat_eq n 10 then row a b queue else blank_row) (line 1 2)
 
-row_18_callbacks : (m : Index) → map.entries m ≡ (10, 1) ∷ [] → callbacks_from (converting m mode.S mode.S []) 10 (waiter 1 2 10 mode.X) 0 3 ≡ called_back
+row_18_callbacks : (m : Index) → map.entries m ≡ (10, byte 1) ∷ [] → callbacks_from (converting m mode.S mode.S []) 10 (waiter 1 2 10 mode.X) 0 3 ≡ called_back
 row_18_callbacks m e = simp e
 
-row_18_turn : (m : Index) → map.entries m ≡ (10, 1) ∷ [] → next_turn (converting m mode.N mode.S (waiter 1 2 10 mode.X ∷ waiter 0 2 10 mode.X ∷ [])) ≡ Some (turn 10 (waiter 1 2 10 mode.X))
+row_18_turn : (m : Index) → map.entries m ≡ (10, byte 1) ∷ [] → next_turn (converting m mode.N mode.S (waiter 1 2 10 mode.X ∷ waiter 0 2 10 mode.X ∷ [])) ≡ Some (turn 10 (waiter 1 2 10 mode.X))
 unfolding most_clients
 row_18_turn m e = simp (e, map.get-entries)
 
-row_18_then : (m : Index) → map.entries m ≡ (10, 1) ∷ [] → callbacks_from (converting m mode.N mode.X []) 10 (waiter 0 2 10 mode.X) 0 3 ≡ record { client = 1; incarnation = 1; body = told.Callback 1 below_11 mode.RangeIN } ∷ []
+row_18_then : (m : Index) → map.entries m ≡ (10, byte 1) ∷ [] → callbacks_from (converting m mode.N mode.X []) 10 (waiter 0 2 10 mode.X) 0 3 ≡ record { client = 1; incarnation = 1; body = told.Callback 1 below_11 mode.RangeIN } ∷ []
 row_18_then m e = simp e

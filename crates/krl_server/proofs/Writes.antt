@@ -74,7 +74,7 @@ written_goes s of log cleared c a number op r index rows known at head ok num un
     let ch = put_changed of c l in
     let line : Line = record (s.lines c) { unheard = None } in
     let passed : Passes (view s) l1 a = record { serving = ok.serving; here = ok.here; inc = ok.inc; epoch = ok.epoch; seen = ok.seen } in
-    let next_one : number ≡ suc (of c).done = num ∙ ap (λ y. suc y) (sym old.done) in
+    let next_one : number ≡ suc (of c).done = num ∙ ap (λ y. suc y) (sym (old.done (sym old.left ∙ ok.here))) in
     let step = applies_from (view s) mid (put of c l) log c l1 ch1.here w (map.get index) keys at passed refl next_one
     (subst (λ y. Applies (view s) y (map.get index) keys (op_of op)) ch1.here x.applies) (changed_twice of mid (put of c l) c l1 l ch1 ch) in
     let sees = range_is index s.durable.epoch (view s).phase x.near rows in
@@ -192,7 +192,7 @@ writes_follow s of log cleared m a number op r i inv known same own at head ok n
     let g = written_goes s of log cleared c a number op r (written s.durable.index op) (rows_written s.durable.index s.rows c op) known at head ok num under h (is_written s of log c a op i inv head ok under e h) l.from (lasts_sound s c op r i l) in
     subst (λ t. Goes s of log cleared (answers t c number op outcome.Applied) (entry_of c m.incarnation number op ∷ log)) (writes_is s c op r known)
     (subst (λ x. Goes s of log cleared (answers (with_write s c r (written s.durable.index op) (rows_written s.durable.index s.rows c op)) c number op outcome.Applied) (entry_of c x number op ∷ log)) (old.reg ∙ sym same)
-    (subst (λ x. Goes s of log cleared (answers (with_write s c r (written s.durable.index op) (rows_written s.durable.index s.rows c op)) c number op outcome.Applied) (entry_of c (of c).reg x op ∷ log)) (ap (λ x. suc x) old.done ∙ sym num) g))
+    (subst (λ x. Goes s of log cleared (answers (with_write s c r (written s.durable.index op) (rows_written s.durable.index s.rows c op)) c number op outcome.Applied) (entry_of c (of c).reg x op ∷ log)) (ap (λ x. suc x) (old.done (sym old.left ∙ ok.here)) ∙ sym num) g))
 
 pub writes_sound : (s : Server) (m : ToServer) (number : ℕ) (op : WriteOp) (r : Record) → record_of s.durable.register m.client ≡ Some r → IsSound s → m.client < most_clients → op_key op < END → judged s m.client op ≡ outcome.Applied → IsSound (effect s m (Judges number op outcome.Applied)).server
 writes_sound s m number op r known i own under e =

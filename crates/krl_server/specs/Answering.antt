@@ -5,11 +5,12 @@ use Rattle.krl_messages.specs.declared.to_client.ToClient.{ToClient}
 use Rattle.krl_messages.specs.declared.to_client.PushBody.TheVariants as push
 use Rattle.krl_queue.specs.declared.waiter.Waiter.{Waiter}
 use Rattle.krl_durable.specs.Index.{slots}
-use Rattle.krl_table.specs.Calls.{granted, dropped}
+use Rattle.krl_table.specs.Calls.{dropped}
+use Rattle.krl_table.specs.Grants.{taken, granted}
 use Rattle.krl_table.specs.Replies.{asks_absent, can_have}
 use Rattle.krl_server.specs.declared.line.Line.{Line}
 use Rattle.krl_server.specs.Servers.{Server}
-use Rattle.krl_server.specs.Effects.{Done, with_rows, holding, pushes}
+use Rattle.krl_server.specs.Effects.{Done, with_rows, holdings, pushes}
 
 -- the last push is acknowledged, and there is a number for the next
 abbrev pub can_push : Line → Bool
@@ -41,11 +42,13 @@ abbrev pub tells_absent : Server → Turn → Done
 tells_absent s t =
     pushes (with_rows s (dropped s.rows t.slot)) t.waiter.client (push.Absent t.waiter.req t.waiter.point)
 
--- the waiter is granted what it wants: first the row is raised, then the push is made from it
+-- the waiter is granted what it wants: first the rows of the slots that it takes are raised, then the push is made from
+-- them
 abbrev pub grants : Server → Turn → Done
 grants s t =
-    let g = with_rows s (granted s.rows t.slot) in
-    pushes g t.waiter.client (push.Grant t.waiter.req (holding g t.slot t.waiter.client))
+    let g = with_rows s (granted s.durable.index s.rows t.slot) in
+    pushes g t.waiter.client
+    (push.Grant t.waiter.req (holdings g t.waiter.client (taken s.durable.index s.rows t.slot)))
 
 abbrev pub take_turn : Server → Turn → Done
 take_turn s t = if asks_absent s.durable.index t.waiter then tells_absent s t else grants s t

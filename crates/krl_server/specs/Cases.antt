@@ -1,6 +1,6 @@
 -- The case that a message meets, in the order of judging.
-use Rattle.std.specs.Prelude.{ℕ, suc, Bool, true, false, not, ◌&&◌, ◌||◌, Option, Some, None, nat_eq, nat_lt, if◌then◌else◌}
-use Rattle.krl_modes.specs.declared.point.TheConstants.{END}
+use Rattle.std.specs.Prelude.{ℕ, suc, Bool, true, false, not, ◌&&◌, ◌||◌, Option, Some, None, nat_eq, nat_lt, nat_le, if◌then◌else◌}
+use Rattle.krl_modes.specs.declared.point.TheConstants.{END, TOP}
 use Rattle.krl_modes.specs.declared.mode.Mode.{Mode}
 use Rattle.krl_modes.specs.Spans.{Bounds}
 use Rattle.krl_messages.specs.declared.pieces.Pieces.{Pieces}
@@ -31,7 +31,7 @@ pub data Case : Type 0 where
   Repeats : PushBody → Case  -- the push that is not acknowledged is sent again
   Hears : Case  -- the last push is acknowledged, and nothing more
   Lowers : Bounds → Mode → Case
-  Waits : ℕ → ℕ → Mode → Case  -- request number, point, mode
+  Waits : ℕ → ℕ → ℕ → Mode → Case  -- request number, point, end, mode
   Judges : ℕ → WriteOp → Outcome → Case  -- a new write, and its number
   AnswersAgain : ℕ → WriteOp → Outcome → Case  -- the last write, and its number
 
@@ -55,14 +55,18 @@ case_of_write s c r number op =
     else (if nat_eq number (suc r.last) then Judges number op (judged s c op)
     else (if nat_eq number r.last then case_of_last number op r.outcome else Hears))
 
+-- the points from this one on below hi are some points
+abbrev pub is_reach : ℕ → ℕ → Bool
+is_reach point hi = not (nat_lt END point) && (nat_lt point hi && nat_le hi TOP)
+
 -- the request numbers: new, from a client that doesn't wait, or passed over
-abbrev pub case_of_lock : Server → ℕ → ℕ → ℕ → Mode → Case
-case_of_lock s c req point g =
-    if nat_eq req (suc (s.lines c).asked) && (not (waits s.durable.index s.rows c) && not (nat_lt END point))
-    then Waits req point g else Hears
+abbrev pub case_of_lock : Server → ℕ → ℕ → ℕ → ℕ → Mode → Case
+case_of_lock s c req point hi g =
+    if nat_eq req (suc (s.lines c).asked) && (not (waits s.durable.index s.rows c) && is_reach point hi)
+    then Waits req point hi g else Hears
 
 abbrev pub case_of_request : Server → ℕ → Record → RequestBody → Case
-case_of_request s c r (asked.Lock req point g) = case_of_lock s c req point g
+case_of_request s c r (asked.Lock req point hi g) = case_of_lock s c req point hi g
 case_of_request s c r (asked.Write number op) = case_of_write s c r number op
 case_of_request s c r (asked.Release span keep) = Lowers span keep
 case_of_request s c r asked.Ack = Hears
@@ -123,6 +127,6 @@ is_alarm (Rebuilds pieces) = false
 is_alarm (Repeats body) = false
 is_alarm Hears = false
 is_alarm (Lowers span keep) = false
-is_alarm (Waits req point g) = false
+is_alarm (Waits req point hi g) = false
 is_alarm (Judges number op o) = false
 is_alarm (AnswersAgain number op o) = false

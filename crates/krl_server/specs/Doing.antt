@@ -128,7 +128,7 @@ own_of found.Reports = 0
 own_of (found.Repeats body) = 1
 own_of found.Hears = 0
 own_of (found.Lowers span keep) = 0
-own_of (found.Waits req point g) = 0
+own_of (found.Waits req point hi g) = 0
 own_of (found.Writes number op) = 1
 own_of (found.AnswersAgain number op o) = 1
 
@@ -142,7 +142,7 @@ room_for n found.Reports = 64 * n
 room_for n (found.Repeats body) = 1
 room_for n found.Hears = 64 * n
 room_for n (found.Lowers span keep) = n
-room_for n (found.Waits req point g) = 64 * (n + 1)
+room_for n (found.Waits req point hi g) = 64 * (n + 1)
 room_for n (found.Writes number op) = 1 + 64 * n
 room_for n (found.AnswersAgain number op o) = 1 + 64 * n
 

@@ -70,6 +70,11 @@ holding s n c = record {
   value = shown (key_of (mode_at s.rows n c)) (map.get s.durable.index n);
 }
 
+-- and on each of these slots, in their order
+abbrev pub holdings : Server → ℕ → List ℕ → List Holding
+holdings s c [] = []
+holdings s c (n ∷ ns) = holding s n c ∷ holdings s c ns
+
 -- Changes of the server
 
 abbrev pub with_line : Server → ℕ → Line → Server
@@ -151,7 +156,7 @@ effect s m (Rebuilds pieces) = silent (adopts s m.client pieces)
 effect s m (Repeats body) = record { server = s; outs = push_to s m.client (s.lines m.client).pushed body ∷ [] }
 effect s m Hears = silent (heard s m.client)
 effect s m (Lowers span keep) = silent (lowers (heard s m.client) m.client span keep)
-effect s m (Waits req point g) =
-    silent (queues (heard s m.client) (record { client = m.client; req = req; point = point; mode = g }))
+effect s m (Waits req point hi g) =
+    silent (queues (heard s m.client) (record { client = m.client; req = req; point = point; hi = hi; mode = g }))
 effect s m (Judges number op o) = answers (writes (heard s m.client) m.client op o) m.client number op o
 effect s m (AnswersAgain number op o) = answers (heard s m.client) m.client number op o

@@ -20,6 +20,7 @@ pub use Rattle.krl_durable.specs.Writes
 pub use Rattle.krl_table.specs.Rows
 pub use Rattle.krl_table.specs.Points
 pub use Rattle.krl_table.specs.Calls
+pub use Rattle.krl_table.specs.Grants
 pub use Rattle.krl_table.specs.Reports
 pub use Rattle.krl_table.specs.Replies
 pub use Rattle.krl_table.specs.Sound

@@ -11,6 +11,7 @@ use Rattle.krl_modes.specs.declared.mode.Mode.TheVariants as mode
 use Rattle.krl_modes.specs.Modes.{range_of, key_of}
 use Rattle.krl_modes.specs.Spans.{Bounds, contains}
 use Rattle.krl_messages.specs.declared.holding.Holding.{Holding}
+use Rattle.krl_messages.specs.Several.{Ascend}
 use Rattle.krl_messages.specs.declared.range_pieces.RangePiece.{RangePiece}
 use Rattle.krl_messages.specs.declared.pieces.Pieces.{Pieces}
 use Rattle.krl_messages.specs.declared.write_op.WriteOp.{WriteOp}
@@ -67,7 +68,7 @@ push_with inc epoch number answers applied hs =
     record { inc = inc; epoch = epoch; number = number; answers = answers; applied = applied; says = said_by hs }
 
 abbrev pub push_of : ℕ → ℕ → ℕ → PushBody → links.Push
-push_of inc epoch number (push.Grant req h) = push_with inc epoch number 0 false (h ∷ [])
+push_of inc epoch number (push.Grant req hs) = push_with inc epoch number 0 false hs
 push_of inc epoch number (push.Absent req point) = push_with inc epoch number 0 false []
 push_of inc epoch number (push.Answer w o h) = push_with inc epoch number w (is_applied o) (h ∷ [])
 
@@ -88,7 +89,7 @@ IsWhole span = span.lo < span.hi
 
 -- beside its head, which stands in the link, the request of this head stands there
 abbrev pub RequestStands : Link → Head → RequestBody → Type 0
-RequestStands l a (asked.Lock req point g) = Unit {0}
+RequestStands l a (asked.Lock req point hi g) = Unit {0}
 RequestStands l a (asked.Write number op) = In (record { head = a; number = number; op = op_of op }) l.writes
 RequestStands l a (asked.Release span keep) =
     IsWhole span
@@ -109,7 +110,7 @@ Stands l inc (said.Request request) =
 
 -- what a client may rely on in a push
 abbrev pub IsTold : PushBody → Type 0
-IsTold (push.Grant req h) = Unit {0}
+IsTold (push.Grant req hs) = Ascend hs × AllByRecursion (λ h. IsWhole h.span) hs
 IsTold (push.Absent req point) = Unit {0}
 IsTold (push.Answer number o h) = 1 ≤ number
 
@@ -133,14 +134,15 @@ view_of d phase = record { epoch = d.epoch; phase = phase; index = map.get d.ind
 abbrev pub view : Server → Shared
 view s = view_of s.durable (machine_phase s.missing)
 
--- what a link has of the client's record. Before the first write there is no outcome
+-- what a link has of the client's record. Before the first write there is no outcome; of a client that has left
+-- nobody asks what its last write was
 abbrev pub IsRecord : Option Record → Link → Type 0
 IsRecord None l = record { reg : l.reg ≡ 0; left : l.left ≡ false; done : l.done ≡ 0 }
 IsRecord (Some r) l = record {
   reg : l.reg ≡ r.incarnation;
   left : l.left ≡ r.left;
-  done : l.done ≡ r.last;
-  applied : (o : Outcome) → r.outcome ≡ Some o → l.applied ≡ is_applied o;
+  done : r.left ≡ false → l.done ≡ r.last;
+  applied : (o : Outcome) → r.left ≡ false → r.outcome ≡ Some o → l.applied ≡ is_applied o;
 }
 
 -- what a link has of the server, by the shared part, the client's record, whether it is missing, its line, and its
@@ -194,7 +196,7 @@ logged m (Rebuilds pieces) log = log
 logged m (Repeats body) log = log
 logged m Hears log = log
 logged m (Lowers span keep) log = log
-logged m (Waits req point g) log = log
+logged m (Waits req point hi g) log = log
 logged m (Judges number op o) log =
     if is_applied o
     then record { client = m.client; wrote = record { inc = m.incarnation; number = number; op = op_of op } } ∷ log

@@ -44,7 +44,7 @@ meant s c b found.Reports = case_of_pieces s c b
 meant s c b (found.Repeats body) = Repeats body
 meant s c b found.Hears = Hears
 meant s c b (found.Lowers span keep) = Lowers span keep
-meant s c b (found.Waits req point g) = Waits req point g
+meant s c b (found.Waits req point hi g) = Waits req point hi g
 meant s c b (found.Writes number op) = Judges number op (judged s c op)
 meant s c b (found.AnswersAgain number op o) = AnswersAgain number op o
 
@@ -59,6 +59,6 @@ after_of (Rebuilds pieces) = after.Calls
 after_of (Repeats body) = after.Nothing
 after_of Hears = after.Calls
 after_of (Lowers span keep) = after.Answers
-after_of (Waits req point g) = after.Calls
+after_of (Waits req point hi g) = after.Calls
 after_of (Judges number op o) = after.Calls
 after_of (AnswersAgain number op o) = after.Calls

@@ -1,5 +1,5 @@
 //! Answers to those who wait.
-ghost use Rattle.std.specs.Prelude.{◌≡◌, ◌<◌, ◌≤◌, ◌+◌, length, IsSome, IfSome, IfNone, None, true};
+ghost use Rattle.std.specs.Prelude.{◌≡◌, ◌<◌, ◌≤◌, ◌+◌, length, IsSome, IfSome, IfNone, Some, None, true};
 ghost use Rattle.std.specs.FinMap as map;
 ghost use Rattle.krl_table.specs.Rows.{front_of};
 ghost use Rattle.krl_table.specs.Replies.{can_have};
@@ -18,11 +18,14 @@ use krl_queue::Waiter;
 use krl_table::Reply;
 
 impl State {
-    /// Grants the slot's first waiter what it wants.
+    /// Grants the slot's first waiter what it wants, on that slot and on the slots after it that it
+    /// may take beside.
     fn grant(&mut self, slot: u64, waiter: &Waiter) -> Option<ToClient>
         requires formed { IsFormed self.old }
         requires client { waiter.now.client < 64 }
+        requires sound { IsSound (meaning self.old) }
         requires there { IsSome (map.get self.old.table slot) }
+        requires first { front_of ((meaning self.old).rows slot).queue ≡ Some waiter.now }
         requires fits { IfSome (front_of ((meaning self.old).rows slot).queue)
             (λ u. can_have (meaning self.old).rows slot u ≡ true) }
         ensures server { meaning self.new
@@ -31,13 +34,13 @@ impl State {
             ≡ (grants (meaning self.old) (record { slot = slot; waiter = waiter.now })).outs }
         ensures formed { IsFormed self.new }
     {
-        self.table.grant(slot);
-        let holding = self.holding(slot, waiter.client);
+        let slots = self.table.grant(slot);
+        let holdings = self.holdings(slots.as_slice(), waiter.client);
         self.push(
             waiter.client,
             PushBody::Grant {
                 req: waiter.req,
-                holding,
+                holdings,
             },
         )
     }

@@ -31,6 +31,7 @@ pub(crate) enum Case {
     Waits {
         req: u64,
         point: Point,
+        hi: u64,
         mode: Mode,
     },
     /// A new write.

@@ -123,9 +123,10 @@ impl State {
         ensures formed { OnOk result (IsFormed self.new) }
         ensures refused { OnErr result (self.new ≡ self.old) }
     {
-        let held = self.table.held(client, op);
-        let outcome = self.durable.judge(op, held);
-        self.change_slots(client, op, outcome)?;
+        let (needed, judged, slots) = (*&op, *&op, *&op);
+        let held = self.table.held(client, needed);
+        let outcome = self.durable.judge(judged, held);
+        self.change_slots(client, slots, outcome)?;
         let _outcome = self.durable.apply(client, op, held);
         Ok(outcome)
     }

@@ -13,7 +13,7 @@ use crate::line::Line;
 use crate::state::State;
 use krl_durable::Record;
 use krl_messages::{Outcome, Request, RequestBody, ToServer, ToServerBody, WriteOp};
-use krl_modes::{END, Mode, Point};
+use krl_modes::{END, Mode, Point, TOP};
 
 /// Whether the sender's number or incarnation is none of a client.
 #[tactic(auto, using(crate::proofs::Numbers::sixty_four))]
@@ -85,7 +85,8 @@ fn case_of_write(known: &Record, number: u64, op: WriteOp) -> Case
     ensures { (s : Server) (c : ℕ) (b : ToServerBody)
         → meant s c b result ≡ case_of_write s c known.now number op }
 {
-    if is_bad_write(number, op) {
+    let asked = op;
+    if is_bad_write(number, asked) {
         Case::Hears
     } else if number - 1 == known.last {
         Case::Writes { number, op }
@@ -185,9 +186,12 @@ impl State {
             ≡ case_of_request (meaning self.now) client known.now body.now }
     {
         match *body {
-            RequestBody::Lock { req, point, mode } => self.case_of_lock(
-                client, line, req, point, mode,
-            ),
+            RequestBody::Lock {
+                req,
+                point,
+                hi,
+                mode,
+            } => self.case_of_lock(client, line, req, point, hi, mode),
             RequestBody::Write { number, op } => case_of_write(known, number, op),
             RequestBody::Release { span, mode } => Case::Lowers { span, keep: mode },
             RequestBody::Ack => Case::Hears,
@@ -195,13 +199,21 @@ impl State {
     }
 
     /// The case of a lock request: it is taken, or passed over.
-    fn case_of_lock(&self, client: u64, line: &Line, req: u64, point: u64, mode: Mode) -> Case
+    fn case_of_lock(
+        &self,
+        client: u64,
+        line: &Line,
+        req: u64,
+        point: u64,
+        hi: u64,
+        mode: Mode,
+    ) -> Case
         requires formed { IsFormed self.now }
         requires client { client < 64 }
         requires line { line.now ≡ lines_of self.now.lines client }
         ensures { (b : ToServerBody)
             → meant (meaning self.now) client b result
-            ≡ case_of_lock (meaning self.now) client req point mode }
+            ≡ case_of_lock (meaning self.now) client req point hi mode }
     {
         if !is_next(req, line) {
             return Case::Hears;
@@ -209,8 +221,16 @@ impl State {
         if self.waits(client) {
             return Case::Hears;
         }
+        if hi <= point || hi > TOP {
+            return Case::Hears;
+        }
         match Point::new(point) {
-            Some(point) => Case::Waits { req, point, mode },
+            Some(point) => Case::Waits {
+                req,
+                point,
+                hi,
+                mode,
+            },
             None => Case::Hears,
         }
     }

@@ -31,9 +31,14 @@ use std::marker::Model;
 /// the slot of its point, is the only one of its client, and its client is registered and has not
 /// left; so is who is missing, each of them once; push numbers are at most END; and while the
 /// server serves, no first waiter can be answered.
-#[derive(Drop)]
 pub struct Server {
     state: State,
+}
+
+impl Drop for Server {
+    fn drop(self) {
+        let Server { state: _state } = self;
+    }
 }
 
 impl Model for Server {

@@ -1,18 +1,20 @@
 //! What a server keeps.
-ghost use Rattle.std.specs.Prelude.{◌≡◌, ◌<◌, ℕ, IsSome, set};
+ghost use Rattle.std.specs.Prelude.{◌≡◌, ◌<◌, ◌≤◌, ℕ, IsSome, length, set};
+ghost use Rattle.std.specs.List.{AllByRecursion};
 ghost use Rattle.std.specs.FinMap as map;
 ghost use Rattle.krl_modes.specs.Modes.{key_of};
+ghost use Rattle.krl_messages.specs.Several.{Ascend, most_holdings};
 ghost use Rattle.krl_server.specs.Servers.{incarnation_of, unlist};
 ghost use Rattle.krl_server.specs.States.{meaning, lines_of, IsFormed};
 ghost use Rattle.krl_server.specs.Outboxes.{as_list};
 ghost use Rattle.krl_server.specs.Effects.{out_to, epoch_to, push_to, callback_to, shown, holding};
-ghost use Rattle.krl_server.specs.Effects.{heard, pushes};
+ghost use Rattle.krl_server.specs.Effects.{heard, holdings, pushes};
 
 use crate::line::Line;
 use crate::missing::Missing;
 use krl_durable::Durable;
-use krl_messages::{Holding, PushBody, ToClient, ToClientBody};
-use krl_modes::{END, KeyPart, Mode, Span};
+use krl_messages::{Holding, Holdings, PushBody, ToClient, ToClientBody, Value};
+use krl_modes::{END, KeyPart, Mode, Point, Span};
 use krl_table::Table;
 
 /// What a server keeps, as it also is while a message is worked on.
@@ -29,7 +31,7 @@ pub struct State {
 }
 
 /// A value goes with a key part that reads it.
-fn shown(part: KeyPart, value: Option<u64>) -> Option<u64>
+fn shown(part: KeyPart, value: Option<Value>) -> Option<Value>
     ensures { result ≡ shown part value }
 {
     match part {
@@ -108,6 +110,23 @@ impl State {
             mode,
             value: shown(key, self.durable.get(slot)),
         }
+    }
+
+    /// What the client holds on each of these slots, of which there are 1 to 8, in their order.
+    pub(crate) fn holdings(&self, slots: &[Point], client: u64) -> Holdings
+        requires formed { IsFormed self.now }
+        requires there { AllByRecursion (λ n. IsSome (map.get self.now.table n)) slots.now }
+        requires order { Ascend (holdings (meaning self.now) client slots.now) }
+        requires some { 1 ≤ length slots.now }
+        requires few { length slots.now ≤ most_holdings }
+        requires client { client < 64 }
+        ensures { result ≡ holdings (meaning self.now) client slots.now }
+    {
+        let mut all = Holdings::one(self.holding(slots[0].get(), client));
+        for i in 1..slots.len() {
+            all.push(self.holding(slots[i].get(), client));
+        }
+        all
     }
 
     /// The client's last push counts as acknowledged.

@@ -130,13 +130,19 @@ impl State {
                 self.lower(client, span, keep);
                 Ok(After::Answers)
             }
-            Case::Waits { req, point, mode } => {
+            Case::Waits {
+                req,
+                point,
+                hi,
+                mode,
+            } => {
                 let node = WaitNode::try_new(
                     alloc,
                     Waiter {
                         client,
                         req,
                         point,
+                        hi,
                         mode,
                     },
                 )?;
@@ -144,7 +150,8 @@ impl State {
                 Ok(After::Calls)
             }
             Case::Writes { number, op } => {
-                let outcome = self.write(client, op)?;
+                let written = op;
+                let outcome = self.write(client, written)?;
                 self.hear(client);
                 outbox.send_some(self.answer_write(client, number, op, outcome));
                 Ok(After::Calls)

@@ -2,10 +2,10 @@
 //! refused, a server shows what it showed, and the refused call is made again.
 use krl_durable::{Durable, Record};
 use krl_messages::{
-    Holding, Items, KeyPiece, Outcome, Pieces, PushBody, RangePiece, Request, RequestBody,
-    ToClient, ToClientBody, ToServer, ToServerBody, Value, WriteOp,
+    Holding, Items, KeyPiece, KeyPieces, Outcome, Pieces, PushBody, RangePiece, RangePieces,
+    Request, RequestBody, ToClient, ToClientBody, ToServer, ToServerBody, Value, WriteOp,
 };
-use krl_modes::{KeyPart, Mode, RangePart, Span};
+use krl_modes::{END, KeyPart, Mode, RangePart, Span};
 use krl_server::{NotStarted, Phase, Server, ServerOut, StartRefused};
 use std::alloc::{AllocError, Global};
 
@@ -32,14 +32,25 @@ pub enum Act {
 pub enum Asked {
     // The request's number, the point and the mode.
     Lock(u64, u64, Mode),
-    Write(u64, WriteOp),
+    // The same, and one past the last point.
+    LockTo(u64, u64, u64, Mode),
+    // The write's number.
+    Write(u64, Change),
     Release(u64, u64, Mode),
     Ack,
 }
 
-// A holding, by the ends of its span.
+// A change of one entry. Its value is the bytes of a text.
 #[derive(Clone, Copy)]
-pub struct Held(pub u64, pub u64, pub Mode, pub Option<Value>);
+pub enum Change {
+    Insert(u64, &'static str),
+    Put(u64, &'static str),
+    Delete(u64),
+}
+
+// A holding, by the ends of its span, with the bytes of a text as its value.
+#[derive(Clone, Copy)]
+pub struct Held(pub u64, pub u64, pub Mode, pub Option<&'static str>);
 
 // What a client is told.
 #[derive(Clone, Copy)]
@@ -47,6 +58,8 @@ pub enum Told {
     Epoch(Who, u64),
     // The push's number, and the request's.
     Grant(Who, u64, u64, Held),
+    // The same, over several slots.
+    Grants(Who, u64, u64, &'static [Held]),
     // The same, and the point.
     Absent(Who, u64, u64, u64),
     // The push's number, and the write's.
@@ -63,59 +76,102 @@ pub enum Gives {
     // The report contradicts what others hold: nothing is sent, and nothing changes.
     Alarm,
     Missing(&'static [u64]),
-    Entries(&'static [(u64, Value)]),
+    Entries(&'static [(u64, &'static str)]),
+}
+
+fn value(text: &str) -> Option<Value> {
+    Value::new(text.as_bytes())
 }
 
 fn holding(held: Held) -> Option<Holding> {
-    let Held(lo, hi, mode, value) = held;
-    match Span::new(lo, hi) {
-        Ok(span) => Some(Holding { span, mode, value }),
-        Err(_) => None,
-    }
-}
-
-fn push(epoch: u64, number: u64, body: PushBody) -> ToClientBody {
-    ToClientBody::Push {
-        epoch,
-        number,
-        body,
-    }
-}
-
-// What the client is told by a server of this epoch.
-fn body(epoch: u64, told: Told) -> Option<ToClientBody> {
-    match told {
-        Told::Epoch(_, epoch) => Some(ToClientBody::Epoch { epoch }),
-        Told::Grant(_, number, req, held) => {
-            let holding = holding(held)?;
-            Some(push(epoch, number, PushBody::Grant { req, holding }))
-        }
-        Told::Absent(_, number, req, point) => {
-            Some(push(epoch, number, PushBody::Absent { req, point }))
-        }
-        Told::Answer(_, push_number, number, outcome, held) => {
-            let holding = holding(held)?;
-            let body = PushBody::Answer {
-                number,
-                outcome,
-                holding,
-            };
-            Some(push(epoch, push_number, body))
-        }
-        Told::Callback(_, lo, hi, keep) => match Span::new(lo, hi) {
-            Ok(span) => Some(ToClientBody::Callback { epoch, span, keep }),
-            Err(_) => None,
-        },
-    }
+    let Held(lo, hi, mode, text) = held;
+    let span = Span::new(lo, hi).ok()?;
+    let value = match text {
+        None => None,
+        Some(text) => Some(value(text)?),
+    };
+    Some(Holding { span, mode, value })
 }
 
 fn receiver(told: Told) -> Who {
     match told {
         Told::Epoch(who, _)
         | Told::Grant(who, ..)
+        | Told::Grants(who, ..)
         | Told::Absent(who, ..)
         | Told::Answer(who, ..)
         | Told::Callback(who, ..) => who,
+    }
+}
+
+// Whether these are the holdings, one after another.
+fn are_held(holdings: &[Holding], expected: &[Held]) -> bool {
+    holdings.len() == expected.len()
+        && holdings
+            .iter()
+            .zip(expected.iter())
+            .all(|(found, held)| holding(*held) == Some(*found))
+}
+
+// Whether the push answers the request with just these holdings.
+fn is_granted(push: &PushBody, req: u64, expected: &[Held]) -> bool {
+    match push {
+        PushBody::Grant {
+            req: answered,
+            holdings,
+        } => *answered == req && are_held(holdings.as_slice(), expected),
+        _ => false,
+    }
+}
+
+// Whether the push answers the write so.
+fn is_answered(push: &PushBody, number: u64, outcome: Outcome, expected: Held) -> bool {
+    match push {
+        PushBody::Answer {
+            number: answered,
+            outcome: found,
+            holding: after,
+        } => *answered == number && *found == outcome && holding(expected) == Some(*after),
+        _ => false,
+    }
+}
+
+// Whether a push of this number is the one that is told.
+fn is_pushed(number: u64, push: &PushBody, told: Told) -> bool {
+    match told {
+        Told::Grant(_, pushed, req, held) => pushed == number && is_granted(push, req, &[held]),
+        Told::Grants(_, pushed, req, held) => pushed == number && is_granted(push, req, held),
+        Told::Absent(_, pushed, req, point) => {
+            pushed == number && *push == PushBody::Absent { req, point }
+        }
+        Told::Answer(_, pushed, write, outcome, held) => {
+            pushed == number && is_answered(push, write, outcome, held)
+        }
+        Told::Epoch(..) | Told::Callback(..) => false,
+    }
+}
+
+// Whether this is said by a server of the epoch.
+fn is_said(epoch: u64, body: &ToClientBody, told: Told) -> bool {
+    match body {
+        ToClientBody::Epoch { epoch: said } => {
+            matches!(told, Told::Epoch(_, expected) if expected == *said)
+        }
+        ToClientBody::Push {
+            epoch: said,
+            number,
+            body,
+        } => *said == epoch && is_pushed(*number, body, told),
+        ToClientBody::Callback {
+            epoch: said,
+            span,
+            keep,
+        } => match told {
+            Told::Callback(_, lo, hi, mode) => {
+                *said == epoch && *keep == mode && (span.lo(), span.hi()) == (lo, hi)
+            }
+            _ => false,
+        },
     }
 }
 
@@ -123,7 +179,7 @@ fn is_told(epoch: u64, message: &ToClient, told: Told) -> bool {
     let Who(client, incarnation) = receiver(told);
     message.client == client
         && message.incarnation == incarnation
-        && Some(message.body) == body(epoch, told)
+        && is_said(epoch, &message.body, told)
 }
 
 fn are_told(epoch: u64, messages: &[ToClient], expected: &[Told]) -> bool {
@@ -134,39 +190,78 @@ fn are_told(epoch: u64, messages: &[ToClient], expected: &[Told]) -> bool {
             .all(|(message, told)| is_told(epoch, message, *told))
 }
 
+fn range_pieces(
+    alloc: Global,
+    ranges: &[(u64, u64, RangePart)],
+) -> Result<RangePieces, AllocError> {
+    let mut pieces = Vec::new(alloc);
+    for (lo, hi, part) in ranges {
+        if let Ok(span) = Span::new(*lo, *hi) {
+            pieces.push(RangePiece { span, part: *part })?;
+        }
+    }
+    Ok(pieces.into())
+}
+
+fn key_pieces(alloc: Global, keys: &[(u64, KeyPart)]) -> Result<KeyPieces, AllocError> {
+    let mut pieces = Vec::new(alloc);
+    for (point, part) in keys {
+        pieces.push(KeyPiece {
+            point: *point,
+            part: *part,
+        })?;
+    }
+    Ok(pieces.into())
+}
+
 fn pieces(
     alloc: Global,
     ranges: &[(u64, u64, RangePart)],
     keys: &[(u64, KeyPart)],
 ) -> Result<Pieces, AllocError> {
-    let mut spans = Vec::new(alloc);
-    for (lo, hi, part) in ranges {
-        if let Ok(span) = Span::new(*lo, *hi) {
-            spans.push(RangePiece { span, part: *part })?;
-        }
-    }
-    let mut points = Vec::new(alloc);
-    for (point, part) in keys {
-        points.push(KeyPiece {
-            point: *point,
-            part: *part,
-        })?;
-    }
     Ok(Pieces {
-        ranges: spans.into(),
-        keys: points.into(),
+        ranges: range_pieces(alloc, ranges)?,
+        keys: key_pieces(alloc, keys)?,
     })
 }
 
-fn request(asked: Asked) -> RequestBody {
+fn write(change: Change) -> Option<WriteOp> {
+    match change {
+        Change::Insert(key, text) => Some(WriteOp::Insert {
+            key,
+            value: value(text)?,
+        }),
+        Change::Put(key, text) => Some(WriteOp::Put {
+            key,
+            value: value(text)?,
+        }),
+        Change::Delete(key) => Some(WriteOp::Delete { key }),
+    }
+}
+
+fn request(asked: Asked) -> Option<RequestBody> {
     match asked {
-        Asked::Lock(req, point, mode) => RequestBody::Lock { req, point, mode },
-        Asked::Write(number, op) => RequestBody::Write { number, op },
-        Asked::Release(lo, hi, mode) => match Span::new(lo, hi) {
-            Ok(span) => RequestBody::Release { span, mode },
-            Err(_) => RequestBody::Ack,
-        },
-        Asked::Ack => RequestBody::Ack,
+        Asked::Lock(req, point, mode) => Some(RequestBody::Lock {
+            req,
+            point,
+            hi: point.saturating_add(1),
+            mode,
+        }),
+        Asked::LockTo(req, point, hi, mode) => Some(RequestBody::Lock {
+            req,
+            point,
+            hi,
+            mode,
+        }),
+        Asked::Write(number, change) => Some(RequestBody::Write {
+            number,
+            op: write(change)?,
+        }),
+        Asked::Release(lo, hi, mode) => Some(RequestBody::Release {
+            span: Span::new(lo, hi).ok()?,
+            mode,
+        }),
+        Asked::Ack => Some(RequestBody::Ack),
     }
 }
 
@@ -180,7 +275,9 @@ fn message(alloc: Global, act: Act) -> Result<Option<ToServer>, AllocError> {
             (who, ToServerBody::Report { epoch, pieces })
         }
         Act::Asks(who, epoch, seen, asked) => {
-            let body = request(asked);
+            let Some(body) = request(asked) else {
+                return Ok(None);
+            };
             (who, ToServerBody::Request(Request { epoch, seen, body }))
         }
         Act::Nudge(_) | Act::Missing | Act::Entries => return Ok(None),
@@ -314,56 +411,64 @@ fn hears(alloc: Global, server: &mut Server, message: &ToServer, expected: &Give
     }
 }
 
+// Whether just these entries are there, in this order.
+fn are_entries(entries: &[(u64, Value)], expected: &[(u64, &'static str)]) -> bool {
+    entries.len() == expected.len()
+        && entries.iter().zip(expected.iter()).all(|(entry, (key, text))| entry.0 == *key
+            && entry.1.bytes() == text.as_bytes())
+}
+
+fn are_missing(alloc: Global, server: &Server, expected: &[u64]) -> bool {
+    match missing(alloc, server) {
+        Ok(clients) => clients.as_slice() == expected,
+        Err(_) => false,
+    }
+}
+
+fn nudges(alloc: Global, server: &Server, client: u64, expected: &[Told]) -> bool {
+    match nudge(alloc, server, client) {
+        Ok(messages) => are_told(server.durable().epoch(), messages.as_slice(), expected),
+        Err(_) => false,
+    }
+}
+
 // Whether a look at the server shows this.
-fn is_shown(
-    alloc: Global,
-    server: &Server,
-    act: Act,
-    expected: &Gives,
-) -> Result<bool, AllocError> {
-    Ok(match (act, expected) {
+fn is_shown(alloc: Global, server: &Server, act: Act, expected: &Gives) -> bool {
+    match (act, expected) {
         (Act::Missing, Gives::Missing(clients)) => {
             (server.phase() == Phase::Gathering) != clients.is_empty()
-                && missing(alloc, server)?.as_slice() == *clients
+                && are_missing(alloc, server, clients)
         }
-        (Act::Entries, Gives::Entries(entries)) => server.durable().entries() == *entries,
-        (Act::Nudge(client), Gives::Only(told)) => {
-            let messages = nudge(alloc, server, client)?;
-            are_told(server.durable().epoch(), messages.as_slice(), told)
+        (Act::Entries, Gives::Entries(entries)) => {
+            are_entries(server.durable().entries(), entries)
         }
+        (Act::Nudge(client), Gives::Only(told)) => nudges(alloc, server, client, told),
         _ => false,
-    })
+    }
 }
 
 // Whether the act gives this.
-fn acts(
-    alloc: Global,
-    server: &mut Server,
-    act: Act,
-    expected: &Gives,
-) -> Result<bool, AllocError> {
-    let message = match message(alloc, act) {
-        Ok(message) => message,
-        Err(_) => message(alloc, act)?,
-    };
-    match message {
-        Some(message) => Ok(hears(alloc, server, &message, expected)),
-        None => is_shown(alloc, server, act, expected),
+fn acts(alloc: Global, server: &mut Server, act: Act, expected: &Gives) -> bool {
+    match message(alloc, act).or_else(|_refused| message(alloc, act)) {
+        Ok(Some(message)) => hears(alloc, server, &message, expected),
+        Ok(None) => is_shown(alloc, server, act, expected),
+        Err(_) => false,
     }
 }
 
-// The row that fails first, if any.
-pub fn fails(
-    alloc: Global,
-    server: &mut Server,
-    rows: &[(Act, Gives)],
-) -> Result<Option<usize>, AllocError> {
-    for i in 0..rows.len() {
-        if !acts(alloc, server, rows[i].0, &rows[i].1)? {
-            return Ok(Some(i));
+// Whether each act gives what its row says.
+pub fn all_give(alloc: Global, server: &mut Server, rows: &[(Act, Gives)]) -> bool {
+    for (act, expected) in rows {
+        if !acts(alloc, server, *act, expected) {
+            return false;
         }
     }
-    Ok(None)
+    true
+}
+
+// Whether a start was refused so, and what survives came back as it was.
+fn is_refused(not_started: &NotStarted, refused: StartRefused, before: &Survives) -> bool {
+    not_started.refused == refused && surviving(&not_started.durable) == *before
 }
 
 // A server on what survives. Where a start is refused memory that comes back as it was, and the
@@ -372,26 +477,26 @@ pub fn started(alloc: Global, durable: Durable) -> Option<Server> {
     let before = surviving(&durable);
     match Server::start(alloc, durable) {
         Ok(server) => Some(server),
-        Err(NotStarted { refused, durable }) => {
-            if refused != StartRefused::OutOfMemory || surviving(&durable) != before {
+        Err(not_started) => {
+            if !is_refused(&not_started, StartRefused::OutOfMemory, &before) {
                 return None;
             }
-            match Server::start(alloc, durable) {
-                Ok(server) => Some(server),
-                Err(_) => None,
-            }
+            Server::start(alloc, not_started.durable).ok()
         }
     }
 }
 
-// Whether a server is refused on what survives since no epoch is left, and that comes back as it
-// was.
-pub fn is_spent(alloc: Global, durable: Durable) -> bool {
+// Whether a server is refused on what survives since it is of the last epoch, and that comes back
+// as it was.
+pub fn is_spent(alloc: Global, durable: Option<Durable>) -> bool {
+    let Some(durable) = durable else {
+        return false;
+    };
     let before = surviving(&durable);
     match Server::start(alloc, durable) {
         Ok(_) => false,
-        Err(NotStarted { refused, durable }) => {
-            refused == StartRefused::Spent && surviving(&durable) == before
+        Err(not_started) => {
+            before.epoch == END && is_refused(&not_started, StartRefused::Spent, &before)
         }
     }
 }

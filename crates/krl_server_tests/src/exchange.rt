@@ -50,7 +50,7 @@ pub static EXCHANGE: [(Act, Gives); 23] = [
     ),
     (
         Act::Bye(A),
-        Gives::Told(&[Told::Grant(B, 2, 2, Held(0, 11, Mode::RangeXX, Some(1)))]),
+        Gives::Told(&[Told::Grant(B, 2, 2, Held(0, 11, Mode::RangeXX, Some("1")))]),
     ),
     (Act::Bye(A), Gives::Only(&[])),
     (Act::Hello(A), Gives::Only(&[])),

@@ -10,6 +10,8 @@ mod gathering;
 #[cfg(test)]
 mod named;
 #[cfg(test)]
+mod ranges;
+#[cfg(test)]
 mod strangers;
 #[cfg(test)]
 mod tests;

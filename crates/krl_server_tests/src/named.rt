@@ -1,6 +1,5 @@
 //! Clients, holdings and requests that the rows name.
-use crate::acts::{Asked, Held, Who};
-use krl_messages::WriteOp;
+use crate::acts::{Asked, Change, Held, Who};
 use krl_modes::Mode;
 
 pub const A: Who = Who(0, 1);
@@ -16,13 +15,13 @@ pub const B2: Who = Who(1, 2);
 
 pub const C2: Who = Who(2, 2);
 
-pub const FIRST: Held = Held(0, 11, Mode::RangeXX, Some(1));
+pub const FIRST: Held = Held(0, 11, Mode::RangeXX, Some("1"));
 
-pub const SHARED: Held = Held(0, 11, Mode::RangeSS, Some(1));
+pub const SHARED: Held = Held(0, 11, Mode::RangeSS, Some("1"));
 
-pub const SECOND: Held = Held(11, 21, Mode::RangeXX, Some(2));
+pub const SECOND: Held = Held(11, 21, Mode::RangeXX, Some("2"));
 
-pub const BOTH: Held = Held(0, 21, Mode::RangeXX, Some(2));
+pub const BOTH: Held = Held(0, 21, Mode::RangeXX, Some("2"));
 
 pub const LOCK_3: Asked = Asked::Lock(1, 3, Mode::RangeSS);
 
@@ -30,4 +29,4 @@ pub const LOCK_5: Asked = Asked::Lock(1, 5, Mode::RangeXX);
 
 pub const KEEP_FIRST: Asked = Asked::Release(0, 11, Mode::RangeSU);
 
-pub const DELETE: Asked = Asked::Write(1, WriteOp::Delete { key: 10 });
+pub const DELETE: Asked = Asked::Write(1, Change::Delete(10));

@@ -1,11 +1,10 @@
 //! Strangers, and clients that contradict what the server knows.
-use crate::acts::{Act, Asked, Gives, Told, Who};
+use crate::acts::{Act, Asked, Change, Gives, Told, Who};
 use crate::named::{A, A2, B, C, FIRST, KEEP_FIRST, LOCK_3, LOCK_5};
-use krl_messages::WriteOp;
-use krl_modes::{END, KeyPart, Mode, RangePart};
+use krl_modes::{END, KeyPart, Mode, RangePart, TOP};
 
 // Strangers, and clients that contradict what the server knows.
-pub static STRANGERS: [(Act, Gives); 38] = [
+pub static STRANGERS: [(Act, Gives); 43] = [
     (Act::Hello(A), Gives::Told(&[Told::Epoch(A, 1)])),
     (Act::Hello(B), Gives::Told(&[Told::Epoch(B, 1)])),
     (
@@ -92,13 +91,21 @@ pub static STRANGERS: [(Act, Gives); 38] = [
         Act::Asks(A, 1, 1, Asked::Lock(2, 18446744073709551615, Mode::S)),
         Gives::Only(&[]),
     ),
-    // Writes and keys that are none.
+    // Spans that have no point, and spans that go past the last one.
     (
-        Act::Asks(A, 1, 1, Asked::Write(0, WriteOp::Delete { key: 10 })),
+        Act::Asks(A, 1, 1, Asked::LockTo(2, 11, 11, Mode::RangeSS)),
         Gives::Only(&[]),
     ),
     (
-        Act::Asks(A, 1, 1, Asked::Write(2, WriteOp::Delete { key: 10 })),
+        Act::Asks(A, 1, 1, Asked::LockTo(2, 11, 0, Mode::RangeSS)),
+        Gives::Only(&[]),
+    ),
+    (
+        Act::Asks(A, 1, 1, Asked::LockTo(2, 0, 0, Mode::RangeSS)),
+        Gives::Only(&[]),
+    ),
+    (
+        Act::Asks(A, 1, 1, Asked::LockTo(2, 11, TOP + 1, Mode::RangeSS)),
         Gives::Only(&[]),
     ),
     (
@@ -106,12 +113,25 @@ pub static STRANGERS: [(Act, Gives); 38] = [
             A,
             1,
             1,
-            Asked::Write(1, WriteOp::Put { key: END, value: 1 }),
+            Asked::LockTo(2, END, 18446744073709551615, Mode::RangeSS),
         ),
         Gives::Only(&[]),
     ),
+    // Writes and keys that are none.
     (
-        Act::Asks(A, 1, 1, Asked::Write(1, WriteOp::Delete { key: END + 1 })),
+        Act::Asks(A, 1, 1, Asked::Write(0, Change::Delete(10))),
+        Gives::Only(&[]),
+    ),
+    (
+        Act::Asks(A, 1, 1, Asked::Write(2, Change::Delete(10))),
+        Gives::Only(&[]),
+    ),
+    (
+        Act::Asks(A, 1, 1, Asked::Write(1, Change::Put(END, "1"))),
+        Gives::Only(&[]),
+    ),
+    (
+        Act::Asks(A, 1, 1, Asked::Write(1, Change::Delete(END + 1))),
         Gives::Only(&[]),
     ),
     // B gives back what A holds.

@@ -6,22 +6,29 @@ ghost use Rattle.std.specs.Map.{keys_of};
 ghost use Rattle.krl_modes.specs.declared.point.TheConstants.{END};
 ghost use Rattle.krl_durable.specs.Kept.{IsRow};
 
-use crate::acts::{Act, Gives, fails, is_spent, started};
+use crate::acts::{Act, Gives, all_give, is_spent, started};
 use crate::exchange::{CROWD, EXCHANGE, SHARES};
 use crate::gathering::{CONTRADICTS, GATHERS, REGISTERS};
+use crate::ranges::{
+    COVERS, ENDS_BEFORE_A_HELD_SLOT, ENDS_BEFORE_A_WAITER, READS_VALUES_AGAIN, WRITES_VALUES,
+};
 use crate::strangers::STRANGERS;
 use crate::writes::{ANSWERS_AGAIN, LAST_NUMBER, LOSES_AN_ANSWER, WRITES};
 use krl_durable::{Durable, Record};
 use krl_messages::{Outcome, Value};
 use krl_modes::END;
-use krl_server::Server;
 use std::alloc::Global;
-use std::process::Abort;
-use std::test::Fail;
 
-static ONE_ENTRY: [(u64, Value); 1] = [(10, 1)];
+fn one_entry() -> [(u64, Value); 1] {
+    [(10, Value::new(b"1").unwrap())]
+}
 
-static TWO_ENTRIES: [(u64, Value); 2] = [(10, 1), (20, 2)];
+fn two_entries() -> [(u64, Value); 2] {
+    [
+        (10, Value::new(b"1").unwrap()),
+        (20, Value::new(b"2").unwrap()),
+    ]
+}
 
 const WROTE_NOTHING: Record = Record {
     incarnation: 1,
@@ -44,108 +51,128 @@ static NO_NUMBER_LEFT: [(u64, Record); 1] = [(
 )];
 
 // What survives where nothing has happened to these entries yet.
-fn unused(rt: &impl Abort, alloc: Global, entries: &[(u64, Value)]) -> Durable {
-    let durable = match Durable::new(alloc, entries) {
-        Ok(durable) => Some(durable),
-        Err(_) => Durable::new(alloc, entries).ok(),
-    };
-    match durable {
-        Some(durable) => durable,
-        None => panic!(rt; "no durable part"),
-    }
+fn unused(alloc: Global, entries: &[(u64, Value)]) -> Option<Durable> {
+    Durable::new(alloc, entries)
+        .or_else(|_refused| Durable::new(alloc, entries))
+        .ok()
 }
 
 // What a host kept of the one entry: this epoch, and these records.
-fn kept(rt: &impl Abort, alloc: Global, epoch: u64, records: &[(u64, Record)]) -> Durable
+fn kept(alloc: Global, epoch: u64, records: &[(u64, Record)]) -> Option<Durable>
     requires epoch { epoch ≤ END }
     requires each { AllByRecursion IsRow records.now }
     requires once { IsDistinct nat_eq (keys_of records.now) }
 {
-    let durable = match Durable::from_parts(alloc, &ONE_ENTRY, epoch, records) {
+    match Durable::from_parts(alloc, &one_entry(), epoch, records) {
         Ok(durable) => Some(durable),
-        Err(_) => Durable::from_parts(alloc, &ONE_ENTRY, epoch, records).ok(),
-    };
-    match durable {
-        Some(durable) => durable,
-        None => panic!(rt; "no durable part"),
+        Err(_) => Durable::from_parts(alloc, &one_entry(), epoch, records).ok(),
     }
 }
 
 // What a host kept of two clients.
-fn two_clients(rt: &impl Abort, alloc: Global, epoch: u64) -> Durable
+fn two_clients(alloc: Global, epoch: u64) -> Option<Durable>
     requires { epoch ≤ END }
 {
-    kept(rt, alloc, epoch, &TWO_CLIENTS)
+    kept(alloc, epoch, &TWO_CLIENTS)
 }
 
 // What a host kept of one client.
-fn no_number_left(rt: &impl Abort, alloc: Global) -> Durable {
-    kept(rt, alloc, 1, &NO_NUMBER_LEFT)
+fn no_number_left(alloc: Global) -> Option<Durable> {
+    kept(alloc, 1, &NO_NUMBER_LEFT)
 }
 
-fn starts(rt: &impl Abort, alloc: Global, durable: Durable) -> Server {
-    match started(alloc, durable) {
-        Some(server) => server,
-        None => panic!(rt; "no server starts"),
+// What survives a server that begins with this, gives what each row says, and then crashes; None
+// where it does not start, or gives something else.
+fn survives(alloc: Global, durable: Option<Durable>, rows: &[(Act, Gives)]) -> Option<Durable> {
+    let mut server = started(alloc, durable?)?;
+    if all_give(alloc, &mut server, rows) {
+        Some(server.crash())
+    } else {
+        None
     }
 }
 
+// Whether a server that begins with this gives what each row says.
+fn gives(alloc: Global, durable: Option<Durable>, rows: &[(Act, Gives)]) -> bool {
+    survives(alloc, durable, rows).is_some()
+}
+
+// Whether one that begins with the first entry does.
+fn gives_on_one(alloc: Global, rows: &[(Act, Gives)]) -> bool {
+    gives(alloc, unused(alloc, &one_entry()), rows)
+}
+
+// Whether one that begins with both entries does.
+fn gives_on_two(alloc: Global, rows: &[(Act, Gives)]) -> bool {
+    gives(alloc, unused(alloc, &two_entries()), rows)
+}
+
+// Whether it gives what the first rows say, and then, after a crash, what the others say.
+fn gives_over_a_crash(
+    alloc: Global,
+    entries: &[(u64, Value)],
+    rows: &[(Act, Gives)],
+    others: &[(Act, Gives)],
+) -> bool {
+    gives(alloc, survives(alloc, unused(alloc, entries), rows), others)
+}
+
 #[test]
-fn gives_each_row(rt: HostRuntime) -> Result<(), Fail> {
-    let alloc = rt.alloc();
+fn gives_each_row(rt: HostRuntime) {
     for rows in [EXCHANGE.as_slice(), CROWD.as_slice(), SHARES.as_slice()] {
-        let mut server = starts(&rt, alloc, unused(&rt, alloc, &ONE_ENTRY));
-        assert_eq!(rt; fails(alloc, &mut server, rows)?, None);
+        assert!(rt; gives_on_one(rt.alloc(), rows));
     }
-    let mut server = starts(&rt, alloc, unused(&rt, alloc, &TWO_ENTRIES));
-    assert_eq!(rt; fails(alloc, &mut server, &WRITES)?, None);
-    Ok(())
+    assert!(rt; gives_on_two(rt.alloc(), &WRITES));
 }
 
 #[test]
-fn passes_over_strangers(rt: HostRuntime) -> Result<(), Fail> {
-    let alloc = rt.alloc();
-    let mut server = starts(&rt, alloc, unused(&rt, alloc, &TWO_ENTRIES));
-    assert_eq!(rt; fails(alloc, &mut server, &STRANGERS)?, None);
-    Ok(())
+fn grants_over_ranges(rt: HostRuntime) {
+    for rows in [
+        COVERS.as_slice(),
+        ENDS_BEFORE_A_HELD_SLOT.as_slice(),
+        ENDS_BEFORE_A_WAITER.as_slice(),
+    ] {
+        assert!(rt; gives_on_two(rt.alloc(), rows));
+    }
 }
 
 #[test]
-fn gathers_before_it_serves(rt: HostRuntime) -> Result<(), Fail> {
-    let alloc = rt.alloc();
-    let mut server = starts(&rt, alloc, unused(&rt, alloc, &TWO_ENTRIES));
-    assert_eq!(rt; fails(alloc, &mut server, &REGISTERS)?, None);
-    let mut server = starts(&rt, alloc, server.crash());
-    assert_eq!(rt; fails(alloc, &mut server, &GATHERS)?, None);
-    Ok(())
+fn keeps_values_over_a_restart(rt: HostRuntime) {
+    let (rows, others) = (&WRITES_VALUES, &READS_VALUES_AGAIN);
+    assert!(rt; gives_over_a_crash(rt.alloc(), &one_entry(), rows, others));
 }
 
 #[test]
-fn answers_a_write_again_after_a_restart(rt: HostRuntime) -> Result<(), Fail> {
-    let alloc = rt.alloc();
-    let mut server = starts(&rt, alloc, unused(&rt, alloc, &TWO_ENTRIES));
-    assert_eq!(rt; fails(alloc, &mut server, &LOSES_AN_ANSWER)?, None);
-    let mut server = starts(&rt, alloc, server.crash());
-    assert_eq!(rt; fails(alloc, &mut server, &ANSWERS_AGAIN)?, None);
-    Ok(())
+fn passes_over_strangers(rt: HostRuntime) {
+    assert!(rt; gives_on_two(rt.alloc(), &STRANGERS));
 }
 
 #[test]
-fn starts_on_what_a_host_kept(rt: HostRuntime) -> Result<(), Fail> {
-    let alloc = rt.alloc();
-    let mut server = starts(&rt, alloc, two_clients(&rt, alloc, 1));
-    assert_eq!(rt; fails(alloc, &mut server, &CONTRADICTS)?, None);
-    let mut server = starts(&rt, alloc, no_number_left(&rt, alloc));
-    assert_eq!(rt; fails(alloc, &mut server, &LAST_NUMBER)?, None);
-    Ok(())
+fn gathers_before_it_serves(rt: HostRuntime) {
+    assert!(rt; gives_over_a_crash(rt.alloc(), &two_entries(), &REGISTERS, &GATHERS));
 }
 
 #[test]
-fn has_no_epoch_after_the_last(rt: HostRuntime) -> Result<(), Fail> {
+fn answers_a_write_again_after_a_restart(rt: HostRuntime) {
+    let (rows, others) = (&LOSES_AN_ANSWER, &ANSWERS_AGAIN);
+    assert!(rt; gives_over_a_crash(rt.alloc(), &two_entries(), rows, others));
+}
+
+// Whether the rows of what a host kept are given.
+fn gives_on_kept(alloc: Global) -> bool {
+    gives(alloc, two_clients(alloc, 1), &CONTRADICTS)
+        && gives(alloc, no_number_left(alloc), &LAST_NUMBER)
+}
+
+#[test]
+fn starts_on_what_a_host_kept(rt: HostRuntime) {
+    assert!(rt; gives_on_kept(rt.alloc()));
+}
+
+#[test]
+fn has_no_epoch_after_the_last(rt: HostRuntime) {
     let alloc = rt.alloc();
-    assert!(rt; is_spent(alloc, two_clients(&rt, alloc, END)));
-    let server = starts(&rt, alloc, two_clients(&rt, alloc, END - 1));
-    assert!(rt; server.durable().epoch() == END);
-    assert!(rt; is_spent(alloc, server.crash()));
-    Ok(())
+    assert!(rt; is_spent(alloc, two_clients(alloc, END)));
+    let durable = survives(alloc, two_clients(alloc, END - 1), &[]);
+    assert!(rt; is_spent(alloc, durable));
 }

@@ -1,7 +1,7 @@
 //! Writes, and writes that are said again after a restart.
-use crate::acts::{Act, Asked, Gives, Held, Told};
+use crate::acts::{Act, Asked, Change, Gives, Held, Told};
 use crate::named::{A, B, BOTH, DELETE, FIRST, LOCK_3, LOCK_5, SECOND};
-use krl_messages::{Outcome, WriteOp};
+use krl_messages::Outcome;
 use krl_modes::{END, KeyPart, Mode, RangePart};
 
 // On 10=1 and 20=2: each outcome of a write, a write that is said again, and numbers that are none.
@@ -20,7 +20,7 @@ pub static WRITES: [(Act, Gives); 22] = [
         Act::Asks(A, 1, 2, DELETE),
         Gives::Told(&[Told::Answer(A, 3, 1, Outcome::Applied, BOTH)]),
     ),
-    (Act::Entries, Gives::Entries(&[(20, 2)])),
+    (Act::Entries, Gives::Entries(&[(20, "2")])),
     (
         Act::Asks(B, 1, 0, LOCK_3),
         Gives::Told(&[Told::Callback(A, 0, 21, Mode::RangeSU)]),
@@ -38,94 +38,79 @@ pub static WRITES: [(Act, Gives); 22] = [
     ),
     // B waits below the new entry.
     (
-        Act::Asks(
-            A,
-            1,
-            4,
-            Asked::Write(2, WriteOp::Insert { key: 7, value: 70 }),
-        ),
+        Act::Asks(A, 1, 4, Asked::Write(2, Change::Insert(7, "70"))),
         Gives::Told(&[
             Told::Answer(
                 A,
                 5,
                 2,
                 Outcome::Applied,
-                Held(0, 8, Mode::RangeXX, Some(70)),
+                Held(0, 8, Mode::RangeXX, Some("70")),
             ),
             Told::Callback(A, 0, 8, Mode::RangeSU),
         ]),
     ),
-    (Act::Entries, Gives::Entries(&[(7, 70), (20, 2)])),
+    (Act::Entries, Gives::Entries(&[(7, "70"), (20, "2")])),
     (
         Act::Asks(A, 1, 5, Asked::Release(0, 8, Mode::RangeSU)),
-        Gives::Told(&[Told::Grant(B, 1, 1, Held(0, 8, Mode::RangeSS, Some(70)))]),
+        Gives::Told(&[Told::Grant(B, 1, 1, Held(0, 8, Mode::RangeSS, Some("70")))]),
     ),
     (
-        Act::Asks(
-            A,
-            1,
-            5,
-            Asked::Write(3, WriteOp::Insert { key: 7, value: 71 }),
-        ),
+        Act::Asks(A, 1, 5, Asked::Write(3, Change::Insert(7, "71"))),
         Gives::Told(&[Told::Answer(
             A,
             6,
             3,
             Outcome::Exists,
-            Held(0, 8, Mode::RangeSU, Some(70)),
+            Held(0, 8, Mode::RangeSU, Some("70")),
         )]),
     ),
     (
-        Act::Asks(A, 1, 6, Asked::Write(4, WriteOp::Delete { key: 9 })),
+        Act::Asks(A, 1, 6, Asked::Write(4, Change::Delete(9))),
         Gives::Told(&[Told::Answer(
             A,
             7,
             4,
             Outcome::Absent,
-            Held(8, 21, Mode::RangeXX, Some(2)),
+            Held(8, 21, Mode::RangeXX, Some("2")),
         )]),
     ),
     (
-        Act::Asks(A, 1, 7, Asked::Write(5, WriteOp::Put { key: 20, value: 3 })),
+        Act::Asks(A, 1, 7, Asked::Write(5, Change::Put(20, "3"))),
         Gives::Told(&[Told::Answer(
             A,
             8,
             5,
             Outcome::Applied,
-            Held(8, 21, Mode::RangeXX, Some(3)),
+            Held(8, 21, Mode::RangeXX, Some("3")),
         )]),
     ),
     (
-        Act::Asks(B, 1, 1, Asked::Write(1, WriteOp::Put { key: 20, value: 4 })),
+        Act::Asks(B, 1, 1, Asked::Write(1, Change::Put(20, "4"))),
         Gives::Told(&[Told::Answer(B, 2, 1, Outcome::NotHeld, Held(8, 21, Mode::N, None))]),
     ),
     // Numbers of an earlier write, of none, and of one too far; keys that are none.
     (
-        Act::Asks(A, 1, 8, Asked::Write(4, WriteOp::Delete { key: 9 })),
+        Act::Asks(A, 1, 8, Asked::Write(4, Change::Delete(9))),
         Gives::Told(&[]),
     ),
     (
-        Act::Asks(A, 1, 8, Asked::Write(0, WriteOp::Delete { key: 7 })),
+        Act::Asks(A, 1, 8, Asked::Write(0, Change::Delete(7))),
         Gives::Only(&[]),
     ),
     (
-        Act::Asks(A, 1, 8, Asked::Write(7, WriteOp::Delete { key: 7 })),
+        Act::Asks(A, 1, 8, Asked::Write(7, Change::Delete(7))),
         Gives::Only(&[]),
     ),
     (
-        Act::Asks(A, 1, 8, Asked::Write(END + 1, WriteOp::Delete { key: 7 })),
+        Act::Asks(A, 1, 8, Asked::Write(END + 1, Change::Delete(7))),
         Gives::Only(&[]),
     ),
     (
-        Act::Asks(
-            A,
-            1,
-            8,
-            Asked::Write(6, WriteOp::Insert { key: END, value: 1 }),
-        ),
+        Act::Asks(A, 1, 8, Asked::Write(6, Change::Insert(END, "1"))),
         Gives::Only(&[]),
     ),
-    (Act::Entries, Gives::Entries(&[(7, 70), (20, 3)])),
+    (Act::Entries, Gives::Entries(&[(7, "70"), (20, "3")])),
 ];
 
 // A deletes, and the answer gets lost; then the server crashes.
@@ -180,14 +165,14 @@ pub static ANSWERS_AGAIN: [(Act, Gives); 12] = [
             Told::Callback(A, 0, 21, Mode::RangeSU),
         ]),
     ),
-    (Act::Entries, Gives::Entries(&[(20, 2)])),
+    (Act::Entries, Gives::Entries(&[(20, "2")])),
     (
         Act::Asks(A, 2, 1, Asked::Ack),
         Gives::Told(&[Told::Callback(A, 0, 21, Mode::RangeSU)]),
     ),
     (
         Act::Asks(A, 2, 1, Asked::Release(0, 21, Mode::RangeSU)),
-        Gives::Told(&[Told::Grant(B, 1, 1, Held(0, 21, Mode::RangeSS, Some(2)))]),
+        Gives::Told(&[Told::Grant(B, 1, 1, Held(0, 21, Mode::RangeSS, Some("2")))]),
     ),
     (
         Act::Asks(A, 2, 1, Asked::Release(0, 21, Mode::RangeSU)),
@@ -207,18 +192,18 @@ pub static LAST_NUMBER: [(Act, Gives); 7] = [
         Gives::Told(&[]),
     ),
     (
-        Act::Asks(A, 2, 0, Asked::Write(END, WriteOp::Delete { key: 10 })),
+        Act::Asks(A, 2, 0, Asked::Write(END, Change::Delete(10))),
         Gives::Told(&[Told::Answer(A, 1, END, Outcome::Applied, FIRST)]),
     ),
-    (Act::Entries, Gives::Entries(&[(10, 1)])),
+    (Act::Entries, Gives::Entries(&[(10, "1")])),
     // It is passed over, though it says that A has seen the push.
     (
-        Act::Asks(A, 2, 1, Asked::Write(END + 1, WriteOp::Delete { key: 10 })),
+        Act::Asks(A, 2, 1, Asked::Write(END + 1, Change::Delete(10))),
         Gives::Told(&[]),
     ),
     (
-        Act::Asks(A, 2, 1, Asked::Write(END + 1, WriteOp::Delete { key: 10 })),
+        Act::Asks(A, 2, 1, Asked::Write(END + 1, Change::Delete(10))),
         Gives::Only(&[]),
     ),
-    (Act::Entries, Gives::Entries(&[(10, 1)])),
+    (Act::Entries, Gives::Entries(&[(10, "1")])),
 ];

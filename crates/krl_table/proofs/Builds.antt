@@ -1,5 +1,6 @@
 -- A table is built, key after key.
-use Rattle.std.proofs.Common.{◌≡◌, ◌≢◌, ℕ, zero, suc, map, slice_index_or, ◌≤◌, ◌<◌, Bool, true, false, ◌||◌, List, [], ◌∷◌, ◌++◌, Option, Some, None, IsSome, length, refl, sym, ap, subst, ◌∙◌, arith}
+use Rattle.std.proofs.Common.{◌≡◌, ◌≢◌, ℕ, suc, map, slice_index_or, ◌≤◌, ◌<◌, Bool, true, false, ◌||◌, List, [], ◌∷◌, ◌++◌, Option, Some, None, IsSome, length, refl, sym, ap, subst, ◌∙◌, arith}
+use Rattle.std.proofs.lemmas.List.{get_or-map}
 use Rattle.std.proofs.Common.{nat_eq, eq-eqb, ne_eqb}
 use Rattle.std.proofs.lemmas.Bool.Decides.{nat_tests}
 use Rattle.std.specs.Prelude.{is_some}
@@ -7,6 +8,7 @@ use Rattle.std.specs.List.{list_any}
 use Rattle.std.specs.Ordering.{nat_cmp, eq_by_cmp}
 use Rattle.std.specs.FinMap.{get, insert, keys, contains_key-keys}
 use Rattle.krl_modes.specs.declared.point.TheConstants.{END}
+use Rattle.krl_messages.specs.Values.{Value}
 use Rattle.krl_durable.specs.Index.{Index}
 use Rattle.krl_table.specs.declared.row.SlotRow.{SlotRow}
 use Rattle.krl_queue.specs.declared.waiter.Waiter.{Waiter}
@@ -161,7 +163,7 @@ module _ (t u : Kept) (low k : ℕ) (x : SlotRow) (so_far left : List ℕ) (buil
       has : (n : ℕ) → is_some (get m n) ≡ list_any (eq_by_cmp nat_cmp n) so_far
       has n = contains_key-keys m n ∙ ap (list_any (eq_by_cmp nat_cmp n)) same
 
-      is_none : (o : Option ℕ) → is_some o ≡ false → o ≡ None
+      is_none : (o : Option Value) → is_some o ≡ false → o ≡ None
       is_none None f = refl
       is_none (Some v) f = absurd (cc)
 
@@ -176,11 +178,9 @@ module _ (t u : Kept) (low k : ℕ) (x : SlotRow) (so_far left : List ℕ) (buil
 
 -- The keys of a list of entries
 
-pub its_key : (es : List (ℕ × ℕ)) (i : ℕ) → slice_index_or (map (λ e. e.0) es) i 0 ≡ (slice_index_or es i (0, 0)).0
-its_key [] i = refl
-its_key (e ∷ es) zero = refl
-its_key (e ∷ es) (suc i) = its_key es i
+pub its_key : (es : List (ℕ × Value)) (i : ℕ) (e : ℕ × Value) → i < length es → e ≡ slice_index_or es i e → slice_index_or (map (λ x. x.0) es) i 0 ≡ e.0
+its_key es i e l h = get_or-map (λ x. x.0) es i e 0 l ∙ ap (λ x. x.0) (sym h)
 
-pub as_many : (es : List (ℕ × ℕ)) → length (map (λ e. e.0) es) ≡ length es
+pub as_many : (es : List (ℕ × Value)) → length (map (λ e. e.0) es) ≡ length es
 as_many [] = refl
 as_many (e ∷ es) = ap suc (as_many es)

@@ -7,7 +7,7 @@ use Rattle.krl_queue.specs.declared.waiter.Waiter.{Waiter}
 use Rattle.krl_queue.specs.Waiting.{first_of}
 use Rattle.krl_table.specs.declared.row.SlotRow.{SlotRow}
 use Rattle.krl_table.specs.Rows.{Row, set_row, front_of}
-use Rattle.krl_table.specs.Calls.{with_queue, queue_with, grant_first, granted, dropped, behind_first, wanted}
+use Rattle.krl_table.specs.Calls.{with_queue, queue_with, grant_first, granted_first, dropped, behind_first, wanted}
 use Rattle.krl_table.specs.Replies.{can_have}
 use Rattle.krl_table.specs.Kept.{Kept, row_of, row_there, rows_of, granted_row, granted_to, IsNext, IsSound, IsWaiter, AreBeside, AreListed, In, times, unlisted}
 use Rattle.krl_table.proofs.Means.{eq_cases, AreAlike, alike_whole}
@@ -82,7 +82,7 @@ module _ (t : Kept) (k : ℕ) (sound : IsSound t) where
       by_queue (w ∷ ws) q = (sound.placed k w (subst (In w) (sym q) (inl refl))).client
 
 module _ (t u : Kept) (k : ℕ) (sound : IsSound t) (some : IsSome (get t k)) (e : IfSome (get t k) (λ row. u ≡ insert t k (granted_row row))) where
-  pub granted_is : (n : ℕ) → rows_of u n ≡ granted (rows_of t) k n
+  pub granted_is : (n : ℕ) → rows_of u n ≡ granted_first (rows_of t) k n
   granted_is = changed_rows t u k granted_row some e (λ row. grant_first row row.queue)
       (λ r here. granted_means r (sound.whole.rows k r here).full (subst (λ o. IfSome (front_of (row_there o).queue) (λ w. w.client < 64)) here (front_client t k sound)))
 

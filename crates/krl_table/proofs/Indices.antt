@@ -15,24 +15,24 @@ use Rattle.krl_table.proofs.Means.{eq_cases}
 use Rattle.krl_table.proofs.Merges.{get-remove_same}
 use Rattle.krl_table.proofs.Slots.{some_true, none_false}
 
-abbrev zeros : List (ℕ × SlotRow) → List (ℕ × Value)
-zeros [] = []
-zeros (e ∷ es) = (e.0, 0) ∷ zeros es
+abbrev valueless : List (ℕ × SlotRow) → List (ℕ × Value)
+valueless [] = []
+valueless (e ∷ es) = (e.0, []) ∷ valueless es
 
-same_found : (es : List (ℕ × SlotRow)) (n : ℕ) → is_some (find nat_cmp n (zeros es)) ≡ is_some (find nat_cmp n es)
+same_found : (es : List (ℕ × SlotRow)) (n : ℕ) → is_some (find nat_cmp n (valueless es)) ≡ is_some (find nat_cmp n es)
 same_found [] n = refl
 same_found (e ∷ es) n = by_test (eq_by_cmp nat_cmp n e.0) (same_found es n)
   where
-    by_test : (b : Bool) → is_some (find nat_cmp n (zeros es)) ≡ is_some (find nat_cmp n es) → is_some (cond b (Some 0) (find nat_cmp n (zeros es))) ≡ is_some (cond b (Some e.1) (find nat_cmp n es))
+    by_test : (b : Bool) → is_some (find nat_cmp n (valueless es)) ≡ is_some (find nat_cmp n es) → is_some (cond b (Some (let none : Value = [] in none)) (find nat_cmp n (valueless es))) ≡ is_some (cond b (Some e.1) (find nat_cmp n es))
     by_test true ih = refl
     by_test false ih = ih
 
 module _ (t : Kept) (whole : IsWhole t) where
   abbrev all : Index
-  all = from_entries {R = nat_cmp} (zeros (entries t))
+  all = from_entries {R = nat_cmp} (valueless (entries t))
 
   same_all : (n : ℕ) → is_some (get all n) ≡ is_some (get t n)
-  same_all n = ap is_some (get-from_entries nat_cmp_total (zeros (entries t)) n) ∙ same_found (entries t) n ∙ ap is_some (sym (get-entries t n))
+  same_all n = ap is_some (get-from_entries nat_cmp_total (valueless (entries t)) n) ∙ same_found (entries t) n ∙ ap is_some (sym (get-entries t n))
 
   is_none : (o : Option Value) → is_some o ≡ false → o ≡ None
   is_none None e = refl

@@ -21,9 +21,12 @@ pub mod Besides
 pub mod Sounds
 pub mod Lowers
 pub mod Fronts
+pub mod Raises
 pub mod Indices
 pub mod SplitSound
 pub mod MergeSound
 pub mod Waiters
+pub mod NextWaiting
+pub mod Answering
 pub mod Reach
 pub mod Adopts

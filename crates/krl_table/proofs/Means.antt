@@ -111,7 +111,7 @@ alike_none None (Some s) h e = absurd h
 alike_none (Some r) None h e = refl
 alike_none (Some r) (Some s) h e = absurd (cc)
 
-alike_there : (o p : Option SlotRow) → Alike o p → IsSome o → IsSome p
+pub alike_there : (o p : Option SlotRow) → Alike o p → IsSome o → IsSome p
 alike_there None None h e = e
 alike_there None (Some s) h e = absurd h
 alike_there (Some r) None h e = absurd h

@@ -12,6 +12,7 @@ use Rattle.krl_modes.specs.declared.part.KeyPart.TheVariants as key
 use Rattle.krl_modes.specs.declared.mode.Mode.{Mode}
 use Rattle.krl_modes.specs.Parts.{ranges_compatible, keys_compatible, is_range_X, is_key_X}
 use Rattle.krl_modes.specs.Modes.{range_of, key_of, compatible}
+use Rattle.krl_messages.specs.Values.{Value}
 use Rattle.krl_durable.specs.Index.{Index, is_slot, slot_of}
 use Rattle.krl_table.specs.Rows.{Row, blank_row, mode_at, set_row}
 use Rattle.krl_table.specs.Calls.{with_queue, merged}
@@ -100,10 +101,10 @@ module _ (m : Index) (t end : Kept) (k c : ℕ) (over : IsOver m t) (over_end : 
   under = omega (arith, next.from)
 
   no_slot : is_slot (remove m k) k ≡ false
-  no_slot = ap (λ (o : Option ℕ). nat_eq k END || is_some o) (get-remove_same m k) ∙ ap (λ b. b || false) (ne_eqb k END (λ e. omega (arith, e, far)))
+  no_slot = ap (λ (o : Option Value). nat_eq k END || is_some o) (get-remove_same m k) ∙ ap (λ b. b || false) (ne_eqb k END (λ e. omega (arith, e, far)))
 
   other_slot : (n : ℕ) → n ≢ k → is_slot (remove m k) n ≡ is_slot m n
-  other_slot n ne = ap (λ (o : Option ℕ). nat_eq n END || is_some o) (get-remove_other m k n (λ e. ne (sym e)))
+  other_slot n ne = ap (λ (o : Option Value). nat_eq n END || is_some o) (get-remove_other m k n (λ e. ne (sym e)))
 
   same_there : (n : ℕ) → n ≢ k → is_some (get end n) ≡ is_some (get t n)
   same_there n ne = sym (over_end.same n) ∙ other_slot n ne ∙ over.same n

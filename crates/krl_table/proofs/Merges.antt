@@ -5,6 +5,7 @@ use Rattle.std.proofs.lemmas.Bool.{cases_lt}
 use Rattle.std.specs.Prelude.{is_some, if◌then◌else◌}
 use Rattle.std.specs.FinMap.{get, insert, remove, gets}
 use Rattle.krl_modes.specs.declared.point.TheConstants.{END}
+use Rattle.krl_messages.specs.Values.{Value}
 use Rattle.krl_durable.specs.Index.{Index}
 use Rattle.krl_table.specs.declared.row.SlotRow.{SlotRow}
 use Rattle.krl_table.specs.Rows.{Row, blank_row, set_row}
@@ -122,8 +123,8 @@ module _ (t end : Kept) (k s : ℕ) (x r : SlotRow) (at_k : get t k ≡ Some x) 
   merge_over m over far = record {
     near = λ n le. get-remove_other m k n (λ e. omega (arith, e, le, far)) ∙ over.near n le;
     same = λ n. eq_cases n k
-        (λ e. ap (λ (o : Option ℕ). nat_eq n END || is_some o) (ap (get (remove m k)) e ∙ get-remove_same m k) ∙ ap (λ b. b || false) (ne_eqb n END (λ f. omega (arith, e, f, far))) ∙ sym (ap is_some (ap (get end) e ∙ joined.gone)))
-        (λ nk. ap (λ (o : Option ℕ). nat_eq n END || is_some o) (get-remove_other m k n (λ e. nk (sym e))) ∙ over.same n ∙ eq_cases n s
+        (λ e. ap (λ (o : Option Value). nat_eq n END || is_some o) (ap (get (remove m k)) e ∙ get-remove_same m k) ∙ ap (λ b. b || false) (ne_eqb n END (λ f. omega (arith, e, f, far))) ∙ sym (ap is_some (ap (get end) e ∙ joined.gone)))
+        (λ nk. ap (λ (o : Option Value). nat_eq n END || is_some o) (get-remove_other m k n (λ e. nk (sym e))) ∙ over.same n ∙ eq_cases n s
         (λ e. ap is_some (ap (get t) e ∙ here) ∙ sym (ap is_some (ap (get end) e ∙ joined.kept)))
         (λ ns. ap is_some (sym (joined.others n ns nk))));
   }

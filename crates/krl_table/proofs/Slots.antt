@@ -9,6 +9,7 @@ use Rattle.std.specs.Ordering.{nat_cmp, is_lt, eq_by_cmp}
 use Rattle.std.specs.FinMap as map
 use Rattle.std.specs.FinMap.Entries.{find, is_sorted, below_all}
 use Rattle.krl_modes.specs.declared.point.TheConstants.{END}
+use Rattle.krl_messages.specs.Values.{Value}
 use Rattle.krl_durable.specs.Index.{Index, first_or_end, after_keys, slot_of, low_of}
 use Rattle.krl_table.specs.declared.row.SlotRow.{SlotRow}
 use Rattle.krl_table.specs.Kept.{Kept, IsRow, IsOver, IsNext}
@@ -17,12 +18,12 @@ pub no_none : {X : Type 0} (x : X) → None ≡ Some x → ⊥
 no_none x e = absurd (cc)
 
 -- each key of the list is at or above k
-abbrev pub From : ℕ → List (ℕ × ℕ) → Type 0
+abbrev pub From : ℕ → List (ℕ × Value) → Type 0
 From k [] = Unit {0}
 From k (e ∷ es) = (k ≤ e.0) × From k es
 
 -- the keys strictly rise
-abbrev pub Rises : List (ℕ × ℕ) → Type 0
+abbrev pub Rises : List (ℕ × Value) → Type 0
 Rises [] = Unit {0}
 Rises (e ∷ es) = From (suc e.0) es × Rises es
 
@@ -37,39 +38,39 @@ and_second false b h = absurd h
 less : (k j : ℕ) → T (is_lt (nat_cmp k j)) → suc k ≤ j
 less k j h = grind (arith, nat_tests)
 
-from_below : (k : ℕ) (es : List (ℕ × ℕ)) → T (below_all nat_cmp k es) → From (suc k) es
+from_below : (k : ℕ) (es : List (ℕ × Value)) → T (below_all nat_cmp k es) → From (suc k) es
 from_below k [] h = tt
 from_below k (e ∷ es) h = (less k e.0 (and_first (is_lt (nat_cmp k e.0)) (below_all nat_cmp k es) h), from_below k es (and_second (is_lt (nat_cmp k e.0)) (below_all nat_cmp k es) h))
 
-pub rises : (es : List (ℕ × ℕ)) → T (is_sorted nat_cmp es) → Rises es
+pub rises : (es : List (ℕ × Value)) → T (is_sorted nat_cmp es) → Rises es
 rises [] h = tt
 rises (e ∷ es) h = (from_below e.0 es (and_first (below_all nat_cmp e.0 es) (is_sorted nat_cmp es) h), rises es (and_second (below_all nat_cmp e.0 es) (is_sorted nat_cmp es) h))
 
-from_less : (j k : ℕ) (es : List (ℕ × ℕ)) → j ≤ k → From k es → From j es
+from_less : (j k : ℕ) (es : List (ℕ × Value)) → j ≤ k → From k es → From j es
 from_less j k [] le h = tt
 from_less j k (e ∷ es) le h = (omega (arith, h.0), from_less j k es le h.1)
 
 apart : (q k : ℕ) → q ≢ k → eq_by_cmp nat_cmp q k ≡ false
 apart q k ne = grind (arith, nat_tests)
 
-pub find_here : (e : ℕ × ℕ) (es : List (ℕ × ℕ)) → find nat_cmp e.0 (e ∷ es) ≡ Some e.1
+pub find_here : (e : ℕ × Value) (es : List (ℕ × Value)) → find nat_cmp e.0 (e ∷ es) ≡ Some e.1
 find_here e es = let same : eq_by_cmp nat_cmp e.0 e.0 ≡ true = grind (arith, nat_tests) in rw same refl
 
-pub find_past : (q : ℕ) (e : ℕ × ℕ) (es : List (ℕ × ℕ)) → q ≢ e.0 → find nat_cmp q (e ∷ es) ≡ find nat_cmp q es
+pub find_past : (q : ℕ) (e : ℕ × Value) (es : List (ℕ × Value)) → q ≢ e.0 → find nat_cmp q (e ∷ es) ≡ find nat_cmp q es
 find_past q e es ne = rw (apart q e.0 ne) refl
 
-find_below : (q k : ℕ) (es : List (ℕ × ℕ)) → From k es → q < k → find nat_cmp q es ≡ None
+find_below : (q k : ℕ) (es : List (ℕ × Value)) → From k es → q < k → find nat_cmp q es ≡ None
 find_below q k [] h lt = refl
 find_below q k (e ∷ es) h lt = find_past q e es (λ f. omega (arith, f, h.0)) ∙ find_below q k es h.1 lt
 
 -- the first key at or above p, or END
-record IsFirst (es : List (ℕ × ℕ)) (p n : ℕ) : Type 0 where
+record IsFirst (es : List (ℕ × Value)) (p n : ℕ) : Type 0 where
   pub at : n ≢ END → find nat_cmp n es ≢ None
   pub low : p ≤ n
   pub high : n ≤ END
   pub gap : (k : ℕ) → p ≤ k → k < n → find nat_cmp k es ≡ None
 
-first_is : (es : List (ℕ × ℕ)) (p : ℕ) → Rises es → ((k : ℕ) → END ≤ k → find nat_cmp k es ≡ None) → p ≤ END → IsFirst es p (first_or_end (filter (λ e. nat_le p e.0) es))
+first_is : (es : List (ℕ × Value)) (p : ℕ) → Rises es → ((k : ℕ) → END ≤ k → find nat_cmp k es ≡ None) → p ≤ END → IsFirst es p (first_or_end (filter (λ e. nat_le p e.0) es))
 first_is [] p h near le = record { at = λ ne. absurd (ne refl); low = le; high = omega arith; gap = λ k a b. refl }
 first_is (e ∷ es) p h near le = by_test (nat_le p e.0) refl (first_is es p h.1 (λ k a. sym (find_past k e es (λ f. omega (arith, f, a, under))) ∙ near k a) le)
   where
@@ -91,7 +92,7 @@ first_is (e ∷ es) p h near le = by_test (nat_le p e.0) refl (first_is es p h.1
     }
 
 -- the first point of the span of n, where low is below all keys: q lies from it on where no key from q on is below n
-low_is : (es : List (ℕ × ℕ)) (n low q : ℕ) → Rises es → From low es → (after_keys low (filter (λ e. nat_lt e.0 n) es) ≤ q) ↔ ((low ≤ q) × ((k : ℕ) → q ≤ k → k < n → find nat_cmp k es ≡ None))
+low_is : (es : List (ℕ × Value)) (n low q : ℕ) → Rises es → From low es → (after_keys low (filter (λ e. nat_lt e.0 n) es) ≤ q) ↔ ((low ≤ q) × ((k : ℕ) → q ≤ k → k < n → find nat_cmp k es ≡ None))
 low_is [] n low q h from = (λ le. (le, λ k a b. refl), λ x. x.0)
 low_is (e ∷ es) n low q h from = by_test (nat_lt e.0 n) refl (low_is es n (suc e.0) q h.1 h.0) (low_is es n low q h.1 (from_less low (suc e.0) es (omega (arith, from.0)) h.0))
   where
@@ -107,7 +108,7 @@ low_is (e ∷ es) n low q h from = by_test (nat_lt e.0 n) refl (low_is es n (suc
       λ x. ih.1 (x.0, λ k b c. sym (find_past k e es (λ f. omega (arith, f, c, far))) ∙ x.1 k b c),
     )
 
-from_zero : (es : List (ℕ × ℕ)) → From 0 es
+from_zero : (es : List (ℕ × Value)) → From 0 es
 from_zero [] = tt
 from_zero (e ∷ es) = (omega arith, from_zero es)
 
@@ -127,11 +128,11 @@ is_none None e = refl
 is_none (Some x) e = absurd (cc)
 
 -- no row there: neither END nor a key
-free : (b : Bool) (o : Option ℕ) → (b || is_some o) ≡ false → (b ≡ false) × (o ≡ None)
+free : (b : Bool) (o : Option Value) → (b || is_some o) ≡ false → (b ≡ false) × (o ≡ None)
 free true o e = absurd (cc)
 free false o e = (refl, is_none o e)
 
-taken : (b : Bool) (o : Option ℕ) → (b || is_some o) ≡ true → b ≡ false → o ≡ None → ⊥
+taken : (b : Bool) (o : Option Value) → (b || is_some o) ≡ true → b ≡ false → o ≡ None → ⊥
 taken true o e f g = absurd (cc)
 taken false None e f g = absurd (cc)
 taken false (Some v) e f g = absurd (cc)
@@ -175,7 +176,7 @@ module _ (m : Index) (t : Kept) (over : IsOver m t) where
       is_there None e = absurd (cc)
       is_there (Some r) e = refl
 
-      by_end : (b : Bool) (o : Option ℕ) → nat_eq (slot_of m p) END ≡ b → (nat_eq (slot_of m p) END ≡ false → o ≡ None → ⊥) → (b || is_some o) ≡ true
+      by_end : (b : Bool) (o : Option Value) → nat_eq (slot_of m p) END ≡ b → (nat_eq (slot_of m p) END ≡ false → o ≡ None → ⊥) → (b || is_some o) ≡ true
       by_end true o e f = refl
       by_end false None e f = absurd (f e refl)
       by_end false (Some v) e f = refl

@@ -8,6 +8,7 @@ use Rattle.krl_modes.specs.declared.point.TheConstants.{END}
 use Rattle.krl_modes.specs.declared.part.RangePart.TheVariants as range
 use Rattle.krl_modes.specs.declared.part.KeyPart.TheVariants as key
 use Rattle.krl_modes.specs.Modes.{range_of, key_of, compatible}
+use Rattle.krl_messages.specs.Values.{Value}
 use Rattle.krl_queue.specs.Waiting.{up_to, beyond}
 use Rattle.krl_durable.specs.Index.{Index, is_slot, slot_of}
 use Rattle.krl_table.specs.Rows.{Row, mode_at, set_row}
@@ -41,7 +42,7 @@ or_yes : (b : Bool) → (b || true) ≡ true
 or_yes true = refl
 or_yes false = refl
 
-module _ (m : Index) (t end : Kept) (k c v : ℕ) (over : IsOver m t) (over_end : IsOver (insert m k v) end) (means : (n : ℕ) → rows_of end n ≡ split m (rows_of t) k c n) (free : get t k ≡ None) (far : k ≤ END)
+module _ (m : Index) (t end : Kept) (k c : ℕ) (v : Value) (over : IsOver m t) (over_end : IsOver (insert m k v) end) (means : (n : ℕ) → rows_of end n ≡ split m (rows_of t) k c n) (free : get t k ≡ None) (far : k ≤ END)
     (may : MayInsert (rows_of t) (slot_of m k) c) (beside : (d : ℕ) → d ≢ c → compatible (mode_at (rows_of t) (slot_of m k) c) (mode_at (rows_of t) (slot_of m k) d) ≡ true) where
   abbrev s : ℕ
   s = slot_of m k
@@ -62,10 +63,10 @@ module _ (m : Index) (t end : Kept) (k c v : ℕ) (over : IsOver m t) (over_end 
   under = let ne = apart s next.there in omega (arith, next.from, ne)
 
   new_slot : is_slot (insert m k v) k ≡ true
-  new_slot = ap (λ (o : Option ℕ). nat_eq k END || is_some o) (get-insert_same m k v) ∙ or_yes (nat_eq k END)
+  new_slot = ap (λ (o : Option Value). nat_eq k END || is_some o) (get-insert_same m k v) ∙ or_yes (nat_eq k END)
 
   other_slot : (n : ℕ) → n ≢ k → is_slot (insert m k v) n ≡ is_slot m n
-  other_slot n ne = ap (λ (o : Option ℕ). nat_eq n END || is_some o) (get-insert_other m k n (λ e. ne (sym e)) v)
+  other_slot n ne = ap (λ (o : Option Value). nat_eq n END || is_some o) (get-insert_other m k n (λ e. ne (sym e)) v)
 
   same_there : (n : ℕ) → n ≢ k → is_some (get end n) ≡ is_some (get t n)
   same_there n ne = sym (over_end.same n) ∙ other_slot n ne ∙ over.same n

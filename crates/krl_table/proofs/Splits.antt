@@ -10,6 +10,7 @@ use Rattle.krl_modes.specs.declared.point.TheConstants.{END}
 use Rattle.krl_modes.specs.declared.mode.Mode.{Mode}
 use Rattle.krl_modes.specs.declared.mode.Mode.TheVariants as mode
 use Rattle.krl_modes.specs.Modes.{range_of}
+use Rattle.krl_messages.specs.Values.{Value}
 use Rattle.krl_queue.specs.declared.waiter.Waiter.{Waiter}
 use Rattle.krl_queue.specs.Waiting.{up_to, beyond}
 use Rattle.krl_durable.specs.Index.{Index}
@@ -156,7 +157,7 @@ module _ (t end : Kept) (k s : ℕ) (r x : SlotRow) (here : get t s ≡ Some r) 
             (λ (c : n < s). some_none (get t n) y was (next.gap n (omega (arith, b)) c))
             (λ (c : s ≤ n). some_none (get t s) r here (its.alone s (omega (arith, a, under)) (omega (arith, c, ns)))) (cases_lt n s)
 
-    module _ (m : Index) (over : IsOver m t) (v : ℕ) where
+    module _ (m : Index) (over : IsOver m t) (v : Value) where
       key_under : k < END
       key_under = omega (arith, under, slot_under t w s next.there)
 
@@ -164,8 +165,8 @@ module _ (t end : Kept) (k s : ℕ) (r x : SlotRow) (here : get t s ≡ Some r) 
       split_over = record {
         near = λ n le. get-insert_other m k n (λ e. omega (arith, e, le, key_under)) v ∙ over.near n le;
         same = λ n. eq_cases n k
-            (λ e. ap (λ (o : Option ℕ). nat_eq n END || is_some o) (ap (get (insert m k v)) e ∙ get-insert_same m k v) ∙ or_yes (nat_eq n END) ∙ sym (ap is_some (ap (get end) e ∙ parted.new)))
-            (λ nk. ap (λ (o : Option ℕ). nat_eq n END || is_some o) (get-insert_other m k n (λ e. nk (sym e)) v) ∙ over.same n ∙ eq_cases n s
+            (λ e. ap (λ (o : Option Value). nat_eq n END || is_some o) (ap (get (insert m k v)) e ∙ get-insert_same m k v) ∙ or_yes (nat_eq n END) ∙ sym (ap is_some (ap (get end) e ∙ parted.new)))
+            (λ nk. ap (λ (o : Option Value). nat_eq n END || is_some o) (get-insert_other m k n (λ e. nk (sym e)) v) ∙ over.same n ∙ eq_cases n s
             (λ e. ap is_some (ap (get t) e ∙ here) ∙ sym (ap is_some (ap (get end) e ∙ parted.old)))
             (λ ns. ap is_some (sym (parted.others n ns nk))));
       }

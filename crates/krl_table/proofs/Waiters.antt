@@ -1,8 +1,8 @@
--- How a client waits, and where somebody does.
-use Rattle.std.proofs.Common.{◌≡◌, ◌≢◌, ℕ, suc, ◌+◌, ◌≤◌, ◌<◌, Bool, true, false, ◌||◌, cond, List, [], ◌∷◌, ◌++◌, Option, Some, None, IsSome, MatchOption, ◌⊎◌, inl, inr, map, refl, sym, ap, subst, ◌∙◌, ⊎_elim, arith}
+-- How a client waits.
+use Rattle.std.proofs.Common.{◌≡◌, ◌≢◌, ℕ, Bool, true, false, ◌||◌, cond, List, [], ◌∷◌, ◌++◌, Option, Some, None, ◌⊎◌, inl, inr, map, refl, sym, ap, subst, ◌∙◌, ⊎_elim, arith}
 use Rattle.std.proofs.Common.{nat_eq, ne_eqb, eq-eqb}
 use Rattle.std.proofs.lemmas.Bool.Decides.{nat_tests}
-use Rattle.std.specs.Prelude.{is_some, find, nat_lt, nat_le, if◌then◌else◌}
+use Rattle.std.specs.Prelude.{is_some, find}
 use Rattle.std.specs.Ordering.{nat_cmp, eq_by_cmp}
 use Rattle.std.specs.FinMap as fin
 use Rattle.std.specs.FinMap.Entries as entries
@@ -13,12 +13,10 @@ use Rattle.krl_queue.specs.Waiting.{first_of}
 use Rattle.krl_durable.specs.Index.{Index, slots, is_slot}
 use Rattle.krl_table.specs.declared.row.SlotRow.{SlotRow}
 use Rattle.krl_table.specs.Rows.{waiter_at, waiter_of}
-use Rattle.krl_table.specs.Waiters.{IsNextWaiting, nearer}
-use Rattle.krl_table.specs.Kept.{Kept, row_there, rows_of, IsNearer, IsOver, IsSound, AreListed, In, waiter_in}
+use Rattle.krl_table.specs.Kept.{Kept, row_there, rows_of, IsOver, IsSound, AreListed, In, waiter_in}
 use Rattle.krl_table.proofs.Means.{eq_cases}
 use Rattle.krl_table.proofs.Splits.{some_none}
 use Rattle.krl_table.proofs.Stands.{first_in, none_in, first_none}
-use Rattle.krl_table.proofs.Sounds.{some_same, next_same}
 
 -- Slots
 
@@ -119,101 +117,3 @@ module _ (t : Kept) (sound : IsSound t) (waiting : List (Option Waiter)) (l : Ar
             let at = slots_have m x.1.0 (over.same x.1.0 ∙ row_there_is x.1.0 u x.1.1) in
             let k = find_some here (slots m) x.1.0 at (some_first c (rows_of t x.1.0).queue u x.1.1 x.0) in
             found u e k.0 k.1.0 k.1.1
-
--- The least slot at which somebody waits
-
--- the least among the clients below k
-pub record IsNearest (waiting : List (Option Waiter)) (t : Kept) (from k : ℕ) (least : Option ℕ) : Type 0 where
-  pub some : (n : ℕ) → least ≡ Some n → (from ≤ n) × ((u : Waiter) × In u (rows_of t n).queue)
-  pub all : (c : ℕ) (u : Waiter) (s : ℕ) → c < k → waiter_in waiting c ≡ Some u → In u (rows_of t s).queue → from ≤ s → (n : ℕ) × ((least ≡ Some n) × (n ≤ s))
-
-pub none_nearest : (waiting : List (Option Waiter)) (t : Kept) (from : ℕ) → IsNearest waiting t from 0 None
-none_nearest waiting t from = record { some = λ n e. absurd (cc); all = λ c u s lt e at le. absurd (omega (arith, lt)) }
-
-module _ (waiting : List (Option Waiter)) (t : Kept) (from k : ℕ) (least : Option ℕ) (near : IsNearest waiting t from k least) where
-  -- the client k waits nowhere
-  pub no_nearer : waiter_in waiting k ≡ None → IsNearest waiting t from (k + 1) least
-  no_nearer none = record {
-    some = near.some;
-    all = λ c u s lt e at le. eq_cases c k (λ f. absurd (some_none (waiter_in waiting c) u e (ap (waiter_in waiting) f ∙ none))) (λ ne. near.all c u s (omega (arith, lt, ne)) e at le);
-  }
-
-  module _ (w : Waiter) (s : ℕ) (is : waiter_in waiting k ≡ Some w) (at : In w (rows_of t s).queue) (one : (j : ℕ) → In w (rows_of t j).queue → j ≡ s) where
-    pub one_nearer : IsNearest waiting t from (k + 1) (nearer least s from)
-    one_nearer = by_least least refl
-      where
-        extend : (o : Option ℕ) → ((n : ℕ) → o ≡ Some n → (from ≤ n) × ((u : Waiter) × In u (rows_of t n).queue)) → (from ≤ s → (n : ℕ) × ((o ≡ Some n) × (n ≤ s))) → ((n : ℕ) → least ≡ Some n → (j : ℕ) × ((o ≡ Some j) × (j ≤ n))) → IsNearest waiting t from (k + 1) o
-        extend o some here keeps = record {
-          some = some;
-          all = λ c u j lt e in_j le. eq_cases c k
-              (λ f. let same : u ≡ w = some_same (sym e ∙ ap (waiter_in waiting) f ∙ is) in
-              let js : j ≡ s = one j (subst (λ x. In x (rows_of t j).queue) same in_j) in
-              let x = here (subst (λ y. from ≤ y) js le) in (x.0, (x.1.0, let y = x.1.1 in omega (arith, y, js))))
-              (λ ne. let x = near.all c u j (omega (arith, lt, ne)) e in_j le in let y = keeps x.0 x.1.0 in (y.0, (y.1.0, let a = x.1.1 in let b = y.1.1 in omega (arith, a, b))));
-        }
-
-        by_least : (o : Option ℕ) → least ≡ o → IsNearest waiting t from (k + 1) (nearer o s from)
-        by_least None e = by_test (nat_lt s from) refl
-          where
-            by_test : (b : Bool) → nat_lt s from ≡ b → IsNearest waiting t from (k + 1) (if b then None else Some s)
-            by_test true f = extend None (λ n g. absurd (cc)) (λ le. absurd (let lt = Rattle.std.proofs.Common.ltb-true s from f in omega (arith, lt, le))) (λ n g. absurd (let clash : None ≡ Some n = sym e ∙ g in cc))
-            by_test false f = extend (Some s) (λ n g. let same : s ≡ n = some_same g in (subst (λ y. from ≤ y) same (Rattle.std.proofs.Common.ltb-false s from f), (w, subst (λ y. In w (rows_of t y).queue) same at))) (λ le. (s, (refl, omega arith))) (λ n g. absurd (let clash : None ≡ Some n = sym e ∙ g in cc))
-        by_least (Some j) e = by_tests (nat_lt s from) (nat_le j s) refl refl
-          where
-            keep : (from ≤ s → j ≤ s) → IsNearest waiting t from (k + 1) (Some j)
-            keep h = extend (Some j) (λ n g. near.some n (e ∙ g)) (λ le. (j, (refl, h le))) (λ n g. let same : j ≡ n = some_same (sym e ∙ g) in (j, (refl, omega (arith, same))))
-
-            by_tests : (a b : Bool) → nat_lt s from ≡ a → nat_le j s ≡ b → IsNearest waiting t from (k + 1) (if a || b then Some j else Some s)
-            by_tests true b f g = keep (λ le. absurd (let lt = Rattle.std.proofs.Common.ltb-true s from f in omega (arith, lt, le)))
-            by_tests false true f g = keep (λ le. at_most j s g)
-              where
-                at_most : (a b : ℕ) → nat_le a b ≡ true → a ≤ b
-                at_most a b h = grind (arith, nat_tests)
-            by_tests false false f g = let far = above j s g in extend (Some s) (λ n h. let same : s ≡ n = some_same h in (subst (λ y. from ≤ y) same (Rattle.std.proofs.Common.ltb-false s from f), (w, subst (λ y. In w (rows_of t y).queue) same at))) (λ le. (s, (refl, omega arith))) (λ n h. let same : j ≡ n = some_same (sym e ∙ h) in (s, (refl, omega (arith, far, same))))
-              where
-                above : (a b : ℕ) → nat_le a b ≡ false → b < a
-                above a b h = grind (arith, nat_tests)
-
--- one client more
-pub next_nearest : (t : Kept) → IsSound t → (waiting : List (Option Waiter)) → AreListed waiting t → (from k : ℕ) (least : Option ℕ) → IsNearest waiting t from k least → (o : Option Waiter) → o ≡ waiter_in waiting k → (after : Option ℕ) → IsNearer t o least from after → IsNearest waiting t from (k + 1) after
-next_nearest t sound waiting l from k least near None e after h = subst (IsNearest waiting t from (k + 1)) (sym h) (no_nearer waiting t from k least near (sym e))
-next_nearest t sound waiting l from k least near (Some w) e after h =
-    let x = l.there k w (sym e) in let place : x.1.0 ≡ h.0 = next_same t w.point x.1.0 h.0 (sound.placed x.1.0 w x.1.1).slot h.1 in
-    subst (IsNearest waiting t from (k + 1)) (sym h.2) (one_nearer waiting t from k least near w h.0 (sym e) (subst (λ y. In w (rows_of t y).queue) place x.1.1)
-    (λ j at. next_same t w.point j h.0 (sound.placed j w at).slot h.1))
-
-module _ (t : Kept) (sound : IsSound t) (waiting : List (Option Waiter)) (l : AreListed waiting t) (from k : ℕ) (all_seen : 64 ≤ k) (least : Option ℕ) (near : IsNearest waiting t from k least) where
-  -- nobody waits where no client does
-  empty : (n : ℕ) → from ≤ n → ((j : ℕ) → least ≡ Some j → j ≤ n → ⊥) → (rows_of t n).queue ≡ []
-  empty n le none = by_queue (rows_of t n).queue refl
-    where
-      by_queue : (ws : List Waiter) → (rows_of t n).queue ≡ ws → ws ≡ []
-      by_queue [] e = refl
-      by_queue (u ∷ us) e = let at = subst (In u) (sym e) (inl refl) in let w = sound.placed n u at in let lt = w.client in
-          absurd (let x = near.all u.client u n (omega (arith, lt, all_seen)) (l.here n u at) at le in none x.0 x.1.0 x.1.1)
-
-  pub nearest : MatchOption least ((n : ℕ) → from ≤ n → (rows_of t n).queue ≡ []) (λ slot. IsNextWaiting (rows_of t) from slot)
-  nearest = by_least least refl
-    where
-      not_empty : (u : Waiter) (ws : List Waiter) → In u ws → ws ≢ []
-      not_empty u [] at e = at
-      not_empty u (w ∷ ws) at e = absurd (cc)
-
-      by_least : (o : Option ℕ) → least ≡ o → MatchOption o ((n : ℕ) → from ≤ n → (rows_of t n).queue ≡ []) (λ slot. IsNextWaiting (rows_of t) from slot)
-      by_least None e = λ n le. empty n le (λ j f g. let clash : None ≡ Some j = sym e ∙ f in absurd (cc))
-      by_least (Some s) e = let x = near.some s e in record {
-        above = x.0;
-        some = not_empty x.1.0 (rows_of t s).queue x.1.1;
-        least = λ n a b. empty n a (λ j f g. let same : s ≡ j = some_same (sym e ∙ f) in omega (arith, same, g, b));
-      }
-
-  pub nearest_there : Rattle.std.specs.Prelude.IfSome least (λ slot. IsSome (fin.get t slot))
-  nearest_there = by_least least refl
-    where
-      there : (o : Option SlotRow) (u : Waiter) → In u (row_there o).queue → IsSome o
-      there None u h = absurd h
-      there (Some r) u h = refl
-
-      by_least : (o : Option ℕ) → least ≡ o → Rattle.std.specs.Prelude.IfSome o (λ slot. IsSome (fin.get t slot))
-      by_least None e = tt
-      by_least (Some s) e = let x = near.some s e in there (fin.get t s) x.1.0 x.1.1

@@ -80,9 +80,18 @@ abbrev pub grant_first : Row → List Waiter → Row
 grant_first row [] = row
 grant_first row (u ∷ us) = record { modes = set_mode row.modes u.client (wanted row u); queue = us }
 
--- grant: the slot's first waiter gets what it wants, and waits no more
-abbrev pub granted : Rows → ℕ → Rows
-granted rows n = set_row rows n (grant_first (rows n) (rows n).queue)
+-- the slot's first waiter gets what it wants there, and waits no more
+abbrev pub granted_first : Rows → ℕ → Rows
+granted_first rows n = set_row rows n (grant_first (rows n) (rows n).queue)
+
+-- the waiter's client gets what it wants on this slot
+abbrev pub raised : Rows → ℕ → Waiter → Rows
+raised rows n u = set_row rows n (with_mode (rows n) u.client (wanted (rows n) u))
+
+-- and on each of these slots, one after another
+abbrev pub raised_on : Rows → List ℕ → Waiter → Rows
+raised_on rows [] u = rows
+raised_on rows (n ∷ ns) u = raised_on (raised rows n u) ns u
 
 abbrev pub behind_first : List Waiter → List Waiter
 behind_first [] = []

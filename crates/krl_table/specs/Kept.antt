@@ -1,5 +1,5 @@
 -- The rows as they are kept, and what they mean.
-use Rattle.std.specs.Prelude.{◌≡◌, ◌≢◌, ◌⊎◌, ◌+◌, ◌++◌, true, ◌&&◌, nat_le, nat_lt, nat_eq, if◌then◌else◌, set, [], ◌∷◌, ℕ, suc, ◌≤◌, ◌<◌, List, Option, Some, None, length, is_some, IsSome, IfSome, slice_index_or, count_by}
+use Rattle.std.specs.Prelude.{◌≡◌, ◌≢◌, ◌⊎◌, ◌+◌, ◌++◌, true, ◌&&◌, nat_le, nat_lt, nat_eq, if◌then◌else◌, set, [], ◌∷◌, ℕ, suc, ◌≤◌, ◌<◌, min, List, Option, Some, None, length, is_some, IsSome, IfSome, slice_index_or, count_by}
 use Rattle.std.specs.Ordering.{nat_cmp}
 use Rattle.std.specs.BTreeMap.{BTreeMap}
 use Rattle.std.specs.FinMap as map
@@ -10,11 +10,12 @@ use Rattle.krl_modes.specs.Modes.{join, meet, compatible}
 use Rattle.krl_modes.specs.Spans.{Bounds}
 use Rattle.krl_queue.specs.declared.waiter.Waiter.{Waiter}
 use Rattle.krl_queue.specs.Waiting.{up_to, beyond, without_first}
-use Rattle.krl_durable.specs.Index.{Index, is_slot}
+use Rattle.krl_durable.specs.Index.{Index, slot_of, is_slot}
 use Rattle.krl_table.specs.declared.row.SlotRow.{SlotRow}
 use Rattle.krl_table.specs.Rows.{Row, Rows, blank_row}
+use Rattle.krl_table.specs.Replies.{can_have}
+use Rattle.krl_table.specs.Grants.{goes_on}
 use Rattle.krl_table.specs.Told.{nothing}
-use Rattle.krl_table.specs.Waiters.{nearer}
 
 -- rows by slot
 abbrev pub Kept : Type 0
@@ -64,6 +65,22 @@ pub record IsNext (t : Kept) (p n : ℕ) : Type 0 where
   pub from : p ≤ n
   pub gap : (k : ℕ) → p ≤ k → k < n → map.get t k ≡ None
 
+-- no slot lies at or above the point
+abbrev pub NoRowFrom : Kept → ℕ → Type 0
+NoRowFrom t p = (n : ℕ) → p ≤ n → map.get t n ≡ None
+
+-- low is the first point of the span of the least slot at or above the point
+abbrev pub IsFirstPoint : Kept → ℕ → ℕ → Type 0
+IsFirstPoint t p low =
+    (n : ℕ) × IsNext t p n × (r : SlotRow) × (map.get t n ≡ Some r) × (r.low ≡ low)
+
+-- next is the slot after this one, and the waiter may take it
+pub record IsTaken (t : Kept) (at : ℕ) (u : Waiter) (next : ℕ) : Type 0 where
+  pub there : IsSome (map.get t next)
+  pub fits : can_have (rows_of t) next u ≡ true
+  pub slot : (m : Index) → IsOver m t → slot_of m (suc at) ≡ next
+  pub on : (m : Index) → IsOver m t → goes_on m (rows_of t) at u ≡ true
+
 -- the row of slot n, where the client's mode is lowered if the slot's span lies in this one
 abbrev pub lowered_row : Bounds → ℕ → Mode → ℕ → SlotRow → SlotRow
 lowered_row span c keep n r =
@@ -91,17 +108,16 @@ granted_to r (u ∷ us) = record r { modes = set r.modes u.client (join (mode_of
 abbrev pub granted_row : SlotRow → SlotRow
 granted_row r = granted_to r r.queue
 
+-- the row where the waiter's client has what it wants
+abbrev pub raised_row : Waiter → SlotRow → SlotRow
+raised_row u r = record r { modes = set r.modes u.client (join (mode_of r.modes u.client) u.mode) }
+
 -- the waiter goes, which is the first of its client on the slot of its point; or none
 abbrev pub IsLeft : Kept → Kept → Option Waiter → Type 0
 IsLeft t u None = u ≡ t
 IsLeft t u (Some w) =
     (n : ℕ) × IsNext t w.point n
     × IfSome (map.get t n) (λ row. u ≡ map.insert t n (record row { queue = without_first w.client row.queue }))
-
--- the lesser of a slot and the waiter's, where the waiter's counts from this point on
-abbrev pub IsNearer : Kept → Option Waiter → Option ℕ → ℕ → Option ℕ → Type 0
-IsNearer t None least from after = after ≡ least
-IsNearer t (Some w) least from after = (n : ℕ) × IsNext t w.point n × (after ≡ nearer least n from)
 
 -- The slot's row r parts: the new row x at k gets the waiters up to k, and the old row's span
 -- begins behind k.
@@ -154,6 +170,28 @@ waiter_in waiting c = slice_index_or waiting c None
 abbrev pub unlisted : List (Option Waiter) → Option Waiter → List (Option Waiter)
 unlisted waiting None = waiting
 unlisted waiting (Some u) = set waiting u.client None
+
+-- each client that waits, waits for a point below this one
+abbrev pub AllWaitBelow : List (Option Waiter) → ℕ → Type 0
+AllWaitBelow waiting low =
+    (c : ℕ) (u : Waiter) → c < 64 → waiter_in waiting c ≡ Some u → u.point < low
+
+-- some client waits for the point, which is at or above low, and none for a lesser one that is
+pub record IsLeastPoint (waiting : List (Option Waiter)) (low p : ℕ) : Type 0 where
+  pub above : low ≤ p
+  pub some : (c : ℕ) × (u : Waiter) × (waiter_in waiting c ≡ Some u) × (u.point ≡ p)
+  pub least : (c : ℕ) (u : Waiter) → c < 64 → waiter_in waiting c ≡ Some u → low ≤ u.point
+      → p ≤ u.point
+
+-- the lesser of the points
+abbrev pub lesser_point : Option ℕ → ℕ → Option ℕ
+lesser_point None q = Some q
+lesser_point (Some p) q = Some (min p q)
+
+-- the lesser of a point and the waiter's, which counts at or above low alone
+abbrev pub lesser : Option ℕ → Option Waiter → ℕ → Option ℕ
+lesser least None low = least
+lesser least (Some u) low = if nat_lt u.point low then least else lesser_point least u.point
 
 -- what is kept by client are the waiters that stand in the queues
 pub record AreListed (waiting : List (Option Waiter)) (t : Kept) : Type 0 where

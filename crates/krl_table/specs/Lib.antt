@@ -3,8 +3,10 @@ pub mod Points
 pub mod Calls
 pub mod Reports
 pub mod Replies
+pub mod Grants
 pub mod Sound
 pub use Rattle.krl_durable.specs.Index
 pub mod Told
 pub mod Waiters
 pub mod Kept
+pub mod Laws

@@ -1,5 +1,5 @@
 -- Who waits, and where somebody does.
-use Rattle.std.specs.Prelude.{◌≡◌, ◌≢◌, ℕ, ◌<◌, ◌≤◌, ◌||◌, nat_lt, nat_le, [], Option, Some, None, if◌then◌else◌}
+use Rattle.std.specs.Prelude.{◌≡◌, ◌≢◌, ℕ, ◌<◌, ◌≤◌, [], None}
 use Rattle.krl_queue.specs.Waiting.{first_of}
 use Rattle.krl_table.specs.Rows.{Rows}
 
@@ -16,8 +16,3 @@ pub record IsNextWaiting (rows : Rows) (from n : ℕ) : Type 0 where
   pub above : from ≤ n
   pub some : (rows n).queue ≢ []
   pub least : NobodyWaits rows from n
-
--- the lesser of the slots, where the second counts from this point on
-abbrev pub nearer : Option ℕ → ℕ → ℕ → Option ℕ
-nearer None n from = if nat_lt n from then None else Some n
-nearer (Some k) n from = if nat_lt n from || nat_le k n then Some k else Some n

@@ -2,6 +2,7 @@
 #![tactic(auto)]
 
 mod conflict;
+pub mod laws;
 mod needs;
 mod reply;
 mod row;

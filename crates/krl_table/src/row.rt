@@ -1,13 +1,16 @@
 //! The row of a slot.
 ghost use Rattle.std.specs.Prelude.{◌≡◌, ◌||◌, ℕ, ◌<◌, [], length, nat_eq, IfSome};
 ghost use Rattle.krl_modes.specs.Modes.{range_of, compatible};
-ghost use Rattle.krl_table.specs.Calls.{queue_with, split_modes, mode_beside};
+ghost use Rattle.krl_table.specs.Calls.{queue_with, split_modes, mode_beside, wanted};
 ghost use Rattle.krl_modes.specs.declared.mode.Mode.TheVariants as mode;
 ghost use Rattle.krl_table.specs.Kept.{mode_of, row_of, lowered_row, cleared_row, granted_row};
-ghost use Rattle.krl_table.specs.Rows.{blank_row, front_of, all_below, most_clients};
+ghost use Rattle.krl_table.specs.Kept.{raised_row};
+ghost use Rattle.krl_table.specs.Rows.{blank_row, front_of, all_below, most_clients, row_fits};
+ghost use Rattle.krl_table.specs.Replies.{row_reply};
 ghost use Rattle.krl_table.specs.Told.{nothing, told_mode, tell_range, tell_key, settled_row};
 ghost use Rattle.krl_table.specs.Told.{forgot_row};
 
+use crate::reply::{self, Reply};
 use crate::told::{Reach, Told};
 use krl_modes::{KeyPart, Mode, RangePart, Span};
 use krl_queue::{WaitList, WaitNode, Waiter};
@@ -87,8 +90,16 @@ impl SlotRow {
         ensures waiter { result ≡ front_of self.old.queue }
     {
         let waiter = self.queue.pop_front()?;
-        self.modes[waiter.client as usize] = self.mode(waiter.client).join(waiter.mode);
+        self.raise(&waiter);
         Some(waiter)
+    }
+
+    /// The waiter's client gets what it wants.
+    pub(crate) fn raise(&mut self, waiter: &Waiter)
+        requires { waiter.now.client < 64 }
+        ensures { self.new ≡ raised_row waiter.now self.old }
+    {
+        self.modes[waiter.client as usize] = self.mode(waiter.client).join(waiter.mode);
     }
 
     /// Whether the client may hold the mode beside what all others hold.
@@ -102,6 +113,31 @@ impl SlotRow {
             }
         }
         true
+    }
+
+    /// Whether what the waiter wants can stand beside what all others hold.
+    pub(crate) fn can_have(&self, waiter: &Waiter) -> bool
+        requires { waiter.now.client < 64 }
+        ensures { result
+            ≡ row_fits (row_of self.now) waiter.now.client (wanted (row_of self.now) waiter.now) }
+    {
+        let wanted = self.mode(waiter.client).join(waiter.mode);
+        self.fits(waiter.client, wanted)
+    }
+
+    /// What the first waiter can be told, who waits on this slot.
+    pub(crate) fn reply(&self, slot: u64) -> Option<Reply>
+        requires { IfSome (front_of self.now.queue) (λ u. u.client < 64) }
+        ensures { result ≡ row_reply slot (row_of self.now) }
+    {
+        let waiter = self.queue.front()?;
+        if reply::asks_absent(slot, &waiter) {
+            Some(Reply::Absent)
+        } else if self.can_have(&waiter) {
+            Some(Reply::Grant)
+        } else {
+            None
+        }
     }
 
     /// The row of a new slot that its writer parts from this one. Nobody waits there.

@@ -1,14 +1,14 @@
 //! A row's change, as the map sees it.
 ghost use Rattle.std.specs.Prelude.{◌≡◌, ◌++◌, ◌<◌, ◌≤◌, ℕ, [], ◌∷◌, Some, None, IsSome, IfSome};
-ghost use Rattle.std.specs.Prelude.{OnOk, OnErr, drop};
+ghost use Rattle.std.specs.Prelude.{MatchOption, OnOk, OnErr, drop};
 ghost use Rattle.std.specs.FinMap as map;
 ghost use Rattle.krl_queue.specs.Waiting.{up_to, beyond, without_first};
-ghost use Rattle.krl_table.specs.Kept.{table, row_of, IsNext, IsParted, IsJoined, IsLeft, IsNearer};
-ghost use Rattle.krl_table.specs.Kept.{each, lowered_row, cleared_row, granted_row};
+ghost use Rattle.krl_table.specs.Kept.{table, row_of, IsNext, IsParted, IsJoined, IsLeft};
+ghost use Rattle.krl_table.specs.Kept.{NoRowFrom, IsFirstPoint};
+ghost use Rattle.krl_table.specs.Kept.{each, lowered_row, cleared_row, granted_row, raised_row};
 ghost use Rattle.krl_table.specs.Told.{tell_range, tell_keys, settled_row, forgot_row};
 ghost use Rattle.krl_table.specs.Calls.{queue_with};
 ghost use Rattle.krl_table.specs.Rows.{front_of};
-ghost use Rattle.krl_table.specs.Waiters.{nearer};
 ghost use Rattle.krl_modes.specs.declared.point.TheConstants.{END};
 
 use crate::row::SlotRow;
@@ -29,6 +29,16 @@ pub(crate) fn next(rows: &BTreeMap<u64, SlotRow>, at: u64) -> u64
         Some((slot, _)) => *slot,
         None => END,
     }
+}
+
+/// The first point of the span of the least slot at or above the point. None where there is no such
+/// slot.
+pub(crate) fn low_of(rows: &BTreeMap<u64, SlotRow>, at: u64) -> Option<u64>
+    ensures { MatchOption result (NoRowFrom (table rows.now) at)
+        (λ low. IsFirstPoint (table rows.now) at low) }
+{
+    let (_, row) = rows.range(at..).next()?;
+    Some(row.low)
 }
 
 /// Puts a row there, or nothing where its memory is refused.
@@ -128,6 +138,17 @@ pub(crate) fn grant(rows: &mut BTreeMap<u64, SlotRow>, slot: u64) -> Option<Wait
 {
     let row = rows.get_mut(&slot).unwrap();
     row.grant()
+}
+
+/// The waiter's client gets what it wants there.
+pub(crate) fn raise(rows: &mut BTreeMap<u64, SlotRow>, slot: u64, waiter: &Waiter)
+    requires there { IsSome (map.get (table rows.old) slot) }
+    requires client { waiter.now.client < 64 }
+    ensures { IfSome (map.get (table rows.old) slot)
+        (λ row. table rows.new ≡ map.insert (table rows.old) slot (raised_row waiter.now row)) }
+{
+    let row = rows.get_mut(&slot).unwrap();
+    row.raise(waiter);
 }
 
 /// Notes a reported range that begins in the slot's span.
@@ -270,31 +291,4 @@ pub(crate) fn join(rows: &mut BTreeMap<u64, SlotRow>, key: u64, slot: u64)
     } = take(rows, key);
     put_before(rows, slot, queue);
     set_low(rows, slot, low);
-}
-
-/// The lesser of a slot and the waiter's, where the waiter's counts from this point on.
-pub(crate) fn nearer(
-    rows: &BTreeMap<u64, SlotRow>,
-    waiter: &Option<Waiter>,
-    least: Option<u64>,
-    from: u64,
-) -> Option<u64>
-    requires { IsSome (map.get (table rows.now) END) }
-    ensures { IsNearer (table rows.now) waiter.now least from result }
-{
-    match *waiter {
-        None => least,
-        Some(waiter) => nearer_slot(least, next(rows, waiter.point.get()), from),
-    }
-}
-
-/// The lesser of the slots, where the second counts from this point on.
-fn nearer_slot(least: Option<u64>, slot: u64, from: u64) -> Option<u64>
-    ensures { result ≡ nearer least slot from }
-{
-    match least {
-        Some(other) if slot < from || other <= slot => Some(other),
-        None if slot < from => None,
-        _ => Some(slot),
-    }
 }

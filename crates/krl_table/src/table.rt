@@ -1,31 +1,29 @@
 //! The table.
-ghost use Rattle.std.specs.Prelude.{◌≡◌, ◌≢◌, ◌⊎◌, ◌↔◌, ◌<◌, ◌≤◌, true, false, [], ℕ, suc};
-ghost use Rattle.std.specs.Prelude.{map as map_list, Some, None, is_some, IfOk, IsOk, IsSome};
+ghost use Rattle.std.specs.Prelude.{◌≡◌, ◌≢◌, ◌⊎◌, ◌↔◌, ◌<◌, ◌≤◌, false, [], ℕ, suc};
+ghost use Rattle.std.specs.Prelude.{map as map_list, Some, None, IfOk, IsOk, IsSome};
 ghost use Rattle.std.specs.Prelude.{IfSome, MatchOption, OnOk, OnErr};
 ghost use Rattle.std.specs.FinMap as map;
 ghost use Rattle.krl_modes.specs.declared.point.TheConstants.{END};
 ghost use Rattle.krl_modes.specs.declared.part.KeyPart.TheVariants as key_part;
-ghost use Rattle.krl_messages.specs.Writes.{op_key};
+ghost use Rattle.krl_messages.specs.Values as values;
 ghost use Rattle.krl_durable.specs.Index.{Index, slot_of, span_of};
-ghost use Rattle.krl_durable.specs.Writes.{held};
-ghost use Rattle.krl_table.specs.declared.reply.Reply.TheVariants as reply;
-ghost use Rattle.krl_table.specs.Rows.{mode_at, column, front_of, blank_row, waiter_of};
-ghost use Rattle.krl_table.specs.Calls.{lowered, cleared, enqueued, granted, dropped, split};
-ghost use Rattle.krl_table.specs.Calls.{merged};
+ghost use Rattle.krl_table.specs.Rows.{mode_at, front_of, blank_row, waiter_of};
+ghost use Rattle.krl_table.specs.Calls.{lowered, cleared, enqueued, dropped, split, merged};
 ghost use Rattle.krl_table.specs.Kept.{mode_of, rows_of, IsOver, IsNext, AreKeys};
 ghost use Rattle.krl_table.specs.Points.{range_at, key_at, MayInsert, MayDelete};
-ghost use Rattle.krl_table.specs.Replies.{answerable, asks_absent, can_have, reply_to};
 ghost use Rattle.krl_table.specs.Reports.{conflicts, adopted};
 ghost use Rattle.krl_table.specs.Sound.{IsTable};
 ghost use Rattle.krl_table.specs.Waiters.{WaitsNowhere, IsNextWaiting};
 
+mod granting;
+mod replies;
+
 use crate::conflict::Conflict;
-use crate::reply::Reply;
 use crate::row::SlotRow;
 use crate::waiting::Waiting;
-use crate::{needs, steps, walks};
+use crate::{steps, walks};
 use krl_durable::Durable;
-use krl_messages::{Pieces, Value, WriteOp};
+use krl_messages::{Pieces, Value};
 use krl_modes::{END, Mode, Point, Span};
 use krl_queue::{WaitNode, Waiter};
 use std::alloc::{AllocError, Global};
@@ -160,19 +158,16 @@ impl Table {
         self.waiting.of(client)
     }
 
-    /// The least slot at or above this point at which somebody waits. It takes at most 64 steps,
-    /// with a search each.
+    /// The least slot at or above this point at which somebody waits. It takes two searches, and
+    /// one look at each client's waiter.
     pub fn next_waiting(&self, from: u64) -> Option<u64>
         ensures next { MatchOption result ((n : ℕ) → from ≤ n → (rows_of self.now n).queue ≡ [])
             (λ slot. IsNextWaiting (rows_of self.now) from slot) }
         ensures there { IfSome result (λ slot. IsSome (map.get self.now slot)) }
     {
-        let mut least: Option<u64> = None;
-        for client in 0..64u64 {
-            let waiter = self.waiting.of(client);
-            least = steps::nearer(&self.rows, &waiter, least, from);
-        }
-        least
+        let low = steps::low_of(&self.rows, from)?;
+        let point = self.waiting.least_from(low)?;
+        Some(self.slot_of(point))
     }
 
     /// Lowers the client's mode to this one on each slot whose span lies in the span. It looks at
@@ -213,19 +208,6 @@ impl Table {
         self.waiting.note(waiter);
     }
 
-    /// The slot's first waiter gets what it wants, which can stand beside what all others hold
-    /// there, and waits no more.
-    pub fn grant(&mut self, slot: u64)
-        requires there { IsSome (map.get self.old slot) }
-        requires fits { IfSome (front_of (rows_of self.old slot).queue)
-            (λ u. can_have (rows_of self.old) slot u ≡ true) }
-        ensures granted { (n : ℕ) → rows_of self.new n ≡ granted (rows_of self.old) slot n }
-        ensures slots { (m : Index) → IsOver m self.old → IsOver m self.new }
-    {
-        let first = steps::grant(&mut self.rows, slot);
-        self.waiting.leave(&first);
-    }
-
     /// The slot's first waiter waits no more.
     pub fn drop_front(&mut self, slot: u64)
         requires { IsSome (map.get self.old slot) }
@@ -252,16 +234,16 @@ impl Table {
             ((m : Index) → IsOver m self.old → (n : ℕ)
             → rows_of self.new n ≡ split m (rows_of self.old) key client n) }
         ensures slots { OnOk result
-            ((m : Index) (value : ℕ) → IsOver m self.old
+            ((m : Index) (value : values.Value) → IsOver m self.old
             → IsOver (map.insert m key value) self.new) }
-        ensures ranges { OnOk result ((m : Index) (value : ℕ) → IsOver m self.old
+        ensures ranges { OnOk result ((m : Index) (value : values.Value) → IsOver m self.old
             → (d p : ℕ) → range_at (map.insert m key value) (rows_of self.new) d p
             ≡ range_at m (rows_of self.old) d p) }
-        ensures keys { OnOk result ((m : Index) (value : ℕ) → IsOver m self.old
+        ensures keys { OnOk result ((m : Index) (value : values.Value) → IsOver m self.old
             → (d p : ℕ) → (p ≢ key) ⊎ (d ≢ client)
             → key_at (map.insert m key value) (rows_of self.new) d p
             ≡ key_at m (rows_of self.old) d p) }
-        ensures own { OnOk result ((m : Index) (value : ℕ) → IsOver m self.old
+        ensures own { OnOk result ((m : Index) (value : values.Value) → IsOver m self.old
             → key_at (map.insert m key value) (rows_of self.new) client key ≡ key_part.X) }
         ensures refused { OnErr result (self.new ≡ self.old) }
     {
@@ -289,105 +271,6 @@ impl Table {
     {
         let slot = steps::next(&self.rows, key + 1);
         steps::join(&mut self.rows, key, slot);
-    }
-
-    /// Whether the point is a key.
-    fn is_key(&self, at: u64) -> bool
-        requires { at ≤ END }
-        ensures { (m : Index) → IsOver m self.now → result ≡ is_some (map.get m at) }
-    {
-        at < END && self.rows.contains_key(&at)
-    }
-
-    /// The client's mode there, or N where there is no slot.
-    fn mode_there(&self, at: u64, client: u64) -> Mode
-        requires { client < 64 }
-        ensures { result ≡ mode_at (rows_of self.now) at client }
-    {
-        match self.rows.get(&at) {
-            Some(row) => row.mode(client),
-            None => Mode::N,
-        }
-    }
-
-    /// Whether the waiter asks for an entry where there is none.
-    fn asks_absent(&self, waiter: &Waiter) -> bool
-        ensures { (m : Index) → IsOver m self.now → result ≡ asks_absent m waiter.now }
-    {
-        let key = self.is_key(waiter.point.get());
-        waiter.mode.needs_entry() & !key
-    }
-
-    /// Whether what the waiter wants can stand beside what all others hold on the slot.
-    fn can_have(&self, slot: u64, waiter: &Waiter) -> bool
-        requires there { IsSome (map.get self.now slot) }
-        requires client { waiter.now.client < 64 }
-        ensures { result ≡ can_have (rows_of self.now) slot waiter.now }
-    {
-        let row = self.row(slot);
-        let wanted = row.mode(waiter.client).join(waiter.mode);
-        row.fits(waiter.client, wanted)
-    }
-
-    /// What the waiter can be told on the slot.
-    fn reply_to(&self, slot: u64, waiter: &Waiter) -> Option<Reply>
-        requires there { IsSome (map.get self.now slot) }
-        requires client { waiter.now.client < 64 }
-        ensures reply { (m : Index) → IsOver m self.now
-            → result ≡ reply_to m (rows_of self.now) slot waiter.now }
-        ensures grants { result ≡ Some reply.Grant
-            → can_have (rows_of self.now) slot waiter.now ≡ true }
-    {
-        if self.asks_absent(waiter) {
-            Some(Reply::Absent)
-        } else if self.can_have(slot, waiter) {
-            Some(Reply::Grant)
-        } else {
-            None
-        }
-    }
-
-    /// What the slot's first waiter can be told, where its client has acknowledged every push or
-    /// not.
-    ///
-    /// The clause `grants` is what `grant` asks.
-    pub fn answerable(&self, slot: u64, acked: bool) -> Option<Reply>
-        requires { IsSome (map.get self.now slot) }
-        ensures answer { (m : Index) → IsOver m self.now
-            → result ≡ answerable m (rows_of self.now) slot acked }
-        ensures grants { result ≡ Some reply.Grant
-            → IfSome (front_of (rows_of self.now slot).queue)
-            (λ u. can_have (rows_of self.now) slot u ≡ true) }
-    {
-        if !acked {
-            return None;
-        }
-        match self.front(slot) {
-            None => None,
-            Some(waiter) => self.reply_to(slot, &waiter),
-        }
-    }
-
-    /// Whether the client's modes are what the write needs.
-    pub fn held(&self, client: u64, op: WriteOp) -> bool
-        requires client { client < 64 }
-        requires key { op_key op < END }
-        ensures { (m : Index) → IsOver m self.now
-            → result ≡ held m (column (rows_of self.now) client) op }
-    {
-        match op {
-            WriteOp::Insert { key, value: _ } => {
-                let slot = steps::next(&self.rows, key);
-                needs::lets_insert(self.mode_there(slot, client))
-            }
-            WriteOp::Put { key, value: _ } => needs::is_key_x(self.mode_there(key, client)),
-            WriteOp::Delete { key } => {
-                let slot = steps::next(&self.rows, key + 1);
-                let here = self.mode_there(key, client);
-                let next = self.mode_there(slot, client);
-                needs::is_key_x(here) & needs::is_range_x(here) & needs::is_range_x(next)
-            }
-        }
     }
 
     /// The client, which restarts with what it still holds, has on each slot the least mode at or

@@ -1,7 +1,8 @@
 //! How each client waits.
-ghost use Rattle.std.specs.Prelude.{◌≡◌, ◌<◌, ℕ, Some, None, IfSome, set, length};
-ghost use Rattle.krl_table.specs.Kept.{waiter_in, unlisted};
+ghost use Rattle.std.specs.Prelude.{◌≡◌, ◌<◌, ℕ, Some, None, IfSome, MatchOption, set, length};
+ghost use Rattle.krl_table.specs.Kept.{waiter_in, unlisted, AllWaitBelow, IsLeastPoint, lesser};
 
+use krl_modes::Point;
 use krl_queue::Waiter;
 
 /// The waiter of each client, where it has one. Its slot is the one of its point, so it is not kept
@@ -48,5 +49,29 @@ impl Waiting {
             let client = waiter.client as usize;
             self.by_client[client] = None;
         }
+    }
+
+    /// The least point at or above this one that somebody waits for.
+    pub(crate) fn least_from(&self, low: u64) -> Option<Point>
+        ensures { MatchOption result (AllWaitBelow self.now.by_client low)
+            (λ point. IsLeastPoint self.now.by_client low point) }
+    {
+        let mut least = None;
+        for waiter in &self.by_client {
+            least = lesser(least, waiter, low);
+        }
+        least
+    }
+}
+
+/// The lesser of the point and the waiter's, which counts at or above `low` alone.
+fn lesser(least: Option<Point>, waiter: &Option<Waiter>, low: u64) -> Option<Point>
+    ensures { result ≡ lesser least waiter.now low }
+{
+    match (*waiter, least) {
+        (Some(waiter), _) if waiter.point.get() < low => least,
+        (Some(waiter), Some(point)) => Some(point.min(waiter.point)),
+        (Some(waiter), None) => Some(waiter.point),
+        (None, _) => least,
     }
 }

@@ -3,8 +3,8 @@ ghost use Rattle.krl_table.specs.Waiters.{WaitsNowhere};
 ghost use Rattle.krl_table.specs.Kept.{rows_of};
 
 use krl_durable::{Durable, Refused};
-use krl_messages::{KeyPiece, Pieces, RangePiece, WriteOp};
-use krl_modes::{END, KeyPart, Mode, Point, RangePart, Span};
+use krl_messages::{KeyPiece, Pieces, RangePiece, Value, WriteOp};
+use krl_modes::{END, KeyPart, Mode, Point, RangePart, Span, TOP};
 use krl_queue::{WaitNode, Waiter};
 use krl_table::{Reply, Table};
 use std::alloc::{AllocError, Global};
@@ -12,6 +12,11 @@ use std::test::Fail;
 
 // The client, which waits nowhere yet, waits at the point.
 fn waits(alloc: Global, table: &mut Table, client: u64, at: u64, mode: Mode) -> bool {
+    at < TOP && waits_to(alloc, table, client, at, at + 1, mode)
+}
+
+// It waits at the point, for a lock of the points from there up to `hi`.
+fn waits_to(alloc: Global, table: &mut Table, client: u64, at: u64, hi: u64, mode: Mode) -> bool {
     if client >= 64 {
         return false;
     }
@@ -20,12 +25,12 @@ fn waits(alloc: Global, table: &mut Table, client: u64, at: u64, mode: Mode) -> 
     };
     match table.waiter_of(client) {
         Some(_waiter) => false,
-        None => enters(alloc, table, client, point, mode),
+        None => enters(alloc, table, client, point, hi, mode),
     }
 }
 
 // The same, where it is known that it waits nowhere.
-fn enters(alloc: Global, table: &mut Table, client: u64, point: Point, mode: Mode) -> bool
+fn enters(alloc: Global, table: &mut Table, client: u64, point: Point, hi: u64, mode: Mode) -> bool
     requires client { client < 64 }
     requires free { WaitsNowhere (rows_of table.old) client }
 {
@@ -33,6 +38,7 @@ fn enters(alloc: Global, table: &mut Table, client: u64, point: Point, mode: Mod
         client,
         req: 1,
         point,
+        hi,
         mode,
     };
     match node(alloc, waiter) {
@@ -57,19 +63,24 @@ fn node(alloc: Global, waiter: Waiter) -> Option<WaitNode>
     }
 }
 
-// The first waiter at the point's slot is granted what it wants.
-fn grants(table: &mut Table, at: u64) -> bool {
+// The first waiter at the point's slot is granted what it wants, on this many slots.
+fn taken(table: &mut Table, at: u64) -> usize {
     let Some(point) = Point::new(at) else {
-        return false;
+        return 0;
     };
     let slot = table.slot_of(point);
     match table.answerable(slot, true) {
         Some(Reply::Grant) => {
-            table.grant(slot);
-            true
+            let taken = table.grant(slot);
+            taken.len()
         }
-        Some(Reply::Absent) | None => false,
+        Some(Reply::Absent) | None => 0,
     }
+}
+
+// It is granted what it wants there, on one slot.
+fn grants(table: &mut Table, at: u64) -> bool {
+    taken(table, at) == 1
 }
 
 // The client asks at the point, and gets it.
@@ -122,7 +133,8 @@ fn splits(table: &mut Table, key: u64, client: u64) -> Result<bool, AllocError> 
     let Some(point) = Point::new(key) else {
         return Ok(false);
     };
-    if table.slot_of(point) == key || !table.held(client, WriteOp::Insert { key, value: 0 }) {
+    let value = Value::from_u64(key);
+    if table.slot_of(point) == key || !table.held(client, WriteOp::Insert { key, value }) {
         return Ok(false);
     }
     table.split(key, client)?;
@@ -144,27 +156,38 @@ fn merges(table: &mut Table, key: u64, client: u64) -> bool {
     true
 }
 
-// A durable part with 10 and 20. One that is refused memory is made again.
-fn two_entries(alloc: Global) -> Result<Durable, Refused> {
-    match Durable::new(alloc, &[(10, 1), (20, 2)]) {
-        Ok(durable) => Ok(durable),
-        Err(_refused) => Durable::new(alloc, &[(10, 1), (20, 2)]),
+static TWO_KEYS: [u64; 2] = [10, 20];
+
+static EIGHT_KEYS: [u64; 8] = [10, 20, 30, 40, 50, 60, 70, 80];
+
+// Entries at these keys.
+fn entries_at(alloc: Global, keys: &[u64]) -> Result<Vec<(u64, Value)>, AllocError> {
+    let mut entries = Vec::new(alloc);
+    for key in keys {
+        entries.push((*key, Value::from_u64(*key)))?;
     }
+    Ok(entries)
 }
 
-// A table over 10 and 20. A build that is refused memory is made again.
-fn two_keys(alloc: Global) -> Result<Table, Refused> {
-    let durable = two_entries(alloc)?;
-    match Table::build(alloc, &durable) {
+// A table over these keys.
+fn built(alloc: Global, keys: &[u64]) -> Result<Table, Refused> {
+    let entries = entries_at(alloc, keys)?;
+    let durable = Durable::new(alloc, &entries)?;
+    Ok(Table::build(alloc, &durable)?)
+}
+
+// The same. One that is refused memory is built again.
+fn table_of(alloc: Global, keys: &[u64]) -> Result<Table, Refused> {
+    match built(alloc, keys) {
         Ok(table) => Ok(table),
-        Err(_refused) => Ok(Table::build(alloc, &durable)?),
+        Err(_refused) => built(alloc, keys),
     }
 }
 
 #[test]
 fn inserts_among_waiters(rt: HostRuntime) -> Result<(), Fail> {
     let alloc = rt.alloc();
-    let mut table = two_keys(alloc)?;
+    let mut table = table_of(alloc, &TWO_KEYS)?;
     assert!(rt; gets(alloc, &mut table, 0, 15, Mode::RangeIN));
     assert!(rt; gets(alloc, &mut table, 1, 15, Mode::RangeIN));
     assert!(rt; waits(alloc, &mut table, 2, 13, Mode::RangeXX));
@@ -194,7 +217,7 @@ fn inserts_among_waiters(rt: HostRuntime) -> Result<(), Fail> {
 #[test]
 fn deletes_between_waiters(rt: HostRuntime) -> Result<(), Fail> {
     let alloc = rt.alloc();
-    let mut table = two_keys(alloc)?;
+    let mut table = table_of(alloc, &TWO_KEYS)?;
     assert!(rt; gets(alloc, &mut table, 0, 5, Mode::RangeXX));
     assert!(rt; gets(alloc, &mut table, 0, 15, Mode::RangeXX));
     assert!(rt; waits(alloc, &mut table, 1, 3, Mode::RangeSS));
@@ -208,6 +231,67 @@ fn deletes_between_waiters(rt: HostRuntime) -> Result<(), Fail> {
     assert!(rt; is_first(&table, 20, 2));
     drops(&mut table, 20);
     assert!(rt; table.next_waiting(0).is_none());
+    Ok(())
+}
+
+// The eight slots from the first key on, though the client asks for all nine.
+#[test]
+fn takes_eight_of_nine_free_slots(rt: HostRuntime) -> Result<(), Fail> {
+    let alloc = rt.alloc();
+    let mut table = table_of(alloc, &EIGHT_KEYS)?;
+    assert!(rt; waits_to(alloc, &mut table, 0, 5, TOP, Mode::RangeSS));
+    assert!(rt; taken(&mut table, 5) == 8);
+    for key in &EIGHT_KEYS {
+        assert!(rt; holds(&table, *key, 0, Mode::RangeSS));
+    }
+    assert!(rt; holds(&table, END, 0, Mode::N));
+    // Up to the first slot where another's lock bars the way.
+    assert!(rt; gets(alloc, &mut table, 1, 90, Mode::RangeXX));
+    assert!(rt; waits_to(alloc, &mut table, 2, 61, TOP, Mode::RangeSS));
+    assert!(rt; taken(&mut table, 61) == 2);
+    assert!(rt; holds(&table, 70, 2, Mode::RangeSS) && holds(&table, 80, 2, Mode::RangeSS));
+    assert!(rt; holds(&table, END, 2, Mode::N) && table.next_waiting(0).is_none());
+    Ok(())
+}
+
+// Who waits, and at which point: two of them in one slot.
+static WAITERS: [(u64, u64); 5] = [(0, 55), (1, 15), (2, 12), (3, 5), (63, 85)];
+
+// The least slot from a point on at which one of them waits.
+static NEXT_WAITING: [(u64, Option<u64>); 16] = [
+    (0, Some(10)),
+    (5, Some(10)),
+    (6, Some(10)),
+    (10, Some(10)),
+    (11, Some(20)),
+    (13, Some(20)),
+    (16, Some(20)),
+    (20, Some(20)),
+    (21, Some(60)),
+    (31, Some(60)),
+    (60, Some(60)),
+    (61, Some(END)),
+    (86, Some(END)),
+    (END, Some(END)),
+    (TOP, None),
+    (u64::MAX, None),
+];
+
+#[test]
+fn finds_the_next_who_waits(rt: HostRuntime) -> Result<(), Fail> {
+    let alloc = rt.alloc();
+    let mut table = table_of(alloc, &EIGHT_KEYS)?;
+    assert!(rt; table.next_waiting(0).is_none());
+    for (client, point) in &WAITERS {
+        assert!(rt; waits(alloc, &mut table, *client, *point, Mode::RangeSS));
+    }
+    for (from, slot) in &NEXT_WAITING {
+        assert!(rt; table.next_waiting(*from) == *slot);
+    }
+    // Without the last of them nobody waits from there on, and where two waited one still does.
+    table.clear(63);
+    table.clear(1);
+    assert!(rt; table.next_waiting(61).is_none() && table.next_waiting(14) == Some(20));
     Ok(())
 }
 
@@ -253,7 +337,7 @@ fn listed(
 #[test]
 fn takes_reports_in(rt: HostRuntime) -> Result<(), Fail> {
     let alloc = rt.alloc();
-    let mut table = two_keys(alloc)?;
+    let mut table = table_of(alloc, &TWO_KEYS)?;
     let shared = range(0, 11, RangePart::S);
     let insert = range(5, 15, RangePart::I);
     let key = |point: u64, part: KeyPart| KeyPiece { point, part };

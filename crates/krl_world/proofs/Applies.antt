@@ -16,11 +16,12 @@ use Rattle.krl_durable.specs.Index.{slot_of}
 use Rattle.krl_durable.specs.Registers.{Register, record_of, with_record}
 use Rattle.krl_durable.specs.Writes.{noted, applied, applied_by as applied_to}
 use Rattle.krl_messages.specs.Writes.{op_key}
-use Rattle.krl_table.specs.Calls.{granted, dropped}
+use Rattle.krl_table.specs.Calls.{dropped}
+use Rattle.krl_table.specs.Grants.{taken, granted}
 use Rattle.krl_table.specs.Replies.{asks_absent}
 use Rattle.krl_server.specs.Servers.{Server}
 use Rattle.krl_server.specs.Cases.{Case, Registers, Leaves, Judges, case_of}
-use Rattle.krl_server.specs.Effects.{Done, holding, heard, writes, pushes, with_rows, effect}
+use Rattle.krl_server.specs.Effects.{Done, holding, holdings, heard, writes, pushes, with_rows, effect}
 use Rattle.krl_server.specs.Answering.{Turn, take_turn, tells_absent, grants, Answered, stops, goes_on}
 use Rattle.krl_server.specs.Steps.{Ends, at_once, gathers, serves, kind_of, ServerStep}
 use Rattle.krl_server.proofs.Tests.{if_both}
@@ -39,7 +40,7 @@ pushes_durable s c body = if_both (λ (x : Done). x.server.durable ≡ s.durable
 turn_durable : (s : Server) (t : Turn) → (take_turn s t).server.durable ≡ s.durable
 turn_durable s t = if_both (λ (x : Done). x.server.durable ≡ s.durable) (asks_absent s.durable.index t.waiter) (tells_absent s t) (grants s t)
     (pushes_durable (with_rows s (dropped s.rows t.slot)) t.waiter.client (push.Absent t.waiter.req t.waiter.point))
-    (pushes_durable (with_rows s (granted s.rows t.slot)) t.waiter.client (push.Grant t.waiter.req (holding (with_rows s (granted s.rows t.slot)) t.slot t.waiter.client)))
+    (pushes_durable (with_rows s (granted s.durable.index s.rows t.slot)) t.waiter.client (push.Grant t.waiter.req (holdings (with_rows s (granted s.durable.index s.rows t.slot)) t.waiter.client (taken s.durable.index s.rows t.slot))))
 
 answered_durable : (s t : Server) (outs : List ToClient) → Answered s t outs → t.durable ≡ s.durable
 answered_durable s t outs (stops s' e) = refl
@@ -109,7 +110,7 @@ shows_case s m = by_said s m (Shows s m) (record {
   repeats = λ r body served e. same s m;
   hears = λ r request b a. same s m;
   lowers = λ r request span keep a. same s m;
-  waits = λ r request req point g a new free near. same s m;
+  waits = λ r request req point hi g a new free near. same s m;
   judges = λ r request number op o a under low new is.
       let t = writes (heard s m.client) m.client op o in
       let kept = pushes_durable t m.client (push.Answer number o (holding t (slot_of t.durable.index (op_key op)) m.client)) in

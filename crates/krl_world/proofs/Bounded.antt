@@ -1,5 +1,5 @@
 -- What clients believe and live pushes lie within the bound of each run, and no message has an epoch above the durable one.
-use Rattle.std.proofs.Common.{◌≡◌, ℕ, suc, ◌≤◌, Bool, false, Option, Some, None, List, [], ◌∷◌, refl, sym, ap, subst, arith, if◌then◌else◌}
+use Rattle.std.proofs.Common.{◌≡◌, ℕ, suc, ◌≤◌, ◌<◌, ◌&&◌, Bool, true, false, nat_le, nat_lt, inl, inr, Option, Some, None, List, [], ◌∷◌, refl, sym, ap, subst, ◌∙◌, arith, if◌then◌else◌}
 use Rattle.krl_modes.specs.declared.part.RangePart.{RangePart}
 use Rattle.krl_modes.specs.declared.part.KeyPart.{KeyPart}
 use Rattle.krl_modes.specs.declared.part.KeyPart.TheVariants as key
@@ -19,9 +19,12 @@ use Rattle.krl_protocol.specs.Links.{In, Link}
 use Rattle.krl_protocol.specs.Worlds as machine
 use Rattle.krl_protocol.specs.Worlds.{Logged, MayTake}
 use Rattle.krl_protocol.proofs.Modes.{ranges_by_table, keys_by_table}
-use Rattle.krl_protocol.specs.Holdings.{said_at}
+use Rattle.std.specs.List.{AllByRecursion}
+use Rattle.std.proofs.lemmas.Bool.Decides.{nat_tests}
+use Rattle.krl_messages.specs.Several.{IsBefore, Ascend}
+use Rattle.krl_protocol.specs.Holdings.{said_at, or_by, said_by}
 use Rattle.krl_protocol.proofs.Holdings.{says_here}
-use Rattle.krl_server.specs.Shows.{push_of, push_with, Stands, WasSent}
+use Rattle.krl_server.specs.Shows.{push_of, push_with, IsWhole, IsTold, Stands, WasSent}
 use Rattle.krl_cache.proofs.Truths.{inside_span}
 use Rattle.krl_client.specs.Clients.{Client}
 use Rattle.krl_client_machine.specs.Shows.{ShowsClient, ShowsSeat}
@@ -53,20 +56,46 @@ held_key c p (Some k) g l b h e x = key_within _ _ _ _ (h.1.key p) e x
 
 -- Live pushes
 
-holding_within : (w : State) (of : ℕ → Link) (log : List Logged) (b : Bound) (c : ℕ) (k : Client) (answers : ℕ) (applied : Bool) (h : Holding) → HaveBound of b → machine.Restarts (machine_of w.server of log) → ShowsClient c k (of c).client → In (push_with k.incarnation k.epoch (suc k.seen) answers applied (h ∷ [])) (of c).pushes → IsHoldingWithin b c h
-holding_within w of log b c k answers applied h have r s at = record {
-  range = λ p i. let x = inside_span h.span p i in range_within _ _ _ _ refl (have c p).0 (r.live c _ at live p (said_at h p) (says_here h p x.0 x.1)).0;
+-- what several holdings say of a point in the span of one of them, where no point lies in two
+
+outside_span : (lo hi q : ℕ) → q < lo → (nat_le lo q && nat_lt q hi) ≡ false
+outside_span lo hi q lt = grind (arith, nat_tests)
+
+within_span : (lo hi q : ℕ) → lo ≤ q → q < hi → (nat_le lo q && nat_lt q hi) ≡ true
+within_span lo hi q a b = grind (arith, nat_tests)
+
+none_later : (h : Holding) (hs : List Holding) → IsBefore h hs → Ascend hs → AllByRecursion (λ k. IsWhole k.span) hs → (q : ℕ) → q < h.span.hi → said_by hs q ≡ None
+none_later h [] b up w q lt = refl
+none_later h (k ∷ ks) b up w q lt =
+    let some = w.0 in
+    ap (λ o. or_by o k q) (none_later k ks up.0 up.1 w.1 q (omega (arith, lt, b, some)))
+    ∙ ap (λ t. if t then Some (said_at k q) else None) (outside_span k.span.lo k.span.hi q (omega (arith, lt, b)))
+
+says_each : (hs : List Holding) (h : Holding) → In h hs → Ascend hs → AllByRecursion (λ k. IsWhole k.span) hs → (q : ℕ) → h.span.lo ≤ q → q < h.span.hi → said_by hs q ≡ Some (said_at h q)
+says_each [] h at up w q a b = absurd at
+says_each (k ∷ ks) h (inl e) up w q a b = subst (λ x. said_by (k ∷ ks) q ≡ Some (said_at x q)) (sym e)
+    (ap (λ o. or_by o k q) (none_later k ks up.0 up.1 w.1 q (subst (λ x. q < x.span.hi) e b))
+    ∙ ap (λ t. if t then Some (said_at k q) else None) (within_span k.span.lo k.span.hi q (subst (λ x. x.span.lo ≤ q) e a) (subst (λ x. q < x.span.hi) e b)))
+says_each (k ∷ ks) h (inr at) up w q a b = ap (λ o. or_by o k q) (says_each ks h at up.1 w.1 q a b)
+
+holding_within : (w : State) (of : ℕ → Link) (log : List Logged) (b : Bound) (c : ℕ) (k : Client) (answers : ℕ) (applied : Bool) (hs : List Holding) (h : Holding) → HaveBound of b → machine.Restarts (machine_of w.server of log) → ShowsClient c k (of c).client → In (push_with k.incarnation k.epoch (suc k.seen) answers applied hs) (of c).pushes → ((q : ℕ) → h.span.lo ≤ q → q < h.span.hi → said_by hs q ≡ Some (said_at h q)) → IsHoldingWithin b c h
+holding_within w of log b c k answers applied hs h have r s at says = record {
+  range = λ p i. let x = inside_span h.span p i in range_within _ _ _ _ refl (have c p).0 (r.live c _ at live p (said_at h p) (says p x.0 x.1)).0;
   key = λ p i last. let x = inside_span h.span p i in
-      key_within _ _ _ _ refl (have c p).1 (subst (λ b. KeyAtMost (if b then key_of h.mode else key.N) ((of c).top_key p)) last (r.live c _ at live p (said_at h p) (says_here h p x.0 x.1)).1);
+      key_within _ _ _ _ refl (have c p).1 (subst (λ b. KeyAtMost (if b then key_of h.mode else key.N) ((of c).top_key p)) last (r.live c _ at live p (said_at h p) (says p x.0 x.1)).1);
 }
   where
-    live : links.IsLive (of c) (push_with k.incarnation k.epoch (suc k.seen) answers applied (h ∷ []))
+    live : links.IsLive (of c) (push_with k.incarnation k.epoch (suc k.seen) answers applied hs)
     live = record { up = s.up; inc = sym s.inc; epoch = sym s.epoch; number = ap suc (sym s.seen) }
 
-push_within : (w : State) (of : ℕ → Link) (log : List Logged) (b : Bound) (c : ℕ) (k : Client) (body : PushBody) → HaveBound of b → machine.Restarts (machine_of w.server of log) → ShowsClient c k (of c).client → In (push_of k.incarnation k.epoch (suc k.seen) body) (of c).pushes → IsPushWithin b c body
-push_within w of log b c k (push.Grant req h) have r s at = holding_within w of log b c k 0 false h have r s at
-push_within w of log b c k (push.Absent req point) have r s at = tt
-push_within w of log b c k (push.Answer number o h) have r s at = holding_within w of log b c k number _ h have r s at
+each_within : (P : Holding → Type 0) (hs : List Holding) → ((h : Holding) → In h hs → P h) → AllByRecursion P hs
+each_within P [] f = tt
+each_within P (h ∷ hs) f = (f h (inl refl), each_within P hs (λ k at. f k (inr at)))
+
+push_within : (w : State) (of : ℕ → Link) (log : List Logged) (b : Bound) (c : ℕ) (k : Client) (body : PushBody) → HaveBound of b → machine.Restarts (machine_of w.server of log) → ShowsClient c k (of c).client → In (push_of k.incarnation k.epoch (suc k.seen) body) (of c).pushes → IsTold body → IsPushWithin b c body
+push_within w of log b c k (push.Grant req hs) have r s at told = each_within (IsHoldingWithin b c) hs (λ h i. holding_within w of log b c k 0 false hs h have r s at (says_each hs h i told.0 told.1))
+push_within w of log b c k (push.Absent req point) have r s at told = tt
+push_within w of log b c k (push.Answer number o h) have r s at told = holding_within w of log b c k number _ (h ∷ []) h have r s at (λ q x y. says_here h q x y)
 
 pub bounded_world : (w : State) (of : ℕ → Link) (log : List Logged) (b : Bound) → Mirrors w of log → b.index ≡ index_of w → HaveBound of b → machine.IsBounded (machine_of w.server of log) → machine.Restarts (machine_of w.server of log) → IsBounded w b
 bounded_world w of log b m same have low r = record {
@@ -75,7 +104,7 @@ bounded_world w of log b m same have low r = record {
   held_key = λ c p. held_key c p (client_of w c) (w.seats c).greatest (of c) b (m.seats c) (have c p).1 (low c p).1;
   live = λ c k body up at.
       let seat : ShowsSeat c (w.seats c).greatest (Some k) (of c) = subst (λ x. ShowsSeat c (w.seats c).greatest x (of c)) up (m.seats c) in
-      push_within w of log b c k body have r seat.1 (m.to _ at).0;
+      push_within w of log b c k body have r seat.1 (m.to _ at).0 (m.to _ at).2;
 }
 
 -- Epochs

@@ -27,7 +27,7 @@ use Rattle.krl_world.specs.declared.step.Step.{Step}
 use Rattle.krl_world.specs.declared.step.Step.TheVariants as step
 use Rattle.krl_world.specs.declared.step.Command.TheVariants as command
 use Rattle.krl_world.specs.declared.answer.Answer.TheVariants as told
-use Rattle.krl_world.specs.States.{Up, State, fresh, seated, served, with_client}
+use Rattle.krl_world.specs.States.{Up, State, fresh, seated, served, with_client, opened}
 use Rattle.krl_world.specs.Steps.{span, applies, Takes, Runs}
 use Rattle.krl_world.proofs.Acting.{answers_none, answers_one}
 use Rattle.krl_world.proofs.Worked.{two, granted}
@@ -43,7 +43,7 @@ abbrev epoch : ToClient
 epoch = record { client = 1; incarnation = 1; body = heard.Epoch 1 }
 
 abbrev lock : ToServer
-lock = record { client = 1; incarnation = 1; body = said.Request (record { epoch = 1; seen = 0; body = asked.Lock 1 5 mode.RangeXX }) }
+lock = record { client = 1; incarnation = 1; body = said.Request (record { epoch = 1; seen = 0; body = asked.Lock 1 5 6 mode.RangeXX }) }
 
 abbrev pub callback : ToClient
 callback = record { client = 0; incarnation = 1; body = heard.Callback 1 (span 0 11) mode.N }
@@ -52,7 +52,7 @@ abbrev release : ToServer
 release = record { client = 0; incarnation = 1; body = said.Request (record { epoch = 1; seen = 1; body = asked.Release (span 0 11) mode.N }) }
 
 abbrev grant : ToClient
-grant = record { client = 1; incarnation = 1; body = heard.Push 1 1 (push.Grant 1 gap_alone) }
+grant = record { client = 1; incarnation = 1; body = heard.Push 1 1 (push.Grant 1 (gap_alone ∷ [])) }
 
 -- The server
 
@@ -60,13 +60,13 @@ abbrev both : Index → Server
 both m = (effect (granted m) hello Registers).server
 
 abbrev blocked : Index → Server
-blocked m = (effect (both m) lock (Waits 1 5 mode.RangeXX)).server
+blocked m = (effect (both m) lock (Waits 1 5 6 mode.RangeXX)).server
 
 abbrev freed : Index → Server
 freed m = (effect (blocked m) release (Lowers (span 0 11) mode.N)).server
 
 abbrev turn : Turn
-turn = record { slot = 10; waiter = record { client = 1; req = 1; point = 5; mode = mode.RangeXX } }
+turn = record { slot = 10; waiter = record { client = 1; req = 1; point = 5; hi = 6; mode = mode.RangeXX } }
 
 abbrev pub taken : Index → Server
 taken m = (take_turn (freed m) turn).server
@@ -86,7 +86,7 @@ hello_calls m e = simp (e, map.get-entries)
 reads_hello : (m : Index) → map.entries m ≡ two → ServerStep (granted m) hello (both m) (epoch ∷ [])
 reads_hello m e = answers_none (granted m) hello Registers (epoch ∷ []) [] (hello_case m) (λ x. cc) refl refl (hello_ends m e) (hello_calls m e)
 
-lock_case : (m : Index) → map.entries m ≡ two → case_of (both m) lock ≡ Waits 1 5 mode.RangeXX
+lock_case : (m : Index) → map.entries m ≡ two → case_of (both m) lock ≡ Waits 1 5 6 mode.RangeXX
 unfolding most_clients
 lock_case m e = simp e
 
@@ -99,7 +99,7 @@ unfolding most_clients
 lock_calls m e = simp (e, map.get-entries)
 
 reads_lock : (m : Index) → map.entries m ≡ two → ServerStep (both m) lock (blocked m) (callback ∷ [])
-reads_lock m e = answers_none (both m) lock (Waits 1 5 mode.RangeXX) [] (callback ∷ []) (lock_case m e) (λ x. cc) refl refl (lock_ends m e) (lock_calls m e)
+reads_lock m e = answers_none (both m) lock (Waits 1 5 6 mode.RangeXX) [] (callback ∷ []) (lock_case m e) (λ x. cc) refl refl (lock_ends m e) (lock_calls m e)
 
 release_case : (m : Index) → case_of (blocked m) release ≡ Lowers (span 0 11) mode.N
 unfolding most_clients
@@ -129,10 +129,10 @@ abbrev j1 : Client
 j1 = messages.joined (clients.begun 1 1) 1
 
 abbrev j2 : Client
-j2 = locked j1 5 mode.RangeXX
+j2 = locked j1 5 6 mode.RangeXX
 
 abbrev pub j3 : Client
-j3 = accepted j2 (push.Grant 1 gap_alone)
+j3 = accepted j2 (push.Grant 1 (gap_alone ∷ []))
 
 -- The worlds
 
@@ -161,48 +161,48 @@ abbrev pub c14 : State
 c14 = with_client c13 1 (Some j3) (says_ack j3 ∷ [])
 
 starts : Takes w6 (step.StartClient 1) told.Done c7
-unfolding fresh
+unfolding opened
 starts = (refl, (refl, refl))
 
 hello_applies : applies hello (case_of (granted m) hello) ≡ []
 hello_applies = ap (applies hello) (hello_case m)
 
 hears_hello : Takes c7 (step.Deliver 7) told.Done c8
-unfolding fresh
+unfolding opened
 hears_hello = (refl, (refl, (both m, epoch ∷ [], reads_hello m index_entries, ap (λ xs. served c7 (Up (both m)) (epoch ∷ []) xs) (sym hello_applies))))
 
 joins : Takes c8 (step.Deliver 8) told.Done c9
-unfolding fresh
+unfolding opened
 joins = (refl, (refl, (no_pieces, told_nothing, refl)))
 
-asks : Takes c9 (step.Command 1 (command.Lock 5 mode.RangeXX)) told.Done c10
-unfolding fresh
+asks : Takes c9 (step.Command 1 (command.Lock 5 6 mode.RangeXX)) told.Done c10
+unfolding opened
 asks = (refl, (j1, refl, (refl, refl)))
 
 lock_applies : applies lock (case_of (both m) lock) ≡ []
 lock_applies = ap (applies lock) (lock_case m index_entries)
 
 hears_lock : Takes c10 (step.Deliver 10) told.Done c11
-unfolding fresh
+unfolding opened
 hears_lock = (refl, (refl, (blocked m, callback ∷ [], reads_lock m index_entries, ap (λ xs. served c10 (Up (blocked m)) (callback ∷ []) xs) (sym lock_applies))))
 
 lowers : Takes c11 (step.Deliver 11) told.Done c12
-unfolding fresh
+unfolding opened
 lowers = (refl, (refl, (pieces_of range.S key.S, told_gap, refl)))
 
 release_applies : applies release (case_of (blocked m) release) ≡ []
 release_applies = ap (applies release) (release_case m)
 
 hears_release : Takes c12 (step.Deliver 12) told.Done c13
-unfolding fresh
+unfolding opened
 hears_release = (refl, (refl, (taken m, grant ∷ [], reads_release m index_entries, ap (λ xs. served c12 (Up (taken m)) (grant ∷ []) xs) (sym release_applies))))
 
 accepts : Takes c13 (step.Deliver 13) told.Done c14
-unfolding fresh
+unfolding opened
 accepts = (refl, (refl, (no_pieces, told_nothing, refl)))
 
 abbrev pub more : List Step
-more = step.StartClient 1 ∷ step.Deliver 7 ∷ step.Deliver 8 ∷ step.Command 1 (command.Lock 5 mode.RangeXX) ∷ step.Deliver 10 ∷ step.Deliver 11 ∷ step.Deliver 12 ∷ step.Deliver 13 ∷ []
+more = step.StartClient 1 ∷ step.Deliver 7 ∷ step.Deliver 8 ∷ step.Command 1 (command.Lock 5 6 mode.RangeXX) ∷ step.Deliver 10 ∷ step.Deliver 11 ∷ step.Deliver 12 ∷ step.Deliver 13 ∷ []
 
 pub runs_more : Runs w6 more c14
 runs_more = (told.Done, c7, starts, (told.Done, c8, hears_hello, (told.Done, c9, joins, (told.Done, c10, asks, (told.Done, c11, hears_lock, (told.Done, c12, lowers, (told.Done, c13, hears_release, (told.Done, c14, accepts, refl))))))))

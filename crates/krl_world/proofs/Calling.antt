@@ -20,11 +20,12 @@ use Rattle.krl_durable.specs.Index.{slot_of, span_of, slots}
 use Rattle.krl_durable.specs.Registers.{record_of}
 use Rattle.krl_messages.specs.Writes.{op_key}
 use Rattle.krl_table.specs.Rows.{most_clients}
-use Rattle.krl_table.specs.Calls.{wanted, granted, dropped}
+use Rattle.krl_table.specs.Calls.{wanted, dropped}
+use Rattle.krl_table.specs.Grants.{taken, granted}
 use Rattle.krl_table.specs.Replies.{asks_absent}
 use Rattle.krl_server.specs.Servers.{Server, is_gathering, lists}
 use Rattle.krl_server.specs.Cases.{Case, Ignored, Registers, Leaves, Tells, Alarms, Rebuilds, Repeats, Hears, Lowers, Waits, Judges, AnswersAgain, case_of}
-use Rattle.krl_server.specs.Effects.{Done, callback_to, with_rows, holding, heard, writes, answers, pushes, effect}
+use Rattle.krl_server.specs.Effects.{Done, callback_to, with_rows, holding, holdings, heard, writes, answers, pushes, effect}
 use Rattle.krl_server.specs.Answering.{Turn, tells_absent, grants, take_turn, Answered, stops, goes_on}
 use Rattle.krl_server.specs.Callbacks.{is_beside, callbacks_from, callbacks_for, callbacks_at, callbacks_among, callbacks_of, callbacks_of_among}
 use Rattle.krl_server.specs.Steps.{Kind, Idle, Quiet, Acts, kind_of, calls_of, Ends, at_once, gathers, serves, ServerStep, nudge_served, nudge_known, nudge}
@@ -72,14 +73,14 @@ effect_called n s m (Rebuilds pieces) = no_calls n
 effect_called n s m (Repeats body) = one_call n _ (omega arith)
 effect_called n s m Hears = no_calls n
 effect_called n s m (Lowers span keep) = no_calls n
-effect_called n s m (Waits req point g) = no_calls n
+effect_called n s m (Waits req point hi g) = no_calls n
 effect_called n s m (Judges number op o) = write_called n (writes (heard s m.client) m.client op o) m.client number op o
 effect_called n s m (AnswersAgain number op o) = write_called n (heard s m.client) m.client number op o
 
 turn_called : (n : ℕ) (s : Server) (t : Turn) → AreCalled n (take_turn s t).outs
 turn_called n s t = outs_by n (asks_absent s.durable.index t.waiter) (tells_absent s t) (grants s t)
     (pushes_called n (with_rows s (dropped s.rows t.slot)) t.waiter.client (push.Absent t.waiter.req t.waiter.point))
-    (pushes_called n (with_rows s (granted s.rows t.slot)) t.waiter.client (push.Grant t.waiter.req (holding (with_rows s (granted s.rows t.slot)) t.slot t.waiter.client)))
+    (pushes_called n (with_rows s (granted s.durable.index s.rows t.slot)) t.waiter.client (push.Grant t.waiter.req (holdings (with_rows s (granted s.durable.index s.rows t.slot)) t.waiter.client (taken s.durable.index s.rows t.slot))))
 
 answers_called : (n : ℕ) (s t : Server) (outs : List ToClient) → Answered s t outs → AreCalled n outs
 answers_called n s _ _ (stops s' e) = no_calls n

@@ -17,7 +17,7 @@ use Rattle.krl_messages.specs.declared.to_client.ToClient.{ToClient}
 use Rattle.krl_protocol.specs.Links.{In}
 use Rattle.krl_durable.specs.declared.record.Record.{Record}
 use Rattle.krl_durable.specs.Index.{Index, slot_of, is_slot}
-use Rattle.krl_durable.specs.Registers.{record_of, left_by}
+use Rattle.krl_durable.specs.Registers.{Durable, record_of, left_by}
 use Rattle.krl_table.specs.Rows.{Rows}
 use Rattle.krl_table.specs.Calls.{cleared, unqueue}
 use Rattle.krl_table.specs.Points as table
@@ -33,7 +33,7 @@ use Rattle.krl_server.proofs.Rebuilt.{adopted_queue}
 use Rattle.krl_server.proofs.Served.{answered_up}
 use Rattle.krl_world.specs.declared.message.Message.TheVariants as message
 use Rattle.krl_world.specs.declared.step.Step.{Step}
-use Rattle.krl_world.specs.States.{ServerNode, Up, Down, State, fresh, range_held, key_held}
+use Rattle.krl_world.specs.States.{ServerNode, Up, Down, State, opened, range_held, key_held}
 use Rattle.krl_world.specs.Steps.{Runs, IsReachable}
 use Rattle.krl_world.specs.Bounds.{Bound, table_of, first_bound, step_clears, cleared as cleared_bound, bound_at, bound_after, RunsWithin, IsRangeWithin, IsKeyWithin, report_message, IsGatheredWithin}
 use Rattle.krl_world.specs.Laws.{GatheringsEnd}
@@ -66,7 +66,7 @@ still_nobody s m g h = by_said s m (λ k. NobodyWaits (effect s m k).server) (re
   repeats = λ r body served unheard. served_not s g served.serves;
   hears = λ r request b a. served_not s g a.served.serves;
   lowers = λ r request span keep a. served_not s g a.served.serves;
-  waits = λ r request req point mode a new free near. served_not s g a.served.serves;
+  waits = λ r request req point hi mode a new free near. served_not s g a.served.serves;
   judges = λ r request number op o a under near new is. served_not s g a.served.serves;
   answers_again = λ r request number op o a under some last is. served_not s g a.served.serves;
 })
@@ -101,12 +101,12 @@ runs_quiet : (w v : State) (steps : List Step) → Quiet w.server → Runs w ste
 runs_quiet w v [] h r = subst (λ x. Quiet x.server) (sym r) h
 runs_quiet w v (s ∷ steps) h r = runs_quiet r.1 v steps (way_quiet w r.1 s h (way w r.1 s r.0 r.2.1)) r.3
 
-first_quiet : (entries : List (ℕ × Value)) → Quiet (fresh entries).server
-unfolding fresh
-first_quiet entries g n = refl
+first_quiet : (d : Durable) → Quiet (opened d).server
+unfolding opened
+first_quiet d g n = refl
 
 pub reachable_quiet : (w : State) → IsReachable w → Quiet w.server
-reachable_quiet w h = runs_quiet (fresh w.opening) w h.1 (first_quiet w.opening) h.2
+reachable_quiet w h = runs_quiet (opened w.opening) w h.1 (first_quiet w.opening) h.2
 
 -- The end
 
@@ -176,7 +176,7 @@ effect_within w b s m at g h = by_said s m (λ k. is_gathering (effect s m k).se
   repeats = λ r body served unheard. served_not s g served.serves;
   hears = λ r request b a. served_not s g a.served.serves;
   lowers = λ r request span keep a. served_not s g a.served.serves;
-  waits = λ r request req point mode a new free near. served_not s g a.served.serves;
+  waits = λ r request req point hi mode a new free near. served_not s g a.served.serves;
   judges = λ r request number op o a under near new is. served_not s g a.served.serves;
   answers_again = λ r request number op o a under some last is. served_not s g a.served.serves;
 })
@@ -216,6 +216,6 @@ gatherings_end owed w v b s t step answer h up g d up' e =
     let a = machine_of v.server r.of r.log in
     let low = bounded_world v r.of r.log (bound_after w step b v) r.mirrors r.index r.bound (always_bounded first END a r.reach) (restarts_hold first END a r.reach) in
     let is = bound_serving t (cleared_bound (step_clears w step) b) v.server up' e in (
-      end_within w v b s t step (h.0, h.1, run_of (fresh w.opening) w (first_bound w.opening) b h.1 h.2) up g ((restarts_holds owed w b h).gathered s up g) up' e (way w v step answer d.1),
+      end_within w v b s t step (h.0, h.1, run_of (opened w.opening) w (first_bound w.opening) b h.1 h.2) up g ((restarts_holds owed w b h).gathered s up g) up' e (way w v step answer d.1),
       λ c p. (subst (λ x. IsRangeWithin (range_held v c p) (x.range_at c p)) is (low.held_range c p), subst (λ x. IsKeyWithin (key_held v c p) (x.key_at c p)) is (low.held_key c p)),
     )

@@ -1,5 +1,5 @@
 -- Some pieces describe what each client of a reachable world believes.
-use Rattle.std.proofs.Common.{◌≡◌, ◌≢◌, ℕ, ◌<◌, ◌∙◌, Bool, true, false, Option, Some, None, List, refl, sym, subst, eqb-true}
+use Rattle.std.proofs.Common.{◌≡◌, ◌≢◌, ℕ, ◌<◌, ◌∙◌, Bool, true, false, Option, Some, None, List, [], refl, sym, subst, eqb-true}
 use Rattle.std.specs.Prelude.{nat_eq}
 use Rattle.krl_modes.specs.declared.point.TheConstants.{END}
 use Rattle.krl_modes.specs.declared.part.RangePart.{RangePart}
@@ -32,9 +32,9 @@ IsWithin b = (p : ℕ) → END < p → (b.range_at p ≡ range.N) × (b.key_at p
 some_value : Bool → KeyPart → Option Value
 some_value true k = None
 some_value false key.N = None
-some_value false key.S = Some 0
-some_value false key.U = Some 0
-some_value false key.X = Some 0
+some_value false key.S = Some []
+some_value false key.U = Some []
+some_value false key.X = Some []
 
 abbrev valued : Belief → Belief
 valued b = record { range_at = b.range_at; key_at = b.key_at; value_at = λ p. some_value (nat_eq p END) (b.key_at p) }
@@ -43,9 +43,9 @@ value_there : (t : Bool) (k : KeyPart) → t ≡ false → reads_key k ≡ true 
 unfolding some_value
 value_there true k e r = absurd (cc)
 value_there false key.N e r = absurd (cc)
-value_there false key.S e r = (0, refl)
-value_there false key.U e r = (0, refl)
-value_there false key.X e r = (0, refl)
+value_there false key.S e r = ([], refl)
+value_there false key.U e r = ([], refl)
+value_there false key.X e r = ([], refl)
 
 value_none : (t : Bool) (k : KeyPart) → k ≡ key.N → some_value t k ≡ None
 unfolding some_value

@@ -110,7 +110,7 @@ report_is r inc epoch ps i e d =
 -- From a client
 
 asked_stands : (l : Link) (a : Head) (b : RequestBody) → IsAsked l a b → RequestStands l a b
-asked_stands l a (asked.Lock req point mode) h = h
+asked_stands l a (asked.Lock req point hi mode) h = h
 asked_stands l a (asked.Write number x) h = subst (λ o. In (record { head = a; number = number; op = o }) l.writes) (op_same x) h
 asked_stands l a (asked.Release s keep) h = (h.0, h.1)
 asked_stands l a asked.Ack h = h
@@ -122,7 +122,7 @@ from_stands l inc (said.Report epoch ps) h = (subst (λ r. In r l.reports) (repo
 from_stands l inc (said.Request r) h = (h.0, asked_stands l _ r.body h.1)
 
 request_stays : (l m : Link) → Grows l m → (a : Head) (b : RequestBody) → RequestStands l a b → RequestStands m a b
-request_stays l m g a (asked.Lock req point mode) h = h
+request_stays l m g a (asked.Lock req point hi mode) h = h
 request_stays l m g a (asked.Write number x) h = g.writes _ h
 request_stays l m g a (asked.Release s keep) h = (h.0, g.releases _ h.1)
 request_stays l m g a asked.Ack h = h
@@ -136,22 +136,22 @@ stands_stays l m g inc (said.Request r) h = (g.heads _ h.0, request_stays l m g 
 -- To a client
 
 push_tells : (inc epoch number : ℕ) (b : PushBody) → IsTold b → Tells b (push_of inc epoch number b)
-push_tells inc epoch number (push.Grant req h) t = (refl, λ q. refl)
+push_tells inc epoch number (push.Grant req hs) t = (refl, λ q. refl)
 push_tells inc epoch number (push.Absent req point) t = (refl, λ q. refl)
 push_tells inc epoch number (push.Answer w o h) t = (refl, (λ q. refl), sym (applied_same o), t)
 
 push_inc : (inc epoch number : ℕ) (b : PushBody) → (push_of inc epoch number b).inc ≡ inc
-push_inc inc epoch number (push.Grant req h) = refl
+push_inc inc epoch number (push.Grant req hs) = refl
 push_inc inc epoch number (push.Absent req point) = refl
 push_inc inc epoch number (push.Answer w o h) = refl
 
 pub push_epoch : (inc epoch number : ℕ) (b : PushBody) → (push_of inc epoch number b).epoch ≡ epoch
-push_epoch inc epoch number (push.Grant req h) = refl
+push_epoch inc epoch number (push.Grant req hs) = refl
 push_epoch inc epoch number (push.Absent req point) = refl
 push_epoch inc epoch number (push.Answer w o h) = refl
 
 push_number : (inc epoch number : ℕ) (b : PushBody) → (push_of inc epoch number b).number ≡ number
-push_number inc epoch number (push.Grant req h) = refl
+push_number inc epoch number (push.Grant req hs) = refl
 push_number inc epoch number (push.Absent req point) = refl
 push_number inc epoch number (push.Answer w o h) = refl
 

@@ -7,6 +7,7 @@ pub mod Mirrors
 pub mod Serves
 pub mod Taken
 pub mod Standing
+pub mod Opened
 pub mod Openings
 pub mod Reached
 pub mod Promised

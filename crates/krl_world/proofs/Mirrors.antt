@@ -95,7 +95,7 @@ not_from_server m (x ∷ ms) (inr h) = not_from_server m ms h
 
 record_stays : (o : Option Record) (l m : Link) → server_part m ≡ server_part l → IsRecord o l → IsRecord o m
 record_stays None l m e h = record { reg = ap (λ x. x.reg) e ∙ h.reg; left = ap (λ x. x.left) e ∙ h.left; done = ap (λ x. x.done) e ∙ h.done }
-record_stays (Some r) l m e h = record { reg = ap (λ x. x.reg) e ∙ h.reg; left = ap (λ x. x.left) e ∙ h.left; done = ap (λ x. x.done) e ∙ h.done; applied = λ o i. ap (λ x. x.applied) e ∙ h.applied o i }
+record_stays (Some r) l m e h = record { reg = ap (λ x. x.reg) e ∙ h.reg; left = ap (λ x. x.left) e ∙ h.left; done = λ n. ap (λ x. x.done) e ∙ h.done n; applied = λ o n i. ap (λ x. x.applied) e ∙ h.applied o n i }
 
 link_stays : (s : Shared) (of : Option Record) (missing : Bool) (line : Line) (r : ℕ → RangePart) (k : ℕ → KeyPart) (l m : Link) → server_part m ≡ server_part l → Grows l m → LinkIs s of missing line r k l → LinkIs s of missing line r k m
 link_stays s of missing line r k l m e g h = record {

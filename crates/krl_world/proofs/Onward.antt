@@ -117,7 +117,7 @@ some_id None e = absurd (cc)
 some_id (Some id) e = (id, refl)
 
 obeys_on : (w : State) (c : ℕ) (k : Client) (what : Command) → client_of w c ≡ Some k → HaveRows w → command_refusal k what ≡ None → (answer : Answer) × (v : State) × Obeys w c k what answer v
-obeys_on w c k (command.Lock point m) up h e = (told.Done, with_client w c (Some (locked k point m)) (says_lock (locked k point m) point m ∷ []), (refl, refl))
+obeys_on w c k (command.Lock point hi m) up h e = (told.Done, with_client w c (Some (locked k point hi m)) (says_lock (locked k point hi m) point hi m ∷ []), (refl, refl))
 obeys_on w c k (command.Write op) up h e = (told.Done, with_client w c (Some (wrote k op)) (says_write (wrote k op) op ∷ []), (refl, refl))
 obeys_on w c k (command.Scan lo hi) up h e =
     let is = not_is_false _ (passed _ _ _ e).0 in

@@ -34,7 +34,7 @@ told_gap = record { ranges_in_order = (omega arith, omega arith, omega arith, tt
 
 -- the same gap, held alone
 abbrev pub gap_alone : Holding
-gap_alone = record { span = span 0 11; mode = mode.RangeXX; value = Some 1 }
+gap_alone = record { span = span 0 11; mode = mode.RangeXX; value = Some (1 ∷ []) }
 
 pub told_alone : Describes (pieces_of range.X key.X) (adopt gap_alone no_belief)
 told_alone = record { ranges_in_order = (omega arith, omega arith, omega arith, tt); keys_in_order = (omega arith, omega arith, refl, tt); ranges = λ p. refl; keys = λ p. key_by key.X p (contains (span 0 11) p) (nat_eq (suc p) 11) (nat_eq p 10) refl refl refl }

@@ -167,7 +167,7 @@ rows_of_scan w of log c lo hi k m scan up is free covers =
     (range_rows (index_of w) lo hi)
 
 command_range : (w v : State) (of : ℕ → Link) (log : List Logged) (c : ℕ) (k : Client) (what : Command) (answer : Answer) → Mirrors w of log → machine.ScanIsIndex (machine_of w.server of log) → client_of w c ≡ Some k → command_refusal k what ≡ None → Obeys w c k what answer v → CommandIsRange (index_of w) what answer
-command_range w v of log c k (command.Lock point m) answer h scan up ok d = tt
+command_range w v of log c k (command.Lock point hi m) answer h scan up ok d = tt
 command_range w v of log c k (command.Write op) answer h scan up ok d = tt
 command_range w v of log c k (command.Scan lo hi) told.Done h scan up ok d = tt
 command_range w v of log c k (command.Scan lo hi) (told.Pinned id) h scan up ok d = tt

@@ -1,14 +1,14 @@
 -- Each world that a run reaches shows in a machine's world that can be reached, and the run's bound is the machine's.
-use Rattle.std.proofs.Common.{◌≡◌, ℕ, ◌∙◌, Bool, true, false, List, [], ◌∷◌, refl, sym, subst, if◌then◌else◌}
+use Rattle.std.proofs.Common.{◌≡◌, ℕ, ◌∙◌, Bool, true, false, List, [], ◌∷◌, refl, sym, ap, subst, if◌then◌else◌}
 use Rattle.krl_modes.specs.declared.point.TheConstants.{END}
 use Rattle.krl_modes.specs.declared.part.RangePart.{RangePart}
 use Rattle.krl_modes.specs.declared.part.RangePart.TheVariants as range
 use Rattle.krl_modes.specs.declared.part.KeyPart.{KeyPart}
 use Rattle.krl_modes.specs.declared.part.KeyPart.TheVariants as key
-use Rattle.krl_messages.specs.Values.{Value}
+use Rattle.krl_durable.specs.Registers.{Durable}
 use Rattle.krl_protocol.specs.Links as links
 use Rattle.krl_protocol.specs.Links.{Link}
-use Rattle.krl_protocol.specs.Worlds.{Logged, Reachable, blank_link}
+use Rattle.krl_protocol.specs.Worlds.{Logged, Reachable}
 use Rattle.krl_protocol.proofs.Steps.{steps_reachable}
 use Rattle.krl_server.specs.Servers.{Server, is_gathering}
 use Rattle.krl_server.specs.Steps.{start}
@@ -16,10 +16,11 @@ use Rattle.krl_server.specs.Shows.{machine_phase, Shows}
 use Rattle.krl_server.specs.Follows.{BoundStays, ServerFollows}
 use Rattle.krl_world.specs.declared.step.Step.{Step}
 use Rattle.krl_world.specs.declared.answer.Answer.{Answer}
-use Rattle.krl_world.specs.States.{ServerNode, Up, Down, State, durable_of, index_of, is_serving, fresh, unused}
-use Rattle.krl_world.specs.Steps.{CanBegin, Takes, Runs, IsReachable}
+use Rattle.krl_world.specs.States.{ServerNode, Up, Down, State, durable_of, index_of, is_serving, opened}
+use Rattle.krl_world.specs.Steps.{CanOpen, Takes, Runs, IsReachable}
 use Rattle.krl_world.specs.Bounds.{Bound, table_of, first_bound, step_clears, cleared, bound_at, bound_after, RunsWithin, HasBound}
 use Rattle.krl_world.proofs.Mirrors.{machine_of, ServerShows, Mirrors}
+use Rattle.krl_world.proofs.Opened.{links_of}
 use Rattle.krl_world.proofs.Openings.{first_of, first_reached, first_mirrors}
 use Rattle.krl_world.proofs.Standing.{index_stands}
 use Rattle.krl_world.proofs.Ways.{way}
@@ -29,10 +30,10 @@ use Rattle.krl_world.proofs.Taken.{takes_goes}
 abbrev pub HaveBound : (ℕ → Link) → Bound → Type 0
 HaveBound of b = (c p : ℕ) → ((of c).top_range p ≡ b.range_at c p) × ((of c).top_key p ≡ b.key_at c p)
 
-pub record Reached (entries : List (ℕ × Value)) (w : State) (b : Bound) : Type 0 where
+pub record Reached (first : Durable) (w : State) (b : Bound) : Type 0 where
   pub of : ℕ → Link
   pub log : List Logged
-  pub reach : Reachable (first_of entries) END (machine_of w.server of log)
+  pub reach : Reachable (first_of first) END (machine_of w.server of log)
   pub mirrors : Mirrors w of log
   pub bound : HaveBound of b
   pub index : b.index ≡ index_of w
@@ -74,34 +75,34 @@ index_on (Up s) b gone h = by_test (is_gathering s.missing) h
     by_test true x = x refl
     by_test false x = refl
 
-pub reached_step : ServerFollows → (entries : List (ℕ × Value)) (w v : State) (b : Bound) (s : Step) (answer : Answer) → Reached entries w b → Takes w s answer v → Reached entries v (bound_after w s b v)
-reached_step owed entries w v b s answer r t =
-    let g = takes_goes owed (first_of entries) w v r.of r.log s answer r.mirrors r.reach t.0 t.1 in record {
+pub reached_step : ServerFollows → (first : Durable) (w v : State) (b : Bound) (s : Step) (answer : Answer) → Reached first w b → Takes w s answer v → Reached first v (bound_after w s b v)
+reached_step owed first w v b s answer r t =
+    let g = takes_goes owed (first_of first) w v r.of r.log s answer r.mirrors r.reach t.0 t.1 in record {
       of = g.after;
       log = g.log_after;
-      reach = steps_reachable (first_of entries) END (machine_of w.server r.of r.log) (machine_of v.server g.after g.log_after) r.reach g.steps;
+      reach = steps_reachable (first_of first) END (machine_of w.server r.of r.log) (machine_of v.server g.after g.log_after) r.reach g.steps;
       mirrors = g.mirrors;
       bound = bound_on v.server r.of g.after (step_clears w s) b r.bound g.mirrors.server g.bound;
       index = index_on v.server b (step_clears w s) (λ e. r.index ∙ sym (index_stands w v s (way w v s answer t.1) e));
     }
 
-run_reached : ServerFollows → (entries : List (ℕ × Value)) (w v : State) (b d : Bound) (steps : List Step) → Reached entries w b → RunsWithin w b steps v d → Reached entries v d
-run_reached owed entries w v b d [] r h = subst (λ x. Reached entries x d) (sym h.0) (subst (Reached entries w) (sym h.1) r)
-run_reached owed entries w v b d (s ∷ steps) r h = run_reached owed entries h.1 v (bound_after w s b h.1) d steps (reached_step owed entries w h.1 b s h.0 r h.2) h.3
+run_reached : ServerFollows → (first : Durable) (w v : State) (b d : Bound) (steps : List Step) → Reached first w b → RunsWithin w b steps v d → Reached first v d
+run_reached owed first w v b d [] r h = subst (λ x. Reached first x d) (sym h.0) (subst (Reached first w) (sym h.1) r)
+run_reached owed first w v b d (s ∷ steps) r h = run_reached owed first h.1 v (bound_after w s b h.1) d steps (reached_step owed first w h.1 b s h.0 r h.2) h.3
 
-fresh_reached : ServerFollows → (entries : List (ℕ × Value)) → CanBegin entries → Reached entries (fresh entries) (first_bound entries)
-unfolding fresh
-fresh_reached owed entries e = let m = first_mirrors owed entries e in record {
-  of = λ c. blank_link;
+opened_reached : ServerFollows → (d : Durable) → CanOpen d → Reached d (opened d) (first_bound d)
+unfolding opened
+opened_reached owed d h = let m = first_mirrors owed d h in record {
+  of = links_of d.register;
   log = [];
-  reach = first_reached entries;
+  reach = first_reached d h;
   mirrors = m;
-  bound = table_bound (start (unused entries)) (λ c. blank_link) m.server.0 refl;
+  bound = table_bound (start d) (links_of d.register) m.server.0 (ap is_gathering h.left);
   index = refl;
 }
 
 pub bound_reached : ServerFollows → (w : State) (b : Bound) → HasBound w b → Reached w.opening w b
-bound_reached owed w b h = run_reached owed w.opening (fresh w.opening) w (first_bound w.opening) b h.1 (fresh_reached owed w.opening h.0) h.2
+bound_reached owed w b h = run_reached owed w.opening (opened w.opening) w (first_bound w.opening) b h.1 (opened_reached owed w.opening h.0) h.2
 
 -- each run has a bound
 run_within : (w v : State) (b : Bound) (steps : List Step) → Runs w steps v → (d : Bound) × RunsWithin w b steps v d
@@ -109,7 +110,7 @@ run_within w v b [] h = (b, (h, refl))
 run_within w v b (s ∷ steps) h = let r = run_within h.1 v (bound_after w s b h.1) steps h.3 in (r.0, (h.0, h.1, h.2, r.1))
 
 pub has_bound : (w : State) → IsReachable w → (b : Bound) × HasBound w b
-has_bound w h = let r = run_within (fresh w.opening) w (first_bound w.opening) h.1 h.2 in (r.0, (h.0, h.1, r.1))
+has_bound w h = let r = run_within (opened w.opening) w (first_bound w.opening) h.1 h.2 in (r.0, (h.0, h.1, r.1))
 
 pub world_reached : ServerFollows → (w : State) → IsReachable w → (b : Bound) × Reached w.opening w b
 world_reached owed w h = let x = has_bound w h in (x.0, bound_reached owed w x.0 x.1)

@@ -1,5 +1,5 @@
 -- A run, step by step: a client locks the gap below 10 and the entry there, and a scan of its cache gives the entry.
-use Rattle.std.proofs.Common.{◌≡◌, ℕ, zero, suc, ◌<◌, ◌∙◌, Bool, true, false, ◌||◌, cond, Some, None, List, [], ◌∷◌, refl, sym, ap, subst, arith, nat_eq, if◌then◌else◌}
+use Rattle.std.proofs.Common.{◌≡◌, ℕ, suc, ◌<◌, ◌≤◌, ◌∙◌, Bool, true, false, ◌||◌, cond, Some, None, List, [], ◌∷◌, length, refl, sym, ap, subst, arith, nat_eq, if◌then◌else◌}
 use Rattle.std.specs.Prelude.{Ok}
 use Rattle.std.proofs.lemmas.Bool.Decides.{nat_tests}
 use Rattle.std.proofs.lemmas.List.{nil_from_length}
@@ -14,7 +14,10 @@ use Rattle.krl_modes.specs.Spans.{contains}
 use Rattle.krl_messages.specs.declared.to_client.PushBody.TheVariants as push
 use Rattle.krl_messages.specs.declared.pieces.Pieces.{Pieces}
 use Rattle.krl_durable.specs.Index.{Index}
-use Rattle.krl_durable.specs.Openings.{AreGood}
+use Rattle.krl_durable.specs.Kept.{AreBelowEnd, IsKept}
+use Rattle.krl_messages.specs.Values.{Value}
+use Rattle.krl_protocol.proofs.Points.{no_none}
+use Rattle.std.specs.List.{IsDistinct}
 use Rattle.krl_durable.specs.Writes.{most_entries}
 use Rattle.krl_modes.specs.Parts.{reads_key, reads_gap}
 use Rattle.krl_cache.specs.Beliefs.{no_belief, CoversAll, AreRows}
@@ -28,8 +31,8 @@ use Rattle.krl_world.specs.declared.step.Step.{Step}
 use Rattle.krl_world.specs.declared.step.Step.TheVariants as step
 use Rattle.krl_world.specs.declared.step.Command.TheVariants as command
 use Rattle.krl_world.specs.declared.answer.Answer.TheVariants as told
-use Rattle.krl_world.specs.States.{Up, State, fresh, seated, served, with_client}
-use Rattle.krl_world.specs.Steps.{CanBegin, span, applies, Takes, Steps, Runs, IsReachable}
+use Rattle.krl_world.specs.States.{Up, State, unused, opened, fresh, seated, served, with_client}
+use Rattle.krl_world.specs.Steps.{CanOpen, span, applies, Takes, Steps, Runs, IsReachable}
 use Rattle.krl_server.specs.Cases.{case_of}
 use Rattle.krl_world.proofs.Worked.{two, begun, hello, lock, epoch, gap, grant, joined, granted, hello_case, reads_hello, lock_case, reads_lock}
 
@@ -38,11 +41,11 @@ use Rattle.krl_world.proofs.Worked.{two, begun, hello, lock, epoch, gap, grant, 
 abbrev pub m : Index
 m = map.from_entries two
 
-pub no_entries : map.entries (map.empty {X = ℕ} {R = nat_cmp}) ≡ []
-no_entries = nil_from_length _ (sym (map.len-entries (map.empty {X = ℕ} {R = nat_cmp})) ∙ map.len-empty nat_cmp ℕ)
+pub no_entries : map.entries (map.empty {X = Value} {R = nat_cmp}) ≡ []
+no_entries = nil_from_length _ (sym (map.len-entries (map.empty {X = Value} {R = nat_cmp})) ∙ map.len-empty nat_cmp Value)
 
 pub index_entries : map.entries m ≡ two
-index_entries = map.entries-insert nat_cmp_total (map.insert map.empty 20 2) 10 1 ∙ ap (put nat_cmp 10 1) (map.entries-insert nat_cmp_total map.empty 20 2 ∙ ap (put nat_cmp 20 2) no_entries)
+index_entries = map.entries-insert nat_cmp_total (map.insert map.empty 20 (2 ∷ [])) 10 (1 ∷ []) ∙ ap (put nat_cmp 10 (1 ∷ [])) (map.entries-insert nat_cmp_total map.empty 20 (2 ∷ []) ∙ ap (put nat_cmp 20 (2 ∷ [])) no_entries)
 
 -- The client
 
@@ -56,10 +59,10 @@ abbrev pub k1 : Client
 k1 = messages.joined k0 1
 
 abbrev k2 : Client
-k2 = locked k1 5 mode.RangeSS
+k2 = locked k1 5 6 mode.RangeSS
 
 abbrev pub k3 : Client
-k3 = accepted k2 (push.Grant 1 gap)
+k3 = accepted k2 (push.Grant 1 (gap ∷ []))
 
 pub told_nothing : Describes no_pieces no_belief
 told_nothing = record { ranges_in_order = tt; keys_in_order = tt; ranges = λ p. refl; keys = λ p. refl }
@@ -85,52 +88,59 @@ abbrev pub w6 : State
 w6 = with_client w5 0 (Some k3) (says_ack k3 ∷ [])
 
 pub starts : Takes (fresh two) (step.StartClient 0) told.Done w1
-unfolding fresh
+unfolding opened
 starts = (refl, (refl, refl))
 
 hello_applies : applies hello (case_of (begun m) hello) ≡ []
 hello_applies = ap (applies hello) (hello_case m)
 
 pub hears_hello : Takes w1 (step.Deliver 1) told.Done w2
-unfolding fresh
+unfolding opened
 hears_hello = (refl, (refl, (joined m, epoch ∷ [], reads_hello m, ap (λ xs. served w1 (Up (joined m)) (epoch ∷ []) xs) (sym hello_applies))))
 
 pub joins : Takes w2 (step.Deliver 2) told.Done w3
-unfolding fresh
+unfolding opened
 joins = (refl, (refl, (no_pieces, told_nothing, refl)))
 
-asks : Takes w3 (step.Command 0 (command.Lock 5 mode.RangeSS)) told.Done w4
-unfolding fresh
+asks : Takes w3 (step.Command 0 (command.Lock 5 6 mode.RangeSS)) told.Done w4
+unfolding opened
 asks = (refl, (k1, refl, (refl, refl)))
 
 lock_applies : applies lock (case_of (joined m) lock) ≡ []
 lock_applies = ap (applies lock) (lock_case m index_entries)
 
 hears_lock : Takes w4 (step.Deliver 4) told.Done w5
-unfolding fresh
+unfolding opened
 hears_lock = (refl, (refl, (granted m, grant ∷ [], reads_lock m index_entries, ap (λ xs. served w4 (Up (granted m)) (grant ∷ []) xs) (sym lock_applies))))
 
 accepts : Takes w5 (step.Deliver 5) told.Done w6
-unfolding fresh
+unfolding opened
 accepts = (refl, (refl, (no_pieces, told_nothing, refl)))
 
 abbrev pub run : List Step
-run = step.StartClient 0 ∷ step.Deliver 1 ∷ step.Deliver 2 ∷ step.Command 0 (command.Lock 5 mode.RangeSS) ∷ step.Deliver 4 ∷ step.Deliver 5 ∷ []
+run = step.StartClient 0 ∷ step.Deliver 1 ∷ step.Deliver 2 ∷ step.Command 0 (command.Lock 5 6 mode.RangeSS) ∷ step.Deliver 4 ∷ step.Deliver 5 ∷ []
 
-good : AreGood two 2
-good zero l = (omega arith, refl)
-good (suc zero) l = (omega arith, refl)
-good (suc (suc i)) l = absurd (omega (arith, l))
+kept : IsKept (unused two)
+unfolding most_entries IsDistinct
+kept = record {
+  keys = subst AreBelowEnd (sym index_entries) (refl, (refl, tt));
+  few = subst (λ (es : List (ℕ × Value)). length es ≤ most_entries) (sym index_entries) (omega arith);
+  epoch = omega arith;
+  clients = tt;
+  once = tt;
+  outcomes = λ c r e. absurd (no_none r e);
+  lasts = λ c r e. absurd (no_none r e);
+  incarnations = λ c r e. absurd (no_none r e);
+}
 
-pub opens : CanBegin two
-unfolding most_entries
-opens = (omega arith, good)
+pub opens : CanOpen (unused two)
+opens = record { kept = kept; starts = refl; left = refl }
 
 pub runs : Runs (fresh two) run w6
 runs = (told.Done, w1, starts, (told.Done, w2, hears_hello, (told.Done, w3, joins, (told.Done, w4, asks, (told.Done, w5, hears_lock, (told.Done, w6, accepts, refl))))))
 
 pub reached : IsReachable w6
-unfolding fresh
+unfolding opened
 reached = (opens, run, runs)
 
 -- Its scan
@@ -146,14 +156,14 @@ covers p at = let h = at.1 in covered_by (contains (span 0 11) p) (nat_eq (suc p
     inside : (p : ℕ) → p < 11 → contains (span 0 11) p ≡ true
     inside p h = grind (arith, nat_tests)
 
-row_by : (v p : ℕ) (t u : Bool) → contains (span 0 11) p ≡ t → nat_eq (suc p) 11 ≡ u → cond (eq_by_cmp nat_cmp p 10) (Some v) None ≡ (if t then (if t then (if u then Some v else None) else None) else None)
+row_by : (v : Value) (p : ℕ) (t u : Bool) → contains (span 0 11) p ≡ t → nat_eq (suc p) 11 ≡ u → cond (eq_by_cmp nat_cmp p 10) (Some v) None ≡ (if t then (if t then (if u then Some v else None) else None) else None)
 row_by v p true true e f = let i : p ≡ 10 = grind (arith, nat_tests) in subst (λ q. cond (eq_by_cmp nat_cmp q 10) (Some v) None ≡ Some v) (sym i) refl
 row_by v p true false e f = let i : eq_by_cmp nat_cmp p 10 ≡ false = grind (arith, nat_tests) in rw i refl
 row_by v p false u e f = let i : eq_by_cmp nat_cmp p 10 ≡ false = grind (arith, nat_tests) in rw i refl
 
-rows : AreRows k3.belief (span 0 11) ((10, 1) ∷ [])
-rows = record { sorted = refl; at = λ p. row_by 1 p (contains (span 0 11) p) (nat_eq (suc p) 11) refl refl }
+rows : AreRows k3.belief (span 0 11) ((10, 1 ∷ []) ∷ [])
+rows = record { sorted = refl; at = λ p. row_by (1 ∷ []) p (contains (span 0 11) p) (nat_eq (suc p) 11) refl refl }
 
-pub scans : Steps w6 (step.Command 0 (command.Scan 0 11)) (Ok (told.Rows ((10, 1) ∷ []))) w6
-unfolding fresh Steps
-scans = (refl, (k3, refl, (finds_rows ((10, 1) ∷ []) refl (covers, rows), refl)))
+pub scans : Steps w6 (step.Command 0 (command.Scan 0 11)) (Ok (told.Rows ((10, 1 ∷ []) ∷ []))) w6
+unfolding opened Steps
+scans = (refl, (k3, refl, (finds_rows ((10, 1 ∷ []) ∷ []) refl (covers, rows), refl)))

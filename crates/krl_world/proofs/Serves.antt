@@ -66,7 +66,7 @@ case_log m (Rebuilds pieces) log = nil_right (oldest_first log)
 case_log m (Repeats body) log = nil_right (oldest_first log)
 case_log m Hears log = nil_right (oldest_first log)
 case_log m (Lowers s keep) log = nil_right (oldest_first log)
-case_log m (Waits req point g) log = nil_right (oldest_first log)
+case_log m (Waits req point hi g) log = nil_right (oldest_first log)
 case_log m (Judges number x o) log = judged_log m number x o log
 case_log m (AnswersAgain number x o) log = nil_right (oldest_first log)
 

@@ -1,9 +1,9 @@
--- A step changes one seat, or the server, and what was sent; so it keeps the first entries, and seats nobody above 63.
+-- A step changes one seat, or the server, and what was sent; so it keeps what the world began with, and seats nobody above 63.
 use Rattle.std.proofs.Common.{◌≡◌, ℕ, ◌≤◌, ◌∙◌, Bool, true, false, cond, Option, Some, None, List, [], ◌∷◌, refl, sym, ap, subst, arith, nat_eq, nat_lt, if◌then◌else◌, ltb-false, eqb-true}
 use Rattle.std.specs.Prelude.{Result, Ok, Err}
 use Rattle.krl_modes.specs.declared.part.RangePart.TheVariants as range
 use Rattle.krl_modes.specs.declared.part.KeyPart.TheVariants as key
-use Rattle.krl_messages.specs.Values.{Value}
+use Rattle.krl_durable.specs.Registers.{Durable}
 use Rattle.krl_messages.specs.declared.to_server.ToServer.{ToServer}
 use Rattle.krl_messages.specs.declared.to_client.ToClient.{ToClient}
 use Rattle.krl_client.specs.Clients.{Client}
@@ -17,8 +17,8 @@ use Rattle.krl_world.specs.declared.step.Command.TheVariants as command
 use Rattle.krl_world.specs.declared.answer.Answer.{Answer}
 use Rattle.krl_world.specs.declared.refused.Refused.{Refused}
 use Rattle.krl_world.specs.declared.refused.Refused.TheVariants as refused
-use Rattle.krl_world.specs.States.{ServerNode, Up, Down, Seat, State, fresh, client_of, range_believed, key_believed, set_seat}
-use Rattle.krl_world.specs.Steps.{message_at, of_client, CanBegin, ServerReads, ClientReads, Delivers, Obeys, nudged, started, crashed, Takes, Steps, Runs, RunsWith, IsReachable}
+use Rattle.krl_world.specs.States.{ServerNode, Up, Down, Seat, State, client_of, range_believed, key_believed, set_seat, opened}
+use Rattle.krl_world.specs.Steps.{message_at, of_client, CanOpen, ServerReads, ClientReads, Delivers, Obeys, nudged, started, crashed, Takes, Steps, Runs, RunsWith, IsReachable}
 use Rattle.krl_world.specs.Laws.{ReachableStays, NobodyAbove63}
 
 -- nobody runs with a number above 63
@@ -49,7 +49,7 @@ same_left : (w v : State) → v ≡ w → Left w v
 same_left w v e = subst (Left w) (sym e) as_it_was
 
 obeys_left : (w v : State) (c : ℕ) (k : Client) (what : Command) (answer : Answer) (r : Option Refused) → of_client c r ≡ None → Obeys w c k what answer v → Left w v
-obeys_left w v c k (command.Lock point m) answer r e d = seat_left w v c _ _ (in_range c r _ e) d.1
+obeys_left w v c k (command.Lock point hi m) answer r e d = seat_left w v c _ _ (in_range c r _ e) d.1
 obeys_left w v c k (command.Write op) answer r e d = seat_left w v c _ _ (in_range c r _ e) d.1
 obeys_left w v c k (command.Scan lo hi) answer r e d = same_left w v d.1
 obeys_left w v c k (command.Forget lo hi) answer r e d = seat_left w v c _ _ (in_range c r _ e) d.1
@@ -108,13 +108,13 @@ nobody_left w _ h (at_seat c x sent n) = λ d l. by_test d (nat_eq d c) refl l
     by_test d false e l = h d l
 nobody_left w _ h (at_server n sent writes) = h
 
-fresh_nobody : (entries : List (ℕ × Value)) → HasNobody (fresh entries)
-unfolding fresh
-fresh_nobody entries c l = refl
+opened_nobody : (d : Durable) → HasNobody (opened d)
+unfolding opened
+opened_nobody d c l = refl
 
-fresh_opening : (entries : List (ℕ × Value)) → (fresh entries).opening ≡ entries
-unfolding fresh
-fresh_opening entries = refl
+opened_opening : (d : Durable) → (opened d).opening ≡ d
+unfolding opened
+opened_opening d = refl
 
 -- Runs
 
@@ -131,13 +131,13 @@ run_on u w v [] s answer r t = (s ∷ [], (answer, v, subst (λ x. Takes x s ans
 run_on u w v (x ∷ steps) s answer r t = let y = run_on r.1 w v steps s answer r.3 t in (x ∷ y.0, (r.0, r.1, r.2, y.1))
 
 pub reachable_nobody : (w : State) → IsReachable w → HasNobody w
-reachable_nobody w h = run_nobody (fresh w.opening) w h.1 (fresh_nobody w.opening) h.2
+reachable_nobody w h = run_nobody (opened w.opening) w h.1 (opened_nobody w.opening) h.2
 
 takes_reachable : (w v : State) (s : Step) (answer : Answer) → IsReachable w → Takes w s answer v → IsReachable v
 takes_reachable w v s answer h t =
     let e = opening_left w v (takes_left w v s answer (reachable_nobody w h) t) in
-    let r = run_on (fresh w.opening) w v h.1 s answer h.2 t in
-    subst (λ es. CanBegin es × (steps : List Step) × Runs (fresh es) steps v) (sym e) (h.0, r.0, r.1)
+    let r = run_on (opened w.opening) w v h.1 s answer h.2 t in
+    subst (λ d. CanOpen d × (steps : List Step) × Runs (opened d) steps v) (sym e) (h.0, r.0, r.1)
 
 step_reachable : (w v : State) (s : Step) (r : Result Answer Refused) → IsReachable w → Steps w s r v → IsReachable v
 unfolding Steps
@@ -150,8 +150,8 @@ runs_reachable w v [] (x ∷ results) h r = absurd r
 runs_reachable w v (s ∷ steps) [] h r = absurd r
 runs_reachable w v (s ∷ steps) (x ∷ results) h r = runs_reachable r.0 v steps results (step_reachable w r.0 s x h r.1) r.2
 
-first_reachable : (entries : List (ℕ × Value)) → CanBegin entries → IsReachable (fresh entries)
-first_reachable entries e = subst (λ es. CanBegin es × (steps : List Step) × Runs (fresh es) steps (fresh entries)) (sym (fresh_opening entries)) (e, [], refl)
+first_reachable : (d : Durable) → CanOpen d → IsReachable (opened d)
+first_reachable d h = subst (λ x. CanOpen x × (steps : List Step) × Runs (opened x) steps (opened d)) (sym (opened_opening d)) (h, [], refl)
 
 pub reachable_stays : ReachableStays
 reachable_stays = record { first = first_reachable; step = step_reachable; run = runs_reachable }

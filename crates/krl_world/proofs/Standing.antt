@@ -52,7 +52,7 @@ case_stays s m = by_case s m (Stays s m) (record {
   repeats = λ r body a b e. refl;
   hears = λ r a e. refl;
   lowers = λ r span keep a e. refl;
-  waits = λ r req point g a b c d e. refl;
+  waits = λ r req point hi g a b c d e. refl;
   judges = λ r number op o a b c d f e. ⊎_elim
       (λ (g : _). let t = writes (heard s m.client) m.client op o in absurd (not_both (is_gathering s.missing) (ap is_gathering (sym (pushes_missing t m.client (push.Answer number o (holding t (slot_of t.durable.index (op_key op)) m.client)))) ∙ g) a.serves))
       (λ (i : _). absurd (cc)) e;

@@ -1,8 +1,9 @@
 -- While it serves, the bound of a run is the server's table.
 use Rattle.std.proofs.Common.{◌≡◌, ℕ, Bool, true, false, List, [], ◌∷◌, refl, sym, subst, if◌then◌else◌}
+use Rattle.krl_durable.specs.Registers.{Durable}
 use Rattle.krl_server.specs.Servers.{is_gathering}
 use Rattle.krl_world.specs.declared.step.Step.{Step}
-use Rattle.krl_world.specs.States.{ServerNode, Up, Down, State, fresh}
+use Rattle.krl_world.specs.States.{ServerNode, Up, Down, State, opened}
 use Rattle.krl_world.specs.Bounds.{Bound, table_of, first_bound, step_clears, cleared, bound_at, bound_after, RunsWithin, BoundIsTable}
 
 abbrev IsItsTable : ServerNode → Bound → Type 0
@@ -21,9 +22,9 @@ run_is : (w v : State) (b d : Bound) (steps : List Step) → IsItsTable w.server
 run_is w v b d [] i h = subst (λ x. IsItsTable x.server d) (sym h.0) (subst (IsItsTable w.server) (sym h.1) i)
 run_is w v b d (s ∷ steps) i h = run_is h.1 v (bound_after w s b h.1) d steps (after_is h.1.server (cleared (step_clears w s) b)) h.3
 
-first_is : (entries : List (ℕ × ℕ)) → IsItsTable (fresh entries).server (first_bound entries)
-unfolding fresh
-first_is entries e = refl
+first_is : (d : Durable) → IsItsTable (opened d).server (first_bound d)
+unfolding opened
+first_is d e = refl
 
 pub bound_is_table : BoundIsTable
-bound_is_table w b s h up = subst (λ n. IsItsTable n b) up (run_is (fresh w.opening) w (first_bound w.opening) b h.1 (first_is w.opening) h.2)
+bound_is_table w b s h up = subst (λ n. IsItsTable n b) up (run_is (opened w.opening) w (first_bound w.opening) b h.1 (first_is w.opening) h.2)

@@ -1,6 +1,6 @@
 -- A server that serves serves on, as long as it does not crash.
 use Rattle.std.proofs.Common.{◌≡◌, ◌≢◌, ℕ, ◌∙◌, Bool, true, false, List, [], ◌∷◌, inl, inr, refl, sym, ap, subst, if◌then◌else◌}
-use Rattle.krl_messages.specs.Values.{Value}
+use Rattle.krl_durable.specs.Registers.{Durable}
 use Rattle.krl_messages.specs.declared.to_server.ToServer.{ToServer}
 use Rattle.krl_messages.specs.declared.to_client.ToClient.{ToClient}
 use Rattle.krl_protocol.specs.Links.{In}
@@ -12,8 +12,8 @@ use Rattle.krl_server.proofs.Pushes.{pushes_missing}
 use Rattle.krl_server.proofs.Served.{answered_up}
 use Rattle.krl_world.specs.declared.step.Step.{Step}
 use Rattle.krl_world.specs.declared.step.Step.TheVariants as step
-use Rattle.krl_world.specs.States.{Up, Down, State, is_serving, fresh}
-use Rattle.krl_world.specs.Steps.{Runs}
+use Rattle.krl_world.specs.States.{Up, Down, State, is_serving, opened}
+use Rattle.krl_world.specs.Steps.{CanOpen, Runs}
 use Rattle.krl_world.specs.Laws.{ServesOn}
 use Rattle.krl_world.proofs.Ways.{Way, stays, reads, stops, begins, way}
 
@@ -33,7 +33,7 @@ effect_serves s m (Rebuilds pieces) e = ap (λ cs. unlist cs m.client) e
 effect_serves s m (Repeats body) e = e
 effect_serves s m Hears e = e
 effect_serves s m (Lowers span keep) e = e
-effect_serves s m (Waits req point g) e = e
+effect_serves s m (Waits req point hi g) e = e
 effect_serves s m (Judges number op o) e = pushes_missing (writes (heard s m.client) m.client op o) m.client _ ∙ e
 effect_serves s m (AnswersAgain number op o) e = pushes_missing (heard s m.client) m.client _ ∙ e
 
@@ -70,9 +70,9 @@ runs_serve : (w v : State) (steps : List Step) → is_serving w.server ≡ true 
 runs_serve w v [] h n r = subst (λ x. is_serving x.server ≡ true) (sym r) h
 runs_serve w v (s ∷ steps) h n r = runs_serve r.1 v steps (takes_serve w r.1 s h (λ e. n (inl (sym e))) (way w r.1 s r.0 r.2.1)) (λ i. n (inr i)) r.3
 
-first_serves : (entries : List (ℕ × Value)) → is_serving (fresh entries).server ≡ true
-unfolding fresh
-first_serves entries = refl
+first_serves : (d : Durable) → CanOpen d → is_serving (opened d).server ≡ true
+unfolding opened
+first_serves d h = ap (λ ms. if is_gathering ms then false else true) h.left
 
 pub serves_on : ServesOn
-serves_on entries steps w n r = runs_serve (fresh entries) w steps (first_serves entries) n r
+serves_on d steps w h n r = runs_serve (opened d) w steps (first_serves d h) n r

@@ -21,22 +21,22 @@ use Rattle.krl_server.specs.Callbacks.{callbacks_at, callbacks_among, callbacks}
 use Rattle.krl_server.specs.Steps.{Acts, kind_of, Ends, serves, ServerStep, start}
 
 abbrev pub two : List (ℕ × Value)
-two = (10, 1) ∷ (20, 2) ∷ []
+two = (10, 1 ∷ []) ∷ (20, 2 ∷ []) ∷ []
 
 abbrev pub hello : ToServer
 hello = record { client = 0; incarnation = 1; body = said.Hello }
 
 abbrev pub lock : ToServer
-lock = record { client = 0; incarnation = 1; body = said.Request (record { epoch = 1; seen = 0; body = asked.Lock 1 5 mode.RangeSS }) }
+lock = record { client = 0; incarnation = 1; body = said.Request (record { epoch = 1; seen = 0; body = asked.Lock 1 5 6 mode.RangeSS }) }
 
 abbrev pub epoch : ToClient
 epoch = record { client = 0; incarnation = 1; body = told.Epoch 1 }
 
 abbrev pub gap : Holding
-gap = record { span = record { lo = 0; hi = 11 }; mode = mode.RangeSS; value = Some 1 }
+gap = record { span = record { lo = 0; hi = 11 }; mode = mode.RangeSS; value = Some (1 ∷ []) }
 
 abbrev pub grant : ToClient
-grant = record { client = 0; incarnation = 1; body = told.Push 1 1 (push.Grant 1 gap) }
+grant = record { client = 0; incarnation = 1; body = told.Push 1 1 (push.Grant 1 (gap ∷ [])) }
 
 -- The server, with this index
 
@@ -47,10 +47,10 @@ abbrev pub joined : Index → Server
 joined m = (effect (begun m) hello Registers).server
 
 abbrev waiting : Index → Server
-waiting m = (effect (joined m) lock (Waits 1 5 mode.RangeSS)).server
+waiting m = (effect (joined m) lock (Waits 1 5 6 mode.RangeSS)).server
 
 abbrev turn : Turn
-turn = record { slot = 10; waiter = record { client = 0; req = 1; point = 5; mode = mode.RangeSS } }
+turn = record { slot = 10; waiter = record { client = 0; req = 1; point = 5; hi = 6; mode = mode.RangeSS } }
 
 abbrev pub granted : Index → Server
 granted m = (take_turn (waiting m) turn).server
@@ -81,7 +81,7 @@ ends_hello m = subst (λ (xs : List ToClient). Ends (effect (begun m) hello Regi
 pub reads_hello : (m : Index) → ServerStep (begun m) hello (joined m) (epoch ∷ [])
 reads_hello m = subst (λ k. Ends (effect (begun m) hello k) (kind_of k) (joined m) (epoch ∷ [])) (sym (hello_case m)) (ends_hello m)
 
-pub lock_case : (m : Index) → map.entries m ≡ two → case_of (joined m) lock ≡ Waits 1 5 mode.RangeSS
+pub lock_case : (m : Index) → map.entries m ≡ two → case_of (joined m) lock ≡ Waits 1 5 6 mode.RangeSS
 unfolding most_clients
 lock_case m e = simp e
 
@@ -104,8 +104,8 @@ lock_calls m e = simp (e, map.get-entries)
 answers_lock : (m : Index) → map.entries m ≡ two → Answered (waiting m) (granted m) (grant ∷ [])
 answers_lock m e = subst (λ (xs : List ToClient). Answered (waiting m) (granted m) (xs ++ [])) (lock_outs m e) (goes_on (waiting m) (granted m) turn [] (lock_turn m e) (stops (granted m) (lock_ends m e)))
 
-ends_lock : (m : Index) → map.entries m ≡ two → Ends (effect (joined m) lock (Waits 1 5 mode.RangeSS)) Acts (granted m) (grant ∷ [])
-ends_lock m e = subst (λ (xs : List ToClient). Ends (effect (joined m) lock (Waits 1 5 mode.RangeSS)) Acts (granted m) (grant ∷ xs)) (lock_calls m e)
+ends_lock : (m : Index) → map.entries m ≡ two → Ends (effect (joined m) lock (Waits 1 5 6 mode.RangeSS)) Acts (granted m) (grant ∷ [])
+ends_lock m e = subst (λ (xs : List ToClient). Ends (effect (joined m) lock (Waits 1 5 6 mode.RangeSS)) Acts (granted m) (grant ∷ xs)) (lock_calls m e)
     (serves (granted m) (grant ∷ []) (λ x. cc) refl (answers_lock m e))
 
 pub reads_lock : (m : Index) → map.entries m ≡ two → ServerStep (joined m) lock (granted m) (grant ∷ [])

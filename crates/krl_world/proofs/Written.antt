@@ -126,9 +126,9 @@ not_applied outcome.Full n = refl
 pub writes_world : (w : State) (of : ℕ → Link) (log : List Logged) → Mirrors w of log → machine.WritesOnce (first_of w.opening) (machine_of w.server of log) → WritesOnce w
 writes_world w of log m h = record {
   once = subst IsOnce (sym m.writes) (once_is log h.once);
-  fold = subst (λ xs. fold (map.from_entries w.opening) xs ≡ index_of w) (sym m.writes)
-      (map.same_map nat_cmp_total map.nat_cmp-IsAntisymmetric _ _ (λ q. fold_is (map.from_entries w.opening) log q ∙ h.fold q ∙ index_is w.server q));
-  due = subst (AreDue (map.from_entries w.opening)) (sym m.writes) (due_is (map.from_entries w.opening) log h.proper);
+  fold = subst (λ xs. fold w.opening.index xs ≡ index_of w) (sym m.writes)
+      (map.same_map nat_cmp_total map.nat_cmp-IsAntisymmetric _ _ (λ q. fold_is w.opening.index log q ∙ h.fold q ∙ index_is w.server q));
+  due = subst (AreDue w.opening.index) (sym m.writes) (due_is w.opening.index log h.proper);
   same = λ x i epoch seen op j. let r = of_log log x (subst (λ xs. In x xs) m.writes i) in let s = r.same in
       let at = m.from _ j in
       let at' = subst (λ c. In (record { head = record { inc = x.incarnation; epoch = epoch; seen = seen }; number = x.number; op = op_of op }) (of c).writes) (ap (λ (d : AppliedWrite). d.client) s) at.1 in

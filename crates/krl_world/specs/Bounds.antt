@@ -1,6 +1,7 @@
 -- The bound table: the server's table while it serves; from a crash on, the table of the last moment at which a server
 -- served, in which a client that has since been registered anew, or marked left, holds N. And what lies within it.
 use Rattle.std.specs.Prelude.{◌≡◌, ℕ, suc, ◌≤◌, ◌&&◌, Bool, true, false, nat_eq, List, [], ◌∷◌, Option, Some, None, if◌then◌else◌}
+use Rattle.std.specs.List.{AllByRecursion}
 use Rattle.krl_modes.specs.declared.part.RangePart.{RangePart}
 use Rattle.krl_modes.specs.declared.part.RangePart.TheVariants as range
 use Rattle.krl_modes.specs.declared.part.KeyPart.{KeyPart}
@@ -8,7 +9,6 @@ use Rattle.krl_modes.specs.declared.part.KeyPart.TheVariants as key
 use Rattle.krl_modes.specs.Parts.{range_at_most, key_at_most}
 use Rattle.krl_modes.specs.Modes.{range_of, key_of}
 use Rattle.krl_modes.specs.Spans.{contains}
-use Rattle.krl_messages.specs.Values.{Value}
 use Rattle.krl_messages.specs.declared.holding.Holding.{Holding}
 use Rattle.krl_messages.specs.declared.pieces.Pieces.{Pieces}
 use Rattle.krl_messages.specs.declared.to_server.ToServer.{ToServer}
@@ -21,7 +21,7 @@ use Rattle.krl_messages.specs.declared.to_client.PushBody.{PushBody}
 use Rattle.krl_messages.specs.declared.to_client.PushBody.TheVariants as push
 use Rattle.krl_protocol.specs.Links.{In}
 use Rattle.krl_durable.specs.Index.{Index}
-use Rattle.krl_durable.specs.Registers.{record_of}
+use Rattle.krl_durable.specs.Registers.{Durable, record_of}
 use Rattle.krl_durable.specs.declared.record.Record.{Record}
 use Rattle.krl_table.specs.Points as table
 use Rattle.krl_table.specs.Reports.{reported_key}
@@ -37,8 +37,8 @@ use Rattle.krl_world.specs.declared.message.Message.TheVariants as message
 use Rattle.krl_world.specs.declared.step.Step.{Step}
 use Rattle.krl_world.specs.declared.step.Step.TheVariants as step
 use Rattle.krl_world.specs.declared.answer.Answer.{Answer}
-use Rattle.krl_world.specs.States.{ServerNode, Up, Down, State, fresh, unused, durable_of, index_of, client_of, range_held, key_held}
-use Rattle.krl_world.specs.Steps.{CanBegin, message_at, Takes}
+use Rattle.krl_world.specs.States.{ServerNode, Up, Down, State, opened, durable_of, index_of, client_of, range_held, key_held}
+use Rattle.krl_world.specs.Steps.{CanOpen, message_at, Takes}
 use Rattle.krl_server.specs.Follows.{clears}
 
 -- a range part and a key part for each client at each point, and the index of that moment
@@ -58,8 +58,8 @@ table_of s = record {
 }
 
 -- the bound of the first world, in which the server serves
-abbrev pub first_bound : List (ℕ × Value) → Bound
-first_bound entries = table_of (start (unused entries))
+abbrev pub first_bound : Durable → Bound
+first_bound d = table_of (start d)
 
 -- the message that arrives registers this client anew, or marks it left
 abbrev pub clears_in : ServerNode → Option Message → ℕ → Bool
@@ -102,7 +102,7 @@ RunsWithin w b (s ∷ steps) w' b' =
 
 -- the world is reached by some list of taken steps, of which this is the bound table
 abbrev pub HasBound : State → Bound → Type 0
-HasBound w b = CanBegin w.opening × (steps : List Step) × RunsWithin (fresh w.opening) (first_bound w.opening) steps w b
+HasBound w b = CanOpen w.opening × (steps : List Step) × RunsWithin (opened w.opening) (first_bound w.opening) steps w b
 
 -- while a server serves, the bound of a run is its table
 abbrev pub BoundIsTable : Type 0
@@ -133,7 +133,7 @@ pub record IsHoldingWithin (b : Bound) (c : ℕ) (h : Holding) : Type 0 where
   pub key : (p : ℕ) → contains h.span p ≡ true → is_last h.span p ≡ true → IsKeyWithin (key_of h.mode) (b.key_at c p)
 
 abbrev pub IsPushWithin : Bound → ℕ → PushBody → Type 0
-IsPushWithin b c (push.Grant req h) = IsHoldingWithin b c h
+IsPushWithin b c (push.Grant req hs) = AllByRecursion (IsHoldingWithin b c) hs
 IsPushWithin b c (push.Absent req point) = Unit {0}
 IsPushWithin b c (push.Answer number o h) = IsHoldingWithin b c h
 

@@ -1,7 +1,8 @@
 -- What the fields of a world stand for.
-use Rattle.std.specs.Prelude.{◌≡◌, ℕ, Option, None, Some, is_some, true, List, [], length, slice_index_or}
+use Rattle.std.specs.Prelude.{◌≡◌, ◌<◌, ℕ, Option, None, Some, is_some, true, List, [], length, slice_index_or}
 use Rattle.std.specs.FinMap as map
-use Rattle.krl_messages.specs.Values.{Value}
+use Rattle.krl_durable.specs.Registers.{Durable, record_of}
+use Rattle.krl_server.specs.Servers.{incarnation_or_0}
 use Rattle.krl_server.specs.declared.state.State.{State as Kept}
 use Rattle.krl_server.specs.States as server_state
 use Rattle.krl_client.specs.Clients as clients
@@ -15,7 +16,7 @@ use Rattle.krl_world.specs.States.{ServerNode, Up, Down, Seat, State}
 
 -- what the fields say, apart from its memory
 pub record Fields : Type 0 where
-  pub opening : List (ℕ × Value)
+  pub opening : Durable
   pub server : KeptNode
   pub seats : List KeptSeat
   pub sent : List Message
@@ -49,6 +50,15 @@ seat_of x = record { greatest = x.greatest; client = client_there x.client }
 
 abbrev pub kept_nobody : KeptSeat
 kept_nobody = record { greatest = 0; client = None }
+
+-- a seat whose client was not started since this survived
+abbrev pub kept_unstarted : Durable → ℕ → KeptSeat
+kept_unstarted d c = record { greatest = incarnation_or_0 (record_of d.register c); client = None }
+
+-- so many seats by client number, of which none was started since
+pub record AreUnstarted (d : Durable) (n : ℕ) (seats : List KeptSeat) : Type 0 where
+  pub count : length seats ≡ n
+  pub each : (c : ℕ) → c < n → slice_index_or seats c kept_nobody ≡ kept_unstarted d c
 
 -- the seats by client number, of which there are 64
 abbrev pub seats_of : List KeptSeat → ℕ → Seat

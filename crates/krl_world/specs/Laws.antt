@@ -2,20 +2,20 @@
 use Rattle.std.specs.Prelude.{◌≡◌, ℕ, ◌≤◌, true, false, List, None, Result}
 use Rattle.krl_modes.specs.declared.part.RangePart.TheVariants as range
 use Rattle.krl_modes.specs.declared.part.KeyPart.TheVariants as key
-use Rattle.krl_messages.specs.Values.{Value}
+use Rattle.krl_durable.specs.Registers.{Durable}
 use Rattle.krl_protocol.specs.Links.{In}
 use Rattle.krl_world.specs.declared.step.Step.{Step}
 use Rattle.krl_world.specs.declared.step.Step.TheVariants as step
 use Rattle.krl_world.specs.declared.answer.Answer.{Answer}
 use Rattle.krl_world.specs.declared.refused.Refused.{Refused}
 use Rattle.krl_server.specs.Servers.{Server, is_gathering}
-use Rattle.krl_world.specs.States.{Up, State, fresh, is_serving, range_held, key_held}
+use Rattle.krl_world.specs.States.{Up, State, opened, is_serving, range_held, key_held}
 use Rattle.krl_world.specs.Bounds.{Bound, table_of, HasBound, IsTableWithin, Covers}
-use Rattle.krl_world.specs.Steps.{CanBegin, refusal_of, Takes, Steps, Runs, RunsWith, IsReachable}
+use Rattle.krl_world.specs.Steps.{CanOpen, refusal_of, Takes, Steps, Runs, RunsWith, IsReachable}
 
 -- the first world is reachable, and so is what a step or a run leaves of a reachable one
 pub record ReachableStays : Type 0 where
-  pub first : (entries : List (ℕ × Value)) → CanBegin entries → IsReachable (fresh entries)
+  pub first : (d : Durable) → CanOpen d → IsReachable (opened d)
   pub step : (w v : State) (s : Step) (r : Result Answer Refused) → IsReachable w → Steps w s r v → IsReachable v
   pub run : (w v : State) (steps : List Step) (results : List (Result Answer Refused)) → IsReachable w →
       RunsWith w steps results v → IsReachable v
@@ -32,8 +32,8 @@ CanGoOn w = (s : Step) → refusal_of w s ≡ None → (answer : Answer) × (v :
 -- a server that never crashed serves
 abbrev pub ServesOn : Type 0
 ServesOn =
-    (entries : List (ℕ × Value)) (steps : List Step) (w : State) → (In step.CrashServer steps → ⊥) →
-    Runs (fresh entries) steps w → is_serving w.server ≡ true
+    (d : Durable) (steps : List Step) (w : State) → CanOpen d → (In step.CrashServer steps → ⊥) →
+    Runs (opened d) steps w → is_serving w.server ≡ true
 
 -- nobody gets anything by a restart: where a server gathered and now serves, its table is within the bound until then,
 -- and it has what each client believes

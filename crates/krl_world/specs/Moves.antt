@@ -40,9 +40,9 @@ IsRefused due takes r = (due ≡ Some r) ⊎ ((due ≡ None) × (r ≡ refused.O
 
 -- a client that obeys a command, and goes on as this one, or no longer; and all that was sent, before and after
 abbrev pub Does : Client → Command → Answer → Option Client → List Message → List Message → Type 0
-Does k (command.Lock point m) answer next old new =
-    (answer ≡ told.Done) × (next ≡ Some (Commands.locked k point m))
-    × (new ≡ old ++ from_clients (says_lock (Commands.locked k point m) point m ∷ []))
+Does k (command.Lock point hi m) answer next old new =
+    (answer ≡ told.Done) × (next ≡ Some (Commands.locked k point hi m))
+    × (new ≡ old ++ from_clients (says_lock (Commands.locked k point hi m) point hi m ∷ []))
 Does k (command.Write op) answer next old new =
     (answer ≡ told.Done) × (next ≡ Some (wrote k op)) × (new ≡ old ++ from_clients (says_write (wrote k op) op ∷ []))
 Does k (command.Scan lo hi) answer next old new = ScanAnswers k (span lo hi) answer × (next ≡ Some k) × (new ≡ old)
@@ -114,7 +114,7 @@ HasArrived (Down d) m next old new writes written = (next ≡ Down d) × (new �
 -- Writes that were applied
 
 abbrev pub write_asked : RequestBody → Option (ℕ × WriteOp)
-write_asked (asked.Lock req point g) = None
+write_asked (asked.Lock req point hi g) = None
 write_asked (asked.Write number op) = Some (number, op)
 write_asked (asked.Release s keep) = None
 write_asked asked.Ack = None

@@ -18,12 +18,12 @@ use Rattle.krl_world.specs.Promises.{answer_message}
 -- a scan from a cache gives an entry
 abbrev pub ScansSomewhere : Type 0
 ScansSomewhere =
-    (w : State) × IsReachable w × Steps w (step.Command 0 (command.Scan 0 11)) (Ok (told.Rows ((10, 1) ∷ []))) w
+    (w : State) × IsReachable w × Steps w (step.Command 0 (command.Scan 0 11)) (Ok (told.Rows ((10, 1 ∷ []) ∷ []))) w
 
 -- a client was told that its insert is Applied, and it stands in the list of writes
 abbrev pub WritesSomewhere : Type 0
 WritesSomewhere = (w : State) × (h : Holding) × IsReachable w × In (answer_message 0 1 1 2 1 outcome.Applied h) w.sent
-    × (w.writes ≡ record { client = 0; incarnation = 1; number = 1; op = write.Insert 15 5 } ∷ [])
+    × (w.writes ≡ record { client = 0; incarnation = 1; number = 1; op = write.Insert 15 (5 ∷ []) } ∷ [])
 
 -- one run through all this: a client that read a gap was called back; the server crashed, started again and serves with
 -- what its clients reported; and the client that got the gap alone deleted the key there, and was told Applied

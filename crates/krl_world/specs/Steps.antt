@@ -9,6 +9,12 @@ use Rattle.krl_messages.specs.declared.to_client.ToClient.{ToClient}
 use Rattle.krl_durable.specs.declared.refused.Refused.{Refused as IndexRefused}
 use Rattle.krl_durable.specs.declared.refused.Refused.TheVariants as index
 use Rattle.krl_durable.specs.Openings.{AreGood, Refuses}
+use Rattle.krl_durable.specs.declared.not_migrated.NotMigrated.{NotMigrated}
+use Rattle.krl_durable.specs.declared.not_migrated.NotMigrated.TheVariants as not_migrated
+use Rattle.krl_durable.specs.Kept.{IsKept}
+use Rattle.krl_durable.specs.Migrations as migrations
+use Rattle.krl_durable.specs.Migrations.{DurableV1, migrated}
+use Rattle.krl_durable.specs.Registers.{Durable, missing_order}
 use Rattle.krl_durable.specs.Writes.{most_entries}
 use Rattle.krl_server.specs.declared.start_refused.StartRefused.{StartRefused as NotStarted}
 use Rattle.krl_server.specs.declared.start_refused.StartRefused.TheVariants as not_started
@@ -41,13 +47,19 @@ use Rattle.krl_world.specs.declared.answer.Answer.{Answer}
 use Rattle.krl_world.specs.declared.answer.Answer.TheVariants as told
 use Rattle.krl_world.specs.declared.refused.Refused.{Refused}
 use Rattle.krl_world.specs.declared.refused.Refused.TheVariants as refused
-use Rattle.krl_world.specs.States.{ServerNode, Up, Down, State, fresh, client_of, with_client, seated, served}
+use Rattle.krl_world.specs.States.{ServerNode, Up, Down, State, opened, client_of, with_client, seated, served}
 
 -- Making a world
 
 -- a world may begin with these entries
 abbrev pub CanBegin : List (ℕ × Value) → Type 0
 CanBegin entries = (length entries ≤ most_entries) × AreGood entries (length entries)
+
+-- or with this durable part, as a server keeps it: there is an epoch for the start, and each registered client has left
+pub record CanOpen (d : Durable) : Type 0 where
+  pub kept : IsKept d
+  pub starts : server.can_start d ≡ true
+  pub left : missing_order d.register ≡ []
 
 -- what the index refuses, by its name here
 abbrev pub refused_by_index : IndexRefused → Refused
@@ -59,6 +71,21 @@ refused_by_index index.Full = refused.Full
 -- why no world begins with these entries
 abbrev pub BeginsNot : List (ℕ × Value) → Refused → Type 0
 BeginsNot entries r = (e : IndexRefused) × Refuses entries e × (r ≡ refused_by_index e)
+
+-- why what survived is not migrated, by its name here
+abbrev pub refused_by_migration : NotMigrated → Refused
+refused_by_migration not_migrated.OutOfMemory = refused.OutOfMemory
+refused_by_migration (not_migrated.StillRegistered c) = refused.StillRegistered c
+
+-- why no world begins with this durable part
+abbrev pub OpensNot : Durable → Refused → Type 0
+OpensNot d r = (r ≡ refused.OutOfMemory) ⊎ ((r ≡ refused.Spent) × (server.can_start d ≡ false))
+
+-- why no world begins with what survived when values were numbers: it can't be migrated, or there is no epoch for the
+-- start; or memory was not there
+abbrev pub MigratesNot : DurableV1 → Refused → Type 0
+MigratesNot d r =
+    ((e : NotMigrated) × migrations.MigratesNot d e × (r ≡ refused_by_migration e)) ⊎ OpensNot (migrated d) r
 
 -- Refusals, apart from memory: the first reason in the written order
 
@@ -95,7 +122,7 @@ span lo hi = record { lo = lo; hi = hi }
 
 -- why a client that runs refuses a command
 abbrev pub command_refusal : Client → Command → Option CommandRefused
-command_refusal k (command.Lock point m) = lock_refusal k point
+command_refusal k (command.Lock point hi m) = lock_refusal k point hi
 command_refusal k (command.Write op) = write_refusal k op
 command_refusal k (command.Scan lo hi) = scan_refusal (span lo hi)
 command_refusal k (command.Forget lo hi) = forget_refusal k (span lo hi)
@@ -157,7 +184,7 @@ applies m (Rebuilds pieces) = []
 applies m (Repeats body) = []
 applies m Hears = []
 applies m (Lowers s keep) = []
-applies m (Waits req point g) = []
+applies m (Waits req point hi g) = []
 applies m (Judges number op o) =
     if_applied o (record { client = m.client; incarnation = m.incarnation; number = number; op = op })
 applies m (AnswersAgain number op o) = []
@@ -194,9 +221,9 @@ ScanAnswers k s (told.Pending n) = Commands.Answers k s (scanned.Pending n)
 
 -- a client that runs obeys a command
 abbrev pub Obeys : State → ℕ → Client → Command → Answer → State → Type 0
-Obeys w c k (command.Lock point m) answer w' =
+Obeys w c k (command.Lock point hi m) answer w' =
     (answer ≡ told.Done)
-    × (w' ≡ with_client w c (Some (Commands.locked k point m)) (says_lock (Commands.locked k point m) point m ∷ []))
+    × (w' ≡ with_client w c (Some (Commands.locked k point hi m)) (says_lock (Commands.locked k point hi m) point hi m ∷ []))
 Obeys w c k (command.Write op) answer w' =
     (answer ≡ told.Done) × (w' ≡ with_client w c (Some (wrote k op)) (says_write (wrote k op) op ∷ []))
 Obeys w c k (command.Scan lo hi) answer w' = ScanAnswers k (span lo hi) answer × (w' ≡ w)
@@ -252,7 +279,7 @@ Arrives w None = ⊥
 
 -- a scan takes memory for its rows alone
 abbrev pub CommandTakesMemory : Client → Command → Type 0
-CommandTakesMemory k (command.Lock point m) = Unit {0}
+CommandTakesMemory k (command.Lock point hi m) = Unit {0}
 CommandTakesMemory k (command.Write op) = Unit {0}
 CommandTakesMemory k (command.Scan lo hi) = (is_writing_in k (span lo hi) ≡ false) × CoversAll k.belief (span lo hi)
 CommandTakesMemory k (command.Forget lo hi) = Unit {0}
@@ -295,6 +322,6 @@ RunsWith w [] (r ∷ results) w' = ⊥
 RunsWith w (s ∷ steps) [] w' = ⊥
 RunsWith w (s ∷ steps) (r ∷ results) w' = (mid : State) × Steps w s r mid × RunsWith mid steps results w'
 
--- some list of taken steps leads here from the world's own entries
+-- some list of taken steps leads here from what the world began with
 abbrev pub IsReachable : State → Type 0
-IsReachable w = CanBegin w.opening × (steps : List Step) × Runs (fresh w.opening) steps w
+IsReachable w = CanOpen w.opening × (steps : List Step) × Runs (opened w.opening) steps w

@@ -23,16 +23,17 @@ fn lock(
     client: &mut Client,
     sent: &mut Vec<Message>,
     point: u64,
+    hi: u64,
     mode: Mode,
 ) -> Result<Answer, Refused>
-    ensures { Commanded (meaning client.old) (command.Lock point mode) (Some (meaning client.new))
+    ensures { Commanded (meaning client.old) (command.Lock point hi mode) (Some (meaning client.new))
         sent.old.items sent.new.items result }
 {
-    if let Some(refusal) = client.refuses_lock(point) {
+    if let Some(refusal) = client.refuses_lock(point, hi) {
         return Err(Refused::from(refusal));
     }
     sent.reserve(MOST_OF_A_CLIENT)?;
-    let messages = client.lock(point, mode)?;
+    let messages = client.lock(point, hi, mode)?;
     send_to_server(sent, messages);
     Ok(Answer::Done)
 }
@@ -42,7 +43,8 @@ fn write(client: &mut Client, sent: &mut Vec<Message>, op: WriteOp) -> Result<An
     ensures { Commanded (meaning client.old) (command.Write op) (Some (meaning client.new))
         sent.old.items sent.new.items result }
 {
-    if let Some(refusal) = client.refuses_write(op) {
+    let asked = op;
+    if let Some(refusal) = client.refuses_write(asked) {
         return Err(Refused::from(refusal));
     }
     sent.reserve(MOST_OF_A_CLIENT)?;
@@ -134,7 +136,7 @@ pub(crate) fn obey(
         return Err(Refused::Down);
     };
     match what {
-        Command::Lock { point, mode } => lock(client, sent, point, mode),
+        Command::Lock { point, hi, mode } => lock(client, sent, point, hi, mode),
         Command::Write(op) => write(client, sent, op),
         Command::Scan { lo, hi } => scan(client, lo, hi),
         Command::Forget { lo, hi } => forget(client, sent, lo, hi),

@@ -1,14 +1,16 @@
 //! What a world keeps, and how each step changes it.
-ghost use Rattle.std.specs.Prelude.{◌≡◌, suc, ◌<◌, ℕ, length, slice_get, replicate};
+ghost use Rattle.std.specs.Prelude.{◌≡◌, suc, ◌<◌, ℕ, [], length, slice_get};
 ghost use Rattle.std.specs.Prelude.{IfOk, MatchResult, Some};
 ghost use Rattle.std.specs.Option.{option_copied};
 ghost use Rattle.std.specs.FinMap as map;
 ghost use Rattle.krl_messages.specs.declared.to_server.ToServer.{ToServer};
 ghost use Rattle.krl_world.specs.declared.message.Message.TheVariants as sent_message;
 ghost use Rattle.krl_world.specs.declared.step.Step.TheVariants as steps;
-ghost use Rattle.krl_world.specs.States.{index_of, fresh, range_held, key_held};
-ghost use Rattle.krl_world.specs.Steps.{Steps, CanBegin, BeginsNot};
-ghost use Rattle.krl_world.specs.Fields.{meaning, server_up, kept_client, kept_nobody};
+ghost use Rattle.krl_durable.specs.Registers.{missing_order};
+ghost use Rattle.krl_durable.specs.Migrations.{migrated};
+ghost use Rattle.krl_world.specs.States.{index_of, unused, opened, fresh, range_held, key_held};
+ghost use Rattle.krl_world.specs.Steps.{Steps, CanBegin, BeginsNot, CanOpen, OpensNot, MigratesNot, message_at};
+ghost use Rattle.krl_world.specs.Fields.{meaning, server_up, kept_client, AreUnstarted};
 
 use crate::answer::Answer;
 use crate::applied_write::AppliedWrite;
@@ -18,7 +20,7 @@ use crate::refused::Refused;
 use crate::step::{Command, Step};
 use crate::{clients, serving};
 use krl_client::Client;
-use krl_durable::Durable;
+use krl_durable::{Durable, DurableV1};
 use krl_messages::{ToClient, Value};
 use krl_modes::{KeyPart, RangePart};
 use krl_server::{NotStarted, Server};
@@ -29,7 +31,8 @@ use std::marker::Model;
 #[derive(Drop)]
 pub struct Nodes {
     alloc: Global,
-    opening: Vec<(u64, Value)>,
+    // What the world began with.
+    opening: Durable,
     // There is one but within a step that moves it.
     server: Option<ServerNode>,
     // By client number: 64.
@@ -40,6 +43,7 @@ pub struct Nodes {
 
 impl Model for Nodes {
     ghost use Rattle.std.specs.Coded.{codes};
+    ghost use Rattle.krl_durable.specs.contracts.durable.Durable as durable;
     ghost use Rattle.krl_world.specs.contracts.node.ServerNode as server_node;
     ghost use Rattle.krl_world.specs.contracts.node.Seat as seat;
     ghost use Rattle.krl_world.specs.contracts.message.Message as message;
@@ -50,6 +54,7 @@ impl Model for Nodes {
 
     ghost coded = { Prim.hlevel (
       codes,
+      durable.the_row.coded,
       server_node.the_row.coded,
       seat.the_row.coded,
       message.the_row.coded,
@@ -57,7 +62,7 @@ impl Model for Nodes {
     ) };
 
     ghost view = { λ n. record {
-      opening = n.opening.items;
+      opening = n.opening;
       server = server_there n.server;
       seats = n.seats.items;
       sent = n.sent.items;
@@ -67,13 +72,13 @@ impl Model for Nodes {
     ghost invariant = { λ n. AreThere n.server n.seats.items };
 }
 
-/// The seats of 64 clients, none of which was ever started.
-fn seats_of_nobody(alloc: Global) -> Result<Vec<Seat>, AllocError>
-    ensures { IfOk result (λ seats. seats.items ≡ replicate 64 kept_nobody) }
+/// The seats of 64 clients, none of which was started since this survived.
+fn seats_of_nobody(alloc: Global, durable: &Durable) -> Result<Vec<Seat>, AllocError>
+    ensures { IfOk result (λ seats. AreUnstarted durable.now 64 seats.items) }
 {
     let mut seats = Vec::with_capacity(alloc, 64)?;
-    for _ in 0..64u64 {
-        seats.push(Seat::nobody())?;
+    for number in 0..64u64 {
+        seats.push(Seat::unstarted(durable, number))?;
     }
     Ok(seats)
 }
@@ -82,23 +87,51 @@ impl Nodes {
     /// A world with these entries, in which nothing has happened: its server runs, and no client.
     pub(crate) fn new(alloc: Global, entries: Vec<(u64, Value)>) -> Result<Nodes, Refused>
         ensures { MatchResult result
-            (λ w. CanBegin entries.items × (meaning w ≡ fresh entries.items))
+            (λ w. CanBegin entries.items × CanOpen (unused entries.items)
+            × (meaning w ≡ fresh entries.items))
             (BeginsNot entries.items) }
     {
+        let opening = Durable::new(alloc, entries.as_slice())?;
         let durable = Durable::new(alloc, entries.as_slice())?;
-        let server = match Server::start(alloc, durable) {
-            Ok(server) => server,
-            Err(_) => return Err(Refused::OutOfMemory),
-        };
-        let seats = seats_of_nobody(alloc)?;
-        Ok(Nodes {
-            alloc,
-            opening: entries,
-            server: Some(ServerNode::Up(server)),
-            seats,
-            sent: Vec::new(alloc),
-            writes: Vec::new(alloc),
-        })
+        match Nodes::open(alloc, opening, durable) {
+            Ok(nodes) => Ok(nodes),
+            Err(_) => Err(Refused::OutOfMemory),
+        }
+    }
+
+    /// A world that begins with what survived when values were numbers.
+    pub(crate) fn migrate(alloc: Global, old: &DurableV1) -> Result<Nodes, Refused>
+        ensures { MatchResult result
+            (λ w. CanOpen (migrated old.now) × (meaning w ≡ opened (migrated old.now)))
+            (MigratesNot old.now) }
+    {
+        let opening = Durable::migrate(alloc, old)?;
+        let durable = Durable::migrate(alloc, old)?;
+        Nodes::open(alloc, opening, durable)
+    }
+
+    /// A world that begins with what survived, which is handed to it twice: it keeps the one, and starts its server from
+    /// the other. Nothing has happened since then.
+    pub(crate) fn open(alloc: Global, opening: Durable, durable: Durable) -> Result<Nodes, Refused>
+        requires same { durable ≡ opening }
+        requires left { missing_order opening.register ≡ [] }
+        ensures { MatchResult result
+            (λ w. CanOpen opening × (meaning w ≡ opened opening))
+            (OpensNot opening) }
+    {
+        opening.epoch();
+        let seats = seats_of_nobody(alloc, &opening)?;
+        match Server::start(alloc, durable) {
+            Ok(server) => Ok(Nodes {
+                alloc,
+                opening,
+                server: Some(ServerNode::Up(server)),
+                seats,
+                sent: Vec::new(alloc),
+                writes: Vec::new(alloc),
+            }),
+            Err(NotStarted { refused, .. }) => Err(Refused::from(refused)),
+        }
     }
 
     /// One step.
@@ -227,39 +260,23 @@ impl Nodes {
     fn start_server(&mut self) -> Result<Answer, Refused>
         ensures { Steps (meaning self.old) steps.StartServer result (meaning self.new) }
     {
-        match self.server.take() {
-            Some(ServerNode::Down(durable)) => match Server::start(self.alloc, durable) {
-                Ok(server) => {
-                    self.server = Some(ServerNode::Up(server));
-                    Ok(Answer::Done)
-                }
-                Err(NotStarted { refused, durable }) => {
-                    self.server = Some(ServerNode::Down(durable));
-                    Err(Refused::from(refused))
-                }
-            },
-            Some(ServerNode::Up(server)) => {
-                self.server = Some(ServerNode::Up(server));
-                Err(Refused::Running)
-            }
-            None => Err(Refused::Running),
-        }
+        let Some(node) = self.server.take() else {
+            return Err(Refused::Running);
+        };
+        let (node, outcome) = node.start(self.alloc);
+        self.server = Some(node);
+        outcome
     }
 
     fn crash_server(&mut self) -> Result<Answer, Refused>
         ensures { Steps (meaning self.old) steps.CrashServer result (meaning self.new) }
     {
-        match self.server.take() {
-            Some(ServerNode::Up(server)) => {
-                self.server = Some(ServerNode::Down(server.crash()));
-                Ok(Answer::Done)
-            }
-            Some(ServerNode::Down(durable)) => {
-                self.server = Some(ServerNode::Down(durable));
-                Err(Refused::Down)
-            }
-            None => Err(Refused::Down),
-        }
+        let Some(node) = self.server.take() else {
+            return Err(Refused::Down);
+        };
+        let (node, outcome) = node.crash();
+        self.server = Some(node);
+        outcome
     }
 
     /// The entries of the index, in key order.
@@ -316,5 +333,15 @@ impl Nodes {
         ensures { result ≡ length self.now.sent }
     {
         self.sent.len() as u64
+    }
+
+    /// The message of this number, counted from 1.
+    pub(crate) fn message(&self, number: u64) -> Option<&Message>
+        ensures { option_copied result ≡ message_at self.now.sent number }
+    {
+        if number == 0 || number > self.sent.len() as u64 {
+            return None;
+        }
+        Some(&self.sent[(number - 1) as usize])
     }
 }

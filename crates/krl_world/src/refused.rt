@@ -3,10 +3,10 @@ ghost use Rattle.std.specs.Prelude.{◌≡◌, Some};
 ghost use Rattle.krl_world.specs.declared.refused.Refused.TheVariants.{OutOfMemory};
 ghost use Rattle.krl_world.specs.Names.{refusal_name};
 ghost use Rattle.krl_world.specs.Steps.{refused_by_client, refused_at_start};
-ghost use Rattle.krl_world.specs.Steps.{refused_by_server, refused_by_index};
+ghost use Rattle.krl_world.specs.Steps.{refused_by_server, refused_by_index, refused_by_migration};
 
 use krl_client::{CommandRefused, StartRefused};
-use krl_durable::Refused as EntriesRefused;
+use krl_durable::{NotMigrated, Refused as EntriesRefused};
 use krl_server::StartRefused as ServerRefused;
 use std::alloc::{AllocError, AllocFailed};
 use std::error::Error;
@@ -49,6 +49,8 @@ pub enum Refused {
     Twice,
     /// More than 65,536 entries.
     Full,
+    /// This client is registered, and has not left.
+    StillRegistered(u64),
 }
 
 impl Refused {
@@ -74,6 +76,7 @@ impl Refused {
             Refused::BadKey => "BadKey",
             Refused::Twice => "Twice",
             Refused::Full => "Full",
+            Refused::StillRegistered(_) => "StillRegistered",
         }
     }
 }
@@ -97,6 +100,17 @@ impl From<EntriesRefused> for Refused {
             EntriesRefused::BadKey => Refused::BadKey,
             EntriesRefused::Twice => Refused::Twice,
             EntriesRefused::Full => Refused::Full,
+        }
+    }
+}
+
+impl From<NotMigrated> for Refused {
+    ghost from_gives = { λ error refused. refused ≡ refused_by_migration error };
+
+    fn from(error: NotMigrated) -> Refused {
+        match error {
+            NotMigrated::OutOfMemory => Refused::OutOfMemory,
+            NotMigrated::StillRegistered(client) => Refused::StillRegistered(client),
         }
     }
 }

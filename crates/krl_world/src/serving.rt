@@ -1,5 +1,6 @@
 //! What a server does, with all that was sent.
 ghost use Rattle.std.specs.Prelude.{◌≡◌, ◌<◌, ◌++◌, None, Some, length, slice_get, OnOk, OnErr};
+ghost use Rattle.std.specs.Vec.{vec_len, vec_capacity};
 ghost use Rattle.krl_messages.specs.declared.to_server.ToServer.{ToServer};
 ghost use Rattle.krl_server.specs.States.{meaning};
 ghost use Rattle.krl_server.specs.Steps as steps;
@@ -7,7 +8,7 @@ ghost use Rattle.krl_world.specs.declared.message.Message.TheVariants as sent_me
 ghost use Rattle.krl_world.specs.States.{from_server};
 ghost use Rattle.krl_world.specs.Steps.{server_down};
 ghost use Rattle.krl_world.specs.Fields.{node_of};
-ghost use Rattle.krl_world.specs.Moves.{HasServed, HasArrived, write_of, was_applied, applied_by};
+ghost use Rattle.krl_world.specs.Moves.{HasServed, HasArrived, write_of, was_applied, applied_by, as_list};
 
 use crate::applied_write::AppliedWrite;
 use crate::message::Message;
@@ -64,6 +65,29 @@ fn applied_by(
     }
 }
 
+/// Notes a write that was applied, where one was. There is room.
+fn note(writes: &mut Vec<AppliedWrite>, applied: Option<AppliedWrite>)
+    requires { vec_len writes.old < vec_capacity writes.old }
+    ensures { writes.new.items ≡ writes.old.items ++ as_list applied }
+{
+    if let Some(
+        AppliedWrite {
+            client,
+            incarnation,
+            number,
+            op,
+        },
+    ) = applied
+    {
+        writes.push_reserved(AppliedWrite {
+            client,
+            incarnation,
+            number,
+            op,
+        });
+    }
+}
+
 /// The server reads a message that was sent. A write that it applies is noted.
 fn read(
     alloc: Global,
@@ -89,9 +113,7 @@ fn read(
     let before = server.durable().record(message.client);
     let out = server.step(alloc, message)?;
     let applied = applied_by(message, before, server.durable().record(message.client));
-    if let Some(write) = applied {
-        writes.push_reserved(write);
-    }
+    note(writes, applied);
     send_to_clients(sent, out.messages);
     Ok(())
 }

@@ -5,10 +5,13 @@ use krl_modes::Mode;
 /// What a client is told to do.
 #[derive(Clone, Copy)]
 pub enum Command {
-    /// Ask the server for the mode on the slot of the point.
+    /// Ask the server for the mode on the slot of the point, and on the slots after it that begin
+    /// below `hi`, as far as they are free.
     Lock {
-        /// The point.
+        /// The first point.
         point: u64,
+        /// One past the last point.
+        hi: u64,
         /// The mode.
         mode: Mode,
     },

@@ -2,8 +2,9 @@
 ghost use Rattle.std.specs.Prelude.{◌≡◌, length, IfOk, OnErr, MatchResult};
 ghost use Rattle.std.specs.Option.{option_copied};
 ghost use Rattle.std.specs.FinMap as map;
-ghost use Rattle.krl_world.specs.States.{index_of, fresh, range_held, key_held};
-ghost use Rattle.krl_world.specs.Steps.{Steps, RunsWith, CanBegin, BeginsNot, IsReachable};
+ghost use Rattle.krl_durable.specs.Migrations.{migrated};
+ghost use Rattle.krl_world.specs.States.{index_of, opened, fresh, range_held, key_held};
+ghost use Rattle.krl_world.specs.Steps.{Steps, RunsWith, CanBegin, BeginsNot, CanOpen, MigratesNot, IsReachable, message_at};
 ghost use Rattle.krl_world.specs.Promises.{IsCompatible, ScansIndex, WritesOnce};
 ghost use Rattle.krl_world.specs.Laws.{CanGoOn};
 ghost use Rattle.krl_world.specs.Bounds.{Bound, HasBound, IsBounded, HoldsOverRestarts};
@@ -11,10 +12,12 @@ ghost use Rattle.krl_world.specs.Fields.{meaning, server_up, kept_client};
 
 use crate::answer::Answer;
 use crate::applied_write::AppliedWrite;
+use crate::message::Message;
 use crate::nodes::Nodes;
 use crate::refused::Refused;
 use crate::step::Step;
 use krl_client::Client;
+use krl_durable::DurableV1;
 use krl_messages::Value;
 use krl_modes::{KeyPart, RangePart};
 use krl_server::Server;
@@ -22,9 +25,14 @@ use std::alloc::{AllocError, Global};
 use std::marker::Model;
 
 /// One server with its index, up to 64 clients, and every message between them.
-#[derive(Drop)]
 pub struct World {
     nodes: Nodes,
+}
+
+impl Drop for World {
+    fn drop(self) {
+        let World { nodes: _nodes } = self;
+    }
 }
 
 impl Model for World {
@@ -55,6 +63,23 @@ impl World {
             (BeginsNot entries.items) }
     {
         let nodes = Nodes::new(alloc, entries)?;
+        Ok(World { nodes })
+    }
+
+    /// A world that begins with what survived when values were numbers: the same keys, epoch, register
+    /// and records, each value its eight bytes. Nothing has happened in it: its server runs, in the
+    /// next epoch, and no client. Each client's greatest incarnation is the registered one, or 0.
+    ///
+    /// # Errors
+    ///
+    /// `StillRegistered`, with the first by registration, where some registered client has not left;
+    /// `Spent` where the epoch is END; and `OutOfMemory` at any point.
+    pub fn migrate(alloc: Global, old: &DurableV1) -> Result<World, Refused>
+        ensures { MatchResult result
+            (λ w. CanOpen (migrated old.now) × (meaning w ≡ opened (migrated old.now)))
+            (MigratesNot old.now) }
+    {
+        let nodes = Nodes::migrate(alloc, old)?;
         Ok(World { nodes })
     }
 
@@ -149,5 +174,13 @@ impl World {
         ensures { result ≡ length self.now.sent }
     {
         self.nodes.sent()
+    }
+
+    /// The message of this number, counted from 1 in the order in which they were sent; None where
+    /// none of it was sent. It takes no memory.
+    pub fn message(&self, number: u64) -> Option<&Message>
+        ensures { option_copied result ≡ message_at self.now.sent number }
+    {
+        self.nodes.message(number)
     }
 }

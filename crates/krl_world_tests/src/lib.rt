@@ -2,6 +2,10 @@
 #![tactic(auto)]
 
 #[cfg(test)]
+mod interrupted;
+#[cfg(test)]
+mod migration;
+#[cfg(test)]
 mod random;
 #[cfg(test)]
 mod scripts;

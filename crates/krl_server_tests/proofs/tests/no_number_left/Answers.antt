@@ -7,4 +7,4 @@ unfolding IsDistinct
 apart = (tt, tt)
 
 pub kept-requires-clause-once : goal.kept-requires-clause-once
-kept-requires-clause-once g c = apart
+kept-requires-clause-once c = apart

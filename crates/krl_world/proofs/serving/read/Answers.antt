@@ -1,5 +1,4 @@
 use Rattle.std.proofs.Common.{◌≡◌, arith, Some, [], ◌∷◌, ◌++◌, sym, ap, subst, ◌∙◌}
-use Rattle.std.proofs.lemmas.List.{append-nil}
 use Rattle.krl_messages.specs.declared.to_server.ToServer.{ToServer}
 use Rattle.std.specs.Prelude.{slice_get}
 use Rattle.krl_world.specs.declared.message.Message.TheVariants as sent_message
@@ -9,7 +8,6 @@ use Rattle.krl_world.specs.States.{from_server}
 use Rattle.krl_world.specs.Moves.{HasServed, applied_by, as_list}
 use Rattle.krl_world.proofs.Applies.{served_by, got}
 use Rattle.krl_server.specs.Ends.{most_messages}
-use Rattle.krl_world.proofs.serving.read.Goals.{in-Some, in_default-applied}
 use Rattle.krl_world.proofs.serving.read.Goals as goal
 
 pub returns-clause-ok : goal.returns-clause-ok
@@ -20,12 +18,10 @@ returns-clause-ok c = λ m f.
     let s = meaning c.args.server.now in
     let t = meaning c.step.new.self in
     let noted : c.applied_by-applied.result ≡ applied_by x (record_of s.durable.register x.client) (record_of t.durable.register x.client) = cc in
-    let written : c.match-applied.writes.items ≡ c.args.writes.now.items ++ as_list c.applied_by-applied.result = elim c.match-applied.branch [
-      | in-Some w ↦ ap (λ v. v.items) w.writes-is ∙ w.push_reserved.ensures.items ∙ ap (λ xs. xs ++ w.in-Some.write ∷ []) c.reserve-2.ensures.items ∙ ap (λ o. c.args.writes.now.items ++ as_list o) (sym w.in-Some.is)
-      | in_default-applied w ↦ let none = w.in_default-applied.is in ap (λ v. v.items) w.writes-is ∙ c.reserve-2.ensures.items ∙ sym (append-nil c.args.writes.now.items) ∙ ap (λ o. c.args.writes.now.items ++ as_list o) (sym none)
-    ] in
-    subst (λ (y : ToServer). HasServed s y t c.args.sent.now.items c.send_to_clients.new.sent.items c.args.writes.now.items c.match-applied.writes.items) (sym e)
-    (served_by s t x c.in_ok-out.out.messages c.args.sent.now.items c.send_to_clients.new.sent.items c.args.writes.now.items c.match-applied.writes.items c.applied_by-applied.result c.in_ok-out.ensures.stepped.step (c.send_to_clients.ensures ∙ ap (λ xs. xs ++ from_server c.in_ok-out.out.messages) c.reserve.ensures.items) noted written)
+    let written : c.note.new.writes.items ≡ c.args.writes.now.items ++ as_list c.applied_by-applied.result =
+    c.note.ensures ∙ ap (λ xs. xs ++ as_list c.applied_by-applied.result) c.reserve-2.ensures.items in
+    subst (λ (y : ToServer). HasServed s y t c.args.sent.now.items c.send_to_clients.new.sent.items c.args.writes.now.items c.note.new.writes.items) (sym e)
+    (served_by s t x c.in_ok-out.out.messages c.args.sent.now.items c.send_to_clients.new.sent.items c.args.writes.now.items c.note.new.writes.items c.applied_by-applied.result c.in_ok-out.ensures.stepped.step (c.send_to_clients.ensures ∙ ap (λ xs. xs ++ from_server c.in_ok-out.out.messages) c.reserve.ensures.items) noted written)
 
 pub send_to_clients-requires : goal.send_to_clients-requires
 unfolding most_messages

@@ -12,7 +12,7 @@ invariant_of-client c = record {
   seen = omega arith;
   req = omega arith;
   writes = omega arith;
-  asked = λ point mode e. absurd (cc);
+  asked = λ point hi mode e. absurd (cc);
   written = λ change e. absurd (cc);
   pins = λ id s e. absurd (let bad : None ≡ Some s = subst (λ (xs : List (Option Bounds)). pins_of xs id ≡ Some s) c.new-2.ensures e in cc);
   belief = subst (λ (b : Belief). IsBelief b) (sym c.new.ensures) calls_keep_belief.new;

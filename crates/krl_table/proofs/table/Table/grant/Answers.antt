@@ -1,52 +1,41 @@
-use Rattle.std.proofs.Common.{◌≡◌, ◌<◌, true, Option, Some, None, IsSome, IfSome, sym, subst}
-use Rattle.std.specs.FinMap.{get, insert}
-use Rattle.krl_queue.specs.declared.waiter.Waiter.{Waiter}
-use Rattle.krl_table.specs.declared.row.SlotRow.{SlotRow}
-use Rattle.krl_table.specs.Rows.{front_of}
-use Rattle.krl_table.specs.Replies.{can_have}
-use Rattle.krl_table.specs.Kept.{table, row_there, rows_of, granted_row, IsSound, AreListed}
-use Rattle.krl_table.proofs.Means.{alike_over}
-use Rattle.krl_table.proofs.Fronts.{front_client, granted_is, granted_alike, granted_sound, granted_listed}
+use Rattle.std.proofs.Common.{◌≡◌, ℕ, List, ◌-◌, ◌++◌, [], ◌∷◌, Option, Some, None, IfSome, length, sym, ap, ◌∙◌}
+use Rattle.std.proofs.Math.Path.{fun_ext}
+use Rattle.krl_table.specs.Rows.{Rows}
+use Rattle.krl_table.specs.Calls.{raised_on, granted_first}
+use Rattle.krl_table.specs.Grants.{taken_after}
+use Rattle.krl_table.specs.Kept.{rows_of}
+use Rattle.krl_table.proofs.Raises.{granted_from, taken_from}
 use Rattle.krl_table.proofs.table.Table.grant.Goals as goal
 
-asks : (o : Option SlotRow) → IsSome o → IfSome (front_of (row_there o).queue) (λ w. w.client < 64) → IfSome o (λ row. IfSome (front_of row.queue) (λ w. w.client < 64))
-asks None h e = absurd (cc)
-asks (Some r) h e = e
+one_noted : (old new : List ℕ) (k : ℕ) → old ≡ [] → new ≡ old ++ k ∷ [] → 8 - length new ≡ 7
+one_noted old new k e f = ap (λ l. 8 - length l) (f ∙ ap (λ l. l ++ k ∷ []) e)
 
-told : (o : Option SlotRow) (x : Option Waiter) → IsSome o → IfSome o (λ row. x ≡ front_of row.queue) → x ≡ front_of (row_there o).queue
-told None x h e = absurd (cc)
-told (Some r) x h e = e
+unwrapped : (o : Option ℕ) (x k : ℕ) → o ≡ Some x → IfSome o (λ p. p ≡ k) → x ≡ k
+unwrapped None x k e h = absurd (cc)
+unwrapped (Some y) x k e h = let same : y ≡ x = cc in sym same ∙ h
 
-client : (x o : Option Waiter) → x ≡ o → IfSome o (λ w. w.client < 64) → IfSome x (λ w. w.client < 64)
-client x o e h = subst (λ y. IfSome y (λ w. w.client < 64)) (sym e) h
+pub unwrap-requires : goal.unwrap-requires
+unwrap-requires c = c.new.ensures.in_range.1 c.grant_first.ensures.end
 
-pub grant-first-requires : goal.grant-first-requires
-grant-first-requires c =
-    let t = table c.self.inside.rows in let k = c.args.slot in
-    let some = subst (λ x. IsSome (get x k)) (sym c.self.view_is) c.requires.there in
-    record { there = some; client = asks (get t k) some (front_client t k c.self.invariant.0) }
+pub returns-in-Some-clause-granted : goal.returns-in-Some-clause-granted
+returns-in-Some-clause-granted c m over n =
+    let rows = rows_of c.args.self.now in let w = c.in-Some.waiter in let k = c.args.slot in
+    let first : rows_of c.grant_first.new.self ≡ granted_first rows k = fun_ext c.grant_first.ensures.granted in
+    let many : 8 - length c.push.new.self.items ≡ 7 = one_noted c.new-taken.result.items c.push.new.self.items _ c.new-taken.ensures c.push.ensures.items in
+    ap (λ (r : Rows). r n) (c.go_on.ensures.rows m (c.grant_first.ensures.slots m over)
+    ∙ ap (λ j. raised_on (rows_of c.grant_first.new.self) (taken_after m (rows_of c.grant_first.new.self) k w j) w) many
+    ∙ ap (λ (r : Rows). raised_on r (taken_after m r k w 7) w) first
+    ∙ sym (granted_from m rows k w (sym c.front.ensures.front ∙ c.in-Some.is)))
 
-pub leave-requires : goal.leave-requires
-leave-requires c =
-    let t = table c.self.inside.rows in let k = c.args.slot in
-    let some = subst (λ x. IsSome (get x k)) (sym c.self.view_is) c.requires.there in
-    client c.grant-first.result (front_of (rows_of t k).queue) (told (get t k) c.grant-first.result some c.grant-first.ensures.waiter) (front_client t k c.self.invariant.0)
-
-pub invariant_of-self : goal.invariant_of-self
-invariant_of-self c =
-    let t = table c.self.inside.rows in let u = table c.grant-first.new.rows in let k = c.args.slot in
-    let some = subst (λ x. IsSome (get x k)) (sym c.self.view_is) c.requires.there in (
-      granted_sound t u k c.self.invariant.0 some c.grant-first.ensures.row (subst (λ x. IfSome (front_of (rows_of x k).queue) (λ w. can_have (rows_of x) k w ≡ true)) (sym c.self.view_is) c.requires.fits),
-      subst (λ l. AreListed l u) (sym c.leave.ensures) (granted_listed t u k c.self.invariant.0 some c.grant-first.ensures.row c.self.inside.waiting.by_client c.grant-first.result
-          (told (get t k) c.grant-first.result some c.grant-first.ensures.waiter) c.self.invariant.1),
-    )
-
-pub returns-clause-granted : goal.returns-clause-granted
-returns-clause-granted c =
-    let t = c.args.self.now in let u = table c.grant-first.new.rows in let k = c.args.slot in
-    granted_is t u k (subst IsSound c.self.view_is c.self.invariant.0) c.requires.there (subst (λ x. IfSome (get x k) (λ row. u ≡ insert x k (granted_row row))) c.self.view_is c.grant-first.ensures.row)
-
-pub returns-clause-slots : goal.returns-clause-slots
-returns-clause-slots c m =
-    let t = c.args.self.now in let u = table c.grant-first.new.rows in let k = c.args.slot in
-    alike_over m t u (granted_alike t u k (subst IsSound c.self.view_is c.self.invariant.0) c.requires.there (subst (λ x. IfSome (get x k) (λ row. u ≡ insert x k (granted_row row))) c.self.view_is c.grant-first.ensures.row))
+pub returns-in-Some-clause-taken : goal.returns-in-Some-clause-taken
+returns-in-Some-clause-taken c m over =
+    let rows = rows_of c.args.self.now in let w = c.in-Some.waiter in let k = c.args.slot in
+    let first : rows_of c.grant_first.new.self ≡ granted_first rows k = fun_ext c.grant_first.ensures.granted in
+    let many = one_noted c.new-taken.result.items c.push.new.self.items _ c.new-taken.ensures c.push.ensures.items in
+    let at : c.unwrap.result ≡ k = unwrapped c.new.result c.unwrap.result k c.unwrap.ensures c.new.ensures.point in
+    c.go_on.ensures.taken m (c.grant_first.ensures.slots m over)
+    ∙ ap (λ l. l ++ taken_after m (rows_of c.grant_first.new.self) k w (8 - length c.push.new.self.items)) (c.push.ensures.items ∙ ap (λ l. l ++ c.unwrap.result ∷ []) c.new-taken.ensures)
+    ∙ ap (λ i. i ∷ taken_after m (rows_of c.grant_first.new.self) k w (8 - length c.push.new.self.items)) at
+    ∙ ap (λ j. k ∷ taken_after m (rows_of c.grant_first.new.self) k w j) many
+    ∙ ap (λ (r : Rows). k ∷ taken_after m r k w 7) first
+    ∙ sym (taken_from m rows k w (sym c.front.ensures.front ∙ c.in-Some.is))

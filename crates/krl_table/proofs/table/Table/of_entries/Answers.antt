@@ -18,7 +18,7 @@ overflow_add-low c =
     let es = c.args.entries.now in let ks = map (λ e. e.0) es in let i = c.loop-key.key-index in
     let many = as_many es in let lt : i < length ks = omega (arith, many) in
     let has = subst (AreKeys c.loop-key.low) (parted ks i lt) c.loop-key.invariant.keys in
-    let under : (slice_index_or es i (0, 0)).0 < END = subst (λ k. k < END) (its_key es i) has.1 in
+    let under : c.loop-key-item.result.0 < END = subst (λ k. k < END) (its_key es i c.loop-key-item.result (omega (arith, many, lt)) c.loop-key-item.is) has.1 in
     omega (arith, under)
 
 pub loop-key-preserved : goal.loop-key-preserved
@@ -27,8 +27,8 @@ loop-key-preserved c =
     let many = as_many es in let lt : i < length ks = omega (arith, many) in
     let more : take i ks ++ k ∷ [] ≡ take (i + 1) ks = sym (take_more ks i 0 lt) in
     let has = subst (AreKeys c.loop-key.low) (parted ks i lt) c.loop-key.invariant.keys in
-    let is = its_key es i in
-    let one : suc k ≡ (slice_index_or es i (0, 0)).0 + 1 = omega (arith, is) in
+    let is = its_key es i c.loop-key-item.result (omega (arith, many, lt)) c.loop-key-item.is in
+    let one : suc k ≡ c.loop-key-item.result.0 + 1 = omega (arith, is) in
     let put = c.in_ok-put.ensures.put ∙ ap (λ q. Rattle.std.specs.FinMap.insert (table c.loop-key.rows) q c.blank.result) (sym is) in
     let built = more_built (table c.loop-key.rows) (table c.put.new.rows) c.loop-key.low k c.blank.result (take i ks) (drop i ks) c.loop-key.invariant has.0 put c.blank.ensures.low c.blank.ensures.full c.blank.ensures.row c.blank.ensures.told (drop (i + 1) ks) has.1 has.2 in
     subst (λ l. IsBuilt (table c.put.new.rows) l (take (i + 1) ks) (drop (i + 1) ks)) one (subst (λ l. IsBuilt (table c.put.new.rows) (suc k) l (drop (i + 1) ks)) more built)

@@ -3,6 +3,7 @@ use Rattle.std.specs.FinMap.{get, insert}
 use Rattle.krl_modes.specs.declared.point.TheConstants.{END}
 use Rattle.krl_modes.specs.Parts.{lets_insert}
 use Rattle.krl_modes.specs.Modes.{range_of}
+use Rattle.krl_messages.specs.Values.{Value}
 use Rattle.krl_durable.specs.Index.{Index, slot_of}
 use Rattle.krl_table.specs.declared.row.SlotRow.{SlotRow}
 use Rattle.krl_table.specs.Rows.{mode_at}
@@ -68,16 +69,16 @@ module _ (t end : Kept) (k s c : ℕ) (shape : Shape t end k s c) (sound : IsSou
   means : (m : Index) → IsOver m t → (n : ℕ) → rows_of end n ≡ split m (rows_of t) k c n
   means m over = split_means t end k s shape.r shape.x shape.here shape.free shape.parted sound.whole shape.next shape.low shape.full c client shape.modes shape.alone m over (omega (arith, lt))
 
-  over_end : (m : Index) (v : ℕ) → IsOver m t → IsOver (insert m k v) end
+  over_end : (m : Index) (v : Value) → IsOver m t → IsOver (insert m k v) end
   over_end m v over = split_over t end k s shape.r shape.x shape.here shape.free shape.parted sound.whole shape.next shape.low shape.full m over v
 
-  ranges : (m : Index) (v : ℕ) → IsOver m t → (d p : ℕ) → range_at (insert m k v) (rows_of end) d p ≡ range_at m (rows_of t) d p
+  ranges : (m : Index) (v : Value) → IsOver m t → (d p : ℕ) → range_at (insert m k v) (rows_of end) d p ≡ range_at m (rows_of t) d p
   ranges m v over = split_ranges m t end k c v over (over_end m v over) (means m over) shape.free (omega (arith, lt)) (may m over) (λ d ne. sound.beside (slot_of m k) c d (λ e. ne (sym e)))
 
-  keys : (m : Index) (v : ℕ) → IsOver m t → (d p : ℕ) → (p ≢ k) ⊎ (d ≢ c) → key_at (insert m k v) (rows_of end) d p ≡ key_at m (rows_of t) d p
+  keys : (m : Index) (v : Value) → IsOver m t → (d p : ℕ) → (p ≢ k) ⊎ (d ≢ c) → key_at (insert m k v) (rows_of end) d p ≡ key_at m (rows_of t) d p
   keys m v over = split_keys m t end k c v over (over_end m v over) (means m over) shape.free (omega (arith, lt)) (may m over) (λ d ne. sound.beside (slot_of m k) c d (λ e. ne (sym e)))
 
-  own : (m : Index) (v : ℕ) → IsOver m t → key_at (insert m k v) (rows_of end) c k ≡ key_part.X
+  own : (m : Index) (v : Value) → IsOver m t → key_at (insert m k v) (rows_of end) c k ≡ key_part.X
   own m v over = split_own m t end k c v over (over_end m v over) (means m over) shape.free (omega (arith, lt)) (may m over) (λ d ne. sound.beside (slot_of m k) c d (λ e. ne (sym e)))
 
 shape_of : (t end : Kept) (k s c : ℕ) (r x : SlotRow) → get t s ≡ Some r → get t k ≡ None → IsNext t k s → x.low ≡ r.low → length x.modes ≡ 64 → x.told ≡ nothing → x.queue ≡ [] → ((d : ℕ) → d < 64 → mode_of x.modes d ≡ split_modes (mode_of r.modes) c d) → IfSome (get t s) (λ old. IsParted t end k s old x) → Shape t end k s c
@@ -125,7 +126,7 @@ returns-clause-slots c =
     let y = c.split-row.ensures in let sound = c.self.invariant.0 in
     let may : (m : Index) → IsOver m t → MayInsert (rows_of t) (slot_of m k) d = subst (λ z. (m : Index) → IsOver m z → MayInsert (rows_of z) (slot_of m k) d) (sym c.self.view_is) c.requires.may in
     let shape = shape_of t end k s d r x here free c.next-slot.ensures y.low y.full y.told y.queue y.modes in
-    on_ok c.part.result c.part.ensures.parted (λ p. subst (λ z. (m : Index) (v : ℕ) → IsOver m z → IsOver (insert m k v) end) c.self.view_is (over_end t end k s d (shape p) sound c.requires.client c.requires.key may))
+    on_ok c.part.result c.part.ensures.parted (λ p. subst (λ z. (m : Index) (v : Value) → IsOver m z → IsOver (insert m k v) end) c.self.view_is (over_end t end k s d (shape p) sound c.requires.client c.requires.key may))
 
 pub returns-clause-ranges : goal.returns-clause-ranges
 returns-clause-ranges c =
@@ -135,7 +136,7 @@ returns-clause-ranges c =
     let y = c.split-row.ensures in let sound = c.self.invariant.0 in
     let may : (m : Index) → IsOver m t → MayInsert (rows_of t) (slot_of m k) d = subst (λ z. (m : Index) → IsOver m z → MayInsert (rows_of z) (slot_of m k) d) (sym c.self.view_is) c.requires.may in
     let shape = shape_of t end k s d r x here free c.next-slot.ensures y.low y.full y.told y.queue y.modes in
-    on_ok c.part.result c.part.ensures.parted (λ p. subst (λ z. (m : Index) (v : ℕ) → IsOver m z → (e q : ℕ) → range_at (insert m k v) (rows_of end) e q ≡ range_at m (rows_of z) e q) c.self.view_is (ranges t end k s d (shape p) sound c.requires.client c.requires.key may))
+    on_ok c.part.result c.part.ensures.parted (λ p. subst (λ z. (m : Index) (v : Value) → IsOver m z → (e q : ℕ) → range_at (insert m k v) (rows_of end) e q ≡ range_at m (rows_of z) e q) c.self.view_is (ranges t end k s d (shape p) sound c.requires.client c.requires.key may))
 
 pub returns-clause-keys : goal.returns-clause-keys
 returns-clause-keys c =
@@ -145,7 +146,7 @@ returns-clause-keys c =
     let y = c.split-row.ensures in let sound = c.self.invariant.0 in
     let may : (m : Index) → IsOver m t → MayInsert (rows_of t) (slot_of m k) d = subst (λ z. (m : Index) → IsOver m z → MayInsert (rows_of z) (slot_of m k) d) (sym c.self.view_is) c.requires.may in
     let shape = shape_of t end k s d r x here free c.next-slot.ensures y.low y.full y.told y.queue y.modes in
-    on_ok c.part.result c.part.ensures.parted (λ p. subst (λ z. (m : Index) (v : ℕ) → IsOver m z → (e q : ℕ) → (q ≢ k) ⊎ (e ≢ d) → key_at (insert m k v) (rows_of end) e q ≡ key_at m (rows_of z) e q) c.self.view_is (keys t end k s d (shape p) sound c.requires.client c.requires.key may))
+    on_ok c.part.result c.part.ensures.parted (λ p. subst (λ z. (m : Index) (v : Value) → IsOver m z → (e q : ℕ) → (q ≢ k) ⊎ (e ≢ d) → key_at (insert m k v) (rows_of end) e q ≡ key_at m (rows_of z) e q) c.self.view_is (keys t end k s d (shape p) sound c.requires.client c.requires.key may))
 
 pub returns-clause-own : goal.returns-clause-own
 returns-clause-own c =
@@ -155,7 +156,7 @@ returns-clause-own c =
     let y = c.split-row.ensures in let sound = c.self.invariant.0 in
     let may : (m : Index) → IsOver m t → MayInsert (rows_of t) (slot_of m k) d = subst (λ z. (m : Index) → IsOver m z → MayInsert (rows_of z) (slot_of m k) d) (sym c.self.view_is) c.requires.may in
     let shape = shape_of t end k s d r x here free c.next-slot.ensures y.low y.full y.told y.queue y.modes in
-    on_ok c.part.result c.part.ensures.parted (λ p. subst (λ z. (m : Index) (v : ℕ) → IsOver m z → key_at (insert m k v) (rows_of end) d k ≡ key_part.X) c.self.view_is (own t end k s d (shape p) sound c.requires.client c.requires.key may))
+    on_ok c.part.result c.part.ensures.parted (λ p. subst (λ z. (m : Index) (v : Value) → IsOver m z → key_at (insert m k v) (rows_of end) d k ≡ key_part.X) c.self.view_is (own t end k s d (shape p) sound c.requires.client c.requires.key may))
 
 pub returns-clause-refused : goal.returns-clause-refused
 returns-clause-refused c = on_err c.part.result c.part.ensures.refused (λ e. e ∙ c.self.view_is)

@@ -1,7 +1,8 @@
 use Rattle.std.proofs.Common.{sym, subst}
+use Rattle.krl_world.specs.States.{unused}
 use Rattle.krl_world.specs.Steps.{IsReachable}
 use Rattle.krl_world.proofs.Shapes.{reachable_stays}
 use Rattle.krl_world.proofs.world.World.new.Goals as goal
 
 pub invariant_of-result : goal.invariant_of-result
-invariant_of-result c = let e = c.in_ok-nodes.ensures in subst IsReachable (sym e.1) (reachable_stays.first c.args.entries.items e.0)
+invariant_of-result c = let e = c.in_ok-nodes.ensures in subst IsReachable (sym e.2) (reachable_stays.first (unused c.args.entries.items) e.1)

@@ -1,12 +1,13 @@
-use Rattle.std.proofs.Common.{arith}
+use Rattle.std.proofs.Common.{arith, subst}
 use Rattle.krl_world.specs.Fields.{meaning}
+use Rattle.krl_world.specs.Steps.{Steps}
 use Rattle.krl_world.proofs.Runs.{run_steps, run_ends}
 use Rattle.krl_world.proofs.world.World.run.Goals as goal
 
 pub loop-step-preserved : goal.loop-step-preserved
 loop-step-preserved c = record {
   goes =
-      run_steps (meaning c.args.self.now) (meaning c.loop-step.self) (meaning c.step.new.self) c.args.steps.now c.loop-step.step-index _ c.loop-step.answers.items _ c.step.result c.loop-step-test.true c.loop-step.invariant.goes c.step.ensures.steps
+      run_steps (meaning c.args.self.now) (meaning c.loop-step.self) (meaning c.step.new.self) c.args.steps.now c.loop-step.step-index c.step-item.result c.loop-step.answers.items _ c.step.result c.loop-step-test.true c.loop-step.invariant.goes (subst (λ s. Steps (meaning c.loop-step.self) s c.step.result (meaning c.step.new.self)) c.step-item.is c.step.ensures.steps)
       c.push_reserved.ensures.items;
   counted = omega arith;
   room = omega arith;

@@ -1,0 +1,36 @@
+-- The exit status of each ending.
+use Rattle.std.specs.Prelude.{◌≡◌, ◌⊎◌, ℕ, Bool, true, false, List, Result, Ok, Err}
+use Rattle.std.specs.Io.KnownBytes.{Appends}
+use Rattle.clap.specs.declared.error.kind.ErrorKind.{ErrorKind}
+use Rattle.clap.specs.declared.error.kind.ErrorKind.TheVariants.{OutOfMemory}
+use Rattle.krl_script.specs.declared.fault.ScriptFault.{ScriptFault}
+use Rattle.krl_script.specs.Runs.{Known, Ran}
+use Rattle.krl_script.specs.RandomRuns.{WroteFrontOf}
+
+-- of a script: 0 where its last line was run, else 1
+abbrev pub script_status : Result (Unit {0}) ScriptFault → ℕ
+script_status (Ok done) = 0
+script_status (Err fault) = 1
+
+-- of a random run: 0 where all was sound, else 1
+abbrev pub random_status : {A : Type 0} → Result (A × Bool) ScriptFault → ℕ
+random_status (Ok (w, true)) = 0
+random_status (Ok (w, false)) = 1
+random_status (Err fault) = 1
+
+-- Of a command line that asks for no run: 1 where memory ran out, else 2. Words that ask for help
+-- are such a line.
+abbrev pub words_status : ErrorKind → ℕ
+words_status OutOfMemory = 1
+words_status other = 2
+
+-- A script was run, with this status.
+abbrev pub RanTo : Known → Known → Known → Known → ℕ → Type 0
+RanTo unread left before after status =
+    (ended : Result (Unit {0}) ScriptFault) × Ran unread left before after ended
+    × (status ≡ script_status ended)
+
+-- The line of a random run was written, and the status is 0; or a front of it was, and it is 1.
+abbrev pub DroveTo : Known → Known → List ℕ → ℕ → Type 0
+DroveTo before after line status =
+    ((status ≡ 0) × Appends before after line) ⊎ ((status ≡ 1) × WroteFrontOf before after line)

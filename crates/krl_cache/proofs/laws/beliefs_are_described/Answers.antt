@@ -1,5 +1,0 @@
-use Rattle.krl_cache.proofs.Described.{beliefs_are_described}
-use Rattle.krl_cache.proofs.laws.beliefs_are_described.Goals as goal
-
-pub returns : goal.returns
-returns c = beliefs_are_described

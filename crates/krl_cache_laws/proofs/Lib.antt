@@ -1,0 +1,5 @@
+mod Clipped
+mod Picked
+mod Listed
+mod RunsLemmas
+mod Agreement

@@ -1,0 +1,5 @@
+use Rattle.krl_cache_laws.proofs.Agreement.{runs_agree}
+use Rattle.krl_cache_laws.proofs.runs_agree.Goals as goal
+
+pub returns : goal.returns
+returns c = runs_agree

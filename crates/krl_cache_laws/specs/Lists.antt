@@ -1,0 +1,48 @@
+-- A cache kept in plain lists: pieces in order, entries in the order of their points.
+use Rattle.std.specs.Prelude.{◌≡◌, ℕ, ◌≤◌, ◌<◌, true, min, max, nat_lt, List, Option, Some, None, if◌then◌else◌}
+use Rattle.std.specs.Ordering.{nat_cmp}
+use Rattle.std.specs.FinMap.{find}
+use Rattle.krl_modes.specs.declared.point.TheConstants.{TOP}
+use Rattle.krl_modes.specs.declared.part.RangePart.{RangePart}
+use Rattle.krl_modes.specs.Parts.{range_meet}
+use Rattle.krl_messages.specs.declared.range_pieces.RangePiece.{RangePiece}
+use Rattle.krl_cache.specs.declared.entry.Entry.{Entry}
+use Rattle.krl_cache.specs.Beliefs.{Belief, is_covered}
+use Rattle.krl_cache.specs.Kept.{range_said}
+use Rattle.krl_cache.specs.Lists.{belief_by, StandWithin, RiseWithin, AreRead}
+
+-- what of a piece lies from lo on below hi, lowered
+abbrev pub clip : ℕ → ℕ → RangePart → RangePiece → Option RangePiece
+clip lo hi keep x =
+    if nat_lt (max x.span.lo lo) (min x.span.hi hi)
+    then Some (record {
+      span = record { lo = max x.span.lo lo; hi = min x.span.hi hi };
+      part = range_meet x.part keep;
+    })
+    else None
+
+pub record Lists : Type 0 where
+  pub ranges : List RangePiece
+  pub entries : List (ℕ × Entry)
+
+abbrev pub lists_believe : Lists → Belief
+lists_believe x = belief_by (range_said x.ranges) (λ p. find nat_cmp p x.entries)
+
+-- entries in the order of their points, none past END, each read
+pub record ArePlaced (es : List (ℕ × Entry)) : Type 0 where
+  pub rise : RiseWithin 0 TOP es
+  pub read : AreRead es
+
+pub record AreKept (x : Lists) : Type 0 where
+  pub ranges : StandWithin 0 TOP x.ranges
+  pub entries : ArePlaced x.entries
+
+-- the part holds at each point from p on below the end
+pub record Holds (f : ℕ → RangePart) (p : ℕ) (part : RangePart) (end : ℕ) : Type 0 where
+  pub more : p < end
+  pub holds : (q : ℕ) → p ≤ q → q < end → f q ≡ part
+
+-- each point from p on below the end is known
+pub record KnowsFrom (b : Belief) (p end : ℕ) : Type 0 where
+  pub more : p < end
+  pub knows : (q : ℕ) → p ≤ q → q < end → is_covered b q ≡ true

@@ -1,0 +1,43 @@
+//! What holds of every cache: a plain form beside the one that is used, and runs of calls, which
+//! both answer alike.
+#![tactic(auto)]
+
+ghost use Rattle.krl_cache.specs.Beliefs.{CallsKeepBelief, RowsAreDetermined, ScansAreDetermined};
+ghost use Rattle.krl_cache.specs.Kept.{BeliefsAreDescribed};
+ghost use Rattle.krl_cache_laws.specs.Runs.{RunsAgree};
+
+mod entries;
+mod pieces;
+mod plain;
+mod run;
+
+pub use plain::PlainCache;
+pub use run::{CacheCall, CacheReply, run_cache};
+
+/// To believe nothing is a belief, and adopting and lowering leave one: a value stands exactly
+/// where the entry is read below END, and nothing stands past END.
+pub fn calls_keep_belief()
+    ensures { CallsKeepBelief }
+{}
+
+/// Some pieces describe each belief. A call of a cache that gives its pieces takes memory; this one
+/// gives none, and says that there are some.
+pub fn beliefs_are_described()
+    ensures { BeliefsAreDescribed }
+{}
+
+/// A scan has one list of rows.
+pub fn rows_of_a_scan()
+    ensures { RowsAreDetermined }
+{}
+
+/// A scan finds one thing.
+pub fn scans_are_determined()
+    ensures { ScansAreDetermined }
+{}
+
+/// Two runs of the same calls from one belief, on whatever forms of a cache, answer alike and leave
+/// one belief, where no memory is refused.
+pub fn runs_agree()
+    ensures { RunsAgree }
+{}

@@ -1,0 +1,128 @@
+//! Pieces in order, in a plain list.
+ghost use Rattle.std.specs.Prelude.{◌≡◌, ◌≤◌, ◌<◌, ◌++◌, ℕ, true, IfOk, OnOk, if◌then◌else◌};
+ghost use Rattle.std.specs.List.{filter_map, find as list_find};
+ghost use Rattle.krl_modes.specs.declared.point.TheConstants.{TOP};
+ghost use Rattle.krl_modes.specs.Parts.{range_meet};
+ghost use Rattle.krl_modes.specs.Spans.{contains};
+ghost use Rattle.krl_cache.specs.Beliefs as beliefs;
+ghost use Rattle.krl_cache.specs.Kept.{range_said};
+ghost use Rattle.krl_cache.specs.Lists.{StandWithin};
+ghost use Rattle.krl_cache_laws.specs.Lists.{clip, Holds};
+
+use krl_messages::RangePiece;
+use krl_modes::{RangePart, Span, TOP};
+use std::alloc::{AllocError, Global};
+
+// What of a piece lies from `lo` on below `hi`, lowered.
+fn clip(piece: &RangePiece, lo: u64, hi: u64, keep: RangePart) -> Option<RangePiece>
+    requires { hi ≤ TOP }
+    ensures { result ≡ clip lo hi keep piece.now }
+{
+    let from = piece.span.lo().max(lo);
+    let to = piece.span.hi().min(hi);
+    match Span::new(from, to) {
+        Ok(span) => Some(RangePiece {
+            span,
+            part: piece.part.meet(keep),
+        }),
+        Err(_) => None,
+    }
+}
+
+// Adds what of the pieces lies from `lo` on below `hi`, lowered.
+fn add_pieces(
+    list: &mut Vec<RangePiece>,
+    pieces: &[RangePiece],
+    lo: u64,
+    hi: u64,
+    keep: RangePart,
+) -> Result<(), AllocError>
+    requires { hi ≤ TOP }
+    ensures { OnOk result
+        (list.new.items ≡ list.old.items ++ filter_map (clip lo hi keep) pieces.now) }
+{
+    for piece in pieces {
+        if let Some(part) = clip(piece, lo, hi, keep) {
+            list.push(part)?;
+        }
+    }
+    Ok(())
+}
+
+// The pieces, with a part on a span in place of what was there.
+pub fn pieces_with(
+    alloc: Global,
+    pieces: &[RangePiece],
+    span: Span,
+    part: RangePart,
+) -> Result<Vec<RangePiece>, AllocError>
+    requires { StandWithin 0 TOP pieces.now }
+    ensures span { beliefs.is_span span ≡ true }
+    ensures stand { IfOk result (λ list. StandWithin 0 TOP list.items) }
+    ensures said { IfOk result
+        (λ list. (p : ℕ) → range_said list.items p
+        ≡ (if contains span p then part else range_said pieces.now p)) }
+{
+    let lo = span.lo();
+    let hi = span.hi();
+    let mut list = Vec::new(alloc);
+    add_pieces(&mut list, pieces, 0, lo, RangePart::X)?;
+    list.push(RangePiece { span, part })?;
+    add_pieces(&mut list, pieces, hi, TOP, RangePart::X)?;
+    Ok(list)
+}
+
+// The pieces, lowered on a span.
+pub fn pieces_lowered(
+    alloc: Global,
+    pieces: &[RangePiece],
+    span: Span,
+    keep: RangePart,
+) -> Result<Vec<RangePiece>, AllocError>
+    requires { StandWithin 0 TOP pieces.now }
+    ensures stand { IfOk result (λ list. StandWithin 0 TOP list.items) }
+    ensures said { IfOk result
+        (λ list. (p : ℕ) → range_said list.items p
+        ≡ (if contains span p
+        then range_meet (range_said pieces.now p) keep else range_said pieces.now p)) }
+{
+    let lo = span.lo();
+    let hi = span.hi();
+    let mut list = Vec::new(alloc);
+    add_pieces(&mut list, pieces, 0, lo, RangePart::X)?;
+    add_pieces(&mut list, pieces, lo, hi, keep)?;
+    add_pieces(&mut list, pieces, hi, TOP, RangePart::X)?;
+    Ok(list)
+}
+
+// The first piece over the point.
+fn piece_at(pieces: &[RangePiece], p: u64) -> Option<RangePiece>
+    ensures { result ≡ list_find (λ x. contains x.span p) pieces.now }
+{
+    pieces
+        .iter()
+        .copied()
+        .find(|piece| piece.span.lo() <= p && p < piece.span.hi())
+}
+
+// The range part at the point, and an end of points from it on where it holds.
+pub fn part_from(pieces: &[RangePiece], p: u64) -> (RangePart, u64)
+    requires stand { StandWithin 0 TOP pieces.now }
+    requires point { p < TOP }
+    ensures { Holds (range_said pieces.now) p result.0 result.1 }
+{
+    match piece_at(pieces, p) {
+        Some(piece) => (piece.part, piece.span.hi()),
+        None => (RangePart::N, p + 1),
+    }
+}
+
+// The range part at the point.
+pub fn part_at(pieces: &[RangePiece], p: u64) -> RangePart
+    ensures { result ≡ range_said pieces.now p }
+{
+    match piece_at(pieces, p) {
+        Some(piece) => piece.part,
+        None => RangePart::N,
+    }
+}

@@ -1,0 +1,234 @@
+//! Calls of a cache, one after another, and what each gives. Where an allocation is refused, a cache
+//! believes what it believed, and the refused call is made again.
+use krl_cache::{Belief, Scanned};
+use krl_messages::{Holding, Holdings, KeyPiece, Pieces, RangePiece, Value};
+use krl_modes::{END, KeyPart, Mode, RangePart, Span};
+use std::alloc::Global;
+
+// The bytes of a value.
+pub type Bytes = &'static [u8];
+
+// A holding, by the ends of its span.
+pub type Held = (u64, u64, Mode, Option<Bytes>);
+
+// A call, by the ends of its span.
+pub enum Ask {
+    Adopt(u64, u64, Mode, Option<Bytes>),
+    AdoptAll(&'static [Held]),
+    Lower(u64, u64, Mode),
+    Scan(u64, u64),
+    At(u64),
+    Pieces,
+}
+
+// What it gives.
+pub enum Gives {
+    Done,
+    Rows(&'static [(u64, Bytes)]),
+    Miss(u64),
+    Here(RangePart, KeyPart, Option<Bytes>),
+    Told(&'static [(u64, u64, RangePart)], &'static [(u64, KeyPart)]),
+}
+
+static POINTS: [u64; 9] = [0, 3, 4, 5, 7, 10, 11, 20, END];
+
+// What is believed at a point.
+fn at<B: Belief>(cache: &B, p: u64) -> (RangePart, KeyPart, Option<Value>) {
+    (cache.range_at(p), cache.key_at(p), cache.value_at(p))
+}
+
+// What is believed at the points that the rows speak of.
+fn seen<B: Belief>(cache: &B) -> [(RangePart, KeyPart, Option<Value>); 9] {
+    let mut all = [(RangePart::N, KeyPart::N, None); 9];
+    for i in 0..9usize {
+        all[i] = at(cache, POINTS[i]);
+    }
+    all
+}
+
+// Whether the holding is adopted, perhaps the second time, and a refusal changes nothing.
+fn adopts<B: Belief>(cache: &mut B, holding: Holding) -> bool {
+    let judged = holding;
+    let again = holding;
+    if !judged.has_its_value() {
+        return false;
+    }
+    let before = seen(cache);
+    cache.adopt(holding).is_ok() || (seen(cache) == before && cache.adopt(again).is_ok())
+}
+
+// The value of these bytes. None where they are more than 32.
+fn value_of(bytes: Option<Bytes>) -> Option<Option<Value>> {
+    match bytes {
+        Some(bytes) => Some(Some(Value::new(bytes)?)),
+        None => Some(None),
+    }
+}
+
+fn holding(held: Held) -> Option<Holding> {
+    let (lo, hi, mode, bytes) = held;
+    let value = value_of(bytes)?;
+    match Span::new(lo, hi) {
+        Ok(span) => Some(Holding { span, mode, value }),
+        Err(_) => None,
+    }
+}
+
+// Puts the holding behind the others, where there is room and its span begins behind theirs.
+fn puts(holdings: &mut Holdings, holding: Holding) -> bool {
+    let before = holdings.as_slice();
+    let Some(last) = before.last() else {
+        return false;
+    };
+    if before.len() >= 8 || last.span.hi() > holding.span.lo() {
+        return false;
+    }
+    holdings.push(holding);
+    true
+}
+
+// These holdings, where they are 1 to 8 in ascending order.
+fn listed(all: &[Held]) -> Option<Holdings> {
+    let (first, rest) = all.split_first()?;
+    let mut holdings = Holdings::one(holding(*first)?);
+    for held in rest {
+        if !puts(&mut holdings, holding(*held)?) {
+            return None;
+        }
+    }
+    Some(holdings)
+}
+
+// Whether they are all adopted, perhaps the second time, and a refusal changes nothing.
+fn adopts_all<B: Belief>(cache: &mut B, holdings: &Holdings) -> bool {
+    if !holdings.have_values() {
+        return false;
+    }
+    let before = seen(cache);
+    cache.adopt_all(holdings).is_ok()
+        || (seen(cache) == before && cache.adopt_all(holdings).is_ok())
+}
+
+fn lowers<B: Belief>(cache: &mut B, span: Span, keep: Mode) -> bool {
+    let before = seen(cache);
+    cache.lower(span, keep).is_ok() || (seen(cache) == before && cache.lower(span, keep).is_ok())
+}
+
+fn are_rows(rows: &[(u64, Value)], expected: &[(u64, Bytes)]) -> bool {
+    rows.len() == expected.len()
+        && rows
+            .iter()
+            .zip(expected.iter())
+            .all(|(row, told)| row.0 == told.0 && row.1.bytes() == told.1)
+}
+
+pub fn has_rows(found: &Scanned, expected: &[(u64, Bytes)]) -> bool {
+    match found {
+        Scanned::Rows(rows) => are_rows(rows.as_slice(), expected),
+        Scanned::Miss(_) => false,
+    }
+}
+
+fn is_found(found: &Scanned, gives: &Gives) -> bool {
+    match (found, gives) {
+        (Scanned::Rows(rows), Gives::Rows(expected)) => are_rows(rows.as_slice(), expected),
+        (Scanned::Miss(p), Gives::Miss(expected)) => p == expected,
+        _ => false,
+    }
+}
+
+fn scans<B: Belief>(alloc: Global, cache: &B, span: Span, gives: &Gives) -> bool {
+    match cache.scan(alloc, span) {
+        Ok(found) => is_found(&found, gives),
+        Err(_) => match cache.scan(alloc, span) {
+            Ok(found) => is_found(&found, gives),
+            Err(_) => false,
+        },
+    }
+}
+
+// Whether these are the pieces that hold something: a piece with N says what none says.
+fn are_ranges(pieces: &[RangePiece], expected: &[(u64, u64, RangePart)]) -> bool {
+    let mut found = 0usize;
+    for piece in pieces {
+        if piece.part != RangePart::N {
+            let told = (piece.span.lo(), piece.span.hi(), piece.part);
+            if found >= expected.len() || told != expected[found] {
+                return false;
+            }
+            found += 1;
+        }
+    }
+    found == expected.len()
+}
+
+fn are_keys(pieces: &[KeyPiece], expected: &[(u64, KeyPart)]) -> bool {
+    pieces.len() == expected.len()
+        && pieces
+            .iter()
+            .zip(expected.iter())
+            .all(|(piece, told)| (piece.point, piece.part) == *told)
+}
+
+pub fn are_told(
+    pieces: &Pieces,
+    ranges: &[(u64, u64, RangePart)],
+    keys: &[(u64, KeyPart)],
+) -> bool {
+    are_ranges(pieces.ranges.as_slice(), ranges) && are_keys(pieces.keys.as_slice(), keys)
+}
+
+fn tells<B: Belief>(
+    alloc: Global,
+    cache: &B,
+    ranges: &[(u64, u64, RangePart)],
+    keys: &[(u64, KeyPart)],
+) -> bool {
+    match cache.pieces(alloc) {
+        Ok(pieces) => are_told(&pieces, ranges, keys),
+        Err(_) => match cache.pieces(alloc) {
+            Ok(pieces) => are_told(&pieces, ranges, keys),
+            Err(_) => false,
+        },
+    }
+}
+
+// Whether the call gives this.
+fn answers<B: Belief>(alloc: Global, cache: &mut B, ask: &Ask, expected: &Gives) -> bool {
+    match (ask, expected) {
+        (Ask::Adopt(lo, hi, mode, bytes), Gives::Done) => {
+            match holding((*lo, *hi, *mode, *bytes)) {
+                Some(holding) => adopts(cache, holding),
+                None => false,
+            }
+        }
+        (Ask::AdoptAll(all), Gives::Done) => match listed(all) {
+            Some(holdings) => adopts_all(cache, &holdings),
+            None => false,
+        },
+        (Ask::Lower(lo, hi, keep), Gives::Done) => match Span::new(*lo, *hi) {
+            Ok(span) => lowers(cache, span, *keep),
+            Err(_) => false,
+        },
+        (Ask::Scan(lo, hi), _) => match Span::new(*lo, *hi) {
+            Ok(span) => scans(alloc, cache, span, expected),
+            Err(_) => false,
+        },
+        (Ask::At(p), Gives::Here(range, key, bytes)) => match value_of(*bytes) {
+            Some(value) => at(cache, *p) == (*range, *key, value),
+            None => false,
+        },
+        (Ask::Pieces, Gives::Told(ranges, keys)) => tells(alloc, cache, ranges, keys),
+        _ => false,
+    }
+}
+
+// Whether each call of the rows gives what stands beside it.
+pub fn all_give<B: Belief>(alloc: Global, cache: &mut B, rows: &[(Ask, Gives)]) -> bool {
+    for (ask, expected) in rows {
+        if !answers(alloc, cache, ask, expected) {
+            return false;
+        }
+    }
+    true
+}

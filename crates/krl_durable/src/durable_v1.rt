@@ -1,0 +1,140 @@
+//! What survived a restart when values were numbers.
+ghost use Rattle.std.specs.Prelude.{◌≡◌, ◌≤◌, nat_eq, [], length, MatchResult, IfOk};
+ghost use Rattle.std.specs.List.{AllByRecursion, IsDistinct};
+ghost use Rattle.std.specs.Map.{keys_of};
+ghost use Rattle.std.specs.FinMap as map;
+ghost use Rattle.krl_modes.specs.declared.point.TheConstants.{END};
+ghost use Rattle.krl_durable.specs.Registers.{record_of, missing_order};
+ghost use Rattle.krl_durable.specs.Kept.{IsRow, AreOrdered};
+ghost use Rattle.krl_durable.specs.Openings.{AreGood, Refuses};
+ghost use Rattle.krl_durable.specs.Migrations.{of_numbers};
+ghost use Rattle.krl_durable.specs.Writes.{most_entries};
+
+use crate::keyed::ordered;
+use crate::record::Record;
+use crate::refused::Refused;
+use crate::register::Register;
+use std::alloc::{AllocError, Global};
+use std::marker::Model;
+
+/// What survived a restart of a server whose values were numbers of 64 bits. It can only be read,
+/// and be brought to what survives now.
+#[derive(Drop)]
+pub struct DurableV1 {
+    entries: Vec<(u64, u64)>,
+    epoch: u64,
+    register: Register,
+}
+
+impl Model for DurableV1 {
+    ghost use Rattle.std.specs.Coded.{codes, coded_ℕ};
+    ghost use Rattle.std.specs.Ordering.{nat_cmp};
+    ghost use Rattle.std.specs.FinMap as map;
+    ghost use Rattle.krl_durable.specs.Migrations.{DurableV1 as Kept, IsKeptV1};
+    ghost use Rattle.krl_durable.specs.contracts.record.Record as record_contract;
+
+    ghost Value = { Kept };
+
+    ghost coded = { Prim.hlevel
+        (codes, map.code {R = nat_cmp} coded_ℕ coded_ℕ, record_contract.the_row.coded) };
+
+    ghost view = { λ d. record {
+      index = map.from_sorted d.entries.items;
+      epoch = d.epoch;
+      register = d.register;
+    } };
+
+    ghost invariant = { λ d. IsKeptV1 d.entries.items d.epoch };
+}
+
+impl DurableV1 {
+    /// These entries, in any order, at epoch 0. Nobody is registered.
+    ///
+    /// # Errors
+    ///
+    /// `Full` above 65,536 entries; else the first bad entry in order, by `BadKey` where its key is
+    /// END or more, or by `Twice` where its key stands before; and `OutOfMemory` at any point.
+    pub fn new(alloc: Global, entries: &[(u64, u64)]) -> Result<DurableV1, Refused>
+        ensures { MatchResult result
+            (λ d. (length entries.now ≤ most_entries) × AreGood entries.now (length entries.now)
+            × (d ≡ of_numbers entries.now 0 []))
+            (Refuses entries.now) }
+    {
+        let entries = ordered(alloc, entries)?;
+        Ok(DurableV1 {
+            entries,
+            epoch: 0,
+            register: Register::new(alloc),
+        })
+    }
+
+    /// What was kept elsewhere: these entries, in any order, at this epoch, and these records of
+    /// clients, in order of first registration.
+    ///
+    /// Clients are below 64, with one record each; an incarnation is from 1 to END, `last` at most
+    /// END, and the outcome None exactly where `last` is 0.
+    ///
+    /// # Errors
+    ///
+    /// As of `new`.
+    pub fn from_parts(
+        alloc: Global,
+        entries: &[(u64, u64)],
+        epoch: u64,
+        records: &[(u64, Record)],
+    ) -> Result<DurableV1, Refused>
+        requires epoch { epoch ≤ END }
+        requires each { AllByRecursion IsRow records.now }
+        requires once { IsDistinct nat_eq (keys_of records.now) }
+        ensures { MatchResult result
+            (λ d. (length entries.now ≤ most_entries) × AreGood entries.now (length entries.now)
+            × (d ≡ of_numbers entries.now epoch records.now))
+            (Refuses entries.now) }
+    {
+        let entries = ordered(alloc, entries)?;
+        let register = Register::from_records(alloc, records)?;
+        Ok(DurableV1 {
+            entries,
+            epoch,
+            register,
+        })
+    }
+
+    /// The epoch.
+    pub fn epoch(&self) -> u64
+        ensures epoch { result ≡ self.now.epoch }
+        ensures most { result ≤ END }
+    {
+        self.epoch
+    }
+
+    /// The entries of the index, in key order.
+    pub fn entries(&self) -> &[(u64, u64)]
+        ensures entries { result.now ≡ map.entries self.now.index }
+        ensures ordered { AreOrdered result.now }
+    {
+        self.entries.as_slice()
+    }
+
+    /// The client's record, where it ever registered.
+    pub fn record(&self, c: u64) -> Option<Record>
+        ensures { result ≡ record_of self.now.register c }
+    {
+        self.register.get(c)
+    }
+
+    /// The clients that have not left, by first registration.
+    pub fn missing_order(&self, alloc: Global) -> Result<Vec<u64>, AllocError>
+        ensures { IfOk result (λ clients. clients.items ≡ missing_order self.now.register) }
+    {
+        self.register.missing_order(alloc)
+    }
+
+    /// The records, in order of first registration.
+    pub(crate) fn records(&self, alloc: Global) -> Result<Vec<(u64, Record)>, AllocError>
+        ensures { IfOk result (λ records. (records.items ≡ self.now.register)
+            × AllByRecursion IsRow records.items × IsDistinct nat_eq (keys_of records.items)) }
+    {
+        self.register.records(alloc)
+    }
+}

@@ -1,0 +1,154 @@
+//! What survived when values were numbers: what it was made of, and how it is brought to what
+//! survives now. A call that is refused for want of memory is made again, so that each run ends
+//! alike, whichever one allocation fails.
+ghost use Rattle.std.specs.Prelude.{nat_eq};
+ghost use Rattle.std.specs.List.{AllByRecursion, IsDistinct};
+ghost use Rattle.std.specs.Map.{keys_of};
+ghost use Rattle.krl_durable.specs.Kept.{IsRow};
+
+use krl_durable::{Durable, DurableV1, NotMigrated, Record, Refused};
+use krl_messages::Outcome;
+use krl_modes::END;
+use std::alloc::{AllocError, Global};
+use std::test::Fail;
+
+// An incarnation that has left and never wrote.
+const GONE: Record = Record {
+    incarnation: 3,
+    left: true,
+    last: 0,
+    outcome: None,
+};
+
+// One that left after its fourth write.
+const WRITER: Record = Record {
+    incarnation: 2,
+    left: true,
+    last: 4,
+    outcome: Some(Outcome::Exists),
+};
+
+// One that has not left.
+const HERE: Record = Record {
+    incarnation: 3,
+    left: false,
+    last: 0,
+    outcome: None,
+};
+
+// Who has left, in order of registration.
+static ALL_LEFT: [(u64, Record); 2] = [(0, GONE), (9, WRITER)];
+
+// The first of them has not left.
+static ONE_HERE: [(u64, Record); 2] = [(0, HERE), (9, WRITER)];
+
+// The last two of them have not left.
+static TWO_HERE: [(u64, Record); 3] = [(0, GONE), (3, HERE), (1, HERE)];
+
+// What survived: one entry, epoch 4 and these records.
+fn survived(alloc: Global, records: &[(u64, Record)]) -> Result<DurableV1, Refused>
+    requires each { AllByRecursion IsRow records.now }
+    requires once { IsDistinct nat_eq (keys_of records.now) }
+{
+    match DurableV1::from_parts(alloc, &[(10, 258)], 4, records) {
+        Err(Refused::OutOfMemory) => DurableV1::from_parts(alloc, &[(10, 258)], 4, records),
+        made => made,
+    }
+}
+
+// What never served: these entries alone.
+fn unused(alloc: Global, entries: &[(u64, u64)]) -> Result<DurableV1, Refused> {
+    match DurableV1::new(alloc, entries) {
+        Err(Refused::OutOfMemory) => DurableV1::new(alloc, entries),
+        made => made,
+    }
+}
+
+// What becomes of it.
+fn migrated(alloc: Global, old: &DurableV1) -> Result<Durable, NotMigrated> {
+    match Durable::migrate(alloc, old) {
+        Err(NotMigrated::OutOfMemory) => Durable::migrate(alloc, old),
+        made => made,
+    }
+}
+
+// Whether it is what survived with these records: a refusal leaves it so too.
+fn has_survived(old: &DurableV1, records: &[(u64, Record)]) -> bool {
+    for (c, record) in records {
+        if old.record(*c) != Some(*record) {
+            return false;
+        }
+    }
+    old.epoch() == 4 && old.entries() == [(10, 258)].as_slice()
+}
+
+// Whether the value of its one entry is these eight bytes.
+fn has_eight_bytes(durable: &Durable, key: u64, bytes: &[u8; 8]) -> bool {
+    match durable.entries() {
+        [(found, value)] => *found == key && value.bytes() == bytes.as_slice(),
+        _ => false,
+    }
+}
+
+// The clients that have not left, asked for again where memory was refused.
+fn missing(old: &DurableV1, alloc: Global) -> Result<Vec<u64>, AllocError> {
+    match old.missing_order(alloc) {
+        Ok(clients) => Ok(clients),
+        Err(_) => old.missing_order(alloc),
+    }
+}
+
+#[test]
+fn keeps_all_but_the_form_of_values(rt: HostRuntime) -> Result<(), Fail> {
+    let old = survived(rt.alloc(), &ALL_LEFT)?;
+    assert!(rt; has_survived(&old, &ALL_LEFT) && missing(&old, rt.alloc())?.is_empty());
+    let Ok(durable) = migrated(rt.alloc(), &old) else {
+        panic!(rt; "all have left");
+    };
+    assert!(rt; has_eight_bytes(&durable, 10, &[0, 0, 0, 0, 0, 0, 1, 2]));
+    assert!(rt; durable.epoch() == 4);
+    for (c, record) in &ALL_LEFT {
+        assert!(rt; durable.record(*c) == Some(*record), "{c}");
+    }
+    assert!(rt; durable.record(1).is_none());
+    assert!(rt; has_survived(&old, &ALL_LEFT));
+    Ok(())
+}
+
+// Whether it is not migrated, since this client has not left, and stays as it was.
+fn still_has(alloc: Global, old: &DurableV1, client: u64) -> bool {
+    match migrated(alloc, old) {
+        Err(NotMigrated::StillRegistered(named)) => named == client,
+        _ => false,
+    }
+}
+
+#[test]
+fn names_the_first_who_has_not_left(rt: HostRuntime) -> Result<(), Fail> {
+    let old = survived(rt.alloc(), &ONE_HERE)?;
+    assert!(rt; missing(&old, rt.alloc())?.as_slice() == [0].as_slice());
+    assert!(rt; still_has(rt.alloc(), &old, 0) && has_survived(&old, &ONE_HERE));
+    let old = survived(rt.alloc(), &TWO_HERE)?;
+    assert!(rt; missing(&old, rt.alloc())?.as_slice() == [3, 1].as_slice());
+    assert!(rt; still_has(rt.alloc(), &old, 3) && has_survived(&old, &TWO_HERE));
+    Ok(())
+}
+
+// Whether these numbers are refused so.
+fn is_refused(alloc: Global, entries: &[(u64, u64)], expected: Refused) -> bool {
+    match unused(alloc, entries) {
+        Ok(_) => false,
+        Err(refused) => refused == expected,
+    }
+}
+
+#[test]
+fn begins_at_epoch_0_with_good_entries(rt: HostRuntime) -> Result<(), Fail> {
+    let old = unused(rt.alloc(), &[(20, u64::MAX), (10, 258)])?;
+    assert!(rt; old.entries() == [(10, 258), (20, u64::MAX)].as_slice());
+    assert!(rt; old.epoch() == 0 && old.record(0).is_none());
+    assert!(rt; missing(&old, rt.alloc())?.is_empty());
+    assert!(rt; is_refused(rt.alloc(), &[(1, 0), (2, 0), (1, 0)], Refused::Twice));
+    assert!(rt; is_refused(rt.alloc(), &[(END, 0), (2, 0), (2, 0)], Refused::BadKey));
+    Ok(())
+}

@@ -1,0 +1,294 @@
+//! A script is run, and what happens is noted.
+use crate::row::{Fate, Form, Node, Row};
+use crate::{label, svg, text};
+use krl_script::{
+    Interpreter, LineFault, MAX_DELIVERIES, MAX_TEXT, Request, ScriptFault, Sink, Source,
+    SyntaxFault, first_line, read_text,
+};
+use krl_world::{Command, Message, Step};
+use std::alloc::{AllocError, Global};
+
+/// The most lines of a picture.
+const MOST_ROWS: usize = 20000;
+
+// The run of a script, as far as it got.
+struct Recorder {
+    alloc: Global,
+    interpreter: Interpreter,
+    rows: Vec<Row>,
+    // For each message: whether it was delivered or dropped.
+    is_past: Vec<bool>,
+}
+
+impl Drop for Recorder {
+    fn drop(self) {
+        let Recorder {
+            alloc: _,
+            interpreter: _interpreter,
+            rows: _rows,
+            is_past: _is_past,
+        } = self;
+    }
+}
+
+// What a step of this kind does to a node, where it is not refused.
+fn mark_of(step: &Step) -> Option<Row> {
+    let (node, text) = match step {
+        Step::StartClient(client) => (Node::Client(*client), "starts"),
+        Step::CrashClient(client) => (Node::Client(*client), "crashes"),
+        Step::Command(client, Command::Leave) => (Node::Client(*client), "leaves"),
+        Step::StartServer => (Node::Server, "starts"),
+        Step::CrashServer => (Node::Server, "crashes"),
+        _ => return None,
+    };
+    Some(Row::Mark { node, text })
+}
+
+impl Recorder {
+    fn new(alloc: Global) -> Result<Recorder, AllocError> {
+        Ok(Recorder {
+            alloc,
+            interpreter: Interpreter::new(alloc)?,
+            rows: Vec::new(alloc),
+            is_past: Vec::new(alloc),
+        })
+    }
+
+    // Notes the line, where the picture has room for it.
+    fn note(&mut self, row: Row) -> Result<(), AllocError> {
+        if self.rows.len() < MOST_ROWS {
+            self.rows.push(row)?;
+        } else if self.rows.len() == MOST_ROWS {
+            self.rows.push(Row::More)?;
+        }
+        Ok(())
+    }
+
+    // Notes each line of what was printed.
+    fn print(&mut self, printed: &[u8]) -> Result<(), AllocError> {
+        for line in printed.split(|byte| *byte == b'\n') {
+            if !line.is_empty() {
+                let copy = Vec::from_slice(self.alloc, line)?;
+                self.note(Row::Printed(copy))?;
+            }
+        }
+        Ok(())
+    }
+
+    // Messages that were sent since the last time wait.
+    fn count(&mut self) -> Result<(), AllocError> {
+        let sent = self.interpreter.world().sent();
+        for _ in self.is_past.len() as u64..sent {
+            self.is_past.push(false)?;
+        }
+        Ok(())
+    }
+
+    // The message waits no more. Whether it did.
+    fn pass(&mut self, number: u64) -> bool {
+        match self.is_past.get_mut(number.wrapping_sub(1) as usize) {
+            Some(past) => {
+                let waited = !*past;
+                *past = true;
+                waited
+            }
+            None => false,
+        }
+    }
+
+    fn is_up(&self, node: Node) -> bool {
+        match node {
+            Node::Server => self.interpreter.world().server().is_some(),
+            Node::Client(client) => self.interpreter.world().client(client).is_some(),
+        }
+    }
+
+    // The ends of the message of this number, and its words.
+    fn message(&self, number: u64) -> Result<Option<(Node, Node, String)>, AllocError> {
+        match self.interpreter.world().message(number) {
+            Some(Message::ToServer(message)) => {
+                let label = label::to_server(self.alloc, message)?;
+                Ok(Some((Node::Client(message.client), Node::Server, label)))
+            }
+            Some(Message::ToClient(message)) => {
+                let label = label::to_client(self.alloc, message)?;
+                Ok(Some((Node::Server, Node::Client(message.client), label)))
+            }
+            None => Ok(None),
+        }
+    }
+
+    // Notes what becomes of the message of this number.
+    fn arrow(&mut self, number: u64, fate: Fate) -> Result<(), AllocError> {
+        if let Some((from, to, label)) = self.message(number)? {
+            let fate = if fate != Fate::Lost && !self.is_up(to) {
+                Fate::Unread
+            } else {
+                fate
+            };
+            self.note(Row::Arrow {
+                number,
+                from,
+                to,
+                fate,
+                label,
+            })?;
+        }
+        Ok(())
+    }
+
+    // Does what is asked for, and notes what it printed; answers whether it printed nothing.
+    fn obey(&mut self, request: Request) -> Result<bool, AllocError> {
+        let printed = self.interpreter.obey(request)?;
+        self.count()?;
+        self.print(printed.as_bytes())?;
+        Ok(printed.is_empty())
+    }
+
+    // Delivers the oldest message that waits; answers whether that went well.
+    fn deliver_oldest(&mut self) -> Result<bool, AllocError> {
+        let Some(number) = self.interpreter.oldest() else {
+            return Ok(false);
+        };
+        let at = self.rows.len();
+        self.arrow(number, Fate::Delivered)?;
+        if self.obey(Request::Next(1))? {
+            self.pass(number);
+            return Ok(true);
+        }
+        // It was refused, and the message waits on.
+        if at < self.rows.len() && at < MOST_ROWS {
+            self.rows.remove(at);
+        }
+        Ok(false)
+    }
+
+    fn deliver_many(&mut self, most: u64) -> Result<(), AllocError> {
+        for _ in 0..most {
+            if !self.deliver_oldest()? {
+                return Ok(());
+            }
+        }
+        Ok(())
+    }
+
+    fn settle(&mut self) -> Result<(), AllocError> {
+        for _ in 0..MAX_DELIVERIES {
+            if !self.deliver_oldest()? {
+                return Ok(());
+            }
+        }
+        if self.interpreter.oldest().is_some() {
+            self.print(b"unsettled")?;
+        }
+        Ok(())
+    }
+
+    fn deliver(&mut self, number: u64) -> Result<(), AllocError> {
+        let waited = self.is_past.get(number.wrapping_sub(1) as usize) == Some(&false);
+        let fate = if waited {
+            Fate::Delivered
+        } else {
+            Fate::Repeated
+        };
+        self.arrow(number, fate)?;
+        if self.obey(Request::Deliver(number))? {
+            self.pass(number);
+        }
+        Ok(())
+    }
+
+    // Drops every message that waits.
+    fn lose(&mut self) -> Result<(), AllocError> {
+        for number in 1..=self.interpreter.world().sent() {
+            if self.pass(number) {
+                self.arrow(number, Fate::Lost)?;
+            }
+        }
+        self.obey(Request::Drop)?;
+        Ok(())
+    }
+
+    fn step(&mut self, step: Step) -> Result<(), AllocError> {
+        let taken = step;
+        let mark = mark_of(&taken);
+        if self.obey(Request::Step(step))? {
+            if let Some(mark) = mark {
+                self.note(mark)?;
+            }
+        }
+        Ok(())
+    }
+
+    // Does what a line of the script asks for.
+    fn act(&mut self, request: Request) -> Result<(), AllocError> {
+        match request {
+            Request::Settle => self.settle(),
+            Request::Next(most) => self.deliver_many(most),
+            Request::Deliver(number) => self.deliver(number),
+            Request::Drop => self.lose(),
+            Request::Step(step) => self.step(step),
+            other => {
+                self.obey(other)?;
+                Ok(())
+            }
+        }
+    }
+
+    fn line(&mut self, number: u64, line: &[u8]) -> Result<(), LineFault> {
+        let request = self.interpreter.request(number, line)?;
+        if matches!(request, Request::Nothing) {
+            return Ok(());
+        }
+        let copy = Vec::from_slice(self.alloc, line)?;
+        self.note(Row::Line(copy))?;
+        self.act(request)?;
+        Ok(())
+    }
+
+    fn run(&mut self, script: &[u8]) -> Result<(), ScriptFault> {
+        let mut rest = script;
+        for number in 1..u64::MAX {
+            if rest.is_empty() {
+                return Ok(());
+            }
+            let (line, after) = first_line(rest);
+            match self.line(number, line) {
+                Ok(()) => {}
+                Err(LineFault::Syntax(what)) => return Err(ScriptFault::Syntax {
+                    line: number,
+                    what,
+                }),
+                Err(LineFault::OutOfMemory) => return Err(ScriptFault::OutOfMemory),
+            }
+            rest = after;
+        }
+        Ok(())
+    }
+}
+
+/// Reads a script to its end, runs it, and writes a picture of the run. It shows all that happened
+/// before a fault.
+///
+/// # Errors
+///
+/// Those of `run_script`.
+pub fn write_picture<R: Source, W: Sink>(
+    alloc: Global,
+    reader: &mut R,
+    writer: &mut W,
+    form: Form,
+) -> Result<(), ScriptFault> {
+    let script = read_text(alloc, reader)?;
+    if script.len() > MAX_TEXT {
+        let what = SyntaxFault::TextTooLong;
+        return Err(ScriptFault::Syntax { line: 0, what });
+    }
+    let mut recorder = Recorder::new(alloc)?;
+    let ended = recorder.run(&script);
+    match form {
+        Form::Text => text::draw(alloc, &recorder.rows, writer)?,
+        Form::Svg => svg::draw(alloc, &recorder.rows, writer)?,
+    }
+    ended
+}

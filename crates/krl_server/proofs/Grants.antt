@@ -1,0 +1,224 @@
+-- What a grant takes, and what each raise of it leaves as it was.
+use Rattle.std.proofs.Common.{◌≡◌, ◌≢◌, ℕ, zero, suc, ◌≤◌, ◌<◌, Bool, true, false, not, ◌&&◌, ◌||◌, Option, Some, None, List, [], ◌∷◌, ◌++◌, take, length, refl, sym, ap, subst, ◌∙◌, ⊎_elim, ◌⊎◌, arith}
+use Rattle.std.proofs.Common.{nat_eq, eq-eqb, ltb-true}
+use Rattle.std.proofs.lemmas.Bool.{cases_lt}
+use Rattle.std.proofs.lemmas.Bool.Decides.{nat_tests}
+use Rattle.std.specs.Prelude.{nat_lt, nat_le, is_some, IsSome, if◌then◌else◌}
+use Rattle.std.specs.List.{filter, AllByRecursion}
+use Rattle.std.specs.Ordering.{nat_cmp}
+use Rattle.std.specs.FinMap as fin
+use Rattle.std.specs.FinMap.Entries.{find}
+use Rattle.krl_modes.specs.declared.point.TheConstants.{END}
+use Rattle.krl_modes.specs.Modes.{needs_entry}
+use Rattle.krl_messages.specs.Values.{Value}
+use Rattle.krl_queue.specs.declared.waiter.Waiter.{Waiter}
+use Rattle.krl_protocol.specs.Links.{Phase, IsSlot}
+use Rattle.krl_protocol.proofs.Worlds.{eq_cases}
+use Rattle.krl_durable.specs.Index.{Index, first_or_end, slot_of, low_of, is_slot}
+use Rattle.krl_table.specs.Rows.{Row, Rows, mode_at, set_row}
+use Rattle.krl_table.specs.Calls.{with_mode, wanted, grant_first, granted_first, raised, raised_on}
+use Rattle.krl_table.specs.Replies.{can_have}
+use Rattle.krl_table.specs.Grants.{nobody_waits, can_take, goes_on, taken_after, taken_by, taken, granted_by, granted, most_more}
+use Rattle.krl_table.specs.Kept.{Kept, IsOver}
+use Rattle.krl_messages.specs.Several.{IsBefore, Ascend, most_holdings}
+use Rattle.krl_durable.specs.Registers.{Durable}
+use Rattle.krl_server.specs.Servers.{Server}
+use Rattle.krl_server.specs.Effects.{holding, holdings}
+use Rattle.krl_server.proofs.Slots.{seen_in, find_here, find_past, is_slot_true, span_here}
+use Rattle.krl_server.specs.Shows.{IsWhole}
+use Rattle.krl_server.proofs.Meaning.{low_below, row_here, row_other, mode_other, row_modes}
+use Rattle.krl_server.proofs.Tests.{and_true, if_case}
+
+-- The next slot
+
+or_yes : (b : Bool) → (b || true) ≡ true
+or_yes true = refl
+or_yes false = refl
+
+found : (es : List (ℕ × Value)) (p : ℕ) → (nat_eq (first_or_end (filter (λ e. nat_le p e.0) es)) END || is_some (find nat_cmp (first_or_end (filter (λ e. nat_le p e.0) es)) es)) ≡ true
+found [] p = ap (λ b. b || false) (eq-eqb END END refl)
+found (e ∷ es) p = by_test (nat_le p e.0) (found es p)
+  where
+    s : ℕ
+    s = first_or_end (filter (λ e. nat_le p e.0) es)
+
+    by_test : (b : Bool) → (nat_eq s END || is_some (find nat_cmp s es)) ≡ true → (nat_eq (first_or_end (if b then e ∷ filter (λ e. nat_le p e.0) es else filter (λ e. nat_le p e.0) es)) END || is_some (find nat_cmp (first_or_end (if b then e ∷ filter (λ e. nat_le p e.0) es else filter (λ e. nat_le p e.0) es)) (e ∷ es))) ≡ true
+    by_test true ih = ap (λ o. nat_eq e.0 END || is_some o) (find_here e es) ∙ or_yes (nat_eq e.0 END)
+    by_test false ih = eq_cases s e.0
+        (λ f. subst (λ k. (nat_eq k END || is_some (find nat_cmp k (e ∷ es))) ≡ true) (sym f) (ap (λ o. nat_eq e.0 END || is_some o) (find_here e es) ∙ or_yes (nat_eq e.0 END)))
+        (λ ne. ap (λ o. nat_eq s END || is_some o) (find_past s e es ne) ∙ ih)
+
+from_point : (es : List (ℕ × Value)) (p : ℕ) → p ≤ END → p ≤ first_or_end (filter (λ e. nat_le p e.0) es)
+from_point [] p le = le
+from_point (e ∷ es) p le = by_test (nat_le p e.0) refl (from_point es p le)
+  where
+    by_test : (b : Bool) → nat_le p e.0 ≡ b → p ≤ first_or_end (filter (λ e. nat_le p e.0) es) → p ≤ first_or_end (if b then e ∷ filter (λ e. nat_le p e.0) es else filter (λ e. nat_le p e.0) es)
+    by_test true t ih = grind (arith, nat_tests)
+    by_test false t ih = ih
+
+-- the slot of a point is one by the test
+pub slot_always : (m : Index) (p : ℕ) → is_slot m (slot_of m p) ≡ true
+slot_always m p = ap (λ o. nat_eq (slot_of m p) END || is_some o) (fin.get-entries m (slot_of m p)) ∙ found (fin.entries m) p
+
+-- no slot lies above END
+pub slot_near : (m : Index) → ((q : ℕ) → END ≤ q → fin.get m q ≡ None) → (n : ℕ) → is_slot m n ≡ true → n ≤ END
+slot_near m near n e = ⊎_elim
+    (λ (a : END < n). absurd (is_slot_true m 0 Rattle.krl_protocol.specs.Links.Serving near n e (λ f. omega (arith, f, a)) (near n (omega (arith, a)))))
+    (λ (a : n ≤ END). a)
+    (cases_lt END n)
+
+-- Rows
+
+pub raised_queue : (rows : Rows) (n : ℕ) (u : Waiter) (k : ℕ) → (raised rows n u k).queue ≡ (rows k).queue
+raised_queue rows n u k = eq_cases k n
+    (λ e. subst (λ x. (raised rows n u x).queue ≡ (rows x).queue) (sym e) (ap (λ r. r.queue) (row_here rows n (with_mode (rows n) u.client (wanted (rows n) u)))))
+    (λ ne. ap (λ r. r.queue) (row_other rows n (with_mode (rows n) u.client (wanted (rows n) u)) k ne))
+
+pub raised_others : (rows : Rows) (n : ℕ) (u : Waiter) (d : ℕ) → d ≢ u.client → (k : ℕ) → mode_at rows k d ≡ mode_at (raised rows n u) k d
+raised_others rows n u d ne k = row_modes rows n (with_mode (rows n) u.client (wanted (rows n) u)) d (sym (mode_other (rows n).modes u.client d (wanted (rows n) u) ne)) k
+
+raised_on_queue : (rows : Rows) (ns : List ℕ) (u : Waiter) (k : ℕ) → (raised_on rows ns u k).queue ≡ (rows k).queue
+raised_on_queue rows [] u k = refl
+raised_on_queue rows (n ∷ ns) u k = raised_on_queue (raised rows n u) ns u k ∙ raised_queue rows n u k
+
+-- a grant takes one waiter from its slot, and no other
+pub granted_queue : (m : Index) (rows : Rows) (n k : ℕ) → (granted m rows n k).queue ≡ (granted_first rows n k).queue
+granted_queue m rows n k = by_queue (rows n).queue refl
+  where
+    by_queue : (us : List Waiter) → (rows n).queue ≡ us → (granted_by m rows n us k).queue ≡ (granted_first rows n k).queue
+    by_queue [] e = eq_cases k n
+        (λ f. subst (λ x. (rows x).queue ≡ (granted_first rows n x).queue) (sym f) (sym (ap (λ r. r.queue) (row_here rows n (grant_first (rows n) (rows n).queue)) ∙ ap (λ q. (grant_first (rows n) q).queue) e)))
+        (λ ne. ap (λ r. r.queue) (sym (row_other rows n (grant_first (rows n) (rows n).queue) k ne)))
+    by_queue (u ∷ us) e = raised_on_queue (granted_first rows n) (taken_after m (granted_first rows n) n u most_more) u k
+
+-- The slots that are taken, one after another
+
+-- slots above this point, in ascending order
+abbrev pub AreSlotsAfter : Index → ℕ → List ℕ → Type 0
+AreSlotsAfter m low [] = Unit {0}
+AreSlotsAfter m low (n ∷ ns) = (low < n) × (is_slot m n ≡ true) × AreSlotsAfter m n ns
+
+module _ (m : Index) (u : Waiter) where
+  -- the grant goes on to the next slot
+  pub on_to : (rows : Rows) (n : ℕ) → goes_on m rows n u ≡ true → (n < slot_of m (suc n)) × (is_slot m (slot_of m (suc n)) ≡ true) × (can_have rows (slot_of m (suc n)) u ≡ true)
+  on_to rows n e =
+      let x = and_true (nat_lt n END) (nat_lt (suc n) u.hi && can_take rows (slot_of m (suc n)) u) e in
+      let y = and_true (nat_lt (suc n) u.hi) (can_take rows (slot_of m (suc n)) u) x.1 in
+      let z = and_true (nobody_waits (rows (slot_of m (suc n))).queue) (can_have rows (slot_of m (suc n)) u && not (needs_entry u.mode && nat_eq (slot_of m (suc n)) END)) y.1 in
+      let lt = ltb-true n END x.0 in
+      let from = from_point (fin.entries m) (suc n) (omega (arith, lt)) in
+      (omega (arith, from), slot_always m (suc n), (and_true (can_have rows (slot_of m (suc n)) u) (not (needs_entry u.mode && nat_eq (slot_of m (suc n)) END)) z.1).0)
+
+  -- what each raise keeps, the grant keeps as it goes on
+  pub along : (P : Rows → Type 0) (low : ℕ) → ((rows : Rows) (n : ℕ) → low < n → is_slot m n ≡ true → can_have rows n u ≡ true → P rows → P (raised rows n u)) → (k n : ℕ) (rows : Rows) → low ≤ n → P rows → P (raised_on rows (taken_after m rows n u k) u)
+  along P low step zero n rows le p = p
+  along P low step (suc k) n rows le p = if_case (λ ns. P (raised_on rows ns u)) (goes_on m rows n u) (slot_of m (suc n) ∷ taken_after m (raised rows (slot_of m (suc n)) u) (slot_of m (suc n)) u k) []
+      (λ e. let x = on_to rows n e in let far : low < slot_of m (suc n) = (let lt = x.0 in omega (arith, lt, le)) in
+      along P low step k (slot_of m (suc n)) (raised rows (slot_of m (suc n)) u) (omega (arith, far)) (step rows (slot_of m (suc n)) far x.1 x.2 p))
+      (λ e. p)
+
+  -- they are slots, in ascending order
+  pub taken_slots : (k n : ℕ) (rows : Rows) → AreSlotsAfter m n (taken_after m rows n u k)
+  taken_slots zero n rows = tt
+  taken_slots (suc k) n rows = if_case (AreSlotsAfter m n) (goes_on m rows n u) (slot_of m (suc n) ∷ taken_after m (raised rows (slot_of m (suc n)) u) (slot_of m (suc n)) u k) []
+      (λ e. let x = on_to rows n e in (x.0, x.1, taken_slots k (slot_of m (suc n)) (raised rows (slot_of m (suc n)) u)))
+      (λ e. tt)
+
+  -- and not too many
+  pub taken_few : (k n : ℕ) (rows : Rows) → length (taken_after m rows n u k) ≤ k
+  taken_few zero n rows = omega arith
+  taken_few (suc k) n rows = if_case (λ ns. length ns ≤ suc k) (goes_on m rows n u) (slot_of m (suc n) ∷ taken_after m (raised rows (slot_of m (suc n)) u) (slot_of m (suc n)) u k) []
+      (λ e. let ih = taken_few k (slot_of m (suc n)) (raised rows (slot_of m (suc n)) u) in omega (arith, ih))
+      (λ e. omega arith)
+
+-- A grant to the first waiter u of the slot n
+
+module _ (m : Index) (rows : Rows) (n : ℕ) (u : Waiter) (us : List Waiter) (queue : (rows n).queue ≡ u ∷ us) where
+  abbrev pub first_rows : Rows
+  first_rows = set_row rows n (grant_first (rows n) (u ∷ us))
+
+  pub granted_is : granted m rows n ≡ raised_on first_rows (taken_after m first_rows n u most_more) u
+  granted_is = ap (granted_by m rows n) queue ∙ ap (λ q. raised_on (set_row rows n (grant_first (rows n) q)) (taken_after m (set_row rows n (grant_first (rows n) q)) n u most_more) u) queue
+
+  pub taken_is : taken m rows n ≡ n ∷ taken_after m first_rows n u most_more
+  taken_is = ap (taken_by m rows n) queue ∙ ap (λ q. n ∷ taken_after m (set_row rows n (grant_first (rows n) q)) n u most_more) queue
+
+-- rows below the slot stay
+pub granted_below : (m : Index) (rows : Rows) (n k : ℕ) → k < n → granted m rows n k ≡ rows k
+granted_below m rows n k lt = by_queue (rows n).queue refl
+  where
+    by_queue : (us : List Waiter) → (rows n).queue ≡ us → granted_by m rows n us k ≡ rows k
+    by_queue [] e = refl
+    by_queue (u ∷ us) e = along m u (λ r. r k ≡ rows k) n
+        (λ r j far slot fits same. row_other r j (with_mode (r j) u.client (wanted (r j) u)) k (λ f. omega (arith, f, far, lt)) ∙ same)
+        most_more n (granted_first rows n) (omega arith) (row_other rows n (grant_first (rows n) (rows n).queue) k (λ f. omega (arith, f, lt)))
+
+-- What a push tells of the slots
+
+-- the span of a slot begins behind each slot below it
+span_behind : (m : Index) → ((q : ℕ) → END ≤ q → fin.get m q ≡ None) → (n k : ℕ) → is_slot m n ≡ true → is_slot m k ≡ true → n < k → suc n ≤ low_of m k
+span_behind m near n k here there lt = ⊎_elim
+    (λ (a : low_of m k < suc n).
+    let x = (span_here m 0 Rattle.krl_protocol.specs.Links.Serving near k n (slot_near m near k there)).1 (omega (arith, a), omega (arith, lt)) in
+    let y = x.1 n (omega arith) lt in
+    absurd (is_slot_true m 0 Rattle.krl_protocol.specs.Links.Serving near n here y.1 y.0))
+    (λ (a : suc n ≤ low_of m k). a)
+    (cases_lt (low_of m k) (suc n))
+
+pub slots_ascend : (s : Server) → ((q : ℕ) → END ≤ q → fin.get s.durable.index q ≡ None) → (c n : ℕ) (ns : List ℕ) → is_slot s.durable.index n ≡ true → AreSlotsAfter s.durable.index n ns → Ascend (holdings s c (n ∷ ns))
+slots_ascend s near c n [] here h = (tt, tt)
+slots_ascend s near c n (k ∷ ks) here h = (span_behind s.durable.index near n k here h.1 h.0, slots_ascend s near c k ks h.1 h.2)
+
+pub holdings_whole : (s : Server) (c : ℕ) (ns : List ℕ) → AllByRecursion (λ h. IsWhole h.span) (holdings s c ns)
+holdings_whole s c [] = tt
+holdings_whole s c (n ∷ ns) = (let le = low_below s.durable.index n in omega (arith, le), holdings_whole s c ns)
+
+-- the first of some slots
+pub ascend_take : (s : Server) (c k : ℕ) (ns : List ℕ) → Ascend (holdings s c ns) → Ascend (holdings s c (take k ns))
+ascend_take s c zero ns h = tt
+ascend_take s c (suc k) [] h = tt
+ascend_take s c (suc k) (n ∷ ns) h = (before k ns h.0, ascend_take s c k ns h.1)
+  where
+    before : (k : ℕ) (ns : List ℕ) → IsBefore (holding s n c) (holdings s c ns) → IsBefore (holding s n c) (holdings s c (take k ns))
+    before zero ns x = tt
+    before (suc k) [] x = tt
+    before (suc k) (j ∷ js) x = x
+
+pub holdings_on : (s : Server) (c : ℕ) (ns : List ℕ) (n : ℕ) → holdings s c (ns ++ n ∷ []) ≡ holdings s c ns ++ holding s n c ∷ []
+holdings_on s c [] n = refl
+holdings_on s c (k ∷ ks) n = ap (λ l. holding s k c ∷ l) (holdings_on s c ks n)
+
+pub holdings_long : (s : Server) (c : ℕ) (ns : List ℕ) → length (holdings s c ns) ≡ length ns
+holdings_long s c [] = refl
+holdings_long s c (n ∷ ns) = ap (λ k. suc k) (holdings_long s c ns)
+
+some_there : {A : Type 0} (o : Option A) → is_some o ≡ true → IsSome o
+some_there None e = absurd (cc)
+some_there (Some x) e = refl
+
+-- each has a row
+pub rows_there : (m : Index) (t : Kept) → IsOver m t → (n : ℕ) (ns : List ℕ) → is_slot m n ≡ true → AreSlotsAfter m n ns → AllByRecursion (λ k. IsSome (fin.get t k)) (n ∷ ns)
+rows_there m t over n [] here h = (some_there (fin.get t n) (sym (over.same n) ∙ here), tt)
+rows_there m t over n (k ∷ ks) here h = (some_there (fin.get t n) (sym (over.same n) ∙ here), rows_there m t over k ks h.1 h.2)
+
+-- what a grant at a slot where somebody waits tells
+pub record IsTaken (t : Server) (rows : Kept) (c : ℕ) (slots : List ℕ) : Type 0 where
+  pub there : AllByRecursion (λ k. IsSome (fin.get rows k)) slots
+  pub order : Ascend (holdings t c slots)
+  pub some : 1 ≤ length slots
+  pub few : length slots ≤ most_holdings
+
+pub taken_told : (s t : Server) (rows : Kept) (n : ℕ) (u : Waiter) (slots : List ℕ) (rest : List Waiter) → ((q : ℕ) → END ≤ q → fin.get s.durable.index q ≡ None) → t.durable ≡ s.durable → IsOver s.durable.index rows → is_slot s.durable.index n ≡ true → (s.rows n).queue ≡ u ∷ rest → slots ≡ taken s.durable.index s.rows n → IsTaken t rows u.client slots
+taken_told s t rows n u slots rest near same over here queue is =
+    let m = s.durable.index in
+    let first = first_rows m s.rows n u rest queue in
+    let ns = taken_after m first n u most_more in
+    let after = taken_slots m u most_more n first in
+    let e : slots ≡ n ∷ ns = is ∙ taken_is m s.rows n u rest queue in
+    subst (IsTaken t rows u.client) (sym e)
+    (record {
+      there = rows_there m rows over n ns here after;
+      order = slots_ascend t (λ q a. ap (λ (d : Durable). fin.get d.index q) same ∙ near q a) u.client n ns (ap (λ (d : Durable). is_slot d.index n) same ∙ here) (subst (λ (d : Durable). AreSlotsAfter d.index n ns) (sym same) after);
+      some = omega arith;
+      few = let x = taken_few m u most_more n first in omega (arith, x);
+    })

@@ -1,0 +1,7 @@
+use Rattle.std.proofs.Common.{◌≡◌, take}
+use Rattle.krl_server.specs.States.{meaning}
+use Rattle.krl_server.specs.Effects.{holdings}
+use Rattle.krl_server.proofs.state.State.holdings.Given as goal
+
+abbrev pub invariant-loop-i : goal.invariant-loop-i
+invariant-loop-i l = l.all ≡ holdings (meaning l.self) l.client (take l.i l.slots)

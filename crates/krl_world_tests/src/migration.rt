@@ -1,0 +1,154 @@
+//! Worlds that begin with what survived when values were numbers. A call that is refused for want of
+//! memory is made again, so that each run ends alike, whichever request for memory is refused.
+ghost use Rattle.std.specs.Prelude.{◌≤◌, nat_eq};
+ghost use Rattle.std.specs.List.{AllByRecursion, IsDistinct};
+ghost use Rattle.std.specs.Map.{keys_of};
+ghost use Rattle.krl_modes.specs.declared.point.TheConstants.{END};
+ghost use Rattle.krl_durable.specs.Kept.{IsRow};
+
+use krl_durable::{DurableV1, Record, Refused as EntriesRefused};
+use krl_messages::Outcome;
+use krl_modes::END;
+use krl_server::{Phase, Server};
+use krl_world::{Refused, Step, World};
+use std::alloc::Global;
+use std::test::Fail;
+
+/// An incarnation that has left and never wrote.
+const GONE: Record = Record {
+    incarnation: 3,
+    left: true,
+    last: 0,
+    outcome: None,
+};
+
+/// One that left after its fourth write.
+const WRITER: Record = Record {
+    incarnation: 2,
+    left: true,
+    last: 4,
+    outcome: Some(Outcome::Exists),
+};
+
+/// One that has not left.
+const HERE: Record = Record {
+    incarnation: 3,
+    left: false,
+    last: 0,
+    outcome: None,
+};
+
+/// Who has left, in order of registration.
+static ALL_LEFT: [(u64, Record); 2] = [(0, GONE), (9, WRITER)];
+
+/// The first of them has not left.
+static ONE_HERE: [(u64, Record); 2] = [(0, HERE), (9, WRITER)];
+
+/// The last two of them have not left.
+static TWO_HERE: [(u64, Record); 3] = [(0, GONE), (3, HERE), (1, HERE)];
+
+/// What survived: one entry, this epoch and these records.
+fn survived(
+    alloc: Global,
+    epoch: u64,
+    records: &[(u64, Record)],
+) -> Result<DurableV1, EntriesRefused>
+    requires epoch { epoch ≤ END }
+    requires each { AllByRecursion IsRow records.now }
+    requires once { IsDistinct nat_eq (keys_of records.now) }
+{
+    match DurableV1::from_parts(alloc, &[(10, 258)], epoch, records) {
+        Err(EntriesRefused::OutOfMemory) => {
+            DurableV1::from_parts(alloc, &[(10, 258)], epoch, records)
+        }
+        made => made,
+    }
+}
+
+/// A world that begins with it.
+fn migrated(alloc: Global, old: &DurableV1) -> Result<World, Refused> {
+    match World::migrate(alloc, old) {
+        Err(Refused::OutOfMemory) => World::migrate(alloc, old),
+        made => made,
+    }
+}
+
+/// Whether no world begins with it, for this reason.
+fn is_refused(alloc: Global, old: &DurableV1, expected: Refused) -> bool {
+    match migrated(alloc, old) {
+        Ok(_) => false,
+        Err(refused) => refused == expected,
+    }
+}
+
+/// Whether the step is taken, at once or after a refusal.
+fn steps(world: &mut World, step: &Step) -> bool {
+    match world.step(*step) {
+        Ok(_) => true,
+        Err(Refused::OutOfMemory) => world.step(*step).is_ok(),
+        Err(_) => false,
+    }
+}
+
+/// Whether the client starts, and is registered with this incarnation once its Hello is delivered.
+fn starts_as(world: &mut World, client: u64, incarnation: u64) -> bool {
+    let hello = world.sent().saturating_add(1);
+    steps(world, &Step::StartClient(client))
+        && steps(world, &Step::Deliver(hello))
+        && is_registered(world, client, incarnation)
+}
+
+/// Whether the incarnation is the registered one of the client, and has not left.
+fn is_registered(world: &World, client: u64, incarnation: u64) -> bool {
+    match world
+        .server()
+        .and_then(|server| server.durable().record(client))
+    {
+        None => false,
+        Some(record) => record.incarnation == incarnation && !record.left,
+    }
+}
+
+/// Whether the server serves in the epoch.
+fn serves_in(server: &Server, epoch: u64) -> bool {
+    server.phase() == Phase::Serving && server.durable().epoch() == epoch
+}
+
+/// Whether the index has just the one entry, and its value is these bytes.
+fn has_bytes(world: &World, key: u64, bytes: &[u8]) -> bool {
+    match world.index() {
+        [(found, value)] => *found == key && value.bytes() == bytes,
+        _ => false,
+    }
+}
+
+#[test]
+fn a_world_goes_on_from_it(rt: HostRuntime) -> Result<(), Fail> {
+    let old = survived(rt.alloc(), 4, &ALL_LEFT)?;
+    let mut world = migrated(rt.alloc(), &old)?;
+    assert!(rt; world.server().is_some_and(|server| serves_in(server, 5)));
+    assert!(rt; has_bytes(&world, 10, &[0, 0, 0, 0, 0, 0, 1, 2]));
+    assert!(rt; world.sent() == 0 && world.writes().is_empty());
+    assert!(rt; starts_as(&mut world, 0, 4));
+    assert!(rt; starts_as(&mut world, 5, 1));
+    assert!(rt; starts_as(&mut world, 9, 3));
+    Ok(())
+}
+
+#[test]
+fn no_world_begins_while_somebody_has_not_left(rt: HostRuntime) -> Result<(), Fail> {
+    let old = survived(rt.alloc(), 4, &ONE_HERE)?;
+    assert!(rt; is_refused(rt.alloc(), &old, Refused::StillRegistered(0)));
+    let old = survived(rt.alloc(), END, &TWO_HERE)?;
+    assert!(rt; is_refused(rt.alloc(), &old, Refused::StillRegistered(3)));
+    Ok(())
+}
+
+#[test]
+fn no_world_begins_after_the_last_epoch(rt: HostRuntime) -> Result<(), Fail> {
+    let old = survived(rt.alloc(), END, &ALL_LEFT)?;
+    assert!(rt; is_refused(rt.alloc(), &old, Refused::Spent));
+    let old = survived(rt.alloc(), END - 1, &ALL_LEFT)?;
+    assert!(rt; migrated(rt.alloc(), &old).is_ok());
+    Ok(())
+}
