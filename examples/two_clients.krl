@@ -4,7 +4,7 @@ seed 10=1 20=2
 client 0
 client 1
 settle
-lock 0 5 RangeS-S
+lock 0 0 RangeS-S 11
 lock 1 10 U
 settle
 hold 0 10

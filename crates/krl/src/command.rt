@@ -5,8 +5,8 @@ ghost use Rattle.krl_script.specs.Limits.{most_steps};
 
 use clap::builder::ValueParser;
 use clap::{Arg, ArgAction, ArgMatches, Command, Error};
+use krl_drawing::Form;
 use krl_modes::END;
-use krl_picture::Form;
 use krl_script::MAX_STEPS;
 use std::alloc::{AllocError, Global};
 

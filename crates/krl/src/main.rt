@@ -7,6 +7,7 @@ ghost use Rattle.krl_script.specs.RandomRuns.{random_line};
 ghost use Rattle.krl.specs.Statuses.{RanTo, DroveTo};
 
 mod advice;
+mod blame;
 mod command;
 mod progress;
 mod status;
@@ -14,9 +15,10 @@ mod status;
 use clap::Error;
 use clap::error::ErrorKind;
 use command::{RandomOptions, Request};
-use krl_picture::{Form, write_picture};
+use krl_drawing::Form;
+use krl_picture::write_picture;
 use krl_script::{
-    AnyReader, AnyWriter, Progress, ScriptFault, Sink, Source, random_run, run_script,
+    AnyReader, AnyWriter, Progress, ScriptFault, Sink, Source, random_run, read_text, run_script,
 };
 use progress::Told;
 use status::NO_RUN;
@@ -61,28 +63,54 @@ fn complain(rt: &HostRuntime, error: &Error) {
     }
 }
 
-// Runs a script from standard input, and writes its transcript to standard output.
-fn script<R: Print + Eprint + Input + AllocGlobal>(rt: &R) -> u8 {
+// Reads a script from standard input. Where that fails it says why, and gives the exit status.
+fn text_of<R: Eprint + Input + AllocGlobal>(rt: &R) -> Result<Vec<u8>, u8> {
     let mut reader = AnyReader(rt.reader());
-    let mut writer = AnyWriter(io::writer(rt));
-    run_over(rt, &mut reader, &mut writer)
+    match read_text(rt.alloc(), &mut reader) {
+        Ok(text) => Ok(text),
+        Err(fault) => {
+            report(rt, fault, &[], advice::for_fault(fault));
+            Err(status::of_script(&Err(fault)))
+        }
+    }
 }
 
-// Runs a script from standard input, and writes a picture of its run to standard output.
-fn picture(rt: &HostRuntime, form: Form) -> u8 {
-    let mut reader = AnyReader(rt.reader());
+// Runs a script from standard input, and writes its transcript to standard output.
+fn script<R: Print + Eprint + Input + AllocGlobal>(rt: &R) -> u8 {
+    match text_of(rt) {
+        Ok(text) => {
+            let mut unread = text.as_slice();
+            let mut writer = AnyWriter(io::writer(rt));
+            run_over(rt, &text, &mut unread, &mut writer)
+        }
+        Err(status) => status,
+    }
+}
+
+// Writes a picture of this script's run to standard output.
+fn draw(rt: &HostRuntime, text: &[u8], form: Form) -> u8 {
+    let mut unread = text;
     let mut writer = AnyWriter(io::writer(rt));
-    let ended = write_picture(rt.alloc(), &mut reader, &mut writer, form);
+    let ended = write_picture(rt.alloc(), &mut unread, &mut writer, form);
     if let Err(fault) = &ended {
-        report(rt, *fault, advice::for_fault(*fault));
+        report(rt, *fault, text, advice::for_fault(*fault));
     }
     status::of_script(&ended)
 }
 
+// Runs a script from standard input, and writes a picture of its run to standard output.
+fn picture(rt: &HostRuntime, form: Form) -> u8 {
+    match text_of(rt) {
+        Ok(text) => draw(rt, &text, form),
+        Err(status) => status,
+    }
+}
+
 // Runs the script that is read, writes its transcript, and says on standard error why it ended
-// before its last line.
+// before its last line; the text of the script serves that sentence alone.
 fn run_over<H: Eprint + AllocGlobal, R: Source, W: Sink>(
     rt: &H,
+    text: &[u8],
     reader: &mut R,
     writer: &mut W,
 ) -> u8
@@ -91,7 +119,7 @@ fn run_over<H: Eprint + AllocGlobal, R: Source, W: Sink>(
 {
     let ended = run_script(rt.alloc(), reader, writer);
     if let Err(fault) = &ended {
-        report(rt, *fault, advice::for_fault(*fault));
+        report(rt, *fault, text, advice::for_fault(*fault));
     }
     status::of_script(&ended)
 }
@@ -116,15 +144,22 @@ fn random_over<H: Eprint + AllocGlobal, W: Sink, P: Progress>(
 {
     let ended = random_run(rt.alloc(), writer, progress, options.seed, options.steps);
     if let Err(fault) = &ended {
-        report(rt, *fault, advice::for_random(*fault));
+        report(rt, *fault, &[], advice::for_random(*fault));
     }
     status::of_random(&ended)
 }
 
-// Says on standard error why a run ended, and what can be done about it. Where that can't be
-// written, the status alone is left to say it.
-fn report(rt: &impl Eprint, fault: ScriptFault, advice: &str) {
-    let _ = eprintln!(rt; "krl: {fault} ({advice})");
+// Says on standard error why a run ended, which word of the script it is about, and what can be
+// done. Where that can't be written, the status alone is left to say it.
+fn report(rt: &impl Eprint, fault: ScriptFault, text: &[u8], advice: &str) {
+    let word = match fault {
+        ScriptFault::Syntax { line, what } => blame::word_of(text, line, what),
+        _ => None,
+    };
+    let _ = match word {
+        Some(word) => eprintln!(rt; "krl: {fault} '{word}' ({advice})"),
+        None => eprintln!(rt; "krl: {fault} ({advice})"),
+    };
 }
 
 fn main(rt: HostRuntime) -> ExitCode {

@@ -1,9 +1,8 @@
 //! A script is run, and what happens is noted.
-use crate::row::{Fate, Form, Node, Row};
-use crate::{label, svg, text};
+use krl_drawing::{Fate, Form, Node, Row, draw, to_client, to_server};
 use krl_script::{
     Interpreter, LineFault, MAX_DELIVERIES, MAX_TEXT, Request, ScriptFault, Sink, Source,
-    SyntaxFault, first_line, read_text,
+    SyntaxFault, first_line, read_text, write_line,
 };
 use krl_world::{Command, Message, Step};
 use std::alloc::{AllocError, Global};
@@ -107,11 +106,11 @@ impl Recorder {
     fn message(&self, number: u64) -> Result<Option<(Node, Node, String)>, AllocError> {
         match self.interpreter.world().message(number) {
             Some(Message::ToServer(message)) => {
-                let label = label::to_server(self.alloc, message)?;
+                let label = to_server(self.alloc, message)?;
                 Ok(Some((Node::Client(message.client), Node::Server, label)))
             }
             Some(Message::ToClient(message)) => {
-                let label = label::to_client(self.alloc, message)?;
+                let label = to_client(self.alloc, message)?;
                 Ok(Some((Node::Server, Node::Client(message.client), label)))
             }
             None => Ok(None),
@@ -286,9 +285,7 @@ pub fn write_picture<R: Source, W: Sink>(
     }
     let mut recorder = Recorder::new(alloc)?;
     let ended = recorder.run(&script);
-    match form {
-        Form::Text => text::draw(alloc, &recorder.rows, writer)?,
-        Form::Svg => svg::draw(alloc, &recorder.rows, writer)?,
-    }
+    let picture = draw(alloc, &recorder.rows, form)?;
+    write_line(writer, &picture)?;
     ended
 }

@@ -2,7 +2,6 @@
 use crate::canvas::{Canvas, WIDTH};
 use crate::layout::Layout;
 use crate::row::{Fate, Node, Row};
-use krl_script::{ScriptFault, Sink, write_line};
 use std::alloc::{AllocError, Global};
 
 // The columns before the first node.
@@ -154,14 +153,13 @@ fn drawn(alloc: Global, layout: &Layout, row: &Row) -> Result<Canvas, AllocError
     }
 }
 
-/// Writes the picture of these lines.
-pub fn draw<W: Sink>(alloc: Global, rows: &[Row], writer: &mut W) -> Result<(), ScriptFault> {
+/// The picture of these lines.
+pub fn draw(alloc: Global, rows: &[Row]) -> Result<Vec<u8>, AllocError> {
     let layout = Layout::of(alloc, rows)?;
-    let names = head(alloc, &layout)?.line(alloc)?;
-    write_line(writer, &names)?;
+    let mut picture = head(alloc, &layout)?.line(alloc)?;
     for row in rows {
         let line = drawn(alloc, &layout, row)?.line(alloc)?;
-        write_line(writer, &line)?;
+        picture.extend_from_slice(&line)?;
     }
-    Ok(())
+    Ok(picture)
 }

@@ -1,7 +1,6 @@
 //! A picture as a drawing in SVG.
 use crate::layout::Layout;
 use crate::row::{Fate, Node, Row};
-use krl_script::{ScriptFault, Sink, write_line};
 use std::alloc::{AllocError, Global};
 
 // Pixels: from one line to the next, before the first node, and from one node to the next.
@@ -148,19 +147,19 @@ fn drawn(alloc: Global, layout: &Layout, y: usize, row: &Row) -> Result<String, 
     }
 }
 
-/// Writes the drawing of these lines.
-pub fn draw<W: Sink>(alloc: Global, rows: &[Row], writer: &mut W) -> Result<(), ScriptFault> {
+/// The drawing of these lines.
+pub fn draw(alloc: Global, rows: &[Row]) -> Result<Vec<u8>, AllocError> {
     let layout = Layout::of(alloc, rows)?;
     let lines = rows.len();
-    let opening = head(alloc, &layout, lines)?;
-    write_line(writer, opening.as_bytes())?;
+    let mut drawing = head(alloc, &layout, lines)?;
     for place in 0..layout.count() {
         let line = stroke(alloc, &layout, place, lines)?;
-        write_line(writer, line.as_bytes())?;
+        drawing.push_str(&line)?;
     }
     for (i, row) in rows.iter().enumerate() {
         let line = drawn(alloc, &layout, down(i.saturating_add(1)), row)?;
-        write_line(writer, line.as_bytes())?;
+        drawing.push_str(&line)?;
     }
-    write_line(writer, b"</svg>\n")
+    drawing.push_str("</svg>\n")?;
+    Ok(drawing.into_bytes())
 }
