@@ -50,7 +50,8 @@ answer() {
     *:--version:* | *:-V:*) text=version ;;
     2:script:--help | 2:script:-h | 2:help:script) text=script ;;
     2:random:--help | 2:random:-h | 2:help:random) text=random ;;
-    *:script:* | *:random:*) return 0 ;;
+    2:nodes:--help | 2:nodes:-h | 2:help:nodes) text=nodes ;;
+    *:script:* | *:random:* | *:nodes:*) return 0 ;;
     *:help:*) refuse "unrecognized subcommand '$2'" ;;
     *:-*) refuse "unexpected argument '$1' found" ;;
     *) refuse "unrecognized subcommand '$1'" ;;
@@ -98,13 +99,6 @@ made_of() {
         }' "$top/crates.txt"
 }
 
-# The lines of the list $1 that are in the list $2, or, with -v before them, those that are not.
-among() {
-    invert=
-    [ "$1" != -v ] || { invert=-v; shift; }
-    echo "$1" | grep -Fx $invert -e "$2" || :
-}
-
 # Calls rt in the folder $1 with the words behind $2, and keeps what it says as $2.log. Where it fails, the end of that
 # is shown.
 call_rt() {
@@ -122,45 +116,92 @@ tell() {
     say "proving $1, crate $at of $count; $((($(date +%s) - began) / 60)) minutes so far"
 }
 
-# Proves the crates of the list $2 in the tree $1, one after another.
-prove() {
-    for name in $2; do
-        tell "$name"
-        call_rt "$1/crates/$name" "$name" lib || {
-            say "$name is not proved; the lines above say why"
-            return 1
-        }
-    done
-}
-
 # Whether there are processors and memory for two proofs side by side.
 has_room_for_two() {
     [ "$(nproc)" -ge 4 ] && awk '$1 == "MemAvailable:" { room = $2 } END { exit room < 12000000 }' /proc/meminfo
 }
 
-# Proves what the client is made of beside what the server is made of. Two runs of rt in one tree wait for each other,
-# so the client's part is proved in a copy of the tree, and what rt keeps of it is brought back.
+# Whether each crate below $1 is proved.
+is_ready() {
+    while read -r below; do
+        [ "$below" = "$1" ] || [ -d "$work/proved/$below" ] || return 1
+    done <"$work/below/$1"
+}
+
+# Takes the lowest library that nobody has taken and that can be proved by now. Prints its name, or 'none' where all are
+# taken, or 'later' where those that are left wait for another.
+take() {
+    found=none
+    for name in $libraries; do
+        [ ! -d "$work/taken/$name" ] || continue
+        found=later
+        if is_ready "$name" && mkdir "$work/taken/$name" 2>/dev/null; then
+            found=$name
+            break
+        fi
+    done
+    echo "$found"
+}
+
+# Proves the library $2 in the tree $1.
+prove() {
+    tell "$2"
+    call_rt "$1/crates/$2" "$2" lib || {
+        say "$2 is not proved; the lines above say why"
+        return 1
+    }
+}
+
+# Copies the folder $3 from the tree $1 to the tree $2, if it is there.
+copy_folder() {
+    rm -rf "${2:?}/$3"
+    [ ! -d "$1/$3" ] || { mkdir -p "$2/$3" && cp -Rp "$1/$3/." "$2/$3"; }
+}
+
+# Proves the library $2 in the copy $1 of the tree, over the libraries below it.
+prove_in_copy() {
+    while read -r below; do
+        [ "$below" != "$2" ] || continue
+        [ -d "$work/brought/$below" ] || copy_folder "$top" "$1" "crates/$below/out/rlib"
+        mkdir -p "$work/brought/$below"
+    done <"$work/below/$2"
+    copy_folder "$top" "$1" "crates/$2/out"
+    mkdir "$work/brought/$2"
+    prove "$1" "$2" || return 1
+    copy_folder "$1" "$top" "crates/$2/out"
+}
+
+# Proves libraries, by the command and the words $*, as long as there are some and none has failed.
+prove_as_they_come() {
+    name=$(take)
+    while [ "$name" != none ] && [ ! -e "$work/failed" ]; do
+        if [ "$name" = later ]; then
+            sleep 1
+        elif "$@" "$name"; then
+            mkdir "$work/proved/$name"
+        else
+            : >"$work/failed"
+        fi
+        name=$(take)
+    done
+    [ ! -e "$work/failed" ]
+}
+
+# Proves two libraries at a time. Two runs of rt in one tree wait for each other, so every other one is proved in a copy
+# of the tree, and what rt keeps of it is brought back.
 prove_side_by_side() {
     copy=$work/copy
-    mkdir "$copy"
+    mkdir "$copy" "$work/brought"
     (cd "$top" && tar cf - --exclude out crates.txt crates) | (cd "$copy" && tar xf -)
-    for name in $(made_of krl_client_machine); do
-        [ ! -d "$top/crates/$name/out" ] || cp -Rp "$top/crates/$name/out" "$copy/crates/$name"
-    done
     (
-        trap 'kill "$running"' TERM
-        prove "$copy" "$1"
+        trap '[ -z "$running" ] || kill "$running"; exit 1' TERM
+        prove_as_they_come prove_in_copy "$copy"
     ) &
     other=$!
     failed=0
-    prove "$top" "$2" || failed=1
+    prove_as_they_come prove "$top" || failed=1
     wait "$other" || failed=1
     other=
-    for name in $1; do
-        rm -rf "$top/crates/$name/out"
-        [ ! -d "$copy/crates/$name/out" ] || mv "$copy/crates/$name/out" "$top/crates/$name/out"
-    done
-    rm -rf "$copy"
     return "$failed"
 }
 
@@ -170,16 +211,17 @@ prove_and_build() {
     began=$(date +%s)
     all=$(made_of krl)
     count=$(echo "$all" | wc -l)
-    server=$(made_of krl_server)
-    client=$(made_of krl_client_machine)
+    libraries=$(echo "$all" | grep -vFx krl)
+    mkdir "$work/below" "$work/taken" "$work/proved"
+    for name in $libraries; do
+        made_of "$name" >"$work/below/$name"
+    done
     say "proving and building the program: about 20 minutes on four processors the first time, less after an edit"
-    left=$(among -v "$all" krl)
     if has_room_for_two; then
-        prove "$top" "$(among "$server" "$client")" || exit 1
-        prove_side_by_side "$(among -v "$client" "$server")" "$(among -v "$server" "$client")" || exit 1
-        left=$(among -v "$(among -v "$left" "$server")" "$client")
+        prove_side_by_side || exit 1
+    else
+        prove_as_they_come prove "$top" || exit 1
     fi
-    prove "$top" "$left" || exit 1
     tell krl
     # A script of no lines writes nothing, so the run that rt makes after the build can't be seen.
     call_rt "$crate" krl run -- script || {

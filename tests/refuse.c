@@ -5,7 +5,8 @@
 #include <stdlib.h>
 #include <unistd.h>
 
-static long requests, refused_at = -1;
+static _Atomic long requests;
+static long refused_at = -1;
 
 static int is_refused(void) {
     if (refused_at < 0) {

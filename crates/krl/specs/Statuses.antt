@@ -1,10 +1,9 @@
 -- The exit status of each ending.
 use Rattle.std.specs.Prelude.{◌≡◌, ◌⊎◌, ℕ, Bool, true, false, List, Result, Ok, Err}
 use Rattle.std.specs.Io.KnownBytes.{Appends}
-use Rattle.clap.specs.declared.error.kind.ErrorKind.{ErrorKind}
-use Rattle.clap.specs.declared.error.kind.ErrorKind.TheVariants.{OutOfMemory}
-use Rattle.krl_script.specs.declared.fault.ScriptFault.{ScriptFault}
-use Rattle.krl_script.specs.Runs.{Known, Ran}
+use Rattle.krl_text.specs.declared.fault.ScriptFault.{ScriptFault}
+use Rattle.krl_script.specs.Runs.{Ran}
+use Rattle.krl_text.specs.Transfers.{Known}
 use Rattle.krl_script.specs.RandomRuns.{WroteFrontOf}
 
 -- of a script: 0 where its last line was run, else 1
@@ -17,12 +16,6 @@ abbrev pub random_status : {A : Type 0} → Result (A × Bool) ScriptFault → �
 random_status (Ok (w, true)) = 0
 random_status (Ok (w, false)) = 1
 random_status (Err fault) = 1
-
--- Of a command line that asks for no run: 1 where memory ran out, else 2. Words that ask for help
--- are such a line.
-abbrev pub words_status : ErrorKind → ℕ
-words_status OutOfMemory = 1
-words_status other = 2
 
 -- A script was run, with this status.
 abbrev pub RanTo : Known → Known → Known → Known → ℕ → Type 0

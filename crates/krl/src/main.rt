@@ -1,65 +1,53 @@
-//! The program: `krl script` runs a script that is read from standard input, and `krl random`
-//! drives a world through steps that are drawn.
+//! The program: `krl script` runs a script that is read from standard input, `krl random` drives a
+//! world through steps that are drawn, and `krl nodes` runs a server and two clients on threads.
 #![tactic(auto)]
 
-ghost use Rattle.std.specs.Prelude.{None};
+ghost use Rattle.std.specs.Prelude.{◌≡◌, None};
 ghost use Rattle.krl_script.specs.RandomRuns.{random_line};
-ghost use Rattle.krl.specs.Statuses.{RanTo, DroveTo};
+ghost use Rattle.krl.specs.Statuses.{RanTo, DroveTo, random_status};
 
-mod advice;
-mod blame;
-mod command;
+mod nodes;
 mod progress;
 mod status;
 
-use clap::Error;
-use clap::error::ErrorKind;
-use command::{RandomOptions, Request};
+use krl_command_line::{NO_RUN, RandomOptions, Request, read, say_of_run, say_of_script};
 use krl_drawing::Form;
+use krl_nodes::run_nodes;
 use krl_picture::write_picture;
 use krl_script::{
-    AnyReader, AnyWriter, Progress, ScriptFault, Sink, Source, random_run, read_text, run_script,
+    AnyReader, AnyWriter, Progress, ScriptFault, Sink, Source, busy_run, random_run, read_text,
+    run_script,
 };
+use nodes::{Telling, tell};
 use progress::Told;
-use status::NO_RUN;
 use std::io;
 use std::io::IsTerminal;
 use std::process::ExitCode;
+use std::sync::Wait;
+use std::thread::Threads;
+use std::time::Clock;
 
-// Does what the command line says, and gives the exit status. Words that are refused are status 2,
-// also where standard error can't be written to say so, and every other failure is status 1.
-fn run(rt: &HostRuntime) -> io::Result<u8> {
+// What the command line asks for, or the exit status of words that ask for no run. Words that are
+// refused are status 2, also where standard error can't be written to say so.
+fn asked(rt: &HostRuntime) -> io::Result<Result<Request, u8>> {
     let words = match std::env::args(rt) {
         Err(error) if error.kind() == io::ErrorKind::InvalidData => {
             let _ = eprintln!(rt; "krl: a word of the command line is no UTF-8 (try 'krl --help')");
-            return Ok(NO_RUN);
+            return Ok(Err(NO_RUN));
         }
         words => words?,
     };
     let words: Vec<String> = words.collect(rt.alloc())?;
-    Ok(obey(rt, command::read(rt.alloc(), words.as_slice())))
+    Ok(read(rt, words.as_slice()))
 }
 
-// Does what was asked for.
-fn obey(rt: &HostRuntime, request: Result<Request, Error>) -> u8 {
+// Does what was asked for, on one thread.
+fn obey(rt: &HostRuntime, request: Request) -> u8 {
     match request {
-        Ok(Request::Script) => script(rt),
-        Ok(Request::Picture(form)) => picture(rt, form),
-        Ok(Request::Random(Some(options))) => random(rt, &options),
-        Ok(Request::Random(None)) => NO_RUN,
-        Err(error) => {
-            complain(rt, &error);
-            status::of_words(&error)
-        }
-    }
-}
-
-// Says what clap found.
-fn complain(rt: &HostRuntime, error: &Error) {
-    if error.kind() == ErrorKind::OutOfMemory {
-        let _ = eprintln!(rt; "krl: {}", io::Error::from(io::ErrorKind::OutOfMemory));
-    } else {
-        let _ = rt.eprint(error);
+        Request::Script => script(rt),
+        Request::Picture(form) => picture(rt, form),
+        Request::Random(Some(options)) => random(rt, &options),
+        Request::Random(None) | Request::Nodes => NO_RUN,
     }
 }
 
@@ -69,7 +57,7 @@ fn text_of<R: Eprint + Input + AllocGlobal>(rt: &R) -> Result<Vec<u8>, u8> {
     match read_text(rt.alloc(), &mut reader) {
         Ok(text) => Ok(text),
         Err(fault) => {
-            report(rt, fault, &[], advice::for_fault(fault));
+            say_of_script(rt, fault, &[]);
             Err(status::of_script(&Err(fault)))
         }
     }
@@ -93,7 +81,7 @@ fn draw(rt: &HostRuntime, text: &[u8], form: Form) -> u8 {
     let mut writer = AnyWriter(io::writer(rt));
     let ended = write_picture(rt.alloc(), &mut unread, &mut writer, form);
     if let Err(fault) = &ended {
-        report(rt, *fault, text, advice::for_fault(*fault));
+        say_of_script(rt, *fault, text);
     }
     status::of_script(&ended)
 }
@@ -119,7 +107,7 @@ fn run_over<H: Eprint + AllocGlobal, R: Source, W: Sink>(
 {
     let ended = run_script(rt.alloc(), reader, writer);
     if let Err(fault) = &ended {
-        report(rt, *fault, text, advice::for_fault(*fault));
+        say_of_script(rt, *fault, text);
     }
     status::of_script(&ended)
 }
@@ -132,6 +120,16 @@ fn random(rt: &HostRuntime, options: &RandomOptions) -> u8 {
     random_over(rt, &mut writer, &mut progress, options)
 }
 
+// The exit status of a random run. Where its line can't be written, that is said on standard error.
+fn status_of<H: Eprint + AllocGlobal, T>(rt: &H, ended: &Result<(T, bool), ScriptFault>) -> u8
+    ensures { result ≡ random_status ended.now }
+{
+    if let Err(fault) = ended {
+        say_of_run(rt, *fault);
+    }
+    status::of_random(ended)
+}
+
 // Takes the steps, writes the line of the run, and says on standard error why it can't be written.
 fn random_over<H: Eprint + AllocGlobal, W: Sink, P: Progress>(
     rt: &H,
@@ -142,32 +140,36 @@ fn random_over<H: Eprint + AllocGlobal, W: Sink, P: Progress>(
     ensures { DroveTo (W.contents writer.old) (W.contents writer.new)
         (random_line options.now.seed options.now.steps None) result }
 {
-    let ended = random_run(rt.alloc(), writer, progress, options.seed, options.steps);
-    if let Err(fault) = &ended {
-        report(rt, *fault, &[], advice::for_random(*fault));
+    let (seed, steps) = (options.seed, options.steps);
+    if options.busy {
+        let ended = busy_run(rt.alloc(), writer, progress, seed, steps);
+        status_of(rt, &ended)
+    } else {
+        let ended = random_run(rt.alloc(), writer, progress, seed, steps);
+        status_of(rt, &ended)
     }
-    status::of_random(&ended)
 }
 
-// Says on standard error why a run ended, which word of the script it is about, and what can be
-// done. Where that can't be written, the status alone is left to say it.
-fn report(rt: &impl Eprint, fault: ScriptFault, text: &[u8], advice: &str) {
-    let word = match fault {
-        ScriptFault::Syntax { line, what } => blame::word_of(text, line, what),
-        _ => None,
-    };
-    let _ = match word {
-        Some(word) => eprintln!(rt; "krl: {fault} '{word}' ({advice})"),
-        None => eprintln!(rt; "krl: {fault} ({advice})"),
-    };
+// Runs a server and two clients on threads, and prints what the second client read.
+fn run_threads<R: Threads + Wait + Sync + Clock + Print + Eprint + AllocGlobal>(
+    rt: &R,
+    is_told: bool,
+) -> u8 {
+    let first = Telling::new(rt, 1, is_told);
+    let second = Telling::new(rt, 2, is_told);
+    let ended = run_nodes(rt, rt.alloc(), first, second);
+    tell(rt, &mut AnyWriter(io::writer(rt)), &ended)
 }
 
 fn main(rt: HostRuntime) -> ExitCode {
-    match run(&rt) {
-        Ok(status) => ExitCode::from(status),
+    let status = match asked(&rt) {
+        Ok(Ok(Request::Nodes)) => run_threads(&rt, rt.stderr().is_terminal()),
+        Ok(Ok(request)) => obey(&rt, request),
+        Ok(Err(status)) => status,
         Err(error) => {
             let _ = eprintln!(rt; "krl: {error}");
-            ExitCode::FAILURE
+            1
         }
-    }
+    };
+    ExitCode::from(status)
 }

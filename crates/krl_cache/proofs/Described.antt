@@ -1,5 +1,5 @@
--- Some pieces describe each belief: one for each point. No call makes them.
-use Rattle.std.proofs.Common.{◌≡◌, ℕ, zero, suc, ◌+◌, ◌≤◌, ◌<◌, inl, inr, Bool, true, false, cond, List, [], ◌∷◌, refl, sym, ap, ◌∙◌, arith}
+-- Some pieces describe each belief, put together from its last point down. No call makes them.
+use Rattle.std.proofs.Common.{◌≡◌, ◌≢◌, ◌⊎◌, ℕ, zero, suc, ◌+◌, ◌≤◌, ◌<◌, inl, inr, Bool, true, false, ◌||◌, cond, List, [], ◌∷◌, refl, sym, ap, ◌∙◌, arith}
 use Rattle.std.specs.Prelude.{nat_eq}
 use Rattle.std.proofs.lemmas.Bool.Decides.{nat_tests, leb_tells, eqb_tells}
 use Rattle.krl_modes.specs.declared.point.TheConstants.{END, TOP}
@@ -12,13 +12,10 @@ use Rattle.krl_modes.specs.Spans.{contains}
 use Rattle.krl_messages.specs.declared.range_pieces.RangePiece.{RangePiece}
 use Rattle.krl_messages.specs.declared.key_pieces.KeyPiece.{KeyPiece}
 use Rattle.krl_cache.specs.Beliefs.{Belief, IsBelief}
-use Rattle.krl_cache.specs.Kept.{range_said, key_said, AreInOrder, AreAscending, Describes, BeliefsAreDescribed}
+use Rattle.krl_cache.specs.Kept.{range_said, key_said, AreInOrder, DiffersFromNext, AreMerged, AreAscending, Describes, BeliefsAreDescribed}
+use Rattle.krl_messages.specs.declared.pieces.Pieces.{Pieces}
 use Rattle.krl_cache.proofs.Calls.{past_end}
-
--- a piece for each of n points from p on
-unfoldable ranges_from : (ℕ → RangePart) → ℕ → ℕ → List RangePiece
-ranges_from f p zero = []
-ranges_from f p (suc n) = record { span = record { lo = p; hi = suc p }; part = f p } ∷ ranges_from f (suc p) n
+use Rattle.krl_cache.proofs.Pieces.{outside_before}
 
 abbrev key_before : Bool → ℕ → KeyPart → List KeyPiece → List KeyPiece
 key_before true p part ks = record { point = p; part = part } ∷ ks
@@ -30,32 +27,133 @@ keys_from f p (suc n) = key_before (reads_key (f p)) p (f p) (keys_from f (suc p
 
 -- Range parts
 
-ranges_in_order : (f : ℕ → RangePart) (p n : ℕ) → p + n ≤ TOP → AreInOrder p (ranges_from f p n)
-unfolding ranges_from
-ranges_in_order f p zero l = tt
-ranges_in_order f p (suc n) l = (omega arith, omega arith, omega (arith, l), ranges_in_order f (suc p) n (omega (arith, l)))
+-- the pieces say f from p on for n points, and no more
+record SaysFrom (f : ℕ → RangePart) (p n : ℕ) (xs : List RangePiece) : Type 0 where
+  in_order : AreInOrder p xs
+  merged : AreMerged xs
+  inside : (q : ℕ) → p ≤ q → q < p + n → range_said xs q ≡ f q
+  after : (q : ℕ) → p + n ≤ q → range_said xs q ≡ range.N
 
-one_point : (p q : ℕ) → contains (record { lo = p; hi = suc p }) q ≡ nat_eq q p
-one_point p q = grind (arith, nat_tests)
+abbrev number_of : RangePart → ℕ
+number_of range.N = 0
+number_of range.S = 1
+number_of range.I = 2
+number_of range.X = 3
 
-ranges_inside : (f : ℕ → RangePart) (p n q : ℕ) → p ≤ q → q < p + n → range_said (ranges_from f p n) q ≡ f q
-unfolding ranges_from
-ranges_inside f p zero q a b = absurd (omega (arith, a, b))
-ranges_inside f p (suc n) q a b =
-    ap (λ (t : Bool). cond t (f p) (range_said (ranges_from f (suc p) n) q)) (one_point p q)
-    ∙ elim (eqb_tells q p) [
-      | inl e ↦ ap (λ (t : Bool). cond t (f p) (range_said (ranges_from f (suc p) n) q)) e.0 ∙ ap f (sym e.1)
-      | inr e ↦ ap (λ (t : Bool). cond t (f p) (range_said (ranges_from f (suc p) n) q)) e.0 ∙ ranges_inside f (suc p) n q (omega (arith, a, e.1)) (omega (arith, b))
+abbrev of_number : ℕ → RangePart
+of_number zero = range.N
+of_number (suc zero) = range.S
+of_number (suc (suc zero)) = range.I
+of_number (suc (suc (suc n))) = range.X
+
+numbered : (r : RangePart) → of_number (number_of r) ≡ r
+numbered range.N = refl
+numbered range.S = refl
+numbered range.I = refl
+numbered range.X = refl
+
+same_or_not : (a b : RangePart) → (a ≡ b) ⊎ (a ≢ b)
+same_or_not a b =
+    elim (eqb_tells (number_of a) (number_of b)) [
+      | inl h ↦ inl (sym (numbered a) ∙ ap of_number h.1 ∙ numbered b)
+      | inr h ↦ inr (λ e. h.1 (ap number_of e))
     ]
 
-ranges_after : (f : ℕ → RangePart) (p n q : ℕ) → p + n ≤ q → range_said (ranges_from f p n) q ≡ range.N
-unfolding ranges_from
-ranges_after f p zero q a = refl
-ranges_after f p (suc n) q a =
-    ap (λ (t : Bool). cond t (f p) (range_said (ranges_from f (suc p) n) q)) (one_point p q)
-    ∙ elim (eqb_tells q p) [
-      | inl e ↦ absurd (omega (arith, a, e.1))
-      | inr e ↦ ap (λ (t : Bool). cond t (f p) (range_said (ranges_from f (suc p) n) q)) e.0 ∙ ranges_after f (suc p) n q (omega (arith, a))
+in_order_lower : (a b : ℕ) (xs : List RangePiece) → a ≤ b → AreInOrder b xs → AreInOrder a xs
+in_order_lower a b [] l h = tt
+in_order_lower a b (x ∷ xs) l h = (omega (arith, l, h.0), h.1, h.2, h.3)
+
+in_order_before : (lo q : ℕ) (xs : List RangePiece) → AreInOrder lo xs → q < lo → range_said xs q ≡ range.N
+in_order_before lo q [] h l = refl
+in_order_before lo q (x ∷ xs) h l =
+    let out : contains x.span q ≡ false = outside_before x.span.lo x.span.hi q (omega (arith, h.0, l)) in
+    rw out (in_order_before x.span.hi q xs h.3 (omega (arith, h.0, h.1, l)))
+
+-- a piece at one point, where another part follows
+abbrev alone : ℕ → RangePart → RangePiece
+alone p r = record { span = record { lo = p; hi = suc p }; part = r }
+
+-- the first piece, from a point before it on
+abbrev longer : ℕ → RangePiece → RangePiece
+longer p y = record { span = record { lo = p; hi = y.span.hi }; part = y.part }
+
+says_alone : (p q : ℕ) (r : RangePart) (xs : List RangePiece) → range_said (alone p r ∷ xs) q ≡ cond (nat_eq q p) r (range_said xs q)
+says_alone p q r xs = let one : contains (record { lo = p; hi = suc p }) q ≡ nat_eq q p = grind (arith, nat_tests) in ap (λ (t : Bool). cond t r (range_said xs q)) one
+
+says_longer : (p q : ℕ) (y : RangePiece) (ys : List RangePiece) → y.span.lo ≡ suc p → y.span.lo < y.span.hi → range_said (longer p y ∷ ys) q ≡ cond (nat_eq q p) y.part (range_said (y ∷ ys) q)
+says_longer p q y ys e l = both (contains (record { lo = p; hi = y.span.hi }) q) (contains y.span q) (nat_eq q p) (range_said ys q) (grind (arith, nat_tests))
+  where
+    both : (b c t : Bool) (r : RangePart) → b ≡ (t || c) → cond b y.part r ≡ cond t y.part (cond c y.part r)
+    both true true true r h = refl
+    both true true false r h = refl
+    both true false true r h = refl
+    both true false false r h = absurd (let bad : true ≡ false = h in cc)
+    both false c true r h = absurd (let bad : false ≡ true = h in cc)
+    both false true false r h = absurd (let bad : false ≡ true = h in cc)
+    both false false false r h = refl
+
+-- one more point in front
+says_more : (f : ℕ → RangePart) (p n : ℕ) (r : RangePart) (xs ys : List RangePiece) → f p ≡ r → SaysFrom f (suc p) n xs → ((q : ℕ) → range_said ys q ≡ cond (nat_eq q p) r (range_said xs q)) → AreInOrder p ys → AreMerged ys → SaysFrom f p (suc n) ys
+says_more f p n r xs ys here h said order merged = record {
+  in_order = order;
+  merged = merged;
+  inside = λ q a b. said q ∙ elim (eqb_tells q p) [
+    | inl e ↦ ap (λ (t : Bool). cond t r (range_said xs q)) e.0 ∙ sym here ∙ ap f (sym e.1)
+    | inr e ↦ ap (λ (t : Bool). cond t r (range_said xs q)) e.0 ∙ h.inside q (omega (arith, a, e.1)) (omega (arith, b))
+  ];
+  after = λ q a. said q ∙ elim (eqb_tells q p) [
+    | inl e ↦ absurd (omega (arith, a, e.1))
+    | inr e ↦ ap (λ (t : Bool). cond t r (range_said xs q)) e.0 ∙ h.after q (omega (arith, a))
+  ];
+}
+
+differs_as : (x y : RangePiece) (ys : List RangePiece) → x.span.hi ≡ y.span.hi → x.part ≡ y.part → DiffersFromNext y ys → DiffersFromNext x ys
+differs_as x y [] e r d = tt
+differs_as x y (z ∷ zs) e r d = λ same also. d (same ∙ e) (also ∙ r)
+
+abbrev Said : (ℕ → RangePart) → ℕ → ℕ → Type 0
+Said f p n = (xs : List RangePiece) × SaysFrom f p n xs
+
+says_none : (f : ℕ → RangePart) (p n : ℕ) (xs : List RangePiece) → f p ≡ range.N → SaysFrom f (suc p) n xs → SaysFrom f p (suc n) xs
+says_none f p n xs here h =
+    says_more f p n range.N xs xs here h
+    (λ q. elim (eqb_tells q p) [
+      | inl e ↦
+          in_order_before (suc p) q xs h.in_order (omega (arith, e.1)) ∙ sym (ap (λ (t : Bool). cond t range.N (range_said xs q)) e.0)
+      | inr e ↦ sym (ap (λ (t : Bool). cond t range.N (range_said xs q)) e.0)
+    ])
+    (in_order_lower p (suc p) xs (omega arith) h.in_order) h.merged
+
+says_apart : (f : ℕ → RangePart) (p n : ℕ) (r : RangePart) (xs : List RangePiece) → suc p ≤ TOP → f p ≡ r → r ≢ range.N → SaysFrom f (suc p) n xs → DiffersFromNext (alone p r) xs → SaysFrom f p (suc n) (alone p r ∷ xs)
+says_apart f p n r xs l here held h d =
+    says_more f p n r xs (alone p r ∷ xs) here h (λ q. says_alone p q r xs)
+    (omega arith, omega arith, l, h.in_order) (held, d, h.merged)
+
+says_joined : (f : ℕ → RangePart) (p n : ℕ) (y : RangePiece) (ys : List RangePiece) → f p ≡ y.part → y.span.lo ≡ suc p → SaysFrom f (suc p) n (y ∷ ys) → SaysFrom f p (suc n) (longer p y ∷ ys)
+says_joined f p n y ys here e h =
+    says_more f p n y.part (y ∷ ys) (longer p y ∷ ys) here h (λ q. says_longer p q y ys e h.in_order.1)
+    (omega arith, omega (arith, e, h.in_order.1), h.in_order.2, h.in_order.3)
+    (h.merged.0, differs_as (longer p y) y ys refl refl h.merged.1, h.merged.2)
+
+said_held : (f : ℕ → RangePart) (p n : ℕ) (r : RangePart) (xs : List RangePiece) → suc p ≤ TOP → f p ≡ r → r ≢ range.N → SaysFrom f (suc p) n xs → Said f p (suc n)
+said_held f p n r [] l here held h = (alone p r ∷ [], says_apart f p n r [] l here held h tt)
+said_held f p n r (y ∷ ys) l here held h =
+    elim (eqb_tells y.span.lo (suc p)) [
+      | inl e ↦
+          elim (same_or_not y.part r) [
+            | inl same ↦ (longer p y ∷ ys, says_joined f p n y ys (here ∙ sym same) e.1 h)
+            | inr other ↦ (alone p r ∷ y ∷ ys, says_apart f p n r (y ∷ ys) l here held h (λ meets. other))
+          ]
+      | inr e ↦ (alone p r ∷ y ∷ ys, says_apart f p n r (y ∷ ys) l here held h (λ meets. absurd (e.1 meets)))
+    ]
+
+said_from : (f : ℕ → RangePart) (p n : ℕ) → p + n ≤ TOP → Said f p n
+said_from f p zero l = ([], record { in_order = tt; merged = tt; inside = λ q a b. absurd (omega (arith, a, b)); after = λ q a. refl })
+said_from f p (suc n) l =
+    let rest = said_from f (suc p) n (omega (arith, l)) in
+    elim (same_or_not (f p) range.N) [
+      | inl e ↦ (rest.0, says_none f p n rest.0 e rest.1)
+      | inr e ↦ said_held f p n (f p) rest.0 (omega (arith, l)) refl e rest.1
     ]
 
 -- Key parts
@@ -113,13 +211,14 @@ keys_after f p (suc n) q a =
 
 -- Beliefs
 
-describes : (b : Belief) (n : ℕ) → n ≡ TOP → IsBelief b → Describes (record { ranges = ranges_from b.range_at 0 n; keys = keys_from b.key_at 0 n }) b
-describes b n e i = record {
-  ranges_in_order = ranges_in_order b.range_at 0 n (omega (arith, e));
+describes : (b : Belief) (n : ℕ) (xs : List RangePiece) → n ≡ TOP → IsBelief b → SaysFrom b.range_at 0 n xs → Describes (record { ranges = xs; keys = keys_from b.key_at 0 n }) b
+describes b n xs e i h = record {
+  ranges_in_order = h.in_order;
+  merged = h.merged;
   keys_in_order = keys_ascend b.key_at 0 n 0 (omega arith) (omega (arith, e));
   ranges = λ p. elim (leb_tells n p) [
-    | inl l ↦ ranges_after b.range_at 0 n p (omega (arith, l.1)) ∙ sym (i.past p (let c = past_end in omega (arith, l.1, e, c))).0
-    | inr l ↦ ranges_inside b.range_at 0 n p (omega arith) (omega (arith, l.1))
+    | inl l ↦ h.after p (omega (arith, l.1)) ∙ sym (i.past p (let c = past_end in omega (arith, l.1, e, c))).0
+    | inr l ↦ h.inside p (omega arith) (omega (arith, l.1))
   ];
   keys = λ p. elim (leb_tells n p) [
     | inl l ↦ keys_after b.key_at 0 n p (omega (arith, l.1)) ∙ sym (i.past p (let c = past_end in omega (arith, l.1, e, c))).1
@@ -127,5 +226,10 @@ describes b n e i = record {
   ];
 }
 
+described_to : (b : Belief) (n : ℕ) → n ≡ TOP → IsBelief b → (ps : Pieces) × Describes ps b
+described_to b n e i =
+    let xs = said_from b.range_at 0 n (omega (arith, e)) in
+    (record { ranges = xs.0; keys = keys_from b.key_at 0 n }, describes b n xs.0 e i xs.1)
+
 pub beliefs_are_described : BeliefsAreDescribed
-beliefs_are_described b i = (record { ranges = ranges_from b.range_at 0 TOP; keys = keys_from b.key_at 0 TOP }, describes b TOP refl i)
+beliefs_are_described b i = described_to b TOP refl i

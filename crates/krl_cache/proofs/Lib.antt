@@ -16,3 +16,4 @@ pub mod OneScan
 pub mod Walked
 pub mod Described
 pub mod Rooms
+pub mod Merges

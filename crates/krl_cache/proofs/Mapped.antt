@@ -23,9 +23,9 @@ use Rattle.krl_messages.specs.declared.range_pieces.RangePiece.{RangePiece}
 use Rattle.krl_messages.specs.declared.key_pieces.KeyPiece.{KeyPiece}
 use Rattle.krl_cache.specs.declared.entry.Entry.{Entry}
 use Rattle.krl_cache.specs.Beliefs.{is_last, no_belief, AreRows}
-use Rattle.krl_cache.specs.Kept.{range_said, key_said, AreAscending, Describes}
+use Rattle.krl_cache.specs.Kept.{range_said, key_said, AreMerged, AreAscending, Describes}
 use Rattle.krl_cache.specs.Lists.{part_of, value_of, lies_in, pick, tagged, row_value, key_piece, entry_of, own_entry, entry_lowered, StandWithin, RiseWithin, AreRead}
-use Rattle.krl_cache.specs.Maps.{at, part_at, Maps, maps_believe, AreMapsKept, EndsAlike, row_of}
+use Rattle.krl_cache.specs.Maps.{at, part_at, Maps, maps_believe, AreMapsKept, AreStartsMerged, EndsAlike, row_of}
 use Rattle.krl_cache.proofs.Effects.{same_belief}
 use Rattle.krl_cache.proofs.Starts.{part_none}
 use Rattle.krl_cache.proofs.Rests.{Rise, rise_of, at_before, between}
@@ -38,6 +38,7 @@ use Rattle.krl_cache.proofs.Listed.{rows_are}
 nothing_kept : AreMapsKept (record { starts = []; entries = [] })
 nothing_kept = record {
   past = record { starts = λ q l. refl; part = part_none (at []) TOP (λ q a b. refl) };
+  merged = λ q v h before. absurd (let bad : ◌≡◌ {A = Option RangePart} None (Some v) = h in cc);
   entries = λ q e h. absurd (let bad : None ≡ Some e = h in cc);
 }
 
@@ -73,12 +74,13 @@ in_span : (lo hi q : ℕ) → lies_in lo hi q ≡ true → q < hi
 in_span lo hi q h = grind (arith, nat_tests)
 
 -- an entry of the span is read, and one outside stood before
-pub still_kept : (s : Bounds) (old new : Maps) (m : ℕ → RangePart) (mid : ℕ → Option Entry) → AreMapsKept old → s.hi ≤ TOP → ((p : ℕ) → part_at (at new.starts) p ≡ cond (contains s p) (m p) (part_at (at old.starts) p)) → EndsAlike (at old.starts) (at new.starts) → ((p : ℕ) → at new.entries p ≡ cond (contains s p) (mid p) (at old.entries p)) → ((p : ℕ) (e : Entry) → mid p ≡ Some e → reads_key e.part ≡ true) → AreMapsKept new
-still_kept s old new m mid kept top parts ends entries read = record {
+pub still_kept : (s : Bounds) (old new : Maps) (m : ℕ → RangePart) (mid : ℕ → Option Entry) → AreMapsKept old → s.hi ≤ TOP → ((p : ℕ) → part_at (at new.starts) p ≡ cond (contains s p) (m p) (part_at (at old.starts) p)) → EndsAlike (at old.starts) (at new.starts) → (AreStartsMerged (at old.starts) → AreStartsMerged (at new.starts)) → ((p : ℕ) → at new.entries p ≡ cond (contains s p) (mid p) (at old.entries p)) → ((p : ℕ) (e : Entry) → mid p ≡ Some e → reads_key e.part ≡ true) → AreMapsKept new
+still_kept s old new m mid kept top parts ends merged entries read = record {
   past = record {
     starts = λ q l. ends q l (kept.past.starts q l);
     part = parts TOP ∙ ap (λ (b : Bool). cond b (m TOP) (part_at (at old.starts) TOP)) (past_span s.lo s.hi TOP top) ∙ kept.past.part;
   };
+  merged = merged kept.merged;
   entries = λ q e h.
       elim (contains s q) as (λ (b : Bool). contains s q ≡ b → cond b (mid q) (at old.entries q) ≡ Some e → (q < TOP) × (reads_key e.part ≡ true)) [
         | true ↦ λ b k. (let below : q < s.hi = in_span s.lo s.hi q b in omega (arith, top), read q e k)
@@ -90,13 +92,13 @@ last_read : (b : Bool) (part : KeyPart) (value : Option Value) (e : Entry) → c
 last_read true part value e h = read_entry part value e h
 last_read false part value e h = absurd (let bad : None ≡ Some e = h in cc)
 
-pub adopt_keeps : (h : Holding) (old new : Maps) → AreMapsKept old → h.span.hi ≤ TOP → ((p : ℕ) → part_at (at new.starts) p ≡ cond (contains h.span p) (range_of h.mode) (part_at (at old.starts) p)) → EndsAlike (at old.starts) (at new.starts) → ((p : ℕ) → at new.entries p ≡ cond (contains h.span p) (cond (is_last h.span p) (own_entry h) None) (at old.entries p)) → AreMapsKept new
-adopt_keeps h old new kept top parts ends entries =
-    still_kept h.span old new (λ p. range_of h.mode) (λ p. cond (is_last h.span p) (own_entry h) None) kept top parts ends entries (λ p e k. last_read (is_last h.span p) (key_of h.mode) h.value e k)
+pub adopt_keeps : (h : Holding) (old new : Maps) → AreMapsKept old → h.span.hi ≤ TOP → ((p : ℕ) → part_at (at new.starts) p ≡ cond (contains h.span p) (range_of h.mode) (part_at (at old.starts) p)) → EndsAlike (at old.starts) (at new.starts) → (AreStartsMerged (at old.starts) → AreStartsMerged (at new.starts)) → ((p : ℕ) → at new.entries p ≡ cond (contains h.span p) (cond (is_last h.span p) (own_entry h) None) (at old.entries p)) → AreMapsKept new
+adopt_keeps h old new kept top parts ends merged entries =
+    still_kept h.span old new (λ p. range_of h.mode) (λ p. cond (is_last h.span p) (own_entry h) None) kept top parts ends merged entries (λ p e k. last_read (is_last h.span p) (key_of h.mode) h.value e k)
 
-pub lower_keeps : (s : Bounds) (keep : Mode) (old new : Maps) → AreMapsKept old → s.hi ≤ TOP → ((p : ℕ) → part_at (at new.starts) p ≡ cond (contains s p) (range_meet (part_at (at old.starts) p) (range_of keep)) (part_at (at old.starts) p)) → EndsAlike (at old.starts) (at new.starts) → ((p : ℕ) → at new.entries p ≡ cond (contains s p) (option_and_then (entry_lowered (key_of keep)) (at old.entries p)) (at old.entries p)) → AreMapsKept new
-lower_keeps s keep old new kept top parts ends entries =
-    still_kept s old new (λ p. range_meet (part_at (at old.starts) p) (range_of keep)) (λ p. option_and_then (entry_lowered (key_of keep)) (at old.entries p)) kept top parts ends entries (λ p e k. read_low (key_of keep) (at old.entries p) e k)
+pub lower_keeps : (s : Bounds) (keep : Mode) (old new : Maps) → AreMapsKept old → s.hi ≤ TOP → ((p : ℕ) → part_at (at new.starts) p ≡ cond (contains s p) (range_meet (part_at (at old.starts) p) (range_of keep)) (part_at (at old.starts) p)) → EndsAlike (at old.starts) (at new.starts) → (AreStartsMerged (at old.starts) → AreStartsMerged (at new.starts)) → ((p : ℕ) → at new.entries p ≡ cond (contains s p) (option_and_then (entry_lowered (key_of keep)) (at old.entries p)) (at old.entries p)) → AreMapsKept new
+lower_keeps s keep old new kept top parts ends merged entries =
+    still_kept s old new (λ p. range_meet (part_at (at old.starts) p) (range_of keep)) (λ p. option_and_then (entry_lowered (key_of keep)) (at old.entries p)) kept top parts ends merged entries (λ p e k. read_low (key_of keep) (at old.entries p) e k)
 
 -- The list of an ordered map
 
@@ -139,11 +141,12 @@ maps_rows s x rows lo hi kept sorted l el eh e =
     rows_are (maps_believe x) s TOP x.entries x.entries rows lo hi (λ p. ap value_of (at_find x.entries p)) (rise_within 0 TOP x.entries (omega arith) (rise_of x.entries sorted) (λ q v f. (kept.entries q v f).0)) l el eh refl
     (e ∙ ap (λ (xs : List (ℕ × Entry)). filter_map row_of xs) (between lo hi x.entries) ∙ rows_chosen lo hi x.entries)
 
-pub maps_describe : (x : Maps) (rs : List RangePiece) (keys : List KeyPiece) → AreMapsKept x → IsStrictlySortedBy nat_cmp (keys_of x.entries) → StandWithin 0 TOP rs → ((p : ℕ) → range_said rs p ≡ part_at (at x.starts) p) → keys ≡ map key_piece x.entries → Describes (record { ranges = rs; keys = keys }) (maps_believe x)
-maps_describe x rs keys kept sorted stand said e =
+pub maps_describe : (x : Maps) (rs : List RangePiece) (keys : List KeyPiece) → AreMapsKept x → IsStrictlySortedBy nat_cmp (keys_of x.entries) → StandWithin 0 TOP rs → AreMerged rs → ((p : ℕ) → range_said rs p ≡ part_at (at x.starts) p) → keys ≡ map key_piece x.entries → Describes (record { ranges = rs; keys = keys }) (maps_believe x)
+maps_describe x rs keys kept sorted stand merged said e =
     let rise = rise_of x.entries sorted in
     record {
       ranges_in_order = stand_in_order 0 TOP rs (omega arith) stand;
+      merged = merged;
       keys_in_order = subst (λ (k : List KeyPiece). AreAscending 0 k) (sym e)
           (keys_ascend 0 TOP x.entries (omega arith) (rise_within 0 TOP x.entries (omega arith) rise (λ q v f. (kept.entries q v f).0)) (all_read 0 x.entries rise (λ q v f. (kept.entries q v f).1)));
       ranges = said;

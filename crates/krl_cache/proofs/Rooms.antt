@@ -16,14 +16,15 @@ use Rattle.krl_messages.specs.Several.{IsBefore, Ascend, have_values}
 use Rattle.krl_cache.specs.declared.entry.Entry.{Entry}
 use Rattle.krl_cache.specs.Beliefs.{is_span, is_last, adopt_all}
 use Rattle.krl_cache.specs.Lists.{belief_by, lies_in, own_entry}
-use Rattle.krl_cache.specs.Maps.{at, part_at, Maps, AreMapsKept, EndsAlike, KeepsParts, HasEnds, IsUndone, CanUndo}
-use Rattle.krl_cache.specs.Several.{parts_after, entries_after, is_slot_of, CanUndoBoth, AreReady, HasRoom}
-use Rattle.krl_cache.proofs.Truths.{and_true}
+use Rattle.krl_cache.specs.Maps.{at, part_at, Maps, AreMapsKept, AreStartsMerged, BeginsAnew, EndsAlike, KeepsParts, HasEnds, IsUndone, CanUndo}
+use Rattle.krl_cache.specs.Several.{parts_after, entries_after, is_slot_of, is_end_of, AreMergedBetween, CanUndoBoth, AreReady, HasRoom}
+use Rattle.krl_cache.proofs.Truths.{and_true, or_false}
 use Rattle.krl_cache.proofs.Effects.{adopts}
 use Rattle.krl_cache.proofs.Starts.{IsMarked, part_marked}
 use Rattle.krl_cache.proofs.Marks.{some_of, restored}
 use Rattle.krl_cache.proofs.Spans.{part_made, filled}
 use Rattle.krl_cache.proofs.Mapped.{read_entry}
+use Rattle.krl_cache.proofs.Merges.{anew_still, anew_kept, anew_filled}
 
 abbrev pub AreSpans : List Holding → Type 0
 AreSpans hs = AllByRecursion (λ h. is_span h.span ≡ true) hs
@@ -96,12 +97,13 @@ good_after (h ∷ hs) s q o g = good_after hs s.1 q _ (by_test (contains h.span 
     by_test true false f e k = absurd (let bad : ◌≡◌ {A = Option Entry} None (Some e) = k in cc)
     by_test false l f e k = g e k
 
-pub several_keep : (hs : List Holding) (old new : Maps) → AreSpans hs → AreMapsKept old → ((p : ℕ) → part_at (at new.starts) p ≡ parts_after hs p (part_at (at old.starts) p)) → EndsAlike (at old.starts) (at new.starts) → ((p : ℕ) → at new.entries p ≡ entries_after hs p (at old.entries p)) → AreMapsKept new
-several_keep hs old new s kept parts ends entries = record {
+pub several_keep : (hs : List Holding) (old new : Maps) → AreSpans hs → AreMapsKept old → ((p : ℕ) → part_at (at new.starts) p ≡ parts_after hs p (part_at (at old.starts) p)) → EndsAlike (at old.starts) (at new.starts) → (AreStartsMerged (at old.starts) → AreStartsMerged (at new.starts)) → ((p : ℕ) → at new.entries p ≡ entries_after hs p (at old.entries p)) → AreMapsKept new
+several_keep hs old new s kept parts ends merged entries = record {
   past = record {
     starts = λ q l. ends q l (kept.past.starts q l);
     part = parts TOP ∙ parts_past hs s (part_at (at old.starts) TOP) ∙ kept.past.part;
   };
+  merged = merged kept.merged;
   entries = λ q e h. good_after hs s q (at old.entries q) (λ x k. kept.entries q x k) e (sym (entries q) ∙ h);
 }
 
@@ -147,9 +149,21 @@ pub record IsFilling (hs : List Holding) (f0 : ℕ → Option RangePart) (d0 : �
   pub order : Ascend rest
   pub spans : AreSpans rest
   pub ends : EndsAlike f0 f
+  pub own : (q : ℕ) → is_end_of hs q ≡ false → is_end_of rest q ≡ false
+  pub merged : AreMergedBetween hs f0 → AreMergedBetween hs f
+
+apart : (a b : ℕ) → nat_eq a b ≡ false → a ≢ b
+apart a b e = grind (arith, nat_tests)
+
+-- a point that is no end is none of the first span
+no_end : (h : Holding) (rest : List Holding) (q : ℕ) → is_end_of (h ∷ rest) q ≡ false → (q ≢ h.span.lo) × (q ≢ h.span.hi) × (is_end_of rest q ≡ false)
+no_end h rest q e =
+    let x = or_false (nat_eq q h.span.lo || nat_eq q h.span.hi) (is_end_of rest q) e in
+    let y = or_false (nat_eq q h.span.lo) (nat_eq q h.span.hi) x.0 in
+    (apart q h.span.lo y.0, apart q h.span.hi y.1, x.1)
 
 pub filling_begins : (hs : List Holding) (f : ℕ → Option RangePart) (d : ℕ → Option Entry) → AreReady hs f d → Ascend hs → AreSpans hs → IsFilling hs f d hs f d
-filling_begins hs f d r o s = record { parts = λ p. refl; entries = λ p. refl; ready = r; order = o; spans = s; ends = λ q l x. x }
+filling_begins hs f d r o s = record { parts = λ p. refl; entries = λ p. refl; ready = r; order = o; spans = s; ends = λ q l x. x; own = λ q e. e; merged = λ m. m }
 
 pub filling_goes : (hs : List Holding) (f0 : ℕ → Option RangePart) (d0 : ℕ → Option Entry) (h : Holding) (rest : List Holding) (f g : ℕ → Option RangePart) (d e : ℕ → Option Entry) → IsFilling hs f0 d0 (h ∷ rest) f d → ((q : ℕ) → g q ≡ cond (nat_eq q h.span.lo) (Some (range_of h.mode)) (cond (lies_in h.span.lo h.span.hi q) None (f q))) → ((p : ℕ) → e p ≡ cond (contains h.span p) (cond (is_last h.span p) (own_entry h) None) (d p)) → IsFilling hs f0 d0 rest g e
 filling_goes hs f0 d0 h rest f g d e x starts entries =
@@ -164,15 +178,32 @@ filling_goes hs f0 d0 h rest f g d e x starts entries =
       order = x.order.1;
       spans = x.spans.1;
       ends = λ q l n. starts q ∙ outside_fill h.span.lo h.span.hi q (range_of h.mode) (f q) lt (omega (arith, top, l)) ∙ x.ends q l n;
+      own = λ q e. (no_end h rest q (x.own q e)).2;
+      merged = λ m q e.
+          let y = no_end h rest q (x.own q e) in
+          anew_filled f g h.span.lo h.span.hi q (range_of h.mode) lt starts (part_filled f g h.span.lo h.span.hi (range_of h.mode) lt x.ready.0.0 x.ready.0.1 starts) y.0 y.1 (x.merged m q e);
     }
 
 -- Merging
 
-pub keeps_none : (f : ℕ → Option RangePart) → KeepsParts f f
-keeps_none f = record { parts = λ q. refl; starts = λ q x. x }
+-- the ends of the first span begin anew now, and those that did do still
+pub anew_more : (hs : List Holding) (h : Holding) (rest : List Holding) (f m k : ℕ → Option RangePart) → ((q : ℕ) → is_end_of hs q ≡ true → is_end_of (h ∷ rest) q ≡ false → BeginsAnew f q) → KeepsParts f m → BeginsAnew m h.span.lo → KeepsParts m k → BeginsAnew k h.span.hi → (q : ℕ) → is_end_of hs q ≡ true → is_end_of rest q ≡ false → BeginsAnew k q
+anew_more hs h rest f m k before first low second high q e out =
+    elim (eqb_tells q h.span.lo) [
+      | inl x ↦ subst (λ (i : ℕ). BeginsAnew k i) (sym x.1) (anew_kept m k h.span.lo second low)
+      | inr x ↦ elim (eqb_tells q h.span.hi) [
+        | inl y ↦ subst (λ (i : ℕ). BeginsAnew k i) (sym y.1) high
+        | inr y ↦ anew_kept m k q second (anew_kept f m q first (before q e (rw x.0 (rw y.0 out))))
+      ]
+    ]
 
-pub keeps_then : (f g k : ℕ → Option RangePart) → KeepsParts f g → KeepsParts g k → KeepsParts f k
-keeps_then f g k a b = record { parts = λ q. b.parts q ∙ a.parts q; starts = λ q x. b.starts q (a.starts q x) }
+-- the ends begin anew, and all else did
+pub anew_all : (hs : List Holding) (n k : ℕ → Option RangePart) → KeepsParts n k → ((q : ℕ) → is_end_of hs q ≡ true → BeginsAnew k q) → AreMergedBetween hs n → AreStartsMerged k
+anew_all hs n k kept ends between q = by_test (is_end_of hs q) refl
+  where
+    by_test : (t : Bool) → is_end_of hs q ≡ t → BeginsAnew k q
+    by_test true e = ends q e
+    by_test false e = anew_kept n k q kept (between q e)
 
 -- Room
 
@@ -192,7 +223,7 @@ marked_by f g lo hi x = record {
 }
 
 pub room_none : (f : ℕ → Option RangePart) (d : ℕ → Option Entry) → HasRoom [] f f d d
-room_none f d = record { ready = tt; starts = λ q. inl refl; entries = λ q e. refl; stay = λ q x. x; ends = λ q l x. x }
+room_none f d = record { ready = tt; starts = λ q. inl refl; entries = λ q e. refl; stay = λ q x. x; ends = λ q l x. x; others = λ q e. refl }
 
 pub room_more : (h : Holding) (rest : List Holding) (f g k : ℕ → Option RangePart) (d e n : ℕ → Option Entry) → h.span.lo < h.span.hi → h.span.hi ≤ TOP → ((q : ℕ) → q ≢ h.span.hi - 1 → e q ≡ d q) → (IsSome (d (h.span.hi - 1)) → IsSome (e (h.span.hi - 1))) → (reads_key (key_of h.mode) ≡ true → IsSome (e (h.span.hi - 1))) → HasEnds f g h.span.lo h.span.hi → HasRoom rest g k e n → HasRoom (h ∷ rest) f k d n
 room_more h rest f g k d e n lt top others here held marks r = record {
@@ -204,6 +235,7 @@ room_more h rest f g k d e n lt top others here held marks r = record {
     | inr a ↦ subst IsSome (sym (others q a.1)) x
   ]);
   ends = λ q l x. r.ends q l (marks.others q (λ z. omega (arith, z, l, top, lt)) (λ z. omega (arith, z, l, top)) ∙ x);
+  others = λ q e. let y = no_end h rest q e in r.others q y.2 ∙ marks.others q y.0 y.1;
 }
   where
     or_false : (a b : Bool) → (a || b) ≡ false → (a ≡ false) × (b ≡ false)
@@ -227,6 +259,10 @@ room_more h rest f g k d e n lt top others here held marks r = record {
 
 pub room_marked : (hs : List Holding) (f g : ℕ → Option RangePart) (d e : ℕ → Option Entry) → HasRoom hs f g d e → IsMarked f g
 room_marked hs f g d e r = record { each = r.starts }
+
+pub room_merged : (hs : List Holding) (f g : ℕ → Option RangePart) (d e : ℕ → Option Entry) → HasRoom hs f g d e → AreStartsMerged f → AreMergedBetween hs g
+room_merged hs f g d e r merged q out =
+    anew_still f g q (λ v h. sym (r.others q out) ∙ h) (λ up. part_marked f g (q - 1) (room_marked hs f g d e r)) (merged q)
 
 -- what stood where room was made stands still
 not_some : {V : Type 0} (o : Option V) → o ≡ None → IsSome o → ⊥

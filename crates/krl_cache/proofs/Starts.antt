@@ -112,7 +112,7 @@ part_merged f g k p m =
     ])
     p
 
-gone_here : (k q : ℕ) (o : Option RangePart) → q ≡ k → cond (nat_eq q k) None o ≡ None
+pub gone_here : (k q : ℕ) (o : Option RangePart) → q ≡ k → cond (nat_eq q k) None o ≡ None
 gone_here k q o e = grind (arith, nat_tests)
 
 kept_elsewhere : (k q : ℕ) (o : Option RangePart) → q ≢ k → cond (nat_eq q k) None o ≡ o
@@ -121,6 +121,10 @@ kept_elsewhere k q o e = grind (arith, nat_tests)
 none_either : (b : Bool) (o : Option RangePart) → o ≡ None → cond b None o ≡ None
 none_either true o h = refl
 none_either false o h = h
+
+some_either : (b : Bool) (o : Option RangePart) (v : RangePart) → cond b None o ≡ Some v → o ≡ Some v
+some_either true o v h = absurd (let bad : ◌≡◌ {A = Option RangePart} None (Some v) = h in cc)
+some_either false o v h = h
 
 pub merged : (f g : ℕ → Option RangePart) (k : ℕ) (part : RangePart) → f k ≡ Some part → HoldsBefore f k part → ((q : ℕ) → g q ≡ cond (nat_eq q k) None (f q)) → KeepsParts f g
 merged f g k part here before out =
@@ -135,6 +139,7 @@ merged f g k part here before out =
     record {
       parts = λ q. part_merged f g k q m;
       starts = λ q none. out q ∙ none_either (nat_eq q k) (f q) none;
+      stay = λ q v h. some_either (nat_eq q k) (f q) v (sym (out q) ∙ h);
     }
 
 -- where nothing begins from p on below q, what held before p holds before q
@@ -157,4 +162,4 @@ holds_next f g p next part is here kept = record {
 }
 
 pub keeps_on : (f g h : ℕ → Option RangePart) → KeepsParts f g → KeepsParts g h → KeepsParts f h
-keeps_on f g h a b = record { parts = λ q. b.parts q ∙ a.parts q; starts = λ q none. b.starts q (a.starts q none) }
+keeps_on f g h a b = record { parts = λ q. b.parts q ∙ a.parts q; starts = λ q none. b.starts q (a.starts q none); stay = λ q v here. a.stay q v (b.stay q v here) }

@@ -1,6 +1,6 @@
 -- Lists that stand for a belief, as a Report tells them. Two lists that stand for one belief are as
 -- good.
-use Rattle.std.specs.Prelude.{◌≡◌, ℕ, suc, ◌≤◌, ◌<◌, true, List, [], ◌∷◌, if◌then◌else◌, nat_eq}
+use Rattle.std.specs.Prelude.{◌≡◌, ◌≢◌, ℕ, suc, ◌≤◌, ◌<◌, true, List, [], ◌∷◌, if◌then◌else◌, nat_eq}
 use Rattle.krl_modes.specs.declared.point.TheConstants.{END, TOP}
 use Rattle.krl_modes.specs.declared.part.RangePart.{RangePart}
 use Rattle.krl_modes.specs.declared.part.RangePart.TheVariants as range
@@ -29,15 +29,26 @@ AreInOrder lo [] = Unit {0}
 AreInOrder lo (x ∷ xs) =
     (lo ≤ x.span.lo) × (x.span.lo < x.span.hi) × (x.span.hi ≤ TOP) × AreInOrder x.span.hi xs
 
+-- the next piece, where it begins as this one ends, says another part
+abbrev pub DiffersFromNext : RangePiece → List RangePiece → Type 0
+DiffersFromNext x [] = Unit {0}
+DiffersFromNext x (y ∷ ys) = y.span.lo ≡ x.span.hi → y.part ≢ x.part
+
+-- neighbours that say the same are one piece, and no piece says N
+abbrev pub AreMerged : List RangePiece → Type 0
+AreMerged [] = Unit {0}
+AreMerged (x ∷ xs) = (x.part ≢ range.N) × DiffersFromNext x xs × AreMerged xs
+
 -- points from lo on, ascending, up to END, each read
 abbrev pub AreAscending : ℕ → List KeyPiece → Type 0
 AreAscending lo [] = Unit {0}
 AreAscending lo (k ∷ ks) =
     (lo ≤ k.point) × (k.point ≤ END) × (reads_key k.part ≡ true) × AreAscending (suc k.point) ks
 
--- the two lists of a Report say exactly this belief's parts
+-- the two lists of a Report say exactly this belief's parts, in as few pieces as can be
 pub record Describes (ps : Pieces) (b : Belief) : Type 0 where
   pub ranges_in_order : AreInOrder 0 ps.ranges
+  pub merged : AreMerged ps.ranges
   pub keys_in_order : AreAscending 0 ps.keys
   pub ranges : (p : ℕ) → range_said ps.ranges p ≡ b.range_at p
   pub keys : (p : ℕ) → key_said ps.keys p ≡ b.key_at p

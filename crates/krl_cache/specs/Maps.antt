@@ -37,9 +37,23 @@ pub record IsPast (f : ℕ → Option RangePart) : Type 0 where
   pub starts : (q : ℕ) → TOP < q → f q ≡ None
   pub part : part_at f TOP ≡ range.N
 
--- each entry is read, and none stands past END
+-- the part holds at the point before, or is N where there is none
+pub record HoldsBefore (f : ℕ → Option RangePart) (p : ℕ) (part : RangePart) : Type 0 where
+  pub first : p ≡ 0 → part ≡ range.N
+  pub later : 0 < p → part_at f (p - 1) ≡ part
+
+-- what begins at the point, if anything does, is another part than held before
+abbrev pub BeginsAnew : (ℕ → Option RangePart) → ℕ → Type 0
+BeginsAnew f q = (v : RangePart) → f q ≡ Some v → HoldsBefore f q v → ⊥
+
+-- neighbours with the same part are one
+abbrev pub AreStartsMerged : (ℕ → Option RangePart) → Type 0
+AreStartsMerged f = (q : ℕ) → BeginsAnew f q
+
+-- each entry is read, and none stands past END; neighbours with the same part are one
 pub record AreMapsKept (x : Maps) : Type 0 where
   pub past : IsPast (at x.starts)
+  pub merged : AreStartsMerged (at x.starts)
   pub entries : (q : ℕ) (e : Entry) → at x.entries q ≡ Some e → (q < TOP)
       × (reads_key e.part ≡ true)
 
@@ -84,10 +98,11 @@ pub record HasEnds (f g : ℕ → Option RangePart) (lo hi : ℕ) : Type 0 where
   pub high : g hi ≡ Some (part_at f hi)
   pub others : (q : ℕ) → q ≢ lo → q ≢ hi → g q ≡ f q
 
--- the same part holds at each point, and none begins where none began
+-- the same part holds at each point, and only what began begins
 pub record KeepsParts (f g : ℕ → Option RangePart) : Type 0 where
   pub parts : (q : ℕ) → part_at g q ≡ part_at f q
   pub starts : (q : ℕ) → f q ≡ None → g q ≡ None
+  pub stay : (q : ℕ) (v : RangePart) → g q ≡ Some v → f q ≡ Some v
 
 -- past TOP none begins where none began
 abbrev pub EndsAlike : (ℕ → Option RangePart) → (ℕ → Option RangePart) → Type 0
@@ -103,11 +118,6 @@ gone v = None
 
 abbrev pub lowered_part : RangePart → RangePart → Option RangePart
 lowered_part keep r = Some (range_meet r keep)
-
--- the part holds at the point before, or is N where there is none
-pub record HoldsBefore (f : ℕ → Option RangePart) (p : ℕ) (part : RangePart) : Type 0 where
-  pub first : p ≡ 0 → part ≡ range.N
-  pub later : 0 < p → part_at f (p - 1) ≡ part
 
 -- the pairs from lo on below hi, in order
 abbrev pub AreNext : {V : Type 0} → (ℕ → Option V) → ℕ → ℕ → List (ℕ × V) → Type 0

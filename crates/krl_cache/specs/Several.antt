@@ -1,5 +1,5 @@
 -- Several holdings that are taken over at once, in the maps of a cache.
-use Rattle.std.specs.Prelude.{◌≡◌, ◌⊎◌, ℕ, ◌-◌, Bool, true, false, ◌||◌, List, [], ◌∷◌, Option, None, Some, IsSome, if◌then◌else◌}
+use Rattle.std.specs.Prelude.{◌≡◌, ◌⊎◌, ℕ, ◌-◌, Bool, true, false, ◌||◌, List, [], ◌∷◌, Option, None, Some, IsSome, if◌then◌else◌, nat_eq}
 use Rattle.std.specs.BTreeMap.{BTreeMap}
 use Rattle.krl_modes.specs.declared.part.RangePart.{RangePart}
 use Rattle.krl_modes.specs.Parts.{reads_key}
@@ -9,7 +9,7 @@ use Rattle.krl_messages.specs.declared.holding.Holding.{Holding}
 use Rattle.krl_cache.specs.declared.entry.Entry.{Entry}
 use Rattle.krl_cache.specs.Beliefs.{is_last}
 use Rattle.krl_cache.specs.Lists.{own_entry}
-use Rattle.krl_cache.specs.Maps.{part_at, IsPlaced, EndsAlike}
+use Rattle.krl_cache.specs.Maps.{part_at, IsPlaced, EndsAlike, BeginsAnew}
 
 -- what the holdings make of the part at a point, and of the entry there
 abbrev pub parts_after : List Holding → ℕ → RangePart → RangePart
@@ -26,6 +26,15 @@ entries_after (h ∷ hs) p o =
 abbrev pub is_slot_of : List Holding → ℕ → Bool
 is_slot_of [] p = false
 is_slot_of (h ∷ hs) p = is_last h.span p || is_slot_of hs p
+
+-- the point is an end of one of their spans
+abbrev pub is_end_of : List Holding → ℕ → Bool
+is_end_of [] q = false
+is_end_of (h ∷ hs) q = (nat_eq q h.span.lo || nat_eq q h.span.hi) || is_end_of hs q
+
+-- but for the ends of the spans, neighbours with the same part are one
+abbrev pub AreMergedBetween : List Holding → (ℕ → Option RangePart) → Type 0
+AreMergedBetween hs f = (q : ℕ) → is_end_of hs q ≡ false → BeginsAnew f q
 
 -- to take out both points, where they are fresh, leads back
 abbrev pub CanUndoBoth :
@@ -58,3 +67,4 @@ pub record HasRoom
   pub entries : (q : ℕ) → is_slot_of hs q ≡ false → e q ≡ d q
   pub stay : (q : ℕ) → IsSome (d q) → IsSome (e q)
   pub ends : EndsAlike f g
+  pub others : (q : ℕ) → is_end_of hs q ≡ false → g q ≡ f q

@@ -7,9 +7,9 @@ ghost use Rattle.std.specs.BTreeMap.Range.{entries_between};
 ghost use Rattle.std.specs.declared.ops.Bound.TheVariants.{Included, Excluded};
 ghost use Rattle.krl_modes.specs.declared.point.TheConstants.{TOP};
 ghost use Rattle.krl_cache.specs.Beliefs as beliefs;
-ghost use Rattle.krl_cache.specs.Kept.{range_said};
+ghost use Rattle.krl_cache.specs.Kept.{range_said, AreMerged};
 ghost use Rattle.krl_cache.specs.Lists.{key_piece, StandWithin};
-ghost use Rattle.krl_cache.specs.Maps.{Maps, maps_believe, at, part_at, IsPast, row_of, piece_of, is_held};
+ghost use Rattle.krl_cache.specs.Maps.{Maps, maps_believe, at, part_at, IsPast, AreStartsMerged, row_of, piece_of, is_held};
 
 use crate::belief::Belief;
 use crate::entry::Entry;
@@ -28,8 +28,7 @@ use std::collections::BTreeMap;
 use std::marker::Model;
 
 /// A cache in two ordered maps: the range parts by the points where they begin to hold, and the
-/// entries by their points. Neighbours with the same part are one, at the ends of a span that is
-/// adopted, and over one that is lowered.
+/// entries by their points. Neighbours with the same part are one.
 ///
 /// A look-up is one search. A scan searches where the span begins alone, and walks once over the
 /// parts and the entries that lie in it. Adopting and lowering search at both ends of the span, and
@@ -84,10 +83,12 @@ fn ranges_of(
     alloc: Global,
     starts: &BTreeMap<u64, RangePart>,
 ) -> Result<Vec<RangePiece>, AllocError>
-    requires { IsPast (at starts.now.entries) }
+    requires past { IsPast (at starts.now.entries) }
+    requires merged { AreStartsMerged (at starts.now.entries) }
     ensures stand { IfOk result (λ list. StandWithin 0 TOP list.items) }
     ensures said { IfOk result
         (λ list. (p : ℕ) → range_said list.items p ≡ part_at (at starts.now.entries) p) }
+    ensures merged { IfOk result (λ list. AreMerged list.items) }
 {
     let mut list = Vec::new(alloc);
     let mut p = 0;

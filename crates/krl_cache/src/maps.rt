@@ -7,7 +7,7 @@ ghost use Rattle.krl_modes.specs.Modes.{range_of, key_of};
 ghost use Rattle.krl_modes.specs.Spans.{contains};
 ghost use Rattle.krl_cache.specs.Beliefs as beliefs;
 ghost use Rattle.krl_cache.specs.Lists.{lies_in, entry_lowered, entry_of, own_entry};
-ghost use Rattle.krl_cache.specs.Maps.{at, part_at, IsFree, IsFreeFrom, IsFirst, IsPlaced, IsUndone, CanUndo, HasEnds, KeepsParts, EndsAlike, IsChanged, HoldsBefore, gone, lowered_part};
+ghost use Rattle.krl_cache.specs.Maps.{at, part_at, IsFree, IsFreeFrom, IsFirst, IsPlaced, IsUndone, CanUndo, HasEnds, KeepsParts, EndsAlike, IsChanged, HoldsBefore, BeginsAnew, AreStartsMerged, gone, lowered_part};
 
 use crate::entry::Entry;
 use crate::parts::reads_key;
@@ -184,7 +184,8 @@ pub fn part_before(starts: &BTreeMap<u64, RangePart>, p: u64) -> RangePart
 // Takes a start out where the part that begins there held before.
 pub fn merge_at(starts: &mut BTreeMap<u64, RangePart>, p: u64, before: RangePart)
     requires { HoldsBefore (at starts.old.entries) p before }
-    ensures { KeepsParts (at starts.old.entries) (at starts.new.entries) }
+    ensures kept { KeepsParts (at starts.old.entries) (at starts.new.entries) }
+    ensures anew { BeginsAnew (at starts.new.entries) p }
 {
     if begins(starts, p, before) {
         take_out(starts, p);
@@ -195,7 +196,8 @@ pub fn merge_at(starts: &mut BTreeMap<u64, RangePart>, p: u64, before: RangePart
 fn merge_found(starts: &mut BTreeMap<u64, RangePart>, p: u64, part: RangePart, before: RangePart)
     requires here { at starts.old.entries p ≡ Some part }
     requires before { HoldsBefore (at starts.old.entries) p before }
-    ensures { KeepsParts (at starts.old.entries) (at starts.new.entries) }
+    ensures kept { KeepsParts (at starts.old.entries) (at starts.new.entries) }
+    ensures anew { BeginsAnew (at starts.new.entries) p }
 {
     if is_same(part, before) {
         take_out(starts, p);
@@ -205,7 +207,8 @@ fn merge_found(starts: &mut BTreeMap<u64, RangePart>, p: u64, part: RangePart, b
 // Takes each such start out from `lo` to `hi`.
 fn merge(starts: &mut BTreeMap<u64, RangePart>, lo: u64, hi: u64)
     requires { (lo ≤ hi) × (hi ≤ TOP) }
-    ensures { KeepsParts (at starts.old.entries) (at starts.new.entries) }
+    ensures kept { KeepsParts (at starts.old.entries) (at starts.new.entries) }
+    ensures anew { (q : ℕ) → lo ≤ q → q ≤ hi → BeginsAnew (at starts.new.entries) q }
 {
     let mut p = lo;
     let mut before = part_before(starts, lo);
@@ -226,6 +229,8 @@ fn adopt_part(
         ((p : ℕ) → part_at (at starts.new.entries) p
         ≡ (if contains span p then part else part_at (at starts.old.entries) p)) }
     ensures starts { OnOk result (EndsAlike (at starts.old.entries) (at starts.new.entries)) }
+    ensures merged { OnOk result (AreStartsMerged (at starts.old.entries)
+        → AreStartsMerged (at starts.new.entries)) }
     ensures err { OnErr result (starts.new.entries ≡ starts.old.entries) }
 {
     let lo = span.lo();
@@ -250,6 +255,8 @@ fn lower_part(
         then range_meet (part_at (at starts.old.entries) p) keep
         else part_at (at starts.old.entries) p)) }
     ensures starts { OnOk result (EndsAlike (at starts.old.entries) (at starts.new.entries)) }
+    ensures merged { OnOk result (AreStartsMerged (at starts.old.entries)
+        → AreStartsMerged (at starts.new.entries)) }
     ensures err { OnErr result (starts.new.entries ≡ starts.old.entries) }
 {
     let lo = span.lo();
@@ -331,6 +338,8 @@ pub fn adopt(
         ≡ (if contains holding.span p
         then range_of holding.mode else part_at (at starts.old.entries) p)) }
     ensures starts { OnOk result (EndsAlike (at starts.old.entries) (at starts.new.entries)) }
+    ensures merged { OnOk result (AreStartsMerged (at starts.old.entries)
+        → AreStartsMerged (at starts.new.entries)) }
     ensures entries { OnOk result
         ((p : ℕ) → at entries.new.entries p
         ≡ (if contains holding.span p
@@ -367,6 +376,8 @@ pub fn lower(
         then range_meet (part_at (at starts.old.entries) p) (range_of keep)
         else part_at (at starts.old.entries) p)) }
     ensures starts { OnOk result (EndsAlike (at starts.old.entries) (at starts.new.entries)) }
+    ensures merged { OnOk result (AreStartsMerged (at starts.old.entries)
+        → AreStartsMerged (at starts.new.entries)) }
     ensures entries { OnOk result
         ((p : ℕ) → at entries.new.entries p
         ≡ (if contains span p

@@ -3,8 +3,8 @@ ghost use Rattle.std.specs.Prelude.{◌≡◌, ◌≤◌, ℕ, true, IfOk, OnOk,
 ghost use Rattle.std.specs.List.{AllByRecursion};
 ghost use Rattle.krl_messages.specs.Several.{Ascend};
 ghost use Rattle.krl_cache.specs.Beliefs as beliefs;
-ghost use Rattle.krl_cache.specs.Maps.{at, part_at, HasEnds, KeepsParts, EndsAlike};
-ghost use Rattle.krl_cache.specs.Several.{CanUndoBoth, UndoesBoth, HasRoom, AreReady, parts_after, entries_after};
+ghost use Rattle.krl_cache.specs.Maps.{at, part_at, HasEnds, KeepsParts, EndsAlike, BeginsAnew, AreStartsMerged};
+ghost use Rattle.krl_cache.specs.Several.{CanUndoBoth, UndoesBoth, HasRoom, AreReady, AreMergedBetween, is_end_of, parts_after, entries_after};
 
 use crate::entry::Entry;
 use crate::maps::{adopt_entry, fill, hold, mark_at, merge_at, part_before, undo};
@@ -87,6 +87,8 @@ fn fill_all(
     ensures parts { (p : ℕ) → part_at (at starts.new.entries) p
         ≡ parts_after holdings.now p (part_at (at starts.old.entries) p) }
     ensures starts { EndsAlike (at starts.old.entries) (at starts.new.entries) }
+    ensures merged { AreMergedBetween holdings.now (at starts.old.entries)
+        → AreMergedBetween holdings.now (at starts.new.entries) }
     ensures entries { (p : ℕ) → at entries.new.entries p
         ≡ entries_after holdings.now p (at entries.old.entries p) }
 {
@@ -101,7 +103,9 @@ fn fill_all(
 
 // Takes each start at an end of a span out where the part that begins there held before.
 fn merge_all(starts: &mut BTreeMap<u64, RangePart>, holdings: &[Holding])
-    ensures { KeepsParts (at starts.old.entries) (at starts.new.entries) }
+    ensures kept { KeepsParts (at starts.old.entries) (at starts.new.entries) }
+    ensures anew { (q : ℕ) → is_end_of holdings.now q ≡ true
+        → BeginsAnew (at starts.new.entries) q }
 {
     for holding in holdings {
         let lo = holding.span.lo();
@@ -122,6 +126,8 @@ pub fn adopt_all(
     ensures parts { OnOk result ((p : ℕ) → part_at (at starts.new.entries) p
         ≡ parts_after holdings.now p (part_at (at starts.old.entries) p)) }
     ensures starts { OnOk result (EndsAlike (at starts.old.entries) (at starts.new.entries)) }
+    ensures merged { OnOk result (AreStartsMerged (at starts.old.entries)
+        → AreStartsMerged (at starts.new.entries)) }
     ensures entries { OnOk result ((p : ℕ) → at entries.new.entries p
         ≡ entries_after holdings.now p (at entries.old.entries p)) }
     ensures spans { OnOk result (AllByRecursion (λ h. beliefs.is_span h.span ≡ true) holdings.now) }

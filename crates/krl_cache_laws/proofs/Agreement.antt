@@ -9,8 +9,10 @@ use Rattle.krl_cache_laws.specs.declared.run.CacheCall.TheVariants as call
 use Rattle.krl_cache_laws.specs.declared.run.CacheReply.{CacheReply}
 use Rattle.krl_cache_laws.specs.declared.run.CacheReply.TheVariants as reply
 use Rattle.krl_cache.specs.Beliefs.{Belief, Scans, is_covered, IsLeastUncovered}
-use Rattle.krl_cache_laws.specs.Runs.{after, IsReply, IsStep, Runs, SaySame, RunsAgree}
+use Rattle.krl_cache_laws.specs.Runs.{after, IsReply, IsStep, Runs, RunsAgree}
+use Rattle.krl_messages.specs.declared.pieces.Pieces.{Pieces}
 use Rattle.krl_cache.proofs.OneScan.{rows_are_determined}
+use Rattle.krl_cache_laws.proofs.Determined.{pieces_are_determined}
 
 not_both : (b : Bool) → b ≡ true → b ≡ false → ⊥
 not_both b t f = let bad : true ≡ false = sym t ∙ f in cc
@@ -35,10 +37,7 @@ one_find b s (scanned.Rows xs) (scanned.Miss q) h k = absurd (not_both (is_cover
 one_find b s (scanned.Miss p) (scanned.Rows ys) h k = absurd (not_both (is_covered b p) (k.0 p h.point) h.uncovered)
 one_find b s (scanned.Miss p) (scanned.Miss q) h k = ap (λ n. scanned.Miss n) (one_least b s p q h k)
 
-same_reply : (r s t : CacheReply) → SaySame t t → r ≡ t → s ≡ t → SaySame r s
-same_reply r s t h e f = subst (λ (x : CacheReply). SaySame x s) (sym e) (subst (λ (x : CacheReply). SaySame t x) (sym f) h)
-
-one_scan : (b : Belief) (s : Bounds) (r q : CacheReply) → IsReply b (call.Scan s) r → IsReply b (call.Scan s) q → SaySame r q
+one_scan : (b : Belief) (s : Bounds) (r q : CacheReply) → IsReply b (call.Scan s) r → IsReply b (call.Scan s) q → r ≡ q
 one_scan b s (reply.Found x) (reply.Found y) h k = ap (λ (z : Scanned). reply.Found z) (one_find b s x y h k)
 one_scan b s (reply.Found x) (reply.Range p) h k = absurd k
 one_scan b s (reply.Found x) (reply.Key p) h k = absurd k
@@ -53,8 +52,8 @@ one_scan b s reply.Done q h k = absurd h
 one_scan b s (reply.Told p) q h k = absurd h
 one_scan b s reply.OutOfMemory q h k = absurd h
 
-same_pieces : (b : Belief) (r q : CacheReply) → IsReply b call.Pieces r → IsReply b call.Pieces q → SaySame r q
-same_pieces b (reply.Told x) (reply.Told y) h k = (b, h, k)
+same_pieces : (b : Belief) (r q : CacheReply) → IsReply b call.Pieces r → IsReply b call.Pieces q → r ≡ q
+same_pieces b (reply.Told x) (reply.Told y) h k = ap (λ (ps : Pieces). reply.Told ps) (pieces_are_determined b x y h k)
 same_pieces b (reply.Told x) (reply.Range p) h k = absurd k
 same_pieces b (reply.Told x) (reply.Key p) h k = absurd k
 same_pieces b (reply.Told x) (reply.Value p) h k = absurd k
@@ -68,13 +67,13 @@ same_pieces b reply.Done q h k = absurd h
 same_pieces b (reply.Found p) q h k = absurd h
 same_pieces b reply.OutOfMemory q h k = absurd h
 
-pub replies_agree : (b : Belief) (c : CacheCall) (r s : CacheReply) → IsReply b c r → IsReply b c s → SaySame r s
-replies_agree b (call.RangeAt p) r s h k = same_reply r s (reply.Range (b.range_at p)) refl h k
-replies_agree b (call.KeyAt p) r s h k = same_reply r s (reply.Key (b.key_at p)) refl h k
-replies_agree b (call.ValueAt p) r s h k = same_reply r s (reply.Value (b.value_at p)) refl h k
-replies_agree b (call.Adopt x) r s h k = same_reply r s reply.Done refl h k
-replies_agree b (call.AdoptAll xs) r s h k = same_reply r s reply.Done refl h k
-replies_agree b (call.Lower x keep) r s h k = same_reply r s reply.Done refl h k
+pub replies_agree : (b : Belief) (c : CacheCall) (r s : CacheReply) → IsReply b c r → IsReply b c s → r ≡ s
+replies_agree b (call.RangeAt p) r s h k = h ∙ sym k
+replies_agree b (call.KeyAt p) r s h k = h ∙ sym k
+replies_agree b (call.ValueAt p) r s h k = h ∙ sym k
+replies_agree b (call.Adopt x) r s h k = h ∙ sym k
+replies_agree b (call.AdoptAll xs) r s h k = h ∙ sym k
+replies_agree b (call.Lower x keep) r s h k = h ∙ sym k
 replies_agree b (call.Scan x) r s h k = one_scan b x r s h k
 replies_agree b call.Pieces r s h k = same_pieces b r s h k
 
@@ -84,7 +83,7 @@ answered b n c r (inl h) ne = h
 answered b n c r (inr h) ne = absurd (ne h.1)
 
 pub runs_agree : RunsAgree
-runs_agree b m n [] [] [] h k x y = (h ∙ sym k, tt)
+runs_agree b m n [] [] [] h k x y = (h ∙ sym k, refl)
 runs_agree b m n [] [] (s ∷ ss) h k x y = absurd k
 runs_agree b m n [] (r ∷ rs) ss h k x y = absurd h
 runs_agree b m n (c ∷ cs) [] ss h k x y = absurd h
@@ -93,4 +92,4 @@ runs_agree b m n (c ∷ cs) (r ∷ rs) (s ∷ ss) h k x y =
     let one = answered b h.0 c r h.1 x.0 in
     let other = answered b k.0 c s k.1 y.0 in
     let rest = runs_agree k.0 m n cs rs ss (subst (λ (z : Belief). Runs z cs rs m) (one.1 ∙ sym other.1) h.2) k.2 x.1 y.1 in
-    (rest.0, (replies_agree b c r s one.0 other.0, rest.1))
+    (rest.0, λ i. replies_agree b c r s one.0 other.0 i ∷ rest.1 i)

@@ -16,7 +16,7 @@ use Rattle.krl_messages.specs.declared.key_pieces.KeyPiece.{KeyPiece}
 use Rattle.krl_cache.specs.declared.entry.Entry.{Entry}
 use Rattle.krl_messages.specs.Holdings.{has_its_value}
 use Rattle.krl_cache.specs.Beliefs.{is_last, adopt, lower}
-use Rattle.krl_cache.specs.Kept.{range_said, key_said, AreAscending, Describes}
+use Rattle.krl_cache.specs.Kept.{range_said, key_said, AreMerged, AreAscending, Describes}
 use Rattle.krl_cache.specs.Lists.{key_piece, entry_of, entry_lowered, StandWithin}
 use Rattle.krl_cache_laws.specs.Lists.{lists_believe, AreKept}
 use Rattle.krl_cache.proofs.Effects.{adopts, lowers}
@@ -42,6 +42,7 @@ lists_describe rs xs es ys keys kept ex ey e =
     let whole : keys ≡ map key_piece es = e ∙ ap (λ (y : List (ℕ × Entry)). map key_piece y) ey in
     record {
       ranges_in_order = stand_in_order 0 TOP xs (omega arith) (subst (λ (x : List RangePiece). StandWithin 0 TOP x) (sym ex) kept.ranges);
+      merged = subst (λ (x : List RangePiece). AreMerged x) (sym ex) kept.merged;
       keys_in_order = subst (λ (x : List KeyPiece). AreAscending 0 x) (sym whole) (keys_ascend 0 TOP es (omega arith) kept.entries.rise kept.entries.read);
       ranges = λ p. ap (λ (x : List RangePiece). range_said x p) ex;
       keys = λ p. ap (λ (x : List KeyPiece). key_said x p) whole ∙ keys_say es p;

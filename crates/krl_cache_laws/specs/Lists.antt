@@ -1,5 +1,5 @@
 -- A cache kept in plain lists: pieces in order, entries in the order of their points.
-use Rattle.std.specs.Prelude.{◌≡◌, ℕ, ◌≤◌, ◌<◌, true, min, max, nat_lt, List, Option, Some, None, if◌then◌else◌}
+use Rattle.std.specs.Prelude.{◌≡◌, ℕ, ◌≤◌, ◌<◌, true, min, max, nat_lt, List, ◌∷◌, ◌++◌, Option, Some, None, if◌then◌else◌}
 use Rattle.std.specs.Ordering.{nat_cmp}
 use Rattle.std.specs.FinMap.{find}
 use Rattle.krl_modes.specs.declared.point.TheConstants.{TOP}
@@ -8,7 +8,7 @@ use Rattle.krl_modes.specs.Parts.{range_meet}
 use Rattle.krl_messages.specs.declared.range_pieces.RangePiece.{RangePiece}
 use Rattle.krl_cache.specs.declared.entry.Entry.{Entry}
 use Rattle.krl_cache.specs.Beliefs.{Belief, is_covered}
-use Rattle.krl_cache.specs.Kept.{range_said}
+use Rattle.krl_cache.specs.Kept.{range_said, AreMerged}
 use Rattle.krl_cache.specs.Lists.{belief_by, StandWithin, RiseWithin, AreRead}
 
 -- what of a piece lies from lo on below hi, lowered
@@ -35,7 +35,27 @@ pub record ArePlaced (es : List (ℕ × Entry)) : Type 0 where
 
 pub record AreKept (x : Lists) : Type 0 where
   pub ranges : StandWithin 0 TOP x.ranges
+  pub merged : AreMerged x.ranges
   pub entries : ArePlaced x.entries
+
+-- the piece goes on where the other ends, and says the same
+abbrev pub GoesOn : RangePiece → RangePiece → Type 0
+GoesOn x y = (x.span.hi ≡ y.span.lo) × (x.part ≡ y.part)
+
+-- the piece covers both, and says what they say
+pub record IsBoth (x y both : RangePiece) : Type 0 where
+  pub on : GoesOn x y
+  pub lo : both.span.lo ≡ x.span.lo
+  pub hi : both.span.hi ≡ y.span.hi
+  pub part : both.part ≡ y.part
+
+-- with the piece behind the old ones the new ones say the same, whatever follows, and are merged
+pub record AddsBehind (old : List RangePiece) (x : RangePiece) (new : List RangePiece) : Type 0 where
+  pub stand : (rest : List RangePiece) → StandWithin 0 TOP (old ++ x ∷ rest) → StandWithin 0 TOP (new ++ rest)
+  pub said :
+      (rest : List RangePiece) → StandWithin 0 TOP (old ++ x ∷ rest) → (p : ℕ)
+      → range_said (new ++ rest) p ≡ range_said (old ++ x ∷ rest) p
+  pub merged : AreMerged old → AreMerged new
 
 -- the part holds at each point from p on below the end
 pub record Holds (f : ℕ → RangePart) (p : ℕ) (part : RangePart) (end : ℕ) : Type 0 where

@@ -4,6 +4,7 @@ use Rattle.krl_cache_laws.specs.declared.run.CacheCall.{CacheCall}
 use Rattle.krl_cache_laws.specs.declared.run.CacheCall.TheVariants as call
 use Rattle.krl_cache_laws.specs.declared.run.CacheReply.{CacheReply}
 use Rattle.krl_cache_laws.specs.declared.run.CacheReply.TheVariants as reply
+use Rattle.krl_messages.specs.declared.pieces.Pieces.{Pieces}
 use Rattle.krl_messages.specs.Holdings.{has_its_value}
 use Rattle.krl_messages.specs.Several.{have_values}
 use Rattle.krl_cache.specs.Beliefs.{Belief, adopt, adopt_all, lower, Scans, CoversAll}
@@ -70,25 +71,18 @@ Runs b [] (r ∷ rs) n = ⊥
 Runs b (c ∷ cs) [] n = ⊥
 Runs b (c ∷ cs) (r ∷ rs) n = (m : Belief) × (IsStep b c r m) × (Runs m cs rs n)
 
--- two answers that say the same: they are one, or pieces that describe one belief
-abbrev pub SaySame : CacheReply → CacheReply → Type 0
-SaySame (reply.Told p) (reply.Told q) = (b : Belief) × (Describes p b) × (Describes q b)
-SaySame r s = r ≡ s
-
-abbrev pub AllSaySame : List CacheReply → List CacheReply → Type 0
-AllSaySame [] [] = Unit {0}
-AllSaySame [] (s ∷ ss) = ⊥
-AllSaySame (r ∷ rs) [] = ⊥
-AllSaySame (r ∷ rs) (s ∷ ss) = SaySame r s × AllSaySame rs ss
-
 -- no memory was refused
 abbrev pub AllAnswered : List CacheReply → Type 0
 AllAnswered [] = Unit {0}
 AllAnswered (r ∷ rs) = (r ≢ reply.OutOfMemory) × AllAnswered rs
 
--- two runs of the same calls from one belief, where no memory is refused, answer alike and leave
--- one belief
+-- one pair of lists describes a belief
+abbrev pub PiecesAreDetermined : Type 0
+PiecesAreDetermined = (b : Belief) (ps qs : Pieces) → Describes ps b → Describes qs b → ps ≡ qs
+
+-- two runs of the same calls from one belief, where no memory is refused, give the same answers
+-- and leave one belief
 abbrev pub RunsAgree : Type 0
 RunsAgree =
     (b m n : Belief) (cs : List CacheCall) (rs ss : List CacheReply) → Runs b cs rs m
-    → Runs b cs ss n → AllAnswered rs → AllAnswered ss → (m ≡ n) × AllSaySame rs ss
+    → Runs b cs ss n → AllAnswered rs → AllAnswered ss → (m ≡ n) × (rs ≡ ss)

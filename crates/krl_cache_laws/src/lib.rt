@@ -4,7 +4,7 @@
 
 ghost use Rattle.krl_cache.specs.Beliefs.{CallsKeepBelief, RowsAreDetermined, ScansAreDetermined};
 ghost use Rattle.krl_cache.specs.Kept.{BeliefsAreDescribed};
-ghost use Rattle.krl_cache_laws.specs.Runs.{RunsAgree};
+ghost use Rattle.krl_cache_laws.specs.Runs.{PiecesAreDetermined, RunsAgree};
 
 mod entries;
 mod pieces;
@@ -26,6 +26,12 @@ pub fn beliefs_are_described()
     ensures { BeliefsAreDescribed }
 {}
 
+/// One pair of lists describes a belief: what a client reports is determined by what it believes,
+/// and is no longer than that.
+pub fn pieces_are_determined()
+    ensures { PiecesAreDetermined }
+{}
+
 /// A scan has one list of rows.
 pub fn rows_of_a_scan()
     ensures { RowsAreDetermined }
@@ -36,8 +42,8 @@ pub fn scans_are_determined()
     ensures { ScansAreDetermined }
 {}
 
-/// Two runs of the same calls from one belief, on whatever forms of a cache, answer alike and leave
-/// one belief, where no memory is refused.
+/// Two runs of the same calls from one belief, on whatever forms of a cache, give the same answers
+/// and leave one belief, where no memory is refused.
 pub fn runs_agree()
     ensures { RunsAgree }
 {}

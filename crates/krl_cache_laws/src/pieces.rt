@@ -1,13 +1,15 @@
 //! Pieces in order, in a plain list.
-ghost use Rattle.std.specs.Prelude.{◌≡◌, ◌≤◌, ◌<◌, ◌++◌, ℕ, true, IfOk, OnOk, if◌then◌else◌};
+ghost use Rattle.std.specs.Prelude.{◌≡◌, ◌≤◌, ◌<◌, ◌++◌, ◌∷◌, ℕ, List, true, IsTrue, ◌↔◌, MatchOption, IfOk, OnOk, if◌then◌else◌};
 ghost use Rattle.std.specs.List.{filter_map, find as list_find};
 ghost use Rattle.krl_modes.specs.declared.point.TheConstants.{TOP};
+ghost use Rattle.krl_modes.specs.declared.part.RangePart.TheVariants as range;
 ghost use Rattle.krl_modes.specs.Parts.{range_meet};
 ghost use Rattle.krl_modes.specs.Spans.{contains};
 ghost use Rattle.krl_cache.specs.Beliefs as beliefs;
-ghost use Rattle.krl_cache.specs.Kept.{range_said};
+ghost use Rattle.krl_cache.specs.Kept.{range_said, AreMerged};
 ghost use Rattle.krl_cache.specs.Lists.{StandWithin};
-ghost use Rattle.krl_cache_laws.specs.Lists.{clip, Holds};
+ghost use Rattle.krl_messages.specs.declared.range_pieces.RangePiece.{RangePiece};
+ghost use Rattle.krl_cache_laws.specs.Lists.{clip, Holds, GoesOn, IsBoth, AddsBehind};
 
 use krl_messages::RangePiece;
 use krl_modes::{RangePart, Span, TOP};
@@ -49,8 +51,72 @@ fn add_pieces(
     Ok(())
 }
 
-// The pieces, with a part on a span in place of what was there.
-pub fn pieces_with(
+// Whether the second piece goes on where the first ends, and says the same.
+fn goes_on(first: &RangePiece, second: &RangePiece) -> bool
+    ensures { IsTrue result ↔ GoesOn first.now second.now }
+{
+    first.span.hi() == second.span.lo() && first.part == second.part
+}
+
+// The piece that covers both, where the second goes on with the first.
+fn both(first: &RangePiece, second: &RangePiece) -> Option<RangePiece>
+    requires { first.now.span.lo ≤ second.now.span.lo }
+    ensures { MatchOption result (¬ GoesOn first.now second.now) (IsBoth first.now second.now) }
+{
+    if !goes_on(first, second) {
+        return None;
+    }
+    let span = Span::new(first.span.lo(), second.span.hi()).ok()?;
+    let part = second.part;
+    Some(RangePiece { span, part })
+}
+
+// Whether the piece says N.
+fn says_none(piece: &RangePiece) -> bool
+    ensures { IsTrue result ↔ (piece.now.part ≡ range.N) }
+{
+    matches!(piece.part, RangePart::N)
+}
+
+// Adds a piece behind the others. It is one with the last, where it goes on with it, and is left
+// out where it says N.
+fn add_behind(list: &mut Vec<RangePiece>, piece: RangePiece) -> Result<(), AllocError>
+    requires { (rest : List RangePiece) × StandWithin 0 TOP (list.old.items ++ piece ∷ rest) }
+    ensures { OnOk result (AddsBehind list.old.items piece list.new.items) }
+{
+    if says_none(&piece) {
+        return Ok(());
+    }
+    let Some(last) = list.pop() else {
+        list.push(piece)?;
+        return Ok(());
+    };
+    if let Some(whole) = both(&last, &piece) {
+        list.push(whole)?;
+    } else {
+        list.push(last)?;
+        list.push(piece)?;
+    }
+    Ok(())
+}
+
+// The pieces, where neighbours that say the same are one, and none says N.
+fn merged(alloc: Global, pieces: &[RangePiece]) -> Result<Vec<RangePiece>, AllocError>
+    requires { StandWithin 0 TOP pieces.now }
+    ensures stand { IfOk result (λ list. StandWithin 0 TOP list.items) }
+    ensures said { IfOk result
+        (λ list. (p : ℕ) → range_said list.items p ≡ range_said pieces.now p) }
+    ensures merged { IfOk result (λ list. AreMerged list.items) }
+{
+    let mut list = Vec::new(alloc);
+    for piece in pieces {
+        add_behind(&mut list, *piece)?;
+    }
+    Ok(list)
+}
+
+// The pieces, cut at the ends of a span, with a part on it in place of what was there.
+fn cut_with(
     alloc: Global,
     pieces: &[RangePiece],
     span: Span,
@@ -72,8 +138,27 @@ pub fn pieces_with(
     Ok(list)
 }
 
-// The pieces, lowered on a span.
-pub fn pieces_lowered(
+// The pieces, with a part on a span in place of what was there.
+pub fn pieces_with(
+    alloc: Global,
+    pieces: &[RangePiece],
+    span: Span,
+    part: RangePart,
+) -> Result<Vec<RangePiece>, AllocError>
+    requires { StandWithin 0 TOP pieces.now }
+    ensures span { beliefs.is_span span ≡ true }
+    ensures stand { IfOk result (λ list. StandWithin 0 TOP list.items) }
+    ensures said { IfOk result
+        (λ list. (p : ℕ) → range_said list.items p
+        ≡ (if contains span p then part else range_said pieces.now p)) }
+    ensures merged { IfOk result (λ list. AreMerged list.items) }
+{
+    let list = cut_with(alloc, pieces, span, part)?;
+    merged(alloc, &list)
+}
+
+// The pieces, cut at the ends of a span, and lowered on it.
+fn cut_lowered(
     alloc: Global,
     pieces: &[RangePiece],
     span: Span,
@@ -93,6 +178,25 @@ pub fn pieces_lowered(
     add_pieces(&mut list, pieces, lo, hi, keep)?;
     add_pieces(&mut list, pieces, hi, TOP, RangePart::X)?;
     Ok(list)
+}
+
+// The pieces, lowered on a span.
+pub fn pieces_lowered(
+    alloc: Global,
+    pieces: &[RangePiece],
+    span: Span,
+    keep: RangePart,
+) -> Result<Vec<RangePiece>, AllocError>
+    requires { StandWithin 0 TOP pieces.now }
+    ensures stand { IfOk result (λ list. StandWithin 0 TOP list.items) }
+    ensures said { IfOk result
+        (λ list. (p : ℕ) → range_said list.items p
+        ≡ (if contains span p
+        then range_meet (range_said pieces.now p) keep else range_said pieces.now p)) }
+    ensures merged { IfOk result (λ list. AreMerged list.items) }
+{
+    let list = cut_lowered(alloc, pieces, span, keep)?;
+    merged(alloc, &list)
 }
 
 // The first piece over the point.

@@ -42,10 +42,31 @@ impl Model for Client {
 
     ghost Value = { Fields };
 
-    ghost view = { λ c. record { number = c.number; incarnation = c.incarnation; epoch = c.epoch; seen = c.seen; req = c.req; asked = c.asked; writes = c.writes; written = c.written; cache = c.cache; pins = c.pins } };
+    ghost view = { λ c. record {
+      number = c.number;
+      incarnation = c.incarnation;
+      epoch = c.epoch;
+      seen = c.seen;
+      req = c.req;
+      asked = c.asked;
+      writes = c.writes;
+      written = c.written;
+      cache = c.cache;
+      pins = c.pins;
+    } };
 
-    ghost invariant = { λ c. IsClient
-        (meaning (record { number = c.number; incarnation = c.incarnation; epoch = c.epoch; seen = c.seen; req = c.req; asked = c.asked; writes = c.writes; written = c.written; cache = c.cache; pins = c.pins })) };
+    ghost invariant = { λ c. IsClient (meaning (record {
+      number = c.number;
+      incarnation = c.incarnation;
+      epoch = c.epoch;
+      seen = c.seen;
+      req = c.req;
+      asked = c.asked;
+      writes = c.writes;
+      written = c.written;
+      cache = c.cache;
+      pins = c.pins;
+    })) };
 }
 
 impl Client {

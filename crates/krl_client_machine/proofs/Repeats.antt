@@ -41,7 +41,7 @@ ack_shows s l c g k h old = speaks_shows s l c g k _ h.1.number h old (λ m i. (
 
 -- what describes a belief describes the machine's client
 pub describes_it : (ps : Pieces) (b d : Belief) → ((p : ℕ) → b.range_at p ≡ d.range_at p) → ((p : ℕ) → b.key_at p ≡ d.key_at p) → Describes ps b → Describes ps d
-describes_it ps b d r k h = record { ranges_in_order = h.ranges_in_order; keys_in_order = h.keys_in_order; ranges = λ p. cc (h.ranges p, r p); keys = λ p. cc (h.keys p, k p) }
+describes_it ps b d r k h = record { ranges_in_order = h.ranges_in_order; merged = h.merged; keys_in_order = h.keys_in_order; ranges = λ p. cc (h.ranges p, r p); keys = λ p. cc (h.keys p, k p) }
 
 report_shows : (s : Shared) (l : Link) (c g : ℕ) (k : Client) (ps : Pieces) → Describes ps k.belief → ShowsSeat c g (Some k) l → 1 ≤ l.epoch → Leads s l c g (Some k) (says_report ps k ∷ [])
 report_shows s l c g k ps d h old = took s l _ c g _ _ h.1.number refl (reports_again h.1.up old)

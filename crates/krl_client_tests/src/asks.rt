@@ -147,19 +147,13 @@ fn scans<B: Belief>(alloc: Global, cache: &B, span: Span, gives: &Gives) -> bool
     }
 }
 
-// Whether these are the pieces that hold something: a piece with N says what none says.
 fn are_ranges(pieces: &[RangePiece], expected: &[(u64, u64, RangePart)]) -> bool {
-    let mut found = 0usize;
-    for piece in pieces {
-        if piece.part != RangePart::N {
-            let told = (piece.span.lo(), piece.span.hi(), piece.part);
-            if found >= expected.len() || told != expected[found] {
-                return false;
-            }
-            found += 1;
-        }
-    }
-    found == expected.len()
+    pieces.len() == expected.len()
+        && pieces.iter().zip(expected.iter()).all(|(piece, told)| (
+            piece.span.lo(),
+            piece.span.hi(),
+            piece.part,
+        ) == *told)
 }
 
 fn are_keys(pieces: &[KeyPiece], expected: &[(u64, KeyPart)]) -> bool {

@@ -173,6 +173,43 @@ static ADOPTS_EIGHT: [(Ask, Gives); 8] = [
     (Ask::At(20), Gives::Here(RangePart::I, KeyPart::N, None)),
 ];
 
+// Neighbours with the same part are one piece: at both ends of a holding, over several holdings,
+// and where lowering makes them alike. What holds nothing is no piece.
+static MERGES: [(Ask, Gives); 16] = [
+    (Ask::Adopt(0, 11, Mode::RangeIN, None), Gives::Done),
+    (Ask::Adopt(21, 31, Mode::RangeIN, None), Gives::Done),
+    (Ask::Adopt(11, 21, Mode::RangeIN, None), Gives::Done),
+    (Ask::Pieces, Gives::Told(&[(0, 31, RangePart::I)], &[])),
+    (Ask::Adopt(15, 16, Mode::RangeSS, Some(b"one")), Gives::Done),
+    (Ask::Adopt(15, 16, Mode::RangeIS, Some(b"one")), Gives::Done),
+    (
+        Ask::Pieces,
+        Gives::Told(&[(0, 31, RangePart::I)], &[(15, KeyPart::S)]),
+    ),
+    (Ask::Adopt(31, 41, Mode::RangeXX, Some(b"two")), Gives::Done),
+    (Ask::Lower(35, 41, Mode::RangeIX), Gives::Done),
+    (Ask::Lower(31, 35, Mode::RangeIN), Gives::Done),
+    (
+        Ask::Pieces,
+        Gives::Told(
+            &[(0, 41, RangePart::I)],
+            &[(15, KeyPart::S), (40, KeyPart::X)],
+        ),
+    ),
+    (
+        Ask::AdoptAll(&[
+            (5, 11, Mode::RangeIN, None),
+            (11, 41, Mode::RangeIN, None),
+            (41, 51, Mode::RangeIN, None),
+        ]),
+        Gives::Done,
+    ),
+    (Ask::Pieces, Gives::Told(&[(0, 51, RangePart::I)], &[])),
+    (Ask::Lower(0, 20, Mode::N), Gives::Done),
+    (Ask::Lower(20, 51, Mode::RangeSS), Gives::Done),
+    (Ask::Pieces, Gives::Told(&[], &[])),
+];
+
 const THIRTY_ONE: Bytes = b"1234567890123456789012345678901";
 
 const THIRTY_TWO: Bytes = b"12345678901234567890123456789012";
@@ -247,6 +284,7 @@ fn cache_gives_each_row(rt: HostRuntime) {
         KEYS_AND_THE_END.as_slice(),
         ADOPTS_SEVERAL.as_slice(),
         ADOPTS_EIGHT.as_slice(),
+        MERGES.as_slice(),
         ADOPTS_EACH_LENGTH.as_slice(),
     ] {
         assert!(rt; all_give(rt.alloc(), &mut Cache::new(rt.alloc()), rows));
@@ -261,6 +299,7 @@ fn plain_cache_gives_each_row(rt: HostRuntime) {
         KEYS_AND_THE_END.as_slice(),
         ADOPTS_SEVERAL.as_slice(),
         ADOPTS_EIGHT.as_slice(),
+        MERGES.as_slice(),
         ADOPTS_EACH_LENGTH.as_slice(),
     ] {
         assert!(rt; all_give(rt.alloc(), &mut PlainCache::new(rt.alloc()), rows));

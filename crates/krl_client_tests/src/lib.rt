@@ -10,3 +10,9 @@ mod asks;
 mod cache;
 #[cfg(test)]
 mod client;
+#[cfg(test)]
+mod joining;
+#[cfg(test)]
+mod locking;
+#[cfg(test)]
+mod writing;

@@ -13,7 +13,12 @@ pub record IsPadded (len : ℕ) (bytes : List ℕ) : Type 0 where
   pub zeros : drop len bytes ≡ replicate (32 - len) 0
 
 -- what is kept is the bytes, padded
-pub padded_back : (len : ℕ) (bytes : List ℕ) → IsPadded len bytes → (padded (take len bytes) ≡ bytes) × (length (take len bytes) ≡ len)
+pub padded_back : (len : ℕ) (bytes : List ℕ) → IsPadded len bytes →
+    (padded (take len bytes) ≡ bytes) × (length (take len bytes) ≡ len)
 padded_back len bytes h =
-    let n : length (take len bytes) ≡ len = length-take-le len bytes (omega (arith, h.few, h.whole)) in
-    (ap (λ m. take len bytes ++ replicate (32 - m) 0) n ∙ ap (λ zs. take len bytes ++ zs) (sym h.zeros) ∙ take-append-drop len bytes, n)
+    let n : length (take len bytes) ≡ len = length-take-le len bytes (omega (arith, h.few, h.whole)) in (
+      ap (λ m. take len bytes ++ replicate (32 - m) 0) n
+          ∙ ap (λ zs. take len bytes ++ zs) (sym h.zeros)
+          ∙ take-append-drop len bytes,
+      n,
+    )

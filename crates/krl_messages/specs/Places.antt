@@ -14,7 +14,8 @@ pub record AreHoldings (a : Inside) : Type 0 where
   pub ascend : Ascend (take a.len a.items)
 
 -- the list tells the places
-pub inverse_is : (a : Inside) → AreHoldings a → (let b : Inside = record { items = places (take a.len a.items); len = length (take a.len a.items) } in b) ≡ a
+pub inverse_is : (a : Inside) → AreHoldings a →
+    (let b : Inside = record { items = places (take a.len a.items); len = length (take a.len a.items) } in b) ≡ a
 inverse_is a h =
     ap (λ x. let b : Inside = record { items = x; len = length (take a.len a.items) } in b) h.kept
     ∙ ap (λ n. let b : Inside = record { items = a.items; len = n } in b) h.count

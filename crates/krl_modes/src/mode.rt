@@ -155,7 +155,9 @@ impl Mode {
     pub fn join(self, other: Mode) -> Mode
         ensures join { result ≡ join self other }
         ensures least { IsLeastUpperBound at_most self other result }
-        ensures parts { HasPartsCorrected result (range_join (range_of self) (range_of other)) (key_join (key_of self) (key_of other)) }
+        ensures parts { HasPartsCorrected result
+            (range_join (range_of self) (range_of other))
+            (key_join (key_of self) (key_of other)) }
     {
         let (range, key) = self.parts();
         let (other_range, other_key) = other.parts();
@@ -166,7 +168,9 @@ impl Mode {
     pub fn meet(self, other: Mode) -> Mode
         ensures meet { result ≡ meet self other }
         ensures greatest { IsGreatestLowerBound at_most self other result }
-        ensures parts { HasParts result (range_meet (range_of self) (range_of other)) (key_meet (key_of self) (key_of other)) }
+        ensures parts { HasParts result
+            (range_meet (range_of self) (range_of other))
+            (key_meet (key_of self) (key_of other)) }
     {
         let (range, key) = self.parts();
         let (other_range, other_key) = other.parts();

@@ -59,21 +59,33 @@ fn entries_of(alloc: Global, n: u64, falls: bool) -> Result<Vec<(u64, Value)>, A
     }
 }
 
-#[test]
-fn large_index_holds_the_most_entries(rt: HostRuntime) -> Result<(), Fail> {
-    let entries = entries_of(rt.alloc(), 65537, false)?;
-    assert!(rt; is_refused(rt.alloc(), &entries, Refused::Full));
-    let entries = entries_of(rt.alloc(), 65536, false)?;
-    let mut durable = durable_of(rt.alloc(), &entries)?;
+// Whether one entry more than there may be is refused.
+fn is_too_many(alloc: Global) -> bool {
+    match entries_of(alloc, 65537, false) {
+        Ok(entries) => is_refused(alloc, &entries, Refused::Full),
+        Err(_) => false,
+    }
+}
+
+// Whether a full index takes an entry only once it has lost one.
+fn makes_room(durable: &mut Durable) -> bool {
     let value = Value::from_u64(1);
     let more = &WriteOp::Insert { key: 70000, value };
     let less = &WriteOp::Delete { key: 5 };
-    assert!(rt; durable.judge(*more, true) == Outcome::Full);
-    assert!(rt; durable.judge(*more, false) == Outcome::NotHeld);
-    assert!(rt; writes(&mut durable, 1, less, true, Outcome::Applied));
-    assert!(rt; writes(&mut durable, 1, more, true, Outcome::Applied));
-    assert!(rt; durable.get(70000) == Some(value));
-    assert!(rt; durable.get(5).is_none());
+    durable.judge(*more, true) == Outcome::Full
+        && durable.judge(*more, false) == Outcome::NotHeld
+        && writes(durable, 1, less, true, Outcome::Applied)
+        && writes(durable, 1, more, true, Outcome::Applied)
+        && durable.get(70000) == Some(value)
+        && durable.get(5).is_none()
+}
+
+#[test]
+fn large_index_holds_the_most_entries(rt: HostRuntime) -> Result<(), Fail> {
+    assert!(rt; is_too_many(rt.alloc()));
+    let entries = entries_of(rt.alloc(), 65536, false)?;
+    let mut durable = durable_of(rt.alloc(), &entries)?;
+    assert!(rt; makes_room(&mut durable));
     Ok(())
 }
 
@@ -173,19 +185,30 @@ fn holds_two(durable: &Durable, first: (u64, u64), second: (u64, u64)) -> bool {
     durable.entries() == entries.as_slice()
 }
 
+// Makes those writes, and says whether each is judged so.
+fn judges_each(durable: &mut Durable) -> bool {
+    for (change, held, expected) in &WRITES {
+        if !writes(durable, 3, &write_of(change), *held, *expected) {
+            return false;
+        }
+    }
+    true
+}
+
+// Whether the slots are those of the entries 15 and 20, and END.
+fn has_slots(durable: &Durable) -> bool {
+    durable.slot_of(16) == 20
+        && durable.span_of(20).lo() == 16
+        && durable.span_of(20).hi() == 21
+        && durable.span_of(END).lo() == 21
+}
+
 #[test]
 fn judges_writes_and_notes_them(rt: HostRuntime) -> Result<(), Fail> {
     let entries = [(20, Value::from_u64(2)), (10, Value::from_u64(1))];
     let mut durable = durable_of(rt.alloc(), &entries)?;
-    assert!(rt; holds_two(&durable, (10, 1), (20, 2)));
-    for (change, held, expected) in &WRITES {
-        assert!(rt; writes(&mut durable, 3, &write_of(change), *held, *expected));
-    }
-    assert!(rt; holds_two(&durable, (15, 7), (20, 2)));
-    assert!(rt; durable.slot_of(16) == 20);
-    assert!(rt; durable.span_of(20).lo() == 16);
-    assert!(rt; durable.span_of(20).hi() == 21);
-    assert!(rt; durable.span_of(END).lo() == 21);
+    assert!(rt; holds_two(&durable, (10, 1), (20, 2)) && judges_each(&mut durable));
+    assert!(rt; holds_two(&durable, (15, 7), (20, 2)) && has_slots(&durable));
     Ok(())
 }
 
@@ -234,62 +257,103 @@ fn deletes(durable: &mut Durable, key: u64) -> bool {
     writes(durable, 1, &write, true, Outcome::Applied) && durable.get(key).is_none()
 }
 
+// Inserts a value of each length.
+fn inserts_each(durable: &mut Durable) -> bool {
+    for len in &LENGTHS {
+        if !inserts(durable, *len as u64, first_bytes(*len)) {
+            return false;
+        }
+    }
+    true
+}
+
+// Puts each value in another's place: the longest in that of the shortest, and so on.
+fn puts_each(durable: &mut Durable) -> bool {
+    for (len, other) in LENGTHS.iter().zip(LENGTHS.iter().rev()) {
+        let key = *len as u64;
+        if !has_bytes(durable, key, first_bytes(*len)) || !puts(durable, key, first_bytes(*other)) {
+            return false;
+        }
+    }
+    true
+}
+
+// Takes each away, where it has the bytes that were put there.
+fn deletes_each(durable: &mut Durable) -> bool {
+    for (len, other) in LENGTHS.iter().zip(LENGTHS.iter().rev()) {
+        let key = *len as u64;
+        if !has_bytes(durable, key, first_bytes(*other)) || !deletes(durable, key) {
+            return false;
+        }
+    }
+    true
+}
+
+// Whether a durable part with no entries takes them all, and loses none before its time.
+fn keeps_each_length(durable: &mut Durable) -> bool {
+    inserts_each(durable)
+        && rises(durable)
+        && puts_each(durable)
+        && rises(durable)
+        && durable.entries().len() == LENGTHS.len()
+        && deletes_each(durable)
+        && durable.entries().is_empty()
+}
+
 #[test]
 fn keeps_values_of_each_length(rt: HostRuntime) -> Result<(), Fail> {
     let mut durable = durable_of(rt.alloc(), &[])?;
-    for len in &LENGTHS {
-        assert!(rt;
-            inserts(&mut durable, *len as u64, first_bytes(*len)),
-            "{len}"
-        );
-    }
-    assert!(rt; rises(&mut durable));
-    // The longest value takes the place of the shortest, and so on.
-    for (len, other) in LENGTHS.iter().zip(LENGTHS.iter().rev()) {
-        assert!(rt;
-            has_bytes(&durable, *len as u64, first_bytes(*len)),
-            "{len}"
-        );
-        assert!(rt;
-            puts(&mut durable, *len as u64, first_bytes(*other)),
-            "{len}"
-        );
-    }
-    assert!(rt; rises(&mut durable));
-    assert!(rt; durable.entries().len() == LENGTHS.len());
-    for (len, other) in LENGTHS.iter().zip(LENGTHS.iter().rev()) {
-        assert!(rt;
-            has_bytes(&durable, *len as u64, first_bytes(*other)),
-            "{len}"
-        );
-        assert!(rt; deletes(&mut durable, *len as u64), "{len}");
-    }
-    assert!(rt; durable.entries().is_empty());
+    assert!(rt; keeps_each_length(&mut durable));
     Ok(())
 }
 
-// The clients that have not left, asked for again where memory was refused.
-fn missing(durable: &Durable, alloc: Global) -> Result<Vec<u64>, AllocError> {
-    match durable.missing_order(alloc) {
-        Ok(clients) => Ok(clients),
-        Err(_) => durable.missing_order(alloc),
+// Whether the clients that have not left are these, asked for again where memory was refused.
+fn are_missing(durable: &Durable, alloc: Global, expected: &[u64]) -> bool {
+    match durable
+        .missing_order(alloc)
+        .or_else(|_refused| durable.missing_order(alloc))
+    {
+        Ok(clients) => clients.as_slice() == expected,
+        Err(_) => false,
     }
+}
+
+// Clients that register, with their incarnations.
+static REGISTRATIONS: [(u64, u64); 4] = [(5, 1), (2, 1), (9, 1), (5, 2)];
+
+fn registers_each(durable: &mut Durable) -> bool {
+    for (c, incarnation) in &REGISTRATIONS {
+        if !registers(durable, *c, *incarnation) {
+            return false;
+        }
+    }
+    true
+}
+
+// The client leaves.
+fn leaves(durable: &mut Durable, c: u64) -> bool {
+    if durable.record(c).is_none() {
+        return false;
+    }
+    durable.leave(c);
+    true
+}
+
+// Whether they are missing in the order in which each registered first, till one leaves.
+fn keeps_the_order(durable: &mut Durable, alloc: Global) -> bool {
+    registers_each(durable)
+        && are_missing(durable, alloc, &[5, 2, 9])
+        && leaves(durable, 2)
+        && are_missing(durable, alloc, &[5, 9])
+        && durable.epoch() == 0
+        && rises(durable)
+        && durable.epoch() == 1
 }
 
 #[test]
 fn keeps_the_order_of_first_registration(rt: HostRuntime) -> Result<(), Fail> {
     let mut durable = durable_of(rt.alloc(), &[])?;
-    for (c, incarnation) in [(5, 1), (2, 1), (9, 1), (5, 2)] {
-        assert!(rt; registers(&mut durable, c, incarnation));
-    }
-    assert!(rt; missing(&durable, rt.alloc())?.as_slice() == [5, 2, 9].as_slice());
-    if durable.record(2).is_some() {
-        durable.leave(2);
-    }
-    assert!(rt; missing(&durable, rt.alloc())?.as_slice() == [5, 9].as_slice());
-    assert!(rt; durable.epoch() == 0);
-    durable.raise();
-    assert!(rt; durable.epoch() == 1);
+    assert!(rt; keeps_the_order(&mut durable, rt.alloc()));
     Ok(())
 }
 
@@ -323,26 +387,36 @@ fn brought(alloc: Global, entries: &[(u64, Value)]) -> Result<Durable, Refused> 
     }
 }
 
+// Whether those two clients have these records, and no third has one.
+fn has_records(durable: &Durable) -> bool {
+    for (c, record) in &RECORDS {
+        if durable.record(*c) != Some(*record) {
+            return false;
+        }
+    }
+    durable.record(3).is_none()
+}
+
+// Whether it has those parts, and goes on from there.
+fn holds_those_parts(durable: &mut Durable, alloc: Global) -> bool {
+    durable.epoch() == 7
+        && holds_two(durable, (10, 1), (20, 2))
+        && are_missing(durable, alloc, &[5])
+        && has_records(durable)
+        && writes(
+            durable,
+            2,
+            &write_of(&Change::Insert(15, 5)),
+            true,
+            Outcome::Applied,
+        )
+}
+
 #[test]
 fn holds_the_parts_that_it_is_made_of(rt: HostRuntime) -> Result<(), Fail> {
     let entries = [(20, Value::from_u64(2)), (10, Value::from_u64(1))];
     let mut durable = brought(rt.alloc(), &entries)?;
-    assert!(rt; durable.epoch() == 7);
-    assert!(rt; holds_two(&durable, (10, 1), (20, 2)));
-    assert!(rt; missing(&durable, rt.alloc())?.as_slice() == [5].as_slice());
-    for (c, record) in &RECORDS {
-        assert!(rt; durable.record(*c) == Some(*record));
-    }
-    assert!(rt; durable.record(3).is_none());
-    assert!(rt;
-        writes(
-            &mut durable,
-            2,
-            &write_of(&Change::Insert(15, 5)),
-            true,
-            Outcome::Applied
-        )
-    );
+    assert!(rt; holds_those_parts(&mut durable, rt.alloc()));
     Ok(())
 }
 

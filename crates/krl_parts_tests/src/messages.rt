@@ -58,23 +58,25 @@ fn report_and_clone(alloc: Global, span: Span) -> Result<(ToServer, ToServer), A
     Ok((message, copy))
 }
 
+// Whether this is the report.
+fn is_report(message: &ToServer, span: Span) -> bool {
+    let ToServerBody::Report { epoch, pieces } = &message.body else {
+        return false;
+    };
+    let ranges = pieces.ranges.as_slice();
+    message.client == 3
+        && message.incarnation == 2
+        && *epoch == 1
+        && ranges.len() == 2
+        && ranges[1].span == span
+        && pieces.keys.as_slice() == KEYS.as_slice()
+}
+
 #[test]
 fn clones_a_report(rt: HostRuntime) -> Result<(), Fail> {
     let span = Span::new(0, 11)?;
     let (message, copy) = report_and_clone(rt.alloc(), span)?;
-    assert!(rt; message == copy);
-    let ToServer {
-        client,
-        incarnation,
-        body,
-    } = copy;
-    let ToServerBody::Report { epoch, pieces } = body else {
-        panic!(rt; "a report is cloned as something else");
-    };
-    assert!(rt; client == 3 && incarnation == 2 && epoch == 1);
-    let ranges = pieces.ranges.as_slice();
-    assert!(rt; ranges.len() == 2 && ranges[1].span == span);
-    assert!(rt; pieces.keys.into_vec().as_slice() == KEYS.as_slice());
+    assert!(rt; message == copy && is_report(&copy, span));
     Ok(())
 }
 
@@ -135,40 +137,44 @@ fn are_first(holdings: &[Holding]) -> bool {
     true
 }
 
-#[test]
-fn holdings_are_those_that_were_pushed(rt: HostRuntime) -> Result<(), Fail> {
-    for n in 1..9 {
-        let holdings = first(n).ok_or("there is room for eight")?;
-        assert!(rt; holdings.as_slice().len() as u64 == n, "{n}");
-        assert!(rt; are_first(holdings.as_slice()), "{n}");
-        assert!(rt; holdings.have_values(), "{n}");
-        assert!(rt;
-            first(n) == Some(holdings) && first(9 - n) != Some(holdings),
-            "{n}"
-        );
-    }
-    assert!(rt; first(9).is_none());
-    Ok(())
+/// Whether the first n holdings are those, and equal to no other list of them but their own.
+fn holds_first(n: u64) -> bool {
+    let Some(holdings) = first(n) else {
+        return false;
+    };
+    let list = holdings.as_slice();
+    list.len() as u64 == n
+        && are_first(list)
+        && holdings.have_values()
+        && first(n) == Some(holdings)
+        && first(9u64.saturating_sub(n)) != Some(holdings)
 }
 
 #[test]
-fn one_holding_without_its_value_is_seen_among_others(rt: HostRuntime) -> Result<(), Fail> {
-    for n in 1..8 {
-        let mut holdings = first(n).ok_or("there is room for eight")?;
-        let last = nth(n).ok_or("its span is good")?;
-        assert!(rt;
-            push_behind(
-                &mut holdings,
-                Holding {
-                    value: None,
-                    ..last
-                }
-            ),
-            "{n}"
-        );
-        assert!(rt; !holdings.have_values(), "{n}");
+fn holdings_are_those_that_were_pushed(rt: HostRuntime) {
+    for n in 1..9 {
+        assert!(rt; holds_first(n), "{n}");
     }
-    Ok(())
+    assert!(rt; first(9).is_none());
+}
+
+/// Whether the first n holdings, and the next one without its value, do not all have theirs.
+fn sees_the_last(n: u64) -> bool {
+    let (Some(mut holdings), Some(last)) = (first(n), nth(n)) else {
+        return false;
+    };
+    let bare = Holding {
+        value: None,
+        ..last
+    };
+    push_behind(&mut holdings, bare) && !holdings.have_values()
+}
+
+#[test]
+fn one_holding_without_its_value_is_seen_among_others(rt: HostRuntime) {
+    for n in 1..8 {
+        assert!(rt; sees_the_last(n), "{n}");
+    }
 }
 
 #[test]

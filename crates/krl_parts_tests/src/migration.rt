@@ -9,7 +9,7 @@ ghost use Rattle.krl_durable.specs.Kept.{IsRow};
 use krl_durable::{Durable, DurableV1, NotMigrated, Record, Refused};
 use krl_messages::Outcome;
 use krl_modes::END;
-use std::alloc::{AllocError, Global};
+use std::alloc::Global;
 use std::test::Fail;
 
 // An incarnation that has left and never wrote.
@@ -90,28 +90,44 @@ fn has_eight_bytes(durable: &Durable, key: u64, bytes: &[u8; 8]) -> bool {
     }
 }
 
-// The clients that have not left, asked for again where memory was refused.
-fn missing(old: &DurableV1, alloc: Global) -> Result<Vec<u64>, AllocError> {
-    match old.missing_order(alloc) {
-        Ok(clients) => Ok(clients),
-        Err(_) => old.missing_order(alloc),
+// Whether the clients that have not left are these, asked for again where memory was refused.
+fn are_missing(old: &DurableV1, alloc: Global, expected: &[u64]) -> bool {
+    match old
+        .missing_order(alloc)
+        .or_else(|_refused| old.missing_order(alloc))
+    {
+        Ok(clients) => clients.as_slice() == expected,
+        Err(_) => false,
+    }
+}
+
+// Whether those who have left have their records, and nobody else has one.
+fn has_records(durable: &Durable) -> bool {
+    for (c, record) in &ALL_LEFT {
+        if durable.record(*c) != Some(*record) {
+            return false;
+        }
+    }
+    durable.record(1).is_none()
+}
+
+// Whether it is migrated, and keeps all but the form of its value.
+fn is_migrated(alloc: Global, old: &DurableV1) -> bool {
+    match migrated(alloc, old) {
+        Ok(durable) => {
+            has_eight_bytes(&durable, 10, &[0, 0, 0, 0, 0, 0, 1, 2])
+                && durable.epoch() == 4
+                && has_records(&durable)
+        }
+        Err(_) => false,
     }
 }
 
 #[test]
 fn keeps_all_but_the_form_of_values(rt: HostRuntime) -> Result<(), Fail> {
     let old = survived(rt.alloc(), &ALL_LEFT)?;
-    assert!(rt; has_survived(&old, &ALL_LEFT) && missing(&old, rt.alloc())?.is_empty());
-    let Ok(durable) = migrated(rt.alloc(), &old) else {
-        panic!(rt; "all have left");
-    };
-    assert!(rt; has_eight_bytes(&durable, 10, &[0, 0, 0, 0, 0, 0, 1, 2]));
-    assert!(rt; durable.epoch() == 4);
-    for (c, record) in &ALL_LEFT {
-        assert!(rt; durable.record(*c) == Some(*record), "{c}");
-    }
-    assert!(rt; durable.record(1).is_none());
-    assert!(rt; has_survived(&old, &ALL_LEFT));
+    assert!(rt; has_survived(&old, &ALL_LEFT) && are_missing(&old, rt.alloc(), &[]));
+    assert!(rt; is_migrated(rt.alloc(), &old) && has_survived(&old, &ALL_LEFT));
     Ok(())
 }
 
@@ -124,12 +140,17 @@ fn still_has(alloc: Global, old: &DurableV1, client: u64) -> bool {
 }
 
 #[test]
-fn names_the_first_who_has_not_left(rt: HostRuntime) -> Result<(), Fail> {
+fn names_the_one_who_has_not_left(rt: HostRuntime) -> Result<(), Fail> {
     let old = survived(rt.alloc(), &ONE_HERE)?;
-    assert!(rt; missing(&old, rt.alloc())?.as_slice() == [0].as_slice());
+    assert!(rt; are_missing(&old, rt.alloc(), &[0]));
     assert!(rt; still_has(rt.alloc(), &old, 0) && has_survived(&old, &ONE_HERE));
+    Ok(())
+}
+
+#[test]
+fn names_the_first_who_has_not_left(rt: HostRuntime) -> Result<(), Fail> {
     let old = survived(rt.alloc(), &TWO_HERE)?;
-    assert!(rt; missing(&old, rt.alloc())?.as_slice() == [3, 1].as_slice());
+    assert!(rt; are_missing(&old, rt.alloc(), &[3, 1]));
     assert!(rt; still_has(rt.alloc(), &old, 3) && has_survived(&old, &TWO_HERE));
     Ok(())
 }
@@ -142,13 +163,23 @@ fn is_refused(alloc: Global, entries: &[(u64, u64)], expected: Refused) -> bool 
     }
 }
 
+// Whether what never served has these entries, and nothing else.
+fn is_unused(old: &DurableV1, alloc: Global, entries: &[(u64, u64)]) -> bool {
+    old.entries() == entries
+        && old.epoch() == 0
+        && old.record(0).is_none()
+        && are_missing(old, alloc, &[])
+}
+
 #[test]
 fn begins_at_epoch_0_with_good_entries(rt: HostRuntime) -> Result<(), Fail> {
     let old = unused(rt.alloc(), &[(20, u64::MAX), (10, 258)])?;
-    assert!(rt; old.entries() == [(10, 258), (20, u64::MAX)].as_slice());
-    assert!(rt; old.epoch() == 0 && old.record(0).is_none());
-    assert!(rt; missing(&old, rt.alloc())?.is_empty());
+    assert!(rt; is_unused(&old, rt.alloc(), &[(10, 258), (20, u64::MAX)]));
+    Ok(())
+}
+
+#[test]
+fn refuses_the_first_bad_number(rt: HostRuntime) {
     assert!(rt; is_refused(rt.alloc(), &[(1, 0), (2, 0), (1, 0)], Refused::Twice));
     assert!(rt; is_refused(rt.alloc(), &[(END, 0), (2, 0), (2, 0)], Refused::BadKey));
-    Ok(())
 }

@@ -54,19 +54,23 @@ fn drains(list: &mut WaitList, waiting: &[(u64, u64)]) -> bool {
     list.is_empty()
 }
 
+/// Whether those five are taken out so: one in the middle, none, the first, then the others.
+fn is_taken_out(list: &mut WaitList) -> bool {
+    list.len() == 5
+        && is(list.front(), 1, 10)
+        && is(list.remove_client(2), 2, 30)
+        && list.remove_client(5).is_none()
+        && is(list.pop_front(), 1, 10)
+        && list.len() == 3
+        && drains(list, &[(3, 20), (2, 20), (4, END)])
+        && list.pop_front().is_none()
+}
+
 #[test]
 fn takes_out_in_order(rt: HostRuntime) {
     let mut list = WaitList::new();
     assert!(rt; list.is_empty() && list.front().is_none());
-    assert!(rt; fills(rt.alloc(), &mut list));
-    assert!(rt; list.len() == 5 && is(list.front(), 1, 10));
-    // One in the middle, none, the first.
-    assert!(rt; is(list.remove_client(2), 2, 30));
-    assert!(rt; list.remove_client(5).is_none());
-    assert!(rt; is(list.pop_front(), 1, 10));
-    assert!(rt; list.len() == 3);
-    assert!(rt; drains(&mut list, &[(3, 20), (2, 20), (4, END)]));
-    assert!(rt; list.pop_front().is_none());
+    assert!(rt; fills(rt.alloc(), &mut list) && is_taken_out(&mut list));
 }
 
 #[test]

@@ -72,7 +72,8 @@ impl Chain {
     /// Puts the nodes of `other` after those of this chain.
     pub(crate) fn link(&mut self, last: NodePtr, first: NodePtr, other: Chain)
         requires some { (0 < length self.old.spots) × (0 < length other.spots) }
-        requires places { (last.ptr ≡ last_or null_ptr self.old.spots) × (first.ptr ≡ first_or null_ptr other.spots) }
+        requires places { (last.ptr ≡ last_or null_ptr self.old.spots)
+            × (first.ptr ≡ first_or null_ptr other.spots) }
         ensures { self.new.spots ≡ self.old.spots ++ other.spots }
     {
         let Chain { mark: _ } = other;
@@ -87,8 +88,10 @@ impl Chain {
     /// Takes out the nodes from this index on.
     pub(crate) fn cut(&mut self, last: NodePtr, first: NodePtr, i: &Index) -> Chain
         requires within { (0 < i.now.at) × (i.now.at < length self.old.spots) }
-        requires places { (last.ptr ≡ last_or null_ptr (take i.now.at self.old.spots)) × (first.ptr ≡ first_or null_ptr (drop i.now.at self.old.spots)) }
-        ensures { (self.new.spots ≡ take i.now.at self.old.spots) × (result.spots ≡ drop i.now.at self.old.spots) }
+        requires places { (last.ptr ≡ last_or null_ptr (take i.now.at self.old.spots))
+            × (first.ptr ≡ first_or null_ptr (drop i.now.at self.old.spots)) }
+        ensures { (self.new.spots ≡ take i.now.at self.old.spots)
+            × (result.spots ≡ drop i.now.at self.old.spots) }
     {
         let last = last.ptr;
         let first = first.ptr;
@@ -101,7 +104,8 @@ impl Chain {
 
     /// Where the node after the one at this index lies, or null.
     pub(crate) fn next(&self, at: NodePtr, i: &Index) -> NodePtr
-        requires { (i.now.at < length self.now.spots) × (at.ptr ≡ first_or null_ptr (drop i.now.at self.now.spots)) }
+        requires { (i.now.at < length self.now.spots)
+            × (at.ptr ≡ first_or null_ptr (drop i.now.at self.now.spots)) }
         ensures { result.ptr ≡ first_or null_ptr (drop (i.now.at + 1) self.now.spots) }
     {
         NodePtr {
@@ -111,7 +115,8 @@ impl Chain {
 
     /// Where the node before the one at this index lies, or null.
     pub(crate) fn prev(&self, at: NodePtr, i: &Index) -> NodePtr
-        requires { (i.now.at < length self.now.spots) × (at.ptr ≡ first_or null_ptr (drop i.now.at self.now.spots)) }
+        requires { (i.now.at < length self.now.spots)
+            × (at.ptr ≡ first_or null_ptr (drop i.now.at self.now.spots)) }
         ensures { result.ptr ≡ last_or null_ptr (take i.now.at self.now.spots) }
     {
         NodePtr {
@@ -121,8 +126,10 @@ impl Chain {
 
     /// The waiter of the node at this index.
     pub(crate) fn waiter<'a>(&'a self, at: NodePtr, i: &Index) -> &'a Waiter
-        requires { (i.now.at < length self.now.spots) × (at.ptr ≡ first_or null_ptr (drop i.now.at self.now.spots)) }
-        ensures { drop i.now.at (waiters self.now.spots) ≡ result.now ∷ drop (i.now.at + 1) (waiters self.now.spots) }
+        requires { (i.now.at < length self.now.spots)
+            × (at.ptr ≡ first_or null_ptr (drop i.now.at self.now.spots)) }
+        ensures { drop i.now.at (waiters self.now.spots)
+            ≡ result.now ∷ drop (i.now.at + 1) (waiters self.now.spots) }
     {
         unsafe { &(*at.ptr).waiter }
     }
@@ -132,9 +139,13 @@ impl Chain {
     pub(crate) fn find(&self, head: NodePtr, client: u64) -> (NodePtr, Index)
         requires head { head.ptr ≡ first_or null_ptr self.now.spots }
         requires places { ArePlaces self.now.spots }
-        ensures place { (result.1.at ≤ length self.now.spots) × (result.0.ptr ≡ first_or null_ptr (drop result.1.at self.now.spots)) }
-        ensures first { first_of client (waiters self.now.spots) ≡ slice_get (waiters self.now.spots) result.1.at }
-        ensures rest { without_first client (waiters self.now.spots) ≡ take result.1.at (waiters self.now.spots) ++ drop (result.1.at + 1) (waiters self.now.spots) }
+        ensures place { (result.1.at ≤ length self.now.spots)
+            × (result.0.ptr ≡ first_or null_ptr (drop result.1.at self.now.spots)) }
+        ensures first { first_of client (waiters self.now.spots)
+            ≡ slice_get (waiters self.now.spots) result.1.at }
+        ensures rest { without_first client (waiters self.now.spots)
+            ≡ take result.1.at (waiters self.now.spots)
+            ++ drop (result.1.at + 1) (waiters self.now.spots) }
     {
         let mut at = head;
         let mut i = Index::first();

@@ -191,7 +191,8 @@ impl WaitList {
 
     /// Takes the first node out.
     fn pop_node(&mut self) -> Option<WaitNode>
-        ensures { MatchOption result ((self.old ≡ []) × (self.new ≡ [])) (λ node. self.old ≡ node ∷ self.new) }
+        ensures { MatchOption result ((self.old ≡ []) × (self.new ≡ []))
+            (λ node. self.old ≡ node ∷ self.new) }
     {
         let first = self.head;
         if first.is_null() {

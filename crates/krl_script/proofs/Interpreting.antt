@@ -4,22 +4,17 @@ use Rattle.std.specs.Prelude.{IfOk, OnOk, is_ok, is_some, slice_get, ◌≢◌}
 use Rattle.std.specs.Int.{w64, to_be_bytes}
 use Rattle.krl_durable.specs.Writes.{most_entries}
 use Rattle.krl_durable.specs.declared.refused.Refused.TheVariants as index
-use Rattle.krl_world.specs.declared.refused.Refused.{Refused}
-use Rattle.krl_world.specs.declared.refused.Refused.TheVariants as refused
+use Rattle.krl_steps.specs.declared.refused.Refused.{Refused}
+use Rattle.krl_steps.specs.declared.refused.Refused.TheVariants as refused
 use Rattle.krl_script.specs.declared.delivery.Delivery.{Delivery}
 use Rattle.krl_script.specs.declared.delivery.Delivery.TheVariants as delivery
-use Rattle.krl_world.specs.declared.answer.Answer.{Answer}
+use Rattle.krl_steps.specs.declared.answer.Answer.{Answer}
 use Rattle.krl_world.specs.States.{fresh, sent_count}
 use Rattle.krl_world.specs.Fields as world
 use Rattle.krl_script.specs.Fields.{Fields, meaning}
 use Rattle.krl_script.specs.Waiting.{Waits, sent_to, without}
-use Rattle.krl_script.specs.Printing.{refused_line}
+use Rattle.krl_text.specs.Printing.{refused_line}
 use Rattle.krl_script.specs.Transcripts.{Stage, counted, waits_after, Tries, DeliversMany, Ends, Settles, filled, Seeds}
-
--- a fact about an `Ok`, from another
-pub on_ok : {A E : Type 0} (P Q : A → Type 0) → ((x : A) → P x → Q x) → (r : Result A E) → IfOk r P → IfOk r Q
-on_ok P Q f (Ok x) h = f x h
-on_ok P Q f (Err e) h = h
 
 -- all that a world sent is counted
 pub sent_is : (w : world.Fields) → length w.sent ≡ sent_count (world.meaning w)

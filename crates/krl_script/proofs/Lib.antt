@@ -1,11 +1,6 @@
-pub mod BytesLemmas
-pub mod Digits
-pub mod PairsLemmas
-pub mod LinesLemmas
 pub mod SoundnessLemmas
 pub mod WaitingLemmas
 pub mod SomeSteps
 pub mod Runs
 pub mod Interpreting
 pub mod RandomLemmas
-pub mod WritingLemmas

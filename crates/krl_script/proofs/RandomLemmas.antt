@@ -1,5 +1,5 @@
 -- What a random run keeps from step to step.
-use Rattle.std.proofs.Common.{◌≡◌, ◌≢◌, ℕ, suc, ◌+◌, ◌<◌, ◌≤◌, ◌&&◌, Bool, true, false, ◌-◌, length, take, drop, get_or, List, [], ◌∷◌, Option, None, Result, Ok, Err, refl, sym, ap, subst, ◌∙◌, arith, add-one, drop-cons, length-drop, eq-eqb, eqb-true, nat_le, nat_eq}
+use Rattle.std.proofs.Common.{◌≡◌, ◌≢◌, ℕ, zero, suc, ◌+◌, ◌<◌, ◌≤◌, ◌&&◌, Bool, true, false, ◌-◌, length, take, drop, get_or, List, [], ◌∷◌, Option, None, Some, Result, Ok, Err, refl, sym, ap, subst, ◌∙◌, arith, add-one, drop-cons, length-drop, eq-eqb, eqb-true, nat_le, nat_eq}
 use Rattle.std.specs.Prelude.{not, is_some, is_none, slice_get, nat_lt}
 use Rattle.std.specs.FinMap as map
 use Rattle.std.specs.Cmp.Lexicographic.{pointwise, same_text, other_text}
@@ -14,21 +14,23 @@ use Rattle.krl_messages.specs.Values.{Value}
 use Rattle.krl_messages.specs.Padded.{padded}
 use Rattle.krl_world.specs.declared.node.ServerNode.{ServerNode as KeptNode}
 use Rattle.krl_world.specs.declared.node.ServerNode.TheVariants as kept
-use Rattle.krl_world.specs.declared.step.Step.{Step}
-use Rattle.krl_world.specs.declared.step.Step.TheVariants as step
-use Rattle.krl_world.specs.declared.step.Command.{Command}
-use Rattle.krl_world.specs.declared.step.Command.TheVariants as command
-use Rattle.krl_world.specs.declared.answer.Answer.{Answer}
-use Rattle.krl_world.specs.declared.answer.Answer.TheVariants as told
-use Rattle.krl_world.specs.declared.refused.Refused.{Refused}
+use Rattle.krl_steps.specs.declared.step.Step.{Step}
+use Rattle.krl_steps.specs.declared.step.Step.TheVariants as step
+use Rattle.krl_steps.specs.declared.step.Command.{Command}
+use Rattle.krl_steps.specs.declared.step.Command.TheVariants as command
+use Rattle.krl_steps.specs.declared.answer.Answer.{Answer}
+use Rattle.krl_steps.specs.declared.answer.Answer.TheVariants as told
+use Rattle.krl_steps.specs.declared.refused.Refused.{Refused}
 use Rattle.krl_world.specs.States.{State, fresh, index_of, opened}
 use Rattle.krl_world.specs.Steps.{Steps}
 use Rattle.krl_world.specs.Promises.{IsCompatible, ScansIndex, CommandIsRange}
 use Rattle.krl_world.specs.Fields as world
 use Rattle.krl_script.specs.declared.random.RandomRun.{RandomRun}
+use Rattle.krl_script.specs.declared.random.Pace.{Pace}
+use Rattle.krl_script.specs.declared.random.Pace.TheVariants as pace
 use Rattle.krl_script.specs.Waiting.{Waits, sent_to}
 use Rattle.krl_script.specs.Soundness.{go_together, all_below, is_sound_at, first_unsound, numbers_below}
-use Rattle.krl_script.specs.RandomRuns.{RandomStage, stage_of, first_entries, first_of, is_down, sight_of, waits_since, TakesDrawn, RunsRandomly, EndsRandomRun}
+use Rattle.krl_script.specs.RandomRuns.{RandomStage, stage_of, first_entries, first_of, is_down, sight_of, waits_since, TakesDrawn, GoesOn, late, most_hurried, Hurries, GoesAt, RunsRandomly, EndsRandomRun}
 use Rattle.krl_script.proofs.Interpreting.{sent_is}
 use Rattle.krl_script.proofs.SoundnessLemmas.{all_of_below, none_unsound}
 
@@ -237,15 +239,43 @@ answered_range m s r c what lo hi answer rows shown entries of_client scans ok g
     let of_scan : ScansIndex m (step.Command c (command.Scan lo hi)) r = subst (λ (x : Result Answer Refused). ScansIndex m (step.Command c (command.Scan lo hi)) x) (sym (ok ∙ ap Ok gives)) range in
     subst (λ (x : Step). ScansIndex m x r) (sym (of_client ∙ ap (λ (x : Command). step.Command c x) scans)) of_scan
 
+-- Deliveries of what is late
+
+hurries_none : (n : ℕ) (s : RandomStage) → late s ≡ None → Hurries n s s
+unfolding Hurries
+hurries_none zero s e = refl
+hurries_none (suc n) s e = rw e refl
+
+pub hurries_stay : (n : ℕ) (r q : RandomRun) → None ≡ late (stage_of r) → q ≡ r → Hurries n (stage_of r) (stage_of q)
+hurries_stay n r q is same = subst (λ (x : RandomRun). Hurries n (stage_of r) (stage_of x)) (sym same) (hurries_none n (stage_of r) (sym is))
+
+pub hurries_end : (n : ℕ) (s : RandomStage) → n ≡ 0 → Hurries n s s
+unfolding Hurries
+hurries_end zero s e = refl
+hurries_end (suc n) s e = absurd (omega (arith, e))
+
+hurries_more : (n : ℕ) (s mid last : RandomStage) (number : ℕ) → late s ≡ Some number → TakesDrawn s.world s.waits (step.Deliver number) s.generator mid → Hurries n mid last → Hurries (suc n) s last
+unfolding Hurries
+hurries_more n s mid last number e takes h = rw e (mid, takes, h)
+
+pub hurries_step : (n m : ℕ) (r q t : RandomRun) (number : ℕ) (last : RandomStage) → n ≡ suc m → Some number ≡ late (stage_of r) → q ≡ r → TakesDrawn (world.meaning q.world) q.waiting (step.Deliver number) q.draws (stage_of t) → Hurries m (stage_of t) last → Hurries n (stage_of r) last
+hurries_step n m r q t number last e is same takes h =
+    subst (λ (k : ℕ). Hurries k (stage_of r) last) (sym e)
+    (hurries_more m (stage_of r) (stage_of t) last number (sym is)
+    (subst (λ (x : RandomRun). TakesDrawn (world.meaning x.world) x.waiting (step.Deliver number) x.draws (stage_of t)) same takes) h)
+
+pub goes_busily : (at : Pace) (s mid last : RandomStage) → at ≡ pace.Busy → GoesOn s mid → Hurries most_hurried mid last → GoesAt at s last
+goes_busily at s mid last e goes h = subst (λ (x : Pace). GoesAt x s last) (sym e) (mid, goes, h)
+
 -- Whole runs
 
-pub ended : (r last : RandomRun) (seed steps : ℕ) (unsound : Option ℕ) → stage_of r ≡ first_of seed → (IsCompatible (world.meaning r.world) → (unsound ≡ None) × RunsRandomly steps (stage_of r) (stage_of last)) → (unsound ≡ None) × EndsRandomRun seed steps (world.meaning last.world)
-ended r last seed steps unsound first runs =
+pub ended : (at : Pace) (r last : RandomRun) (seed steps : ℕ) (unsound : Option ℕ) → stage_of r ≡ first_of seed → (IsCompatible (world.meaning r.world) → (unsound ≡ None) × RunsRandomly at steps (stage_of r) (stage_of last)) → (unsound ≡ None) × EndsRandomRun at seed steps (world.meaning last.world)
+ended at r last seed steps unsound first runs =
     let done = runs (first_compatible r seed first) in (
       done.0,
       record {
         last = stage_of last;
-        runs = subst (λ (s : RandomStage). RunsRandomly steps s (stage_of last)) first done.1;
+        runs = subst (λ (s : RandomStage). RunsRandomly at steps s (stage_of last)) first done.1;
         world = refl;
       },
     )

@@ -10,21 +10,23 @@ use Rattle.krl_messages.specs.Values.{Value}
 use Rattle.krl_world.specs.States.{fresh}
 use Rattle.krl_world.specs.Steps.{Steps}
 use Rattle.krl_script.proofs.SomeSteps.{some_step, can_begin_or_not}
-use Rattle.krl_world.specs.declared.step.Step.TheVariants as step
-use Rattle.krl_world.specs.declared.answer.Answer.{Answer}
-use Rattle.krl_world.specs.declared.refused.Refused.{Refused}
-use Rattle.krl_script.specs.declared.request.Request.{Request}
-use Rattle.krl_script.specs.declared.request.Request.TheVariants as request
-use Rattle.krl_script.specs.declared.fault.SyntaxFault.{SyntaxFault}
-use Rattle.krl_script.specs.declared.fault.SyntaxFault.TheVariants.{TextTooLong}
-use Rattle.krl_script.specs.Limits.{most_text, most_deliveries}
-use Rattle.krl_script.specs.declared.fault.ScriptFault.{ScriptFault}
-use Rattle.krl_script.specs.declared.fault.ScriptFault.TheVariants as script
-use Rattle.krl_script.specs.Words.{line_request}
+use Rattle.krl_steps.specs.declared.step.Step.TheVariants as step
+use Rattle.krl_steps.specs.declared.answer.Answer.{Answer}
+use Rattle.krl_steps.specs.declared.refused.Refused.{Refused}
+use Rattle.krl_text.specs.declared.request.Request.{Request}
+use Rattle.krl_text.specs.declared.request.Request.TheVariants as request
+use Rattle.krl_text.specs.declared.fault.SyntaxFault.{SyntaxFault}
+use Rattle.krl_text.specs.declared.fault.SyntaxFault.TheVariants.{TextTooLong}
+use Rattle.krl_text.specs.Limits.{most_text, most_deliveries}
+use Rattle.krl_text.specs.declared.fault.ScriptFault.{ScriptFault}
+use Rattle.krl_text.specs.declared.fault.ScriptFault.TheVariants as script
+use Rattle.krl_text.specs.Words.{line_request}
 use Rattle.krl_script.specs.Waiting.{none_waiting}
-use Rattle.krl_script.specs.Printing.{outcome_lines, refused_line, unsettled_line, shown_lines, modes_lines, fault_line}
+use Rattle.krl_text.specs.Printing.{outcome_lines, refused_line, unsettled_line, modes_lines, fault_line}
+use Rattle.krl_script.specs.Shown.{shown_lines}
 use Rattle.krl_script.specs.Transcripts.{Stage, first_stage, counted, waits_after, DeliversOldest, DeliversMany, Settles, filled, Seeds, Obeys, ObeysLine, PrintsLine, Prints, Transcript, End}
-use Rattle.krl_script.specs.Runs.{Known, Texts, ComesOfReading, WroteWhole, WroteFront, Failed, Wrote, EndsInFault, RunsLine, ReadsWhole, Ran}
+use Rattle.krl_script.specs.Runs.{Texts, WroteWhole, WroteFront, Failed, Wrote, EndsInFault, RunsLine, Ran}
+use Rattle.krl_text.specs.Transfers.{Known, ComesOfReading, ReadsWhole}
 
 -- a way in which deliveries end, from a stage that was reached by some
 abbrev SettlesFrom : ℕ → List ℕ → Stage → Type 0

@@ -17,19 +17,20 @@ use Rattle.krl_client.specs.declared.refused.CommandRefused.TheVariants as clien
 use Rattle.krl_client.specs.declared.scan_answer.ScanAnswer.TheVariants as scanned
 use Rattle.krl_world.specs.declared.message.Message.{Message}
 use Rattle.krl_world.specs.declared.message.Message.TheVariants as message
-use Rattle.krl_world.specs.declared.step.Step.{Step}
-use Rattle.krl_world.specs.declared.step.Step.TheVariants as step
-use Rattle.krl_world.specs.declared.step.Command.{Command}
-use Rattle.krl_world.specs.declared.step.Command.TheVariants as command
-use Rattle.krl_world.specs.declared.answer.Answer.{Answer}
-use Rattle.krl_world.specs.declared.answer.Answer.TheVariants as told
-use Rattle.krl_world.specs.declared.refused.Refused.{Refused}
-use Rattle.krl_world.specs.declared.refused.Refused.TheVariants as refused
+use Rattle.krl_steps.specs.declared.step.Step.{Step}
+use Rattle.krl_steps.specs.declared.step.Step.TheVariants as step
+use Rattle.krl_steps.specs.declared.step.Command.{Command}
+use Rattle.krl_steps.specs.declared.step.Command.TheVariants as command
+use Rattle.krl_steps.specs.declared.answer.Answer.{Answer}
+use Rattle.krl_steps.specs.declared.answer.Answer.TheVariants as told
+use Rattle.krl_steps.specs.declared.refused.Refused.{Refused}
+use Rattle.krl_steps.specs.declared.refused.Refused.TheVariants as refused
 use Rattle.krl_world.specs.States.{State, ServerNode, Up, Down, client_of}
 use Rattle.krl_durable.specs.Writes.{most_entries}
 use Rattle.krl_durable.specs.Openings.{key_of_entry, stands_before, IsGood, AreGood}
 use Rattle.krl_durable.specs.declared.refused.Refused.TheVariants as index
-use Rattle.krl_world.specs.Steps.{CanBegin, BeginsNot, span, named, of_client, if_runs, refused_by_client, command_refusal, server_down, message_at, refusal_of, Arrives, ServerReads, ClientReads, Delivers, TakesMemory, Does, Steps}
+use Rattle.krl_world.specs.Steps.{CanBegin, BeginsNot, span, named, of_client, if_runs, command_refusal, server_down, message_at, refusal_of, Arrives, ServerReads, ClientReads, Delivers, TakesMemory, Does, Steps}
+use Rattle.krl_steps.specs.Refusals.{refused_by_client}
 
 -- one is no more than the other, or it is more
 le_or_lt : (m n : ℕ) → (m ≤ n) ⊎ (n < m)

@@ -1,8 +1,9 @@
 -- The numbers of the messages that wait, and flags that say which wait no more.
-use Rattle.std.proofs.Common.{◌≡◌, ◌≢◌, ℕ, zero, suc, ◌+◌, ◌-◌, ◌≤◌, ◌<◌, Bool, true, false, not, List, [], ◌∷◌, ◌++◌, length, Some, refl, sym, ap, ◌∙◌, arith, ◌⊎◌, inl, inr, append_assoc, add-one}
+use Rattle.std.proofs.Common.{◌≡◌, ◌≢◌, ℕ, zero, suc, ◌+◌, ◌-◌, ◌≤◌, ◌<◌, Bool, true, false, not, List, take, get_or, [], ◌∷◌, ◌++◌, length, Some, refl, sym, ap, ◌∙◌, arith, ◌⊎◌, inl, inr, append_assoc, add-one}
 use Rattle.std.proofs.lemmas.Bool.Decides.{eqb_tells}
 use Rattle.std.specs.Prelude.{filter, nat_eq, slice_get, slice_set}
 use Rattle.std.proofs.Math.ListN.{length-set}
+use Rattle.std.proofs.lemmas.List.{take_more}
 use Rattle.krl_script.specs.Waiting.{Waits, waiting_after, numbers, sent_to, without}
 
 same_waits : (m n : ℕ) (xs ys : List ℕ) → m ≡ n → xs ≡ ys → ◌≡◌ {A = Waits} (record { sent = m; waiting = xs }) (record { sent = n; waiting = ys })
@@ -13,6 +14,28 @@ pub waiting_more : (n : ℕ) (flags : List Bool) → waiting_after n (flags ++ f
 waiting_more n [] = ap (λ (k : ℕ). k ∷ []) (omega arith)
 waiting_more n (true ∷ flags) = waiting_more (suc n) flags ∙ ap (λ (k : ℕ). waiting_after (suc n) flags ++ k ∷ []) (omega arith)
 waiting_more n (false ∷ flags) = ap (λ (xs : List ℕ). suc n ∷ xs) (waiting_more (suc n) flags ∙ ap (λ (k : ℕ). waiting_after (suc n) flags ++ k ∷ []) (omega arith))
+
+-- one flag more
+pub one_more_waits : (n : ℕ) (flags : List Bool) → length (waiting_after n (flags ++ false ∷ [])) ≡ length (waiting_after n flags) + 1
+one_more_waits n [] = refl
+one_more_waits n (true ∷ flags) = one_more_waits (suc n) flags
+one_more_waits n (false ∷ flags) = let more = one_more_waits (suc n) flags in omega (arith, more)
+
+pub no_more_waits : (n : ℕ) (flags : List Bool) → waiting_after n (flags ++ true ∷ []) ≡ waiting_after n flags
+no_more_waits n [] = refl
+no_more_waits n (true ∷ flags) = no_more_waits (suc n) flags
+no_more_waits n (false ∷ flags) = ap (λ (xs : List ℕ). suc n ∷ xs) (no_more_waits (suc n) flags)
+
+-- how many wait of the flags up to one place more
+pub count_waiting : (past i : ℕ) (flags : List Bool) (b : Bool) → i < length flags → b ≡ get_or flags i b → b ≡ false → length (waiting_after past (take (i + 1) flags)) ≡ length (waiting_after past (take i flags)) + 1
+count_waiting past i flags b l at e =
+    ap (λ (xs : List Bool). length (waiting_after past xs)) (take_more flags i b l ∙ ap (λ (x : Bool). take i flags ++ x ∷ []) (sym at ∙ e))
+    ∙ one_more_waits past (take i flags)
+
+pub count_passed : (past i : ℕ) (flags : List Bool) (b : Bool) → i < length flags → b ≡ get_or flags i b → b ≡ true → length (waiting_after past (take (i + 1) flags)) ≡ length (waiting_after past (take i flags))
+count_passed past i flags b l at e =
+    ap (λ (xs : List Bool). length (waiting_after past xs)) (take_more flags i b l ∙ ap (λ (x : Bool). take i flags ++ x ∷ []) (sym at ∙ e))
+    ∙ ap length (no_more_waits past (take i flags))
 
 -- a list without this number
 abbrev without_number : ℕ → List ℕ → List ℕ

@@ -1,10 +1,7 @@
-pub mod Limits
-pub mod Words
 pub mod Soundness
-pub mod Printing
+pub mod Shown
 pub mod Waiting
 pub mod Transcripts
-pub mod Draws
 pub mod Fields
 pub mod Runs
 pub mod RandomRuns

@@ -1,5 +1,5 @@
 -- What a random run does and writes.
-use Rattle.std.specs.Prelude.{◌≡◌, ℕ, zero, suc, List, [], ◌∷◌, ◌++◌, codes, slice_get, Bool, true, false, Option, None, Some, Result, Ok, Err}
+use Rattle.std.specs.Prelude.{◌≡◌, ℕ, zero, suc, List, [], ◌∷◌, ◌++◌, codes, slice_get, length, nat_lt, if◌then◌else◌, Bool, true, false, Option, None, Some, MatchOption, Result, Ok, Err}
 use Rattle.std.specs.Fmt.{decimal}
 use Rattle.std.specs.Io.KnownBytes.{Appends}
 use Rattle.rand_pcg.specs.Lcg.{Lcg}
@@ -8,19 +8,21 @@ use Rattle.krl_messages.specs.Values.{Value}
 use Rattle.krl_world.specs.States.{State, ServerNode, Up, Down, fresh, sent_count}
 use Rattle.krl_world.specs.Steps.{Steps}
 use Rattle.krl_world.specs.Fields as world
-use Rattle.krl_world.specs.declared.step.Step.{Step}
-use Rattle.krl_world.specs.declared.step.Step.TheVariants as step
-use Rattle.krl_world.specs.declared.answer.Answer.{Answer}
-use Rattle.krl_world.specs.declared.refused.Refused.{Refused}
-use Rattle.krl_script.specs.declared.draws.Sight.{Sight}
+use Rattle.krl_steps.specs.declared.step.Step.{Step}
+use Rattle.krl_steps.specs.declared.step.Step.TheVariants as step
+use Rattle.krl_steps.specs.declared.answer.Answer.{Answer}
+use Rattle.krl_steps.specs.declared.refused.Refused.{Refused}
+use Rattle.krl_draws.specs.declared.draws.Sight.{Sight}
 use Rattle.krl_script.specs.declared.random.RandomRun.{RandomRun}
-use Rattle.krl_script.specs.declared.fault.ScriptFault.{ScriptFault}
-use Rattle.krl_script.specs.declared.fault.ScriptFault.TheVariants as script
-use Rattle.krl_script.specs.Draws.{generator_of, drawn}
-use Rattle.krl_script.specs.Printing.{line_of}
+use Rattle.krl_script.specs.declared.random.Pace.{Pace}
+use Rattle.krl_script.specs.declared.random.Pace.TheVariants as pace
+use Rattle.krl_text.specs.declared.fault.ScriptFault.{ScriptFault}
+use Rattle.krl_text.specs.declared.fault.ScriptFault.TheVariants as script
+use Rattle.krl_draws.specs.Draws.{generator_of, drawn}
+use Rattle.krl_text.specs.Printing.{line_of}
 use Rattle.krl_script.specs.Transcripts.{waits_after}
 use Rattle.krl_script.specs.Waiting.{Waits, none_sent, sent_to}
-use Rattle.krl_script.specs.Runs.{Known}
+use Rattle.krl_text.specs.Transfers.{Known}
 
 -- a random run between two steps: its world, which messages wait, and its generator
 pub record RandomStage : Type 0 where
@@ -80,15 +82,39 @@ GoesBy s (Some what) generator s' = TakesDrawn s.world s.waits what generator s'
 abbrev pub GoesOn : RandomStage → RandomStage → Type 0
 GoesOn s s' = let d = drawn (sight_of s) s.generator in GoesBy s d.0 d.1 s'
 
--- so many steps, one after another
-abbrev pub RunsRandomly : ℕ → RandomStage → RandomStage → Type 0
-RunsRandomly zero s s' = s' ≡ s
-RunsRandomly (suc n) s s' = (mid : RandomStage) × RunsRandomly n s mid × GoesOn mid s'
+-- so many messages may wait between two steps of a busy run
+abbrev pub most_waiting : ℕ
+most_waiting = 4
 
--- the world ends a run of so many steps that this seed draws
-pub record EndsRandomRun (seed steps : ℕ) (w : State) : Type 0 where
+-- the most deliveries that a busy run makes after a step
+abbrev pub most_hurried : ℕ
+most_hurried = 1000
+
+-- the oldest message that waits, where too many do
+abbrev pub late : RandomStage → Option ℕ
+late s = if nat_lt most_waiting (length s.waits.waiting) then slice_get s.waits.waiting 0 else None
+
+-- as long as too many messages wait the oldest is delivered, at most so often
+unfoldable pub Hurries : ℕ → RandomStage → RandomStage → Type 0
+Hurries zero s s' = s' ≡ s
+Hurries (suc n) s s' = MatchOption (late s) (s' ≡ s) (λ number.
+    (mid : RandomStage) × TakesDrawn s.world s.waits (step.Deliver number) s.generator mid
+    × Hurries n mid s')
+
+-- the next step is drawn and done; a busy run delivers what is late then
+abbrev pub GoesAt : Pace → RandomStage → RandomStage → Type 0
+GoesAt pace.Drawn s s' = GoesOn s s'
+GoesAt pace.Busy s s' = (mid : RandomStage) × GoesOn s mid × Hurries most_hurried mid s'
+
+-- so many steps, one after another
+abbrev pub RunsRandomly : Pace → ℕ → RandomStage → RandomStage → Type 0
+RunsRandomly at zero s s' = s' ≡ s
+RunsRandomly at (suc n) s s' = (mid : RandomStage) × RunsRandomly at n s mid × GoesAt at mid s'
+
+-- the world ends a run of so many steps that this seed draws, at this pace
+pub record EndsRandomRun (at : Pace) (seed steps : ℕ) (w : State) : Type 0 where
   pub last : RandomStage
-  pub runs : RunsRandomly steps (first_of seed) last
+  pub runs : RunsRandomly at steps (first_of seed) last
   pub world : last.world ≡ w
 
 -- how the line of a random run ends: nothing was found, or this is the first step after which

@@ -5,21 +5,22 @@ use Rattle.std.specs.Int.{w64, to_be_bytes}
 use Rattle.krl_messages.specs.Values.{Value}
 use Rattle.krl_world.specs.States.{State, fresh, sent_count}
 use Rattle.krl_world.specs.Steps.{CanBegin, BeginsNot, Steps}
-use Rattle.krl_world.specs.declared.step.Step.{Step}
-use Rattle.krl_world.specs.declared.step.Step.TheVariants as step
-use Rattle.krl_world.specs.declared.answer.Answer.{Answer}
-use Rattle.krl_world.specs.declared.refused.Refused.{Refused}
-use Rattle.krl_world.specs.declared.refused.Refused.TheVariants as refused
-use Rattle.krl_script.specs.Limits.{most_text, most_deliveries}
-use Rattle.krl_script.specs.declared.request.Request.{Request}
-use Rattle.krl_script.specs.declared.request.Request.TheVariants as request
+use Rattle.krl_steps.specs.declared.step.Step.{Step}
+use Rattle.krl_steps.specs.declared.step.Step.TheVariants as step
+use Rattle.krl_steps.specs.declared.answer.Answer.{Answer}
+use Rattle.krl_steps.specs.declared.refused.Refused.{Refused}
+use Rattle.krl_steps.specs.declared.refused.Refused.TheVariants as refused
+use Rattle.krl_text.specs.Limits.{most_text, most_deliveries}
+use Rattle.krl_text.specs.declared.request.Request.{Request}
+use Rattle.krl_text.specs.declared.request.Request.TheVariants as request
 use Rattle.krl_script.specs.declared.delivery.Delivery.{Delivery}
 use Rattle.krl_script.specs.declared.delivery.Delivery.TheVariants as delivery
-use Rattle.krl_script.specs.declared.fault.SyntaxFault.{SyntaxFault}
-use Rattle.krl_script.specs.declared.fault.SyntaxFault.TheVariants.{TextTooLong}
-use Rattle.krl_script.specs.Words.{line_request}
+use Rattle.krl_text.specs.declared.fault.SyntaxFault.{SyntaxFault}
+use Rattle.krl_text.specs.declared.fault.SyntaxFault.TheVariants.{TextTooLong}
+use Rattle.krl_text.specs.Words.{line_request}
 use Rattle.krl_script.specs.Waiting.{Waits, none_sent, sent_to, without, none_waiting}
-use Rattle.krl_script.specs.Printing.{outcome_lines, refused_line, unsettled_line, shown_lines, modes_lines, fault_line}
+use Rattle.krl_text.specs.Printing.{outcome_lines, refused_line, unsettled_line, modes_lines, fault_line}
+use Rattle.krl_script.specs.Shown.{shown_lines}
 
 -- What is known between two lines: whether the world is made, the world, and which messages wait.
 pub record Stage : Type 0 where

@@ -3,20 +3,21 @@ ghost use Rattle.std.specs.Prelude.{◌≡◌, ◌≢◌, [], true, slice_get, M
 ghost use Rattle.krl_world.specs.States.{fresh};
 ghost use Rattle.krl_world.specs.Fields as world;
 ghost use Rattle.krl_world.specs.Steps.{CanBegin, BeginsNot};
-ghost use Rattle.krl_script.specs.Words.{Gives, Fails, line_request};
+ghost use Rattle.krl_text.specs.Words.{Gives, Fails, line_request};
 ghost use Rattle.krl_script.specs.Transcripts.{first_stage, counted, Acts, Delivers, DeliversThis, Settles, Tries, filled, Seeds, Obeys, ObeysLine};
 ghost use Rattle.krl_script.specs.Waiting.{none_waiting};
-ghost use Rattle.krl_script.specs.Printing.{refused_line, shown_lines};
+ghost use Rattle.krl_text.specs.Printing.{refused_line};
+ghost use Rattle.krl_script.specs.Shown.{shown_lines};
 ghost use Rattle.krl_script.specs.Fields.{meaning};
 
 use crate::delivery::Delivery;
-use crate::fault::{LineFault, SyntaxFault};
-use crate::limits::{MAX_DELIVERIES, MAX_LINE, MAX_LINES};
-use crate::parse::request_of_line;
-use crate::request::{Request, Show};
+use crate::shown;
 use crate::waiting::Waiting;
-use crate::{print, shown};
 use krl_messages::Value;
+use krl_text::{
+    LineFault, MAX_DELIVERIES, MAX_LINE, MAX_LINES, Request, Show, SyntaxFault, print,
+    request_of_line,
+};
 use krl_world::{Answer, Refused, Step, World};
 use std::alloc::{AllocError, Global};
 use std::marker::Model;
@@ -288,7 +289,7 @@ impl Interpreter {
     }
 
     /// What the line of this number asks for, or its first fault.
-    #[tactic(auto, unfolding(crate::specs::Words::line_request))]
+    #[tactic(auto, unfolding(krl_text::specs::Words::line_request))]
     pub fn request(&self, number: u64, line: &[u8]) -> Result<Request, LineFault>
         ensures { Gives result (line_request self.now.begun number line.now) }
     {

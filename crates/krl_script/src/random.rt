@@ -3,24 +3,27 @@ ghost use Rattle.std.specs.Prelude.{◌≡◌, ℕ, ◌≤◌, ◌&&◌, None, S
 ghost use Rattle.krl_world.specs.States.{index_of};
 ghost use Rattle.krl_world.specs.Fields.{meaning};
 ghost use Rattle.krl_world.specs.Promises.{IsCompatible, ScansIndex};
-ghost use Rattle.krl_script.specs.Limits.{most_interruptions, most_steps};
+ghost use Rattle.krl_text.specs.declared.limits.TheConstants.{MAX_STEPS};
+ghost use Rattle.krl_text.specs.Limits.{most_interruptions, most_steps};
 ghost use Rattle.krl_script.specs.Soundness.{first_unsound, numbers_below};
-ghost use Rattle.krl_script.specs.Runs.{IsSteady};
-ghost use Rattle.krl_script.specs.RandomRuns.{stage_of, first_entries, first_of, sight_of, waits_since, TakesDrawn, GoesOn, RunsRandomly, EndsRandomRun, random_line, WroteLineOf};
+ghost use Rattle.krl_text.specs.Transfers.{IsSteady};
+ghost use Rattle.krl_script.specs.declared.random.Pace.TheVariants as pace;
+ghost use Rattle.krl_script.specs.RandomRuns.{stage_of, first_entries, first_of, sight_of, waits_since, TakesDrawn, GoesOn, late, most_hurried, Hurries, GoesAt, RunsRandomly, EndsRandomRun, random_line, WroteLineOf};
 
-use crate::draws::{Draws, Sight};
-use crate::fault::ScriptFault;
 use crate::soundness::least_unsound;
-use crate::source::Sink;
-use crate::transfer::write_line;
 use crate::waiting::Waiting;
+use krl_draws::{Draws, Sight};
 use krl_messages::Value;
 use krl_modes::END;
+use krl_text::{MAX_STEPS, ScriptFault, Sink, write_line};
 use krl_world::{Answer, Command, Refused, Step, World};
 use std::alloc::{AllocError, Global};
 
-/// The most steps of a random run: 100,000.
-pub const MAX_STEPS: u64 = 100000;
+// So many messages may wait between two steps of a busy run.
+const MOST_WAITING: usize = 4;
+
+// The most deliveries that a busy run makes after a step.
+const MOST_HURRIED: u64 = 1000;
 
 // How many clients a run draws.
 const CLIENTS: u64 = 4;
@@ -43,6 +46,15 @@ pub struct Untold;
 
 impl Progress for Untold {
     fn taken(&mut self, _steps: u64) {}
+}
+
+/// What a random run does between two steps that are drawn.
+#[derive(Clone, Copy)]
+enum Pace {
+    /// Nothing: a message waits until a step that delivers it is drawn.
+    Drawn,
+    /// It delivers the oldest messages that wait, until at most four wait.
+    Busy,
 }
 
 /// A world that takes the steps that are drawn.
@@ -181,6 +193,53 @@ impl RandomRun {
         let answers = self.take(step)?;
         Ok(answers & self.is_sound())
     }
+
+    // The oldest message that waits, where too many do.
+    fn late(&mut self) -> Option<u64>
+        ensures late { result ≡ late (stage_of self.old) }
+        ensures same { self.new ≡ self.old }
+    {
+        let number = self.waiting.oldest()?;
+        if self.waiting.exceeds(MOST_WAITING) {
+            Some(number)
+        } else {
+            None
+        }
+    }
+
+    // Delivers the oldest messages that wait, until few do, at most so many. Says whether all is
+    // sound then.
+    fn hurry(&mut self, most: u64) -> Result<bool, AllocError>
+        ensures hurries { IfOk result (λ sound.
+            Hurries most (stage_of self.old) (stage_of self.new)) }
+        ensures sound { IsCompatible (meaning self.old.world) → IfOk result (λ sound.
+            (sound ≡ true) × IsCompatible (meaning self.new.world)) }
+        ensures looks { IfOk result (λ sound. sound ≡ true
+            → is_none (first_unsound (meaning self.new.world) 4 (numbers_below 64)) ≡ true) }
+    {
+        'deliveries: for _ in 0..most {
+            let Some(number) = self.late() else {
+                return Ok(self.is_sound());
+            };
+            self.take(Step::Deliver(number))?;
+        }
+        Ok(self.is_sound())
+    }
+
+    // Draws the next step and takes it, goes on as the pace says, and says whether all was sound.
+    fn go_at(&mut self, pace: Pace) -> Result<bool, AllocError>
+        ensures goes { IfOk result (λ sound. GoesAt pace (stage_of self.old) (stage_of self.new)) }
+        ensures sound { IsCompatible (meaning self.old.world) → IfOk result (λ sound.
+            (sound ≡ true) × IsCompatible (meaning self.new.world)) }
+        ensures looks { IfOk result (λ sound. sound ≡ true
+            → is_none (first_unsound (meaning self.new.world) 4 (numbers_below 64)) ≡ true) }
+    {
+        let sound = self.go_on()?;
+        match pace {
+            Pace::Drawn => Ok(sound),
+            Pace::Busy => Ok(self.hurry(MOST_HURRIED)? & sound),
+        }
+    }
 }
 
 // Tells of every 10,000th step.
@@ -195,14 +254,15 @@ fn tell<P: Progress>(progress: &mut P, steps: u64) {
 fn first_unsound_step<P: Progress>(
     run: &mut RandomRun,
     progress: &mut P,
+    pace: Pace,
     steps: u64,
 ) -> Result<Option<u64>, AllocError>
     ensures { IsCompatible (meaning run.old.world) → IfOk result (λ unsound. (unsound ≡ None)
-        × RunsRandomly steps (stage_of run.old) (stage_of run.new)) }
+        × RunsRandomly pace steps (stage_of run.old) (stage_of run.new)) }
 {
     'steps: for before in 0..steps {
         let number = before + 1;
-        if !run.go_on()? {
+        if !run.go_at(pace)? {
             return Ok(Some(number));
         }
         tell(progress, number);
@@ -210,18 +270,19 @@ fn first_unsound_step<P: Progress>(
     Ok(None)
 }
 
-// Takes so many steps of this seed. Gives the last world, and the first step after which something
+// Takes so many steps of this seed, at this pace. Gives the last world, and the first step after which something
 // was not sound.
 fn driven<P: Progress>(
     alloc: Global,
     progress: &mut P,
+    pace: Pace,
     seed: u64,
     steps: u64,
 ) -> Result<(World, Option<u64>), AllocError>
-    ensures { IfOk result (λ end. (end.1 ≡ None) × EndsRandomRun seed steps (meaning end.0)) }
+    ensures { IfOk result (λ end. (end.1 ≡ None) × EndsRandomRun pace seed steps (meaning end.0)) }
 {
     let mut run = RandomRun::new(alloc, seed)?;
-    let unsound = first_unsound_step(&mut run, progress, steps)?;
+    let unsound = first_unsound_step(&mut run, progress, pace, steps)?;
     let RandomRun { world, .. } = run;
     Ok((world, unsound))
 }
@@ -274,13 +335,44 @@ pub fn random_run<W: Sink, P: Progress>(
     requires bounded { steps ≤ most_steps }
     ensures limit { MAX_STEPS ≡ most_steps }
     ensures ran { IfOk result
-        (λ end. (end.1 ≡ true) × EndsRandomRun seed steps (meaning end.0)) }
+        (λ end. (end.1 ≡ true) × EndsRandomRun pace.Drawn seed steps (meaning end.0)) }
     ensures wrote { WroteLineOf (W.contents writer.old) (W.contents writer.new)
         (random_line seed steps None) result }
     ensures steady { (n : ℕ) → W.interruptions writer.old ≡ Some n → n ≤ most_interruptions →
         ¬ IsErrOf result ScriptFault.Write }
 {
-    let (world, unsound) = driven(alloc, progress, seed, steps)?;
+    let (world, unsound) = driven(alloc, progress, Pace::Drawn, seed, steps)?;
+    write_verdict(alloc, writer, seed, steps, unsound)?;
+    Ok((world, unsound.is_none()))
+}
+
+/// Drives a world as [`random_run`] does, and delivers after each step the oldest messages that
+/// wait, until at most four wait, or 1,000 were delivered. So messages seldom come late, and
+/// clients do more. It looks after each step, and again after what was delivered then.
+///
+/// # Errors
+///
+/// `Write` where the writer fails; `OutOfMemory` where the making of the world or the run's own
+/// growth finds no memory: nothing is written then.
+pub fn busy_run<W: Sink, P: Progress>(
+    alloc: Global,
+    writer: &mut W,
+    progress: &mut P,
+    seed: u64,
+    steps: u64,
+) -> Result<(World, bool), ScriptFault>
+    requires seed { seed ≤ END }
+    requires some { 1 ≤ steps }
+    requires bounded { steps ≤ most_steps }
+    ensures limit { MAX_STEPS ≡ most_steps }
+    ensures ran { IfOk result
+        (λ end. (end.1 ≡ true) × EndsRandomRun pace.Busy seed steps (meaning end.0)) }
+    ensures wrote { WroteLineOf (W.contents writer.old) (W.contents writer.new)
+        (random_line seed steps None) result }
+    ensures steady { (n : ℕ) → W.interruptions writer.old ≡ Some n → n ≤ most_interruptions →
+        ¬ IsErrOf result ScriptFault.Write }
+{
+    let (world, unsound) = driven(alloc, progress, Pace::Busy, seed, steps)?;
     write_verdict(alloc, writer, seed, steps, unsound)?;
     Ok((world, unsound.is_none()))
 }

@@ -1,18 +1,17 @@
 //! A whole script.
 ghost use Rattle.std.specs.Prelude.{◌≡◌, ℕ, ◌≤◌, length, Some, IfErr, IsErrOf, OnOk};
 ghost use Rattle.std.specs.Str.Lines.{lines};
-ghost use Rattle.krl_script.specs.Limits.{most_text, most_turns, most_interruptions};
+ghost use Rattle.krl_text.specs.Limits.{most_text, most_turns, most_interruptions};
 ghost use Rattle.krl_script.specs.Transcripts.{first_stage, Prints};
 ghost use Rattle.krl_script.specs.Fields.{meaning};
-ghost use Rattle.krl_script.specs.Runs.{Counts, MayEndReading, IsSteady, Wrote, EndsInFault, RunsLine, Ran};
+ghost use Rattle.krl_script.specs.Runs.{Wrote, EndsInFault, RunsLine, Ran};
+ghost use Rattle.krl_text.specs.Transfers.{Counts, MayEndReading, IsSteady};
 
-use crate::fault::{LineFault, ScriptFault, SyntaxFault};
 use crate::interpreter::Interpreter;
-use crate::limits::MAX_TEXT;
-use crate::lines::first_line;
-use crate::print;
-use crate::source::{Sink, Source};
-use crate::transfer::{read_text, write_line};
+use krl_text::{
+    LineFault, MAX_TEXT, ScriptFault, Sink, Source, SyntaxFault, first_line, print, read_text,
+    write_line,
+};
 use std::alloc::Global;
 
 // Writes the line of a fault, which ends the script.

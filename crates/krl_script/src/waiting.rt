@@ -1,5 +1,5 @@
 //! Which messages wait.
-ghost use Rattle.std.specs.Prelude.{◌≡◌, ◌≢◌, ◌+◌, ◌<◌, ◌^◌, true, length, slice_get, Some, OnOk};
+ghost use Rattle.std.specs.Prelude.{◌≡◌, ◌≢◌, ℕ, nat_lt, ◌+◌, ◌<◌, ◌^◌, true, length, slice_get, Some, OnOk};
 ghost use Rattle.krl_script.specs.Waiting.{none_sent, sent_to, without, none_waiting, waiting_after};
 
 use std::alloc::{AllocError, Global};
@@ -46,6 +46,19 @@ fn pass(past: u64, flags: &mut VecDeque<bool>) -> u64
     past
 }
 
+// How many messages these flags say to wait.
+fn waiting_among(flags: &VecDeque<bool>) -> usize
+    ensures { (past : ℕ) → result ≡ length (waiting_after past flags.now.items) }
+{
+    let mut waiting = 0;
+    'flags: for i in 0..flags.len() {
+        if !flags[i] {
+            waiting += 1;
+        }
+    }
+    waiting
+}
+
 impl Waiting {
     /// Nothing was sent yet.
     pub fn new(alloc: Global) -> Waiting
@@ -81,6 +94,14 @@ impl Waiting {
             return None;
         }
         Some(self.past + 1)
+    }
+
+    /// Whether more than so many messages wait. It takes one turn for each message that was sent
+    /// after the oldest that waits, and for that one.
+    pub fn exceeds(&self, most: usize) -> bool
+        ensures { result ≡ nat_lt most (length self.now.waiting) }
+    {
+        waiting_among(&self.flags) > most
     }
 
     /// The message of this number waits no more.

@@ -1,5 +1,5 @@
 -- What a grant takes, and what each raise of it leaves as it was.
-use Rattle.std.proofs.Common.{◌≡◌, ◌≢◌, ℕ, zero, suc, ◌≤◌, ◌<◌, Bool, true, false, not, ◌&&◌, ◌||◌, Option, Some, None, List, [], ◌∷◌, ◌++◌, take, length, refl, sym, ap, subst, ◌∙◌, ⊎_elim, ◌⊎◌, arith}
+use Rattle.std.proofs.Common.{◌≡◌, ◌≢◌, ℕ, zero, suc, ◌≤◌, ◌<◌, Bool, true, false, not, ◌&&◌, ◌||◌, Option, Some, None, List, [], ◌∷◌, ◌++◌, take, length, refl, sym, ap, subst, ◌∙◌, ⊎_elim, arith}
 use Rattle.std.proofs.Common.{nat_eq, eq-eqb, ltb-true}
 use Rattle.std.proofs.lemmas.Bool.{cases_lt}
 use Rattle.std.proofs.lemmas.Bool.Decides.{nat_tests}
@@ -15,7 +15,7 @@ use Rattle.krl_queue.specs.declared.waiter.Waiter.{Waiter}
 use Rattle.krl_protocol.specs.Links.{Phase, IsSlot}
 use Rattle.krl_protocol.proofs.Worlds.{eq_cases}
 use Rattle.krl_durable.specs.Index.{Index, first_or_end, slot_of, low_of, is_slot}
-use Rattle.krl_table.specs.Rows.{Row, Rows, mode_at, set_row}
+use Rattle.krl_table.specs.Rows.{Rows, mode_at, set_row}
 use Rattle.krl_table.specs.Calls.{with_mode, wanted, grant_first, granted_first, raised, raised_on}
 use Rattle.krl_table.specs.Replies.{can_have}
 use Rattle.krl_table.specs.Grants.{nobody_waits, can_take, goes_on, taken_after, taken_by, taken, granted_by, granted, most_more}
@@ -24,7 +24,7 @@ use Rattle.krl_messages.specs.Several.{IsBefore, Ascend, most_holdings}
 use Rattle.krl_durable.specs.Registers.{Durable}
 use Rattle.krl_server.specs.Servers.{Server}
 use Rattle.krl_server.specs.Effects.{holding, holdings}
-use Rattle.krl_server.proofs.Slots.{seen_in, find_here, find_past, is_slot_true, span_here}
+use Rattle.krl_server.proofs.Slots.{find_here, find_past, is_slot_true, span_here}
 use Rattle.krl_server.specs.Shows.{IsWhole}
 use Rattle.krl_server.proofs.Meaning.{low_below, row_here, row_other, mode_other, row_modes}
 use Rattle.krl_server.proofs.Tests.{and_true, if_case}

@@ -13,7 +13,7 @@ use Rattle.krl_durable.specs.Registers.{Register, Durable, with_record, new_reco
 use Rattle.krl_durable.specs.Writes.{noted, applied_by}
 use Rattle.krl_table.specs.Rows.{Row, Rows, set_row}
 use Rattle.krl_table.specs.Calls.{with_queue, grant_first, behind_first, dropped, cleared}
-use Rattle.krl_table.specs.Grants.{taken, granted}
+use Rattle.krl_table.specs.Grants.{granted}
 use Rattle.krl_table.specs.Replies.{asks_absent}
 use Rattle.krl_server.specs.Servers.{Server}
 use Rattle.krl_server.specs.Cases.{Case, Rebuilds, Lowers, Waits, Judges, AnswersAgain, case_of}

@@ -55,3 +55,4 @@ pub mod Finishing
 pub mod Stepped
 pub mod Started
 pub mod Nudged
+pub mod Listed

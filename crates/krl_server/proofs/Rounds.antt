@@ -1,5 +1,5 @@
 -- One walk upward over the slots answers all who can be answered.
-use Rattle.std.proofs.Common.{◌≡◌, ◌≢◌, ℕ, suc, ◌≤◌, ◌<◌, Bool, true, false, not, ◌&&◌, ◌||◌, Option, Some, None, List, [], ◌∷◌, ◌++◌, map, inl, inr, refl, sym, ap, subst, ◌∙◌, ⊎_elim, append_assoc, arith}
+use Rattle.std.proofs.Common.{◌≡◌, ℕ, suc, ◌≤◌, ◌<◌, Bool, true, false, not, ◌&&◌, ◌||◌, Option, Some, None, List, [], ◌∷◌, ◌++◌, map, inl, inr, refl, sym, ap, subst, ◌∙◌, ⊎_elim, append_assoc, arith}
 use Rattle.std.proofs.Common.{nat_eq, eqb-true}
 use Rattle.std.proofs.lemmas.Bool.{cases_lt}
 use Rattle.std.proofs.lemmas.List.{append-nil}
@@ -17,13 +17,13 @@ use Rattle.krl_protocol.proofs.Worlds.{eq_cases}
 use Rattle.krl_protocol.proofs.Points.{no_none}
 use Rattle.krl_durable.specs.Index.{Index, slots, is_slot}
 use Rattle.krl_table.specs.Rows.{Row, all_below, most_clients}
-use Rattle.krl_table.specs.Calls.{wanted, with_queue, grant_first, behind_first, dropped}
+use Rattle.krl_table.specs.Calls.{wanted, with_queue, behind_first, dropped}
 use Rattle.krl_table.specs.Grants.{taken, granted}
 use Rattle.krl_table.specs.Replies.{asks_absent, can_have}
 use Rattle.krl_table.specs.Sound.{IsTable}
 use Rattle.krl_server.specs.declared.line.Line.{Line}
 use Rattle.krl_server.specs.Servers.{Server, set_line}
-use Rattle.krl_server.specs.Effects.{Done, with_line, with_rows, push_to, pushes, silent, holding, holdings}
+use Rattle.krl_server.specs.Effects.{Done, with_line, with_rows, push_to, pushes, silent, holdings}
 use Rattle.krl_server.specs.Answering.{Turn, can_push, is_answerable, turn_at, turn_among, next_turn, tells_absent, grants, take_turn, Answered, goes_on, stops}
 use Rattle.krl_table.specs.Kept.{IsOver}
 use Rattle.krl_server.specs.declared.state.State.{State}

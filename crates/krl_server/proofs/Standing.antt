@@ -13,7 +13,7 @@ use Rattle.krl_protocol.specs.Links.{In}
 use Rattle.krl_protocol.proofs.Points.{no_none}
 use Rattle.krl_durable.specs.Index.{slot_of}
 use Rattle.krl_table.specs.Calls.{dropped}
-use Rattle.krl_table.specs.Grants.{taken, granted}
+use Rattle.krl_table.specs.Grants.{granted}
 use Rattle.krl_table.specs.Replies.{asks_absent, can_have}
 use Rattle.krl_server.specs.declared.line.Line.{Line}
 use Rattle.krl_server.specs.Servers.{Server}

@@ -16,7 +16,7 @@ use Rattle.krl_table.specs.Calls.{dropped, behind_first}
 use Rattle.krl_table.specs.Grants.{taken, granted}
 use Rattle.krl_table.specs.Replies.{asks_absent, can_have, reply_to, first_reply, answerable}
 use Rattle.krl_server.specs.Servers.{Server}
-use Rattle.krl_server.specs.Effects.{with_rows, holding, holdings, push_to}
+use Rattle.krl_server.specs.Effects.{with_rows, holdings, push_to}
 use Rattle.krl_server.specs.Answering.{Turn, can_push, is_answerable, turn_at, tells_absent, grants}
 use Rattle.krl_server.specs.Outboxes.{as_list}
 use Rattle.krl_server.specs.Doing.{turn_here, HasTurned}

@@ -24,7 +24,7 @@ use Rattle.krl_messages.specs.Writes.{op_key}
 use Rattle.krl_durable.specs.Writes.{most_entries, judge, judged_insert, noted, index_after, applied_by}
 use Rattle.krl_table.specs.Rows.{Rows, most_clients}
 use Rattle.krl_table.specs.Calls.{dropped}
-use Rattle.krl_table.specs.Grants.{taken, granted}
+use Rattle.krl_table.specs.Grants.{granted}
 use Rattle.krl_table.specs.Replies.{asks_absent}
 use Rattle.krl_server.specs.declared.line.Line.{Line}
 use Rattle.krl_server.specs.Servers.{Server, is_gathering, lists, unlist, set_line, blank_line}

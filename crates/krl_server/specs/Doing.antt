@@ -1,8 +1,11 @@
 -- What a step's parts do: a case is performed, first waiters are answered, and there is room for what is sent.
-use Rattle.std.specs.Prelude.{◌≡◌, ℕ, zero, suc, ◌+◌, ◌*◌, ◌≤◌, Bool, true, false, not, List, [], ◌∷◌, ◌++◌, length, Option, Some, None, if◌then◌else◌}
+use Rattle.std.specs.Prelude.{◌≡◌, ℕ, zero, suc, ◌+◌, ◌*◌, ◌≤◌, ◌<◌, Bool, true, false, not, List, [], ◌∷◌, ◌++◌, length, Option, Some, None, if◌then◌else◌}
 use Rattle.krl_messages.specs.declared.to_client.ToClient.{ToClient}
 use Rattle.krl_messages.specs.declared.to_server.ToServer.{ToServer}
-use Rattle.krl_table.specs.Rows.{most_clients, waits}
+use Rattle.krl_table.specs.declared.first.FirstWaiter.{FirstWaiter}
+use Rattle.krl_table.specs.Kept.{mode_of}
+use Rattle.krl_table.specs.Rows.{most_clients, mode_at, front_of, waits}
+use Rattle.krl_table.specs.Waiters.{NobodyWaits}
 use Rattle.krl_server.specs.declared.case.Case.{Case as Found}
 use Rattle.krl_server.specs.declared.case.Case.TheVariants as found
 use Rattle.krl_server.specs.declared.out.ServerOut.{ServerOut}
@@ -20,7 +23,7 @@ use Rattle.krl_server.specs.States.{meaning, IsFormed, after_of}
 use Rattle.krl_server.specs.Outboxes.{Sent, Sends}
 use Rattle.krl_server.specs.Cases.{case_of}
 use Rattle.krl_modes.specs.Modes.{cap}
-use Rattle.krl_durable.specs.Index.{span_of}
+use Rattle.krl_durable.specs.Index.{span_of, is_slot}
 use Rattle.krl_table.specs.Calls.{wanted}
 use Rattle.krl_server.specs.Effects.{callback_to, effect}
 use Rattle.krl_server.specs.Answering.{Turn, turn_at, take_turn, Answered}
@@ -62,10 +65,23 @@ abbrev pub callback_if : Server → ℕ → Waiter → ℕ → List ToClient
 callback_if s n u d =
     if is_beside s n u d then [] else callback_to s d (span_of s.durable.index n) (cap (wanted (s.rows n) u)) ∷ []
 
--- the callbacks for a slot's waiter, if there is one
-abbrev pub calls_of_first : Server → Option (ℕ × Waiter) → List ToClient
+-- f is what the table tells of the first waiter of slot n
+pub record IsFirst (s : Server) (n : ℕ) (f : FirstWaiter) : Type 0 where
+  pub waiter : front_of (s.rows n).queue ≡ Some f.waiter
+  pub client : f.waiter.client < 64
+  pub span : f.span ≡ span_of s.durable.index n
+  pub modes : (c : ℕ) → mode_of f.modes c ≡ mode_at s.rows n c
+
+-- the callbacks for a slot's first waiter, if there is one
+abbrev pub calls_of_first : Server → Option (ℕ × FirstWaiter) → List ToClient
 calls_of_first s None = []
-calls_of_first s (Some w) = callbacks_for s w.0 w.1
+calls_of_first s (Some w) = callbacks_for s w.0 w.1.waiter
+
+-- these are slots from this point on, in ascending order, and at the others nobody waits
+abbrev pub HaveWaiters : Server → ℕ → List ℕ → Type 0
+HaveWaiters s from [] = (k : ℕ) → from ≤ k → (s.rows k).queue ≡ []
+HaveWaiters s from (n ∷ ns) =
+    (from ≤ n) × (is_slot s.durable.index n ≡ true) × NobodyWaits s.rows from n × HaveWaiters s (suc n) ns
 
 -- the message's case was done, before anyone who waits is answered; these are its own messages
 pub record IsPerformed (s : Server) (m : ToServer) (t : Server) (left : After) (outs : List ToClient) : Type 0 where

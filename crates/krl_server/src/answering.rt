@@ -9,7 +9,7 @@ ghost use Rattle.krl_server.specs.Answering.{grants, tells_absent};
 ghost use Rattle.krl_server.specs.States.{meaning, IsFormed};
 ghost use Rattle.krl_server.specs.Ends.{waiting};
 ghost use Rattle.krl_server.specs.Shows.{IsSound};
-ghost use Rattle.krl_server.specs.Doing.{turn_here, HasTurned, HasAnswered};
+ghost use Rattle.krl_server.specs.Doing.{turn_here, HasTurned, HasAnswered, HaveWaiters};
 
 use crate::out::Outbox;
 use crate::state::State;
@@ -89,23 +89,23 @@ impl State {
     }
 
     /// Answers first waiters, at the least slot first, until none can be answered. An answer makes
-    /// nobody answerable at a lower slot, so one walk upward does.
-    pub(crate) fn answer(&mut self, outbox: &mut Outbox)
+    /// nobody answerable at a lower slot, so one walk upward does. The list has the slots at which
+    /// somebody waits, and still does afterwards: nobody comes to wait.
+    pub(crate) fn answer(&mut self, slots: &[u64], outbox: &mut Outbox)
         requires formed { IsFormed self.old }
+        requires slots { HaveWaiters (meaning self.old) 0 slots.now }
         requires sound { IsSound (meaning self.old) }
         requires table { IsTable self.old.durable.index (meaning self.old).rows }
         requires room { length outbox.old.sent + waiting (meaning self.old) ≤ outbox.old.room }
         ensures answered { HasAnswered (meaning self.old) (meaning self.new) outbox.old outbox.new }
         ensures formed { IsFormed self.new }
+        ensures slots { HaveWaiters (meaning self.new) 0 slots.now }
     {
-        let mut at: u64 = 0;
-        while let Some(slot) = self.table.next_waiting(at) {
-            match self.take_turn(slot) {
-                Some(message) => {
-                    outbox.send(message);
-                    at = slot;
-                }
-                None => at = slot + 1,
+        let mut i = 0;
+        while i < slots.len() {
+            match self.take_turn(slots[i]) {
+                Some(message) => outbox.send(message),
+                None => i += 1,
             }
         }
     }

@@ -9,6 +9,7 @@ ghost use Rattle.krl_modes.specs.Modes.{compatible, cap};
 ghost use Rattle.krl_table.specs.Kept.{mode_of};
 ghost use Rattle.krl_server.specs.Effects.{callback_to};
 ghost use Rattle.krl_server.specs.Outboxes.{as_list, Sends};
+ghost use Rattle.krl_server.specs.Doing.{IsFirst, HaveWaiters};
 ghost use Rattle.krl_server.specs.States.{meaning, IsFormed};
 
 use crate::out::Outbox;
@@ -16,6 +17,7 @@ use crate::state::State;
 use krl_messages::ToClient;
 use krl_modes::{Mode, Span};
 use krl_queue::Waiter;
+use krl_table::FirstWaiter;
 
 // The client's mode.
 fn mode_of(modes: &[Mode; 64], client: u64) -> Mode
@@ -30,8 +32,11 @@ impl State {
     fn asks_absent(&self, waiter: &Waiter) -> bool
         ensures { result ≡ asks_absent self.now.durable.index waiter.now }
     {
-        let entry = self.durable.get(waiter.point.get()).is_some();
-        waiter.mode.needs_entry() && !entry
+        if waiter.mode.needs_entry() {
+            self.durable.get(waiter.point.get()).is_none()
+        } else {
+            false
+        }
     }
 
     /// The callback to the client for the span, if what it holds there blocks the waiter, which
@@ -48,30 +53,34 @@ impl State {
             then []
             else callback_to (meaning self.now) client span (cap mode) ∷ []) }
     {
-        if client == waiter.client || mode.compatible(held) {
+        // Most clients hold nothing here, and that is found at once.
+        if held == Mode::N || client == waiter.client || mode.compatible(held) {
             return None;
         }
         Some(self.callback_to(client, span, mode.cap()))
     }
 
     /// Calls back all clients that block the slot's first waiter.
-    pub(crate) fn call_back_for(&self, slot: u64, waiter: &Waiter, outbox: &mut Outbox)
+    pub(crate) fn call_back_for(&self, slot: u64, first: &FirstWaiter, outbox: &mut Outbox)
         requires formed { IsFormed self.now }
-        requires there { IsSome (map.get self.now.table slot) }
-        requires client { waiter.now.client < 64 }
+        requires first { IsFirst (meaning self.now) slot first.now }
         requires room { length outbox.old.sent
-            + length (callbacks_for (meaning self.now) slot waiter.now) ≤ outbox.old.room }
-        ensures { Sends outbox.old outbox.new (callbacks_for (meaning self.now) slot waiter.now) }
+            + length (callbacks_for (meaning self.now) slot first.now.waiter) ≤ outbox.old.room }
+        ensures { Sends outbox.old outbox.new
+            (callbacks_for (meaning self.now) slot first.now.waiter) }
     {
-        if self.asks_absent(waiter) {
+        let FirstWaiter {
+            waiter,
+            span,
+            modes,
+        } = *first;
+        if self.asks_absent(&waiter) {
             return;
         }
-        let span = self.table.span(slot);
-        let modes = self.table.modes(slot);
-        let wanted = mode_of(modes, waiter.client).join(waiter.mode);
+        let wanted = mode_of(&modes, waiter.client).join(waiter.mode);
         for client in 0..64u64 {
-            let held = mode_of(modes, client);
-            outbox.send_some(self.callback_if(waiter, wanted, span, client, held));
+            let held = mode_of(&modes, client);
+            outbox.send_some(self.callback_if(&waiter, wanted, span, client, held));
         }
     }
 
@@ -79,31 +88,30 @@ impl State {
     fn call_back_at(&self, slot: u64, outbox: &mut Outbox)
         requires formed { IsFormed self.now }
         requires there { IsSome (map.get self.now.table slot) }
-        requires sound { IsSound (meaning self.now) }
         requires room { length outbox.old.sent
             + length (callbacks_at (meaning self.now) slot ((meaning self.now).rows slot).queue)
             ≤ outbox.old.room }
         ensures { Sends outbox.old outbox.new
             (callbacks_at (meaning self.now) slot ((meaning self.now).rows slot).queue) }
     {
-        match self.table.front(slot) {
-            Some(waiter) => self.call_back_for(slot, &waiter, outbox),
+        match self.table.first(slot) {
+            Some(first) => self.call_back_for(slot, &first, outbox),
             None => {}
         }
     }
 
-    /// Calls back all clients that block the first waiter of a slot, at the least slot first.
-    pub(crate) fn call_back(&self, outbox: &mut Outbox)
+    /// Calls back all clients that block the first waiter of a slot, at the least slot first. The
+    /// list has the slots at which somebody waits, and perhaps others.
+    pub(crate) fn call_back(&self, slots: &[u64], outbox: &mut Outbox)
         requires formed { IsFormed self.now }
         requires sound { IsSound (meaning self.now) }
+        requires slots { HaveWaiters (meaning self.now) 0 slots.now }
         requires room { length outbox.old.sent + length (callbacks (meaning self.now))
             ≤ outbox.old.room }
         ensures { Sends outbox.old outbox.new (callbacks (meaning self.now)) }
     {
-        let mut at: u64 = 0;
-        while let Some(slot) = self.table.next_waiting(at) {
-            self.call_back_at(slot, outbox);
-            at = slot + 1;
+        for slot in slots {
+            self.call_back_at(*slot, outbox);
         }
     }
 }

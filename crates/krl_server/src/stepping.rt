@@ -14,7 +14,7 @@ ghost use Rattle.krl_durable.specs.Index.{slots, slot_of};
 ghost use Rattle.krl_modes.specs.declared.point.TheConstants.{END};
 ghost use Rattle.krl_server.specs.Doing.{is_here, calls_of_first, calls_at_first, waiting_clients};
 ghost use Rattle.krl_server.specs.Doing.{room_for, own_of, IsPerformed, HasPerformed, HasRoom};
-ghost use Rattle.krl_server.specs.Doing.{HasFinished, HasStepped, IsServer};
+ghost use Rattle.krl_server.specs.Doing.{HasFinished, HasStepped, IsServer, IsFirst};
 
 use crate::case::{After, Case};
 use crate::line::Line;
@@ -23,6 +23,7 @@ use crate::state::State;
 use krl_messages::{Items, ToClient, ToServer, ToServerBody};
 use krl_modes::Point;
 use krl_queue::{WaitNode, Waiter};
+use krl_table::FirstWaiter;
 use std::alloc::{AllocError, Global};
 
 impl State {
@@ -211,11 +212,12 @@ impl State {
         if self.missing.is_gathering() {
             return;
         }
-        self.answer(outbox);
+        let slots = self.table.waiting_slots();
+        self.answer(slots.as_slice(), outbox);
         if !after.calls_back() {
             return;
         }
-        self.call_back(outbox);
+        self.call_back(slots.as_slice(), outbox);
     }
 
     /// What a nudge of the client sends.
@@ -280,21 +282,21 @@ impl State {
             return Ok(outbox.into_items());
         }
         match self.first_waiter_of(client) {
-            Some((slot, waiter)) => {
+            Some((slot, first)) => {
                 let mut outbox = Outbox::new(alloc, 63)?;
-                self.call_back_for(slot, &waiter, &mut outbox);
+                self.call_back_for(slot, &first, &mut outbox);
                 Ok(outbox.into_items())
             }
             None => Ok(Outbox::empty(alloc).into_items()),
         }
     }
 
-    /// The slot at which the client waits first, and how it waits there.
-    fn first_waiter_of(&self, client: u64) -> Option<(u64, Waiter)>
+    /// The slot at which the client waits first, and what it finds there.
+    fn first_waiter_of(&self, client: u64) -> Option<(u64, FirstWaiter)>
         requires server { IsServer self.now }
         requires client { client < 64 }
-        ensures there { IfSome result (λ w. IsSome (map.get self.now.table w.0)) }
-        ensures client { IfSome result (λ w. w.1.client ≡ client) }
+        ensures first { IfSome result (λ w. IsFirst (meaning self.now) w.0 w.1) }
+        ensures client { IfSome result (λ w. w.1.waiter.client ≡ client) }
         ensures calls { calls_of_first (meaning self.now) result
             ≡ callbacks_of_among client (meaning self.now) (slots self.now.durable.index) }
     {
@@ -305,18 +307,18 @@ impl State {
     }
 
     /// The slot of the point, and its first waiter, if that is the client's.
-    fn first_at(&self, point: Point, client: u64) -> Option<(u64, Waiter)>
+    fn first_at(&self, point: Point, client: u64) -> Option<(u64, FirstWaiter)>
         requires formed { IsFormed self.now }
         requires point { point ≤ END }
-        ensures there { IfSome result (λ w. IsSome (map.get self.now.table w.0)) }
-        ensures client { IfSome result (λ w. w.1.client ≡ client) }
+        ensures first { IfSome result (λ w. IsFirst (meaning self.now) w.0 w.1) }
+        ensures client { IfSome result (λ w. w.1.waiter.client ≡ client) }
         ensures calls { calls_of_first (meaning self.now) result
             ≡ calls_at_first (meaning self.now) (slot_of self.now.durable.index point) client }
     {
         let slot = self.table.slot_of(point);
-        match self.table.front(slot) {
+        match self.table.first(slot) {
             Some(first) => {
-                if first.client == client {
+                if first.waiter.client == client {
                     Some((slot, first))
                 } else {
                     None

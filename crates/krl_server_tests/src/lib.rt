@@ -12,8 +12,18 @@ mod named;
 #[cfg(test)]
 mod ranges;
 #[cfg(test)]
+mod requests;
+#[cfg(test)]
+mod runs;
+#[cfg(test)]
+mod shows;
+#[cfg(test)]
+mod starts;
+#[cfg(test)]
 mod strangers;
 #[cfg(test)]
 mod tests;
+#[cfg(test)]
+mod told;
 #[cfg(test)]
 mod writes;

@@ -6,12 +6,14 @@ ghost use Rattle.std.specs.Map.{keys_of};
 ghost use Rattle.krl_modes.specs.declared.point.TheConstants.{END};
 ghost use Rattle.krl_durable.specs.Kept.{IsRow};
 
-use crate::acts::{Act, Gives, all_give, is_spent, started};
+use crate::acts::{Act, Gives};
 use crate::exchange::{CROWD, EXCHANGE, SHARES};
 use crate::gathering::{CONTRADICTS, GATHERS, REGISTERS};
 use crate::ranges::{
     COVERS, ENDS_BEFORE_A_HELD_SLOT, ENDS_BEFORE_A_WAITER, READS_VALUES_AGAIN, WRITES_VALUES,
 };
+use crate::runs::all_give;
+use crate::starts::{is_spent, started};
 use crate::strangers::STRANGERS;
 use crate::writes::{ANSWERS_AGAIN, LAST_NUMBER, LOSES_AN_ANSWER, WRITES};
 use krl_durable::{Durable, Record};

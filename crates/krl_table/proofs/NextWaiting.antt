@@ -1,14 +1,16 @@
--- The least slot at or above a point at which somebody waits.
-use Rattle.std.proofs.Common.{◌≡◌, ℕ, zero, suc, ◌+◌, ◌≤◌, ◌<◌, min, Bool, true, false, List, [], ◌∷◌, Option, Some, None, IsSome, MatchOption, inl, refl, sym, ap, subst, ◌∙◌, ⊎_elim, arith}
+-- The slots at which somebody waits, one after another.
+use Rattle.std.proofs.Common.{◌≡◌, ℕ, zero, suc, ◌+◌, ◌≤◌, ◌<◌, min, Bool, true, false, List, [], ◌∷◌, ◌++◌, length, Option, Some, None, IsSome, MatchOption, inl, refl, sym, ap, subst, ◌∙◌, ⊎_elim, append_assoc, length-append, arith}
 use Rattle.std.proofs.Common.{ltb-true, ltb-false}
+use Rattle.std.proofs.lemmas.List.{append-nil}
+use Rattle.std.specs.List.{AllByRecursion}
 use Rattle.std.proofs.Math.Nat.{min-le_left, min-le_right, min-eq_left, min-eq_right}
 use Rattle.std.proofs.lemmas.Bool.{cases_lt}
 use Rattle.std.specs.Prelude.{nat_lt, if◌then◌else◌}
 use Rattle.std.specs.FinMap as fin
 use Rattle.krl_queue.specs.declared.waiter.Waiter.{Waiter}
 use Rattle.krl_table.specs.declared.row.SlotRow.{SlotRow}
-use Rattle.krl_table.specs.Waiters.{IsNextWaiting}
-use Rattle.krl_table.specs.Kept.{Kept, row_there, rows_of, IsNext, IsSound, In, IsFirstPoint}
+use Rattle.krl_table.specs.Waiters.{IsNextWaiting, AreWaiting}
+use Rattle.krl_table.specs.Kept.{Kept, row_there, rows_of, IsNext, IsSound, In}
 use Rattle.krl_table.specs.Kept.{waiter_in, AreListed, AllWaitBelow, IsLeastPoint, lesser_point, lesser}
 use Rattle.krl_table.proofs.Means.{eq_cases}
 use Rattle.krl_table.proofs.Splits.{some_none}
@@ -87,9 +89,25 @@ all_least waiting low k (Some p) all h = let x = h.some p refl in record {
   least = λ c u lt is le. let y = h.all c u (omega (arith, all, lt)) is le in subst (λ q. q ≤ u.point) (sym (some_same y.1)) y.2;
 }
 
--- The least slot at which somebody waits
+-- Somebody waits at the slots of the points that are waited for
 
-module _ (t : Kept) (sound : IsSound t) (waiting : List (Option Waiter)) (l : AreListed waiting t) (from : ℕ) where
+-- the walk goes on from this point: whose point lies below it, that one's slot does
+abbrev pub Begins : Kept → ℕ → Type 0
+Begins t low = (q s : ℕ) → IsNext t q s → q < low → s < low
+
+there_not : (o : Option SlotRow) → IsSome o → o ≡ None → ⊥
+there_not None h e = absurd (cc)
+there_not (Some r) h e = absurd (cc)
+
+pub begins_first : (t : Kept) → Begins t 0
+begins_first t q s next lt = absurd (omega (arith, lt))
+
+pub begins_after : (t : Kept) (n : ℕ) → IsSome (fin.get t n) → Begins t (suc n)
+begins_after t n there q s next lt = ⊎_elim
+    (λ (far : n < s). absurd (there_not (fin.get t n) there (next.gap n (omega (arith, lt)) far)))
+    (λ (near : s ≤ n). omega (arith, near)) (cases_lt n s)
+
+module _ (t : Kept) (sound : IsSound t) (waiting : List (Option Waiter)) (l : AreListed waiting t) (low : ℕ) (begins : Begins t low) where
   -- where somebody waits there is a row
   has_row : (n : ℕ) (u : Waiter) → In u (rows_of t n).queue → IsSome (fin.get t n)
   has_row n u at = by_row (fin.get t n) at
@@ -98,10 +116,6 @@ module _ (t : Kept) (sound : IsSound t) (waiting : List (Option Waiter)) (l : Ar
       by_row None h = absurd h
       by_row (Some r) h = refl
 
-  there_not : (o : Option SlotRow) → IsSome o → o ≡ None → ⊥
-  there_not None h e = absurd (cc)
-  there_not (Some r) h e = absurd (cc)
-
   no_queue : (n : ℕ) → ((u : Waiter) → In u (rows_of t n).queue → ⊥) → (rows_of t n).queue ≡ []
   no_queue n none = by_queue (rows_of t n).queue none
     where
@@ -109,37 +123,109 @@ module _ (t : Kept) (sound : IsSound t) (waiting : List (Option Waiter)) (l : Ar
       by_queue [] h = refl
       by_queue (u ∷ us) h = absurd (h u (inl refl))
 
-  module _ (low : ℕ) (first : IsFirstPoint t from low) where
-    -- a slot is at or above this point exactly where the points of its span are at or above low
-    point_from : (s q : ℕ) → IsNext t q s → from ≤ s → low ≤ q
-    point_from s q next le = ⊎_elim (λ (far : q < low). absurd (by_low low refl far)) (λ (near : low ≤ q). near) (cases_lt q low)
-      where
-        under : first.0 ≤ s
-        under = ⊎_elim (λ (lt : s < first.0). absurd (there_not (fin.get t s) next.there (first.1.gap s le lt))) (λ (ge : first.0 ≤ s). ge) (cases_lt s first.0)
+  point_from : (s q : ℕ) → IsNext t q s → low ≤ s → low ≤ q
+  point_from s q next le = ⊎_elim (λ (far : q < low). absurd (let x = begins q s next far in omega (arith, x, le))) (λ (near : low ≤ q). near) (cases_lt q low)
 
-        by_low : (k : ℕ) → low ≡ k → q < k → ⊥
-        by_low zero e far = omega (arith, far)
-        by_low (suc k) e far = let row = sound.whole.rows first.0 first.2 first.3 in
-            let at : first.2.low ≡ suc k = first.4 ∙ e in
-            there_not (fin.get t k) (row.after k at) (next.gap k (omega (arith, far)) (let a = row.first in omega (arith, at, a, under)))
+  pub nobody_waits : AllWaitBelow waiting low → (n : ℕ) → low ≤ n → (rows_of t n).queue ≡ []
+  nobody_waits below n le = no_queue n (λ u at. let far = below u.client u (sound.placed n u at).client (l.here n u at) in let near = point_from n u.point (sound.placed n u at).slot le in absurd (omega (arith, far, near)))
 
-    slot_from : (s q : ℕ) → IsNext t q s → low ≤ q → from ≤ s
-    slot_from s q next le = ⊎_elim
-        (λ (lt : s < from). absurd (let row = sound.whole.rows first.0 first.2 first.3 in
-        let is = first.4 in let a = next.from in let b = first.1.from in
-        there_not (fin.get t s) next.there (row.alone s (omega (arith, is, le, a)) (omega (arith, lt, b)))))
-        (λ (ge : from ≤ s). ge) (cases_lt s from)
+  pub least_waits : (p s : ℕ) → IsLeastPoint waiting low p → IsNext t p s → IsNextWaiting (rows_of t) low s
+  least_waits p s h next = record {
+    above = let a = h.above in let b = next.from in omega (arith, a, b);
+    some = λ none. let w = h.some in let x = l.there w.0 w.1 w.2 in
+        let there : IsNext t p x.1.0 = subst (λ q. IsNext t q x.1.0) w.3 (sound.placed x.1.0 w.1 x.1.1).slot in
+        subst (In w.1) (ap (λ n. (rows_of t n).queue) (next_same t p x.1.0 s there next) ∙ none) x.1.1;
+    least = λ n a b. no_queue n (λ u at. let w = sound.placed n u at in let far = w.slot.from in
+        let least = h.least u.client u w.client (l.here n u at) (point_from n u.point w.slot a) in
+        there_not (fin.get t n) (has_row n u at) (next.gap n (omega (arith, least, far)) b));
+  }
 
-    pub nobody_waits : AllWaitBelow waiting low → (n : ℕ) → from ≤ n → (rows_of t n).queue ≡ []
-    nobody_waits below n le = no_queue n (λ u at. let far = below u.client u (sound.placed n u at).client (l.here n u at) in let near = point_from n u.point (sound.placed n u at).slot le in absurd (omega (arith, far, near)))
+-- How many wait for points from this one on
 
-    pub least_waits : (p s : ℕ) → IsLeastPoint waiting low p → IsNext t p s → IsNextWaiting (rows_of t) from s
-    least_waits p s h next = record {
-      above = slot_from s p next h.above;
-      some = λ none. let w = h.some in let x = l.there w.0 w.1 w.2 in
-          let there : IsNext t p x.1.0 = subst (λ q. IsNext t q x.1.0) w.3 (sound.placed x.1.0 w.1 x.1.1).slot in
-          subst (In w.1) (ap (λ n. (rows_of t n).queue) (next_same t p x.1.0 s there next) ∙ none) x.1.1;
-      least = λ n a b. no_queue n (λ u at. let w = sound.placed n u at in let far = w.slot.from in
-          let least = h.least u.client u w.client (l.here n u at) (point_from n u.point w.slot a) in
-          there_not (fin.get t n) (has_row n u at) (next.gap n (omega (arith, least, far)) b));
-    }
+abbrev pub count_from : ℕ → List (Option Waiter) → ℕ
+count_from low [] = 0
+count_from low (None ∷ ws) = count_from low ws
+count_from low (Some u ∷ ws) = if nat_lt u.point low then count_from low ws else suc (count_from low ws)
+
+pub count_few : (low : ℕ) (ws : List (Option Waiter)) → count_from low ws ≤ length ws
+count_few low [] = omega arith
+count_few low (None ∷ ws) = let ih = count_few low ws in omega (arith, ih)
+count_few low (Some u ∷ ws) = by_test (nat_lt u.point low) (count_few low ws)
+  where
+    by_test : (b : Bool) → count_from low ws ≤ length ws → (if b then count_from low ws else suc (count_from low ws)) ≤ suc (length ws)
+    by_test true h = omega (arith, h)
+    by_test false h = omega (arith, h)
+
+fewer_above : (low high : ℕ) (ws : List (Option Waiter)) → low ≤ high → count_from high ws ≤ count_from low ws
+fewer_above low high [] le = omega arith
+fewer_above low high (None ∷ ws) le = fewer_above low high ws le
+fewer_above low high (Some u ∷ ws) le = by_tests (nat_lt u.point high) (nat_lt u.point low) refl refl (fewer_above low high ws le)
+  where
+    by_tests : (a b : Bool) → nat_lt u.point high ≡ a → nat_lt u.point low ≡ b → count_from high ws ≤ count_from low ws → (if a then count_from high ws else suc (count_from high ws)) ≤ (if b then count_from low ws else suc (count_from low ws))
+    by_tests true true e f h = h
+    by_tests true false e f h = omega (arith, h)
+    by_tests false true e f h = absurd (let x = ltb-false u.point high e in let y = ltb-true u.point low f in omega (arith, x, y, le))
+    by_tests false false e f h = omega (arith, h)
+
+-- past one of them there are fewer
+pub fewer_past : (low high : ℕ) (ws : List (Option Waiter)) (c : ℕ) (u : Waiter) → low ≤ high → waiter_in ws c ≡ Some u → low ≤ u.point → u.point < high → suc (count_from high ws) ≤ count_from low ws
+fewer_past low high [] c u le is near far = absurd (some_none (waiter_in [] c) u is (nobody c))
+  where
+    nobody : (c : ℕ) → waiter_in [] c ≡ None
+    nobody c = refl
+fewer_past low high (o ∷ ws) zero u le is near far = subst (λ x. suc (count_from high (x ∷ ws)) ≤ count_from low (x ∷ ws)) (sym is) (by_tests (nat_lt u.point high) (nat_lt u.point low) refl refl)
+  where
+    by_tests : (a b : Bool) → nat_lt u.point high ≡ a → nat_lt u.point low ≡ b → suc (if a then count_from high ws else suc (count_from high ws)) ≤ (if b then count_from low ws else suc (count_from low ws))
+    by_tests true true e f = absurd (let y = ltb-true u.point low f in omega (arith, y, near))
+    by_tests true false e f = let h = fewer_above low high ws le in omega (arith, h)
+    by_tests false b e f = absurd (let x = ltb-false u.point high e in omega (arith, x, far))
+fewer_past low high (None ∷ ws) (suc c) u le is near far = fewer_past low high ws c u le is near far
+fewer_past low high (Some w ∷ ws) (suc c) u le is near far = by_tests (nat_lt w.point high) (nat_lt w.point low) refl refl (fewer_past low high ws c u le is near far)
+  where
+    by_tests : (a b : Bool) → nat_lt w.point high ≡ a → nat_lt w.point low ≡ b → suc (count_from high ws) ≤ count_from low ws → suc (if a then count_from high ws else suc (count_from high ws)) ≤ (if b then count_from low ws else suc (count_from low ws))
+    by_tests true true e f h = h
+    by_tests true false e f h = omega (arith, h)
+    by_tests false true e f h = absurd (let x = ltb-false w.point high e in let y = ltb-true w.point low f in omega (arith, x, y, le))
+    by_tests false false e f h = omega (arith, h)
+
+-- The walk
+
+-- the slots below this point at which somebody waits were found
+pub record AreFound (t : Kept) (waiting : List (Option Waiter)) (low : ℕ) (found : List ℕ) : Type 0 where
+  pub begins : Begins t low
+  pub room : length found + count_from low waiting ≤ 64
+  pub before : (rest : List ℕ) → AreWaiting (rows_of t) low rest → AreWaiting (rows_of t) 0 (found ++ rest)
+  pub there : AllByRecursion (λ n. IsSome (fin.get t n)) found
+
+module _ (t : Kept) (sound : IsSound t) (waiting : List (Option Waiter)) (l : AreListed waiting t) where
+  pub none_found : AreFound t waiting 0 []
+  none_found = record {
+    begins = begins_first t;
+    room = let few = count_few 0 waiting in let full = l.full in omega (arith, few, full);
+    before = λ rest h. h;
+    there = tt;
+  }
+
+  module _ (low : ℕ) (found : List ℕ) (h : AreFound t waiting low found) where
+    pub all_found : AllWaitBelow waiting low → AreWaiting (rows_of t) 0 found
+    all_found below = subst (AreWaiting (rows_of t) 0) (append-nil found) (h.before [] (nobody_waits t sound waiting l low h.begins below))
+
+    module _ (p s : ℕ) (least : IsLeastPoint waiting low p) (next : IsNext t p s) where
+      pub fewer_left : suc (count_from (suc s) waiting) ≤ count_from low waiting
+      fewer_left = let w = least.some in let at = w.3 in let a = least.above in let b = next.from in
+          fewer_past low (suc s) waiting w.0 w.1 (omega (arith, a, b)) w.2 (omega (arith, a, at)) (omega (arith, b, at))
+
+      pub room_for_slot : length found < 64
+      room_for_slot = let a = fewer_left in let b = h.room in omega (arith, a, b)
+
+      pub one_found : AreFound t waiting (suc s) (found ++ s ∷ [])
+      one_found = record {
+        begins = begins_after t s next.there;
+        room = let a = fewer_left in let b = h.room in let c = length-append found (s ∷ []) in omega (arith, a, b, c);
+        before = λ rest r. subst (AreWaiting (rows_of t) 0) (sym (append_assoc found (s ∷ []) rest)) (h.before (s ∷ rest) (least_waits t sound waiting l low h.begins p s least next, r));
+        there = all_more found h.there;
+      }
+        where
+          all_more : (ns : List ℕ) → AllByRecursion (λ n. IsSome (fin.get t n)) ns → AllByRecursion (λ n. IsSome (fin.get t n)) (ns ++ s ∷ [])
+          all_more [] a = (next.there, tt)
+          all_more (n ∷ ns) a = (a.0, all_more ns a.1)

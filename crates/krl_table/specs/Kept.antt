@@ -65,15 +65,6 @@ pub record IsNext (t : Kept) (p n : ℕ) : Type 0 where
   pub from : p ≤ n
   pub gap : (k : ℕ) → p ≤ k → k < n → map.get t k ≡ None
 
--- no slot lies at or above the point
-abbrev pub NoRowFrom : Kept → ℕ → Type 0
-NoRowFrom t p = (n : ℕ) → p ≤ n → map.get t n ≡ None
-
--- low is the first point of the span of the least slot at or above the point
-abbrev pub IsFirstPoint : Kept → ℕ → ℕ → Type 0
-IsFirstPoint t p low =
-    (n : ℕ) × IsNext t p n × (r : SlotRow) × (map.get t n ≡ Some r) × (r.low ≡ low)
-
 -- next is the slot after this one, and the waiter may take it
 pub record IsTaken (t : Kept) (at : ℕ) (u : Waiter) (next : ℕ) : Type 0 where
   pub there : IsSome (map.get t next)

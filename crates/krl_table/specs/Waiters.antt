@@ -1,5 +1,5 @@
 -- Who waits, and where somebody does.
-use Rattle.std.specs.Prelude.{◌≡◌, ◌≢◌, ℕ, ◌<◌, ◌≤◌, [], None}
+use Rattle.std.specs.Prelude.{◌≡◌, ◌≢◌, ℕ, suc, ◌<◌, ◌≤◌, List, [], ◌∷◌, None}
 use Rattle.krl_queue.specs.Waiting.{first_of}
 use Rattle.krl_table.specs.Rows.{Rows}
 
@@ -16,3 +16,8 @@ pub record IsNextWaiting (rows : Rows) (from n : ℕ) : Type 0 where
   pub above : from ≤ n
   pub some : (rows n).queue ≢ []
   pub least : NobodyWaits rows from n
+
+-- these are the slots from this point on at which somebody waits, each once, in ascending order
+abbrev pub AreWaiting : Rows → ℕ → List ℕ → Type 0
+AreWaiting rows from [] = (n : ℕ) → from ≤ n → (rows n).queue ≡ []
+AreWaiting rows from (n ∷ ns) = IsNextWaiting rows from n × AreWaiting rows (suc n) ns

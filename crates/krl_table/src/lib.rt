@@ -2,6 +2,7 @@
 #![tactic(auto)]
 
 mod conflict;
+mod first;
 pub mod laws;
 mod needs;
 mod reply;
@@ -13,6 +14,7 @@ mod waiting;
 mod walks;
 
 pub use conflict::Conflict;
+pub use first::FirstWaiter;
 pub use reply::Reply;
 pub use row::SlotRow;
 pub use table::Table;

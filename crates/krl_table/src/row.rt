@@ -108,7 +108,9 @@ impl SlotRow {
             (λ d. nat_eq d client || compatible mode (mode_of self.now.modes d)) }
     {
         for other in 0..64u64 {
-            if other != client && !mode.compatible(self.mode(other)) {
+            let held = self.mode(other);
+            // Most clients hold nothing here, and that is found at once.
+            if held != Mode::N && other != client && !mode.compatible(held) {
                 return false;
             }
         }

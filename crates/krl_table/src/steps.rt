@@ -1,10 +1,9 @@
 //! A row's change, as the map sees it.
 ghost use Rattle.std.specs.Prelude.{◌≡◌, ◌++◌, ◌<◌, ◌≤◌, ℕ, [], ◌∷◌, Some, None, IsSome, IfSome};
-ghost use Rattle.std.specs.Prelude.{MatchOption, OnOk, OnErr, drop};
+ghost use Rattle.std.specs.Prelude.{OnOk, OnErr, drop};
 ghost use Rattle.std.specs.FinMap as map;
 ghost use Rattle.krl_queue.specs.Waiting.{up_to, beyond, without_first};
 ghost use Rattle.krl_table.specs.Kept.{table, row_of, IsNext, IsParted, IsJoined, IsLeft};
-ghost use Rattle.krl_table.specs.Kept.{NoRowFrom, IsFirstPoint};
 ghost use Rattle.krl_table.specs.Kept.{each, lowered_row, cleared_row, granted_row, raised_row};
 ghost use Rattle.krl_table.specs.Told.{tell_range, tell_keys, settled_row, forgot_row};
 ghost use Rattle.krl_table.specs.Calls.{queue_with};
@@ -29,16 +28,6 @@ pub(crate) fn next(rows: &BTreeMap<u64, SlotRow>, at: u64) -> u64
         Some((slot, _)) => *slot,
         None => END,
     }
-}
-
-/// The first point of the span of the least slot at or above the point. None where there is no such
-/// slot.
-pub(crate) fn low_of(rows: &BTreeMap<u64, SlotRow>, at: u64) -> Option<u64>
-    ensures { MatchOption result (NoRowFrom (table rows.now) at)
-        (λ low. IsFirstPoint (table rows.now) at low) }
-{
-    let (_, row) = rows.range(at..).next()?;
-    Some(row.low)
 }
 
 /// Puts a row there, or nothing where its memory is refused.

@@ -1,7 +1,8 @@
 //! The table.
 ghost use Rattle.std.specs.Prelude.{◌≡◌, ◌≢◌, ◌⊎◌, ◌↔◌, ◌<◌, ◌≤◌, false, [], ℕ, suc};
 ghost use Rattle.std.specs.Prelude.{map as map_list, Some, None, IfOk, IsOk, IsSome};
-ghost use Rattle.std.specs.Prelude.{IfSome, MatchOption, OnOk, OnErr};
+ghost use Rattle.std.specs.Prelude.{IfSome, IfNone, OnOk, OnErr};
+ghost use Rattle.std.specs.List.{AllByRecursion};
 ghost use Rattle.std.specs.FinMap as map;
 ghost use Rattle.krl_modes.specs.declared.point.TheConstants.{END};
 ghost use Rattle.krl_modes.specs.declared.part.KeyPart.TheVariants as key_part;
@@ -13,15 +14,17 @@ ghost use Rattle.krl_table.specs.Kept.{mode_of, rows_of, IsOver, IsNext, AreKeys
 ghost use Rattle.krl_table.specs.Points.{range_at, key_at, MayInsert, MayDelete};
 ghost use Rattle.krl_table.specs.Reports.{conflicts, adopted};
 ghost use Rattle.krl_table.specs.Sound.{IsTable};
-ghost use Rattle.krl_table.specs.Waiters.{WaitsNowhere, IsNextWaiting};
+ghost use Rattle.krl_table.specs.Waiters.{WaitsNowhere, AreWaiting};
 
 mod granting;
 mod replies;
 
 use crate::conflict::Conflict;
+use crate::first::FirstWaiter;
 use crate::row::SlotRow;
 use crate::waiting::Waiting;
 use crate::{steps, walks};
+use arrayvec::ArrayVec;
 use krl_durable::Durable;
 use krl_messages::{Pieces, Value};
 use krl_modes::{END, Mode, Point, Span};
@@ -114,14 +117,6 @@ impl Table {
         self.row(slot).mode(client)
     }
 
-    /// The modes on the slot, by client.
-    pub fn modes(&self, slot: u64) -> &[Mode; 64]
-        requires { IsSome (map.get self.now slot) }
-        ensures { (c : ℕ) → mode_of result.now c ≡ mode_at (rows_of self.now) slot c }
-    {
-        &self.row(slot).modes
-    }
-
     /// The slot of a point: the least one at or above it.
     pub fn slot_of(&self, point: Point) -> u64
         ensures slot { (m : Index) → IsOver m self.now → result ≡ slot_of m point }
@@ -147,6 +142,29 @@ impl Table {
         self.rows[&slot].queue.front()
     }
 
+    /// The slot's first waiter, with what it finds there. It takes one search.
+    pub fn first(&self, slot: u64) -> Option<FirstWaiter>
+        requires { IsSome (map.get self.now slot) }
+        ensures none { IfNone result ((rows_of self.now slot).queue ≡ []) }
+        ensures waiter { IfSome result
+            (λ first. front_of (rows_of self.now slot).queue ≡ Some first.waiter) }
+        ensures client { IfSome result (λ first. first.waiter.client < 64) }
+        ensures span { (m : Index) → IsOver m self.now
+            → IfSome result (λ first. first.span ≡ span_of m slot) }
+        ensures modes { IfSome result
+            (λ first. (c : ℕ) → mode_of first.modes c ≡ mode_at (rows_of self.now) slot c) }
+    {
+        let row = &self.rows[&slot];
+        let waiter = row.queue.front()?;
+        let span = Span::new(row.low, slot + 1).unwrap();
+        let modes = row.modes;
+        Some(FirstWaiter {
+            waiter,
+            span,
+            modes,
+        })
+    }
+
     /// How the client waits. The clause `sound` says what holds of every table.
     pub fn waiter_of(&self, client: u64) -> Option<Waiter>
         requires { client < 64 }
@@ -158,16 +176,13 @@ impl Table {
         self.waiting.of(client)
     }
 
-    /// The least slot at or above this point at which somebody waits. It takes two searches, and
-    /// one look at each client's waiter.
-    pub fn next_waiting(&self, from: u64) -> Option<u64>
-        ensures next { MatchOption result ((n : ℕ) → from ≤ n → (rows_of self.now n).queue ≡ [])
-            (λ slot. IsNextWaiting (rows_of self.now) from slot) }
-        ensures there { IfSome result (λ slot. IsSome (map.get self.now slot)) }
+    /// The slots at which somebody waits, each once, in ascending order. It takes a search and a
+    /// look at each client's waiter for each of them, and one look more. It takes no memory.
+    pub fn waiting_slots(&self) -> ArrayVec<u64, 64>
+        ensures slots { AreWaiting (rows_of self.now) 0 result.items }
+        ensures there { AllByRecursion (λ n. IsSome (map.get self.now n)) result.items }
     {
-        let low = steps::low_of(&self.rows, from)?;
-        let point = self.waiting.least_from(low)?;
-        Some(self.slot_of(point))
+        walks::waiting_slots(&self.rows, &self.waiting)
     }
 
     /// Lowers the client's mode to this one on each slot whose span lies in the span. It looks at

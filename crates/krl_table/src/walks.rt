@@ -1,11 +1,13 @@
 //! Walks over the rows, in the order of their slots.
-ghost use Rattle.std.specs.Prelude.{◌≡◌, ◌<◌, ◌≤◌, ◌↔◌, ℕ, true, Some, slice_get};
+ghost use Rattle.std.specs.Prelude.{◌≡◌, ◌<◌, ◌≤◌, ◌↔◌, ℕ, true, Some, IsSome, slice_get};
+ghost use Rattle.std.specs.List.{AllByRecursion};
 ghost use Rattle.krl_modes.specs.declared.point.TheConstants.{END};
 ghost use Rattle.krl_messages.specs.declared.range_pieces.RangePiece.{RangePiece};
 ghost use Rattle.std.specs.FinMap as map;
 ghost use Rattle.krl_durable.specs.Index.{Index};
 ghost use Rattle.krl_table.specs.Kept.{table, row_of, each, IsEach, IsWhole, IsOver, lowered_row};
-ghost use Rattle.krl_table.specs.Kept.{cleared_row};
+ghost use Rattle.krl_table.specs.Kept.{cleared_row, rows_of, IsSound, AreListed};
+ghost use Rattle.krl_table.specs.Waiters.{AreWaiting};
 ghost use Rattle.krl_table.specs.Rows.{row_fits};
 ghost use Rattle.krl_table.specs.Told.{tell_ranges, tell_keys, spread_row, settled_row, forgot_row};
 ghost use Rattle.krl_table.specs.Told.{told_mode};
@@ -13,6 +15,8 @@ ghost use Rattle.krl_table.specs.Told.{told_mode};
 use crate::row::SlotRow;
 use crate::steps;
 use crate::told::Reach;
+use crate::waiting::Waiting;
+use arrayvec::ArrayVec;
 use krl_messages::{KeyPiece, RangePiece};
 use krl_modes::{END, Mode, Span};
 use std::collections::BTreeMap;
@@ -44,6 +48,23 @@ pub(crate) fn clear(rows: &mut BTreeMap<u64, SlotRow>, client: u64)
         steps::clear(rows, slot, client);
         at = slot + 1;
     }
+}
+
+/// The slots at which somebody waits, each once, in ascending order.
+pub(crate) fn waiting_slots(rows: &BTreeMap<u64, SlotRow>, waiting: &Waiting) -> ArrayVec<u64, 64>
+    requires sound { IsSound (table rows.now) }
+    requires listed { AreListed waiting.now.by_client (table rows.now) }
+    ensures slots { AreWaiting (rows_of (table rows.now)) 0 result.items }
+    ensures there { AllByRecursion (λ n. IsSome (map.get (table rows.now) n)) result.items }
+{
+    let mut slots = ArrayVec::new();
+    let mut low: u64 = 0;
+    while let Some(point) = waiting.least_from(low) {
+        let slot = steps::next(rows, point.get());
+        slots.push(slot);
+        low = slot + 1;
+    }
+    slots
 }
 
 /// Notes each reported range at the slot of its first point.

@@ -192,7 +192,7 @@ fn inserts_among_waiters(rt: HostRuntime) -> Result<(), Fail> {
     assert!(rt; gets(alloc, &mut table, 1, 15, Mode::RangeIN));
     assert!(rt; waits(alloc, &mut table, 2, 13, Mode::RangeXX));
     assert!(rt; waits(alloc, &mut table, 3, 18, Mode::RangeXX));
-    assert!(rt; table.next_waiting(0) == Some(20) && table.next_waiting(21).is_none());
+    assert!(rt; table.waiting_slots().as_slice() == [20].as_slice());
     // Where the row's memory is refused nothing has changed, and the split is made again.
     let done = match splits(&mut table, 15, 0) {
         Ok(done) => done,
@@ -208,9 +208,11 @@ fn inserts_among_waiters(rt: HostRuntime) -> Result<(), Fail> {
     assert!(rt; holds(&table, 20, 0, Mode::RangeIN));
     assert!(rt; spans(&table, 15, 11) && spans(&table, 20, 16));
     assert!(rt; is_first(&table, 15, 2) && is_first(&table, 20, 3));
-    assert!(rt; table.next_waiting(0) == Some(15) && table.next_waiting(16) == Some(20));
+    assert!(rt; table.waiting_slots().as_slice() == [15, 20].as_slice());
     table.clear(2);
-    assert!(rt; table.next_waiting(0) == Some(20) && table.waiter_of(2).is_none());
+    assert!(rt;
+        table.waiting_slots().as_slice() == [20].as_slice() && table.waiter_of(2).is_none()
+    );
     Ok(())
 }
 
@@ -230,7 +232,7 @@ fn deletes_between_waiters(rt: HostRuntime) -> Result<(), Fail> {
     drops(&mut table, 20);
     assert!(rt; is_first(&table, 20, 2));
     drops(&mut table, 20);
-    assert!(rt; table.next_waiting(0).is_none());
+    assert!(rt; table.waiting_slots().is_empty());
     Ok(())
 }
 
@@ -250,48 +252,53 @@ fn takes_eight_of_nine_free_slots(rt: HostRuntime) -> Result<(), Fail> {
     assert!(rt; waits_to(alloc, &mut table, 2, 61, TOP, Mode::RangeSS));
     assert!(rt; taken(&mut table, 61) == 2);
     assert!(rt; holds(&table, 70, 2, Mode::RangeSS) && holds(&table, 80, 2, Mode::RangeSS));
-    assert!(rt; holds(&table, END, 2, Mode::N) && table.next_waiting(0).is_none());
+    assert!(rt; holds(&table, END, 2, Mode::N) && table.waiting_slots().is_empty());
     Ok(())
 }
 
 // Who waits, and at which point: two of them in one slot.
 static WAITERS: [(u64, u64); 5] = [(0, 55), (1, 15), (2, 12), (3, 5), (63, 85)];
 
-// The least slot from a point on at which one of them waits.
-static NEXT_WAITING: [(u64, Option<u64>); 16] = [
-    (0, Some(10)),
-    (5, Some(10)),
-    (6, Some(10)),
-    (10, Some(10)),
-    (11, Some(20)),
-    (13, Some(20)),
-    (16, Some(20)),
-    (20, Some(20)),
-    (21, Some(60)),
-    (31, Some(60)),
-    (60, Some(60)),
-    (61, Some(END)),
-    (86, Some(END)),
-    (END, Some(END)),
-    (TOP, None),
-    (u64::MAX, None),
-];
-
 #[test]
-fn finds_the_next_who_waits(rt: HostRuntime) -> Result<(), Fail> {
+fn finds_the_slots_where_somebody_waits(rt: HostRuntime) -> Result<(), Fail> {
     let alloc = rt.alloc();
     let mut table = table_of(alloc, &EIGHT_KEYS)?;
-    assert!(rt; table.next_waiting(0).is_none());
+    assert!(rt; table.waiting_slots().is_empty());
     for (client, point) in &WAITERS {
         assert!(rt; waits(alloc, &mut table, *client, *point, Mode::RangeSS));
     }
-    for (from, slot) in &NEXT_WAITING {
-        assert!(rt; table.next_waiting(*from) == *slot);
-    }
-    // Without the last of them nobody waits from there on, and where two waited one still does.
+    assert!(rt; table.waiting_slots().as_slice() == [10, 20, 60, END].as_slice());
+    // Without the last of them nobody waits there, and where two waited one still does.
     table.clear(63);
     table.clear(1);
-    assert!(rt; table.next_waiting(61).is_none() && table.next_waiting(14) == Some(20));
+    assert!(rt; table.waiting_slots().as_slice() == [10, 20, 60].as_slice());
+    Ok(())
+}
+
+// The client is first at the point's slot, whose span begins there, and finds these modes.
+fn finds(table: &Table, at: u64, client: u64, lo: u64, modes: &[Mode; 64]) -> bool {
+    let Some(point) = Point::new(at) else {
+        return false;
+    };
+    match table.first(table.slot_of(point)) {
+        Some(first) => {
+            first.waiter.client == client && first.span.lo() == lo && first.modes == *modes
+        }
+        None => false,
+    }
+}
+
+#[test]
+fn tells_what_a_first_waiter_finds(rt: HostRuntime) -> Result<(), Fail> {
+    let alloc = rt.alloc();
+    let mut table = table_of(alloc, &EIGHT_KEYS)?;
+    let mut modes = [Mode::N; 64];
+    assert!(rt; gets(alloc, &mut table, 5, 15, Mode::RangeXX));
+    modes[5] = Mode::RangeXX;
+    assert!(rt; !finds(&table, 20, 5, 11, &modes));
+    assert!(rt; waits(alloc, &mut table, 1, 15, Mode::RangeSS));
+    assert!(rt; waits(alloc, &mut table, 2, 12, Mode::S));
+    assert!(rt; finds(&table, 20, 1, 11, &modes) && !finds(&table, 30, 1, 21, &modes));
     Ok(())
 }
 

@@ -26,7 +26,7 @@ use Rattle.krl_server.specs.Answering.{Turn, take_turn, tells_absent, grants, An
 use Rattle.krl_server.specs.Steps.{Ends, at_once, gathers, serves, kind_of, ServerStep}
 use Rattle.krl_server.proofs.Tests.{if_both}
 use Rattle.krl_server.proofs.Cased.{by_said}
-use Rattle.krl_world.specs.declared.applied_write.AppliedWrite.{AppliedWrite}
+use Rattle.krl_steps.specs.declared.applied_write.AppliedWrite.{AppliedWrite}
 use Rattle.krl_world.specs.Steps.{applies, if_applied}
 use Rattle.krl_world.specs.Moves.{write_of, write_asked, is_applied, was_applied, applied_of, applied_by, as_list, HasServed}
 use Rattle.krl_world.specs.declared.message.Message.{Message}

@@ -23,10 +23,10 @@ use Rattle.krl_client.specs.Clients as clients
 use Rattle.krl_client.specs.Commands.{locked, lowered}
 use Rattle.krl_client.specs.Messages as messages
 use Rattle.krl_client.specs.Messages.{says_report, says_ack, accepted}
-use Rattle.krl_world.specs.declared.step.Step.{Step}
-use Rattle.krl_world.specs.declared.step.Step.TheVariants as step
-use Rattle.krl_world.specs.declared.step.Command.TheVariants as command
-use Rattle.krl_world.specs.declared.answer.Answer.TheVariants as told
+use Rattle.krl_steps.specs.declared.step.Step.{Step}
+use Rattle.krl_steps.specs.declared.step.Step.TheVariants as step
+use Rattle.krl_steps.specs.declared.step.Command.TheVariants as command
+use Rattle.krl_steps.specs.declared.answer.Answer.TheVariants as told
 use Rattle.krl_world.specs.States.{Up, State, fresh, seated, served, with_client, opened}
 use Rattle.krl_world.specs.Steps.{span, applies, Takes, Runs}
 use Rattle.krl_world.proofs.Acting.{answers_none, answers_one}

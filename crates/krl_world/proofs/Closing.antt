@@ -32,7 +32,7 @@ use Rattle.krl_server.proofs.Follows.{not_truth}
 use Rattle.krl_server.proofs.Rebuilt.{adopted_queue}
 use Rattle.krl_server.proofs.Served.{answered_up}
 use Rattle.krl_world.specs.declared.message.Message.TheVariants as message
-use Rattle.krl_world.specs.declared.step.Step.{Step}
+use Rattle.krl_steps.specs.declared.step.Step.{Step}
 use Rattle.krl_world.specs.States.{ServerNode, Up, Down, State, opened, range_held, key_held}
 use Rattle.krl_world.specs.Steps.{Runs, IsReachable}
 use Rattle.krl_world.specs.Bounds.{Bound, table_of, first_bound, step_clears, cleared as cleared_bound, bound_at, bound_after, RunsWithin, IsRangeWithin, IsKeyWithin, report_message, IsGatheredWithin}

@@ -5,14 +5,15 @@ use Rattle.std.specs.Prelude.{Result, Ok, Err}
 use Rattle.krl_client.specs.Clients.{Client}
 use Rattle.krl_world.specs.declared.node.Seat.{Seat as KeptSeat}
 use Rattle.krl_world.specs.declared.message.Message.{Message}
-use Rattle.krl_world.specs.declared.step.Step.TheVariants as step
-use Rattle.krl_world.specs.declared.step.Command.{Command}
-use Rattle.krl_world.specs.declared.step.Command.TheVariants as command
-use Rattle.krl_world.specs.declared.answer.Answer.{Answer}
-use Rattle.krl_world.specs.declared.refused.Refused.{Refused}
-use Rattle.krl_world.specs.declared.refused.Refused.TheVariants as refused
+use Rattle.krl_steps.specs.declared.step.Step.TheVariants as step
+use Rattle.krl_steps.specs.declared.step.Command.{Command}
+use Rattle.krl_steps.specs.declared.step.Command.TheVariants as command
+use Rattle.krl_steps.specs.declared.answer.Answer.{Answer}
+use Rattle.krl_steps.specs.declared.refused.Refused.{Refused}
+use Rattle.krl_steps.specs.declared.refused.Refused.TheVariants as refused
 use Rattle.krl_world.specs.States.{State, client_of, set_seat, with_client}
-use Rattle.krl_world.specs.Steps.{Steps, refusal_of, if_runs, named, refused_by_client, command_refusal, CommandTakesMemory, Obeys}
+use Rattle.krl_world.specs.Steps.{Steps, refusal_of, if_runs, named, command_refusal, CommandTakesMemory, Obeys}
+use Rattle.krl_steps.specs.Refusals.{refused_by_client}
 use Rattle.krl_world.specs.Fields.{Fields, meaning, seats_of, kept_nobody, client_there}
 use Rattle.krl_world.specs.Moves.{Does, Commanded, CommandedAt}
 use Rattle.krl_world.proofs.Lifts.{takes, refuses, refuses_by, is_client, same_seat, seats_set}

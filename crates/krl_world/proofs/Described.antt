@@ -70,7 +70,7 @@ valued_is b h = record {
 
 described_within : (b : Belief) → IsWithin b → (ps : Pieces) × Describes ps b
 described_within b h = let x = beliefs_are_described (valued b) (valued_is b h) in
-    (x.0, record { ranges_in_order = x.1.ranges_in_order; keys_in_order = x.1.keys_in_order; ranges = x.1.ranges; keys = x.1.keys })
+    (x.0, record { ranges_in_order = x.1.ranges_in_order; merged = x.1.merged; keys_in_order = x.1.keys_in_order; ranges = x.1.ranges; keys = x.1.keys })
 
 -- What a client believes is at most a row, and past END that is blank
 

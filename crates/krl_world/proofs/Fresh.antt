@@ -15,7 +15,7 @@ use Rattle.krl_server.specs.Steps.{start}
 use Rattle.krl_world.specs.declared.node.Seat.{Seat as KeptSeat}
 use Rattle.krl_world.specs.declared.node.ServerNode.TheVariants as kept
 use Rattle.krl_world.specs.declared.message.Message.{Message}
-use Rattle.krl_world.specs.declared.applied_write.AppliedWrite.{AppliedWrite}
+use Rattle.krl_steps.specs.declared.applied_write.AppliedWrite.{AppliedWrite}
 use Rattle.krl_world.specs.States.{Up, nobody, opened}
 use Rattle.krl_world.specs.Fields.{meaning, seats_of, seat_of, kept_nobody, AreUnstarted}
 

@@ -8,13 +8,13 @@ use Rattle.krl_protocol.proofs.Worlds.{eq_cases}
 use Rattle.krl_messages.specs.declared.to_server.ToServer.{ToServer}
 use Rattle.krl_world.specs.declared.node.Seat.{Seat as KeptSeat}
 use Rattle.krl_world.specs.declared.message.Message.{Message}
-use Rattle.krl_world.specs.declared.step.Step.{Step}
-use Rattle.krl_world.specs.declared.answer.Answer.{Answer}
-use Rattle.krl_world.specs.declared.refused.Refused.{Refused}
-use Rattle.krl_world.specs.declared.refused.Refused.TheVariants as refused
+use Rattle.krl_steps.specs.declared.step.Step.{Step}
+use Rattle.krl_steps.specs.declared.answer.Answer.{Answer}
+use Rattle.krl_steps.specs.declared.refused.Refused.{Refused}
+use Rattle.krl_steps.specs.declared.refused.Refused.TheVariants as refused
 use Rattle.krl_world.specs.States.{State, Seat, set_seat, seated, from_clients}
 use Rattle.krl_world.specs.Steps as steps
-use Rattle.krl_world.specs.Steps.{Steps, Takes, TakesMemory, refusal_of, of_client, if_runs, named, refused_by_client, command_refusal, CommandTakesMemory, Obeys}
+use Rattle.krl_world.specs.Steps.{Steps, Takes, TakesMemory, refusal_of, of_client, if_runs, named, command_refusal, CommandTakesMemory, Obeys}
 use Rattle.krl_world.specs.Fields.{Fields, meaning, seats_of, seat_of, kept_nobody}
 use Rattle.krl_world.specs.Moves.{IsRefused}
 

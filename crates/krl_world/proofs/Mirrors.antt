@@ -20,7 +20,7 @@ use Rattle.krl_server.specs.Shows.{Stands, WasSent, IsRecord, LinkIs, Shows, vie
 use Rattle.krl_client_machine.specs.Shows.{Grows, server_part, ShowsSeat, Leads}
 use Rattle.krl_client_machine.proofs.Basics.{in_append, grows_not}
 use Rattle.krl_world.specs.declared.message.Message.TheVariants as message
-use Rattle.krl_world.specs.declared.applied_write.AppliedWrite.{AppliedWrite}
+use Rattle.krl_steps.specs.declared.applied_write.AppliedWrite.{AppliedWrite}
 use Rattle.krl_world.specs.States.{ServerNode, Up, Down, Seat, State, durable_of, is_serving, from_clients, from_server, seated}
 use Rattle.krl_server.specs.Follows.{BoundStays}
 use Rattle.krl_world.proofs.Calling.{epoch_called}

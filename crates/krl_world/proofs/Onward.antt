@@ -24,16 +24,17 @@ use Rattle.krl_modes.specs.declared.mode.Mode.TheVariants as mode
 use Rattle.krl_client_machine.proofs.Basics.{passed}
 use Rattle.krl_world.specs.declared.message.Message.{Message}
 use Rattle.krl_world.specs.declared.message.Message.TheVariants as message
-use Rattle.krl_world.specs.declared.step.Step.{Step}
-use Rattle.krl_world.specs.declared.step.Step.TheVariants as step
-use Rattle.krl_world.specs.declared.step.Command.{Command}
-use Rattle.krl_world.specs.declared.step.Command.TheVariants as command
-use Rattle.krl_world.specs.declared.answer.Answer.{Answer}
-use Rattle.krl_world.specs.declared.answer.Answer.TheVariants as told
-use Rattle.krl_world.specs.declared.refused.Refused.{Refused}
-use Rattle.krl_world.specs.declared.refused.Refused.TheVariants as refused
+use Rattle.krl_steps.specs.declared.step.Step.{Step}
+use Rattle.krl_steps.specs.declared.step.Step.TheVariants as step
+use Rattle.krl_steps.specs.declared.step.Command.{Command}
+use Rattle.krl_steps.specs.declared.step.Command.TheVariants as command
+use Rattle.krl_steps.specs.declared.answer.Answer.{Answer}
+use Rattle.krl_steps.specs.declared.answer.Answer.TheVariants as told
+use Rattle.krl_steps.specs.declared.refused.Refused.{Refused}
+use Rattle.krl_steps.specs.declared.refused.Refused.TheVariants as refused
 use Rattle.krl_world.specs.States.{ServerNode, Up, Down, State, index_of, client_of, with_client, seated, served}
-use Rattle.krl_world.specs.Steps.{span, message_at, command_refusal, refused_by_client, if_runs, refusal_of, applies, ServerReads, ClientReads, Delivers, ScanAnswers, Obeys, nudged, started, crashed, Takes, IsReachable}
+use Rattle.krl_world.specs.Steps.{span, message_at, command_refusal, if_runs, refusal_of, applies, ServerReads, ClientReads, Delivers, ScanAnswers, Obeys, nudged, started, crashed, Takes, IsReachable}
+use Rattle.krl_steps.specs.Refusals.{refused_by_client}
 use Rattle.krl_world.specs.Laws.{CanGoOn}
 use Rattle.krl_durable.specs.Index as index
 use Rattle.krl_world.proofs.Mirrors.{machine_of}

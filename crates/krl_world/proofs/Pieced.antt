@@ -30,14 +30,14 @@ key_by k p true false true e f g = grind (arith, nat_tests)
 key_by k p false u true e f g = grind (arith, nat_tests)
 
 pub told_gap : Describes (pieces_of range.S key.S) (adopt gap no_belief)
-told_gap = record { ranges_in_order = (omega arith, omega arith, omega arith, tt); keys_in_order = (omega arith, omega arith, refl, tt); ranges = λ p. refl; keys = λ p. key_by key.S p (contains (span 0 11) p) (nat_eq (suc p) 11) (nat_eq p 10) refl refl refl }
+told_gap = record { ranges_in_order = (omega arith, omega arith, omega arith, tt); merged = (λ e. absurd (cc), tt, tt); keys_in_order = (omega arith, omega arith, refl, tt); ranges = λ p. refl; keys = λ p. key_by key.S p (contains (span 0 11) p) (nat_eq (suc p) 11) (nat_eq p 10) refl refl refl }
 
 -- the same gap, held alone
 abbrev pub gap_alone : Holding
 gap_alone = record { span = span 0 11; mode = mode.RangeXX; value = Some (1 ∷ []) }
 
 pub told_alone : Describes (pieces_of range.X key.X) (adopt gap_alone no_belief)
-told_alone = record { ranges_in_order = (omega arith, omega arith, omega arith, tt); keys_in_order = (omega arith, omega arith, refl, tt); ranges = λ p. refl; keys = λ p. key_by key.X p (contains (span 0 11) p) (nat_eq (suc p) 11) (nat_eq p 10) refl refl refl }
+told_alone = record { ranges_in_order = (omega arith, omega arith, omega arith, tt); merged = (λ e. absurd (cc), tt, tt); keys_in_order = (omega arith, omega arith, refl, tt); ranges = λ p. refl; keys = λ p. key_by key.X p (contains (span 0 11) p) (nat_eq (suc p) 11) (nat_eq p 10) refl refl refl }
 
 -- nothing is left of the gap that was given up
 
@@ -51,4 +51,4 @@ no_key true false = refl
 no_key false u = refl
 
 pub told_given_up : Describes no_pieces (lower (span 0 11) mode.N (adopt gap no_belief))
-told_given_up = record { ranges_in_order = tt; keys_in_order = tt; ranges = λ p. no_range (contains (span 0 11) p); keys = λ p. no_key (contains (span 0 11) p) (nat_eq (suc p) 11) }
+told_given_up = record { ranges_in_order = tt; merged = tt; keys_in_order = tt; ranges = λ p. no_range (contains (span 0 11) p); keys = λ p. no_key (contains (span 0 11) p) (nat_eq (suc p) 11) }

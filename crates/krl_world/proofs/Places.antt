@@ -8,12 +8,12 @@ use Rattle.krl_client.specs.Fields as client_fields
 use Rattle.krl_world.specs.declared.node.Seat.{Seat as KeptSeat}
 use Rattle.krl_world.specs.declared.message.Message.{Message}
 use Rattle.krl_world.specs.declared.message.Message.TheVariants as message
-use Rattle.krl_world.specs.declared.step.Step.TheVariants as step
-use Rattle.krl_world.specs.declared.step.Command.{Command}
-use Rattle.krl_world.specs.declared.answer.Answer.{Answer}
-use Rattle.krl_world.specs.declared.answer.Answer.TheVariants as told
-use Rattle.krl_world.specs.declared.refused.Refused.{Refused}
-use Rattle.krl_world.specs.declared.refused.Refused.TheVariants as refused
+use Rattle.krl_steps.specs.declared.step.Step.TheVariants as step
+use Rattle.krl_steps.specs.declared.step.Command.{Command}
+use Rattle.krl_steps.specs.declared.answer.Answer.{Answer}
+use Rattle.krl_steps.specs.declared.answer.Answer.TheVariants as told
+use Rattle.krl_steps.specs.declared.refused.Refused.{Refused}
+use Rattle.krl_steps.specs.declared.refused.Refused.TheVariants as refused
 use Rattle.krl_world.specs.States.{client_of}
 use Rattle.krl_world.specs.Steps.{Steps}
 use Rattle.krl_world.specs.Fields.{Fields, meaning, seat_of, kept_nobody, client_there}

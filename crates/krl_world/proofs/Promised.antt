@@ -33,15 +33,16 @@ use Rattle.krl_client.specs.Commands.{Answers, is_pending, finds_rows, misses, s
 use Rattle.krl_client_machine.specs.Shows.{ShowsClient, ShowsSeat}
 use Rattle.krl_client_machine.proofs.Basics.{passed}
 use Rattle.krl_client_machine.proofs.Steps.{not_in}
-use Rattle.krl_world.specs.declared.step.Step.{Step}
-use Rattle.krl_world.specs.declared.step.Step.TheVariants as step
-use Rattle.krl_world.specs.declared.step.Command.{Command}
-use Rattle.krl_world.specs.declared.step.Command.TheVariants as command
-use Rattle.krl_world.specs.declared.answer.Answer.{Answer}
-use Rattle.krl_world.specs.declared.answer.Answer.TheVariants as told
-use Rattle.krl_world.specs.declared.refused.Refused.{Refused}
+use Rattle.krl_steps.specs.declared.step.Step.{Step}
+use Rattle.krl_steps.specs.declared.step.Step.TheVariants as step
+use Rattle.krl_steps.specs.declared.step.Command.{Command}
+use Rattle.krl_steps.specs.declared.step.Command.TheVariants as command
+use Rattle.krl_steps.specs.declared.answer.Answer.{Answer}
+use Rattle.krl_steps.specs.declared.answer.Answer.TheVariants as told
+use Rattle.krl_steps.specs.declared.refused.Refused.{Refused}
 use Rattle.krl_world.specs.States.{ServerNode, Up, Down, State, durable_of, index_of, client_of, range_believed, key_believed}
-use Rattle.krl_world.specs.Steps.{span, refused_by_client, command_refusal, Steps, Obeys}
+use Rattle.krl_world.specs.Steps.{span, command_refusal, Steps, Obeys}
+use Rattle.krl_steps.specs.Refusals.{refused_by_client}
 use Rattle.krl_world.specs.Promises.{IsCompatible, CommandIsRange, ScansIndex}
 use Rattle.krl_world.proofs.Mirrors.{machine_of, shared_of, ServerShows, Mirrors}
 use Rattle.krl_world.proofs.Taken.{client_ok, not_named, runs_ok}

@@ -14,8 +14,8 @@ use Rattle.krl_server.specs.Servers.{Server, is_gathering}
 use Rattle.krl_server.specs.Steps.{start}
 use Rattle.krl_server.specs.Shows.{machine_phase, Shows}
 use Rattle.krl_server.specs.Follows.{BoundStays, ServerFollows}
-use Rattle.krl_world.specs.declared.step.Step.{Step}
-use Rattle.krl_world.specs.declared.answer.Answer.{Answer}
+use Rattle.krl_steps.specs.declared.step.Step.{Step}
+use Rattle.krl_steps.specs.declared.answer.Answer.{Answer}
 use Rattle.krl_world.specs.States.{ServerNode, Up, Down, State, durable_of, index_of, is_serving, opened}
 use Rattle.krl_world.specs.Steps.{CanOpen, Takes, Runs, IsReachable}
 use Rattle.krl_world.specs.Bounds.{Bound, table_of, first_bound, step_clears, cleared, bound_at, bound_after, RunsWithin, HasBound}

@@ -38,11 +38,11 @@ use Rattle.krl_client.specs.Commands.{locked, wrote}
 use Rattle.krl_client.specs.Messages as messages
 use Rattle.krl_client.specs.Messages.{says_ack, accepted}
 use Rattle.krl_world.specs.declared.message.Message.TheVariants as message
-use Rattle.krl_world.specs.declared.applied_write.AppliedWrite.{AppliedWrite}
-use Rattle.krl_world.specs.declared.step.Step.{Step}
-use Rattle.krl_world.specs.declared.step.Step.TheVariants as step
-use Rattle.krl_world.specs.declared.step.Command.TheVariants as command
-use Rattle.krl_world.specs.declared.answer.Answer.TheVariants as told
+use Rattle.krl_steps.specs.declared.applied_write.AppliedWrite.{AppliedWrite}
+use Rattle.krl_steps.specs.declared.step.Step.{Step}
+use Rattle.krl_steps.specs.declared.step.Step.TheVariants as step
+use Rattle.krl_steps.specs.declared.step.Command.TheVariants as command
+use Rattle.krl_steps.specs.declared.answer.Answer.TheVariants as told
 use Rattle.krl_world.specs.States.{Up, Down, State, fresh, served, with_client, durable_of, index_of, is_serving, opened}
 use Rattle.krl_world.specs.Steps.{span, applies, Takes, Runs, IsReachable}
 use Rattle.krl_world.specs.Promises.{answer_message}

@@ -27,10 +27,10 @@ use Rattle.krl_client.specs.Clients as clients
 use Rattle.krl_client.specs.Commands.{locked, finds_rows}
 use Rattle.krl_client.specs.Messages as messages
 use Rattle.krl_client.specs.Messages.{says_report, says_ack, accepted}
-use Rattle.krl_world.specs.declared.step.Step.{Step}
-use Rattle.krl_world.specs.declared.step.Step.TheVariants as step
-use Rattle.krl_world.specs.declared.step.Command.TheVariants as command
-use Rattle.krl_world.specs.declared.answer.Answer.TheVariants as told
+use Rattle.krl_steps.specs.declared.step.Step.{Step}
+use Rattle.krl_steps.specs.declared.step.Step.TheVariants as step
+use Rattle.krl_steps.specs.declared.step.Command.TheVariants as command
+use Rattle.krl_steps.specs.declared.answer.Answer.TheVariants as told
 use Rattle.krl_world.specs.States.{Up, State, unused, opened, fresh, seated, served, with_client}
 use Rattle.krl_world.specs.Steps.{CanOpen, span, applies, Takes, Steps, Runs, IsReachable}
 use Rattle.krl_server.specs.Cases.{case_of}
@@ -65,7 +65,7 @@ abbrev pub k3 : Client
 k3 = accepted k2 (push.Grant 1 (gap ∷ []))
 
 pub told_nothing : Describes no_pieces no_belief
-told_nothing = record { ranges_in_order = tt; keys_in_order = tt; ranges = λ p. refl; keys = λ p. refl }
+told_nothing = record { ranges_in_order = tt; merged = tt; keys_in_order = tt; ranges = λ p. refl; keys = λ p. refl }
 
 -- The worlds
 

@@ -4,9 +4,9 @@ use Rattle.std.proofs.Math.ListN.{drop_of_length-le}
 use Rattle.std.proofs.lemmas.List.{append-nil, append_assoc}
 use Rattle.std.specs.Prelude.{Result}
 use Rattle.krl_server.proofs.Whole.{all_follow}
-use Rattle.krl_world.specs.declared.step.Step.{Step}
-use Rattle.krl_world.specs.declared.answer.Answer.{Answer}
-use Rattle.krl_world.specs.declared.refused.Refused.{Refused}
+use Rattle.krl_steps.specs.declared.step.Step.{Step}
+use Rattle.krl_steps.specs.declared.answer.Answer.{Answer}
+use Rattle.krl_steps.specs.declared.refused.Refused.{Refused}
 use Rattle.krl_world.specs.States.{State, index_of}
 use Rattle.krl_world.specs.Steps.{Steps, RunsWith, IsReachable}
 use Rattle.krl_world.specs.Promises.{IsCompatible, ScansIndex, WritesOnce}

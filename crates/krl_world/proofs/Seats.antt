@@ -8,10 +8,10 @@ use Rattle.krl_client.specs.Clients.{Client}
 use Rattle.krl_world.specs.declared.node.Seat.{Seat as KeptSeat}
 use Rattle.krl_world.specs.declared.message.Message.{Message}
 use Rattle.krl_world.specs.declared.message.Message.TheVariants as message
-use Rattle.krl_world.specs.declared.step.Step.TheVariants as step
-use Rattle.krl_world.specs.declared.answer.Answer.TheVariants as told
-use Rattle.krl_world.specs.declared.refused.Refused.{Refused}
-use Rattle.krl_world.specs.declared.refused.Refused.TheVariants as refused
+use Rattle.krl_steps.specs.declared.step.Step.TheVariants as step
+use Rattle.krl_steps.specs.declared.answer.Answer.TheVariants as told
+use Rattle.krl_steps.specs.declared.refused.Refused.{Refused}
+use Rattle.krl_steps.specs.declared.refused.Refused.TheVariants as refused
 use Rattle.krl_world.specs.States.{State, Seat, client_of, set_seat, from_clients}
 use Rattle.krl_world.specs.Steps.{Steps, if_runs, refusal_of, Delivers, ClientReads, Arrives}
 use Rattle.krl_world.specs.Fields.{seats_of, seat_of, kept_nobody}

@@ -17,12 +17,12 @@ use Rattle.krl_world.specs.declared.node.ServerNode.TheVariants as kept
 use Rattle.krl_world.specs.Fields.{Fields, meaning, node_of}
 use Rattle.krl_world.specs.declared.message.Message.{Message}
 use Rattle.krl_world.specs.declared.message.Message.TheVariants as message
-use Rattle.krl_world.specs.declared.applied_write.AppliedWrite.{AppliedWrite}
-use Rattle.krl_world.specs.declared.step.Step.TheVariants as step
-use Rattle.krl_world.specs.declared.answer.Answer.{Answer}
-use Rattle.krl_world.specs.declared.answer.Answer.TheVariants as told
-use Rattle.krl_world.specs.declared.refused.Refused.{Refused}
-use Rattle.krl_world.specs.declared.refused.Refused.TheVariants as refused
+use Rattle.krl_steps.specs.declared.applied_write.AppliedWrite.{AppliedWrite}
+use Rattle.krl_steps.specs.declared.step.Step.TheVariants as step
+use Rattle.krl_steps.specs.declared.answer.Answer.{Answer}
+use Rattle.krl_steps.specs.declared.answer.Answer.TheVariants as told
+use Rattle.krl_steps.specs.declared.refused.Refused.{Refused}
+use Rattle.krl_steps.specs.declared.refused.Refused.TheVariants as refused
 use Rattle.krl_world.specs.States.{State, ServerNode, Up, Down, from_server, served}
 use Rattle.krl_world.specs.Steps.{Steps, message_at, refused_by_server, refusal_of, server_down, server_start, nudged, started, crashed, ServerReads}
 use Rattle.krl_world.specs.Moves.{HasServed, HasArrived}

@@ -20,7 +20,7 @@ use Rattle.krl_client.specs.Clients.{Client}
 use Rattle.krl_client_machine.specs.Shows.{Grows, ShowsClient, ShowsSeat}
 use Rattle.krl_client_machine.proofs.Basics.{in_append}
 use Rattle.krl_world.specs.declared.message.Message.TheVariants as message
-use Rattle.krl_world.specs.declared.applied_write.AppliedWrite.{AppliedWrite}
+use Rattle.krl_steps.specs.declared.applied_write.AppliedWrite.{AppliedWrite}
 use Rattle.krl_world.specs.States.{ServerNode, Up, Down, State, durable_of, is_serving, from_server, served}
 use Rattle.krl_world.specs.Steps.{applies}
 use Rattle.krl_server.specs.Follows.{clears, ServerFollows}

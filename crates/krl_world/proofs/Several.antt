@@ -1,6 +1,6 @@
 -- One run after another.
 use Rattle.std.proofs.Common.{List, [], ◌∷◌, ◌++◌, subst}
-use Rattle.krl_world.specs.declared.step.Step.{Step}
+use Rattle.krl_steps.specs.declared.step.Step.{Step}
 use Rattle.krl_world.specs.States.{State}
 use Rattle.krl_world.specs.Steps.{Runs}
 

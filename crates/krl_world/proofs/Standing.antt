@@ -17,7 +17,7 @@ use Rattle.krl_server.specs.Steps.{Kind, Idle, kind_of, Ends, at_once, gathers, 
 use Rattle.krl_server.proofs.Cased.{by_case}
 use Rattle.krl_server.proofs.Pushes.{pushes_missing}
 use Rattle.krl_server.proofs.Served.{answered_up}
-use Rattle.krl_world.specs.declared.step.Step.{Step}
+use Rattle.krl_steps.specs.declared.step.Step.{Step}
 use Rattle.krl_world.specs.States.{ServerNode, Up, Down, State, durable_of, index_of, is_serving}
 use Rattle.krl_world.proofs.Serves.{not_serving}
 use Rattle.krl_world.proofs.Ways.{Way, stays, reads, stops, begins}

@@ -2,7 +2,7 @@
 use Rattle.std.proofs.Common.{◌≡◌, ℕ, Bool, true, false, List, [], ◌∷◌, refl, sym, subst, if◌then◌else◌}
 use Rattle.krl_durable.specs.Registers.{Durable}
 use Rattle.krl_server.specs.Servers.{is_gathering}
-use Rattle.krl_world.specs.declared.step.Step.{Step}
+use Rattle.krl_steps.specs.declared.step.Step.{Step}
 use Rattle.krl_world.specs.States.{ServerNode, Up, Down, State, opened}
 use Rattle.krl_world.specs.Bounds.{Bound, table_of, first_bound, step_clears, cleared, bound_at, bound_after, RunsWithin, BoundIsTable}
 

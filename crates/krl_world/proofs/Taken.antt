@@ -13,15 +13,16 @@ use Rattle.krl_client_machine.specs.Shows.{ShowsSeat, Leads}
 use Rattle.krl_client_machine.proofs.Simulation.{start_shows, crash_shows, commands_show, ticks_show_all, messages_show}
 use Rattle.krl_world.specs.declared.message.Message.{Message}
 use Rattle.krl_world.specs.declared.message.Message.TheVariants as message
-use Rattle.krl_world.specs.declared.step.Step.{Step}
-use Rattle.krl_world.specs.declared.step.Step.TheVariants as step
-use Rattle.krl_world.specs.declared.step.Command.{Command}
-use Rattle.krl_world.specs.declared.step.Command.TheVariants as command
-use Rattle.krl_world.specs.declared.answer.Answer.{Answer}
-use Rattle.krl_world.specs.declared.refused.Refused.{Refused}
-use Rattle.krl_world.specs.declared.refused.Refused.TheVariants as refused
+use Rattle.krl_steps.specs.declared.step.Step.{Step}
+use Rattle.krl_steps.specs.declared.step.Step.TheVariants as step
+use Rattle.krl_steps.specs.declared.step.Command.{Command}
+use Rattle.krl_steps.specs.declared.step.Command.TheVariants as command
+use Rattle.krl_steps.specs.declared.answer.Answer.{Answer}
+use Rattle.krl_steps.specs.declared.refused.Refused.{Refused}
+use Rattle.krl_steps.specs.declared.refused.Refused.TheVariants as refused
 use Rattle.krl_world.specs.States.{ServerNode, Up, Down, State, client_of, with_client}
-use Rattle.krl_world.specs.Steps.{span, message_at, command_refusal, named, refused_by_client, of_client, if_runs, server_start, refusal_of, ServerReads, ClientReads, Delivers, Obeys, nudged, started, crashed, Does}
+use Rattle.krl_world.specs.Steps.{span, message_at, command_refusal, named, of_client, if_runs, server_start, refusal_of, ServerReads, ClientReads, Delivers, Obeys, nudged, started, crashed, Does}
+use Rattle.krl_steps.specs.Refusals.{refused_by_client}
 use Rattle.krl_world.specs.Bounds.{clears_in, step_clears}
 use Rattle.krl_server.specs.Follows.{BoundStays, ServerFollows}
 use Rattle.krl_world.proofs.Letters.{sent_tells}

@@ -10,8 +10,8 @@ use Rattle.krl_server.specs.Effects.{Done, heard, writes, effect}
 use Rattle.krl_server.specs.Steps.{Kind, kind_of, Ends, at_once, gathers, serves, ServerStep}
 use Rattle.krl_server.proofs.Pushes.{pushes_missing}
 use Rattle.krl_server.proofs.Served.{answered_up}
-use Rattle.krl_world.specs.declared.step.Step.{Step}
-use Rattle.krl_world.specs.declared.step.Step.TheVariants as step
+use Rattle.krl_steps.specs.declared.step.Step.{Step}
+use Rattle.krl_steps.specs.declared.step.Step.TheVariants as step
 use Rattle.krl_world.specs.States.{Up, Down, State, is_serving, opened}
 use Rattle.krl_world.specs.Steps.{CanOpen, Runs}
 use Rattle.krl_world.specs.Laws.{ServesOn}

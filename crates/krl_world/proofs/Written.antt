@@ -17,7 +17,7 @@ use Rattle.krl_durable.specs.Index.{Index}
 use Rattle.krl_durable.specs.Writes.{written}
 use Rattle.krl_server.specs.Shows.{op_of, is_applied}
 use Rattle.krl_client_machine.proofs.Basics.{in_append}
-use Rattle.krl_world.specs.declared.applied_write.AppliedWrite.{AppliedWrite}
+use Rattle.krl_steps.specs.declared.applied_write.AppliedWrite.{AppliedWrite}
 use Rattle.krl_world.specs.States.{State, index_of}
 use Rattle.krl_world.specs.Promises.{IsListed, IsOnce, fold, IsDue, AreDue, WritesOnce}
 use Rattle.krl_world.proofs.Mirrors.{machine_of, op_back, as_applied, oldest_first, Mirrors}

@@ -34,9 +34,9 @@ use Rattle.krl_cache.specs.Beliefs.{is_last}
 use Rattle.krl_client.specs.Clients.{Client}
 use Rattle.krl_world.specs.declared.message.Message.{Message}
 use Rattle.krl_world.specs.declared.message.Message.TheVariants as message
-use Rattle.krl_world.specs.declared.step.Step.{Step}
-use Rattle.krl_world.specs.declared.step.Step.TheVariants as step
-use Rattle.krl_world.specs.declared.answer.Answer.{Answer}
+use Rattle.krl_steps.specs.declared.step.Step.{Step}
+use Rattle.krl_steps.specs.declared.step.Step.TheVariants as step
+use Rattle.krl_steps.specs.declared.answer.Answer.{Answer}
 use Rattle.krl_world.specs.States.{ServerNode, Up, Down, State, opened, durable_of, index_of, client_of, range_held, key_held}
 use Rattle.krl_world.specs.Steps.{CanOpen, message_at, Takes}
 use Rattle.krl_server.specs.Follows.{clears}

@@ -11,7 +11,7 @@ use Rattle.krl_world.specs.declared.node.ServerNode.{ServerNode as KeptNode}
 use Rattle.krl_world.specs.declared.node.ServerNode.TheVariants as kept
 use Rattle.krl_world.specs.declared.node.Seat.{Seat as KeptSeat}
 use Rattle.krl_world.specs.declared.message.Message.{Message}
-use Rattle.krl_world.specs.declared.applied_write.AppliedWrite.{AppliedWrite}
+use Rattle.krl_steps.specs.declared.applied_write.AppliedWrite.{AppliedWrite}
 use Rattle.krl_world.specs.States.{ServerNode, Up, Down, Seat, State}
 
 -- what the fields say, apart from its memory

@@ -6,4 +6,3 @@ pub mod Laws
 pub mod Runs
 pub mod Fields
 pub mod Moves
-pub mod Names

@@ -22,15 +22,16 @@ use Rattle.krl_client.specs.Fields.{Follows, IsTick}
 use Rattle.krl_client.specs.Messages as receiver
 use Rattle.krl_client.specs.Ticks.{says_hello}
 use Rattle.krl_world.specs.declared.message.Message.{Message}
-use Rattle.krl_world.specs.declared.applied_write.AppliedWrite.{AppliedWrite}
-use Rattle.krl_world.specs.declared.step.Command.{Command}
-use Rattle.krl_world.specs.declared.step.Command.TheVariants as command
-use Rattle.krl_world.specs.declared.answer.Answer.{Answer}
-use Rattle.krl_world.specs.declared.answer.Answer.TheVariants as told
-use Rattle.krl_world.specs.declared.refused.Refused.{Refused}
-use Rattle.krl_world.specs.declared.refused.Refused.TheVariants as refused
+use Rattle.krl_steps.specs.declared.applied_write.AppliedWrite.{AppliedWrite}
+use Rattle.krl_steps.specs.declared.step.Command.{Command}
+use Rattle.krl_steps.specs.declared.step.Command.TheVariants as command
+use Rattle.krl_steps.specs.declared.answer.Answer.{Answer}
+use Rattle.krl_steps.specs.declared.answer.Answer.TheVariants as told
+use Rattle.krl_steps.specs.declared.refused.Refused.{Refused}
+use Rattle.krl_steps.specs.declared.refused.Refused.TheVariants as refused
 use Rattle.krl_world.specs.States.{ServerNode, Up, Down, Seat, from_clients, from_server}
-use Rattle.krl_world.specs.Steps.{span, named, refused_by_client, refused_at_start, command_refusal, ScanAnswers, CommandTakesMemory, applies}
+use Rattle.krl_world.specs.Steps.{span, named, command_refusal, ScanAnswers, CommandTakesMemory, applies}
+use Rattle.krl_steps.specs.Refusals.{refused_by_client, refused_at_start}
 
 -- Refusals: the one that is due; or, where none is, want of memory, in what takes some
 abbrev pub IsRefused : Option Refused → Type 0 → Refused → Type 0

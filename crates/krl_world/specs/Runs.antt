@@ -8,9 +8,9 @@ use Rattle.krl_messages.specs.declared.write_op.WriteOp.TheVariants as write
 use Rattle.krl_messages.specs.declared.to_client.ToClientBody.TheVariants as heard
 use Rattle.krl_protocol.specs.Links.{In}
 use Rattle.krl_world.specs.declared.message.Message.TheVariants as message
-use Rattle.krl_world.specs.declared.step.Step.TheVariants as step
-use Rattle.krl_world.specs.declared.step.Command.TheVariants as command
-use Rattle.krl_world.specs.declared.answer.Answer.TheVariants as told
+use Rattle.krl_steps.specs.declared.step.Step.TheVariants as step
+use Rattle.krl_steps.specs.declared.step.Command.TheVariants as command
+use Rattle.krl_steps.specs.declared.answer.Answer.TheVariants as told
 use Rattle.krl_world.specs.States.{State, durable_of, index_of, is_serving}
 use Rattle.krl_world.specs.Steps.{span, Steps, IsReachable}
 use Rattle.krl_world.specs.Promises.{answer_message}

@@ -7,10 +7,8 @@ use Rattle.krl_messages.specs.declared.outcome.Outcome.TheVariants as outcome
 use Rattle.krl_messages.specs.declared.to_server.ToServer.{ToServer}
 use Rattle.krl_messages.specs.declared.to_client.ToClient.{ToClient}
 use Rattle.krl_durable.specs.declared.refused.Refused.{Refused as IndexRefused}
-use Rattle.krl_durable.specs.declared.refused.Refused.TheVariants as index
 use Rattle.krl_durable.specs.Openings.{AreGood, Refuses}
 use Rattle.krl_durable.specs.declared.not_migrated.NotMigrated.{NotMigrated}
-use Rattle.krl_durable.specs.declared.not_migrated.NotMigrated.TheVariants as not_migrated
 use Rattle.krl_durable.specs.Kept.{IsKept}
 use Rattle.krl_durable.specs.Migrations as migrations
 use Rattle.krl_durable.specs.Migrations.{DurableV1, migrated}
@@ -25,9 +23,6 @@ use Rattle.krl_server.specs.Steps.{ServerStep}
 use Rattle.krl_cache.specs.Beliefs.{CoversAll}
 use Rattle.krl_cache.specs.Kept.{Describes}
 use Rattle.krl_client.specs.declared.refused.CommandRefused.{CommandRefused}
-use Rattle.krl_client.specs.declared.refused.CommandRefused.TheVariants as client
-use Rattle.krl_client.specs.declared.refused.StartRefused.{StartRefused}
-use Rattle.krl_client.specs.declared.refused.StartRefused.TheVariants as beginner
 use Rattle.krl_client.specs.declared.scan_answer.ScanAnswer.TheVariants as scanned
 use Rattle.krl_client.specs.Clients.{Client, begun, is_writing_in, free_pin}
 use Rattle.krl_client.specs.Commands
@@ -38,15 +33,16 @@ use Rattle.krl_modes.specs.declared.mode.Mode.TheVariants as mode
 use Rattle.krl_messages.specs.Values.{Value}
 use Rattle.krl_world.specs.declared.message.Message.{Message}
 use Rattle.krl_world.specs.declared.message.Message.TheVariants as message
-use Rattle.krl_world.specs.declared.applied_write.AppliedWrite.{AppliedWrite}
-use Rattle.krl_world.specs.declared.step.Step.{Step}
-use Rattle.krl_world.specs.declared.step.Step.TheVariants as step
-use Rattle.krl_world.specs.declared.step.Command.{Command}
-use Rattle.krl_world.specs.declared.step.Command.TheVariants as command
-use Rattle.krl_world.specs.declared.answer.Answer.{Answer}
-use Rattle.krl_world.specs.declared.answer.Answer.TheVariants as told
-use Rattle.krl_world.specs.declared.refused.Refused.{Refused}
-use Rattle.krl_world.specs.declared.refused.Refused.TheVariants as refused
+use Rattle.krl_steps.specs.declared.applied_write.AppliedWrite.{AppliedWrite}
+use Rattle.krl_steps.specs.declared.step.Step.{Step}
+use Rattle.krl_steps.specs.declared.step.Step.TheVariants as step
+use Rattle.krl_steps.specs.declared.step.Command.{Command}
+use Rattle.krl_steps.specs.declared.step.Command.TheVariants as command
+use Rattle.krl_steps.specs.declared.answer.Answer.{Answer}
+use Rattle.krl_steps.specs.declared.answer.Answer.TheVariants as told
+use Rattle.krl_steps.specs.declared.refused.Refused.{Refused}
+use Rattle.krl_steps.specs.declared.refused.Refused.TheVariants as refused
+use Rattle.krl_steps.specs.Refusals.{refused_by_index, refused_by_migration, refused_by_client, refused_at_start}
 use Rattle.krl_world.specs.States.{ServerNode, Up, Down, State, opened, client_of, with_client, seated, served}
 
 -- Making a world
@@ -61,21 +57,9 @@ pub record CanOpen (d : Durable) : Type 0 where
   pub starts : server.can_start d ≡ true
   pub left : missing_order d.register ≡ []
 
--- what the index refuses, by its name here
-abbrev pub refused_by_index : IndexRefused → Refused
-refused_by_index index.OutOfMemory = refused.OutOfMemory
-refused_by_index index.BadKey = refused.BadKey
-refused_by_index index.Twice = refused.Twice
-refused_by_index index.Full = refused.Full
-
 -- why no world begins with these entries
 abbrev pub BeginsNot : List (ℕ × Value) → Refused → Type 0
 BeginsNot entries r = (e : IndexRefused) × Refuses entries e × (r ≡ refused_by_index e)
-
--- why what survived is not migrated, by its name here
-abbrev pub refused_by_migration : NotMigrated → Refused
-refused_by_migration not_migrated.OutOfMemory = refused.OutOfMemory
-refused_by_migration (not_migrated.StillRegistered c) = refused.StillRegistered c
 
 -- why no world begins with this durable part
 abbrev pub OpensNot : Durable → Refused → Type 0
@@ -88,24 +72,6 @@ MigratesNot d r =
     ((e : NotMigrated) × migrations.MigratesNot d e × (r ≡ refused_by_migration e)) ⊎ OpensNot (migrated d) r
 
 -- Refusals, apart from memory: the first reason in the written order
-
--- what a client refuses, by its name here
-abbrev pub refused_by_client : CommandRefused → Refused
-refused_by_client client.OutOfMemory = refused.OutOfMemory
-refused_by_client client.BadPoint = refused.BadPoint
-refused_by_client client.BadSpan = refused.BadSpan
-refused_by_client client.NotJoined = refused.NotJoined
-refused_by_client client.Busy = refused.Busy
-refused_by_client client.NotHeld = refused.NotHeld
-refused_by_client client.Pinned = refused.Pinned
-refused_by_client client.Writing = refused.Writing
-refused_by_client client.TooManyPins = refused.TooManyPins
-refused_by_client client.Spent = refused.Spent
-
--- what a client's start is refused for, by its name here
-abbrev pub refused_at_start : StartRefused → Refused
-refused_at_start beginner.BadClient = refused.BadClient
-refused_at_start beginner.Spent = refused.Spent
 
 -- what a server's start is refused for, by its name here
 abbrev pub refused_by_server : NotStarted → Refused
@@ -223,7 +189,8 @@ ScanAnswers k s (told.Pending n) = Commands.Answers k s (scanned.Pending n)
 abbrev pub Obeys : State → ℕ → Client → Command → Answer → State → Type 0
 Obeys w c k (command.Lock point hi m) answer w' =
     (answer ≡ told.Done)
-    × (w' ≡ with_client w c (Some (Commands.locked k point hi m)) (says_lock (Commands.locked k point hi m) point hi m ∷ []))
+    × (w' ≡ with_client w c (Some (Commands.locked k point hi m))
+    (says_lock (Commands.locked k point hi m) point hi m ∷ []))
 Obeys w c k (command.Write op) answer w' =
     (answer ≡ told.Done) × (w' ≡ with_client w c (Some (wrote k op)) (says_write (wrote k op) op ∷ []))
 Obeys w c k (command.Scan lo hi) answer w' = ScanAnswers k (span lo hi) answer × (w' ≡ w)

@@ -2,20 +2,18 @@
 ghost use Rattle.std.specs.Prelude.{◌≡◌, List, Some, OnOk, OnErr, IfErr};
 ghost use Rattle.krl_client.specs.Fields.{meaning};
 ghost use Rattle.krl_world.specs.declared.message.Message.{Message};
-ghost use Rattle.krl_world.specs.declared.step.Command.TheVariants as command;
+ghost use Rattle.krl_steps.specs.declared.step.Command.TheVariants as command;
 ghost use Rattle.krl_world.specs.Fields.{seat_of, client_there};
 ghost use Rattle.krl_world.specs.Moves.{IsRefused, Commanded, CommandedAt, Started, Ticked};
 ghost use Rattle.krl_world.specs.Moves.{HasRead, starting_refusal};
 
-use crate::answer::Answer;
 use crate::message::Message;
 use crate::node::Seat;
-use crate::refused::Refused;
 use crate::sending::{MOST_OF_A_CLIENT, send_to_server};
-use crate::step::Command;
 use krl_client::{Client, ScanAnswer};
 use krl_messages::{ToClient, WriteOp};
 use krl_modes::Mode;
+use krl_steps::{Answer, Command, Refused};
 use std::alloc::{AllocError, Global};
 
 /// The client asks for a lock.
@@ -123,11 +121,7 @@ fn leave(seat: &mut Seat, sent: &mut Vec<Message>) -> Result<Answer, Refused>
 }
 
 /// The client at the seat, where one runs, obeys the command.
-pub(crate) fn obey(
-    seat: &mut Seat,
-    sent: &mut Vec<Message>,
-    what: Command,
-) -> Result<Answer, Refused>
+pub fn obey(seat: &mut Seat, sent: &mut Vec<Message>, what: Command) -> Result<Answer, Refused>
     ensures commanded { CommandedAt (client_there seat.old.client) what
         (client_there seat.new.client) sent.old.items sent.new.items result }
     ensures greatest { seat.new.greatest ≡ seat.old.greatest }
@@ -147,7 +141,7 @@ pub(crate) fn obey(
 }
 
 /// The client says again what is not answered.
-pub(crate) fn tick(client: &Client, sent: &mut Vec<Message>) -> Result<(), AllocError>
+pub fn tick(client: &Client, sent: &mut Vec<Message>) -> Result<(), AllocError>
     ensures ok { OnOk result (Ticked (meaning client.now) sent.old.items sent.new.items) }
     ensures err { OnErr result (sent.new.items ≡ sent.old.items) }
 {
@@ -158,7 +152,7 @@ pub(crate) fn tick(client: &Client, sent: &mut Vec<Message>) -> Result<(), Alloc
 }
 
 /// The client reads the message.
-pub(crate) fn read(
+pub fn read(
     client: &mut Client,
     sent: &mut Vec<Message>,
     message: &ToClient,
@@ -174,7 +168,7 @@ pub(crate) fn read(
 }
 
 /// A client of this number starts at its seat, with the next incarnation.
-pub(crate) fn start(
+pub fn start(
     alloc: Global,
     seat: &mut Seat,
     sent: &mut Vec<Message>,

@@ -7,23 +7,16 @@
 //! once, and once where its client was told Applied. `laws` says this and more of all worlds.
 #![tactic(auto)]
 
-mod answer;
-mod applied_write;
-mod clients;
+pub mod clients;
 pub mod laws;
 mod message;
 mod node;
 mod nodes;
-mod refused;
-mod sending;
-mod serving;
-mod step;
+pub mod sending;
+pub mod serving;
 mod world;
 
-pub use answer::Answer;
-pub use applied_write::AppliedWrite;
+pub use krl_steps::{Answer, AppliedWrite, Command, Refused, Step};
 pub use message::Message;
 pub use node::{Seat, ServerNode};
-pub use refused::Refused;
-pub use step::{Command, Step};
 pub use world::World;

@@ -1,15 +1,25 @@
 //! The places at which a server and a client run.
 ghost use Rattle.std.specs.Prelude.{◌≡◌};
-ghost use Rattle.krl_world.specs.declared.step.Step.TheVariants as steps;
-ghost use Rattle.krl_world.specs.Fields.{Fields, meaning, kept_unstarted};
-ghost use Rattle.krl_world.specs.Steps.{Steps};
+ghost use Rattle.krl_steps.specs.declared.step.Step.TheVariants as steps;
+ghost use Rattle.krl_world.specs.Fields.{Fields, meaning, node_of, kept_unstarted};
+ghost use Rattle.krl_world.specs.States.{durable_of};
+ghost use Rattle.krl_world.specs.Steps.{Steps, refused_by_server};
 
-use crate::answer::Answer;
-use crate::refused::Refused;
 use krl_client::Client;
 use krl_durable::Durable;
-use krl_server::{NotStarted, Server};
+use krl_server::{NotStarted, Server, StartRefused};
+use krl_steps::{Answer, Refused};
 use std::alloc::Global;
+
+/// Why a server does not start, by its name in a world.
+pub(crate) fn not_started(refused: StartRefused) -> Refused
+    ensures { result ≡ refused_by_server refused }
+{
+    match refused {
+        StartRefused::OutOfMemory => Refused::OutOfMemory,
+        StartRefused::Spent => Refused::Spent,
+    }
+}
 
 /// A server that runs, or what the last one left.
 pub enum ServerNode {
@@ -30,7 +40,7 @@ impl Drop for ServerNode {
 
 impl ServerNode {
     /// A server starts on what the last one left, unless one runs.
-    pub(crate) fn start(self, alloc: Global) -> (ServerNode, Result<Answer, Refused>)
+    pub fn start(self, alloc: Global) -> (ServerNode, Result<Answer, Refused>)
         ensures { (w : Fields) → w.server ≡ self → Steps (meaning w) steps.StartServer result.1
             (meaning (record w { server = result.0 })) }
     {
@@ -39,20 +49,30 @@ impl ServerNode {
             ServerNode::Down(durable) => match Server::start(alloc, durable) {
                 Ok(server) => (ServerNode::Up(server), Ok(Answer::Done)),
                 Err(NotStarted { refused, durable }) => {
-                    (ServerNode::Down(durable), Err(Refused::from(refused)))
+                    (ServerNode::Down(durable), Err(not_started(refused)))
                 }
             },
         }
     }
 
     /// The server stops, where one runs.
-    pub(crate) fn crash(self) -> (ServerNode, Result<Answer, Refused>)
+    pub fn crash(self) -> (ServerNode, Result<Answer, Refused>)
         ensures { (w : Fields) → w.server ≡ self → Steps (meaning w) steps.CrashServer result.1
             (meaning (record w { server = result.0 })) }
     {
         match self {
             ServerNode::Up(server) => (ServerNode::Down(server.crash()), Ok(Answer::Done)),
             ServerNode::Down(durable) => (ServerNode::Down(durable), Err(Refused::Down)),
+        }
+    }
+
+    /// What survives: of the server that runs, or of the last one.
+    pub fn into_durable(self) -> Durable
+        ensures { result ≡ durable_of (node_of self) }
+    {
+        match self {
+            ServerNode::Up(server) => server.crash(),
+            ServerNode::Down(durable) => durable,
         }
     }
 }

@@ -5,25 +5,22 @@ ghost use Rattle.std.specs.Option.{option_copied};
 ghost use Rattle.std.specs.FinMap as map;
 ghost use Rattle.krl_messages.specs.declared.to_server.ToServer.{ToServer};
 ghost use Rattle.krl_world.specs.declared.message.Message.TheVariants as sent_message;
-ghost use Rattle.krl_world.specs.declared.step.Step.TheVariants as steps;
+ghost use Rattle.krl_steps.specs.declared.step.Step.TheVariants as steps;
 ghost use Rattle.krl_durable.specs.Registers.{missing_order};
 ghost use Rattle.krl_durable.specs.Migrations.{migrated};
 ghost use Rattle.krl_world.specs.States.{index_of, unused, opened, fresh, range_held, key_held};
 ghost use Rattle.krl_world.specs.Steps.{Steps, CanBegin, BeginsNot, CanOpen, OpensNot, MigratesNot, message_at};
 ghost use Rattle.krl_world.specs.Fields.{meaning, server_up, kept_client, AreUnstarted};
 
-use crate::answer::Answer;
-use crate::applied_write::AppliedWrite;
 use crate::message::Message;
-use crate::node::{Seat, ServerNode};
-use crate::refused::Refused;
-use crate::step::{Command, Step};
+use crate::node::{Seat, ServerNode, not_started};
 use crate::{clients, serving};
 use krl_client::Client;
 use krl_durable::{Durable, DurableV1};
 use krl_messages::{ToClient, Value};
 use krl_modes::{KeyPart, RangePart};
 use krl_server::{NotStarted, Server};
+use krl_steps::{Answer, AppliedWrite, Command, Refused, Step};
 use std::alloc::{AllocError, Global};
 use std::marker::Model;
 
@@ -47,7 +44,7 @@ impl Model for Nodes {
     ghost use Rattle.krl_world.specs.contracts.node.ServerNode as server_node;
     ghost use Rattle.krl_world.specs.contracts.node.Seat as seat;
     ghost use Rattle.krl_world.specs.contracts.message.Message as message;
-    ghost use Rattle.krl_world.specs.contracts.applied_write.AppliedWrite as applied_write;
+    ghost use Rattle.krl_steps.specs.contracts.applied_write.AppliedWrite as applied_write;
     ghost use Rattle.krl_world.specs.Fields.{Fields, server_there, AreThere};
 
     ghost Value = { Fields };
@@ -110,8 +107,8 @@ impl Nodes {
         Nodes::open(alloc, opening, durable)
     }
 
-    /// A world that begins with what survived, which is handed to it twice: it keeps the one, and starts its server from
-    /// the other. Nothing has happened since then.
+    /// A world that begins with what survived, which is handed to it twice: it keeps the one, and
+    /// starts its server from the other. Nothing has happened since then.
     pub(crate) fn open(alloc: Global, opening: Durable, durable: Durable) -> Result<Nodes, Refused>
         requires same { durable ≡ opening }
         requires left { missing_order opening.register ≡ [] }
@@ -130,7 +127,7 @@ impl Nodes {
                 sent: Vec::new(alloc),
                 writes: Vec::new(alloc),
             }),
-            Err(NotStarted { refused, .. }) => Err(Refused::from(refused)),
+            Err(NotStarted { refused, .. }) => Err(not_started(refused)),
         }
     }
 

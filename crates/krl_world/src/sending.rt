@@ -6,13 +6,13 @@ use crate::message::Message;
 use krl_messages::{Items, ToClient, ToServer};
 
 /// The most messages that a step of a client sends.
-pub(crate) const MOST_OF_A_CLIENT: usize = 3;
+pub const MOST_OF_A_CLIENT: usize = 3;
 
 /// The most messages that a step of a server sends.
-pub(crate) const MOST_OF_A_SERVER: usize = 4097;
+pub const MOST_OF_A_SERVER: usize = 4097;
 
 /// Puts what a client sent behind all that was sent. There is room.
-pub(crate) fn send_to_server(sent: &mut Vec<Message>, messages: Vec<ToServer>)
+pub fn send_to_server(sent: &mut Vec<Message>, messages: Vec<ToServer>)
     requires { vec_len sent.old + length messages.items ≤ vec_capacity sent.old }
     ensures { sent.new.items ≡ sent.old.items ++ from_clients messages.items }
 {
@@ -22,7 +22,7 @@ pub(crate) fn send_to_server(sent: &mut Vec<Message>, messages: Vec<ToServer>)
 }
 
 /// Puts what a server sent behind all that was sent. There is room.
-pub(crate) fn send_to_clients(sent: &mut Vec<Message>, messages: Items<ToClient>)
+pub fn send_to_clients(sent: &mut Vec<Message>, messages: Items<ToClient>)
     requires { vec_len sent.old + length messages ≤ vec_capacity sent.old }
     ensures { sent.new.items ≡ sent.old.items ++ from_server messages }
 {

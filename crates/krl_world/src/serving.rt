@@ -10,13 +10,13 @@ ghost use Rattle.krl_world.specs.Steps.{server_down};
 ghost use Rattle.krl_world.specs.Fields.{node_of};
 ghost use Rattle.krl_world.specs.Moves.{HasServed, HasArrived, write_of, was_applied, applied_by, as_list};
 
-use crate::applied_write::AppliedWrite;
 use crate::message::Message;
 use crate::node::ServerNode;
 use crate::sending::{MOST_OF_A_SERVER, send_to_clients};
 use krl_durable::Record;
 use krl_messages::{Outcome, Request, RequestBody, ToServer, ToServerBody, WriteOp};
 use krl_server::Server;
+use krl_steps::AppliedWrite;
 use std::alloc::{AllocError, Global};
 
 /// The write that a message asks for, by its number.
@@ -143,7 +143,7 @@ pub(crate) fn arrive(
 }
 
 /// The server is nudged for a client.
-pub(crate) fn nudge(
+pub fn nudge(
     alloc: Global,
     server: &Server,
     sent: &mut Vec<Message>,

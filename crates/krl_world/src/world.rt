@@ -10,17 +10,14 @@ ghost use Rattle.krl_world.specs.Laws.{CanGoOn};
 ghost use Rattle.krl_world.specs.Bounds.{Bound, HasBound, IsBounded, HoldsOverRestarts};
 ghost use Rattle.krl_world.specs.Fields.{meaning, server_up, kept_client};
 
-use crate::answer::Answer;
-use crate::applied_write::AppliedWrite;
 use crate::message::Message;
 use crate::nodes::Nodes;
-use crate::refused::Refused;
-use crate::step::Step;
 use krl_client::Client;
 use krl_durable::DurableV1;
 use krl_messages::Value;
 use krl_modes::{KeyPart, RangePart};
 use krl_server::Server;
+use krl_steps::{Answer, AppliedWrite, Refused, Step};
 use std::alloc::{AllocError, Global};
 use std::marker::Model;
 

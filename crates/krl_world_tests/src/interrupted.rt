@@ -2,7 +2,7 @@
 ghost use Rattle.std.specs.Prelude.{None, Some, length};
 ghost use Rattle.std.specs.Io.{ReadsAtMost, WritesAtMost};
 ghost use Rattle.std.specs.Io.KnownBytes.{ReadConsumes};
-ghost use Rattle.krl_script.specs.Runs.{ReadsOn, WritesOn};
+ghost use Rattle.krl_text.specs.Transfers.{ReadsOn, WritesOn};
 
 use krl_script::{ScriptFault, Sink, Source, run_script};
 use std::alloc::Global;

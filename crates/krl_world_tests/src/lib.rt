@@ -8,6 +8,8 @@ mod migration;
 #[cfg(test)]
 mod random;
 #[cfg(test)]
+mod refused;
+#[cfg(test)]
 mod scripts;
 #[cfg(test)]
 mod worlds;

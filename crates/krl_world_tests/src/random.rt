@@ -3,7 +3,7 @@ ghost use Rattle.std.specs.Prelude.{◌≤◌};
 
 use crate::scripts::writer;
 use krl_modes::END;
-use krl_script::{AnyWriter, MAX_STEPS, Progress, ScriptFault, Untold, random_run};
+use krl_script::{AnyWriter, MAX_STEPS, Progress, ScriptFault, Untold, busy_run, random_run};
 use std::alloc::Global;
 use std::test::Fail;
 
@@ -52,25 +52,52 @@ fn each_seed_is_sound(rt: HostRuntime) -> Result<(), Fail> {
 }
 
 /// How many writes the run applied.
-fn applied(alloc: Global, seed: u64) -> usize
+fn applied(alloc: Global, is_busy: bool, seed: u64) -> usize
     requires { seed ≤ END }
 {
     let mut taken = AnyWriter(writer("", 1000, 1000));
-    match random_run(alloc, &mut taken, &mut Untold, seed, 200) {
+    let end = if is_busy {
+        busy_run(alloc, &mut taken, &mut Untold, seed, 1000)
+    } else {
+        random_run(alloc, &mut taken, &mut Untold, seed, 200)
+    };
+    match end {
         Ok((world, _)) => world.writes().len(),
         Err(_) => 0,
     }
 }
 
-#[test]
-fn some_runs_apply_writes(rt: HostRuntime) {
+/// How many of the seeds 0 to 19 apply a write.
+fn writing(alloc: Global, is_busy: bool) -> u64 {
     let mut writing = 0u64;
     for seed in 0..20u64 {
-        if applied(rt.alloc(), seed) > 0 {
+        if applied(alloc, is_busy, seed) > 0 {
             writing = writing.saturating_add(1);
         }
     }
-    assert!(rt; writing > 0);
+    writing
+}
+
+#[test]
+fn some_runs_apply_writes(rt: HostRuntime) {
+    assert!(rt; writing(rt.alloc(), false) > 0);
+}
+
+#[test]
+fn most_busy_runs_apply_writes(rt: HostRuntime) {
+    assert!(rt; writing(rt.alloc(), true) >= 15);
+}
+
+#[test]
+fn each_seed_is_sound_in_haste(rt: HostRuntime) -> Result<(), Fail> {
+    for seed in 0..20u64 {
+        let line = format!(in rt.alloc(); "random {seed} 200 sound\n")?;
+        let mut taken = AnyWriter(writer(&line, 7, 1000));
+        let end = busy_run(rt.alloc(), &mut taken, &mut Untold, seed, 200);
+        assert!(rt; matches!(end, Ok((_, true))), "seed {seed}");
+        assert!(rt; taken.0.is_right && taken.0.rest.is_empty(), "seed {seed}");
+    }
+    Ok(())
 }
 
 #[test]

@@ -9,9 +9,9 @@ static FIRST: &str =
 
 static TRANSCRIPT: &str = "rows 10=1\nmiss 11\n";
 
-/// Scripts with their transcripts: the first one; one with inserts of two clients; and one in which
-/// the server crashes before a client is told of its insert.
-static SCRIPTS: [(&str, &str); 3] = [
+/// Scripts with their transcripts: the first one; one with inserts of two clients; one in which the
+/// server crashes before a client is told of its insert; and a lock of a range over values of bytes.
+static SCRIPTS: [(&str, &str); 4] = [
     (
         "seed 10=1 20=2\nclient 0\nsettle\nlock 0 5 RangeS-S\nsettle\nscan 0 0 11\nscan 0 0 12\n",
         "rows 10=1\nmiss 11\n",
@@ -31,6 +31,11 @@ static SCRIPTS: [(&str, &str); 3] = [
         "missing\nstatus 2 0 granted 1 waiting\nstatus 2 2 granted 1 Applied\n\
          status 2 1 granted 1 Applied\nhold I N\nmiss 15\nindex 10=1 15=6 20=2\n\
          writes 0.1.1 1.1.1\n",
+    ),
+    (
+        "seed 10=x 20=xDEADBEEF 30=7\nclient 0\nsettle\nlock 0 0 RangeS-S END\nsettle\n\
+         scan 0 0 END\nindex\n",
+        "rows 10=x 20=xdeadbeef 30=7\nindex 10=x 20=xdeadbeef 30=7\n",
     ),
 ];
 

@@ -7,5 +7,5 @@ abbrev pub invariant-steps : goal.invariant-steps
 invariant-steps g l =
     record {
       sound : IsCompatible (meaning l.fn.run.world) → IsCompatible (meaning l.run.world);
-      runs : IsCompatible (meaning l.fn.run.world) → RunsRandomly l.before (stage_of l.fn.run) (stage_of l.run);
+      runs : IsCompatible (meaning l.fn.run.world) → RunsRandomly l.pace l.before (stage_of l.fn.run) (stage_of l.run);
     }

@@ -1,7 +1,7 @@
 use Rattle.std.proofs.Common.{◌+◌, ◌≤◌, length}
 use Rattle.std.specs.Str.Lines.{lines}
 use Rattle.krl_script.specs.Fields.{meaning}
-use Rattle.krl_script.specs.Runs.{IsSteady}
+use Rattle.krl_text.specs.Transfers.{IsSteady}
 use Rattle.krl_script.specs.Transcripts.{Prints}
 use Rattle.krl_script.proofs.Runs.{Continues}
 use Rattle.krl_script.proofs.run.obey_lines.Given as goal

@@ -10,7 +10,7 @@ pub invariant_of-self-2 : goal.invariant_of-self-2
 invariant_of-self-2 c =
     let old : Maps = record { starts = c.self.inside.starts.entries; entries = c.self.inside.entries.entries } in
     let new : Maps = record { starts = c.adopt.new.starts.entries; entries = c.adopt.new.entries.entries } in
-    adopt_keeps c.args.holding old new c.self.invariant c.in_ok-adopt.ensures.top c.in_ok-adopt.ensures.parts c.in_ok-adopt.ensures.starts c.in_ok-adopt.ensures.entries
+    adopt_keeps c.args.holding old new c.self.invariant c.in_ok-adopt.ensures.top c.in_ok-adopt.ensures.parts c.in_ok-adopt.ensures.starts c.in_ok-adopt.ensures.merged c.in_ok-adopt.ensures.entries
 
 pub returns-clause-ok : goal.returns-clause-ok
 returns-clause-ok c =

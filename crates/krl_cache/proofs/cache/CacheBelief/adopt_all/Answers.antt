@@ -9,7 +9,7 @@ pub invariant_of-self-2 : goal.invariant_of-self-2
 invariant_of-self-2 c =
     let old : Maps = record { starts = c.self.inside.starts.entries; entries = c.self.inside.entries.entries } in
     let new : Maps = record { starts = c.adopt_all.new.starts.entries; entries = c.adopt_all.new.entries.entries } in
-    several_keep c.args.holdings.now old new c.in_ok-adopt_all.ensures.spans c.self.invariant c.in_ok-adopt_all.ensures.parts c.in_ok-adopt_all.ensures.starts c.in_ok-adopt_all.ensures.entries
+    several_keep c.args.holdings.now old new c.in_ok-adopt_all.ensures.spans c.self.invariant c.in_ok-adopt_all.ensures.parts c.in_ok-adopt_all.ensures.starts c.in_ok-adopt_all.ensures.merged c.in_ok-adopt_all.ensures.entries
 
 pub returns-clause-ok : goal.returns-clause-ok
 returns-clause-ok c =

@@ -10,7 +10,7 @@ pub invariant_of-self-2 : goal.invariant_of-self-2
 invariant_of-self-2 c =
     let old : Maps = record { starts = c.self.inside.starts.entries; entries = c.self.inside.entries.entries } in
     let new : Maps = record { starts = c.lower.new.starts.entries; entries = c.lower.new.entries.entries } in
-    lower_keeps c.args.span c.args.keep old new c.self.invariant c.in_ok-lower.ensures.top c.in_ok-lower.ensures.parts c.in_ok-lower.ensures.starts c.in_ok-lower.ensures.entries
+    lower_keeps c.args.span c.args.keep old new c.self.invariant c.in_ok-lower.ensures.top c.in_ok-lower.ensures.parts c.in_ok-lower.ensures.starts c.in_ok-lower.ensures.merged c.in_ok-lower.ensures.entries
 
 pub returns-clause-ok : goal.returns-clause-ok
 returns-clause-ok c =

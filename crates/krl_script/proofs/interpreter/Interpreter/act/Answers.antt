@@ -1,5 +1,5 @@
 use Rattle.krl_world.specs.Fields as world
-use Rattle.krl_script.proofs.Interpreting.{on_ok}
+use Rattle.krl_text.proofs.Outcomes.{on_ok}
 use Rattle.krl_script.proofs.interpreter.Interpreter.act.Goals as goal
 
 pub returns : goal.returns

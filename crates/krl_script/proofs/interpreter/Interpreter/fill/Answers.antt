@@ -1,5 +1,6 @@
 use Rattle.krl_script.specs.Fields.{meaning}
-use Rattle.krl_script.proofs.Interpreting.{on_ok, fill_refused}
+use Rattle.krl_script.proofs.Interpreting.{fill_refused}
+use Rattle.krl_text.proofs.Outcomes.{on_ok}
 use Rattle.krl_script.proofs.interpreter.Interpreter.fill.Goals as goal
 
 pub returns-then-n-gt-MAX_ENTRIES : goal.returns-then-n-gt-MAX_ENTRIES

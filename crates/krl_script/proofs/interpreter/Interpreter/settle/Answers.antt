@@ -1,7 +1,8 @@
 use Rattle.std.proofs.Common.{true, sym, ◌∙◌, arith}
 use Rattle.krl_script.specs.Fields.{meaning}
 use Rattle.krl_script.specs.contracts.interpreter.Interpreter.{the_view}
-use Rattle.krl_script.proofs.Interpreting.{on_ok, settles_idle, settles_refused, settles_at_bound, settles_unsettled, delivers_more}
+use Rattle.krl_script.proofs.Interpreting.{settles_idle, settles_refused, settles_at_bound, settles_unsettled, delivers_more}
+use Rattle.krl_text.proofs.Outcomes.{on_ok}
 use Rattle.krl_script.proofs.interpreter.Interpreter.settle.Goals as goal
 
 pub returns-in-Idle : goal.returns-in-Idle

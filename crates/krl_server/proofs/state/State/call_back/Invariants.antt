@@ -1,11 +1,8 @@
-use Rattle.std.proofs.Common.{◌+◌, ◌-◌}
-use Rattle.krl_modes.specs.declared.point.TheConstants.{END}
+use Rattle.std.proofs.Common.{ℕ, drop}
 use Rattle.krl_server.specs.States.{meaning}
+use Rattle.krl_server.specs.Doing.{HaveWaiters}
 use Rattle.krl_server.proofs.Called.{AreCalled}
 use Rattle.krl_server.proofs.state.State.call_back.Given as goal
 
 abbrev pub invariant-loop-slot : goal.invariant-loop-slot
-invariant-loop-slot l = AreCalled (meaning l.self) l.at l.fn.outbox l.outbox
-
-abbrev pub decreases-loop-slot : goal.decreases-loop-slot
-decreases-loop-slot l = END + 1 - l.at
+invariant-loop-slot l = (at : ℕ) × AreCalled (meaning l.self) at l.fn.outbox l.outbox × HaveWaiters (meaning l.self) at (drop l.slot-index l.slots)

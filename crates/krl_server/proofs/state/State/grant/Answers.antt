@@ -1,4 +1,4 @@
-use Rattle.std.proofs.Common.{◌≡◌, refl, ◌∙◌}
+use Rattle.std.proofs.Common.{refl, ◌∙◌}
 use Rattle.krl_server.specs.States.{meaning}
 use Rattle.krl_server.proofs.Grants.{taken_told}
 use Rattle.krl_server.proofs.Rounds.{slot_over}

@@ -10,4 +10,4 @@ returns-in-Ok c = λ w here. started_at w c.in-Down.durable c.in-Ok.server (here
 
 pub returns-in-Err : goal.returns-in-Err
 returns-in-Err c = λ w here.
-    rw c.from.ensures (start_refused_at w c.in-Down.durable c.in-Err.field-0.durable c.in-Err.field-0.refused (here ∙ c.in-Down.is) c.in-Err.ensures.durable c.in-Err.ensures.reason)
+    rw c.not_started.ensures (start_refused_at w c.in-Down.durable c.in-Err.field-0.durable c.in-Err.field-0.refused (here ∙ c.in-Down.is) c.in-Err.ensures.durable c.in-Err.ensures.reason)

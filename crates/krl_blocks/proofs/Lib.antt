@@ -1,0 +1,9 @@
+pub mod Places
+pub mod Probes
+pub mod Keys
+pub mod Edits
+pub mod Around
+pub mod Thick
+pub mod Laying
+pub mod Kept
+pub mod Readings

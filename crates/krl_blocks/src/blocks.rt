@@ -1,0 +1,157 @@
+//! Entries in key order.
+ghost use Rattle.std.specs.Prelude.{◌≡◌, ◌≤◌, ◌<◌, length, MatchOption, IfOk, OnOk, OnErr, []};
+ghost use Rattle.std.specs.List.{flat_map};
+ghost use Rattle.krl_blocks.specs.Entries.{KeysRise, NoKey, HasEntry, IsFound, IsRun, IsInserted, IsRemoved, IsChanged};
+
+use crate::found::Found;
+use crate::layout::Layout;
+use std::alloc::{AllocError, Global};
+use std::marker::Model;
+
+/// Entries with keys that rise, seen as their list and as how many there may be with no more memory.
+/// They lie in blocks of at most 64, so that a change moves few of them, and so that a walk reads
+/// what lies side by side. Neighbours that have 32 entries together, or fewer, are merged.
+#[derive(Drop)]
+pub struct Blocks<V> {
+    layout: Layout<V>,
+    len: usize,
+    room: usize,
+}
+
+impl<V> Model for Blocks<V> {
+    ghost use Rattle.krl_blocks.specs.Entries.{Entries};
+    ghost use Rattle.krl_blocks.specs.Laid.{flat, IsHeld};
+
+    ghost Value = { Entries V };
+
+    ghost view = { λ b. record { list = flat b.layout.blocks.items; room = b.room } };
+
+    ghost invariant = { λ b. IsHeld b.layout.tops b.layout.blocks b.layout.spare b.len b.room };
+}
+
+impl<V: Copy + Drop> Blocks<V> {
+    /// No entries, and room for none.
+    pub fn new(alloc: Global) -> Blocks<V>
+        ensures { result ≡ record { list = []; room = 0 } }
+    {
+        Blocks {
+            layout: Layout::new(alloc),
+            len: 0,
+            room: 0,
+        }
+    }
+
+    /// These entries, whose keys rise, with room for at least so many.
+    ///
+    /// # Errors
+    ///
+    /// `AllocError` where memory is refused.
+    pub fn from_sorted(
+        alloc: Global,
+        entries: &[(u64, V)],
+        room: usize,
+    ) -> Result<Blocks<V>, AllocError>
+        requires rises { KeysRise entries.now }
+        requires fits { length entries.now ≤ room }
+        ensures { IfOk result (λ b. (b.list ≡ entries.now) × (room ≤ b.room)) }
+    {
+        let mut blocks = Blocks::new(alloc);
+        blocks.reserve(alloc, room)?;
+        for (key, value) in entries {
+            blocks.insert(*key, *value);
+        }
+        Ok(blocks)
+    }
+
+    /// Makes room for at least so many entries, those that are there among them. No other call takes
+    /// memory.
+    ///
+    /// # Errors
+    ///
+    /// `AllocError` where memory is refused. Nothing has changed then.
+    pub fn reserve(&mut self, alloc: Global, entries: usize) -> Result<(), AllocError>
+        ensures list { self.new.list ≡ self.old.list }
+        ensures room { OnOk result (entries ≤ self.new.room) }
+        ensures kept { self.old.room ≤ self.new.room }
+        ensures refused { OnErr result (self.new ≡ self.old) }
+    {
+        self.layout.reserve(alloc, entries / 16 + 2)?;
+        if self.room < entries {
+            self.room = entries;
+        }
+        Ok(())
+    }
+
+    /// How many entries there are.
+    pub fn len(&self) -> usize
+        ensures { result ≡ length self.now.list }
+    {
+        self.len
+    }
+
+    /// The blocks: their entries, one block after the other, are all, in key order.
+    pub fn blocks(&self) -> &[Vec<(u64, V)>]
+        ensures { flat_map (λ block. block.items) result.now ≡ self.now.list }
+    {
+        &self.layout.blocks
+    }
+
+    /// Where a point stands: the last key below it, and the entries from it on. One search finds both.
+    pub fn find(&self, point: u64) -> Found<'_, V>
+        ensures found { IsFound self.now.list point result.before result.run.now }
+        ensures rises { KeysRise self.now.list }
+    {
+        self.layout.find(point)
+    }
+
+    /// The entries from the first at or above the point, as far as its block goes: there is at least
+    /// one, where there is any. A walk asks again behind the last of them.
+    pub fn run(&self, point: u64) -> &[(u64, V)]
+        ensures { IsRun self.now.list point result.now }
+    {
+        self.find(point).run
+    }
+
+    /// The value of the key.
+    pub fn get(&self, key: u64) -> Option<V>
+        ensures { MatchOption result (NoKey key self.now.list) (λ v. HasEntry self.now.list key v) }
+    {
+        match self.find(key).run.first() {
+            Some(entry) if entry.0 == key => Some(entry.1),
+            _ => None,
+        }
+    }
+
+    /// Puts in an entry of a key that no entry has. It takes no memory: there is room.
+    pub fn insert(&mut self, key: u64, value: V)
+        requires new { NoKey key self.old.list }
+        requires room { length self.old.list < self.old.room }
+        ensures inserted { IsInserted self.old.list self.new.list key value }
+        ensures room { self.new.room ≡ self.old.room }
+    {
+        self.layout.insert(key, value);
+        self.len += 1;
+    }
+
+    /// Gives the entry of the key another value, and answers the one before; None where no entry has
+    /// the key, and then nothing changes.
+    pub fn set(&mut self, key: u64, value: V) -> Option<V>
+        ensures changed { MatchOption result (NoKey key self.old.list × (self.new ≡ self.old))
+            (λ was. IsChanged self.old.list self.new.list key value was) }
+        ensures room { self.new.room ≡ self.old.room }
+    {
+        self.layout.set(key, value)
+    }
+
+    /// Takes out the entry of the key, and answers its value; None where no entry has the key, and
+    /// then nothing changes. It takes no memory, and gives none back.
+    pub fn remove(&mut self, key: u64) -> Option<V>
+        ensures removed { MatchOption result (NoKey key self.old.list × (self.new ≡ self.old))
+            (λ v. IsRemoved self.old.list self.new.list key v) }
+        ensures room { self.new.room ≡ self.old.room }
+    {
+        let value = self.layout.remove(key)?;
+        self.len -= 1;
+        Some(value)
+    }
+}

@@ -1,0 +1,13 @@
+//! The command line of `krl`: its words, and what is said on standard error of a run that ended
+//! early.
+#![tactic(auto)]
+
+mod advice;
+mod blame;
+mod command;
+mod complaint;
+mod sentence;
+
+pub use command::{RandomOptions, Request};
+pub use complaint::{NO_RUN, read};
+pub use sentence::{say_of_run, say_of_script};

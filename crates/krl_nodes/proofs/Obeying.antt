@@ -1,0 +1,83 @@
+-- A command, a tick and a start, by what is sent.
+use Rattle.std.proofs.Common.{◌≡◌, ℕ, suc, List, [], ◌∷◌, ◌++◌, Option, Some, None, inl, inr, ⊎_elim, refl, sym, ap, subst, ◌∙◌}
+use Rattle.std.specs.Prelude.{Result, Ok, Err, OnOk, OnErr, IfErr}
+use Rattle.core.specs.declared.alloc.AllocError.{AllocError}
+use Rattle.krl_world.specs.declared.node.Seat.{Seat as KeptSeat}
+use Rattle.krl_world.specs.Fields.{seat_of}
+use Rattle.krl_messages.specs.Values.{Value}
+use Rattle.krl_messages.specs.declared.to_server.ToServer.{ToServer}
+use Rattle.krl_messages.specs.declared.to_client.ToClient.{ToClient}
+use Rattle.krl_client.specs.Clients.{Client, begun}
+use Rattle.krl_client.specs.Ticks.{says_hello}
+use Rattle.krl_steps.specs.declared.answer.Answer.{Answer}
+use Rattle.krl_world.specs.declared.message.Message.{Message}
+use Rattle.krl_steps.specs.declared.step.Command.{Command}
+use Rattle.krl_steps.specs.declared.refused.Refused.{Refused}
+use Rattle.krl_steps.specs.declared.refused.Refused.TheVariants as refused
+use Rattle.krl_world.specs.States.{Seat, from_clients, from_server}
+use Rattle.krl_world.specs.Steps.{named, if_runs, command_refusal, CommandTakesMemory}
+use Rattle.krl_steps.specs.Refusals.{refused_by_client}
+use Rattle.krl_world.specs.Moves.{IsRefused, CommandedAt, Started, Ticked, starting_refusal}
+use Rattle.krl_nodes.specs.Mail.{Mail}
+use Rattle.krl_nodes.specs.Letters.{mail_of, with_said, with_sent}
+use Rattle.krl_nodes.specs.Turns.{ClientActs, IsSame, HasTicked, did_of, done_if}
+use Rattle.krl_nodes.specs.declared.policy.Pick.{Pick}
+use Rattle.krl_nodes.specs.declared.post.Chair.{Chair}
+use Rattle.krl_nodes.specs.declared.orders.ClientOrder.TheVariants as to_client
+use Rattle.krl_nodes.proofs.Piles.{said, sent}
+use Rattle.krl_nodes.proofs.Says.{sends}
+
+module _ (o : List (ℕ × Value)) (q : List ToServer) (b : List (List ToClient)) (chairs : List Chair) (pile pile' : List Message) where
+  abbrev before : Mail
+  before = mail_of o q b pile chairs
+
+  abbrev after : Mail
+  after = mail_of o q b pile' chairs
+
+  same : pile' ≡ pile → after ≡ before
+  same e = ap (λ ms. mail_of o q b ms chairs) e
+
+  says : (list : List ToServer) → pile' ≡ pile ++ from_clients list → after ≡ with_said before list
+  says list e = ap (λ ms. mail_of o q b ms chairs) e ∙ said o q b pile chairs list
+
+  pub ticked : (k : Client) (r : Result (Unit {0}) AllocError) → OnOk r (Ticked k pile pile') → OnOk r (HasTicked k before after)
+  ticked k (Ok u) t = (t.list, t.tick, says t.list t.sent)
+  ticked k (Err e) t = t
+
+  pub nudged : (outs : List ToClient) (r : Result (Unit {0}) AllocError) → OnOk r (pile' ≡ pile ++ from_server outs) → OnOk r (after ≡ with_sent before outs)
+  nudged outs (Ok u) t = ap (λ ms. mail_of o q b ms chairs) t ∙ sent o q b pile chairs outs
+  nudged outs (Err e) t = t
+
+  pub started : (p : Pick) (c : ℕ) (x x' : KeptSeat) (r : Result (Unit {0}) Refused) → OnOk r (Started c (seat_of x) (seat_of x') pile pile') → IfErr r (IsRefused (starting_refusal c (seat_of x)) (Unit {0})) → OnErr r ((x' ≡ x) × (pile' ≡ pile)) → ClientActs p to_client.Start c before (seat_of x) after (seat_of x') (did_of (done_if r))
+  started p c x x' (Ok u) s due e = (s.none_due, record { done = refl; now = s.seat; post = says (says_hello (begun c (suc x.greatest)) ∷ []) s.sent })
+  started p c x x' (Err r) s due e = (due, record { post = same e.1; node = ap seat_of e.0 })
+
+  module _ (p : Pick) (c : ℕ) (what : Command) (x x' : Seat) (g : x'.greatest ≡ x.greatest) where
+    abbrev due : Option Client → Option Refused
+    due k = if_runs k (λ k. named refused_by_client (command_refusal k what))
+
+    is_same : x'.client ≡ x.client → pile' ≡ pile → IsSame before x after x'
+    is_same k l = record { post = same l; node = λ i. record { greatest = g i; client = k i } }
+
+    pub obeys : (r : Result Answer Refused) → CommandedAt x.client what x'.client pile pile' r → ClientActs p (to_client.Command what) c before x after x' (did_of r)
+    obeys r h = go x.client r refl h
+      where
+        go : (k : Option Client) (r : Result Answer Refused) → x.client ≡ k → CommandedAt k what x'.client pile pile' r → ClientActs p (to_client.Command what) c before x after x' (did_of r)
+        go None (Ok a) is h = let no = h.0 in absurd (cc)
+        go None (Err r) is h = let down : r ≡ refused.Down = cc in (inl (ap due is ∙ ap (λ (e : Refused). Some e) (sym down)), is_same (h.1 ∙ sym is) h.2)
+        go (Some k) (Ok a) is h = let s = sends k what a x'.client pile pile' h.1 in (
+          ap due is ∙ ap (named refused_by_client) h.0,
+          record {
+            list = s.list;
+            obeyed = subst (λ k. CommandedAt k what x'.client [] (from_clients s.list) (Ok a)) (sym is) (h.0, s.does []);
+            greatest = g;
+            post = says s.list s.sent;
+          },
+        )
+        go (Some k) (Err r) is h = (
+          ⊎_elim
+              (λ (e : named refused_by_client (command_refusal k what) ≡ Some r). inl (ap due is ∙ e))
+              (λ (t : (named refused_by_client (command_refusal k what) ≡ None) × (r ≡ refused.OutOfMemory) × CommandTakesMemory k what). inr (ap due is ∙ t.0, t.1, (k, is, t.2)))
+              h.2,
+          is_same (h.0 ∙ sym is) h.1,
+        )

@@ -1,0 +1,43 @@
+-- A scan at a node is a step of each world that has the client so, and leaves it as it is.
+use Rattle.std.proofs.Common.{◌≡◌, ℕ, ◌≤◌, List, Some, None, refl, ap, ◌∙◌}
+use Rattle.std.specs.Prelude.{Ok, Err}
+use Rattle.krl_messages.specs.Values.{Value}
+use Rattle.krl_durable.specs.Index.{range}
+use Rattle.krl_client.specs.Clients.{Client}
+use Rattle.krl_client.specs.Commands.{Answers, scan_refusal}
+use Rattle.krl_client.specs.declared.scan_answer.ScanAnswer.{ScanAnswer}
+use Rattle.krl_client.specs.declared.scan_answer.ScanAnswer.TheVariants as scanned
+use Rattle.krl_steps.specs.declared.answer.Answer.TheVariants as told
+use Rattle.krl_steps.specs.declared.step.Step.TheVariants as step
+use Rattle.krl_steps.specs.declared.step.Command.TheVariants as command
+use Rattle.krl_steps.specs.declared.refused.Refused.{Refused}
+use Rattle.krl_world.specs.States.{State, Seat, client_of, index_of}
+use Rattle.krl_world.specs.Steps.{Steps, span, if_runs, named, command_refusal}
+use Rattle.krl_steps.specs.Refusals.{refused_by_client}
+use Rattle.krl_world.proofs.Lifts.{takes, is_client}
+use Rattle.krl_world.proofs.Runs.{scans_before}
+use Rattle.krl_nodes.specs.Shown.{ClientAt}
+use Rattle.krl_nodes.specs.Rule.{ReachableFrom}
+use Rattle.krl_nodes.specs.Steps.{Agreeable}
+use Rattle.krl_nodes.specs.Nodes.{ClientPlace, client_shown, RowsAre, ScansIndex}
+
+-- rows that a client finds are those of the index, in each world that has it so
+rows_are : (w : State) (opening rows : List (ℕ × Value)) (c lo hi : ℕ) (k : Client) → c ≤ 63 → ReachableFrom opening w → client_of w c ≡ Some k → scan_refusal (span lo hi) ≡ None → Answers k (span lo hi) (scanned.Rows rows) → rows ≡ range (index_of w) lo hi
+rows_are w opening rows c lo hi k low reach up due found =
+    let none = is_client c _ low ∙ ap (λ o. if_runs o (λ x. named refused_by_client (command_refusal x (command.Scan lo hi)))) up ∙ ap (named refused_by_client) due in
+    let taken : Steps w (step.Command c (command.Scan lo hi)) (Ok (told.Rows rows)) w = takes w w (step.Command c (command.Scan lo hi)) (told.Rows rows) none (k, up, (found, refl)) in
+    scans_before w w (step.Command c (command.Scan lo hi)) (Ok (told.Rows rows)) reach.0 taken
+
+answer_is : (w : State) (opening : List (ℕ × Value)) (c lo hi : ℕ) (k : Client) (a : ScanAnswer) → c ≤ 63 → ReachableFrom opening w → client_of w c ≡ Some k → scan_refusal (span lo hi) ≡ None → Answers k (span lo hi) a → RowsAre (range (index_of w) lo hi) (Ok a)
+answer_is w opening c lo hi k (scanned.Rows rows) low reach up due found = rows_are w opening rows c lo hi k low reach up due found
+answer_is w opening c lo hi k (scanned.Miss p) low reach up due found = tt
+answer_is w opening c lo hi k (scanned.Pending n) low reach up due found = tt
+
+pub scans_there : (n : ClientPlace) (lo hi : ℕ) (k : Client) (a : ScanAnswer) → n.number ≤ 63 → Agreeable n.opening (ClientAt n.number (client_shown n)) → (client_shown n).client ≡ Some k → scan_refusal (span lo hi) ≡ None → Answers k (span lo hi) a → ScansIndex n lo hi (Ok a)
+scans_there n lo hi k a low stands up due found = record {
+  stands = stands;
+  rows = λ w reach agrees. answer_is w n.opening n.number lo hi k a low reach (ap (λ (x : Seat). x.client) agrees ∙ up) due found;
+}
+
+pub scans_not : (n : ClientPlace) (lo hi : ℕ) (e : Refused) → Agreeable n.opening (ClientAt n.number (client_shown n)) → ScansIndex n lo hi (Err e)
+scans_not n lo hi e stands = record { stands = stands; rows = λ w reach agrees. tt }

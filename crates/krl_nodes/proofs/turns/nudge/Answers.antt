@@ -1,0 +1,10 @@
+use Rattle.std.proofs.Common.{refl, ap, ◌∙◌}
+use Rattle.krl_world.specs.Steps.{server_down}
+use Rattle.krl_world.specs.Fields.{node_of}
+use Rattle.krl_world.proofs.Lifts.{is_client}
+use Rattle.krl_server.specs.States.{meaning}
+use Rattle.krl_nodes.proofs.turns.nudge.Goals as goal
+
+pub returns-in-Ok : goal.returns-in-Ok
+returns-in-Ok c = λ p. let up = ap node_of c.in-Up.is in
+    (refl, is_client c.args.client _ c.if-client-gt63.false ∙ ap server_down up, record { server = meaning c.in-Up.server; was = up; now = refl; post = c.in-Ok.ensures.ok })

@@ -1,0 +1,9 @@
+pub mod Mail
+pub mod Shown
+pub mod Letters
+pub mod Rule
+pub mod Steps
+pub mod Turns
+pub mod Sorting
+pub mod Nodes
+pub mod RunRows

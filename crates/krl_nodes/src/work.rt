@@ -1,0 +1,257 @@
+//! What each node of `run_nodes` does.
+ghost use Rattle.std.specs.Prelude.{◌≡◌, MatchBool, IfOk, IfSome};
+ghost use Rattle.krl_nodes.specs.Nodes.{IsSameServer, IsSameClient};
+ghost use Rattle.krl_nodes.specs.RunRows.{HasKey, IsFound};
+
+use crate::client::ClientNode;
+use crate::gate::Gate;
+use crate::office::Office;
+use crate::orders::{ClientOrder, ServerOrder, Turn};
+use crate::server::ServerNode;
+use krl_cache::Rows;
+use krl_client::{LockStatus, ScanAnswer, Status, WriteStatus};
+use krl_messages::{Outcome, Value, WriteOp};
+use krl_modes::Mode;
+use krl_world::{Command, Refused};
+use std::sync::Wait;
+use std::sync::atomic::{AtomicU64, Ordering};
+
+/// The most turns of a client, with the scans that found no memory.
+pub const MAX_TURNS: u64 = 10_000;
+
+/// What the writer does next.
+#[derive(Clone, Copy)]
+enum Writing {
+    Start,
+    Lock,
+    Insert,
+    Forget,
+    Leave,
+    End,
+}
+
+/// What the reader does next.
+#[derive(Clone, Copy)]
+enum Reading {
+    Start,
+    First,
+    Second,
+    Scan,
+}
+
+// Whether the client runs and waits for a letter.
+fn waits(status: Option<Status>) -> bool {
+    match status {
+        Some(status) => {
+            status.epoch == 0
+                || matches!(status.lock, LockStatus::Waiting)
+                || matches!(status.write, WriteStatus::Waiting(_))
+        }
+        None => false,
+    }
+}
+
+// Whether the client's last write was not held.
+fn was_not_held(status: Option<Status>) -> bool {
+    match status {
+        Some(status) => matches!(status.write, WriteStatus::Judged(_, Outcome::NotHeld)),
+        None => false,
+    }
+}
+
+impl Writing {
+    // A write that was not held begins anew.
+    fn seen(self, status: Option<Status>) -> Writing {
+        match self {
+            Writing::Forget if was_not_held(status) => Writing::Lock,
+            other => other,
+        }
+    }
+
+    fn order(self) -> ClientOrder {
+        match self {
+            Writing::Start => ClientOrder::Start,
+            Writing::Lock => ClientOrder::Command(Command::Lock {
+                point: 15,
+                hi: 16,
+                mode: Mode::RangeIN,
+            }),
+            Writing::Insert => ClientOrder::Command(Command::Write(WriteOp::Insert {
+                key: 15,
+                value: Value::from_u64(5),
+            })),
+            Writing::Forget => ClientOrder::Command(Command::Forget { lo: 11, hi: 21 }),
+            Writing::Leave => ClientOrder::Command(Command::Leave),
+            Writing::End => ClientOrder::Letter,
+        }
+    }
+
+    fn next(self) -> Writing {
+        match self {
+            Writing::Start => Writing::Lock,
+            Writing::Lock => Writing::Insert,
+            Writing::Insert => Writing::Forget,
+            Writing::Forget => Writing::Leave,
+            Writing::Leave | Writing::End => Writing::End,
+        }
+    }
+}
+
+impl Reading {
+    fn order(self) -> ClientOrder {
+        match self {
+            Reading::Start => ClientOrder::Start,
+            Reading::First => ClientOrder::Command(Command::Lock {
+                point: 15,
+                hi: 16,
+                mode: Mode::RangeSS,
+            }),
+            Reading::Second => ClientOrder::Command(Command::Lock {
+                point: 16,
+                hi: 17,
+                mode: Mode::RangeSS,
+            }),
+            Reading::Scan => ClientOrder::Letter,
+        }
+    }
+
+    fn next(self) -> Reading {
+        match self {
+            Reading::Start => Reading::First,
+            Reading::First => Reading::Second,
+            Reading::Second | Reading::Scan => Reading::Scan,
+        }
+    }
+}
+
+/// Reads letters until both clients have ended.
+pub fn serve<R: Wait>(
+    rt: &R,
+    office: &Office,
+    mut node: ServerNode,
+    ended: &AtomicU64,
+) -> ServerNode
+    requires { node.office ≡ office.now }
+    ensures { IsSameServer node result }
+{
+    for _ in rt.forever() {
+        if ended.load(Ordering::SeqCst) >= 2 {
+            return node;
+        }
+        let _ = node.turn(rt, office, ServerOrder::Letter);
+    }
+    unreachable!()
+}
+
+// Reads a letter, and says whether there was none. A client reads all its letters before it asks for
+// more: one that asked for its lock again before it obeyed a callback would keep the lock for ever.
+fn has_no_letter<R: Wait>(rt: &R, office: &Office, node: &mut ClientNode) -> bool
+    requires { node.old.office ≡ office.now }
+    ensures { IsSameClient node.old node.new }
+{
+    matches!(node.turn(rt, office, ClientOrder::Letter), Ok(Turn::Idle))
+}
+
+/// Starts, inserts 15=5, forgets what it holds there and leaves; and says whether it came to that.
+pub fn insert<R: Wait, G: Gate>(
+    rt: &R,
+    office: &Office,
+    mut node: ClientNode,
+    gate: &mut G,
+) -> (ClientNode, bool)
+    requires { node.office ≡ office.now }
+    ensures { IsSameClient node result.0 }
+{
+    let mut stage = Writing::Start;
+    let mut is_read = false;
+    for turn in 0..MAX_TURNS {
+        let status = node.status();
+        gate.pass(turn, status);
+        let is_waiting = waits(status);
+        if is_waiting || !is_read {
+            is_read = has_no_letter(rt, office, &mut node);
+            if is_read && is_waiting {
+                gate.pause();
+            }
+            continue;
+        }
+        is_read = false;
+        stage = stage.seen(status);
+        match node.turn(rt, office, stage.order()) {
+            Ok(_) => stage = stage.next(),
+            Err(Refused::NotHeld) => stage = Writing::Lock,
+            Err(_) => {}
+        }
+        if let Writing::End = stage {
+            return (node, true);
+        }
+    }
+    (node, false)
+}
+
+fn has_key(rows: &[(u64, Value)], key: u64) -> bool
+    ensures { MatchBool result (HasKey key rows.now) (HasKey key rows.now → ⊥) }
+{
+    for row in rows {
+        if row.0 == key {
+            return true;
+        }
+    }
+    false
+}
+
+// The rows from 11 on below 21, where the client knows them and key 15 is among them.
+fn look(node: &ClientNode) -> Result<Option<Rows>, Refused>
+    ensures { IfOk result (λ rows. IfSome rows (IsFound node.now.opening)) }
+{
+    let answer = node.scan(11, 21)?;
+    match answer {
+        ScanAnswer::Rows(rows) => {
+            if has_key(rows.as_slice(), 15) {
+                Ok(Some(rows))
+            } else {
+                Ok(None)
+            }
+        }
+        ScanAnswer::Miss(_) | ScanAnswer::Pending(_) => Ok(None),
+    }
+}
+
+/// Starts, and locks 15 and 16 and scans 11 to 21 until the rows contain key 15.
+pub fn read<R: Wait, G: Gate>(
+    rt: &R,
+    office: &Office,
+    mut node: ClientNode,
+    gate: &mut G,
+) -> (ClientNode, Option<Rows>)
+    requires { node.office ≡ office.now }
+    ensures node { IsSameClient node result.0 }
+    ensures found { IfSome result.1 (IsFound node.opening) }
+{
+    let mut stage = Reading::Start;
+    let mut is_read = false;
+    for turn in 0..MAX_TURNS {
+        let status = node.status();
+        gate.pass(turn, status);
+        let is_waiting = waits(status);
+        if is_waiting || !is_read {
+            is_read = has_no_letter(rt, office, &mut node);
+            if is_read && is_waiting {
+                gate.pause();
+            }
+            continue;
+        }
+        is_read = false;
+        if let Reading::Scan = stage {
+            match look(&node) {
+                Ok(Some(rows)) => return (node, Some(rows)),
+                Ok(None) => stage = Reading::First,
+                Err(_) => continue,
+            }
+        }
+        if let Ok(_) = node.turn(rt, office, stage.order()) {
+            stage = stage.next();
+        }
+    }
+    (node, None)
+}

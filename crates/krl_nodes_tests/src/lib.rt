@@ -1,0 +1,11 @@
+//! Tests of nodes, through their public calls: on one thread, and on three.
+#![tactic(auto)]
+
+#[cfg(test)]
+mod acts;
+#[cfg(test)]
+mod gates;
+#[cfg(test)]
+mod nodes;
+#[cfg(test)]
+mod policies;

@@ -1,7 +1,0 @@
-use Rattle.std.proofs.Common.{refl}
-use Rattle.krl_script.specs.Printing.{modes_lines}
-use Rattle.krl_script.proofs.laws.modes_prints_the_tables.Goals as goal
-
-pub returns : goal.returns
-unfolding modes_lines
-returns c = refl

@@ -1,8 +1,0 @@
-use Rattle.std.proofs.Common.{◌≡◌, drop, map}
-use Rattle.krl_script.specs.Words.{pairs_of}
-use Rattle.krl_script.proofs.PairsLemmas.{with_front}
-use Rattle.krl_script.proofs.parse.pairs.Given as goal
-
-abbrev pub invariant-loop-word : goal.invariant-loop-word
-invariant-loop-word l =
-    with_front l.entries.items (pairs_of (map (λ word. word.now) (drop l.word-index l.arguments))) ≡ pairs_of (map (λ word. word.now) l.arguments)

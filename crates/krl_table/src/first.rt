@@ -1,0 +1,14 @@
+//! A first waiter, and what it finds.
+use krl_modes::{Mode, Span};
+use krl_queue::Waiter;
+
+/// The first waiter of a slot, and how the slot stands.
+#[derive(Clone, Copy)]
+pub struct FirstWaiter {
+    /// How it waits.
+    pub waiter: Waiter,
+    /// The slot's span.
+    pub span: Span,
+    /// What each client holds there.
+    pub modes: [Mode; 64],
+}

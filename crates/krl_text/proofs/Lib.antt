@@ -1,0 +1,6 @@
+pub mod BytesLemmas
+pub mod Digits
+pub mod PairsLemmas
+pub mod LinesLemmas
+pub mod WritingLemmas
+pub mod Outcomes

@@ -1,0 +1,23 @@
+//! The text of a script, without a world: how it is read, its lines, what each asks for, what is
+//! wrong with it, and the lines that are printed. `krl_script` runs what is asked for.
+#![tactic(auto)]
+
+mod fault;
+pub mod laws;
+mod limits;
+mod lines;
+mod parse;
+pub mod print;
+mod request;
+pub mod shown;
+mod source;
+mod transfer;
+mod word;
+
+pub use fault::{LineFault, ScriptFault, SyntaxFault};
+pub use limits::{MAX_DELIVERIES, MAX_LINE, MAX_LINES, MAX_STEPS, MAX_TEXT, MAX_TURNS};
+pub use lines::first_line;
+pub use parse::request_of_line;
+pub use request::{Entries, Request, Show};
+pub use source::{AnyReader, AnyWriter, Sink, Source};
+pub use transfer::{read_text, write_line};
