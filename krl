@@ -99,16 +99,41 @@ made_of() {
         }' "$top/crates.txt"
 }
 
+# The crates that the program is made of, those first for which the longest chain of proofs waits: by the lines of a crate
+# and of the longest chain above it.
+by_chain() {
+    for name in $all; do
+        echo "$name $(find "$top/crates/$name/src" -name '*.rt' -exec cat {} + | wc -l) $(grep "^$name:" "$top/crates.txt")"
+    done | awk '
+        { name[NR] = $1; lines[NR] = $2; $1 = $2 = $3 = ""; uses[NR] = $0 }
+        END {
+            for (i = NR; i > 0; i--) {
+                chain = lines[i] + above[name[i]]
+                split(uses[i], below, " ")
+                for (at in below) if (chain > above[below[at]]) above[below[at]] = chain
+                print chain, name[i]
+            }
+        }' | sort -rn | cut -d ' ' -f 2
+}
+
 # Calls rt in the folder $1 with the words behind $2, and keeps what it says as $2.log. Where it fails, the end of that
-# is shown.
+# is shown. All processors work for the crate for which the others wait; another takes what they leave.
 call_rt() {
-    folder=$1 log=$work/$2.log
+    folder=$1 log=$work/$2.log lower=10
+    [ "$2" != "$(next_of_chain)" ] || lower=0
     shift 2
-    (cd "$folder" && exec rt "$@") </dev/null >"$log" 2>&1 &
+    (cd "$folder" && exec nice -n "$lower" rt "$@") </dev/null >"$log" 2>&1 &
     running=$!
     wait "$running" && running= && return
     tail -n 40 "$log" >&2
     return 1
+}
+
+# The first crate of the longest chain that is not proved.
+next_of_chain() {
+    for name in $libraries krl; do
+        [ -d "$work/proved/$name" ] || { echo "$name"; return; }
+    done
 }
 
 tell() {
@@ -128,7 +153,7 @@ is_ready() {
     done <"$work/below/$1"
 }
 
-# Takes the lowest library that nobody has taken and that can be proved by now. Prints its name, or 'none' where all are
+# Takes the first library of the longest chain that nobody has taken and that can be proved by now. Prints its name, or 'none' where all are
 # taken, or 'later' where those that are left wait for another.
 take() {
     found=none
@@ -211,7 +236,7 @@ prove_and_build() {
     began=$(date +%s)
     all=$(made_of krl)
     count=$(echo "$all" | wc -l)
-    libraries=$(echo "$all" | grep -vFx krl)
+    libraries=$(by_chain | grep -vFx krl)
     mkdir "$work/below" "$work/taken" "$work/proved"
     for name in $libraries; do
         made_of "$name" >"$work/below/$name"

@@ -1,19 +1,28 @@
-/* A stand-in for malloc and realloc that refuses one request for memory: the one whose number,
- * counted from 1, REFUSED_AT gives. Descriptor 9 gets a byte then. */
+/* A stand-in for malloc and realloc that refuses some requests for memory in a row: REFUSED_AT gives
+ * the number of the first, counted from 1, and REFUSED_COUNT how many, one where it is not set.
+ * Descriptor 9 gets a byte for each. */
 #define _GNU_SOURCE
 #include <dlfcn.h>
 #include <stdlib.h>
 #include <unistd.h>
 
 static _Atomic long requests;
-static long refused_at = -1;
+static long first_refused = -1;
+static long past_refused;
+
+static long number(const char *name, long otherwise) {
+    const char *text = getenv(name);
+    return text ? atol(text) : otherwise;
+}
 
 static int is_refused(void) {
-    if (refused_at < 0) {
-        const char *at = getenv("REFUSED_AT");
-        refused_at = at ? atol(at) : 0;
+    long request = ++requests;
+    if (first_refused < 0) {
+        long first = number("REFUSED_AT", 0);
+        past_refused = first + number("REFUSED_COUNT", 1);
+        first_refused = first;
     }
-    return ++requests == refused_at && write(9, "!", 1) == 1;
+    return first_refused <= request && request < past_refused && write(9, "!", 1) == 1;
 }
 
 void *malloc(size_t size) {

@@ -10,9 +10,11 @@ mod nodes;
 mod progress;
 mod status;
 
-use krl_command_line::{NO_RUN, RandomOptions, Request, read, say_of_run, say_of_script};
+use krl_command_line::{
+    NO_RUN, NodesOptions, RandomOptions, Request, read, say_of_run, say_of_script,
+};
 use krl_drawing::Form;
-use krl_nodes::run_nodes;
+use krl_nodes::{run_nodes, run_nodes_by};
 use krl_picture::write_picture;
 use krl_script::{
     AnyReader, AnyWriter, Progress, ScriptFault, Sink, Source, busy_run, random_run, read_text,
@@ -47,7 +49,7 @@ fn obey(rt: &HostRuntime, request: Request) -> u8 {
         Request::Script => script(rt),
         Request::Picture(form) => picture(rt, form),
         Request::Random(Some(options)) => random(rt, &options),
-        Request::Random(None) | Request::Nodes => NO_RUN,
+        Request::Random(None) | Request::Nodes(_) => NO_RUN,
     }
 }
 
@@ -154,16 +156,22 @@ fn random_over<H: Eprint + AllocGlobal, W: Sink, P: Progress>(
 fn run_threads<R: Threads + Wait + Sync + Clock + Print + Eprint + AllocGlobal>(
     rt: &R,
     is_told: bool,
+    options: NodesOptions,
 ) -> u8 {
     let first = Telling::new(rt, 1, is_told);
     let second = Telling::new(rt, 2, is_told);
-    let ended = run_nodes(rt, rt.alloc(), first, second);
+    let ended = match options.policy {
+        Some(seed) => run_nodes_by(rt, rt.alloc(), first, second, seed),
+        None => run_nodes(rt, rt.alloc(), first, second),
+    };
     tell(rt, &mut AnyWriter(io::writer(rt)), &ended)
 }
 
 fn main(rt: HostRuntime) -> ExitCode {
     let status = match asked(&rt) {
-        Ok(Ok(Request::Nodes)) => run_threads(&rt, rt.stderr().is_terminal()),
+        Ok(Ok(Request::Nodes(Some(options)))) => {
+            run_threads(&rt, rt.stderr().is_terminal(), options)
+        }
         Ok(Ok(request)) => obey(&rt, request),
         Ok(Err(status)) => status,
         Err(error) => {

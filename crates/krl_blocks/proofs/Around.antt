@@ -2,7 +2,6 @@
 use Rattle.std.proofs.Common.{◌≡◌, ℕ, zero, suc, List, [], ◌∷◌, ◌++◌, take, drop, Some, None, refl, sym, ap, subst, ◌∙◌, slice_set}
 use Rattle.std.proofs.lemmas.List.{append_assoc}
 use Rattle.std.specs.List.{AllByRecursion, slice_get, insert, remove}
-use Rattle.std.specs.Global.{Vec}
 use Rattle.krl_blocks.specs.Laid.{flat}
 
 module _ {X : Type 0} (P : X → Type 0) where
@@ -45,27 +44,27 @@ set_reads (z ∷ xs) zero x y e = refl
 set_reads (z ∷ xs) (suc b) x y e = set_reads xs b x y e
 
 module _ {V : Type 0} where
-  pub flat_set : (xs : List (Vec (ℕ × V))) (b : ℕ) (x y : Vec (ℕ × V)) → Some x ≡ slice_get xs b → flat (slice_set xs b y) ≡ flat (take b xs) ++ (y.items ++ flat (drop (suc b) xs))
+  pub flat_set : (xs : List (List (ℕ × V))) (b : ℕ) (x y : List (ℕ × V)) → Some x ≡ slice_get xs b → flat (slice_set xs b y) ≡ flat (take b xs) ++ (y ++ flat (drop (suc b) xs))
   flat_set [] b x y h = absurd (let bad : Some x ≡ None = h in cc)
   flat_set (z ∷ xs) zero x y h = refl
-  flat_set (z ∷ xs) (suc b) x y h = ap (λ (es : List (ℕ × V)). z.items ++ es) (flat_set xs b x y h) ∙ sym (append_assoc z.items (flat (take b xs)) (y.items ++ flat (drop (suc b) xs)))
+  flat_set (z ∷ xs) (suc b) x y h = ap (λ (es : List (ℕ × V)). z ++ es) (flat_set xs b x y h) ∙ sym (append_assoc z (flat (take b xs)) (y ++ flat (drop (suc b) xs)))
 
-  pub flat_gone : (xs : List (Vec (ℕ × V))) (b : ℕ) (y : Vec (ℕ × V)) → Some y ≡ slice_get xs b → y.items ≡ [] → flat (remove xs b) ≡ flat xs
+  pub flat_gone : (xs : List (List (ℕ × V))) (b : ℕ) (y : List (ℕ × V)) → Some y ≡ slice_get xs b → y ≡ [] → flat (remove xs b) ≡ flat xs
   flat_gone [] b y h e = absurd (let bad : Some y ≡ None = h in cc)
-  flat_gone (z ∷ xs) zero y h e = let same : y ≡ z = cc in let none : z.items ≡ [] = ap (λ (w : Vec (ℕ × V)). w.items) (sym same) ∙ e in ap (λ (es : List (ℕ × V)). es ++ flat xs) (sym none)
-  flat_gone (z ∷ xs) (suc b) y h e = ap (λ (es : List (ℕ × V)). z.items ++ es) (flat_gone xs b y h e)
+  flat_gone (z ∷ xs) zero y h e = let same : y ≡ z = cc in let none : z ≡ [] = (sym same) ∙ e in ap (λ (es : List (ℕ × V)). es ++ flat xs) (sym none)
+  flat_gone (z ∷ xs) (suc b) y h e = ap (λ (es : List (ℕ × V)). z ++ es) (flat_gone xs b y h e)
 
-  pub flat_halved : (xs : List (Vec (ℕ × V))) (b : ℕ) (x l u : Vec (ℕ × V)) → Some x ≡ slice_get xs b → x.items ≡ l.items ++ u.items → flat (insert (slice_set xs b l) (suc b) u) ≡ flat xs
+  pub flat_halved : (xs : List (List (ℕ × V))) (b : ℕ) (x l u : List (ℕ × V)) → Some x ≡ slice_get xs b → x ≡ l ++ u → flat (insert (slice_set xs b l) (suc b) u) ≡ flat xs
   flat_halved [] b x l u h e = absurd (let bad : Some x ≡ None = h in cc)
   flat_halved (z ∷ xs) zero x l u h e =
       let same : x ≡ z = cc in
-      sym (append_assoc l.items u.items (flat xs)) ∙ ap (λ (es : List (ℕ × V)). es ++ flat xs) (sym e ∙ ap (λ (w : Vec (ℕ × V)). w.items) same)
-  flat_halved (z ∷ xs) (suc b) x l u h e = ap (λ (es : List (ℕ × V)). z.items ++ es) (flat_halved xs b x l u h e)
+      sym (append_assoc l u (flat xs)) ∙ ap (λ (es : List (ℕ × V)). es ++ flat xs) (sym e ∙ same)
+  flat_halved (z ∷ xs) (suc b) x l u h e = ap (λ (es : List (ℕ × V)). z ++ es) (flat_halved xs b x l u h e)
 
-  pub flat_merged : (xs : List (Vec (ℕ × V))) (j : ℕ) (p q z : Vec (ℕ × V)) → Some p ≡ slice_get xs j → Some q ≡ slice_get xs (suc j) → z.items ≡ p.items ++ q.items → flat (slice_set (remove xs (suc j)) j z) ≡ flat xs
+  pub flat_merged : (xs : List (List (ℕ × V))) (j : ℕ) (p q z : List (ℕ × V)) → Some p ≡ slice_get xs j → Some q ≡ slice_get xs (suc j) → z ≡ p ++ q → flat (slice_set (remove xs (suc j)) j z) ≡ flat xs
   flat_merged [] j p q z f g e = absurd (let bad : Some p ≡ None = f in cc)
   flat_merged (x ∷ []) zero p q z f g e = absurd (let bad : Some q ≡ None = g in cc)
   flat_merged (x ∷ y ∷ xs) zero p q z f g e =
       let one : p ≡ x = cc in let two : q ≡ y = cc in
-      ap (λ (es : List (ℕ × V)). es ++ flat xs) (e ∙ ap (λ (w : Vec (ℕ × V)). w.items ++ q.items) one ∙ ap (λ (w : Vec (ℕ × V)). x.items ++ w.items) two) ∙ append_assoc x.items y.items (flat xs)
-  flat_merged (x ∷ xs) (suc j) p q z f g e = ap (λ (es : List (ℕ × V)). x.items ++ es) (flat_merged xs j p q z f g e)
+      ap (λ (es : List (ℕ × V)). es ++ flat xs) (e ∙ ap (λ (w : List (ℕ × V)). w ++ q) one ∙ ap (λ (w : List (ℕ × V)). x ++ w) two) ∙ append_assoc x y (flat xs)
+  flat_merged (x ∷ xs) (suc j) p q z f g e = ap (λ (es : List (ℕ × V)). x ++ es) (flat_merged xs j p q z f g e)

@@ -3,10 +3,9 @@ use Rattle.std.proofs.Common.{get_or, cond, ◌≡◌, ◌≢◌, ℕ, zero, suc
 use Rattle.std.proofs.lemmas.Option.{slice_get_read}
 use Rattle.std.proofs.lemmas.List.{take-append-drop}
 use Rattle.std.proofs.lemmas.Bool.Decides.{nat_tests}
-use Rattle.std.specs.Prelude.{nat_lt, vec_capacity}
+use Rattle.std.specs.Prelude.{nat_lt}
 use Rattle.std.specs.List.{slice_get}
-use Rattle.std.specs.Global.{Vec}
-use Rattle.krl_blocks.specs.Laid.{KeysAbove, KeysRise, AreBelow, AreFrom, NoKey, IsInserted, IsRemoved, IsChanged, IsOneOther, HasEntry, last_key}
+use Rattle.krl_blocks.specs.Laid.{KeysAbove, KeysRise, AreBelow, AreFrom, NoKey, IsInserted, IsRemoved, IsChanged, HasEntry, last_key}
 use Rattle.krl_blocks.proofs.Places.{all_join}
 
 pub was_below : (n p : ℕ) → nat_lt n p ≡ true → n < p
@@ -25,15 +24,8 @@ put_is {V = V} es ds fs i k v e f g h = record {
   from = subst (λ (zs : List (ℕ × V)). AreFrom k (drop i zs)) e g;
 }
 
-pub other_is : {V : Type 0} (xs : List (Vec (ℕ × V))) (b : ℕ) (How : Vec (ℕ × V) → Vec (ℕ × V) → Type 0) (x y : Vec (ℕ × V)) → b < length xs → x ≡ get_or xs b x → vec_capacity x ≤ vec_capacity y → How x y → IsOneOther xs (slice_set xs b y) b How
-other_is xs b How x y lt is room how = record {
-  block = x;
-  other = y;
-  there = sym (slice_get_read xs (length xs) b x refl lt is);
-  new = refl;
-  room = room;
-  how = how;
-}
+pub was_within : {X : Type 0} (i : ℕ) (xs : List X) → true ≡ nat_lt i (length xs) → i < length xs
+was_within i xs e = was_below i (length xs) (sym e)
 
 pub below_none : {V : Type 0} (k : ℕ) (es : List (ℕ × V)) → AreBelow k es → NoKey k es
 below_none k [] h = tt
@@ -81,20 +73,15 @@ module _ {V : Type 0} (es ds : List (ℕ × V)) (i k : ℕ) (e : ds ≡ es) (f :
     pub there : Some x ≡ slice_get es i
     there = sym (slice_get_read gs (length gs) i x refl (was_below i (length gs) (sym lt)) is) ∙ ap (λ (zs : List (ℕ × V)). slice_get zs i) j
 
-    pub taken_is : (fs : List (ℕ × V)) (p : ℕ × V) → x.0 ≡ k → p ≡ get_or es i p → fs ≡ take i es ++ drop (suc i) es → IsRemoved es fs k p.1
-    taken_is fs p same value new =
-        let len : i < length es = subst (λ (zs : List (ℕ × V)). i < length zs) j (was_below i (length gs) (sym lt)) in
-        let at : Some p ≡ slice_get es i = sym (slice_get_read es (length es) i p refl len value) in
-        let two : Some p ≡ Some x = at ∙ sym there in
-        let both : p ≡ x = cc in
-        let key : p.0 ≡ k = ap (λ (z : ℕ × V). z.0) both ∙ same in
+    pub taken_is : (fs : List (ℕ × V)) (v : V) → x.0 ≡ k → v ≡ x.1 → fs ≡ take i es ++ drop (suc i) es → IsRemoved es fs k v
+    taken_is fs v same value new =
         record {
           front = take i es;
           back = drop (suc i) es;
-          old = cut_there es i p at ∙ ap (λ (n : ℕ). take i es ++ (n, p.1) ∷ drop (suc i) es) key;
+          old = cut_there es i x there ∙ ap (λ (n : ℕ). take i es ++ (n, x.1) ∷ drop (suc i) es) same ∙ ap (λ (u : V). take i es ++ (k, u) ∷ drop (suc i) es) (sym value);
           new = new;
           below = low;
-          from = (subst (AreFrom k) (drop_there es i p at) high).1;
+          from = (subst (AreFrom k) (drop_there es i x there) high).1;
         }
 
     pub changed_is : (fs : List (ℕ × V)) (v was : V) → x.0 ≡ k → was ≡ x.1 → fs ≡ slice_set es i (k, v) → IsChanged es fs k v was
@@ -140,10 +127,10 @@ last_cut {V = V} es half e some within is =
 pub read_at : {X : Type 0} (xs ys : List X) (b : ℕ) (x : X) → b < length ys → ys ≡ xs → x ≡ get_or ys b x → Some x ≡ slice_get xs b
 read_at {X = X} xs ys b x lt e is = sym (slice_get_read ys (length ys) b x refl lt is) ∙ ap (λ (zs : List X). slice_get zs b) e
 
-pub same_at : {V : Type 0} (xs ys : List (Vec (ℕ × V))) (b : ℕ) (x y : Vec (ℕ × V)) → b < length xs → ys ≡ xs → x ≡ get_or xs b x → y ≡ get_or ys b y → y ≡ x
+pub same_at : {V : Type 0} (xs ys : List (List (ℕ × V))) (b : ℕ) (x y : List (ℕ × V)) → b < length xs → ys ≡ xs → x ≡ get_or xs b x → y ≡ get_or ys b y → y ≡ x
 same_at {V = V} xs ys b x y lt e f g =
     let one = slice_get_read xs (length xs) b x refl lt f in
-    let two = slice_get_read xs (length xs) b y refl lt (g ∙ ap (λ (zs : List (Vec (ℕ × V))). get_or zs b y) e) in
+    let two = slice_get_read xs (length xs) b y refl lt (g ∙ ap (λ (zs : List (List (ℕ × V))). get_or zs b y) e) in
     let both : Some y ≡ Some x = sym two ∙ one in cc
 
 pub chosen : {X : Type 0} (b : Bool) (x y : X) → b ≡ true → cond b x y ≡ x

@@ -7,3 +7,7 @@ pub mod Thick
 pub mod Laying
 pub mod Kept
 pub mod Readings
+pub mod Apart
+pub mod Shelving
+pub mod Storing
+pub mod Changing

@@ -1,12 +1,11 @@
 -- Where a point stands among the blocks.
-use Rattle.std.proofs.Common.{get_or, ◌≡◌, ℕ, zero, suc, ◌-◌, ◌≤◌, ◌<◌, true, false, List, [], ◌∷◌, ◌++◌, length, take, drop, Option, Some, None, refl, sym, ap, subst, ◌∙◌, arith}
-use Rattle.std.proofs.lemmas.Option.{slice_get_past, slice_get_read}
+use Rattle.std.proofs.Common.{◌≡◌, ℕ, zero, suc, ◌-◌, ◌≤◌, ◌<◌, true, false, List, [], ◌∷◌, ◌++◌, length, take, drop, Option, Some, None, refl, sym, ap, subst, ◌∙◌, arith}
+use Rattle.std.proofs.lemmas.Option.{slice_get_past}
 use Rattle.std.proofs.lemmas.List.{take-append-drop, append-nil, append_assoc}
 use Rattle.std.proofs.lemmas.Bool.Decides.{nat_tests}
 use Rattle.std.specs.Prelude.{nat_lt, slice_index_or}
 use Rattle.std.specs.List.{AllByRecursion, AllWithin, slice_get}
 use Rattle.std.specs.List.Sorted.{IsPartitionedBy}
-use Rattle.std.specs.Global.{Vec}
 use Rattle.krl_blocks.specs.Laid.{flat, Above, Rises, KeysAbove, KeysRise, EndsAfter, EndsAt, IsLaid, LaidTo, AreBelow, AreFrom, last_key, IsFound}
 
 -- Lists that rise
@@ -86,23 +85,23 @@ above_less : (j k : ℕ) (ns : List ℕ) → j ≤ k → Above k ns → Above j 
 above_less j k [] le h = tt
 above_less j k (n ∷ ns) le h = (omega (arith, le, h.0), above_less j k ns le h.1)
 
-laid_above : {V : Type 0} (t : ℕ) (ts : List ℕ) (xs : List (Vec (ℕ × V))) → IsLaid (suc t) ts xs → Above t ts
+laid_above : {V : Type 0} (t : ℕ) (ts : List ℕ) (xs : List (List (ℕ × V))) → IsLaid (suc t) ts xs → Above t ts
 laid_above t [] xs h = tt
 laid_above t (u ∷ ts) [] h = absurd h
-laid_above t (u ∷ ts) (x ∷ xs) h = let lt = ends_top (suc t) x.items u h.0 in (omega (arith, lt), above_less t u ts (omega (arith, lt)) (laid_above u ts xs h.1))
+laid_above t (u ∷ ts) (x ∷ xs) h = let lt = ends_top (suc t) x u h.0 in (omega (arith, lt), above_less t u ts (omega (arith, lt)) (laid_above u ts xs h.1))
 
-pub laid_rise : {V : Type 0} (low : ℕ) (ts : List ℕ) (xs : List (Vec (ℕ × V))) → IsLaid low ts xs → Rises ts
+pub laid_rise : {V : Type 0} (low : ℕ) (ts : List ℕ) (xs : List (List (ℕ × V))) → IsLaid low ts xs → Rises ts
 laid_rise low [] xs h = tt
 laid_rise low (t ∷ ts) [] h = absurd h
 laid_rise low (t ∷ ts) (x ∷ xs) h = (laid_above t ts xs h.1, laid_rise (suc t) ts xs h.1)
 
 -- The block of a point
 
-pub laid_less : {V : Type 0} (j k : ℕ) (ts : List ℕ) (xs : List (Vec (ℕ × V))) → j ≤ k → IsLaid k ts xs → IsLaid j ts xs
+pub laid_less : {V : Type 0} (j k : ℕ) (ts : List ℕ) (xs : List (List (ℕ × V))) → j ≤ k → IsLaid k ts xs → IsLaid j ts xs
 laid_less j k [] [] le h = tt
 laid_less j k [] (x ∷ xs) le h = absurd h
 laid_less j k (t ∷ ts) [] le h = absurd h
-laid_less {V = V} j k (t ∷ ts) (x ∷ xs) le h = (ends_less x.items h.0, h.1)
+laid_less {V = V} j k (t ∷ ts) (x ∷ xs) le h = (ends_less x h.0, h.1)
   where
     ends_less : (es : List (ℕ × V)) → EndsAt k es t → EndsAt j es t
     ends_less [] g = absurd g
@@ -140,12 +139,12 @@ pub all_join : {X : Type 0} (P : X → Type 0) (xs ys : List X) → AllByRecursi
 all_join P [] ys a b = b
 all_join P (x ∷ xs) ys a b = (a.0, all_join P xs ys a.1 b)
 
-laid_from : {V : Type 0} (p low : ℕ) (ts : List ℕ) (xs : List (Vec (ℕ × V))) → IsLaid low ts xs → p ≤ low → AreFrom p (flat xs)
+laid_from : {V : Type 0} (p low : ℕ) (ts : List ℕ) (xs : List (List (ℕ × V))) → IsLaid low ts xs → p ≤ low → AreFrom p (flat xs)
 laid_from p low [] [] h le = tt
 laid_from p low [] (x ∷ xs) h le = absurd h
 laid_from p low (t ∷ ts) [] h le = absurd h
 laid_from p low (t ∷ ts) (x ∷ xs) h le =
-    all_join (λ e. nat_lt e.0 p ≡ false) x.items (flat xs) (ends_from p low x.items t h.0 le) (laid_from p (suc t) ts xs h.1 (omega (arith, le, ends_top low x.items t h.0)))
+    all_join (λ e. nat_lt e.0 p ≡ false) x (flat xs) (ends_from p low x t h.0 le) (laid_from p (suc t) ts xs h.1 (omega (arith, le, ends_top low x t h.0)))
 
 -- the last number, or this where there is none
 abbrev pub last_of : Option ℕ → List ℕ → Option ℕ
@@ -166,42 +165,42 @@ ends_last o low (e ∷ es) t h = after_last e.0 es t h.1
 
 -- x is the block at b, and the blocks before it lie below p, those behind it not; its keys rise from
 -- low on up to top, which is not below p
-pub record IsAt {V : Type 0} (p : ℕ) (o : Option ℕ) (least : ℕ) (ts : List ℕ) (xs : List (Vec (ℕ × V))) (b : ℕ) (x : Vec (ℕ × V)) : Type 0 where
+pub record IsAt {V : Type 0} (p : ℕ) (o : Option ℕ) (least : ℕ) (ts : List ℕ) (xs : List (List (ℕ × V))) (b : ℕ) (x : List (ℕ × V)) : Type 0 where
   pub front : List (ℕ × V)
   pub rest : List (ℕ × V)
   pub front_is : front ≡ flat (take b xs)
   pub rest_is : rest ≡ flat (drop (suc b) xs)
-  pub whole : flat xs ≡ front ++ (x.items ++ rest)
+  pub whole : flat xs ≡ front ++ (x ++ rest)
   pub below : AreBelow p front
   pub from : AreFrom p rest
   pub last : last_of o (take b ts) ≡ last_key o front
   pub low : ℕ
   pub top : ℕ
-  pub ends : EndsAt low x.items top
+  pub ends : EndsAt low x top
   pub start : low ≤ p
   pub far : p ≤ top
   pub past : AreFrom (suc p) rest
   pub top_is : Some top ≡ slice_get ts b
   -- and other blocks in its place are laid with the others
-  pub again : (us : List ℕ) (ys : List (Vec (ℕ × V))) → LaidTo low us ys top → IsLaid least (take b ts ++ (us ++ drop (suc b) ts)) (take b xs ++ (ys ++ drop (suc b) xs)) × (flat (take b xs ++ (ys ++ drop (suc b) xs)) ≡ front ++ (flat ys ++ rest))
+  pub again : (us : List ℕ) (ys : List (List (ℕ × V))) → LaidTo low us ys top → IsLaid least (take b ts ++ (us ++ drop (suc b) ts)) (take b xs ++ (ys ++ drop (suc b) xs)) × (flat (take b xs ++ (ys ++ drop (suc b) xs)) ≡ front ++ (flat ys ++ rest))
 
-laid_on : {V : Type 0} (low top : ℕ) (us : List ℕ) (ys : List (Vec (ℕ × V))) (ts : List ℕ) (xs : List (Vec (ℕ × V))) → LaidTo low us ys top → IsLaid (suc top) ts xs → IsLaid low (us ++ ts) (ys ++ xs)
+laid_on : {V : Type 0} (low top : ℕ) (us : List ℕ) (ys : List (List (ℕ × V))) (ts : List ℕ) (xs : List (List (ℕ × V))) → LaidTo low us ys top → IsLaid (suc top) ts xs → IsLaid low (us ++ ts) (ys ++ xs)
 laid_on low top [] [] ts xs h g = laid_less low (suc top) ts xs h g
 laid_on low top [] (y ∷ ys) ts xs h g = absurd h
 laid_on low top (u ∷ us) [] ts xs h g = absurd h
 laid_on low top (u ∷ us) (y ∷ ys) ts xs h g = (h.0, laid_on (suc u) top us ys ts xs h.1 g)
 
-pub flat_join : {V : Type 0} (xs ys : List (Vec (ℕ × V))) → flat (xs ++ ys) ≡ flat xs ++ flat ys
+pub flat_join : {V : Type 0} (xs ys : List (List (ℕ × V))) → flat (xs ++ ys) ≡ flat xs ++ flat ys
 flat_join [] ys = refl
-flat_join {V = V} (x ∷ xs) ys = ap (λ (es : List (ℕ × V)). x.items ++ es) (flat_join xs ys) ∙ sym (append_assoc x.items (flat xs) (flat ys))
+flat_join {V = V} (x ∷ xs) ys = ap (λ (es : List (ℕ × V)). x ++ es) (flat_join xs ys) ∙ sym (append_assoc x (flat xs) (flat ys))
 
-pub at_block : {V : Type 0} (p : ℕ) (o : Option ℕ) (low : ℕ) (ts : List ℕ) (xs : List (Vec (ℕ × V))) (b : ℕ) (x : Vec (ℕ × V)) → low ≤ p → IsLaid low ts xs → AllByRecursion (λ t. nat_lt t p ≡ true) (take b ts) → AllByRecursion (λ t. nat_lt t p ≡ false) (drop b ts) → Some x ≡ slice_get xs b → IsAt p o low ts xs b x
+pub at_block : {V : Type 0} (p : ℕ) (o : Option ℕ) (low : ℕ) (ts : List ℕ) (xs : List (List (ℕ × V))) (b : ℕ) (x : List (ℕ × V)) → low ≤ p → IsLaid low ts xs → AllByRecursion (λ t. nat_lt t p ≡ true) (take b ts) → AllByRecursion (λ t. nat_lt t p ≡ false) (drop b ts) → Some x ≡ slice_get xs b → IsAt p o low ts xs b x
 at_block p o low [] [] b x le h f g e = absurd (let bad : Some x ≡ None = e in cc)
 at_block p o low [] (y ∷ ys) b x le h f g e = absurd h
 at_block p o low (t ∷ ts) [] b x le h f g e = absurd h
 at_block {V = V} p o low (t ∷ ts) (y ∷ ys) zero x le h f g e =
     let same : x ≡ y = cc in
-    subst (λ (z : Vec (ℕ × V)). IsAt p o low (t ∷ ts) (y ∷ ys) 0 z) (sym same)
+    subst (λ (z : List (ℕ × V)). IsAt p o low (t ∷ ts) (y ∷ ys) 0 z) (sym same)
     (record {
       front = [];
       rest = flat ys;
@@ -224,14 +223,14 @@ at_block {V = V} p o low (t ∷ ts) (y ∷ ys) (suc b) x le h f g e =
     let lt = was_below t p f.0 in
     let ih = at_block p (Some t) (suc t) ts ys b x (omega (arith, lt)) h.1 f.1 g e in
     record {
-      front = y.items ++ ih.front;
+      front = y ++ ih.front;
       rest = ih.rest;
-      front_is = ap (λ (es : List (ℕ × V)). y.items ++ es) ih.front_is;
+      front_is = ap (λ (es : List (ℕ × V)). y ++ es) ih.front_is;
       rest_is = ih.rest_is;
-      whole = ap (λ (es : List (ℕ × V)). y.items ++ es) ih.whole ∙ sym (append_assoc y.items ih.front (x.items ++ ih.rest));
-      below = all_join (λ e. nat_lt e.0 p ≡ true) y.items ih.front (ends_below p low y.items t h.0 lt) ih.below;
+      whole = ap (λ (es : List (ℕ × V)). y ++ es) ih.whole ∙ sym (append_assoc y ih.front (x ++ ih.rest));
+      below = all_join (λ e. nat_lt e.0 p ≡ true) y ih.front (ends_below p low y t h.0 lt) ih.below;
       from = ih.from;
-      last = ih.last ∙ sym (last_join o y.items ih.front ∙ ap (λ (u : Option ℕ). last_key u ih.front) (ends_last o low y.items t h.0));
+      last = ih.last ∙ sym (last_join o y ih.front ∙ ap (λ (u : Option ℕ). last_key u ih.front) (ends_last o low y t h.0));
       low = ih.low;
       top = ih.top;
       ends = ih.ends;
@@ -239,15 +238,15 @@ at_block {V = V} p o low (t ∷ ts) (y ∷ ys) (suc b) x le h f g e =
       far = ih.far;
       past = ih.past;
       top_is = ih.top_is;
-      again = λ us zs k. let x = ih.again us zs k in ((h.0, x.0), ap (λ (es : List (ℕ × V)). y.items ++ es) x.1 ∙ sym (append_assoc y.items ih.front (flat zs ++ ih.rest)));
+      again = λ us zs k. let x = ih.again us zs k in ((h.0, x.0), ap (λ (es : List (ℕ × V)). y ++ es) x.1 ∙ sym (append_assoc y ih.front (flat zs ++ ih.rest)));
     }
 
 -- p lies above all blocks
-pub record IsPast {V : Type 0} (p : ℕ) (o : Option ℕ) (ts : List ℕ) (xs : List (Vec (ℕ × V))) (b : ℕ) : Type 0 where
+pub record IsPast {V : Type 0} (p : ℕ) (o : Option ℕ) (ts : List ℕ) (xs : List (List (ℕ × V))) (b : ℕ) : Type 0 where
   pub below : AreBelow p (flat xs)
   pub last : last_of o (take b ts) ≡ last_key o (flat xs)
 
-pub past_blocks : {V : Type 0} (p : ℕ) (o : Option ℕ) (low : ℕ) (ts : List ℕ) (xs : List (Vec (ℕ × V))) (b : ℕ) → IsLaid low ts xs → AllByRecursion (λ t. nat_lt t p ≡ true) (take b ts) → None ≡ slice_get xs b → IsPast p o ts xs b
+pub past_blocks : {V : Type 0} (p : ℕ) (o : Option ℕ) (low : ℕ) (ts : List ℕ) (xs : List (List (ℕ × V))) (b : ℕ) → IsLaid low ts xs → AllByRecursion (λ t. nat_lt t p ≡ true) (take b ts) → None ≡ slice_get xs b → IsPast p o ts xs b
 past_blocks p o low [] [] zero h f e = record { below = tt; last = refl }
 past_blocks p o low [] [] (suc b) h f e = record { below = tt; last = refl }
 past_blocks p o low [] (y ∷ ys) b h f e = absurd h
@@ -256,8 +255,8 @@ past_blocks p o low (t ∷ ts) (y ∷ ys) zero h f e = absurd (let bad : None �
 past_blocks p o low (t ∷ ts) (y ∷ ys) (suc b) h f e =
     let ih = past_blocks p (Some t) (suc t) ts ys b h.1 f.1 e in
     record {
-      below = all_join (λ e. nat_lt e.0 p ≡ true) y.items (flat ys) (ends_below p low y.items t h.0 (was_below t p f.0)) ih.below;
-      last = ih.last ∙ sym (last_join o y.items (flat ys) ∙ ap (λ (u : Option ℕ). last_key u (flat ys)) (ends_last o low y.items t h.0));
+      below = all_join (λ e. nat_lt e.0 p ≡ true) y (flat ys) (ends_below p low y t h.0 (was_below t p f.0)) ih.below;
+      last = ih.last ∙ sym (last_join o y (flat ys) ∙ ap (λ (u : Option ℕ). last_key u (flat ys)) (ends_last o low y t h.0));
     }
 
 one_less : {X : Type 0} (n : X) (ns : List X) → length (n ∷ ns) - 1 ≡ length ns
@@ -297,38 +296,38 @@ ends_not_below : {V : Type 0} (p low : ℕ) (es : List (ℕ × V)) (t : ℕ) →
 ends_not_below p low [] t h le b = h
 ends_not_below p low (e ∷ es) t h le b = after_not_below p e.0 es t h.1 le (was_below e.0 p b.0) b.1
 
-module _ {V : Type 0} (p : ℕ) (ts : List ℕ) (xs : List (Vec (ℕ × V))) (b : ℕ) (x : Vec (ℕ × V)) (at : IsAt p None 0 ts xs b x) (i : ℕ) (f : AreBelow p (take i x.items)) (g : AreFrom p (drop i x.items)) where
-  whole_cut : flat xs ≡ (at.front ++ take i x.items) ++ (drop i x.items ++ at.rest)
+module _ {V : Type 0} (p : ℕ) (ts : List ℕ) (xs : List (List (ℕ × V))) (b : ℕ) (x : List (ℕ × V)) (at : IsAt p None 0 ts xs b x) (i : ℕ) (f : AreBelow p (take i x)) (g : AreFrom p (drop i x)) where
+  whole_cut : flat xs ≡ (at.front ++ take i x) ++ (drop i x ++ at.rest)
   whole_cut =
       at.whole
-      ∙ ap (λ (es : List (ℕ × V)). at.front ++ (es ++ at.rest)) (sym (take-append-drop i x.items))
-      ∙ ap (λ (es : List (ℕ × V)). at.front ++ es) (append_assoc (take i x.items) (drop i x.items) at.rest)
-      ∙ sym (append_assoc at.front (take i x.items) (drop i x.items ++ at.rest))
+      ∙ ap (λ (es : List (ℕ × V)). at.front ++ (es ++ at.rest)) (sym (take-append-drop i x))
+      ∙ ap (λ (es : List (ℕ × V)). at.front ++ es) (append_assoc (take i x) (drop i x) at.rest)
+      ∙ sym (append_assoc at.front (take i x) (drop i x ++ at.rest))
 
-  not_none : drop i x.items ≡ [] → ⊥
+  not_none : drop i x ≡ [] → ⊥
   not_none e =
-      ends_not_below p at.low x.items at.top at.ends at.far
-      (subst (λ (es : List (ℕ × V)). AreBelow p es) (sym (append-nil (take i x.items)) ∙ ap (λ (es : List (ℕ × V)). take i x.items ++ es) (sym e) ∙ take-append-drop i x.items) f)
+      ends_not_below p at.low x at.top at.ends at.far
+      (subst (λ (es : List (ℕ × V)). AreBelow p es) (sym (append-nil (take i x)) ∙ ap (λ (es : List (ℕ × V)). take i x ++ es) (sym e) ∙ take-append-drop i x) f)
 
   -- with a key below p in the block or none
-  pub found : (before : Option ℕ) → before ≡ last_key (last_key None at.front) (take i x.items) → IsFound (flat xs) p before (drop i x.items)
+  pub found : (before : Option ℕ) → before ≡ last_key (last_key None at.front) (take i x) → IsFound (flat xs) p before (drop i x)
   found before h = record {
-    front = at.front ++ take i x.items;
+    front = at.front ++ take i x;
     rest = at.rest;
     whole = whole_cut;
-    below = all_join (λ e. nat_lt e.0 p ≡ true) at.front (take i x.items) at.below f;
-    from = all_join (λ e. nat_lt e.0 p ≡ false) (drop i x.items) at.rest g at.from;
-    last = h ∙ sym (last_join None at.front (take i x.items));
+    below = all_join (λ e. nat_lt e.0 p ≡ true) at.front (take i x) at.below f;
+    from = all_join (λ e. nat_lt e.0 p ≡ false) (drop i x) at.rest g at.from;
+    last = h ∙ sym (last_join None at.front (take i x));
     some = λ e. absurd (not_none e);
   }
 
-  pub found_first : (before : Option ℕ) → before ≡ last_of None (take b ts) → None ≡ slice_get (take i x.items) (length (take i x.items) - 1) → IsFound (flat xs) p before (drop i x.items)
-  found_first before h none = found before (h ∙ at.last ∙ ap (λ (es : List (ℕ × V)). last_key (last_key None at.front) es) (sym (none_read (take i x.items) none)))
+  pub found_first : (before : Option ℕ) → before ≡ last_of None (take b ts) → None ≡ slice_get (take i x) (length (take i x) - 1) → IsFound (flat xs) p before (drop i x)
+  found_first before h none = found before (h ∙ at.last ∙ ap (λ (es : List (ℕ × V)). last_key (last_key None at.front) es) (sym (none_read (take i x) none)))
 
-  pub found_inside : (e : ℕ × V) → Some e ≡ slice_get (take i x.items) (length (take i x.items) - 1) → IsFound (flat xs) p (Some e.0) (drop i x.items)
-  found_inside e h = found (Some e.0) (sym (key_is (last_key None at.front) (take i x.items) e h))
+  pub found_inside : (e : ℕ × V) → Some e ≡ slice_get (take i x) (length (take i x) - 1) → IsFound (flat xs) p (Some e.0) (drop i x)
+  found_inside e h = found (Some e.0) (sym (key_is (last_key None at.front) (take i x) e h))
 
-pub found_past : {V : Type 0} (p : ℕ) (ts : List ℕ) (xs : List (Vec (ℕ × V))) (b : ℕ) → IsPast p None ts xs b → (before : Option ℕ) → before ≡ last_of None (take b ts) → IsFound (flat xs) p before []
+pub found_past : {V : Type 0} (p : ℕ) (ts : List ℕ) (xs : List (List (ℕ × V))) (b : ℕ) → IsPast p None ts xs b → (before : Option ℕ) → before ≡ last_of None (take b ts) → IsFound (flat xs) p before []
 found_past p ts xs b past before h = record {
   front = flat xs;
   rest = [];
@@ -344,39 +343,33 @@ found_past p ts xs b past before h = record {
 all_same : {X : Type 0} (P : X → Type 0) (xs ys : List X) → xs ≡ ys → AllByRecursion P xs → AllByRecursion P ys
 all_same P xs ys e h = subst (λ (zs : List _). AllByRecursion P zs) e h
 
-module _ {V : Type 0} (p : ℕ) (ts tops : List ℕ) (xs bs : List (Vec (ℕ × V))) (b : ℕ) (laid : IsLaid 0 ts xs) (e : tops ≡ ts) (f : bs ≡ xs) (below : AllByRecursion (λ t. nat_lt t p ≡ true) (take b tops)) (from : AllByRecursion (λ t. nat_lt t p ≡ false) (drop b tops)) where
-  pub block_at : (x : Vec (ℕ × V)) → true ≡ nat_lt b (length bs) → x ≡ get_or bs b x → IsAt p None 0 ts xs b x
-  block_at x lt is =
+module _ {V : Type 0} (p : ℕ) (ts tops : List ℕ) (xs : List (List (ℕ × V))) (b : ℕ) (laid : IsLaid 0 ts xs) (e : tops ≡ ts) (below : AllByRecursion (λ t. nat_lt t p ≡ true) (take b tops)) (from : AllByRecursion (λ t. nat_lt t p ≡ false) (drop b tops)) where
+  pub block_at : (x : List (ℕ × V)) → Some x ≡ slice_get xs b → IsAt p None 0 ts xs b x
+  block_at x there =
       at_block p None 0 ts xs b x (omega arith) laid
       (subst (λ (ns : List ℕ). AllByRecursion (λ t. nat_lt t p ≡ true) (take b ns)) e below)
       (subst (λ (ns : List ℕ). AllByRecursion (λ t. nat_lt t p ≡ false) (drop b ns)) e from)
-      (sym (slice_get_read bs (length bs) b x refl (was_below b (length bs) (sym lt)) is) ∙ ap (λ (ys : List (Vec (ℕ × V))). slice_get ys b) f)
+      there
 
   last_before : (front : List ℕ) (o : Option ℕ) → front ≡ take b tops → o ≡ slice_get front (length front - 1) → o ≡ last_of None (take b ts)
   last_before front o g h = h ∙ last_is front ∙ ap (last_of None) (g ∙ ap (take b) e)
 
-  pub found_none : (front : List ℕ) (o : Option ℕ) → front ≡ take b tops → o ≡ slice_get front (length front - 1) → false ≡ nat_lt b (length bs) → IsFound (flat xs) p o []
+  pub found_none : (front : List ℕ) (o : Option ℕ) → front ≡ take b tops → o ≡ slice_get front (length front - 1) → length xs ≤ b → IsFound (flat xs) p o []
   found_none front o g h far =
       found_past p ts xs b
       (past_blocks p None 0 ts xs b laid (subst (λ (ns : List ℕ). AllByRecursion (λ t. nat_lt t p ≡ true) (take b ns)) e below)
-      (sym (slice_get_past xs b (subst (λ (ys : List (Vec (ℕ × V))). length ys ≤ b) f (was_from b (length bs) (sym far))))))
+      (sym (slice_get_past xs b far)))
       o (last_before front o g h)
 
-  module _ (x : Vec (ℕ × V)) (lt : true ≡ nat_lt b (length bs)) (is : x ≡ get_or bs b x) (i : ℕ) (es front back : List (ℕ × V)) (entries : es ≡ x.items) (fronts : front ≡ take i es) (backs : back ≡ drop i es) (low : AreBelow p (take i es)) (high : AreFrom p (drop i es)) where
-    the_low : AreBelow p (take i x.items)
-    the_low = subst (λ (zs : List (ℕ × V)). AreBelow p (take i zs)) entries low
-
-    the_high : AreFrom p (drop i x.items)
-    the_high = subst (λ (zs : List (ℕ × V)). AreFrom p (drop i zs)) entries high
-
+  module _ (x : List (ℕ × V)) (there : Some x ≡ slice_get xs b) (i : ℕ) (front back : List (ℕ × V)) (fronts : front ≡ take i x) (backs : back ≡ drop i x) (low : AreBelow p (take i x)) (high : AreFrom p (drop i x)) where
     pub found_low : (tops_front : List ℕ) (o : Option ℕ) → tops_front ≡ take b tops → o ≡ slice_get tops_front (length tops_front - 1) → None ≡ slice_get front (length front - 1) → IsFound (flat xs) p o back
     found_low tops_front o g h none =
-        subst (λ (run : List (ℕ × V)). IsFound (flat xs) p o run) (sym (backs ∙ ap (drop i) entries))
-        (found_first p ts xs b x (block_at x lt is) i the_low the_high o (last_before tops_front o g h)
-        (subst (λ (zs : List (ℕ × V)). None ≡ slice_get zs (length zs - 1)) (fronts ∙ ap (take i) entries) none))
+        subst (λ (run : List (ℕ × V)). IsFound (flat xs) p o run) (sym backs)
+        (found_first p ts xs b x (block_at x there) i low high o (last_before tops_front o g h)
+        (subst (λ (zs : List (ℕ × V)). None ≡ slice_get zs (length zs - 1)) fronts none))
 
     pub found_here : (e : ℕ × V) → Some e ≡ slice_get front (length front - 1) → IsFound (flat xs) p (Some e.0) back
     found_here e some =
-        subst (λ (run : List (ℕ × V)). IsFound (flat xs) p (Some e.0) run) (sym (backs ∙ ap (drop i) entries))
-        (found_inside p ts xs b x (block_at x lt is) i the_low the_high e
-        (subst (λ (zs : List (ℕ × V)). Some e ≡ slice_get zs (length zs - 1)) (fronts ∙ ap (take i) entries) some))
+        subst (λ (run : List (ℕ × V)). IsFound (flat xs) p (Some e.0) run) (sym backs)
+        (found_inside p ts xs b x (block_at x there) i low high e
+        (subst (λ (zs : List (ℕ × V)). Some e ≡ slice_get zs (length zs - 1)) fronts some))

@@ -3,9 +3,8 @@ use Rattle.std.proofs.Common.{◌≡◌, ◌≢◌, ℕ, zero, suc, ◌+◌, ◌
 use Rattle.std.specs.Prelude.{nat_lt}
 use Rattle.std.specs.List.{AllByRecursion, slice_get}
 use Rattle.std.proofs.lemmas.List.{append-nil}
-use Rattle.std.specs.Global.{Vec}
 use Rattle.krl_blocks.specs.Laid.{flat, EndsAfter, EndsAt, IsLaid, KeysAbove, KeysRise, NoKey, AreBelow, AreFrom, IsFound, IsInserted}
-use Rattle.krl_blocks.proofs.Places.{all_join, keys_after_less, is_below}
+use Rattle.krl_blocks.proofs.Places.{flat_join, all_join, keys_after_less, is_below}
 use Rattle.krl_blocks.proofs.Edits.{below_none, above_none, was_from}
 
 module _ {V : Type 0} where
@@ -23,13 +22,13 @@ module _ {V : Type 0} where
       let le = h.0 in
       ((λ lt. (omega (arith, lt, le), keys_after_less k e.0 (es ++ fs) (omega (arith, lt, le)) z.0)), z)
 
-  flat_rises : (k low : ℕ) (ts : List ℕ) (xs : List (Vec (ℕ × V))) → IsLaid low ts xs → (k < low → KeysAbove k (flat xs)) × KeysRise (flat xs)
+  flat_rises : (k low : ℕ) (ts : List ℕ) (xs : List (List (ℕ × V))) → IsLaid low ts xs → (k < low → KeysAbove k (flat xs)) × KeysRise (flat xs)
   flat_rises k low [] [] h = ((λ lt. tt), tt)
   flat_rises k low [] (x ∷ xs) h = absurd h
   flat_rises k low (t ∷ ts) [] h = absurd h
-  flat_rises k low (t ∷ ts) (x ∷ xs) h = let z = flat_rises t (suc t) ts xs h.1 in ends_joined k low x.items (flat xs) t h.0 (z.0 (omega arith)) z.1
+  flat_rises k low (t ∷ ts) (x ∷ xs) h = let z = flat_rises t (suc t) ts xs h.1 in ends_joined k low x (flat xs) t h.0 (z.0 (omega arith)) z.1
 
-  pub flat_rise : (ts : List ℕ) (xs : List (Vec (ℕ × V))) → IsLaid 0 ts xs → KeysRise (flat xs)
+  pub flat_rise : (ts : List ℕ) (xs : List (List (ℕ × V))) → IsLaid 0 ts xs → KeysRise (flat xs)
   flat_rise ts xs h = (flat_rises 0 0 ts xs h).1
 
   back_rises : (es fs : List (ℕ × V)) → KeysRise (es ++ fs) → KeysRise fs
@@ -92,3 +91,9 @@ module _ {V : Type 0} where
   inserted_next es fs gs i e h is at put =
       inserted_behind gs fs e.0 e.1 (subst (AreBelow e.0) (sym is) (rise_below es i e h at)) put
       ∙ ap (λ (zs : List (ℕ × V)). zs ++ e ∷ []) is ∙ sym (taken_next es i e at) ∙ ap (λ n. take n es) (sym (add-one i))
+
+-- the entries of one run more
+pub flat_next : {V : Type 0} (xs : List (List (ℕ × V))) (i : ℕ) (x : List (ℕ × V)) → Some x ≡ slice_get xs i → flat (take (i + 1) xs) ≡ flat (take i xs) ++ x
+flat_next {V = V} xs i x e =
+    ap flat (ap (λ (n : ℕ). take n xs) (add-one i) ∙ taken_next xs i x e) ∙ flat_join (take i xs) (x ∷ [])
+    ∙ ap (λ (es : List (ℕ × V)). flat (take i xs) ++ es) (append-nil x)

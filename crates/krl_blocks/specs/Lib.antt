@@ -1,3 +1,5 @@
 pub mod Entries
 pub mod Laid
 pub mod Near
+pub mod Runs
+pub mod Shelves

@@ -1,99 +1,86 @@
-//! One block: entries whose keys rise.
-ghost use Rattle.std.specs.Prelude.{◌≡◌, ◌≤◌, ◌<◌, ◌+◌, length, MatchOption, vec_capacity, take, drop, Some, None, ◌++◌, ◌∷◌, []};
-ghost use Rattle.krl_blocks.specs.Entries.{KeysRise, NoKey, last_key, IsInserted, IsRemoved, IsChanged};
+//! One block of a shelf: entries whose keys rise.
+ghost use Rattle.std.specs.Prelude.{◌≡◌, ◌<◌, length, IfSome, MatchOption, slice_get, ◌++◌, ◌∷◌, []};
+ghost use Rattle.krl_blocks.specs.Entries.{KeysRise, NoKey, IsInserted, IsRemoved, IsChanged};
+ghost use Rattle.krl_blocks.specs.Shelves.{IsOneOther};
+ghost use Rattle.krl_blocks.specs.Laid.{AreHalved};
 
 use crate::search::count_keys;
+use crate::shelf::{MOST, Shelf};
 
-/// Puts in an entry of a key that no entry has. There is room for it.
-pub fn put_in<V: Copy + Drop>(block: &mut Vec<(u64, V)>, key: u64, value: V)
-    requires rising { KeysRise block.old.items }
-    requires room { length block.old.items < vec_capacity block.old }
-    ensures inserted { IsInserted block.old.items block.new.items key value }
-    ensures room { vec_capacity block.old ≤ vec_capacity block.new }
+/// Puts an entry of a key that no entry has into the block there, which has room for it.
+pub fn put_in<V: Copy + Drop>(shelf: &mut Shelf<V>, b: usize, key: u64, value: V)
+    requires within { b < length shelf.old.blocks }
+    requires rising { IfSome (slice_get shelf.old.blocks b) (λ x. KeysRise x) }
+    requires room { IfSome (slice_get shelf.old.blocks b) (λ x. length x < 64) }
+    ensures one { IsOneOther shelf.old.blocks shelf.new.blocks b (λ x y. IsInserted x y key value) }
+    ensures most { shelf.new.most ≡ shelf.old.most }
 {
-    let i = count_keys(block, key);
-    block.insert(i, (key, value)).unwrap();
+    let i = count_keys(shelf.get(b), key);
+    shelf.put(b, i, (key, value));
 }
 
-/// Puts the entry behind the others. There is room for it.
-pub fn push_in<V: Copy + Drop>(block: &mut Vec<(u64, V)>, key: u64, value: V)
-    requires room { length block.old.items < vec_capacity block.old }
-    ensures items { block.new.items ≡ block.old.items ++ (key, value) ∷ [] }
-    ensures room { vec_capacity block.old ≤ vec_capacity block.new }
+/// Puts the entry behind those of the block there, which has room for it.
+pub fn push_in<V: Copy + Drop>(shelf: &mut Shelf<V>, b: usize, key: u64, value: V)
+    requires within { b < length shelf.old.blocks }
+    requires room { IfSome (slice_get shelf.old.blocks b) (λ x. length x < 64) }
+    ensures one { IsOneOther shelf.old.blocks shelf.new.blocks b (λ x y. y ≡ x ++ (key, value) ∷ []) }
+    ensures most { shelf.new.most ≡ shelf.old.most }
 {
-    block.push((key, value)).unwrap();
+    let i = shelf.get(b).len();
+    shelf.put(b, i, (key, value));
 }
 
-/// Takes the entry of the key out, and answers its value.
-pub fn take_from<V: Copy + Drop>(block: &mut Vec<(u64, V)>, key: u64) -> Option<V>
-    requires { KeysRise block.old.items }
-    ensures taken { MatchOption result
-        (NoKey key block.old.items × (block.new.items ≡ block.old.items))
-        (λ v. IsRemoved block.old.items block.new.items key v) }
-    ensures room { vec_capacity block.old ≤ vec_capacity block.new }
+/// Takes the entry of the key out of the block there, and answers its value.
+pub fn take_from<V: Copy + Drop>(shelf: &mut Shelf<V>, b: usize, key: u64) -> Option<V>
+    requires within { b < length shelf.old.blocks }
+    requires rising { IfSome (slice_get shelf.old.blocks b) (λ x. KeysRise x) }
+    ensures one { IsOneOther shelf.old.blocks shelf.new.blocks b
+        (λ x y. MatchOption result (NoKey key x × (y ≡ x)) (λ v. IsRemoved x y key v)) }
+    ensures most { shelf.new.most ≡ shelf.old.most }
 {
+    let block = shelf.get(b);
     let i = count_keys(block, key);
     match block.get(i) {
         Some(entry) if entry.0 == key => {
-            let (_, value) = block.remove(i);
+            let value = entry.1;
+            shelf.take(b, i);
             Some(value)
         }
         _ => None,
     }
 }
 
-/// Gives the entry of the key another value, and answers the one before.
-pub fn set_in<V: Copy + Drop>(block: &mut Vec<(u64, V)>, key: u64, value: V) -> Option<V>
-    requires { KeysRise block.old.items }
-    ensures changed { MatchOption result
-        (NoKey key block.old.items × (block.new.items ≡ block.old.items))
-        (λ was. IsChanged block.old.items block.new.items key value was) }
-    ensures room { vec_capacity block.old ≤ vec_capacity block.new }
+/// Gives the entry of the key in the block there another value, and answers the one before.
+pub fn set_in<V: Copy + Drop>(shelf: &mut Shelf<V>, b: usize, key: u64, value: V) -> Option<V>
+    requires within { b < length shelf.old.blocks }
+    requires rising { IfSome (slice_get shelf.old.blocks b) (λ x. KeysRise x) }
+    ensures one { IsOneOther shelf.old.blocks shelf.new.blocks b
+        (λ x y. MatchOption result (NoKey key x × (y ≡ x)) (λ was. IsChanged x y key value was)) }
+    ensures most { shelf.new.most ≡ shelf.old.most }
 {
+    let block = shelf.get(b);
     let i = count_keys(block, key);
     match block.get(i) {
         Some(entry) if entry.0 == key => {
             let was = entry.1;
-            block[i] = (key, value);
+            shelf.set(b, i, (key, value));
             Some(was)
         }
         _ => None,
     }
 }
 
-/// Moves the entries from a place on into an empty block, which has room for them.
-pub fn move_upper<V: Copy + Drop>(block: &mut Vec<(u64, V)>, half: usize, upper: &mut Vec<(u64, V)>)
-    requires within { half ≤ length block.old.items }
-    requires empty { upper.old.items ≡ [] }
-    requires room { length block.old.items ≤ vec_capacity upper.old }
-    ensures lower { block.new.items ≡ take half block.old.items }
-    ensures upper { upper.new.items ≡ drop half block.old.items }
-    ensures room { vec_capacity block.old ≤ vec_capacity block.new }
-    ensures upper_room { vec_capacity upper.old ≤ vec_capacity upper.new }
+/// Parts the block there, which is full, in two halves, and answers the last key of the lower one.
+/// There is room for one block more.
+pub fn halve<V: Copy + Drop>(shelf: &mut Shelf<V>, b: usize) -> u64
+    requires room { length shelf.old.blocks < shelf.old.most }
+    requires within { b < length shelf.old.blocks }
+    requires full { IfSome (slice_get shelf.old.blocks b) (λ x. length x ≡ 64) }
+    ensures halves { AreHalved shelf.old.blocks shelf.new.blocks b result }
+    ensures most { shelf.new.most ≡ shelf.old.most }
 {
-    let entries: &[(u64, V)] = block;
-    let (_, high) = entries.split_at(half);
-    upper.extend_from_slice(high).unwrap();
-    block.truncate(half);
-}
-
-/// The last key of a block's first entries.
-pub fn key_before<V: Copy + Drop>(block: &Vec<(u64, V)>, half: usize) -> u64
-    requires some { 0 < half }
-    requires within { half ≤ length block.now.items }
-    ensures { last_key None (take half block.now.items) ≡ Some result }
-{
-    block[half - 1].0
-}
-
-/// Moves the entries of one block behind those of another, which has room for them.
-pub fn move_behind<V: Copy + Drop>(lower: &mut Vec<(u64, V)>, upper: &mut Vec<(u64, V)>)
-    requires room { length lower.old.items + length upper.old.items ≤ vec_capacity lower.old }
-    ensures items { lower.new.items ≡ lower.old.items ++ upper.old.items }
-    ensures empty { upper.new.items ≡ [] }
-    ensures room { vec_capacity lower.old ≤ vec_capacity lower.new }
-    ensures upper_room { vec_capacity upper.old ≤ vec_capacity upper.new }
-{
-    lower.extend_from_slice(upper).unwrap();
-    upper.clear();
+    let half = MOST / 2;
+    let (top, _) = shelf.get(b)[half - 1];
+    shelf.split(b, half);
+    top
 }

@@ -1,8 +1,10 @@
 //! Entries in key order.
 ghost use Rattle.std.specs.Prelude.{◌≡◌, ◌≤◌, ◌<◌, length, MatchOption, IfOk, OnOk, OnErr, []};
-ghost use Rattle.std.specs.List.{flat_map};
+ghost use Rattle.krl_blocks.specs.Laid.{flat};
+ghost use Rattle.krl_blocks.specs.Runs.{runs_of};
 ghost use Rattle.krl_blocks.specs.Entries.{KeysRise, NoKey, HasEntry, IsFound, IsRun, IsInserted, IsRemoved, IsChanged};
 
+use crate::entries::Entries;
 use crate::found::Found;
 use crate::layout::Layout;
 use std::alloc::{AllocError, Global};
@@ -24,9 +26,9 @@ impl<V> Model for Blocks<V> {
 
     ghost Value = { Entries V };
 
-    ghost view = { λ b. record { list = flat b.layout.blocks.items; room = b.room } };
+    ghost view = { λ b. record { list = flat b.layout.shelf.blocks; room = b.room } };
 
-    ghost invariant = { λ b. IsHeld b.layout.tops b.layout.blocks b.layout.spare b.len b.room };
+    ghost invariant = { λ b. IsHeld b.layout.tops b.layout.shelf b.len b.room };
 }
 
 impl<V: Copy + Drop> Blocks<V> {
@@ -56,26 +58,26 @@ impl<V: Copy + Drop> Blocks<V> {
         ensures { IfOk result (λ b. (b.list ≡ entries.now) × (room ≤ b.room)) }
     {
         let mut blocks = Blocks::new(alloc);
-        blocks.reserve(alloc, room)?;
+        blocks.reserve(room)?;
         for (key, value) in entries {
             blocks.insert(*key, *value);
         }
         Ok(blocks)
     }
 
-    /// Makes room for at least so many entries, those that are there among them. No other call takes
-    /// memory.
+    /// Makes room for at least so many entries, those that are there among them, by at most four
+    /// requests for memory. No other call takes memory.
     ///
     /// # Errors
     ///
     /// `AllocError` where memory is refused. Nothing has changed then.
-    pub fn reserve(&mut self, alloc: Global, entries: usize) -> Result<(), AllocError>
+    pub fn reserve(&mut self, entries: usize) -> Result<(), AllocError>
         ensures list { self.new.list ≡ self.old.list }
         ensures room { OnOk result (entries ≤ self.new.room) }
         ensures kept { self.old.room ≤ self.new.room }
         ensures refused { OnErr result (self.new ≡ self.old) }
     {
-        self.layout.reserve(alloc, entries / 16 + 2)?;
+        self.layout.reserve(entries / 16 + 2)?;
         if self.room < entries {
             self.room = entries;
         }
@@ -89,11 +91,13 @@ impl<V: Copy + Drop> Blocks<V> {
         self.len
     }
 
-    /// The blocks: their entries, one block after the other, are all, in key order.
-    pub fn blocks(&self) -> &[Vec<(u64, V)>]
-        ensures { flat_map (λ block. block.items) result.now ≡ self.now.list }
+    /// All entries in key order, as runs that lie side by side.
+    pub fn entries(&self) -> Entries<'_, V>
+        ensures { flat (runs_of result) ≡ self.now.list }
     {
-        &self.layout.blocks
+        Entries {
+            shelf: Some(&self.layout.shelf),
+        }
     }
 
     /// Where a point stands: the last key below it, and the entries from it on. One search finds both.

@@ -3,10 +3,14 @@
 
 mod block;
 mod blocks;
+mod entries;
 mod found;
 mod halves;
 mod layout;
 mod search;
+mod shelf;
+mod spot;
 
 pub use blocks::Blocks;
+pub use entries::Entries;
 pub use found::Found;

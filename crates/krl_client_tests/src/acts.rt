@@ -1,5 +1,6 @@
 //! What a client is told and asked to do, one act after another, and what comes of it. Where an
 //! allocation is refused, a client shows what it showed, and the refused call is made again.
+use crate::again::{CALLS, again};
 use krl_client::{Client, CommandRefused, LockStatus, ScanAnswer, Status, WriteStatus};
 use krl_messages::{
     Holding, Holdings, Outcome, Pieces, PushBody, Request, RequestBody, ToClient, ToClientBody,
@@ -233,20 +234,19 @@ fn message(act: Act, body: ToClientBody) -> ToClient {
     }
 }
 
-// Whether the client says this to the message, perhaps the second time, and a refusal changes
+// Whether the client says this to the message, perhaps after refusals, each of which changes
 // nothing.
 fn hears(client: &mut Client, message: &ToClient, expected: &Gives) -> bool {
     let before = seen(client);
-    match client.step(message) {
-        Ok(list) => are_said(list.as_slice(), expected),
-        Err(_) => {
-            seen(client) == before
-                && match client.step(message) {
-                    Ok(list) => are_said(list.as_slice(), expected),
-                    Err(_) => false,
-                }
+    for _ in 0..CALLS {
+        if let Ok(list) = client.step(message) {
+            return are_said(list.as_slice(), expected);
+        }
+        if seen(client) != before {
+            return false;
         }
     }
+    false
 }
 
 // A command that sends.
@@ -271,16 +271,19 @@ fn is_answered(answer: Result<Vec<ToServer>, CommandRefused>, expected: &Gives) 
     }
 }
 
-// Whether the command is answered so, perhaps the second time; whatever refuses it changes nothing.
+// Whether the command is answered so, perhaps after refusals; whatever refuses it changes nothing.
 fn commands(client: &mut Client, act: Act, expected: &Gives) -> bool {
     let before = seen(client);
-    match command(client, act) {
-        Err(CommandRefused::OutOfMemory) => {
-            seen(client) == before && is_answered(command(client, act), expected)
+    for _ in 0..CALLS {
+        let answer = command(client, act);
+        if answer.is_err() && seen(client) != before {
+            return false;
         }
-        Err(refusal) => seen(client) == before && is_answered(Err(refusal), expected),
-        Ok(list) => is_answered(Ok(list), expected),
+        if !matches!(answer, Err(CommandRefused::OutOfMemory)) {
+            return is_answered(answer, expected);
+        }
     }
+    false
 }
 
 fn are_rows(rows: &[(u64, Value)], expected: &[(u64, u64)]) -> bool {
@@ -300,12 +303,8 @@ fn is_found(answer: &ScanAnswer, expected: &Gives) -> bool {
 }
 
 fn scans(client: &Client, lo: u64, hi: u64, expected: &Gives) -> bool {
-    match (client.scan(lo, hi), expected) {
+    match (again(|| client.scan(lo, hi)), expected) {
         (Ok(answer), _) => is_found(&answer, expected),
-        (Err(CommandRefused::OutOfMemory), _) => match client.scan(lo, hi) {
-            Ok(answer) => is_found(&answer, expected),
-            Err(_) => false,
-        },
         (Err(refusal), Gives::Refused(reason)) => refusal == *reason,
         (Err(_), _) => false,
     }

@@ -1,9 +1,10 @@
 //! Calls of a cache, one after another, and what each gives. Where an allocation is refused, a cache
 //! believes what it believed, and the refused call is made again.
+use crate::again::{CALLS, again};
 use krl_cache::{Belief, Scanned};
 use krl_messages::{Holding, Holdings, KeyPiece, Pieces, RangePiece, Value};
 use krl_modes::{END, KeyPart, Mode, RangePart, Span};
-use std::alloc::Global;
+use std::alloc::{AllocError, Global};
 
 // The bytes of a value.
 pub type Bytes = &'static [u8];
@@ -46,15 +47,26 @@ fn seen<B: Belief>(cache: &B) -> [(RangePart, KeyPart, Option<Value>); 9] {
     all
 }
 
-// Whether the holding is adopted, perhaps the second time, and a refusal changes nothing.
+// Whether the call is answered, perhaps after refusals, each of which changes nothing.
+fn is_done<B: Belief, F: Fn(&mut B) -> Result<(), AllocError>>(cache: &mut B, call: F) -> bool
+    requires { F.IsAlwaysCallable call }
+{
+    let before = seen(cache);
+    for _ in 0..CALLS {
+        if call(cache).is_ok() {
+            return true;
+        }
+        if seen(cache) != before {
+            return false;
+        }
+    }
+    false
+}
+
+// Whether the holding is adopted.
 fn adopts<B: Belief>(cache: &mut B, holding: Holding) -> bool {
     let judged = holding;
-    let again = holding;
-    if !judged.has_its_value() {
-        return false;
-    }
-    let before = seen(cache);
-    cache.adopt(holding).is_ok() || (seen(cache) == before && cache.adopt(again).is_ok())
+    judged.has_its_value() && is_done(cache, |cache: &mut B| cache.adopt(holding))
 }
 
 // The value of these bytes. None where they are more than 32.
@@ -99,19 +111,13 @@ fn listed(all: &[Held]) -> Option<Holdings> {
     Some(holdings)
 }
 
-// Whether they are all adopted, perhaps the second time, and a refusal changes nothing.
+// Whether they are all adopted.
 fn adopts_all<B: Belief>(cache: &mut B, holdings: &Holdings) -> bool {
-    if !holdings.have_values() {
-        return false;
-    }
-    let before = seen(cache);
-    cache.adopt_all(holdings).is_ok()
-        || (seen(cache) == before && cache.adopt_all(holdings).is_ok())
+    holdings.have_values() && is_done(cache, |cache: &mut B| cache.adopt_all(holdings))
 }
 
 fn lowers<B: Belief>(cache: &mut B, span: Span, keep: Mode) -> bool {
-    let before = seen(cache);
-    cache.lower(span, keep).is_ok() || (seen(cache) == before && cache.lower(span, keep).is_ok())
+    is_done(cache, |cache: &mut B| cache.lower(span, keep))
 }
 
 fn are_rows(rows: &[(u64, Value)], expected: &[(u64, Bytes)]) -> bool {
@@ -138,13 +144,7 @@ fn is_found(found: &Scanned, gives: &Gives) -> bool {
 }
 
 fn scans<B: Belief>(alloc: Global, cache: &B, span: Span, gives: &Gives) -> bool {
-    match cache.scan(alloc, span) {
-        Ok(found) => is_found(&found, gives),
-        Err(_) => match cache.scan(alloc, span) {
-            Ok(found) => is_found(&found, gives),
-            Err(_) => false,
-        },
-    }
+    again(|| cache.scan(alloc, span)).is_ok_and(|found| is_found(&found, gives))
 }
 
 fn are_ranges(pieces: &[RangePiece], expected: &[(u64, u64, RangePart)]) -> bool {
@@ -178,13 +178,7 @@ fn tells<B: Belief>(
     ranges: &[(u64, u64, RangePart)],
     keys: &[(u64, KeyPart)],
 ) -> bool {
-    match cache.pieces(alloc) {
-        Ok(pieces) => are_told(&pieces, ranges, keys),
-        Err(_) => match cache.pieces(alloc) {
-            Ok(pieces) => are_told(&pieces, ranges, keys),
-            Err(_) => false,
-        },
-    }
+    again(|| cache.pieces(alloc)).is_ok_and(|pieces| are_told(&pieces, ranges, keys))
 }
 
 // Whether the call gives this.

@@ -1,6 +1,7 @@
-//! Clients that are told everything by hand. Each run ends alike, whichever one allocation fails:
-//! `rt try --test --fail-alloc N`, for N from 1 to 40.
+//! Clients that are told everything by hand. Each run ends alike, whichever one or two allocations
+//! in a row fail.
 use crate::acts::{Says, fails, is_said};
+use crate::again::again;
 use crate::joining::{BEFORE_IT_JOINS, EPOCHS};
 use crate::locking::{LOCKS, PINS};
 use crate::writing::WRITES;
@@ -41,16 +42,18 @@ fn is_bye(list: &[ToServer]) -> bool {
     }
 }
 
+// Whether the client leaves, perhaps after refusals, each of which hands it back.
+fn leaves(client: Client) -> bool {
+    let said = client
+        .leave()
+        .or_else(|client| client.leave())
+        .or_else(|client| client.leave());
+    said.is_ok_and(|list| is_bye(list.as_slice()))
+}
+
 #[test]
 fn leaves_with_a_bye(rt: HostRuntime) {
-    let said = match start(&rt, rt.alloc()).leave() {
-        Ok(list) => is_bye(list.as_slice()),
-        Err(client) => match client.leave() {
-            Ok(list) => is_bye(list.as_slice()),
-            Err(_) => false,
-        },
-    };
-    assert!(rt; said);
+    assert!(rt; leaves(start(&rt, rt.alloc())));
 }
 
 static STARTS: [(u64, u64, Option<StartRefused>); 5] = [
@@ -93,12 +96,9 @@ fn reads(alloc: Global, refusal: CommandRefused, name: &str) -> Result<bool, All
 
 #[test]
 fn refusals_are_named(rt: HostRuntime) -> Result<(), Fail> {
+    let alloc = rt.alloc();
     for (refusal, name) in &NAMES {
-        let named = match reads(rt.alloc(), *refusal, name) {
-            Ok(named) => named,
-            Err(_) => reads(rt.alloc(), *refusal, name)?,
-        };
-        assert!(rt; named);
+        assert!(rt; again(|| reads(alloc, *refusal, name))?);
     }
     Ok(())
 }

@@ -1,5 +1,6 @@
 //! The words that the command line takes.
-ghost use Rattle.std.specs.Prelude.{◌≤◌};
+ghost use Rattle.std.specs.Prelude.{◌≤◌, IfSome};
+ghost use Rattle.std.proofs.Props.{props};
 ghost use Rattle.krl_modes.specs.declared.point.TheConstants.{END};
 ghost use Rattle.krl_text.specs.Limits.{most_steps};
 
@@ -24,6 +25,15 @@ pub struct RandomOptions {
     pub ghost in_range: { (seed ≤ END) × (1 ≤ steps) × (steps ≤ most_steps) },
 }
 
+/// How the nodes of a run on threads come by their letters.
+#[derive(Clone, Copy)]
+pub struct NodesOptions {
+    /// What it is drawn from which letters are lost, repeated and reordered; None where each is read
+    /// once, the oldest first.
+    pub policy: Option<u64>,
+    pub ghost in_range: { IfSome policy (λ seed. seed ≤ END) } by { Prim.hlevel props },
+}
+
 /// What a command line asks for.
 #[derive(Clone, Copy)]
 pub enum Request {
@@ -33,8 +43,9 @@ pub enum Request {
     Picture(Form),
     /// A random run; None where its options are out of range, which clap refuses.
     Random(Option<RandomOptions>),
-    /// A server and two clients on threads.
-    Nodes,
+    /// A server and two clients on threads; None where the number of the policy is out of range,
+    /// which clap refuses.
+    Nodes(Option<NodesOptions>),
 }
 
 const WORDS: &str = "\
@@ -84,7 +95,12 @@ own. Client 1 locks 15, inserts 15=5, forgets what it holds there and leaves. Cl
 16, and scans its own cache from 11 on below 21 until key 15 is among the rows. Then the line
 'rows 15=5 20=2' is printed, and the status is 0. Each client takes at most 10,000 turns, and waits a
 millisecond where no letter is there for it. Where one has taken them all, 'nodes gave up' is
-printed, and the status is 1, after some fifteen seconds on a machine that does little else.";
+printed, and the status is 1, after some fifteen seconds on a machine that does little else.
+
+With --policy N each node reads its letters as is drawn from N: one in eight is lost, two are read
+and stay, and any that waits may be the next. A node that finds no letter says again what is not
+answered. What client 1 says last may be lost, and it does not say it again: so 'nodes gave up' is as
+right an end as the rows.";
 
 // A number from `least` to `most`.
 fn number<'a>(
@@ -111,10 +127,19 @@ fn flag<'a>(alloc: Global, name: &'a str, help: &'a str) -> Arg<'a> {
         .help(help)
 }
 
-fn nodes_command<'a>(alloc: Global) -> Command<'a> {
+fn nodes_command<'a>(alloc: Global) -> Result<Command<'a>, AllocError> {
+    let policy = number(
+        alloc,
+        "policy",
+        "0 to 9223372036854775807",
+        0,
+        END,
+        "Lose, repeat and reorder letters, as drawn from this number",
+    );
     Command::new(alloc, "nodes")
         .about("Run a server and two clients, each on a thread of its own, and print a scan's rows")
         .after_help(NODES)
+        .arg(policy)
 }
 
 fn script_command<'a>(alloc: Global) -> Result<Command<'a>, AllocError> {
@@ -178,6 +203,14 @@ fn random_options(matches: &ArgMatches) -> Option<RandomOptions> {
     })
 }
 
+fn nodes_options(matches: &ArgMatches) -> Option<NodesOptions> {
+    let policy = matches.get_one::<u64>("policy");
+    match policy {
+        Some(seed) if seed > END => None,
+        policy => Some(NodesOptions { policy }),
+    }
+}
+
 fn script_request(matches: &ArgMatches) -> Request {
     if matches.get_flag("svg") {
         Request::Picture(Form::Svg)
@@ -191,7 +224,7 @@ fn script_request(matches: &ArgMatches) -> Request {
 fn request_of(matches: &ArgMatches) -> Request {
     match matches.subcommand() {
         Some(("random", options)) => Request::Random(random_options(options)),
-        Some(("nodes", _)) => Request::Nodes,
+        Some(("nodes", options)) => Request::Nodes(nodes_options(options)),
         Some((_, options)) => script_request(options),
         None => Request::Script,
     }
@@ -206,13 +239,14 @@ fn request_of(matches: &ArgMatches) -> Request {
 pub fn read(alloc: Global, words: &[String]) -> Result<Request, Error> {
     let script = script_command(alloc)?;
     let random = random_command(alloc)?;
+    let nodes = nodes_command(alloc)?;
     let command = Command::new(alloc, "krl")
         .version("0.1.0")
         .about("A key-range lock server with client range caches")
         .subcommand_required(true)
         .subcommand(script)?
         .subcommand(random)?
-        .subcommand(nodes_command(alloc))?;
+        .subcommand(nodes)?;
     let matches = command.try_get_matches_from(words)?;
     Ok(request_of(&matches))
 }

@@ -45,9 +45,9 @@ impl Draws {
         }
     }
 
-    // A number below n: the next word modulo n.
+    /// A number below n: the next word modulo n.
     #[tactic(auto, unfolding(crate::specs::Draws::below))]
-    fn below(&mut self, n: u64) -> u64
+    pub fn below(&mut self, n: u64) -> u64
         requires { 0 < n }
         ensures drawn { (result, self.new) ≡ draw.below n self.old }
         ensures low { result < n }

@@ -15,6 +15,7 @@ pub mod RunRows
 pub mod SentParts
 pub mod Sent
 pub mod SentClient
+pub mod SentServer
 pub mod Halts
 pub mod Obeying
 pub mod Unasked

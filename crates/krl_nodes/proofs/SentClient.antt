@@ -1,12 +1,7 @@
 -- A client may go to another thread.
 use Rattle.krl_world.specs.contracts.node.Seat as seat
-use Rattle.krl_cache.specs.contracts.rows.Rows as rows
-use Rattle.krl_messages.specs.contracts.value.Value as value
-use Rattle.std.proofs.Crossing.{Vec-send}
 use denote.RattleType.{RattleType}
 use denote.Struct.Declared.{shape}
-use denote.Struct.Tuple.{Tuple, tuple_type}
-use mathlib.Core.List.{[], ◌∷◌}
 use denote.Builtin.{bool, u64}
 use denote.Param.Send.{IsSend, struct_send, recorded_send, view_send, sendable}
 use Rattle.std.specs.contracts.alloc.Global as global
@@ -15,7 +10,9 @@ use Rattle.arrayvec.specs.contracts.cells.Cells as cells
 use Rattle.arrayvec.specs.contracts.array_vec.ArrayVec as array_vec
 use Rattle.krl_nodes.specs.contracts.client.ClientNode as node
 use Rattle.krl_nodes.specs.contracts.run.Writer as writer
-use Rattle.krl_nodes.specs.contracts.run.Reader as reader
+use Rattle.krl_nodes.specs.contracts.delivery.Delivery as delivery
+use Rattle.krl_nodes.specs.contracts.drawn.Drawn as drawn
+use Rattle.krl_draws.specs.contracts.draws.Draws as draws
 use Rattle.krl_nodes.proofs.SentParts.{mode_sent, write_op_sent, span_sent}
 use Rattle.krl_nodes.proofs.Sent.{seat_sent}
 use Rattle.krl_modes.specs.contracts.part.RangePart as range_part
@@ -72,18 +69,6 @@ client_sent = view_send _ _ _ _ _ client_inside
 pub place_sent : IsSend (seat.the_field).row
 place_sent = let a = client_sent in search sendable depth 24 fits 4000
 
-value_sent : IsSend value.the_row
-value_sent = search sendable depth 24 fits 4000
-
-row_sent : IsSend (Tuple (u64 ∷ value.the_row ∷ []))
-row_sent = let T = tuple_type (u64 ∷ value.the_row ∷ []) in recorded_send _ _ T.to T.to_one (struct_send (shape T) (number_sent, (value_sent, tt)))
-
-rows_inside : IsSend rows.TheInside.the_row
-rows_inside = recorded_send _ _ (rows.TheInside.the_type).to (rows.TheInside.the_type).to_one (struct_send (shape rows.TheInside.the_type) (Vec-send _ row_sent, tt))
-
-rows_sent : IsSend (rows.the_field).row
-rows_sent = view_send _ _ _ _ _ rows_inside
-
 node_inside : IsSend node.TheInside.the_row
 node_inside = recorded_send _ _ (node.TheInside.the_type).to (node.TheInside.the_type).to_one (struct_send (shape node.TheInside.the_type)
     (global_sent, (number_sent, (place_sent, (seat_sent, tt)))))
@@ -91,12 +76,24 @@ node_inside = recorded_send _ _ (node.TheInside.the_type).to (node.TheInside.the
 pub node_sent : IsSend (node.the_field).row
 node_sent = view_send _ _ _ _ _ node_inside
 
-bool_sent : IsSend bool
+pub bool_sent : IsSend bool
 bool_sent = search sendable
 
-pub writer_sent : IsSend writer.the_row
-writer_sent = recorded_send _ _ (writer.the_type).to (writer.the_type).to_one (struct_send (shape writer.the_type) (node_sent, (bool_sent, tt)))
+draws_inside : IsSend draws.TheInside.the_row
+draws_inside = search sendable depth 24 fits 4000
 
-pub reader_sent : IsSend reader.the_row
-reader_sent = let b = rows_sent in recorded_send _ _ (reader.the_type).to (reader.the_type).to_one (struct_send (shape reader.the_type)
-    (node_sent, (search sendable depth 24 fits 4000, tt)))
+draws_sent : IsSend (draws.the_field).row
+draws_sent = view_send _ _ _ _ _ draws_inside
+
+drawn_inside : IsSend drawn.TheInside.the_row
+drawn_inside = let a = draws_sent in search sendable depth 24 fits 4000
+
+drawn_sent : IsSend (drawn.the_field).row
+drawn_sent = view_send _ _ _ _ _ drawn_inside
+
+pub delivery_sent : IsSend (delivery.the_field).row
+delivery_sent = let a = drawn_sent in search sendable depth 24 fits 4000
+
+pub writer_sent : IsSend writer.the_row
+writer_sent = recorded_send _ _ (writer.the_type).to (writer.the_type).to_one
+    (struct_send (shape writer.the_type) (node_sent, (delivery_sent, (bool_sent, tt))))

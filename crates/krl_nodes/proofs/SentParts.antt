@@ -28,7 +28,7 @@ mode_sent = search sendable depth 30
 pub write_op_sent : IsSend (write_op.the_field).row
 write_op_sent = search sendable depth 24 fits 4000
 
-outcome_sent : IsSend (outcome.the_field).row
+pub outcome_sent : IsSend (outcome.the_field).row
 outcome_sent = search sendable depth 24 fits 4000
 
 range_piece_sent : IsSend (range_piece.the_field).row
@@ -64,7 +64,7 @@ to_server_sent = let a = body_sent in search sendable depth 24 fits 4000
 holding_sent : IsSend (holding.the_field).row
 holding_sent = let a = span_sent in let b = mode_sent in search sendable depth 24 fits 4000
 
-push_body_sent : IsSend (push_body.the_field).row
+pub push_body_sent : IsSend (push_body.the_field).row
 push_body_sent = let a = holding_sent in let b = outcome_sent in search sendable depth 24 fits 4000
 
 to_client_body_sent : IsSend (to_client_body.the_field).row

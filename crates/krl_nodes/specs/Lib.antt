@@ -4,6 +4,7 @@ pub mod Letters
 pub mod Rule
 pub mod Steps
 pub mod Turns
+pub mod Picks
 pub mod Sorting
 pub mod Nodes
 pub mod RunRows

@@ -7,6 +7,8 @@
 #![tactic(auto)]
 
 mod client;
+mod delivery;
+mod drawn;
 mod gate;
 mod inbox;
 mod office;
@@ -24,11 +26,12 @@ pub mod view;
 pub mod work;
 
 pub use client::ClientNode;
+pub use drawn::Drawn;
 pub use gate::Gate;
 pub use office::Office;
 pub use orders::{ClientOrder, ServerOrder, Turn};
 pub use policy::{Pick, Policy};
 pub use post::{Chair, Post, Reader};
 pub use refused::{NotClosed, NotRetired, NotSeated};
-pub use run::{NodesReport, NotRun, run_nodes};
+pub use run::{NodesReport, NotRun, run_nodes, run_nodes_by};
 pub use server::ServerNode;

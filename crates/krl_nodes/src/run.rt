@@ -1,9 +1,11 @@
 //! A server and two clients, each on a thread of its own.
-ghost use Rattle.std.specs.Prelude.{◌≡◌, IfOk, IfSome};
+ghost use Rattle.std.specs.Prelude.{◌≡◌, ◌≤◌, IfOk, IfSome};
+ghost use Rattle.krl_modes.specs.declared.point.TheConstants.{END};
 ghost use Rattle.krl_nodes.specs.Nodes.{IsSameServer, IsSameClient};
 ghost use Rattle.krl_nodes.specs.RunRows.{IsFound, seeds};
 
 use crate::client::ClientNode;
+use crate::delivery::Delivery;
 use crate::gate::Gate;
 use crate::office::Office;
 use crate::server::ServerNode;
@@ -54,10 +56,18 @@ impl Gate for Open {
     fn pause(&mut self) {}
 }
 
+// The server.
+#[derive(Drop)]
+pub(crate) struct Serving {
+    node: ServerNode,
+    delivery: Delivery,
+}
+
 // The client that writes, and whether it came to its end.
 #[derive(Drop)]
 pub(crate) struct Writer {
     node: ClientNode,
+    delivery: Delivery,
     is_done: bool,
 }
 
@@ -65,13 +75,14 @@ pub(crate) struct Writer {
 #[derive(Drop)]
 pub(crate) struct Reader {
     node: ClientNode,
+    delivery: Delivery,
     rows: Option<Rows>,
 }
 
-impl Work<Office> for ServerNode {
-    ghost ready = { λ node office. node.office ≡ office };
+impl Work<Office> for Serving {
+    ghost ready = { λ s office. s.node.office ≡ office };
 
-    ghost done = { IsSameServer };
+    ghost done = { λ s t. IsSameServer s.node t.node };
 
     fn work<R: Wait, G: Gate>(
         self,
@@ -79,8 +90,10 @@ impl Work<Office> for ServerNode {
         shared: &Office,
         _gate: &mut G,
         ended: &AtomicU64,
-    ) -> ServerNode {
-        serve(rt, shared, self, ended)
+    ) -> Serving {
+        let Serving { node, mut delivery } = self;
+        let node = serve(rt, shared, node, &mut delivery, ended);
+        Serving { node, delivery }
     }
 }
 
@@ -96,10 +109,18 @@ impl Work<Office> for Writer {
         gate: &mut G,
         ended: &AtomicU64,
     ) -> Writer {
-        let Writer { node, is_done: _ } = self;
-        let (node, is_done) = insert(rt, shared, node, gate);
+        let Writer {
+            node,
+            mut delivery,
+            is_done: _,
+        } = self;
+        let (node, is_done) = insert(rt, shared, node, &mut delivery, gate);
         ended.fetch_add(1, Ordering::SeqCst);
-        Writer { node, is_done }
+        Writer {
+            node,
+            delivery,
+            is_done,
+        }
     }
 }
 
@@ -115,62 +136,72 @@ impl Work<Office> for Reader {
         gate: &mut G,
         ended: &AtomicU64,
     ) -> Reader {
-        let Reader { node, rows: _ } = self;
-        let (node, rows) = read(rt, shared, node, gate);
+        let Reader {
+            node,
+            mut delivery,
+            rows: _,
+        } = self;
+        let (node, rows) = read(rt, shared, node, &mut delivery, gate);
         ended.fetch_add(1, Ordering::SeqCst);
-        Reader { node, rows }
+        Reader {
+            node,
+            delivery,
+            rows,
+        }
     }
 }
 
-// Two nodes at once.
+// Two nodes at once. Where no thread can be made for the first, it runs after the second.
 fn beside<
     R: Threads + Wait + Sync,
     T: Sync,
     B: Work<T> + Send + Drop,
-    H: Gate + Send + Drop,
+    G: Gate + Send + Drop,
     C: Work<T> + Drop,
->(rt: &R, shared: &T, b: B, gate: H, c: C, ended: &AtomicU64) -> (B, C)
+    H: Gate + Drop,
+>(rt: &R, shared: &T, b: B, gate1: G, c: C, gate2: H, ended: &AtomicU64) -> (B, C)
     requires { B.ready b shared.now × C.ready c shared.now }
     ensures { B.done b result.0 × C.done c result.1 }
 {
-    let mut gate = gate;
+    let mut gate1 = gate1;
+    let mut gate2 = gate2;
     thread::join(
         rt,
         move || -> B
             requires { B.ready b shared.now }
             ensures { B.done b result }
-        { b.work(rt, shared, &mut gate, ended) },
+        { b.work(rt, shared, &mut gate1, ended) },
         || -> C
             requires { C.ready c shared.now }
             ensures { C.done c result }
-        { c.work(rt, shared, &mut Open, ended) },
+        { c.work(rt, shared, &mut gate2, ended) },
     )
 }
 
-// Three nodes at once.
+// Three nodes at once. Where no thread can be made for the first, it runs after the others: so the
+// first is the one for which the others do not wait without end.
 fn together<
     R: Threads + Wait + Sync,
     T: Sync,
     A: Work<T> + Send + Drop,
-    G: Gate + Send + Drop,
     B: Work<T> + Send + Drop,
-    H: Gate + Send + Drop,
+    G: Gate + Send + Drop,
     C: Work<T> + Drop,
->(rt: &R, shared: &T, a: A, gate1: G, b: B, gate2: H, c: C, ended: &AtomicU64) -> (A, (B, C))
+    H: Gate + Drop,
+>(rt: &R, shared: &T, a: A, b: B, gate1: G, c: C, gate2: H, ended: &AtomicU64) -> (A, (B, C))
     requires { A.ready a shared.now × B.ready b shared.now × C.ready c shared.now }
     ensures { A.done a result.0 × B.done b result.1.0 × C.done c result.1.1 }
 {
-    let mut gate1 = gate1;
     thread::join(
         rt,
         move || -> A
             requires { A.ready a shared.now }
             ensures { A.done a result }
-        { a.work(rt, shared, &mut gate1, ended) },
+        { a.work(rt, shared, &mut Open, ended) },
         || -> (B, C)
             requires { B.ready b shared.now × C.ready c shared.now }
             ensures { B.done b result.0 × C.done c result.1 }
-        { beside(rt, shared, b, gate2, c, ended) },
+        { beside(rt, shared, b, gate1, c, gate2, ended) },
     )
 }
 
@@ -181,18 +212,21 @@ fn seeds(alloc: Global) -> Result<Vec<(u64, Value)>, AllocError>
     Vec::from_slice(alloc, &[(10, Value::from_u64(1)), (20, Value::from_u64(2))])
 }
 
-/// Runs a server with the entries 10=1 and 20=2 and the clients 1 and 2, each on a thread of its
-/// own: client 1 inserts 15=5 and leaves, and client 2 scans until it reads key 15.
-///
-/// # Errors
-///
-/// `OutOfMemory` where the memory for the office is refused; `GaveUp` where a client came to its
-/// last turn.
-pub fn run_nodes<R: Threads + Wait + Sync, G: Gate + Send + Drop, H: Gate + Send + Drop>(
+// How the node of this number comes by its letters.
+fn delivery(seed: Option<u64>, number: u64) -> Delivery {
+    match seed {
+        Some(seed) => Delivery::drawn(seed.wrapping_add(number)),
+        None => Delivery::in_order(),
+    }
+}
+
+// The run, with letters in order, or lost, repeated and reordered as the seed has it.
+fn run<R: Threads + Wait + Sync, G: Gate + Send + Drop, H: Gate + Drop>(
     rt: &R,
     alloc: Global,
     gate1: G,
     gate2: H,
+    seed: Option<u64>,
 ) -> Result<NodesReport, NotRun>
     ensures { IfOk result (λ report. IsFound seeds report.rows) }
 {
@@ -209,19 +243,33 @@ pub fn run_nodes<R: Threads + Wait + Sync, G: Gate + Send + Drop, H: Gate + Send
         return Err(NotRun::GaveUp);
     };
     let ended = AtomicU64::new(0);
+    let serving = Serving {
+        node: server,
+        delivery: delivery(seed, 0),
+    };
     let writer = Writer {
         node: one,
+        delivery: delivery(seed, 1),
         is_done: false,
     };
     let reader = Reader {
         node: two,
+        delivery: delivery(seed, 2),
         rows: None,
     };
-    let (writer, (reader, _server)) = together(
-        rt, &office, writer, gate1, reader, gate2, server, &ended,
+    let (_serving, (writer, reader)) = together(
+        rt, &office, serving, writer, gate1, reader, gate2, &ended,
     );
-    let Writer { node: _, is_done } = writer;
-    let Reader { node: _, rows } = reader;
+    let Writer {
+        node: _,
+        delivery: _,
+        is_done,
+    } = writer;
+    let Reader {
+        node: _,
+        delivery: _,
+        rows,
+    } = reader;
     match rows {
         Some(rows) => {
             if is_done {
@@ -232,4 +280,45 @@ pub fn run_nodes<R: Threads + Wait + Sync, G: Gate + Send + Drop, H: Gate + Send
         }
         None => Err(NotRun::GaveUp),
     }
+}
+
+/// Runs a server with the entries 10=1 and 20=2 and the clients 1 and 2, each on a thread of its
+/// own: client 1 inserts 15=5 and leaves, and client 2 scans until it reads key 15. Each letter is
+/// read once, the oldest first.
+///
+/// # Errors
+///
+/// `OutOfMemory` where the memory for the office is refused; `GaveUp` where a client came to its
+/// last turn, as one does for whose server or other client no thread can be made.
+pub fn run_nodes<R: Threads + Wait + Sync, G: Gate + Send + Drop, H: Gate + Drop>(
+    rt: &R,
+    alloc: Global,
+    gate1: G,
+    gate2: H,
+) -> Result<NodesReport, NotRun>
+    ensures { IfOk result (λ report. IsFound seeds report.rows) }
+{
+    run(rt, alloc, gate1, gate2, None)
+}
+
+/// Runs the same server and clients, and each reads its letters by a policy of its own: one letter
+/// in eight is lost, two are repeated, and any that waits may be the next, as drawn from the seed
+/// and the node's number, which is 0 for the server. So a node that found no letter says again what
+/// is not answered: a client by a tick, the server by a nudge of client 1 or 2, by turns.
+///
+/// # Errors
+///
+/// As of `run_nodes`. A client comes to its last turn also where what was lost keeps it waiting:
+/// where the last words of client 1 are lost, nobody says them again.
+pub fn run_nodes_by<R: Threads + Wait + Sync, G: Gate + Send + Drop, H: Gate + Drop>(
+    rt: &R,
+    alloc: Global,
+    gate1: G,
+    gate2: H,
+    seed: u64,
+) -> Result<NodesReport, NotRun>
+    requires { seed ≤ END }
+    ensures { IfOk result (λ report. IsFound seeds report.rows) }
+{
+    run(rt, alloc, gate1, gate2, Some(seed))
 }

@@ -4,9 +4,10 @@ ghost use Rattle.krl_nodes.specs.Nodes.{IsSameServer, IsSameClient};
 ghost use Rattle.krl_nodes.specs.RunRows.{HasKey, IsFound};
 
 use crate::client::ClientNode;
+use crate::delivery::Delivery;
 use crate::gate::Gate;
 use crate::office::Office;
-use crate::orders::{ClientOrder, ServerOrder, Turn};
+use crate::orders::{ClientOrder, ServerOrder};
 use crate::server::ServerNode;
 use krl_cache::Rows;
 use krl_client::{LockStatus, ScanAnswer, Status, WriteStatus};
@@ -124,39 +125,48 @@ impl Reading {
     }
 }
 
-/// Reads letters until both clients have ended.
-pub fn serve<R: Wait>(
+/// Reads letters until both clients have ended. Where a letter may be lost it nudges clients 1 and 2
+/// by turns.
+pub(crate) fn serve<R: Wait>(
     rt: &R,
     office: &Office,
     mut node: ServerNode,
+    delivery: &mut Delivery,
     ended: &AtomicU64,
 ) -> ServerNode
     requires { node.office ≡ office.now }
     ensures { IsSameServer node result }
 {
+    let mut is_second = false;
     for _ in rt.forever() {
         if ended.load(Ordering::SeqCst) >= 2 {
             return node;
         }
-        let _ = node.turn(rt, office, ServerOrder::Letter);
+        if delivery.may_lack() {
+            let client = if is_second { 2 } else { 1 };
+            is_second = !is_second;
+            let _ = node.turn(rt, office, ServerOrder::Nudge(client));
+        } else {
+            delivery.serve(rt, office, &mut node);
+        }
     }
     unreachable!()
 }
 
-// Reads a letter, and says whether there was none. A client reads all its letters before it asks for
-// more: one that asked for its lock again before it obeyed a callback would keep the lock for ever.
-fn has_no_letter<R: Wait>(rt: &R, office: &Office, node: &mut ClientNode) -> bool
+// Says again what is not answered.
+fn tick<R: Wait>(rt: &R, office: &Office, node: &mut ClientNode)
     requires { node.old.office ≡ office.now }
     ensures { IsSameClient node.old node.new }
 {
-    matches!(node.turn(rt, office, ClientOrder::Letter), Ok(Turn::Idle))
+    let _ = node.turn(rt, office, ClientOrder::Tick);
 }
 
 /// Starts, inserts 15=5, forgets what it holds there and leaves; and says whether it came to that.
-pub fn insert<R: Wait, G: Gate>(
+pub(crate) fn insert<R: Wait, G: Gate>(
     rt: &R,
     office: &Office,
     mut node: ClientNode,
+    delivery: &mut Delivery,
     gate: &mut G,
 ) -> (ClientNode, bool)
     requires { node.office ≡ office.now }
@@ -167,9 +177,15 @@ pub fn insert<R: Wait, G: Gate>(
     for turn in 0..MAX_TURNS {
         let status = node.status();
         gate.pass(turn, status);
+        if delivery.may_lack() {
+            tick(rt, office, &mut node);
+            continue;
+        }
+        // A client reads all its letters before it asks for more: one that asked for its lock again
+        // before it obeyed a callback would keep the lock for ever.
         let is_waiting = waits(status);
         if is_waiting || !is_read {
-            is_read = has_no_letter(rt, office, &mut node);
+            is_read = delivery.read(rt, office, &mut node);
             if is_read && is_waiting {
                 gate.pause();
             }
@@ -218,10 +234,11 @@ fn look(node: &ClientNode) -> Result<Option<Rows>, Refused>
 }
 
 /// Starts, and locks 15 and 16 and scans 11 to 21 until the rows contain key 15.
-pub fn read<R: Wait, G: Gate>(
+pub(crate) fn read<R: Wait, G: Gate>(
     rt: &R,
     office: &Office,
     mut node: ClientNode,
+    delivery: &mut Delivery,
     gate: &mut G,
 ) -> (ClientNode, Option<Rows>)
     requires { node.office ≡ office.now }
@@ -233,9 +250,15 @@ pub fn read<R: Wait, G: Gate>(
     for turn in 0..MAX_TURNS {
         let status = node.status();
         gate.pass(turn, status);
+        if delivery.may_lack() {
+            tick(rt, office, &mut node);
+            continue;
+        }
+        // A client reads all its letters before it asks for more: one that asked for its lock again
+        // before it obeyed a callback would keep the lock for ever.
         let is_waiting = waits(status);
         if is_waiting || !is_read {
-            is_read = has_no_letter(rt, office, &mut node);
+            is_read = delivery.read(rt, office, &mut node);
             if is_read && is_waiting {
                 gate.pause();
             }

@@ -1,5 +1,5 @@
-//! Calls of nodes that are made again where memory was refused: then the node has to be as it was,
-//! and the second call to do what the first would have done.
+//! Calls of nodes that are made again where memory was refused, once or twice in a row: then the
+//! node has to be as it was, and the last call to do what the first would have done.
 ghost use Rattle.std.specs.Prelude.{◌≡◌, IfOk};
 ghost use Rattle.krl_nodes.specs.Nodes.{IsSameServer, IsSameClient};
 
@@ -13,6 +13,9 @@ use std::sync::Wait;
 
 /// The points that these tests look at: 0 to 63.
 pub const POINTS: u64 = 64;
+
+/// How often a call is made at most: twice it may be refused.
+pub const CALLS: u64 = 3;
 
 /// The entries that a test begins with, in its index.
 fn try_open(alloc: Global, entries: &[(u64, u64)]) -> Result<(Office, ServerNode), Refused>
@@ -29,10 +32,13 @@ fn try_open(alloc: Global, entries: &[(u64, u64)]) -> Result<(Office, ServerNode
 pub fn open(alloc: Global, entries: &[(u64, u64)]) -> Result<(Office, ServerNode), Refused>
     ensures { IfOk result (λ r. r.1.office ≡ r.0) }
 {
-    match try_open(alloc, entries) {
-        Err(Refused::OutOfMemory) => try_open(alloc, entries),
-        opened => opened,
+    for _ in 1..CALLS {
+        match try_open(alloc, entries) {
+            Err(Refused::OutOfMemory) => {}
+            opened => return opened,
+        }
     }
+    try_open(alloc, entries)
 }
 
 /// The server's turn.
@@ -45,10 +51,13 @@ pub fn serve<R: Wait>(
     requires { server.old.office ≡ office.now }
     ensures { IsSameServer server.old server.new }
 {
-    match server.turn(rt, office, order) {
-        Err(Refused::OutOfMemory) => server.turn(rt, office, order),
-        answer => answer,
+    for _ in 1..CALLS {
+        match server.turn(rt, office, order) {
+            Err(Refused::OutOfMemory) => {}
+            answer => return answer,
+        }
     }
+    server.turn(rt, office, order)
 }
 
 /// The client's turn.
@@ -62,25 +71,24 @@ pub fn act<R: Wait>(
     ensures { IsSameClient client.old client.new }
 {
     let before = client.status();
-    let again = order;
-    match client.turn(rt, office, order) {
-        Err(Refused::OutOfMemory) => {
-            if client.status() == before {
-                client.turn(rt, office, again)
-            } else {
-                Err(Refused::OutOfMemory)
-            }
+    for _ in 1..CALLS {
+        match client.turn(rt, office, *&order) {
+            Err(Refused::OutOfMemory) if client.status() == before => {}
+            answer => return answer,
         }
-        answer => answer,
     }
+    client.turn(rt, office, order)
 }
 
 /// The client's scan of its own cache.
 pub fn scan(client: &ClientNode, lo: u64, hi: u64) -> Result<ScanAnswer, Refused> {
-    match client.scan(lo, hi) {
-        Err(Refused::OutOfMemory) => client.scan(lo, hi),
-        answer => answer,
+    for _ in 1..CALLS {
+        match client.scan(lo, hi) {
+            Err(Refused::OutOfMemory) => {}
+            answer => return answer,
+        }
     }
+    client.scan(lo, hi)
 }
 
 /// Whether the server's turn does something.

@@ -1,11 +1,13 @@
 //! Nodes whose letters are lost, repeated and read out of order, as policies pick.
-ghost use Rattle.std.specs.Prelude.{◌≡◌, ◌<◌};
+ghost use Rattle.std.specs.Prelude.{◌≡◌};
 ghost use Rattle.krl_nodes.specs.Nodes.{IsSameServer, IsSameClient};
 
-use crate::acts::{acts, is_idle, open, reads, serves};
+use crate::acts::{CALLS, acts, is_idle, open, reads, serves};
 use krl_messages::{Value, WriteOp};
 use krl_modes::{KeyPart, Mode, RangePart};
-use krl_nodes::{ClientNode, ClientOrder, Office, Pick, Policy, ServerNode, ServerOrder, Turn};
+use krl_nodes::{
+    ClientNode, ClientOrder, Drawn, Office, Pick, Policy, ServerNode, ServerOrder, Turn,
+};
 use krl_world::{Command, Refused};
 use std::sync::Wait;
 use std::test::Fail;
@@ -56,41 +58,7 @@ impl Policy for Youngest {
     }
 }
 
-/// One letter in eight is lost, two are repeated, and any of them is the next, as drawn from a
-/// number.
-#[derive(Drop)]
-struct Drawn {
-    word: u64,
-}
-
-impl Drawn {
-    fn draw(&mut self, n: u64) -> u64
-        requires { 0 < n }
-        ensures { result < n }
-    {
-        self.word = self
-            .word
-            .wrapping_mul(6364136223846793005)
-            .wrapping_add(1442695040888963407);
-        (self.word >> 33) % n
-    }
-}
-
-impl Policy for Drawn {
-    ghost picks = { λ _ _ _ _. Unit {0} };
-
-    fn pick(&mut self, letters: usize) -> Pick {
-        let kind = self.draw(8);
-        let at = self.draw(letters as u64) as usize;
-        match kind {
-            0 => Pick::Lose(at),
-            1 | 2 => Pick::Copy(at),
-            _ => Pick::Take(at),
-        }
-    }
-}
-
-/// The server's turn by the policy, made again where memory was refused.
+/// The server's turn by the policy, made again where memory was refused, twice at most.
 fn serve_by<R: Wait, P: Policy>(
     rt: &R,
     office: &Office,
@@ -101,13 +69,16 @@ fn serve_by<R: Wait, P: Policy>(
     requires { server.old.office ≡ office.now }
     ensures { IsSameServer server.old server.new }
 {
-    match server.turn_by(rt, office, order, policy) {
-        Err(Refused::OutOfMemory) => server.turn_by(rt, office, order, policy),
-        answer => answer,
+    for _ in 1..CALLS {
+        match server.turn_by(rt, office, order, policy) {
+            Err(Refused::OutOfMemory) => {}
+            answer => return answer,
+        }
     }
+    server.turn_by(rt, office, order, policy)
 }
 
-/// The client's turn by the policy, made again where memory was refused.
+/// The client's turn by the policy, made again where memory was refused, twice at most.
 fn act_by<R: Wait, P: Policy>(
     rt: &R,
     office: &Office,
@@ -118,11 +89,13 @@ fn act_by<R: Wait, P: Policy>(
     requires { client.old.office ≡ office.now }
     ensures { IsSameClient client.old client.new }
 {
-    let again = order;
-    match client.turn_by(rt, office, order, policy) {
-        Err(Refused::OutOfMemory) => client.turn_by(rt, office, again, policy),
-        answer => answer,
+    for _ in 1..CALLS {
+        match client.turn_by(rt, office, *&order, policy) {
+            Err(Refused::OutOfMemory) => {}
+            answer => return answer,
+        }
     }
+    client.turn_by(rt, office, order, policy)
 }
 
 /// Delivers the letters of both nodes by the policies, until neither has one.
@@ -199,7 +172,7 @@ fn is_sound_by<R: Wait>(
     ensures server { IsSameServer server.old server.new }
     ensures clients { IsSameClient one.old one.new × IsSameClient two.old two.new }
 {
-    let mut policy = Drawn { word: seed };
+    let mut policy = Drawn::new(seed);
     let mut sound = true;
     let mut held = 0u64;
     for round in 0..ROUNDS {

@@ -1,6 +1,7 @@
 //! What survives a restart: which entries are refused, writes, registration. A call that is refused
 //! for want of memory is made again, after a look that nothing has changed, so that each run ends
-//! alike, whichever one allocation fails.
+//! alike, whichever one or two allocations in a row fail.
+use crate::again::{CALLS, again};
 use crate::values::{LENGTHS, first_bytes};
 use krl_durable::{Durable, Record, Refused};
 use krl_messages::{Outcome, Value, WriteOp};
@@ -10,10 +11,7 @@ use std::test::Fail;
 
 // A durable part of these entries.
 fn durable_of(alloc: Global, entries: &[(u64, Value)]) -> Result<Durable, Refused> {
-    match Durable::new(alloc, entries) {
-        Err(Refused::OutOfMemory) => Durable::new(alloc, entries),
-        made => made,
-    }
+    again(|| Durable::new(alloc, entries))
 }
 
 // Whether these entries are refused so.
@@ -53,10 +51,7 @@ fn many(alloc: Global, n: u64, falls: bool) -> Result<Vec<(u64, Value)>, AllocEr
 
 // The same, asked for again where memory was refused.
 fn entries_of(alloc: Global, n: u64, falls: bool) -> Result<Vec<(u64, Value)>, AllocError> {
-    match many(alloc, n, falls) {
-        Ok(entries) => Ok(entries),
-        Err(_) => many(alloc, n, falls),
-    }
+    again(|| many(alloc, n, falls))
 }
 
 // Whether one entry more than there may be is refused.
@@ -98,17 +93,22 @@ fn large_index_sorts_falling_entries(rt: HostRuntime) -> Result<(), Fail> {
     Ok(())
 }
 
-// Whether the client registers with this incarnation, at once or after a refusal that changed
+// Whether the client registers with this incarnation, at once or after refusals that changed
 // nothing.
 fn registers(durable: &mut Durable, c: u64, incarnation: u64) -> bool {
     if c >= 64 || incarnation == 0 || incarnation > END {
         return false;
     }
     let before = durable.record(c);
-    if durable.register(c, incarnation).is_err() {
-        return durable.record(c) == before && durable.register(c, incarnation).is_ok();
+    for _ in 0..CALLS {
+        if durable.register(c, incarnation).is_ok() {
+            return true;
+        }
+        if durable.record(c) != before {
+            return false;
+        }
     }
-    true
+    false
 }
 
 // Whether a write of a client, which registers first if it has not, is judged so and noted.
@@ -309,10 +309,7 @@ fn keeps_values_of_each_length(rt: HostRuntime) -> Result<(), Fail> {
 
 // Whether the clients that have not left are these, asked for again where memory was refused.
 fn are_missing(durable: &Durable, alloc: Global, expected: &[u64]) -> bool {
-    match durable
-        .missing_order(alloc)
-        .or_else(|_refused| durable.missing_order(alloc))
-    {
+    match again(|| durable.missing_order(alloc)) {
         Ok(clients) => clients.as_slice() == expected,
         Err(_) => false,
     }
@@ -380,11 +377,13 @@ static RECORDS: [(u64, Record); 2] = [
 ];
 
 // A durable part of these entries and those two clients, at epoch 7.
+fn try_brought(alloc: Global, entries: &[(u64, Value)]) -> Result<Durable, Refused> {
+    Durable::from_parts(alloc, entries, 7, &RECORDS)
+}
+
+// The same, asked for again where memory was refused.
 fn brought(alloc: Global, entries: &[(u64, Value)]) -> Result<Durable, Refused> {
-    match Durable::from_parts(alloc, entries, 7, &RECORDS) {
-        Err(Refused::OutOfMemory) => Durable::from_parts(alloc, entries, 7, &RECORDS),
-        made => made,
-    }
+    again(|| try_brought(alloc, entries))
 }
 
 // Whether those two clients have these records, and no third has one.

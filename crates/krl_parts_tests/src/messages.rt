@@ -1,5 +1,6 @@
 //! Messages: their lists, their clones, and what is read off them. A refused call is made again, so
-//! that each run ends alike, whichever request for memory is refused.
+//! that each run ends alike, whichever requests for memory are refused.
+use crate::again::again;
 use krl_messages::{
     Holding, Holdings, Items, KeyPiece, KeyPieces, Pieces, RangePiece, RangePieces, ToServer,
     ToServerBody, Value, WriteOp,
@@ -49,12 +50,10 @@ fn report(alloc: Global, span: Span) -> Result<ToServer, AllocError> {
     })
 }
 
-/// The report, and its clone: each is asked for a second time where it is refused.
+/// The report, and its clone: each is asked for again where it is refused.
 fn report_and_clone(alloc: Global, span: Span) -> Result<(ToServer, ToServer), AllocError> {
-    let message = report(alloc, span).or_else(|_refused| report(alloc, span))?;
-    let copy = message
-        .try_clone(alloc)
-        .or_else(|_refused| message.try_clone(alloc))?;
+    let message = again(|| report(alloc, span))?;
+    let copy = again(|| message.try_clone(alloc))?;
     Ok((message, copy))
 }
 

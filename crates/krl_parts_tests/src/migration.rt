@@ -1,11 +1,12 @@
 //! What survived when values were numbers: what it was made of, and how it is brought to what
 //! survives now. A call that is refused for want of memory is made again, so that each run ends
-//! alike, whichever one allocation fails.
+//! alike, whichever one or two allocations in a row fail.
 ghost use Rattle.std.specs.Prelude.{nat_eq};
 ghost use Rattle.std.specs.List.{AllByRecursion, IsDistinct};
 ghost use Rattle.std.specs.Map.{keys_of};
 ghost use Rattle.krl_durable.specs.Kept.{IsRow};
 
+use crate::again::again;
 use krl_durable::{Durable, DurableV1, NotMigrated, Record, Refused};
 use krl_messages::Outcome;
 use krl_modes::END;
@@ -50,26 +51,17 @@ fn survived(alloc: Global, records: &[(u64, Record)]) -> Result<DurableV1, Refus
     requires each { AllByRecursion IsRow records.now }
     requires once { IsDistinct nat_eq (keys_of records.now) }
 {
-    match DurableV1::from_parts(alloc, &[(10, 258)], 4, records) {
-        Err(Refused::OutOfMemory) => DurableV1::from_parts(alloc, &[(10, 258)], 4, records),
-        made => made,
-    }
+    again(|| DurableV1::from_parts(alloc, &[(10, 258)], 4, records))
 }
 
 // What never served: these entries alone.
 fn unused(alloc: Global, entries: &[(u64, u64)]) -> Result<DurableV1, Refused> {
-    match DurableV1::new(alloc, entries) {
-        Err(Refused::OutOfMemory) => DurableV1::new(alloc, entries),
-        made => made,
-    }
+    again(|| DurableV1::new(alloc, entries))
 }
 
 // What becomes of it.
 fn migrated(alloc: Global, old: &DurableV1) -> Result<Durable, NotMigrated> {
-    match Durable::migrate(alloc, old) {
-        Err(NotMigrated::OutOfMemory) => Durable::migrate(alloc, old),
-        made => made,
-    }
+    again(|| Durable::migrate(alloc, old))
 }
 
 // Whether it is what survived with these records: a refusal leaves it so too.
@@ -92,10 +84,7 @@ fn has_eight_bytes(durable: &Durable, key: u64, bytes: &[u8; 8]) -> bool {
 
 // Whether the clients that have not left are these, asked for again where memory was refused.
 fn are_missing(old: &DurableV1, alloc: Global, expected: &[u64]) -> bool {
-    match old
-        .missing_order(alloc)
-        .or_else(|_refused| old.missing_order(alloc))
-    {
+    match again(|| old.missing_order(alloc)) {
         Ok(clients) => clients.as_slice() == expected,
         Err(_) => false,
     }

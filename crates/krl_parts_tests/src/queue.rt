@@ -1,5 +1,6 @@
-//! Waiting lists. A refused node is asked for again with the waiter that came back, so that each run ends in the same
-//! lists, whichever request for memory is refused. No other call asks for memory.
+//! Waiting lists. A refused node is asked for again with the waiter that came back, so that each
+//! run ends in the same lists, whichever requests for memory are refused. No other call asks for
+//! memory.
 use krl_modes::{END, Mode, Point};
 use krl_queue::{WaitList, WaitNode, Waiter};
 use std::alloc::Global;
@@ -8,7 +9,7 @@ use std::marker::Send;
 /// Clients with the points that they wait for.
 static FIVE: [(u64, u64); 5] = [(1, 10), (2, 30), (3, 20), (2, 20), (4, END)];
 
-/// A node, which is asked for again with the waiter that came back.
+/// A node, which is asked for again with the waiter that came back, twice at most.
 fn node(alloc: Global, client: u64, point: u64) -> Option<WaitNode> {
     let waiter = Waiter {
         client,
@@ -17,10 +18,10 @@ fn node(alloc: Global, client: u64, point: u64) -> Option<WaitNode> {
         hi: point.saturating_add(1),
         mode: Mode::RangeSU,
     };
-    match WaitNode::try_new(alloc, waiter) {
-        Ok(node) => Some(node),
-        Err(refused) => WaitNode::try_new(alloc, refused.value).ok(),
-    }
+    WaitNode::try_new(alloc, waiter)
+        .or_else(|refused| WaitNode::try_new(alloc, refused.value))
+        .or_else(|refused| WaitNode::try_new(alloc, refused.value))
+        .ok()
 }
 
 /// Puts those five in: the first before all others, at last.

@@ -4,6 +4,8 @@
 #[cfg(test)]
 mod acts;
 #[cfg(test)]
+mod again;
+#[cfg(test)]
 mod exchange;
 #[cfg(test)]
 mod gathering;

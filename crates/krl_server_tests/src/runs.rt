@@ -1,6 +1,7 @@
 //! Acts, one after another, and whether each gives what it should. Where an allocation is refused, a
 //! server shows what it showed, and the refused call is made again.
 use crate::acts::{Act, Gives, Told};
+use crate::again::{CALLS, again};
 use crate::requests::message;
 use crate::shows::{Shows, missing, nudge, showing, stays};
 use crate::told::are_told;
@@ -37,16 +38,18 @@ fn steps(
     }
 }
 
-// Whether this comes of the message, perhaps the second time; a refusal changes nothing.
+// Whether this comes of the message, perhaps after refusals, each of which changes nothing.
 fn hears(alloc: Global, server: &mut Server, message: &ToServer, expected: &Gives) -> bool {
     let before = showing(alloc, server);
-    match steps(alloc, server, &before, message, expected) {
-        Some(given) => given,
-        None => {
-            stays(alloc, server, &before)
-                && steps(alloc, server, &before, message, expected) == Some(true)
+    for _ in 0..CALLS {
+        if let Some(given) = steps(alloc, server, &before, message, expected) {
+            return given;
+        }
+        if !stays(alloc, server, &before) {
+            return false;
         }
     }
+    false
 }
 
 // Whether just these entries are there, in this order.
@@ -87,7 +90,7 @@ fn is_shown(alloc: Global, server: &Server, act: Act, expected: &Gives) -> bool 
 
 // Whether the act gives this.
 fn acts(alloc: Global, server: &mut Server, act: Act, expected: &Gives) -> bool {
-    match message(alloc, act).or_else(|_refused| message(alloc, act)) {
+    match again(|| message(alloc, act)) {
         Ok(Some(message)) => hears(alloc, server, &message, expected),
         Ok(None) => is_shown(alloc, server, act, expected),
         Err(_) => false,

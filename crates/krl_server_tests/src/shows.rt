@@ -1,4 +1,5 @@
 //! What a server shows, before a call and after it.
+use crate::again::again;
 use krl_durable::{Durable, Record};
 use krl_messages::{Items, ToClient, Value};
 use krl_server::{Phase, Server};
@@ -37,17 +38,11 @@ pub struct Shows {
 }
 
 pub fn missing(alloc: Global, server: &Server) -> Result<Items<u64>, AllocError> {
-    match server.missing(alloc) {
-        Ok(clients) => Ok(clients),
-        Err(_) => server.missing(alloc),
-    }
+    again(|| server.missing(alloc))
 }
 
 pub fn nudge(alloc: Global, server: &Server, client: u64) -> Result<Items<ToClient>, AllocError> {
-    match server.nudge(alloc, client) {
-        Ok(messages) => Ok(messages),
-        Err(_) => server.nudge(alloc, client),
-    }
+    again(|| server.nudge(alloc, client))
 }
 
 pub fn showing(alloc: Global, server: &Server) -> Shows {

@@ -1,5 +1,5 @@
-//! A server that is told everything by hand. Each run ends alike, whichever one allocation fails:
-//! `rt try --test --fail-alloc N`.
+//! A server that is told everything by hand. Each run ends alike, whichever one or two allocations
+//! in a row fail.
 ghost use Rattle.std.specs.Prelude.{◌≤◌, nat_eq};
 ghost use Rattle.std.specs.List.{AllByRecursion, IsDistinct};
 ghost use Rattle.std.specs.Map.{keys_of};
@@ -7,6 +7,7 @@ ghost use Rattle.krl_modes.specs.declared.point.TheConstants.{END};
 ghost use Rattle.krl_durable.specs.Kept.{IsRow};
 
 use crate::acts::{Act, Gives};
+use crate::again::again;
 use crate::exchange::{CROWD, EXCHANGE, SHARES};
 use crate::gathering::{CONTRADICTS, GATHERS, REGISTERS};
 use crate::ranges::{
@@ -54,9 +55,7 @@ static NO_NUMBER_LEFT: [(u64, Record); 1] = [(
 
 // What survives where nothing has happened to these entries yet.
 fn unused(alloc: Global, entries: &[(u64, Value)]) -> Option<Durable> {
-    Durable::new(alloc, entries)
-        .or_else(|_refused| Durable::new(alloc, entries))
-        .ok()
+    again(|| Durable::new(alloc, entries)).ok()
 }
 
 // What a host kept of the one entry: this epoch, and these records.
@@ -65,10 +64,7 @@ fn kept(alloc: Global, epoch: u64, records: &[(u64, Record)]) -> Option<Durable>
     requires each { AllByRecursion IsRow records.now }
     requires once { IsDistinct nat_eq (keys_of records.now) }
 {
-    match Durable::from_parts(alloc, &one_entry(), epoch, records) {
-        Ok(durable) => Some(durable),
-        Err(_) => Durable::from_parts(alloc, &one_entry(), epoch, records).ok(),
-    }
+    again(|| Durable::from_parts(alloc, &one_entry(), epoch, records)).ok()
 }
 
 // What a host kept of two clients.

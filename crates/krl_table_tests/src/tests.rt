@@ -2,6 +2,7 @@ ghost use Rattle.std.specs.Prelude.{◌≡◌, ◌<◌, IfSome};
 ghost use Rattle.krl_table.specs.Waiters.{WaitsNowhere};
 ghost use Rattle.krl_table.specs.Kept.{rows_of};
 
+use crate::again::{CALLS, again};
 use krl_durable::{Durable, Refused};
 use krl_messages::{KeyPiece, Pieces, RangePiece, Value, WriteOp};
 use krl_modes::{END, KeyPart, Mode, Point, RangePart, Span, TOP};
@@ -50,17 +51,15 @@ fn enters(alloc: Global, table: &mut Table, client: u64, point: Point, hi: u64, 
     }
 }
 
-// A node of the waiter. One that is refused memory is made again.
+// A node of the waiter. One that is refused memory is made again of the waiter that came back,
+// twice at most.
 fn node(alloc: Global, waiter: Waiter) -> Option<WaitNode>
     ensures { IfSome result (λ made. made ≡ waiter) }
 {
-    match WaitNode::try_new(alloc, waiter) {
-        Ok(node) => Some(node),
-        Err(refused) => match WaitNode::try_new(alloc, refused.value) {
-            Ok(node) => Some(node),
-            Err(_refused) => None,
-        },
-    }
+    WaitNode::try_new(alloc, waiter)
+        .or_else(|refused| WaitNode::try_new(alloc, refused.value))
+        .or_else(|refused| WaitNode::try_new(alloc, refused.value))
+        .ok()
 }
 
 // The first waiter at the point's slot is granted what it wants, on this many slots.
@@ -178,10 +177,29 @@ fn built(alloc: Global, keys: &[u64]) -> Result<Table, Refused> {
 
 // The same. One that is refused memory is built again.
 fn table_of(alloc: Global, keys: &[u64]) -> Result<Table, Refused> {
-    match built(alloc, keys) {
-        Ok(table) => Ok(table),
-        Err(_refused) => built(alloc, keys),
+    again(|| built(alloc, keys))
+}
+
+// Whether the slot of 20 is as it was before a slot was split off at 15.
+fn is_unsplit(table: &Table) -> bool {
+    spans(table, 20, 11)
+        && holds(table, 20, 0, Mode::RangeIN)
+        && is_first(table, 20, 2)
+        && !spans(table, 15, 11)
+}
+
+// Client 0 parts that slot at 15. Where the row's memory is refused nothing has changed, and the
+// split is made again.
+fn splits_at_last(table: &mut Table) -> bool {
+    for _ in 0..CALLS {
+        if let Ok(done) = splits(table, 15, 0) {
+            return done;
+        }
+        if !is_unsplit(table) {
+            return false;
+        }
     }
+    false
 }
 
 #[test]
@@ -193,16 +211,7 @@ fn inserts_among_waiters(rt: HostRuntime) -> Result<(), Fail> {
     assert!(rt; waits(alloc, &mut table, 2, 13, Mode::RangeXX));
     assert!(rt; waits(alloc, &mut table, 3, 18, Mode::RangeXX));
     assert!(rt; table.waiting_slots().as_slice() == [20].as_slice());
-    // Where the row's memory is refused nothing has changed, and the split is made again.
-    let done = match splits(&mut table, 15, 0) {
-        Ok(done) => done,
-        Err(_refused) => {
-            assert!(rt; spans(&table, 20, 11) && holds(&table, 20, 0, Mode::RangeIN));
-            assert!(rt; is_first(&table, 20, 2) && !spans(&table, 15, 11));
-            splits(&mut table, 15, 0)?
-        }
-    };
-    assert!(rt; done);
+    assert!(rt; splits_at_last(&mut table));
     assert!(rt; holds(&table, 15, 0, Mode::RangeIX));
     assert!(rt; holds(&table, 15, 1, Mode::RangeIN));
     assert!(rt; holds(&table, 20, 0, Mode::RangeIN));
@@ -316,10 +325,7 @@ fn report(
     ranges: &[Option<RangePiece>],
     key: KeyPiece,
 ) -> Result<Pieces, AllocError> {
-    match listed(alloc, ranges, key) {
-        Ok(pieces) => Ok(pieces),
-        Err(_refused) => listed(alloc, ranges, key),
-    }
+    again(|| listed(alloc, ranges, key))
 }
 
 fn listed(

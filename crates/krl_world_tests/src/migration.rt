@@ -1,11 +1,12 @@
 //! Worlds that begin with what survived when values were numbers. A call that is refused for want of
-//! memory is made again, so that each run ends alike, whichever request for memory is refused.
+//! memory is made again, so that each run ends alike, whichever requests for memory are refused.
 ghost use Rattle.std.specs.Prelude.{◌≤◌, nat_eq};
 ghost use Rattle.std.specs.List.{AllByRecursion, IsDistinct};
 ghost use Rattle.std.specs.Map.{keys_of};
 ghost use Rattle.krl_modes.specs.declared.point.TheConstants.{END};
 ghost use Rattle.krl_durable.specs.Kept.{IsRow};
 
+use crate::again::{again, takes};
 use krl_durable::{DurableV1, Record, Refused as EntriesRefused};
 use krl_messages::Outcome;
 use krl_modes::END;
@@ -57,20 +58,12 @@ fn survived(
     requires each { AllByRecursion IsRow records.now }
     requires once { IsDistinct nat_eq (keys_of records.now) }
 {
-    match DurableV1::from_parts(alloc, &[(10, 258)], epoch, records) {
-        Err(EntriesRefused::OutOfMemory) => {
-            DurableV1::from_parts(alloc, &[(10, 258)], epoch, records)
-        }
-        made => made,
-    }
+    again(|| DurableV1::from_parts(alloc, &[(10, 258)], epoch, records))
 }
 
 /// A world that begins with it.
 fn migrated(alloc: Global, old: &DurableV1) -> Result<World, Refused> {
-    match World::migrate(alloc, old) {
-        Err(Refused::OutOfMemory) => World::migrate(alloc, old),
-        made => made,
-    }
+    again(|| World::migrate(alloc, old))
 }
 
 /// Whether no world begins with it, for this reason.
@@ -81,20 +74,11 @@ fn is_refused(alloc: Global, old: &DurableV1, expected: Refused) -> bool {
     }
 }
 
-/// Whether the step is taken, at once or after a refusal.
-fn steps(world: &mut World, step: &Step) -> bool {
-    match world.step(*step) {
-        Ok(_) => true,
-        Err(Refused::OutOfMemory) => world.step(*step).is_ok(),
-        Err(_) => false,
-    }
-}
-
 /// Whether the client starts, and is registered with this incarnation once its Hello is delivered.
 fn starts_as(world: &mut World, client: u64, incarnation: u64) -> bool {
     let hello = world.sent().saturating_add(1);
-    steps(world, &Step::StartClient(client))
-        && steps(world, &Step::Deliver(hello))
+    takes(world, Step::StartClient(client))
+        && takes(world, Step::Deliver(hello))
         && is_registered(world, client, incarnation)
 }
 

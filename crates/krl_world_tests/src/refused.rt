@@ -1,33 +1,13 @@
-//! Worlds whose requests for memory may be refused, one by one: what was refused has changed nothing,
-//! and the same call made again gives its row. `tests/refusals` refuses each request in turn.
+//! Worlds whose requests for memory may be refused, one by one or two in a row: what was refused
+//! has changed nothing, and the same call made again gives its row.
+use crate::again::{CALLS, again, is_right_at_last, takes};
 use crate::scripts::writer;
 use krl_messages::{Value, WriteOp};
-use krl_modes::{END, KeyPart, Mode, RangePart};
+use krl_modes::Mode;
 use krl_script::{AnyWriter, ScriptFault, Untold, busy_run, random_run, run_script};
 use krl_world::{Answer, Command, Refused, Step, World};
 use std::alloc::{AllocError, Global};
 use std::process::Abort;
-
-// What a caller sees of a world: how many messages were sent, how long its index and its writes are,
-// which nodes run, and what client 0 holds at some points.
-type Seen = (u64, usize, usize, bool, bool, [(RangePart, KeyPart); 4]);
-
-fn seen(world: &World) -> Seen {
-    let held = [
-        world.held(0, 5),
-        world.held(0, 10),
-        world.held(0, 15),
-        world.held(0, END),
-    ];
-    (
-        world.sent(),
-        world.index().len(),
-        world.writes().len(),
-        world.server().is_some(),
-        world.client(0).is_some(),
-        held,
-    )
-}
 
 fn entries(alloc: Global) -> Result<Vec<(u64, Value)>, AllocError> {
     let mut entries = Vec::new(alloc);
@@ -36,18 +16,14 @@ fn entries(alloc: Global) -> Result<Vec<(u64, Value)>, AllocError> {
     Ok(entries)
 }
 
-// A world of two entries; None where memory was refused.
-fn made(alloc: Global) -> Option<World> {
-    let entries = entries(alloc).ok()?;
-    World::new(alloc, entries).ok()
+// A world of two entries.
+fn made(alloc: Global) -> Result<World, Refused> {
+    World::new(alloc, entries(alloc)?)
 }
 
-// A world of two entries, which may have to be made twice.
+// The same, made again where memory was refused.
 fn world(rt: &impl Abort, alloc: Global) -> World {
-    match made(alloc) {
-        Some(world) => world,
-        None => made(alloc).expect(rt, "a world"),
-    }
+    again(|| made(alloc)).ok().expect(rt, "a world")
 }
 
 // Client 0 locks a range over both entries, inserts between them, and forgets; then its server
@@ -90,16 +66,6 @@ fn steps() -> [Step; 24] {
     ]
 }
 
-// Takes a step, again where it is refused for want of memory: then nothing has changed.
-fn takes(world: &mut World, step: Step) -> bool {
-    let again = step;
-    let before = seen(world);
-    match world.step(step) {
-        Err(Refused::OutOfMemory) => seen(world) == before && world.step(again).is_ok(),
-        answer => answer.is_ok(),
-    }
-}
-
 #[test]
 fn each_step_is_taken_again(rt: HostRuntime) {
     let mut world = world(&rt, rt.alloc());
@@ -114,35 +80,37 @@ fn is_refused(answer: &Result<Answer, Refused>) -> bool {
     matches!(answer, Err(Refused::OutOfMemory))
 }
 
-// Whether the world takes all steps in one run. Where there is no memory for the answers, no step is
-// taken, and the run is made again; where a step is refused, another world makes it.
-fn runs(alloc: Global, world: &mut World, other: &mut World) -> bool {
-    let answers = match world.run(alloc, &steps()) {
-        Ok(answers) => answers,
-        Err(_) => {
-            if world.sent() != 0 || world.client(0).is_some() {
-                return false;
-            }
-            return match world.run(alloc, &steps()) {
-                Ok(answers) => answers.as_slice().iter().all(Result::is_ok),
-                Err(_) => false,
-            };
+// What the world answers to all steps in one run. Where there is no memory for the answers, no step
+// is taken, and the run is made again. None where a step was taken, or there is no memory in the
+// end.
+fn answers(alloc: Global, world: &mut World) -> Option<Vec<Result<Answer, Refused>>> {
+    for _ in 0..CALLS {
+        if let Ok(answers) = world.run(alloc, &steps()) {
+            return Some(answers);
         }
-    };
-    if !answers.as_slice().iter().any(is_refused) {
-        return answers.as_slice().iter().all(Result::is_ok);
+        if world.sent() != 0 || world.client(0).is_some() {
+            return None;
+        }
     }
-    match other.run(alloc, &steps()) {
-        Ok(answers) => answers.as_slice().iter().all(Result::is_ok),
-        Err(_) => false,
+    None
+}
+
+// Whether a world takes all steps in one run. Where memory for one is refused, those after it may
+// be refused too, and another world has to make the run: `Err(true)`.
+fn runs(alloc: Global) -> Result<bool, bool> {
+    let Ok(mut world) = made(alloc) else {
+        return Err(true);
+    };
+    match answers(alloc, &mut world) {
+        None => Ok(false),
+        Some(answers) if answers.as_slice().iter().any(is_refused) => Err(true),
+        Some(answers) => Ok(answers.as_slice().iter().all(Result::is_ok)),
     }
 }
 
 #[test]
 fn a_run_is_made_again(rt: HostRuntime) {
-    let mut one = world(&rt, rt.alloc());
-    let mut other = world(&rt, rt.alloc());
-    assert!(rt; runs(rt.alloc(), &mut one, &mut other));
+    assert!(rt; is_right_at_last(|| runs(rt.alloc())));
 }
 
 static SCRIPT: &str = "seed 10=1 20=2\nclient 0\nsettle\nlock 0 5 RangeS-S\nsettle\n\
@@ -150,31 +118,26 @@ static SCRIPT: &str = "seed 10=1 20=2\nclient 0\nsettle\nlock 0 5 RangeS-S\nsett
 
 static TRANSCRIPT: &str = "rows 10=1\nmiss 11\n";
 
-// How a script ended, and whether what it wrote is the front of its transcript.
-fn scripted(alloc: Global) -> (Result<(), ScriptFault>, bool, bool) {
+// Whether a script wrote its transcript. A line that is refused prints that it is, and the lines
+// after it are run: so only a script that ended for want of memory wrote the front of its
+// transcript.
+fn scripted(alloc: Global) -> Result<bool, bool> {
     let mut text = SCRIPT.as_bytes();
     let mut taken = AnyWriter(writer(TRANSCRIPT, 7, 1000));
-    let ended = run_script(alloc, &mut text, &mut taken);
-    (ended, taken.0.is_right, taken.0.rest.is_empty())
+    match run_script(alloc, &mut text, &mut taken) {
+        Ok(()) if taken.0.is_right && taken.0.rest.is_empty() => Ok(true),
+        Ok(()) => Err(true),
+        Err(ScriptFault::OutOfMemory) => Err(taken.0.is_right),
+        Err(_) => Ok(false),
+    }
 }
 
 #[test]
 fn a_script_is_run_again(rt: HostRuntime) {
-    // A line that is refused prints that it is, and the lines after it are run: so only a script that
-    // ended for want of memory wrote the front of its transcript.
-    let (ended, is_front, is_whole) = scripted(rt.alloc());
-    if let Ok(()) = &ended {
-        if is_whole && is_front {
-            return;
-        }
-    } else {
-        assert!(rt; matches!(&ended, Err(ScriptFault::OutOfMemory)) && is_front);
-    }
-    let (ended, is_front, is_whole) = scripted(rt.alloc());
-    assert!(rt; ended.is_ok() && is_front && is_whole);
+    assert!(rt; is_right_at_last(|| scripted(rt.alloc())));
 }
 
-// Whether the run is sound, or ended for want of memory with nothing written.
+// Whether the run is sound. An `Err` where it ended for want of memory, with nothing written.
 fn drives(alloc: Global, is_busy: bool) -> Result<bool, bool> {
     let line = "random 7 40 sound\n";
     let mut taken = AnyWriter(writer(line, 1000, 1000));
@@ -193,12 +156,6 @@ fn drives(alloc: Global, is_busy: bool) -> Result<bool, bool> {
 #[test]
 fn a_random_run_is_made_again(rt: HostRuntime) {
     for is_busy in [false, true] {
-        match drives(rt.alloc(), is_busy) {
-            Ok(is_right) => assert!(rt; is_right),
-            Err(is_unwritten) => {
-                assert!(rt; is_unwritten);
-                assert!(rt; matches!(drives(rt.alloc(), is_busy), Ok(true)));
-            }
-        }
+        assert!(rt; is_right_at_last(|| drives(rt.alloc(), is_busy)));
     }
 }

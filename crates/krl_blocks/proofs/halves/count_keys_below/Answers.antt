@@ -1,5 +1,4 @@
-use Rattle.std.proofs.Common.{◌≡◌, ◌+◌, ◌-◌, ◌*◌, ◌%◌, ◌^◌, ◌<◌, ◌≤◌, ℕ, Bool, nat_lt, true, false, length, cond, arith, sym, ap, subst, ◌∙◌, refl}
-use Rattle.std.specs.Prelude.{slice_index_or}
+use Rattle.std.proofs.Common.{◌≡◌, ◌+◌, ◌-◌, ◌*◌, ◌%◌, ◌^◌, ◌<◌, ℕ, Bool, nat_lt, true, false, length, cond, arith, sym, ap, ◌∙◌}
 use Rattle.std.proofs.lemmas.Nat.{pow_pos}
 use Rattle.krl_blocks.proofs.Places.{tops_partitioned, front_passes, back_passes}
 use Rattle.krl_blocks.proofs.Probes.{near_at, Start, up_pow, down_pow, last_pow, step_pow, probe_within}

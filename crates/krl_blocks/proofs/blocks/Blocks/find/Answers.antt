@@ -4,4 +4,4 @@ use Rattle.krl_blocks.proofs.Readings.{flat_rise}
 use Rattle.krl_blocks.proofs.blocks.Blocks.find.Goals as goal
 
 pub returns-clause-rises : goal.returns-clause-rises
-returns-clause-rises g c = subst (λ e. KeysRise e.list) c.self.view_is (flat_rise c.self.inside.layout.tops.items c.self.inside.layout.blocks.items c.self.invariant.kept.laid)
+returns-clause-rises g c = subst (λ e. KeysRise e.list) c.self.view_is (flat_rise c.self.inside.layout.tops.items c.self.inside.layout.shelf.blocks c.self.invariant.kept.laid)

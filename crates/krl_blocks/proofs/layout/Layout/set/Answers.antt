@@ -8,16 +8,16 @@ use Rattle.krl_blocks.proofs.Kept.{changed_kept, changed_answer}
 use Rattle.krl_blocks.proofs.layout.Layout.set.Goals as goal
 
 pub count_tops-b-requires : goal.count_tops-b-requires
-count_tops-b-requires g c = subst Rises (sym c.deref.ensures.value) (laid_rise 0 c.args.self.now.tops.items c.args.self.now.blocks.items c.requires.kept.laid)
+count_tops-b-requires g c = subst Rises (sym c.deref.ensures.value) (laid_rise 0 c.args.self.now.tops.items c.args.self.now.shelf.blocks c.requires.kept.laid)
 
-pub set_at-requires-clause-rising : goal.set_at-requires-clause-rising
-set_at-requires-clause-rising g c = rising_at 0 c.args.self.now.tops.items c.args.self.now.blocks.items c.count_tops-b.result c.requires.kept.laid
+pub set_in-requires-clause-rising : goal.set_in-requires-clause-rising
+set_in-requires-clause-rising g c = rising_at 0 c.args.self.now.tops.items c.args.self.now.shelf.blocks c.count_tops-b.result c.requires.kept.laid
 
 pub returns-then-b-len-clause-kept : goal.returns-then-b-len-clause-kept
-returns-then-b-len-clause-kept g c = changed_kept c.args.key c.args.value c.args.self.now.tops c.args.self.now.blocks c.set_at.new.blocks c.args.self.now.spare c.count_tops-b.result c.requires.kept (omega (arith, c.set_at.ensures.room)) (subst (λ ns. AllByRecursion (λ t. nat_lt t c.args.key ≡ true) (take c.count_tops-b.result ns)) c.deref.ensures.value c.count_tops-b.ensures.below) (subst (λ ns. AllByRecursion (λ t. nat_lt t c.args.key ≡ false) (drop c.count_tops-b.result ns)) c.deref.ensures.value c.count_tops-b.ensures.rest) c.set_at.result c.set_at.ensures.one
+returns-then-b-len-clause-kept g c = changed_kept c.args.key c.args.value c.args.self.now.tops c.args.self.now.shelf c.set_in.new.shelf c.count_tops-b.result c.requires.kept c.set_in.ensures.most (subst (λ ns. AllByRecursion (λ t. nat_lt t c.args.key ≡ true) (take c.count_tops-b.result ns)) c.deref.ensures.value c.count_tops-b.ensures.below) (subst (λ ns. AllByRecursion (λ t. nat_lt t c.args.key ≡ false) (drop c.count_tops-b.result ns)) c.deref.ensures.value c.count_tops-b.ensures.rest) c.set_in.result c.set_in.ensures.one
 
 pub returns-then-b-len-clause-changed : goal.returns-then-b-len-clause-changed
-returns-then-b-len-clause-changed g c = changed_answer c.args.key c.args.value c.args.self.now.tops c.args.self.now.blocks c.set_at.new.blocks c.args.self.now.spare c.count_tops-b.result c.requires.kept (omega (arith, c.set_at.ensures.room)) (subst (λ ns. AllByRecursion (λ t. nat_lt t c.args.key ≡ true) (take c.count_tops-b.result ns)) c.deref.ensures.value c.count_tops-b.ensures.below) (subst (λ ns. AllByRecursion (λ t. nat_lt t c.args.key ≡ false) (drop c.count_tops-b.result ns)) c.deref.ensures.value c.count_tops-b.ensures.rest) c.set_at.result c.set_at.ensures.one
+returns-then-b-len-clause-changed g c = changed_answer c.args.key c.args.value c.args.self.now.tops c.args.self.now.shelf c.set_in.new.shelf c.count_tops-b.result c.requires.kept c.set_in.ensures.most (subst (λ ns. AllByRecursion (λ t. nat_lt t c.args.key ≡ true) (take c.count_tops-b.result ns)) c.deref.ensures.value c.count_tops-b.ensures.below) (subst (λ ns. AllByRecursion (λ t. nat_lt t c.args.key ≡ false) (drop c.count_tops-b.result ns)) c.deref.ensures.value c.count_tops-b.ensures.rest) c.set_in.result c.set_in.ensures.one
 
 pub returns-else-b-len-clause-changed : goal.returns-else-b-len-clause-changed
-returns-else-b-len-clause-changed g c = (absent_behind c.args.key c.args.self.now.tops.items c.args.self.now.blocks.items c.count_tops-b.result c.requires.kept.laid (subst (λ ns. AllByRecursion (λ t. nat_lt t c.args.key ≡ true) (take c.count_tops-b.result ns)) c.deref.ensures.value c.count_tops-b.ensures.below) (omega (arith, c.if-b-len.false, c.len.ensures, c.args.self.now.blocks.ok.0)), refl)
+returns-else-b-len-clause-changed g c = (absent_behind c.args.key c.args.self.now.tops.items c.args.self.now.shelf.blocks c.count_tops-b.result c.requires.kept.laid (subst (λ ns. AllByRecursion (λ t. nat_lt t c.args.key ≡ true) (take c.count_tops-b.result ns)) c.deref.ensures.value c.count_tops-b.ensures.below) (omega (arith, c.if-b-len.false, c.len.ensures)), refl)

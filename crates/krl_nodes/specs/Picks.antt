@@ -1,0 +1,13 @@
+-- What becomes of a letter, where that is drawn.
+use Rattle.std.specs.Prelude.{ℕ, nat_eq, nat_lt, if◌then◌else◌}
+use Rattle.krl_draws.specs.Draws.{Draw, below, always, ◌>>=◌}
+use Rattle.krl_nodes.specs.declared.policy.Pick.{Pick}
+use Rattle.krl_nodes.specs.declared.policy.Pick.TheVariants.{Take, Copy, Lose}
+
+-- what becomes of the letter in this place, by a number below eight
+abbrev pub fate : ℕ → ℕ → Pick
+fate n at = if nat_eq n 0 then Lose at else (if nat_lt n 3 then Copy at else Take at)
+
+-- one letter in eight is lost and two are delivered without being taken out; each of the letters may be the one
+abbrev pub picked : ℕ → Draw Pick
+picked letters = below 8 >>= λ n. below letters >>= λ at. always (fate n at)

@@ -1,0 +1,9 @@
+pub mod Putting
+pub mod Loop
+pub mod Fields
+pub mod Rows
+pub mod Tables
+pub mod Lists
+pub mod Heads
+pub mod ToClients
+pub mod ToServers

@@ -1,0 +1,161 @@
+-- The one spelling of each message in version 1, as a list of bytes.
+use Rattle.std.specs.Prelude.{ℕ, List, [], ◌∷◌, ◌++◌, length, Option, Some, None}
+use Rattle.std.specs.List.{flat_map}
+use Rattle.std.specs.Int.{w32, w64, to_le_bytes}
+use Rattle.krl_modes.specs.Spans.{Bounds}
+use Rattle.krl_modes.specs.declared.mode.Mode.{Mode}
+use Rattle.krl_modes.specs.declared.mode.Mode.TheVariants as mode
+use Rattle.krl_modes.specs.declared.part.RangePart.{RangePart}
+use Rattle.krl_modes.specs.declared.part.RangePart.TheVariants as range
+use Rattle.krl_modes.specs.declared.part.KeyPart.{KeyPart}
+use Rattle.krl_modes.specs.declared.part.KeyPart.TheVariants as key
+use Rattle.krl_messages.specs.Values.{Value}
+use Rattle.krl_messages.specs.declared.outcome.Outcome.{Outcome}
+use Rattle.krl_messages.specs.declared.outcome.Outcome.TheVariants as outcome
+use Rattle.krl_messages.specs.declared.holding.Holding.{Holding}
+use Rattle.krl_messages.specs.declared.range_pieces.RangePiece.{RangePiece}
+use Rattle.krl_messages.specs.declared.key_pieces.KeyPiece.{KeyPiece}
+use Rattle.krl_messages.specs.declared.pieces.Pieces.{Pieces}
+use Rattle.krl_messages.specs.declared.write_op.WriteOp.TheVariants as write
+use Rattle.krl_messages.specs.declared.to_server.ToServer.{ToServer}
+use Rattle.krl_messages.specs.declared.to_server.ToServerBody.{ToServerBody}
+use Rattle.krl_messages.specs.declared.to_server.ToServerBody.TheVariants as server
+use Rattle.krl_messages.specs.declared.to_server.RequestBody.{RequestBody}
+use Rattle.krl_messages.specs.declared.to_server.RequestBody.TheVariants as request
+use Rattle.krl_messages.specs.declared.to_client.ToClient.{ToClient}
+use Rattle.krl_messages.specs.declared.to_client.ToClientBody.{ToClientBody}
+use Rattle.krl_messages.specs.declared.to_client.ToClientBody.TheVariants as client
+use Rattle.krl_messages.specs.declared.to_client.PushBody.{PushBody}
+use Rattle.krl_messages.specs.declared.to_client.PushBody.TheVariants as push
+
+-- eight bytes, the lowest first
+abbrev pub number : ℕ → List ℕ
+number n = to_le_bytes w64 n
+
+-- four bytes, the lowest first
+abbrev pub count : ℕ → List ℕ
+count n = to_le_bytes w32 n
+
+abbrev pub range_tag : RangePart → ℕ
+range_tag range.N = 0
+range_tag range.S = 1
+range_tag range.I = 2
+range_tag range.X = 3
+
+abbrev pub key_tag : KeyPart → ℕ
+key_tag key.N = 0
+key_tag key.S = 1
+key_tag key.U = 2
+key_tag key.X = 3
+
+abbrev pub mode_tag : Mode → ℕ
+mode_tag mode.N = 0
+mode_tag mode.S = 1
+mode_tag mode.U = 2
+mode_tag mode.X = 3
+mode_tag mode.RangeSS = 4
+mode_tag mode.RangeSU = 5
+mode_tag mode.RangeIN = 6
+mode_tag mode.RangeIS = 7
+mode_tag mode.RangeIU = 8
+mode_tag mode.RangeIX = 9
+mode_tag mode.RangeXS = 10
+mode_tag mode.RangeXU = 11
+mode_tag mode.RangeXX = 12
+
+abbrev pub outcome_tag : Outcome → ℕ
+outcome_tag outcome.Applied = 0
+outcome_tag outcome.Exists = 1
+outcome_tag outcome.Absent = 2
+outcome_tag outcome.NotHeld = 3
+outcome_tag outcome.Full = 4
+
+abbrev pub span : Bounds → List ℕ
+span s = number s.lo ++ number s.hi
+
+-- how many bytes, in one byte, and the bytes
+abbrev pub value : Value → List ℕ
+value v = length v ∷ v
+
+-- a flag, and the value where there is one
+abbrev pub optional : Option Value → List ℕ
+optional None = 0 ∷ []
+optional (Some v) = 1 ∷ value v
+
+abbrev pub holding : Holding → List ℕ
+holding h = span h.span ++ mode_tag h.mode ∷ optional h.value
+
+-- how many, in one byte, and the holdings
+abbrev pub holdings : List Holding → List ℕ
+holdings hs = length hs ∷ flat_map holding hs
+
+-- how many, in four bytes, and the items
+abbrev pub list : {X : Type 0} → (X → List ℕ) → List X → List ℕ
+list item xs = count (length xs) ++ flat_map item xs
+
+abbrev pub range_piece : RangePiece → List ℕ
+range_piece p = span p.span ++ range_tag p.part ∷ []
+
+abbrev pub key_piece : KeyPiece → List ℕ
+key_piece p = number p.point ++ key_tag p.part ∷ []
+
+abbrev pub pieces : Pieces → List ℕ
+pieces p = list range_piece p.ranges ++ list key_piece p.keys
+
+-- the kind of each message to the server, and what it says after its head
+abbrev pub request_kind : RequestBody → ℕ
+request_kind (request.Lock req point hi m) = 3
+request_kind (request.Write n (write.Insert k v)) = 4
+request_kind (request.Write n (write.Put k v)) = 5
+request_kind (request.Write n (write.Delete k)) = 6
+request_kind (request.Release s m) = 7
+request_kind request.Ack = 8
+
+abbrev pub request_body : RequestBody → List ℕ
+request_body (request.Lock req point hi m) = number req ++ number point ++ number hi ++ mode_tag m ∷ []
+request_body (request.Write n (write.Insert k v)) = number n ++ number k ++ value v
+request_body (request.Write n (write.Put k v)) = number n ++ number k ++ value v
+request_body (request.Write n (write.Delete k)) = number n ++ number k
+request_body (request.Release s m) = span s ++ mode_tag m ∷ []
+request_body request.Ack = []
+
+abbrev pub to_server_kind : ToServerBody → ℕ
+to_server_kind server.Hello = 0
+to_server_kind server.Bye = 1
+to_server_kind (server.Report epoch p) = 2
+to_server_kind (server.Request r) = request_kind r.body
+
+abbrev pub to_server_body : ToServerBody → List ℕ
+to_server_body server.Hello = []
+to_server_body server.Bye = []
+to_server_body (server.Report epoch p) = number epoch ++ pieces p
+to_server_body (server.Request r) = number r.epoch ++ number r.seen ++ request_body r.body
+
+-- the version, the kind, the client's number, the incarnation, and the rest
+abbrev pub to_server : ToServer → List ℕ
+to_server m = 1 ∷ to_server_kind m.body ∷ number m.client ++ number m.incarnation ++ to_server_body m.body
+
+-- the kind of each message to a client, and what it says after its head
+abbrev pub push_kind : PushBody → ℕ
+push_kind (push.Grant req hs) = 17
+push_kind (push.Absent req point) = 18
+push_kind (push.Answer n o h) = 19
+
+abbrev pub push_body : PushBody → List ℕ
+push_body (push.Grant req hs) = number req ++ holdings hs
+push_body (push.Absent req point) = number req ++ number point
+push_body (push.Answer n o h) = number n ++ outcome_tag o ∷ holding h
+
+abbrev pub to_client_kind : ToClientBody → ℕ
+to_client_kind (client.Epoch epoch) = 16
+to_client_kind (client.Push epoch n b) = push_kind b
+to_client_kind (client.Callback epoch s keep) = 20
+
+abbrev pub to_client_body : ToClientBody → List ℕ
+to_client_body (client.Epoch epoch) = number epoch
+to_client_body (client.Push epoch n b) = number epoch ++ number n ++ push_body b
+to_client_body (client.Callback epoch s keep) = number epoch ++ span s ++ mode_tag keep ∷ []
+
+-- the version, the kind, the client's number, the incarnation, and the rest
+abbrev pub to_client : ToClient → List ℕ
+to_client m = 1 ∷ to_client_kind m.body ∷ number m.client ++ number m.incarnation ++ to_client_body m.body

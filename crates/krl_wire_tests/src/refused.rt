@@ -1,0 +1,50 @@
+//! Memory that is refused: a refused call is made again, twice at most, so that each run ends alike,
+//! whichever request for memory is refused, or two in a row.
+use krl_messages::ToServer;
+use krl_wire::{ReadError, has_counts, put_to_server, to_server_of};
+use std::alloc::{AllocError, Global};
+use std::test::Fail;
+
+/// The report of client 3 in its incarnation 2 and epoch 1: a range part and a key part.
+static REPORT: [u8; 60] = [
+    1, 2, 3, 0, 0, 0, 0, 0, 0, 0, 2, 0, 0, 0, 0, 0, 0, 0, 1, 0, 0, 0, 0, 0, 0, 0, 1, 0, 0, 0, 0, 0,
+    0, 0, 0, 0, 0, 0, 11, 0, 0, 0, 0, 0, 0, 0, 1, 1, 0, 0, 0, 10, 0, 0, 0, 0, 0, 0, 0, 1,
+];
+
+// How often a call is made at most: twice it may be refused.
+const CALLS: u64 = 3;
+
+// The message of these bytes, which are read again where memory was refused.
+fn read(alloc: Global, bytes: &[u8]) -> Result<ToServer, ReadError> {
+    for _ in 1..CALLS {
+        match to_server_of(alloc, bytes) {
+            Err(ReadError::OutOfMemory) => {}
+            read => return read,
+        }
+    }
+    to_server_of(alloc, bytes)
+}
+
+// Writes the message behind the bytes, again where memory was refused.
+fn write(out: &mut Vec<u8>, message: &ToServer) -> Result<(), AllocError> {
+    if !has_counts(message) {
+        return Ok(());
+    }
+    let len = out.len();
+    for _ in 1..CALLS {
+        if put_to_server(out, message).is_ok() {
+            return Ok(());
+        }
+        out.truncate(len);
+    }
+    put_to_server(out, message)
+}
+
+#[test]
+fn a_report_is_read_and_written_again(rt: HostRuntime) -> Result<(), Fail> {
+    let message = read(rt.alloc(), &REPORT)?;
+    let mut out = Vec::new(rt.alloc());
+    write(&mut out, &message)?;
+    assert!(rt; out.as_slice() == REPORT.as_slice());
+    Ok(())
+}
