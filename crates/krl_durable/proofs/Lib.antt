@@ -3,6 +3,7 @@ pub mod Maps
 pub mod Rows
 pub mod Edits
 pub mod Cuts
+pub mod Runs
 pub mod Kept
 pub mod Openings
 pub mod Judged

@@ -1,5 +1,5 @@
 -- The index, and the slots of its keys.
-use Rattle.std.specs.Prelude.{◌≡◌, ◌≤◌, ◌<◌, ℕ, suc, ◌&&◌, ◌||◌, Bool, true, false, nat_eq, nat_lt, nat_le, List, [], ◌∷◌, ◌++◌, is_some}
+use Rattle.std.specs.Prelude.{◌≡◌, ◌≤◌, ◌<◌, ℕ, suc, ◌&&◌, ◌||◌, Bool, true, false, nat_eq, nat_lt, nat_le, List, [], ◌∷◌, ◌++◌, Option, None, Some, is_some}
 use Rattle.std.specs.List.{list_any, filter}
 use Rattle.std.specs.Ordering.{nat_cmp}
 use Rattle.std.specs.FinMap as map
@@ -24,6 +24,11 @@ first_or_end (e ∷ es) = e.0
 abbrev pub after_keys : ℕ → List (ℕ × Value) → ℕ
 after_keys low [] = low
 after_keys low (e ∷ es) = after_keys (suc e.0) es
+
+-- the point behind a key, or 0
+abbrev pub behind : Option ℕ → ℕ
+behind None = 0
+behind (Some k) = suc k
 
 -- the slot of a point: the least key at or above it, or END
 abbrev pub slot_of : Index → ℕ → ℕ

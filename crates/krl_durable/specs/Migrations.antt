@@ -7,7 +7,6 @@ use Rattle.krl_modes.specs.declared.point.TheConstants.{END}
 use Rattle.krl_messages.specs.Values.{Value}
 use Rattle.krl_durable.specs.declared.not_migrated.NotMigrated.{NotMigrated}
 use Rattle.krl_durable.specs.declared.not_migrated.NotMigrated.TheVariants as refused
-use Rattle.krl_durable.specs.Index.{Index}
 use Rattle.krl_durable.specs.Registers.{Register, Durable, missing_order}
 use Rattle.krl_durable.specs.Kept.{AreOrdered}
 

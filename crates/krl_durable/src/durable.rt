@@ -4,8 +4,11 @@ ghost use Rattle.std.specs.Prelude.{OnErr, MatchResult, IfOk};
 ghost use Rattle.std.specs.List.{AllByRecursion, IsDistinct};
 ghost use Rattle.std.specs.Map.{keys_of};
 ghost use Rattle.std.specs.FinMap as map;
+ghost use Rattle.krl_blocks.specs.Entries.{IsRun};
+ghost use Rattle.krl_blocks.specs.Laid.{flat};
+ghost use Rattle.krl_blocks.specs.Runs.{runs_of};
 ghost use Rattle.krl_modes.specs.declared.point.TheConstants.{END};
-ghost use Rattle.krl_durable.specs.Index.{slot_of, span_of, IsSlotOf, IsSpanOf};
+ghost use Rattle.krl_durable.specs.Index.{slot_of, low_of, span_of, IsSlotOf, IsSpanOf};
 ghost use Rattle.krl_durable.specs.Registers.{record_of, missing_order, registered, departed};
 ghost use Rattle.krl_durable.specs.Registers.{IsIncarnation};
 ghost use Rattle.krl_durable.specs.Kept.{IsKept, IsRow};
@@ -20,6 +23,8 @@ use crate::not_migrated::NotMigrated;
 use crate::record::Record;
 use crate::refused::Refused;
 use crate::register::Register;
+use crate::slot::Slot;
+use krl_blocks::Entries;
 use krl_messages::{Outcome, Value, WriteOp};
 use krl_modes::Span;
 use std::alloc::{AllocError, Global};
@@ -149,7 +154,7 @@ impl Durable {
         ensures epoch { result ≡ self.now.epoch }
         ensures kept { IsKept self.now }
     {
-        let _ = self.index.as_slice();
+        self.index.entries();
         self.register.rows();
         self.epoch
     }
@@ -162,11 +167,19 @@ impl Durable {
         self.epoch += 1;
     }
 
-    /// The entries of the index, in key order.
-    pub fn entries(&self) -> &[(u64, Value)]
-        ensures { result.now ≡ map.entries self.now.index }
+    /// The entries of the index, in key order, as runs that lie side by side. It takes no memory.
+    pub fn entries(&self) -> Entries<'_, Value>
+        ensures { flat (runs_of result) ≡ map.entries self.now.index }
     {
-        self.index.as_slice()
+        self.index.entries()
+    }
+
+    /// The entries from the first at or above the point, as far as their block goes: there is at
+    /// least one, where there is any. A walk asks again behind the last of them.
+    pub fn run(&self, point: u64) -> &[(u64, Value)]
+        ensures { IsRun (map.entries self.now.index) point result.now }
+    {
+        self.index.run(point)
     }
 
     /// The value at the key.
@@ -174,6 +187,18 @@ impl Durable {
         ensures { result ≡ map.get self.now.index key }
     {
         self.index.get(key)
+    }
+
+    /// The slot of a point, with its span and its value, by one search.
+    pub fn find(&self, point: u64) -> Slot
+        requires { point ≤ END }
+        ensures slot { result.point ≡ slot_of self.now.index point }
+        ensures least { IsSlotOf self.now.index point result.point }
+        ensures low { result.low ≡ low_of self.now.index result.point }
+        ensures points { IsSpanOf self.now.index result.point result.low }
+        ensures value { result.value ≡ map.get self.now.index result.point }
+    {
+        self.index.find(point)
     }
 
     /// The slot of a point: the least key at or above it, or END.
@@ -198,6 +223,15 @@ impl Durable {
         ensures { result ≡ record_of self.now.register c }
     {
         self.register.get(c)
+    }
+
+    /// The records, in order of first registration. With the epoch and the entries, `from_parts`
+    /// makes of them what survives here.
+    pub fn records(&self, alloc: Global) -> Result<Vec<(u64, Record)>, AllocError>
+        ensures { IfOk result (λ records. (records.items ≡ self.now.register)
+            × AllByRecursion IsRow records.items × IsDistinct nat_eq (keys_of records.items)) }
+    {
+        self.register.records(alloc)
     }
 
     /// Registers the client with this incarnation: it has not left, and no write of it has been

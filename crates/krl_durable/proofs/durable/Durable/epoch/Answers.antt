@@ -8,8 +8,8 @@ pub returns-clause-kept : goal.returns-clause-kept
 returns-clause-kept c =
     let inside : Durable = record { index = c.self.inside.index; epoch = c.self.inside.epoch; register = c.self.inside.register } in
     let kept : IsKept inside = record {
-      keys = c.as_slice.ensures.below;
-      few = c.as_slice.ensures.few;
+      keys = c.entries.ensures.below;
+      few = c.entries.ensures.few;
       epoch = c.self.invariant;
       clients = clients_seen c.self.inside.register c.rows.ensures.rows;
       once = c.rows.ensures.once;

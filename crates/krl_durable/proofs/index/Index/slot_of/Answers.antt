@@ -1,25 +1,17 @@
-use Rattle.std.proofs.Common.{drop, ap, ◌∙◌}
-use Rattle.std.specs.List.{slice_get}
-use Rattle.krl_durable.proofs.Edits.{cut_of}
-use Rattle.krl_durable.proofs.Cuts.{end_at, slot_at}
 use Rattle.krl_modes.specs.declared.point.TheConstants.{END}
+use Rattle.krl_durable.proofs.Slots.{entries_kept}
 use Rattle.krl_durable.proofs.SlotLaws.{slot_answered}
+use Rattle.krl_durable.proofs.Runs.{slot_found, end_found}
 use Rattle.krl_durable.proofs.index.Index.slot_of.Goals as goal
 
-pub returns-in-None : goal.returns-in-None
-returns-in-None c =
-    let es = c.self.inside.entries.items in
-    let i = c.count_below.result in
-    let slice = c.deref-entries.ensures.value in
-    let cut = cut_of c.args.point i es c.deref-entries.result.now c.args.self.now c.self.invariant.sorted c.self.view_is slice c.count_below.ensures.below c.count_below.ensures.rest in
-    let slot = end_at c.args.point i es c.args.self.now cut (c.in-None.ensures.value ∙ ap (λ xs. slice_get xs 0) (c.split_at.ensures.back ∙ ap (drop i) slice)) in
-    record { slot = slot; least = slot_answered c.args.self.now es c.args.point END cut.entries c.self.invariant.sorted c.self.invariant.below slot }
+pub returns-in-None-clause-slot : goal.returns-in-None-clause-slot
+returns-in-None-clause-slot c = end_found c.args.point c.self.inside.entries.list c.args.self.now c.find.result.before c.find.result.run.now c.self.invariant.sorted c.self.invariant.below c.self.view_is c.find.ensures.found c.in-None.ensures.value
 
-pub returns-in-Some : goal.returns-in-Some
-returns-in-Some c =
-    let es = c.self.inside.entries.items in
-    let i = c.count_below.result in
-    let slice = c.deref-entries.ensures.value in
-    let cut = cut_of c.args.point i es c.deref-entries.result.now c.args.self.now c.self.invariant.sorted c.self.view_is slice c.count_below.ensures.below c.count_below.ensures.rest in
-    let slot = slot_at c.args.point i es c.args.self.now c.in-Some.field-0.now cut (c.in-Some.ensures.value ∙ ap (λ xs. slice_get xs 0) (c.split_at.ensures.back ∙ ap (drop i) slice)) in
-    record { slot = slot; least = slot_answered c.args.self.now es c.args.point c.in-Some.field-0.now.0 cut.entries c.self.invariant.sorted c.self.invariant.below slot }
+pub returns-in-None-clause-least : goal.returns-in-None-clause-least
+returns-in-None-clause-least c = slot_answered c.args.self.now c.self.inside.entries.list c.args.point END (entries_kept c.self.inside.entries.list c.args.self.now c.self.invariant.sorted c.self.view_is) c.self.invariant.sorted c.self.invariant.below (end_found c.args.point c.self.inside.entries.list c.args.self.now c.find.result.before c.find.result.run.now c.self.invariant.sorted c.self.invariant.below c.self.view_is c.find.ensures.found c.in-None.ensures.value)
+
+pub returns-in-Some-clause-slot : goal.returns-in-Some-clause-slot
+returns-in-Some-clause-slot c = slot_found c.args.point c.self.inside.entries.list c.args.self.now c.find.result.before c.find.result.run.now c.self.invariant.sorted c.self.invariant.below c.self.view_is c.find.ensures.found c.in-Some.entry.now c.in-Some.ensures.value
+
+pub returns-in-Some-clause-least : goal.returns-in-Some-clause-least
+returns-in-Some-clause-least c = slot_answered c.args.self.now c.self.inside.entries.list c.args.point c.in-Some.entry.now.0 (entries_kept c.self.inside.entries.list c.args.self.now c.self.invariant.sorted c.self.view_is) c.self.invariant.sorted c.self.invariant.below (slot_found c.args.point c.self.inside.entries.list c.args.self.now c.find.result.before c.find.result.run.now c.self.invariant.sorted c.self.invariant.below c.self.view_is c.find.ensures.found c.in-Some.entry.now c.in-Some.ensures.value)
