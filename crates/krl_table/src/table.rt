@@ -4,6 +4,8 @@ ghost use Rattle.std.specs.Prelude.{map as map_list, Some, None, IfOk, IsOk, IsS
 ghost use Rattle.std.specs.Prelude.{IfSome, IfNone, OnOk, OnErr};
 ghost use Rattle.std.specs.List.{AllByRecursion};
 ghost use Rattle.std.specs.FinMap as map;
+ghost use Rattle.krl_blocks.specs.Laid.{flat};
+ghost use Rattle.krl_blocks.specs.Runs.{runs_of};
 ghost use Rattle.krl_modes.specs.declared.point.TheConstants.{END};
 ghost use Rattle.krl_modes.specs.declared.part.KeyPart.TheVariants as key_part;
 ghost use Rattle.krl_messages.specs.Values as values;
@@ -25,6 +27,7 @@ use crate::row::SlotRow;
 use crate::waiting::Waiting;
 use crate::{steps, walks};
 use arrayvec::ArrayVec;
+use krl_blocks::Entries;
 use krl_durable::Durable;
 use krl_messages::{Pieces, Value};
 use krl_modes::{END, Mode, Point, Span};
@@ -66,6 +69,17 @@ impl Model for Table {
         × AreListed t.waiting.by_client (map.from_entries t.rows.entries) };
 }
 
+// A list of the entries.
+fn gathered(alloc: Global, entries: &Entries<'_, Value>) -> Result<Vec<(u64, Value)>, AllocError>
+    ensures { IfOk result (λ list. list.items ≡ flat (runs_of entries.now)) }
+{
+    let mut list = Vec::new(alloc);
+    for i in 0..entries.len() {
+        list.extend_from_slice(entries.get(i))?;
+    }
+    Ok(list)
+}
+
 impl Table {
     /// A table of the index's keys and END. Nobody holds anything, and nobody waits.
     ///
@@ -77,7 +91,8 @@ impl Table {
         ensures slots { IfOk result (λ t. IsOver durable.now.index t) }
     {
         durable.epoch();
-        Table::of_entries(alloc, durable.entries())
+        let entries = gathered(alloc, &durable.entries())?;
+        Table::of_entries(alloc, &entries)
     }
 
     /// A table of these keys, which rise, and END. Nobody holds anything, and nobody waits.

@@ -1,4 +1,4 @@
-use Rattle.std.proofs.Common.{ℕ, suc, List, [], ◌∷◌, map, sym, subst, arith}
+use Rattle.std.proofs.Common.{ℕ, suc, List, [], ◌∷◌, map, sym, subst, ◌∙◌, arith}
 use Rattle.std.proofs.Common.{ltb-true}
 use Rattle.std.specs.FinMap as fin
 use Rattle.krl_modes.specs.declared.point.TheConstants.{END}
@@ -18,4 +18,4 @@ from_zero (e ∷ es) = (omega arith, from_zero es)
 
 pub of_entries-requires : goal.of_entries-requires
 of_entries-requires c = let m = c.args.durable.now.index in
-    subst (λ es. AreKeys 0 (map (λ e. e.0) es)) (sym c.entries.ensures) (keys_rise 0 (fin.entries m) (from_zero (fin.entries m)) (rises (fin.entries m) (fin.entries_sorted m)) c.epoch.ensures.kept.keys)
+    subst (λ es. AreKeys 0 (map (λ e. e.0) es)) (sym (c.deref.ensures.value ∙ c.in_ok-entries.ensures ∙ c.entries.ensures)) (keys_rise 0 (fin.entries m) (from_zero (fin.entries m)) (rises (fin.entries m) (fin.entries_sorted m)) c.epoch.ensures.kept.keys)
