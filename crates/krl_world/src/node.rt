@@ -66,6 +66,16 @@ impl ServerNode {
         }
     }
 
+    /// What would survive now: of the server that runs, or of the last one.
+    pub fn durable(&self) -> &Durable
+        ensures { result.now ≡ durable_of (node_of self.now) }
+    {
+        match self {
+            ServerNode::Up(server) => server.durable(),
+            ServerNode::Down(durable) => durable,
+        }
+    }
+
     /// What survives: of the server that runs, or of the last one.
     pub fn into_durable(self) -> Durable
         ensures { result ≡ durable_of (node_of self) }

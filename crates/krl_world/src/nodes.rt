@@ -3,6 +3,8 @@ ghost use Rattle.std.specs.Prelude.{◌≡◌, suc, ◌<◌, ℕ, [], length, sl
 ghost use Rattle.std.specs.Prelude.{IfOk, MatchResult, Some};
 ghost use Rattle.std.specs.Option.{option_copied};
 ghost use Rattle.std.specs.FinMap as map;
+ghost use Rattle.krl_blocks.specs.Laid.{flat};
+ghost use Rattle.krl_blocks.specs.Runs.{runs_of};
 ghost use Rattle.krl_messages.specs.declared.to_server.ToServer.{ToServer};
 ghost use Rattle.krl_world.specs.declared.message.Message.TheVariants as sent_message;
 ghost use Rattle.krl_steps.specs.declared.step.Step.TheVariants as steps;
@@ -15,6 +17,7 @@ ghost use Rattle.krl_world.specs.Fields.{meaning, server_up, kept_client, AreUns
 use crate::message::Message;
 use crate::node::{Seat, ServerNode, not_started};
 use crate::{clients, serving};
+use krl_blocks::Entries;
 use krl_client::Client;
 use krl_durable::{Durable, DurableV1};
 use krl_messages::{ToClient, Value};
@@ -276,15 +279,11 @@ impl Nodes {
         outcome
     }
 
-    /// The entries of the index, in key order.
-    pub(crate) fn index(&self) -> &[(u64, Value)]
-        ensures { result.now ≡ map.entries (index_of (meaning self.now)) }
+    /// The entries of the index, in key order, as runs that lie side by side.
+    pub(crate) fn index(&self) -> Entries<'_, Value>
+        ensures { flat (runs_of result) ≡ map.entries (index_of (meaning self.now)) }
     {
-        match &self.server {
-            Some(ServerNode::Up(server)) => server.durable().entries(),
-            Some(ServerNode::Down(durable)) => durable.entries(),
-            None => &[],
-        }
+        self.server.as_ref().unwrap().durable().entries()
     }
 
     /// The server, where one runs.

@@ -2,6 +2,8 @@
 ghost use Rattle.std.specs.Prelude.{◌≡◌, length, IfOk, OnErr, MatchResult};
 ghost use Rattle.std.specs.Option.{option_copied};
 ghost use Rattle.std.specs.FinMap as map;
+ghost use Rattle.krl_blocks.specs.Laid.{flat};
+ghost use Rattle.krl_blocks.specs.Runs.{runs_of};
 ghost use Rattle.krl_durable.specs.Migrations.{migrated};
 ghost use Rattle.krl_world.specs.States.{index_of, opened, fresh, range_held, key_held};
 ghost use Rattle.krl_world.specs.Steps.{Steps, RunsWith, CanBegin, BeginsNot, CanOpen, MigratesNot, IsReachable, message_at};
@@ -12,6 +14,7 @@ ghost use Rattle.krl_world.specs.Fields.{meaning, server_up, kept_client};
 
 use crate::message::Message;
 use crate::nodes::Nodes;
+use krl_blocks::Entries;
 use krl_client::Client;
 use krl_durable::DurableV1;
 use krl_messages::Value;
@@ -129,9 +132,10 @@ impl World {
         Ok(answers)
     }
 
-    /// The entries of the index, in key order, whether a server runs or not. It takes no memory.
-    pub fn index(&self) -> &[(u64, Value)]
-        ensures { result.now ≡ map.entries (index_of (meaning self.now)) }
+    /// The entries of the index, in key order, as runs that lie side by side, whether a server runs
+    /// or not. It takes no memory.
+    pub fn index(&self) -> Entries<'_, Value>
+        ensures { flat (runs_of result) ≡ map.entries (index_of (meaning self.now)) }
     {
         self.nodes.index()
     }
