@@ -11,4 +11,4 @@
 #   report-of-10000    one report of 10,000 ranges
 #   merge, split       one slot goes or comes, far from the last, with the question whether the client may write
 #   apply-delete, apply-insert    the durable part does and notes that write
-exec "$(dirname -- "$0")/../both_sizes" table krl_modes krl_messages krl_queue krl_durable krl_table
+exec "$(dirname -- "$0")/../both_sizes" table krl_modes krl_messages krl_queue krl_blocks krl_durable krl_table

@@ -129,7 +129,7 @@ fn an_office_opens_and_closes(rt: HostRuntime) -> Result<(), Fail> {
     let Ok(durable) = office.close(server) else {
         panic!(rt; "not closed")
     };
-    assert!(rt; are_numbers(durable.entries(), &[(10, 1)]));
+    assert!(rt; are_numbers(durable.run(0), &[(10, 1)]));
     assert!(rt; durable.epoch() == 1);
     Ok(())
 }
@@ -220,6 +220,6 @@ fn a_write_outlives_the_server(rt: HostRuntime) -> Result<(), Fail> {
     let Ok(durable) = office.close(server) else {
         panic!(rt; "not closed")
     };
-    assert!(rt; are_numbers(durable.entries(), &[(5, 8), (10, 1)]));
+    assert!(rt; are_numbers(durable.run(0), &[(5, 8), (10, 1)]));
     Ok(())
 }

@@ -1,11 +1,15 @@
 -- What a random run keeps from step to step.
-use Rattle.std.proofs.Common.{◌≡◌, ◌≢◌, ℕ, zero, suc, ◌+◌, ◌<◌, ◌≤◌, ◌&&◌, Bool, true, false, ◌-◌, length, take, drop, get_or, List, [], ◌∷◌, Option, None, Some, Result, Ok, Err, refl, sym, ap, subst, ◌∙◌, arith, add-one, drop-cons, length-drop, eq-eqb, eqb-true, nat_le, nat_eq}
+use Rattle.std.proofs.Common.{◌≡◌, ◌≢◌, ℕ, zero, suc, ◌+◌, ◌<◌, ◌≤◌, ◌&&◌, Bool, true, false, ◌-◌, length, take, drop, get_or, List, [], ◌∷◌, ◌++◌, Option, None, Some, Result, Ok, Err, refl, sym, ap, subst, ◌∙◌, arith, add-one, drop-cons, length-drop, eq-eqb, eqb-true, nat_le, nat_eq}
 use Rattle.std.specs.Prelude.{not, is_some, is_none, slice_get, nat_lt}
 use Rattle.std.specs.FinMap as map
 use Rattle.std.specs.Cmp.Lexicographic.{pointwise, same_text, other_text}
 use Rattle.std.proofs.Math.ListN.{replicate}
 use Rattle.std.proofs.Math.Seq.{take-append_seam}
-use Rattle.std.proofs.lemmas.List.{nil_from_length}
+use Rattle.std.proofs.lemmas.List.{nil_from_length, take_more, take-append-drop, append-nil, append_assoc, append_cancel_left}
+use Rattle.std.proofs.lemmas.List.Elements.{filter-append}
+use Rattle.krl_blocks.specs.Laid.{flat}
+use Rattle.krl_blocks.proofs.Places.{flat_join}
+use Rattle.krl_blocks.proofs.Readings.{flat_next}
 use Rattle.std.proofs.lemmas.Bool.Decides.{nat_tests}
 use Rattle.krl_durable.specs.Index.{Index}
 use Rattle.std.specs.List.{filter}
@@ -225,6 +229,65 @@ pub same_back : (whole : Type 0) (p : ℕ × Value → Bool) (es rows : List (�
 same_back whole p es rows i at r e ne l is pass l' row said agrees back h =
     let same : r ≡ e = rows_equal r e (not_false (same_row r e) (sym said ∙ agrees)) in
     row_back whole p es rows i at e l (ap p (sym is) ∙ pass) l' (row_there rows at e r l' ∙ sym row ∙ same ∙ is) back h
+
+-- Rows that begin with a range
+
+module _ (p : ℕ × Value → Bool) (es rows left : List (ℕ × Value)) (i : ℕ) (e : ℕ × Value) (l : i < length es) (is : e ≡ get_or es i e) (h : rows ≡ filter p (take i es) ++ left) where
+  range_next : filter p (take (i + 1) es) ≡ filter p (take i es) ++ filter p (e ∷ [])
+  range_next = ap (filter p) (take_more es i e l ∙ ap (λ (x : ℕ × Value). take i es ++ x ∷ []) (sym is)) ∙ filter-append p (take i es) (e ∷ [])
+
+  -- an entry that lies elsewhere
+  pub range_passes : p e ≡ false → rows ≡ filter p (take (i + 1) es) ++ left
+  range_passes fails =
+      let none : filter p (e ∷ []) ≡ [] = rw fails refl in
+      h ∙ ap (λ (xs : List (ℕ × Value)). xs ++ left) (sym (range_next ∙ ap (λ (xs : List (ℕ × Value)). filter p (take i es) ++ xs) none ∙ append-nil (filter p (take i es))))
+
+  -- an entry of the range, which is the next row
+  pub range_goes_on : p e ≡ true → (rest : List (ℕ × Value)) → left ≡ e ∷ rest → rows ≡ filter p (take (i + 1) es) ++ rest
+  range_goes_on passes rest first =
+      let one : filter p (e ∷ []) ≡ e ∷ [] = rw passes refl in
+      h ∙ ap (λ (xs : List (ℕ × Value)). filter p (take i es) ++ xs) first ∙ sym (append_assoc (filter p (take i es)) (e ∷ []) rest)
+      ∙ ap (λ (xs : List (ℕ × Value)). xs ++ rest) (sym (range_next ∙ ap (λ (xs : List (ℕ × Value)). filter p (take i es) ++ xs) one))
+
+  -- and where the rows begin with the whole range, it is
+  pub row_must : p e ≡ true → (rest : List (ℕ × Value)) → rows ≡ filter p es ++ rest → left ≡ e ∷ (filter p (drop (i + 1) es) ++ rest)
+  row_must passes rest all =
+      let back : drop i es ≡ e ∷ drop (i + 1) es = drop_at es i e l ∙ ap (λ (x : ℕ × Value). x ∷ drop (i + 1) es) (sym is) in
+      let range : filter p (drop i es) ≡ e ∷ filter p (drop (i + 1) es) = ap (filter p) back ∙ rw passes refl in
+      let whole : filter p es ≡ filter p (take i es) ++ (e ∷ filter p (drop (i + 1) es)) =
+      ap (filter p) (sym (take-append-drop i es)) ∙ filter-append p (take i es) (drop i es) ∙ ap (λ (xs : List (ℕ × Value)). filter p (take i es) ++ xs) range in
+      append_cancel_left (filter p (take i es)) left (e ∷ (filter p (drop (i + 1) es) ++ rest))
+      (sym h ∙ all ∙ ap (λ (xs : List (ℕ × Value)). xs ++ rest) whole ∙ append_assoc (filter p (take i es)) (e ∷ filter p (drop (i + 1) es)) rest)
+
+-- the next row is another one
+pub other_first : (r e : ℕ × Value) (left xs ys : List (ℕ × Value)) (b : Bool) → left ≡ r ∷ xs → left ≡ e ∷ ys → b ≡ same_row r e → b ≡ false → ⊥
+other_first r e left xs ys b f g said differs =
+    let same : r ≡ e = ap (λ (zs : List (ℕ × Value)). get_or zs 0 r) (sym f ∙ g) in
+    let bad : false ≡ true = sym (sym said ∙ differs) ∙ ap (λ (x : ℕ × Value). same_row x e) same ∙ itself e in
+    cc
+
+-- or that one
+pub same_first : (r e : ℕ × Value) (left xs : List (ℕ × Value)) (b : Bool) → left ≡ r ∷ xs → b ≡ same_row r e → b ≡ true → left ≡ e ∷ xs
+same_first r e left xs b f said agrees = f ∙ ap (λ (x : ℕ × Value). x ∷ xs) (rows_equal r e (sym said ∙ agrees))
+
+-- the same over runs
+module _ (p : ℕ × Value → Bool) (xs : List (List (ℕ × Value))) (rows left : List (ℕ × Value)) (i : ℕ) (x : List (ℕ × Value)) (there : Some x ≡ slice_get xs i) (h : rows ≡ filter p (flat (take i xs)) ++ left) where
+  -- the rows go on with the range of the next run
+  pub runs_go_on : (rest : List (ℕ × Value)) → left ≡ filter p x ++ rest → rows ≡ filter p (flat (take (i + 1) xs)) ++ rest
+  runs_go_on rest first =
+      h ∙ ap (λ (es : List (ℕ × Value)). filter p (flat (take i xs)) ++ es) first ∙ sym (append_assoc (filter p (flat (take i xs))) (filter p x) rest)
+      ∙ ap (λ (es : List (ℕ × Value)). es ++ rest) (sym (ap (filter p) (flat_next xs i x there) ∙ filter-append p (flat (take i xs)) x))
+
+  -- and where they are the whole range they do
+  pub runs_must : rows ≡ filter p (flat xs) → left ≡ filter p x ++ filter p (flat (drop (i + 1) xs))
+  runs_must all =
+      let back : xs ≡ take (i + 1) xs ++ drop (i + 1) xs = sym (take-append-drop (i + 1) xs) in
+      let whole : filter p (flat xs) ≡ filter p (flat (take i xs)) ++ (filter p x ++ filter p (flat (drop (i + 1) xs))) =
+      ap (λ (ys : List (List (ℕ × Value))). filter p (flat ys)) back
+      ∙ ap (filter p) (flat_join (take (i + 1) xs) (drop (i + 1) xs) ∙ ap (λ (es : List (ℕ × Value)). es ++ flat (drop (i + 1) xs)) (flat_next xs i x there) ∙ append_assoc (flat (take i xs)) x (flat (drop (i + 1) xs)))
+      ∙ filter-append p (flat (take i xs)) (x ++ flat (drop (i + 1) xs))
+      ∙ ap (λ (es : List (ℕ × Value)). filter p (flat (take i xs)) ++ es) (filter-append p x (flat (drop (i + 1) xs))) in
+      append_cancel_left (filter p (flat (take i xs))) left (filter p x ++ filter p (flat (drop (i + 1) xs))) (sym h ∙ all ∙ whole)
 
 -- what a scan answered
 pub range_answered : (m : Index) (s : Step) (r : Result Answer Refused) (c : ℕ) (what : Command) (lo hi : ℕ) (answer : Answer) (rows shown entries : List (ℕ × Value)) → s ≡ step.Command c what → what ≡ command.Scan lo hi → r ≡ Ok answer → answer ≡ told.Rows rows → shown ≡ rows → entries ≡ map.entries m → ScansIndex m s r → shown ≡ filter (λ e. nat_le lo e.0 && nat_lt e.0 hi) entries

@@ -1,5 +1,8 @@
 //! Random runs.
-ghost use Rattle.std.specs.Prelude.{◌≡◌, ℕ, ◌≤◌, ◌&&◌, None, Some, true, IfOk, IsErrOf, filter, is_none, nat_le, nat_lt};
+ghost use Rattle.std.specs.Prelude.{◌≡◌, ◌≢◌, ℕ, ◌≤◌, ◌&&◌, ◌++◌, List, None, Some, true, IfOk, IfSome, IfNone, IsErrOf, filter, is_none, nat_le, nat_lt};
+ghost use Rattle.krl_blocks.specs.Laid.{flat};
+ghost use Rattle.krl_blocks.specs.Runs.{runs_of};
+ghost use Rattle.krl_messages.specs.Values as values;
 ghost use Rattle.krl_world.specs.States.{index_of};
 ghost use Rattle.krl_world.specs.Fields.{meaning};
 ghost use Rattle.krl_world.specs.Promises.{IsCompatible, ScansIndex};
@@ -12,6 +15,7 @@ ghost use Rattle.krl_script.specs.RandomRuns.{stage_of, first_entries, first_of,
 
 use crate::soundness::least_unsound;
 use crate::waiting::Waiting;
+use krl_blocks::Entries;
 use krl_draws::{Draws, Sight};
 use krl_messages::Value;
 use krl_modes::END;
@@ -74,24 +78,47 @@ fn opening(alloc: Global) -> Result<Vec<(u64, Value)>, AllocError>
     Ok(entries)
 }
 
-// Whether these rows are the entries with keys from lo on below hi.
-fn are_range(entries: &[(u64, Value)], rows: &[(u64, Value)], lo: u64, hi: u64) -> bool
-    ensures sound { rows.now ≡ filter (λ e. nat_le lo e.0 && nat_lt e.0 hi) entries.now
-        → result ≡ true }
-    ensures looks { result ≡ true
-        → rows.now ≡ filter (λ e. nat_le lo e.0 && nat_lt e.0 hi) entries.now }
+// The rows behind those of the entries with keys from lo on below hi; None where the rows do not
+// begin with them.
+fn rows_behind<'a>(
+    entries: &[(u64, Value)],
+    rows: &'a [(u64, Value)],
+    lo: u64,
+    hi: u64,
+) -> Option<&'a [(u64, Value)]>
+    ensures some { IfSome result
+        (λ rest. rows.now ≡ filter (λ e. nat_le lo e.0 && nat_lt e.0 hi) entries.now ++ rest.now) }
+    ensures none { IfNone result ((rest : List (ℕ × values.Value))
+        → rows.now ≢ filter (λ e. nat_le lo e.0 && nat_lt e.0 hi) entries.now ++ rest) }
 {
-    let mut at = 0;
-    'entries: for entry in entries {
+    let mut left = rows;
+    for entry in entries {
         if entry.0 < lo || entry.0 >= hi {
             continue;
         }
-        if at == rows.len() || rows[at] != *entry {
-            return false;
+        match left.split_first() {
+            Some((row, rest)) if *row == *entry => left = rest,
+            _ => return None,
         }
-        at += 1;
     }
-    at == rows.len()
+    Some(left)
+}
+
+// Whether these rows are the entries with keys from lo on below hi.
+fn are_range(entries: &Entries<'_, Value>, rows: &[(u64, Value)], lo: u64, hi: u64) -> bool
+    ensures sound { rows.now ≡ filter (λ e. nat_le lo e.0 && nat_lt e.0 hi) (flat (runs_of entries.now))
+        → result ≡ true }
+    ensures looks { result ≡ true
+        → rows.now ≡ filter (λ e. nat_le lo e.0 && nat_lt e.0 hi) (flat (runs_of entries.now)) }
+{
+    let mut left = rows;
+    for i in 0..entries.len() {
+        match rows_behind(entries.get(i), left, lo, hi) {
+            None => return false,
+            Some(rest) => left = rest,
+        }
+    }
+    left.is_empty()
 }
 
 // Whether what a step answered is what the index has, where it is a scan's rows.
@@ -111,7 +138,7 @@ fn answers_index(world: &World, step: Step, outcome: &Result<Answer, Refused>) -
     let Answer::Rows(rows) = answer else {
         return true;
     };
-    are_range(world.index(), rows.as_slice(), lo, hi)
+    are_range(&world.index(), rows.as_slice(), lo, hi)
 }
 
 // A message that the step delivered waits no more.

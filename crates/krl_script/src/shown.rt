@@ -72,7 +72,7 @@ pub fn line(alloc: Global, world: &World, what: Show) -> Result<String, AllocErr
         }
         Show::Status(client) => status(alloc, world, client),
         Show::Missing => server(alloc, world),
-        Show::Index => index(alloc, world.index()),
+        Show::Index => index(alloc, &world.index()),
         Show::Writes => writes(alloc, world.writes()),
         Show::Check => check(alloc, world),
     }

@@ -81,7 +81,7 @@ fn is_shown(alloc: Global, server: &Server, act: Act, expected: &Gives) -> bool 
                 && are_missing(alloc, server, clients)
         }
         (Act::Entries, Gives::Entries(entries)) => {
-            are_entries(server.durable().entries(), entries)
+            are_entries(server.durable().run(0), entries)
         }
         (Act::Nudge(client), Gives::Only(told)) => nudges(alloc, server, client, told),
         _ => false,

@@ -17,7 +17,7 @@ pub fn surviving(durable: &Durable) -> Survives {
     let mut entries = [None; 4];
     let mut records = [None; 4];
     for i in 0..4usize {
-        entries[i] = durable.entries().get(i).copied();
+        entries[i] = durable.run(0).get(i).copied();
         records[i] = durable.record(i as u64);
     }
     Survives {

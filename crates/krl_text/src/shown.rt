@@ -1,9 +1,12 @@
 //! The lines that tell what was read of a world.
 ghost use Rattle.std.specs.Prelude.{◌≡◌, ◌++◌, codes, IfOk, OnOk};
 ghost use Rattle.std.specs.List.{flat_map};
+ghost use Rattle.krl_blocks.specs.Laid.{flat};
+ghost use Rattle.krl_blocks.specs.Runs.{runs_of};
 ghost use Rattle.krl_text.specs.Printing.{line_of, row_text, hold_line, lock_text, outcome_name, write_text, status_text, number_text, list_line, applied_text, writes_line};
 
 use crate::print::{push_rows, refused};
+use krl_blocks::Entries;
 use krl_client::{LockStatus, Status, WriteStatus};
 use krl_messages::{Outcome, Value};
 use krl_modes::{END, KeyPart, RangePart};
@@ -97,13 +100,28 @@ pub fn unreported(alloc: Global, clients: &[u64]) -> Result<String, AllocError>
     Ok(line)
 }
 
+// Puts each entry at the end of a line.
+fn push_entries(
+    alloc: Global,
+    line: &mut String,
+    entries: &Entries<'_, Value>,
+) -> Result<(), AllocError>
+    ensures { OnOk result (line.new.bytes.items
+        ≡ line.old.bytes.items ++ flat_map row_text (flat (runs_of entries.now))) }
+{
+    for i in 0..entries.len() {
+        push_rows(alloc, line, entries.get(i))?;
+    }
+    Ok(())
+}
+
 /// The line of the index.
-pub fn index(alloc: Global, entries: &[(u64, Value)]) -> Result<String, AllocError>
+pub fn index(alloc: Global, entries: &Entries<'_, Value>) -> Result<String, AllocError>
     ensures { IfOk result (λ line.
-        line.bytes.items ≡ line_of (codes "index" ++ flat_map row_text entries.now)) }
+        line.bytes.items ≡ line_of (codes "index" ++ flat_map row_text (flat (runs_of entries.now)))) }
 {
     let mut line = format!(in alloc; "index")?;
-    push_rows(alloc, &mut line, entries)?;
+    push_entries(alloc, &mut line, entries)?;
     line.push('\n')?;
     Ok(line)
 }

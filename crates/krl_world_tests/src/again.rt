@@ -27,6 +27,16 @@ where
 // are, which nodes run, and what client 0 holds at some points.
 type Seen = (u64, usize, usize, bool, bool, [(RangePart, KeyPart); 4]);
 
+/// How many entries the index has.
+pub fn index_len(world: &World) -> usize {
+    let entries = world.index();
+    let mut len = 0usize;
+    for i in 0..entries.len() {
+        len = len.saturating_add(entries.get(i).len());
+    }
+    len
+}
+
 fn seen(world: &World) -> Seen {
     let held = [
         world.held(0, 5),
@@ -36,7 +46,7 @@ fn seen(world: &World) -> Seen {
     ];
     (
         world.sent(),
-        world.index().len(),
+        index_len(world),
         world.writes().len(),
         world.server().is_some(),
         world.client(0).is_some(),

@@ -100,7 +100,11 @@ fn serves_in(server: &Server, epoch: u64) -> bool {
 
 /// Whether the index has just the one entry, and its value is these bytes.
 fn has_bytes(world: &World, key: u64, bytes: &[u8]) -> bool {
-    match world.index() {
+    let entries = world.index();
+    if entries.len() != 1 {
+        return false;
+    }
+    match entries.get(0) {
         [(found, value)] => *found == key && value.bytes() == bytes,
         _ => false,
     }

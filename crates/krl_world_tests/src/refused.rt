@@ -72,7 +72,7 @@ fn each_step_is_taken_again(rt: HostRuntime) {
     for step in &steps() {
         assert!(rt; takes(&mut world, *step));
     }
-    assert!(rt; world.index().len() == 3 && world.writes().len() == 1);
+    assert!(rt; index_len(&world) == 3 && world.writes().len() == 1);
     assert!(rt; world.client(0).is_none() && world.server().is_some());
 }
 
