@@ -182,7 +182,7 @@ fn holds_two(durable: &Durable, first: (u64, u64), second: (u64, u64)) -> bool {
         (key, Value::from_u64(number)),
         (next, Value::from_u64(next_number)),
     ];
-    durable.entries() == entries.as_slice()
+    durable.run(0) == entries.as_slice()
 }
 
 // Makes those writes, and says whether each is judged so.
@@ -295,9 +295,9 @@ fn keeps_each_length(durable: &mut Durable) -> bool {
         && rises(durable)
         && puts_each(durable)
         && rises(durable)
-        && durable.entries().len() == LENGTHS.len()
+        && durable.run(0).len() == LENGTHS.len()
         && deletes_each(durable)
-        && durable.entries().is_empty()
+        && durable.run(0).is_empty()
 }
 
 #[test]

@@ -1,9 +1,11 @@
-//! Tests of modes, values, messages, waiting lists and what survives a restart, through their public
-//! calls.
+//! Tests of modes, values, messages, waiting lists, maps in blocks and what survives a restart, through
+//! their public calls.
 #![tactic(auto)]
 
 #[cfg(test)]
 mod again;
+#[cfg(test)]
+mod blocks;
 #[cfg(test)]
 mod durable;
 #[cfg(test)]

@@ -76,7 +76,7 @@ fn has_survived(old: &DurableV1, records: &[(u64, Record)]) -> bool {
 
 // Whether the value of its one entry is these eight bytes.
 fn has_eight_bytes(durable: &Durable, key: u64, bytes: &[u8; 8]) -> bool {
-    match durable.entries() {
+    match durable.run(0) {
         [(found, value)] => *found == key && value.bytes() == bytes.as_slice(),
         _ => false,
     }

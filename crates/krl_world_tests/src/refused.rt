@@ -1,6 +1,6 @@
 //! Worlds whose requests for memory may be refused, one by one or two in a row: what was refused
 //! has changed nothing, and the same call made again gives its row.
-use crate::again::{CALLS, again, is_right_at_last, takes};
+use crate::again::{CALLS, again, index_len, is_right_at_last, takes};
 use crate::scripts::writer;
 use krl_messages::{Value, WriteOp};
 use krl_modes::Mode;
