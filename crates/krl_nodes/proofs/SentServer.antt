@@ -25,6 +25,10 @@ use Rattle.krl_messages.specs.contracts.value.Value as value
 use Rattle.krl_queue.specs.contracts.waiter.Waiter as waiter
 use Rattle.krl_queue.specs.contracts.list.WaitList as wait_list
 use Rattle.krl_queue.proofs.Crosses.{Chain-send}
+use Rattle.krl_blocks.specs.contracts.spot.Spot as spot
+use Rattle.krl_blocks.specs.contracts.shelf.Shelf as shelf
+use Rattle.krl_blocks.specs.contracts.layout.Layout as layout
+use Rattle.krl_blocks.specs.contracts.blocks.Blocks as blocks
 use Rattle.krl_durable.specs.contracts.record.Record as record_kept
 use Rattle.krl_durable.specs.contracts.register.Register as register
 use Rattle.krl_durable.specs.contracts.index.Index as index
@@ -74,12 +78,34 @@ register_inside = recorded_send _ _ (register.TheInside.the_type).to (register.T
 value_sent : IsSend value.the_row
 value_sent = search sendable depth 24 fits 4000
 
-row_sent : IsSend (Tuple (u64 ∷ value.the_row ∷ []))
-row_sent = let T = tuple_type (u64 ∷ value.the_row ∷ []) in recorded_send _ _ T.to T.to_one (struct_send (shape T) (number_sent, (value_sent, tt)))
+spot_sent : IsSend spot.the_row
+spot_sent = search sendable depth 20
+
+module _ (V : RattleType) (v : IsSend V) where
+  entry_sent : IsSend (Tuple (u64 ∷ V ∷ []))
+  entry_sent = let T = tuple_type (u64 ∷ V ∷ []) in recorded_send _ _ T.to T.to_one (struct_send (shape T) (number_sent, (v, tt)))
+
+  shelf_inside : IsSend (shelf.TheInside.the_row V)
+  shelf_inside = recorded_send _ _ (shelf.TheInside.the_type V).to (shelf.TheInside.the_type V).to_one
+      (struct_send (shape (shelf.TheInside.the_type V)) (Vec-send _ spot_sent, (Vec-send _ number_sent, (Vec-send _ entry_sent, (number_sent, tt)))))
+
+  shelf_sent : IsSend (shelf.the_field V).row
+  shelf_sent = view_send _ _ _ _ _ shelf_inside
+
+  layout_sent : IsSend (layout.the_row V)
+  layout_sent = recorded_send _ _ (layout.the_type V).to (layout.the_type V).to_one
+      (struct_send (shape (layout.the_type V)) (Vec-send _ number_sent, (shelf_sent, tt)))
+
+  blocks_inside : IsSend (blocks.TheInside.the_row V)
+  blocks_inside = recorded_send _ _ (blocks.TheInside.the_type V).to (blocks.TheInside.the_type V).to_one
+      (struct_send (shape (blocks.TheInside.the_type V)) (layout_sent, (number_sent, (number_sent, tt))))
+
+  blocks_sent : IsSend (blocks.the_field V).row
+  blocks_sent = view_send _ _ _ _ _ blocks_inside
 
 index_inside : IsSend index.TheInside.the_row
 index_inside = recorded_send _ _ (index.TheInside.the_type).to (index.TheInside.the_type).to_one
-    (struct_send (shape index.TheInside.the_type) (Vec-send _ row_sent, tt))
+    (struct_send (shape index.TheInside.the_type) (blocks_sent _ value_sent, tt))
 
 waiter_sent : IsSend (waiter.the_field).row
 waiter_sent = let a = mode_sent in search sendable depth 24 fits 4000

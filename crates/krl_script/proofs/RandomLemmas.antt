@@ -1,11 +1,11 @@
 -- What a random run keeps from step to step.
-use Rattle.std.proofs.Common.{◌≡◌, ◌≢◌, ℕ, zero, suc, ◌+◌, ◌<◌, ◌≤◌, ◌&&◌, Bool, true, false, ◌-◌, length, take, drop, get_or, List, [], ◌∷◌, ◌++◌, Option, None, Some, Result, Ok, Err, refl, sym, ap, subst, ◌∙◌, arith, add-one, drop-cons, length-drop, eq-eqb, eqb-true, nat_le, nat_eq}
+use Rattle.std.proofs.Common.{◌≡◌, ◌≢◌, ℕ, zero, suc, ◌+◌, ◌<◌, ◌≤◌, ◌&&◌, Bool, true, false, ◌-◌, length, take, drop, get_or, List, [], ◌∷◌, ◌++◌, Option, None, Some, Result, Ok, Err, refl, sym, ap, subst, ◌∙◌, arith, add-one, drop-cons, eq-eqb, eqb-true, nat_le, nat_eq}
 use Rattle.std.specs.Prelude.{not, is_some, is_none, slice_get, nat_lt}
 use Rattle.std.specs.FinMap as map
 use Rattle.std.specs.Cmp.Lexicographic.{pointwise, same_text, other_text}
 use Rattle.std.proofs.Math.ListN.{replicate}
 use Rattle.std.proofs.Math.Seq.{take-append_seam}
-use Rattle.std.proofs.lemmas.List.{nil_from_length, take_more, take-append-drop, append-nil, append_assoc, append_cancel_left}
+use Rattle.std.proofs.lemmas.List.{take_more, take-append-drop, append-nil, append_assoc, append_cancel_left}
 use Rattle.std.proofs.lemmas.List.Elements.{filter-append}
 use Rattle.krl_blocks.specs.Laid.{flat}
 use Rattle.krl_blocks.proofs.Places.{flat_join}
@@ -125,53 +125,6 @@ answers_right w v what r b t h f = f (scans_same (world.meaning w) (world.meanin
 drop_at : (es : List (ℕ × Value)) (i : ℕ) (d : ℕ × Value) → i < length es → drop i es ≡ get_or es i d ∷ drop (i + 1) es
 drop_at es i d l = drop-cons es i d l ∙ ap (λ (k : ℕ). get_or es i d ∷ drop k es) (sym (add-one i))
 
--- where an entry passes, it is the next row
-pub row_next : (p : ℕ × Value → Bool) (es rows : List (ℕ × Value)) (i at : ℕ) (d : ℕ × Value) → i < length es → p (get_or es i d) ≡ true → drop at rows ≡ filter p (drop i es) → at < length rows
-row_next p es rows i at d l pass h =
-    let here : drop at rows ≡ get_or es i d ∷ filter p (drop (i + 1) es) = h ∙ rw (drop_at es i d l, pass) refl in
-    let size : length (drop at rows) ≡ suc (length (filter p (drop (i + 1) es))) = ap length here in
-    omega (arith, length-drop at rows, size)
-
-row_split : (p : ℕ × Value → Bool) (es rows : List (ℕ × Value)) (i at : ℕ) (d : ℕ × Value) → i < length es → p (get_or es i d) ≡ true → drop at rows ≡ filter p (drop i es) → get_or rows at d ∷ drop (at + 1) rows ≡ get_or es i d ∷ filter p (drop (i + 1) es)
-row_split p es rows i at d l pass h =
-    sym (drop_at rows at d (row_next p es rows i at d l pass h)) ∙ h ∙ rw (drop_at es i d l, pass) refl
-
-pub row_same : (p : ℕ × Value → Bool) (es rows : List (ℕ × Value)) (i at : ℕ) (d : ℕ × Value) → i < length es → p (get_or es i d) ≡ true → drop at rows ≡ filter p (drop i es) → get_or rows at d ≡ get_or es i d
-row_same p es rows i at d l pass h = ap (λ (xs : List (ℕ × Value)). get_or xs 0 d) (row_split p es rows i at d l pass h)
-
-pub rows_left : (p : ℕ × Value → Bool) (es rows : List (ℕ × Value)) (i at : ℕ) (d : ℕ × Value) → i < length es → p (get_or es i d) ≡ true → drop at rows ≡ filter p (drop i es) → drop (at + 1) rows ≡ filter p (drop (i + 1) es)
-rows_left p es rows i at d l pass h = ap (λ (xs : List (ℕ × Value)). drop 1 xs) (row_split p es rows i at d l pass h)
-
-pub row_passed : (p : ℕ × Value → Bool) (es rows : List (ℕ × Value)) (i at : ℕ) (d : ℕ × Value) → i < length es → p (get_or es i d) ≡ false → drop at rows ≡ filter p (drop i es) → drop at rows ≡ filter p (drop (i + 1) es)
-row_passed p es rows i at d l fail h = h ∙ rw (drop_at es i d l, fail) refl
-
--- the same the other way round: what holds where the rest of the rows is the rest of the range, holds where it is so one
--- entry earlier
-pub row_back : (whole : Type 0) (p : ℕ × Value → Bool) (es rows : List (ℕ × Value)) (i at : ℕ) (d : ℕ × Value) → i < length es → p (get_or es i d) ≡ true → at < length rows → get_or rows at d ≡ get_or es i d → (drop at rows ≡ filter p (drop i es) → whole) → drop (at + 1) rows ≡ filter p (drop (i + 1) es) → whole
-row_back whole p es rows i at d l pass l' same back h =
-    let rest : get_or rows at d ∷ drop (at + 1) rows ≡ get_or es i d ∷ filter p (drop (i + 1) es) = rw (same, h) refl in
-    let range : filter p (drop i es) ≡ get_or es i d ∷ filter p (drop (i + 1) es) = rw (drop_at es i d l, pass) refl in
-    back (drop_at rows at d l' ∙ rest ∙ sym range)
-
-pub passed_back : (whole : Type 0) (p : ℕ × Value → Bool) (es rows : List (ℕ × Value)) (i at : ℕ) (d : ℕ × Value) → i < length es → p (get_or es i d) ≡ false → (drop at rows ≡ filter p (drop i es) → whole) → drop at rows ≡ filter p (drop (i + 1) es) → whole
-passed_back whole p es rows i at d l fail back h =
-    let range : filter p (drop i es) ≡ filter p (drop (i + 1) es) = rw (drop_at es i d l, fail) refl in
-    back (h ∙ sym range)
-
-pub end_back : (whole : Type 0) (p : ℕ × Value → Bool) (es rows : List (ℕ × Value)) (i at : ℕ) → length es ≤ i → nat_eq at (length rows) ≡ true → (drop at rows ≡ filter p (drop i es) → whole) → whole
-end_back whole p es rows i at past is back =
-    let no_row : drop at rows ≡ [] = nil_from_length (drop at rows) (omega (arith, length-drop at rows, eqb-true at (length rows) is)) in
-    let no_entry : drop i es ≡ [] = nil_from_length (drop i es) (omega (arith, length-drop i es)) in
-    let range : filter p (drop i es) ≡ [] = rw no_entry refl in
-    back (no_row ∙ sym range)
-
--- after the last entry no row is left
-pub rows_end : (p : ℕ × Value → Bool) (es rows : List (ℕ × Value)) (i at : ℕ) → at ≤ length rows → length es ≤ i → drop at rows ≡ filter p (drop i es) → nat_eq at (length rows) ≡ true
-rows_end p es rows i at l past h =
-    let none : drop i es ≡ [] = nil_from_length (drop i es) (omega (arith, length-drop i es)) in
-    let size : length (drop at rows) ≡ 0 = ap length (h ∙ ap (λ (xs : List (ℕ × Value)). filter p xs) none) in
-    eq-eqb at (length rows) (omega (arith, length-drop at rows, size))
-
 -- how two rows are compared: by their keys, by their values with the zeros behind them, and by how long these are
 abbrev pub same_row : ℕ × Value → ℕ × Value → Bool
 same_row r e = nat_eq r.0 e.0 && (pointwise nat_eq (padded r.1) (padded e.1) && nat_eq (length r.1) (length e.1))
@@ -204,31 +157,8 @@ itself r = by_test (pointwise nat_eq (padded r.1) (padded r.1)) refl
     by_test true e = rw (eq-eqb r.0 r.0 refl, e, eq-eqb (length r.1) (length r.1) refl) refl
     by_test false e = absurd (other_text (padded r.1) (padded r.1) (sym e) refl)
 
--- what stands at a place is there whatever would stand past the end
-row_there : (rows : List (ℕ × Value)) (at : ℕ) (d e : ℕ × Value) → at < length rows → get_or rows at d ≡ get_or rows at e
-row_there rows at d e l = ap (λ (xs : List (ℕ × Value)). get_or xs 0 d) (sym (drop_at rows at d l) ∙ drop_at rows at e l)
-
 pub within : (lo hi n : ℕ) → lo ≤ n → n < hi → (nat_le lo n && nat_lt n hi) ≡ true
 within lo hi n a b = grind (arith, nat_tests)
-
--- an entry that lies in the range, where no row is left for it
-pub none_left : (p : ℕ × Value → Bool) (es rows : List (ℕ × Value)) (i at : ℕ) (e : ℕ × Value) → i < length es → e ≡ get_or es i e → p e ≡ true → at ≡ length rows → drop at rows ≡ filter p (drop i es) → false ≡ true
-none_left p es rows i at e l is pass end h = absurd (omega (arith, end, row_next p es rows i at e l (ap p (sym is) ∙ pass) h))
-
--- an entry that lies in the range, where the next row is another
-pub other_row : (p : ℕ × Value → Bool) (es rows : List (ℕ × Value)) (i at : ℕ) (r e : ℕ × Value) (ne : Bool) → i < length es → e ≡ get_or es i e → p e ≡ true → r ≡ get_or rows at r → ne ≡ not (same_row r e) → ne ≡ true → drop at rows ≡ filter p (drop i es) → false ≡ true
-other_row p es rows i at r e ne l is pass row said differs h =
-    let same : r ≡ e = row ∙ row_there rows at r e (row_next p es rows i at e l (ap p (sym is) ∙ pass) h) ∙ row_same p es rows i at e l (ap p (sym is) ∙ pass) h ∙ sym is in
-    sym (not_true (same_row r e) (sym said ∙ differs)) ∙ ap (λ (x : ℕ × Value). same_row x e) same ∙ itself e
-
--- an entry that lies in the range, and is the next row
-pub same_left : (p : ℕ × Value → Bool) (es rows : List (ℕ × Value)) (i at : ℕ) (e : ℕ × Value) → i < length es → e ≡ get_or es i e → p e ≡ true → drop at rows ≡ filter p (drop i es) → drop (at + 1) rows ≡ filter p (drop (i + 1) es)
-same_left p es rows i at e l is pass h = rows_left p es rows i at e l (ap p (sym is) ∙ pass) h
-
-pub same_back : (whole : Type 0) (p : ℕ × Value → Bool) (es rows : List (ℕ × Value)) (i at : ℕ) (r e : ℕ × Value) (ne : Bool) → i < length es → e ≡ get_or es i e → p e ≡ true → at < length rows → r ≡ get_or rows at r → ne ≡ not (same_row r e) → ne ≡ false → (drop at rows ≡ filter p (drop i es) → whole) → drop (at + 1) rows ≡ filter p (drop (i + 1) es) → whole
-same_back whole p es rows i at r e ne l is pass l' row said agrees back h =
-    let same : r ≡ e = rows_equal r e (not_false (same_row r e) (sym said ∙ agrees)) in
-    row_back whole p es rows i at e l (ap p (sym is) ∙ pass) l' (row_there rows at e r l' ∙ sym row ∙ same ∙ is) back h
 
 -- Rows that begin with a range
 
