@@ -92,9 +92,8 @@ module _ (V : RattleType) (v : IsSend V) where
   shelf_sent : IsSend (shelf.the_field V).row
   shelf_sent = view_send _ _ _ _ _ shelf_inside
 
-  layout_sent : IsSend (layout.the_row V)
-  layout_sent = recorded_send _ _ (layout.the_type V).to (layout.the_type V).to_one
-      (struct_send (shape (layout.the_type V)) (Vec-send _ number_sent, (shelf_sent, tt)))
+  layout_sent : IsSend (layout.the_field V).row
+  layout_sent = let a = Vec-send _ number_sent in let b = shelf_sent in search sendable depth 24 fits 4000
 
   blocks_inside : IsSend (blocks.TheInside.the_row V)
   blocks_inside = recorded_send _ _ (blocks.TheInside.the_type V).to (blocks.TheInside.the_type V).to_one
