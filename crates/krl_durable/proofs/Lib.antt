@@ -9,3 +9,4 @@ pub mod Openings
 pub mod Judged
 pub mod SlotLaws
 pub mod Registered
+pub mod Again

@@ -50,3 +50,9 @@ of_parts es epoch register = record { index = map.from_entries es; epoch = epoch
 -- nothing has happened to these entries
 abbrev pub fresh : List (ℕ × Value) → Durable
 fresh es = of_parts es 0 []
+
+-- d can be written out and brought back: the entries of its index are refused for want of memory alone, and with its
+-- epoch and these records they make d again
+pub record MakesAgain (d : Durable) (records : Register) : Type 0 where
+  pub taken : (e : Refused) → Refuses (map.entries d.index) e → e ≡ refused.OutOfMemory
+  pub same : of_parts (map.entries d.index) d.epoch records ≡ d

@@ -12,7 +12,7 @@ ghost use Rattle.krl_durable.specs.Index.{slot_of, low_of, span_of, IsSlotOf, Is
 ghost use Rattle.krl_durable.specs.Registers.{record_of, missing_order, registered, departed};
 ghost use Rattle.krl_durable.specs.Registers.{IsIncarnation};
 ghost use Rattle.krl_durable.specs.Kept.{IsKept, IsRow};
-ghost use Rattle.krl_durable.specs.Openings.{AreGood, Refuses, of_parts, fresh};
+ghost use Rattle.krl_durable.specs.Openings.{AreGood, Refuses, MakesAgain, of_parts, fresh};
 ghost use Rattle.krl_durable.specs.Migrations.{migrated_entries, migrated, MigratesNot};
 ghost use Rattle.krl_messages.specs.Writes.{op_key};
 ghost use Rattle.krl_durable.specs.Writes.{most_entries, judge, applied};
@@ -225,12 +225,18 @@ impl Durable {
         self.register.get(c)
     }
 
-    /// The records, in order of first registration. With the epoch and the entries, `from_parts`
-    /// makes of them what survives here.
+    /// The records, in order of first registration. With the entries and the epoch, `from_parts`
+    /// makes of them what survives here, and refuses them for want of memory alone.
+    ///
+    /// # Errors
+    ///
+    /// `AllocError` where the list's memory is refused: there are at most 64 records.
     pub fn records(&self, alloc: Global) -> Result<Vec<(u64, Record)>, AllocError>
-        ensures { IfOk result (λ records. (records.items ≡ self.now.register)
+        ensures records { IfOk result (λ records. (records.items ≡ self.now.register)
             × AllByRecursion IsRow records.items × IsDistinct nat_eq (keys_of records.items)) }
+        ensures again { IfOk result (λ records. MakesAgain self.now records.items) }
     {
+        self.index.entries();
         self.register.records(alloc)
     }
 

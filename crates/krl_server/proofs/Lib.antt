@@ -37,6 +37,7 @@ pub mod Numbers
 pub mod Kept
 pub mod Says
 pub mod Said
+pub mod Replayed
 pub mod Standing
 pub mod Here
 pub mod Within

@@ -26,6 +26,7 @@ use Rattle.krl_modes.specs.Modes.{cap}
 use Rattle.krl_durable.specs.Index.{span_of, is_slot}
 use Rattle.krl_table.specs.Calls.{wanted}
 use Rattle.krl_server.specs.Effects.{callback_to, effect}
+use Rattle.krl_server.specs.Changes.{change_of}
 use Rattle.krl_server.specs.Answering.{Turn, turn_at, take_turn, Answered}
 use Rattle.krl_queue.specs.declared.waiter.Waiter.{Waiter}
 use Rattle.krl_server.specs.Callbacks.{is_beside, callbacks_for, callbacks_of, callbacks}
@@ -124,6 +125,7 @@ alarm_of s m = if alarms s m then Some m.client else None
 pub record HasStepped (s : Server) (m : ToServer) (t : Server) (out : ServerOut) : Type 0 where
   pub step : ServerStep s m t out.messages
   pub alarm : out.alarm ≡ alarm_of s m
+  pub change : out.change ≡ change_of m (case_of s m)
 
 -- how many of the numbers below n pass the test
 abbrev pub count_below : ℕ → (ℕ → Bool) → ℕ

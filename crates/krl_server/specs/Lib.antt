@@ -4,11 +4,13 @@ pub mod Afters
 pub mod Outboxes
 pub mod Cases
 pub mod Effects
+pub mod Changes
 pub mod Answering
 pub mod Callbacks
 pub mod Steps
 pub mod Shows
 pub mod Doing
+pub mod Replays
 pub mod Follows
 pub mod Keeps
 pub mod Ends

@@ -2,6 +2,7 @@
 ghost use Rattle.std.specs.Prelude.{◌≡◌, Some, None, if◌then◌else◌};
 ghost use Rattle.krl_server.specs.Afters.{does_answer, does_call, does_alarm};
 
+use krl_durable::Change;
 use krl_messages::{Outcome, PushBody, WriteOp};
 use krl_modes::{Mode, Point, Span};
 
@@ -60,7 +61,36 @@ pub(crate) enum After {
     Calls,
 }
 
+/// What a message's case has done.
+#[derive(Clone, Copy)]
+pub(crate) struct Performed {
+    /// What it leaves to be done.
+    pub(crate) after: After,
+    /// What it changed in what survives.
+    pub(crate) change: Option<Change>,
+}
+
 impl After {
+    /// What survives has changed so.
+    pub(crate) fn changing(self, change: Change) -> Performed
+        ensures { result ≡ record { after = self; change = Some change } }
+    {
+        Performed {
+            after: self,
+            change: Some(change),
+        }
+    }
+
+    /// What survives is as it was.
+    pub(crate) fn unchanging(self) -> Performed
+        ensures { result ≡ record { after = self; change = None } }
+    {
+        Performed {
+            after: self,
+            change: None,
+        }
+    }
+
     /// Whether those who wait are answered.
     pub(crate) fn answers(self) -> bool
         ensures { result ≡ does_answer self }

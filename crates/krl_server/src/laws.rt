@@ -3,6 +3,7 @@
 ghost use Rattle.krl_server.specs.Ends.{StepsEnd};
 ghost use Rattle.krl_server.specs.Follows.{ServerFollows};
 ghost use Rattle.krl_server.specs.Keeps.{ServerKeeps};
+ghost use Rattle.krl_server.specs.Replays.{ChangesReplay};
 ghost use Rattle.krl_server.specs.Says.{ServerSays};
 ghost use Rattle.krl_server.specs.Within.{ServerWithin};
 
@@ -30,6 +31,12 @@ pub fn steps_end()
 /// number.
 pub fn server_says()
     ensures { ServerSays }
+{}
+
+/// A host that begins with what survived, writes down the change that each step says and, at each
+/// start, the next epoch, has what survives: after every step and every start.
+pub fn changes_replay()
+    ensures { ChangesReplay }
 {}
 
 /// The numbers of a server stay within END, its index within 65,536 entries, and its register and

@@ -2,6 +2,7 @@
 ghost use Rattle.std.specs.Prelude.{◌≡◌, ◌<◌, ◌≤◌, ◌+◌, [], ◌∷◌, length, IfOk};
 ghost use Rattle.krl_server.specs.Outboxes.{as_list, Sends};
 
+use krl_durable::Change;
 use krl_messages::{Items, ToClient};
 use std::alloc::{AllocError, Global};
 use std::marker::Model;
@@ -16,6 +17,8 @@ pub struct ServerOut {
     /// The client whose report contradicts what the server knows, if the message was such a report.
     /// Nothing has changed then.
     pub alarm: Option<u64>,
+    /// What has changed in what survives. There is none exactly where that is as it was.
+    pub change: Option<Change>,
 }
 
 /// Messages on their way out, with room that was made before anything changed.

@@ -1,6 +1,7 @@
 //! The server, as a host runs it.
 ghost use Rattle.std.specs.Prelude.{◌≡◌, ◌≤◌, ℕ, false, [], length, MatchResult, IfOk, OnErr};
 ghost use Rattle.krl_durable.specs.Registers.{missing_order};
+ghost use Rattle.krl_durable.specs.Changes.{IsChange};
 ghost use Rattle.krl_table.specs.Rows.{blank_row};
 ghost use Rattle.krl_table.specs.Kept.{rows_of, IsOver};
 ghost use Rattle.krl_server.specs.Servers.{is_gathering, phase_of};
@@ -69,7 +70,7 @@ fn table_and_missing(alloc: Global, durable: &Durable) -> Result<(Table, Missing
 impl Server {
     /// Starts a server on what survived: the epoch rises by one, nobody holds anything, and every
     /// client that is registered and has not left is missing. Nothing else of what survived
-    /// changes.
+    /// changes: a host that keeps it in a store of its own writes down the new epoch.
     ///
     /// # Errors
     ///
@@ -106,8 +107,9 @@ impl Server {
 
     /// Takes a message, whoever sent it.
     ///
-    /// Whatever comes of it, only a Hello, a Bye or a new write changes what survives. A write that
-    /// is answered, new or once more, is answered first of all, by one push with the next number;
+    /// Whatever comes of it, only a Hello, a Bye or a new write changes what survives, and `change`
+    /// says how. A host that keeps what survives in a store of its own writes that down before it
+    /// sends the messages. A write that is answered, new or once more, is answered first of all, by one push with the next number;
     /// by none where the numbers are spent. Each push that is sent is the last one to its client,
     /// which has to acknowledge it before the next. Where the message was acted upon, a Release
     /// apart, and the server serves then, those who block a first waiter are called back, and
@@ -121,6 +123,8 @@ impl Server {
             (λ out. HasStepped (meaning self.old) message.now (meaning self.new) out) }
         ensures durable { may_change_durable (meaning self.old) message.now ≡ false
             → (meaning self.new).durable ≡ (meaning self.old).durable }
+        ensures change { IfOk result (λ out.
+            IsChange (meaning self.old).durable (meaning self.new).durable out.change) }
         ensures callbacks { IfOk result (λ out.
             HasCallbacks (meaning self.old) message.now (meaning self.new) out.messages) }
         ensures answers { IfOk result (λ out.

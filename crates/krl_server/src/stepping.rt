@@ -7,6 +7,7 @@ ghost use Rattle.krl_table.specs.Sound.{IsTable};
 ghost use Rattle.krl_server.specs.Shows.{IsSound};
 ghost use Rattle.krl_server.specs.Cases.{case_of};
 ghost use Rattle.krl_server.specs.Effects.{effect};
+ghost use Rattle.krl_server.specs.Changes.{change_of};
 ghost use Rattle.krl_server.specs.Callbacks.{callbacks_of_among};
 ghost use Rattle.krl_server.specs.Steps.{nudge, nudge_missing, nudge_served};
 ghost use Rattle.krl_durable.specs.Registers.{record_of};
@@ -16,10 +17,11 @@ ghost use Rattle.krl_server.specs.Doing.{is_here, calls_of_first, calls_at_first
 ghost use Rattle.krl_server.specs.Doing.{room_for, own_of, IsPerformed, HasPerformed, HasRoom};
 ghost use Rattle.krl_server.specs.Doing.{HasFinished, HasStepped, IsServer, IsFirst};
 
-use crate::case::{After, Case};
+use crate::case::{After, Case, Performed};
 use crate::line::Line;
 use crate::out::{Outbox, ServerOut};
 use crate::state::State;
+use krl_durable::Change;
 use krl_messages::{Items, ToClient, ToServer, ToServerBody};
 use krl_modes::Point;
 use krl_queue::{WaitNode, Waiter};
@@ -91,45 +93,52 @@ impl State {
         message: &ToServer,
         case: &Case,
         outbox: &mut Outbox,
-    ) -> Result<After, AllocError>
+    ) -> Result<Performed, AllocError>
         requires server { IsServer self.old }
         requires case { meant (meaning self.old) message.now.client message.now.body case.now
             ≡ case_of (meaning self.old) message.now }
         requires room { length outbox.old.sent + own_of case.now ≤ outbox.old.room }
-        ensures performed { IfOk result (λ after. HasPerformed
-            (meaning self.old) message.now (meaning self.new) after outbox.old outbox.new) }
+        ensures performed { IfOk result (λ done. HasPerformed
+            (meaning self.old) message.now (meaning self.new) done.after outbox.old outbox.new) }
+        ensures change { IfOk result
+            (λ done. done.change ≡ change_of message.now (case_of (meaning self.old) message.now)) }
         ensures formed { OnOk result (IsFormed self.new) }
         ensures refused { OnErr result (self.new ≡ self.old) }
     {
         let client = message.client;
         match *case {
-            Case::Ignored => Ok(After::Nothing),
+            Case::Ignored => Ok(After::Nothing.unchanging()),
             Case::Registers => {
-                self.register(client, message.incarnation)?;
+                let incarnation = message.incarnation;
+                self.register(client, incarnation)?;
                 outbox.send(self.epoch_to(client));
-                Ok(After::Calls)
+                let registered = Change::Registered {
+                    client,
+                    incarnation,
+                };
+                Ok(After::Calls.changing(registered))
             }
             Case::Leaves => {
                 self.depart(client);
-                Ok(After::Calls)
+                Ok(After::Calls.changing(Change::Left { client }))
             }
             Case::Tells => {
                 outbox.send(self.epoch_to(client));
-                Ok(After::Nothing)
+                Ok(After::Nothing.unchanging())
             }
-            Case::Reports => Ok(self.take_report(message)),
+            Case::Reports => Ok(self.take_report(message).unchanging()),
             Case::Repeats(body) => {
                 let number = self.line(client).pushed;
                 outbox.send(self.push_to(client, number, &body));
-                Ok(After::Nothing)
+                Ok(After::Nothing.unchanging())
             }
             Case::Hears => {
                 self.hear(client);
-                Ok(After::Calls)
+                Ok(After::Calls.unchanging())
             }
             Case::Lowers { span, keep } => {
                 self.lower(client, span, keep);
-                Ok(After::Answers)
+                Ok(After::Answers.unchanging())
             }
             Case::Waits {
                 req,
@@ -148,14 +157,20 @@ impl State {
                     },
                 )?;
                 self.enqueue(node);
-                Ok(After::Calls)
+                Ok(After::Calls.unchanging())
             }
             Case::Writes { number, op } => {
-                let written = op;
+                let (written, answered) = (*&op, *&op);
                 let outcome = self.write(client, written)?;
                 self.hear(client);
-                outbox.send_some(self.answer_write(client, number, op, outcome));
-                Ok(After::Calls)
+                outbox.send_some(self.answer_write(client, number, answered, outcome));
+                let judged = Change::Judged {
+                    client,
+                    number,
+                    op,
+                    outcome,
+                };
+                Ok(After::Calls.changing(judged))
             }
             Case::AnswersAgain {
                 number,
@@ -164,7 +179,7 @@ impl State {
             } => {
                 self.hear(client);
                 outbox.send_some(self.answer_write(client, number, op, outcome));
-                Ok(After::Calls)
+                Ok(After::Calls.unchanging())
             }
         }
     }
@@ -187,11 +202,12 @@ impl State {
     {
         let case = self.case_of(message);
         let mut outbox = Outbox::new(alloc, self.room(&case))?;
-        let after = self.perform(alloc, message, &case, &mut outbox)?;
-        self.finish(after, &mut outbox);
+        let done = self.perform(alloc, message, &case, &mut outbox)?;
+        self.finish(done.after, &mut outbox);
         Ok(ServerOut {
             messages: outbox.into_items(),
-            alarm: after.alarm(message.client),
+            alarm: done.after.alarm(message.client),
+            change: done.change,
         })
     }
 

@@ -2,15 +2,9 @@
 -- together of them.
 use Rattle.std.specs.Prelude.{◌≡◌, ℕ, suc, ◌⊎◌, cond, is_some, Bool, true, false, ◌&&◌, nat_lt, nat_eq, if◌then◌else◌, List, [], ◌∷◌, ◌++◌, Option, Some, None, Result, Ok, Err}
 use Rattle.krl_modes.specs.declared.mode.Mode.TheVariants as mode
-use Rattle.krl_messages.specs.declared.outcome.Outcome.{Outcome}
-use Rattle.krl_messages.specs.declared.outcome.Outcome.TheVariants as outcome
-use Rattle.krl_messages.specs.declared.write_op.WriteOp.{WriteOp}
 use Rattle.krl_messages.specs.declared.to_server.ToServer.{ToServer}
-use Rattle.krl_messages.specs.declared.to_server.ToServerBody.{ToServerBody}
-use Rattle.krl_messages.specs.declared.to_server.ToServerBody.TheVariants as said
-use Rattle.krl_messages.specs.declared.to_server.RequestBody.{RequestBody}
-use Rattle.krl_messages.specs.declared.to_server.RequestBody.TheVariants as asked
-use Rattle.krl_durable.specs.declared.record.Record.{Record}
+use Rattle.krl_durable.specs.declared.change.Change.{Change}
+use Rattle.krl_durable.specs.declared.change.Change.TheVariants as change
 use Rattle.krl_messages.specs.declared.to_client.ToClient.{ToClient}
 use Rattle.krl_server.specs.Servers.{Server}
 use Rattle.krl_server.specs.Cases.{case_of}
@@ -30,7 +24,7 @@ use Rattle.krl_steps.specs.declared.answer.Answer.TheVariants as told
 use Rattle.krl_steps.specs.declared.refused.Refused.{Refused}
 use Rattle.krl_steps.specs.declared.refused.Refused.TheVariants as refused
 use Rattle.krl_world.specs.States.{ServerNode, Up, Down, Seat, from_clients, from_server}
-use Rattle.krl_world.specs.Steps.{span, named, command_refusal, ScanAnswers, CommandTakesMemory, applies}
+use Rattle.krl_world.specs.Steps.{span, named, command_refusal, ScanAnswers, CommandTakesMemory, if_applied, applies}
 use Rattle.krl_steps.specs.Refusals.{refused_by_client, refused_at_start}
 
 -- Refusals: the one that is due; or, where none is, want of memory, in what takes some
@@ -114,46 +108,13 @@ HasArrived (Down d) m next old new writes written = (next ≡ Down d) × (new �
 
 -- Writes that were applied
 
-abbrev pub write_asked : RequestBody → Option (ℕ × WriteOp)
-write_asked (asked.Lock req point hi g) = None
-write_asked (asked.Write number op) = Some (number, op)
-write_asked (asked.Release s keep) = None
-write_asked asked.Ack = None
-
--- the write that a message asks for, by its number
-abbrev pub write_of : ToServerBody → Option (ℕ × WriteOp)
-write_of said.Hello = None
-write_of said.Bye = None
-write_of (said.Report epoch pieces) = None
-write_of (said.Request request) = write_asked request.body
-
-abbrev pub is_applied : Option Outcome → Bool
-is_applied None = false
-is_applied (Some outcome.Applied) = true
-is_applied (Some outcome.Exists) = false
-is_applied (Some outcome.Absent) = false
-is_applied (Some outcome.NotHeld) = false
-is_applied (Some outcome.Full) = false
-
--- the write of this number was applied between these two records of its client
-abbrev pub was_applied : ℕ → Record → Record → Bool
-was_applied number before after = nat_lt before.last number && nat_eq after.last number && is_applied after.outcome
-
-abbrev pub applied_between : ToServer → ℕ → WriteOp → Option Record → Option Record → Option AppliedWrite
-applied_between m number op None after = None
-applied_between m number op (Some before) None = None
-applied_between m number op (Some before) (Some after) =
-    if was_applied number before after
-    then Some (record { client = m.client; incarnation = m.incarnation; number = number; op = op })
-    else None
-
-abbrev pub applied_of : ToServer → Option (ℕ × WriteOp) → Option Record → Option Record → Option AppliedWrite
-applied_of m None before after = None
-applied_of m (Some x) before after = applied_between m x.0 x.1 before after
-
--- the write that was applied with this message, by its client's record before and after
-abbrev pub applied_by : ToServer → Option Record → Option Record → Option AppliedWrite
-applied_by m before after = applied_of m (write_of m.body) before after
+-- the write that was applied, if this is what the message changed in what survives
+abbrev pub applied_in : ToServer → Option Change → List AppliedWrite
+applied_in m None = []
+applied_in m (Some (change.Registered c incarnation)) = []
+applied_in m (Some (change.Left c)) = []
+applied_in m (Some (change.Judged c number op o)) =
+    if_applied o (record { client = c; incarnation = m.incarnation; number = number; op = op })
 
 abbrev pub as_list : {A : Type 0} → Option A → List A
 as_list None = []

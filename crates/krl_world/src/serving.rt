@@ -8,60 +8,36 @@ ghost use Rattle.krl_world.specs.declared.message.Message.TheVariants as sent_me
 ghost use Rattle.krl_world.specs.States.{from_server};
 ghost use Rattle.krl_world.specs.Steps.{server_down};
 ghost use Rattle.krl_world.specs.Fields.{node_of};
-ghost use Rattle.krl_world.specs.Moves.{HasServed, HasArrived, write_of, was_applied, applied_by, as_list};
+ghost use Rattle.krl_world.specs.Moves.{HasServed, HasArrived, applied_in, as_list};
 
 use crate::message::Message;
 use crate::node::ServerNode;
 use crate::sending::{MOST_OF_A_SERVER, send_to_clients};
-use krl_durable::Record;
-use krl_messages::{Outcome, Request, RequestBody, ToServer, ToServerBody, WriteOp};
+use krl_durable::Change;
+use krl_messages::{Outcome, ToServer};
 use krl_server::Server;
 use krl_steps::AppliedWrite;
 use std::alloc::{AllocError, Global};
 
-/// The write that a message asks for, by its number.
-fn write_of(message: &ToServer) -> Option<(u64, WriteOp)>
-    ensures { result ≡ write_of message.now.body }
+/// The write that the server applied, if this is what the message changed in what survives.
+fn applied_in(message: &ToServer, change: Option<Change>) -> Option<AppliedWrite>
+    ensures { as_list result ≡ applied_in message.now change }
 {
-    match &message.body {
-        ToServerBody::Request(
-            Request {
-                body: RequestBody::Write { number, op },
-                ..
+    match change {
+        Some(
+            Change::Judged {
+                client,
+                number,
+                op,
+                outcome: Outcome::Applied,
             },
-        ) => Some((*number, *op)),
-        _ => None,
-    }
-}
-
-/// Whether the write of this number was applied between these two records of its client.
-fn was_applied(number: u64, before: Record, after: Record) -> bool
-    ensures { result ≡ was_applied number before after }
-{
-    before.last < number && after.last == number && after.outcome == Some(Outcome::Applied)
-}
-
-/// The write that the server applied with this message, where its client's record was this one
-/// before and is that one now.
-fn applied_by(
-    message: &ToServer,
-    before: Option<Record>,
-    after: Option<Record>,
-) -> Option<AppliedWrite>
-    ensures { result ≡ applied_by message.now before after }
-{
-    let (number, op) = write_of(message)?;
-    let before = before?;
-    let after = after?;
-    if was_applied(number, before, after) {
-        Some(AppliedWrite {
-            client: message.client,
+        ) => Some(AppliedWrite {
+            client,
             incarnation: message.incarnation,
             number,
             op,
-        })
-    } else {
-        None
+        }),
+        _ => None,
     }
 }
 
@@ -110,10 +86,8 @@ fn read(
     let Message::ToServer(message) = &sent[at] else {
         return Ok(());
     };
-    let before = server.durable().record(message.client);
     let out = server.step(alloc, message)?;
-    let applied = applied_by(message, before, server.durable().record(message.client));
-    note(writes, applied);
+    note(writes, applied_in(message, out.change));
     send_to_clients(sent, out.messages);
     Ok(())
 }

@@ -7,6 +7,8 @@ use Rattle.std.proofs.lemmas.Result.{IfOk-weaker}
 use Rattle.krl_server.specs.States.{meaning}
 use Rattle.krl_server.proofs.Said.{durable_said, calls_said, answers_said}
 use Rattle.krl_server.proofs.Standing.{pushes_stand}
+use Rattle.krl_durable.specs.Changes.{IsChange}
+use Rattle.krl_server.proofs.Replayed.{change_said}
 use Rattle.krl_server.proofs.server.Server.step.Goals as goal
 
 pub invariant_of-self : goal.invariant_of-self
@@ -32,3 +34,8 @@ returns-clause-answers c =
 
 pub returns-clause-pushes : goal.returns-clause-pushes
 returns-clause-pushes c = IfOk-weaker c.step.result _ _ (λ out h. pushes_stand (meaning c.self.inside.state) (meaning c.step.new.self) c.args.message.now out.messages h.step) c.step.ensures.stepped
+
+pub returns-clause-change : goal.returns-clause-change
+returns-clause-change c =
+    subst (λ (old : State). IfOk c.step.result (λ out. IsChange (meaning old).durable (meaning c.step.new.self).durable out.change)) c.self.view_is
+    (IfOk-weaker c.step.result _ _ (λ out h. change_said (meaning c.self.inside.state) (meaning c.step.new.self) c.args.message.now out h) c.step.ensures.stepped)

@@ -4,6 +4,8 @@ use Rattle.krl_table.specs.Kept.{rows_of}
 use Rattle.krl_server.specs.States.{meaning, meant}
 use Rattle.krl_server.specs.Effects.{heard, answers}
 use Rattle.krl_server.specs.Outboxes.{as_list}
+use Rattle.krl_server.specs.declared.case.Performed.{Performed}
+use Rattle.krl_server.specs.Doing.{IsPerformed}
 use Rattle.krl_server.specs.Cases.{Judges}
 use Rattle.krl_table.specs.Waiters.{WaitsNowhere}
 use Rattle.krl_server.proofs.Facts.{facts_of, waits_nowhere, performed_write, performed_again}
@@ -70,10 +72,11 @@ returns-in_ok-outcome-in-Writes-clause-performed c =
     let is = c.hear-in-Writes.ensures.heard ∙ ap (λ x. heard x own) c.in_ok-outcome-in-Writes.ensures.writes in
     record {
       outs = as_list c.answer_write.result;
-      performed = performed_write s c.args.message.now (meaning c.answer_write.new.self) number op o (as_list c.answer_write.result)
+      performed = subst (λ left. IsPerformed s c.args.message.now (meaning c.answer_write.new.self) left (as_list c.answer_write.result)) (sym (ap (λ (d : Performed). d.after) c.changing-in-Writes.ensures))
+          (performed_write s c.args.message.now (meaning c.answer_write.new.self) number op o (as_list c.answer_write.result)
           (ap (λ x. Judges number op x) c.in_ok-outcome-in-Writes.ensures.outcome ∙ (sym (ap (λ f. meant s own c.args.message.now.body f) c.in-Writes.is) ∙ c.requires.case))
           (c.answer_write.ensures.server ∙ ap (λ x. (answers x own number op o).server) is)
-          (c.answer_write.ensures.outs ∙ ap (λ x. (answers x own number op o).outs) is);
+          (c.answer_write.ensures.outs ∙ ap (λ x. (answers x own number op o).outs) is));
       sends = c.send_some.ensures;
     }
 
@@ -86,9 +89,10 @@ returns-in-AnswersAgain-clause-performed c =
     let o = c.in-AnswersAgain.outcome in
     record {
       outs = as_list c.answer_write-in-AnswersAgain.result;
-      performed = performed_again s c.args.message.now (meaning c.answer_write-in-AnswersAgain.new.self) number op o (as_list c.answer_write-in-AnswersAgain.result)
+      performed = subst (λ left. IsPerformed s c.args.message.now (meaning c.answer_write-in-AnswersAgain.new.self) left (as_list c.answer_write-in-AnswersAgain.result)) (sym (ap (λ (d : Performed). d.after) c.unchanging-in-AnswersAgain.ensures))
+          (performed_again s c.args.message.now (meaning c.answer_write-in-AnswersAgain.new.self) number op o (as_list c.answer_write-in-AnswersAgain.result)
           (sym (ap (λ f. meant s own c.args.message.now.body f) c.in-AnswersAgain.is) ∙ c.requires.case)
           (c.answer_write-in-AnswersAgain.ensures.server ∙ ap (λ x. (answers x own number op o).server) c.hear-in-AnswersAgain.ensures.heard)
-          (c.answer_write-in-AnswersAgain.ensures.outs ∙ ap (λ x. (answers x own number op o).outs) c.hear-in-AnswersAgain.ensures.heard);
+          (c.answer_write-in-AnswersAgain.ensures.outs ∙ ap (λ x. (answers x own number op o).outs) c.hear-in-AnswersAgain.ensures.heard));
       sends = c.send_some-in-AnswersAgain.ensures;
     }

@@ -1,0 +1,5 @@
+use Rattle.krl_server.proofs.Replayed.{all_replay}
+use Rattle.krl_server.proofs.laws.changes_replay.Goals as goal
+
+pub returns : goal.returns
+returns c = all_replay
