@@ -1,11 +1,12 @@
-//! Ordered maps in blocks, beside a list with a place for each key: 10,000 keys come in no order, two of three go, and the
-//! others are walked and found, four times over. A map whose room is refused is asked for again, so that each run ends
-//! the same, whichever request for memory is refused. No later call asks for memory.
+//! Ordered maps in blocks, beside a list with a place for each key: 10,000 keys come in no order,
+//! two of three go, and the others are walked and found, four times over. Where room is refused it
+//! is asked for again, so that each run ends the same, whichever requests for memory are refused. No
+//! later call asks for memory.
 ghost use Rattle.std.specs.Prelude.{◌≡◌, ◌≤◌, IfOk};
 
+use crate::again::CALLS;
 use krl_blocks::Blocks;
 use std::alloc::{AllocError, Global};
-use std::test::Fail;
 
 /// How many keys there are.
 const KEYS: u64 = 10_000;
@@ -128,10 +129,22 @@ fn are_found(blocks: &Blocks<u64>, beside: &[Option<u64>]) -> bool {
 fn roomy(alloc: Global) -> Result<Blocks<u64>, AllocError>
     ensures { IfOk result (λ blocks. 10000 ≤ blocks.room) }
 {
-    match Blocks::from_sorted(alloc, &[], KEYS as usize) {
-        Ok(blocks) => Ok(blocks),
-        Err(_) => Blocks::from_sorted(alloc, &[], KEYS as usize),
+    for _ in 1..CALLS {
+        if let Ok(blocks) = Blocks::from_sorted(alloc, &[], KEYS as usize) {
+            return Ok(blocks);
+        }
     }
+    Blocks::from_sorted(alloc, &[], KEYS as usize)
+}
+
+// A list with a place for each key.
+fn places(alloc: Global) -> Result<Vec<Option<u64>>, AllocError> {
+    for _ in 1..CALLS {
+        if let Ok(beside) = Vec::from_elem(alloc, None, KEYS as usize) {
+            return Ok(beside);
+        }
+    }
+    Vec::from_elem(alloc, None, KEYS as usize)
 }
 
 // One round on both.
@@ -146,12 +159,25 @@ fn goes_round(blocks: &mut Blocks<u64>, beside: &mut [Option<u64>], round: u64) 
         && are_found(blocks, beside)
 }
 
-#[test]
-fn a_map_in_blocks_is_an_ordered_map(rt: HostRuntime) -> Result<(), Fail> {
-    let mut blocks = roomy(rt.alloc())?;
-    let mut beside = Vec::from_elem(rt.alloc(), None, KEYS as usize)?;
+// Four rounds on both.
+fn goes_on(blocks: &mut Blocks<u64>, beside: &mut [Option<u64>]) -> bool
+    requires { 10000 ≤ blocks.old.room }
+{
     for round in 0..4 {
-        assert!(rt; goes_round(&mut blocks, &mut beside, round), "{round}");
+        if !goes_round(blocks, beside, round) {
+            return false;
+        }
     }
-    Ok(())
+    true
+}
+
+#[test]
+fn a_map_in_blocks_is_an_ordered_map(rt: HostRuntime) {
+    let Ok(mut blocks) = roomy(rt.alloc()) else {
+        panic!(rt; "no room for a map");
+    };
+    let Ok(mut beside) = places(rt.alloc()) else {
+        panic!(rt; "no room for a list");
+    };
+    assert!(rt; goes_on(&mut blocks, &mut beside));
 }

@@ -1,17 +1,22 @@
 //! What survives a restart: which entries are refused, writes, registration. A call that is refused
 //! for want of memory is made again, after a look that nothing has changed, so that each run ends
 //! alike, whichever one or two allocations in a row fail.
-use crate::again::{CALLS, again};
+use crate::again::CALLS;
 use crate::values::{LENGTHS, first_bytes};
 use krl_durable::{Durable, Record, Refused};
 use krl_messages::{Outcome, Value, WriteOp};
 use krl_modes::END;
 use std::alloc::{AllocError, Global};
-use std::test::Fail;
 
 // A durable part of these entries.
 fn durable_of(alloc: Global, entries: &[(u64, Value)]) -> Result<Durable, Refused> {
-    again(|| Durable::new(alloc, entries))
+    for _ in 1..CALLS {
+        match Durable::new(alloc, entries) {
+            Err(Refused::OutOfMemory) => {}
+            answer => return answer,
+        }
+    }
+    Durable::new(alloc, entries)
 }
 
 // Whether these entries are refused so.
@@ -51,7 +56,12 @@ fn many(alloc: Global, n: u64, falls: bool) -> Result<Vec<(u64, Value)>, AllocEr
 
 // The same, asked for again where memory was refused.
 fn entries_of(alloc: Global, n: u64, falls: bool) -> Result<Vec<(u64, Value)>, AllocError> {
-    again(|| many(alloc, n, falls))
+    for _ in 1..CALLS {
+        if let Ok(entries) = many(alloc, n, falls) {
+            return Ok(entries);
+        }
+    }
+    many(alloc, n, falls)
 }
 
 // Whether one entry more than there may be is refused.
@@ -75,22 +85,26 @@ fn makes_room(durable: &mut Durable) -> bool {
         && durable.get(5).is_none()
 }
 
-#[test]
-fn large_index_holds_the_most_entries(rt: HostRuntime) -> Result<(), Fail> {
-    assert!(rt; is_too_many(rt.alloc()));
-    let entries = entries_of(rt.alloc(), 65536, false)?;
-    let mut durable = durable_of(rt.alloc(), &entries)?;
-    assert!(rt; makes_room(&mut durable));
-    Ok(())
+// As many entries as there may be, with keys that fall or rise.
+fn full(alloc: Global, falls: bool) -> Option<Durable> {
+    let entries = entries_of(alloc, 65536, falls).ok()?;
+    durable_of(alloc, &entries).ok()
 }
 
 #[test]
-fn large_index_sorts_falling_entries(rt: HostRuntime) -> Result<(), Fail> {
-    let entries = entries_of(rt.alloc(), 65536, true)?;
-    let durable = durable_of(rt.alloc(), &entries)?;
-    assert!(rt; durable.slot_of(0) == 1);
-    assert!(rt; durable.slot_of(65537) == END);
-    Ok(())
+fn large_index_holds_the_most_entries(rt: HostRuntime) {
+    let Some(mut durable) = full(rt.alloc(), false) else {
+        panic!(rt; "refused");
+    };
+    assert!(rt; is_too_many(rt.alloc()) && makes_room(&mut durable));
+}
+
+#[test]
+fn large_index_sorts_falling_entries(rt: HostRuntime) {
+    let Some(durable) = full(rt.alloc(), true) else {
+        panic!(rt; "refused");
+    };
+    assert!(rt; durable.slot_of(0) == 1 && durable.slot_of(65537) == END);
 }
 
 // Whether the client registers with this incarnation, at once or after refusals that changed
@@ -203,13 +217,21 @@ fn has_slots(durable: &Durable) -> bool {
         && durable.span_of(END).lo() == 21
 }
 
+// Whether those writes are judged so on the entries 10 and 20, and leave these entries.
+fn judges_and_notes(durable: &mut Durable) -> bool {
+    holds_two(durable, (10, 1), (20, 2))
+        && judges_each(durable)
+        && holds_two(durable, (15, 7), (20, 2))
+        && has_slots(durable)
+}
+
 #[test]
-fn judges_writes_and_notes_them(rt: HostRuntime) -> Result<(), Fail> {
+fn judges_writes_and_notes_them(rt: HostRuntime) {
     let entries = [(20, Value::from_u64(2)), (10, Value::from_u64(1))];
-    let mut durable = durable_of(rt.alloc(), &entries)?;
-    assert!(rt; holds_two(&durable, (10, 1), (20, 2)) && judges_each(&mut durable));
-    assert!(rt; holds_two(&durable, (15, 7), (20, 2)) && has_slots(&durable));
-    Ok(())
+    let Ok(mut durable) = durable_of(rt.alloc(), &entries) else {
+        panic!(rt; "refused");
+    };
+    assert!(rt; judges_and_notes(&mut durable));
 }
 
 // The epoch rises, and nothing else changes.
@@ -301,18 +323,21 @@ fn keeps_each_length(durable: &mut Durable) -> bool {
 }
 
 #[test]
-fn keeps_values_of_each_length(rt: HostRuntime) -> Result<(), Fail> {
-    let mut durable = durable_of(rt.alloc(), &[])?;
+fn keeps_values_of_each_length(rt: HostRuntime) {
+    let Ok(mut durable) = durable_of(rt.alloc(), &[]) else {
+        panic!(rt; "refused");
+    };
     assert!(rt; keeps_each_length(&mut durable));
-    Ok(())
 }
 
 // Whether the clients that have not left are these, asked for again where memory was refused.
 fn are_missing(durable: &Durable, alloc: Global, expected: &[u64]) -> bool {
-    match again(|| durable.missing_order(alloc)) {
-        Ok(clients) => clients.as_slice() == expected,
-        Err(_) => false,
+    for _ in 0..CALLS {
+        if let Ok(clients) = durable.missing_order(alloc) {
+            return clients.as_slice() == expected;
+        }
     }
+    false
 }
 
 // Clients that register, with their incarnations.
@@ -348,10 +373,11 @@ fn keeps_the_order(durable: &mut Durable, alloc: Global) -> bool {
 }
 
 #[test]
-fn keeps_the_order_of_first_registration(rt: HostRuntime) -> Result<(), Fail> {
-    let mut durable = durable_of(rt.alloc(), &[])?;
+fn keeps_the_order_of_first_registration(rt: HostRuntime) {
+    let Ok(mut durable) = durable_of(rt.alloc(), &[]) else {
+        panic!(rt; "refused");
+    };
     assert!(rt; keeps_the_order(&mut durable, rt.alloc()));
-    Ok(())
 }
 
 // Two clients, of which the later one has left after its fourth write.
@@ -383,7 +409,13 @@ fn try_brought(alloc: Global, entries: &[(u64, Value)]) -> Result<Durable, Refus
 
 // The same, asked for again where memory was refused.
 fn brought(alloc: Global, entries: &[(u64, Value)]) -> Result<Durable, Refused> {
-    again(|| try_brought(alloc, entries))
+    for _ in 1..CALLS {
+        match try_brought(alloc, entries) {
+            Err(Refused::OutOfMemory) => {}
+            answer => return answer,
+        }
+    }
+    try_brought(alloc, entries)
 }
 
 // Whether those two clients have these records, and no third has one.
@@ -412,11 +444,12 @@ fn holds_those_parts(durable: &mut Durable, alloc: Global) -> bool {
 }
 
 #[test]
-fn holds_the_parts_that_it_is_made_of(rt: HostRuntime) -> Result<(), Fail> {
+fn holds_the_parts_that_it_is_made_of(rt: HostRuntime) {
     let entries = [(20, Value::from_u64(2)), (10, Value::from_u64(1))];
-    let mut durable = brought(rt.alloc(), &entries)?;
+    let Ok(mut durable) = brought(rt.alloc(), &entries) else {
+        panic!(rt; "refused");
+    };
     assert!(rt; holds_those_parts(&mut durable, rt.alloc()));
-    Ok(())
 }
 
 // Whether other parts with these entries are refused so.

@@ -1,5 +1,5 @@
-//! Tests of modes, values, messages, waiting lists, maps in blocks and what survives a restart, through
-//! their public calls.
+//! Tests of modes, values, messages, waiting lists, maps in blocks and what survives a restart,
+//! through their public calls.
 #![tactic(auto)]
 
 #[cfg(test)]

@@ -1,13 +1,12 @@
 //! Messages: their lists, their clones, and what is read off them. A refused call is made again, so
 //! that each run ends alike, whichever requests for memory are refused.
-use crate::again::again;
+use crate::again::CALLS;
 use krl_messages::{
     Holding, Holdings, Items, KeyPiece, KeyPieces, Pieces, RangePiece, RangePieces, ToServer,
     ToServerBody, Value, WriteOp,
 };
 use krl_modes::{END, KeyPart, Mode, RangePart, Span, TOP};
 use std::alloc::{AllocError, Global};
-use std::test::Fail;
 
 static KEYS: [KeyPiece; 2] = [
     KeyPiece {
@@ -50,11 +49,24 @@ fn report(alloc: Global, span: Span) -> Result<ToServer, AllocError> {
     })
 }
 
-/// The report, and its clone: each is asked for again where it is refused.
-fn report_and_clone(alloc: Global, span: Span) -> Result<(ToServer, ToServer), AllocError> {
-    let message = again(|| report(alloc, span))?;
-    let copy = again(|| message.try_clone(alloc))?;
-    Ok((message, copy))
+/// The report, asked for again where it is refused.
+fn reported(alloc: Global, span: Span) -> Option<ToServer> {
+    for _ in 0..CALLS {
+        if let Ok(message) = report(alloc, span) {
+            return Some(message);
+        }
+    }
+    None
+}
+
+/// Its clone, asked for again where it is refused.
+fn cloned(alloc: Global, message: &ToServer) -> Option<ToServer> {
+    for _ in 0..CALLS {
+        if let Ok(copy) = message.try_clone(alloc) {
+            return Some(copy);
+        }
+    }
+    None
 }
 
 // Whether this is the report.
@@ -71,26 +83,41 @@ fn is_report(message: &ToServer, span: Span) -> bool {
         && pieces.keys.as_slice() == KEYS.as_slice()
 }
 
-#[test]
-fn clones_a_report(rt: HostRuntime) -> Result<(), Fail> {
-    let span = Span::new(0, 11)?;
-    let (message, copy) = report_and_clone(rt.alloc(), span)?;
-    assert!(rt; message == copy && is_report(&copy, span));
-    Ok(())
+/// Whether the report on this span has an equal clone.
+fn is_cloned(alloc: Global, lo: u64, hi: u64) -> Option<bool> {
+    let span = Span::new(lo, hi).ok()?;
+    let message = reported(alloc, span)?;
+    let copy = cloned(alloc, &message)?;
+    Some(message == copy && is_report(&copy, span))
 }
 
 #[test]
-fn a_holding_has_a_value_where_it_reads_an_entry(rt: HostRuntime) -> Result<(), Fail> {
+fn clones_a_report(rt: HostRuntime) {
+    assert!(rt; is_cloned(rt.alloc(), 0, 11) == Some(true));
+}
+
+/// The holding of a row.
+fn holding_of(lo: u64, hi: u64, mode: Mode, value: Option<u64>) -> Option<Holding> {
+    Some(Holding {
+        span: Span::new(lo, hi).ok()?,
+        mode,
+        value: value.map(Value::from_u64),
+    })
+}
+
+/// Whether its slot is the last point of its span, and it has its value or not, as told.
+fn is_as_told(holding: &Holding, has: bool) -> bool {
+    holding.slot() == holding.span.last() && holding.has_its_value() == has
+}
+
+#[test]
+fn a_holding_has_a_value_where_it_reads_an_entry(rt: HostRuntime) {
     for (lo, hi, mode, value, has) in &HOLDINGS {
-        let holding = Holding {
-            span: Span::new(*lo, *hi)?,
-            mode: *mode,
-            value: value.map(Value::from_u64),
+        let Some(holding) = holding_of(*lo, *hi, *mode, *value) else {
+            panic!(rt; "{lo} to {hi} is no span");
         };
-        assert!(rt; holding.has_its_value() == *has);
-        assert!(rt; holding.slot() == holding.span.last());
+        assert!(rt; is_as_told(&holding, *has), "{lo} to {hi}");
     }
-    Ok(())
 }
 
 /// What a client reads of the nth slot, whose entry is the number n.
@@ -179,15 +206,24 @@ fn one_holding_without_its_value_is_seen_among_others(rt: HostRuntime) {
 #[test]
 fn a_write_names_its_key(rt: HostRuntime) {
     let value = Value::from_u64(5);
-    assert!(rt; WriteOp::Insert { key: 1, value }.key() == 1);
-    assert!(rt; WriteOp::Put { key: END, value }.key() == END);
-    assert!(rt; WriteOp::Delete { key: u64::MAX }.key() == u64::MAX);
+    let keys = [
+        WriteOp::Insert { key: 1, value }.key(),
+        WriteOp::Put { key: END, value }.key(),
+        WriteOp::Delete { key: u64::MAX }.key(),
+    ];
+    assert!(rt; keys == [1, END, u64::MAX]);
+}
+
+/// Whether an empty list has an equal clone, which takes no memory: it is not asked for again.
+fn empty_is_cloned(alloc: Global) -> bool {
+    let none: Items<KeyPiece> = Items::from(Vec::new(alloc));
+    match none.try_clone(alloc) {
+        Ok(copy) => none.as_slice().is_empty() && copy == none,
+        Err(_) => false,
+    }
 }
 
 #[test]
-fn an_empty_list_takes_no_memory(rt: HostRuntime) -> Result<(), Fail> {
-    let none: Items<KeyPiece> = Items::from(Vec::new(rt.alloc()));
-    assert!(rt; none.as_slice().is_empty());
-    assert!(rt; none.try_clone(rt.alloc())? == none);
-    Ok(())
+fn an_empty_list_takes_no_memory(rt: HostRuntime) {
+    assert!(rt; empty_is_cloned(rt.alloc()));
 }

@@ -6,12 +6,11 @@ ghost use Rattle.std.specs.List.{AllByRecursion, IsDistinct};
 ghost use Rattle.std.specs.Map.{keys_of};
 ghost use Rattle.krl_durable.specs.Kept.{IsRow};
 
-use crate::again::again;
+use crate::again::CALLS;
 use krl_durable::{Durable, DurableV1, NotMigrated, Record, Refused};
 use krl_messages::Outcome;
 use krl_modes::END;
 use std::alloc::Global;
-use std::test::Fail;
 
 // An incarnation that has left and never wrote.
 const GONE: Record = Record {
@@ -51,17 +50,35 @@ fn survived(alloc: Global, records: &[(u64, Record)]) -> Result<DurableV1, Refus
     requires each { AllByRecursion IsRow records.now }
     requires once { IsDistinct nat_eq (keys_of records.now) }
 {
-    again(|| DurableV1::from_parts(alloc, &[(10, 258)], 4, records))
+    for _ in 1..CALLS {
+        match DurableV1::from_parts(alloc, &[(10, 258)], 4, records) {
+            Err(Refused::OutOfMemory) => {}
+            answer => return answer,
+        }
+    }
+    DurableV1::from_parts(alloc, &[(10, 258)], 4, records)
 }
 
 // What never served: these entries alone.
 fn unused(alloc: Global, entries: &[(u64, u64)]) -> Result<DurableV1, Refused> {
-    again(|| DurableV1::new(alloc, entries))
+    for _ in 1..CALLS {
+        match DurableV1::new(alloc, entries) {
+            Err(Refused::OutOfMemory) => {}
+            answer => return answer,
+        }
+    }
+    DurableV1::new(alloc, entries)
 }
 
 // What becomes of it.
 fn migrated(alloc: Global, old: &DurableV1) -> Result<Durable, NotMigrated> {
-    again(|| Durable::migrate(alloc, old))
+    for _ in 1..CALLS {
+        match Durable::migrate(alloc, old) {
+            Err(NotMigrated::OutOfMemory) => {}
+            answer => return answer,
+        }
+    }
+    Durable::migrate(alloc, old)
 }
 
 // Whether it is what survived with these records: a refusal leaves it so too.
@@ -84,10 +101,12 @@ fn has_eight_bytes(durable: &Durable, key: u64, bytes: &[u8; 8]) -> bool {
 
 // Whether the clients that have not left are these, asked for again where memory was refused.
 fn are_missing(old: &DurableV1, alloc: Global, expected: &[u64]) -> bool {
-    match again(|| old.missing_order(alloc)) {
-        Ok(clients) => clients.as_slice() == expected,
-        Err(_) => false,
+    for _ in 0..CALLS {
+        if let Ok(clients) = old.missing_order(alloc) {
+            return clients.as_slice() == expected;
+        }
     }
+    false
 }
 
 // Whether those who have left have their records, and nobody else has one.
@@ -112,15 +131,23 @@ fn is_migrated(alloc: Global, old: &DurableV1) -> bool {
     }
 }
 
-#[test]
-fn keeps_all_but_the_form_of_values(rt: HostRuntime) -> Result<(), Fail> {
-    let old = survived(rt.alloc(), &ALL_LEFT)?;
-    assert!(rt; has_survived(&old, &ALL_LEFT) && are_missing(&old, rt.alloc(), &[]));
-    assert!(rt; is_migrated(rt.alloc(), &old) && has_survived(&old, &ALL_LEFT));
-    Ok(())
+// Whether it is what survived where all have left, and is still so once it is migrated.
+fn stays_and_is_migrated(alloc: Global, old: &DurableV1) -> bool {
+    has_survived(old, &ALL_LEFT)
+        && are_missing(old, alloc, &[])
+        && is_migrated(alloc, old)
+        && has_survived(old, &ALL_LEFT)
 }
 
-// Whether it is not migrated, since this client has not left, and stays as it was.
+#[test]
+fn keeps_all_but_the_form_of_values(rt: HostRuntime) {
+    let Ok(old) = survived(rt.alloc(), &ALL_LEFT) else {
+        panic!(rt; "refused");
+    };
+    assert!(rt; stays_and_is_migrated(rt.alloc(), &old));
+}
+
+// Whether it is not migrated, since this client has not left.
 fn still_has(alloc: Global, old: &DurableV1, client: u64) -> bool {
     match migrated(alloc, old) {
         Err(NotMigrated::StillRegistered(named)) => named == client,
@@ -129,19 +156,21 @@ fn still_has(alloc: Global, old: &DurableV1, client: u64) -> bool {
 }
 
 #[test]
-fn names_the_one_who_has_not_left(rt: HostRuntime) -> Result<(), Fail> {
-    let old = survived(rt.alloc(), &ONE_HERE)?;
-    assert!(rt; are_missing(&old, rt.alloc(), &[0]));
-    assert!(rt; still_has(rt.alloc(), &old, 0) && has_survived(&old, &ONE_HERE));
-    Ok(())
+fn names_the_one_who_has_not_left(rt: HostRuntime) {
+    let Ok(old) = survived(rt.alloc(), &ONE_HERE) else {
+        panic!(rt; "refused");
+    };
+    assert!(rt; are_missing(&old, rt.alloc(), &[0]) && still_has(rt.alloc(), &old, 0));
+    assert!(rt; has_survived(&old, &ONE_HERE));
 }
 
 #[test]
-fn names_the_first_who_has_not_left(rt: HostRuntime) -> Result<(), Fail> {
-    let old = survived(rt.alloc(), &TWO_HERE)?;
-    assert!(rt; are_missing(&old, rt.alloc(), &[3, 1]));
-    assert!(rt; still_has(rt.alloc(), &old, 3) && has_survived(&old, &TWO_HERE));
-    Ok(())
+fn names_the_first_who_has_not_left(rt: HostRuntime) {
+    let Ok(old) = survived(rt.alloc(), &TWO_HERE) else {
+        panic!(rt; "refused");
+    };
+    assert!(rt; are_missing(&old, rt.alloc(), &[3, 1]) && still_has(rt.alloc(), &old, 3));
+    assert!(rt; has_survived(&old, &TWO_HERE));
 }
 
 // Whether these numbers are refused so.
@@ -161,10 +190,11 @@ fn is_unused(old: &DurableV1, alloc: Global, entries: &[(u64, u64)]) -> bool {
 }
 
 #[test]
-fn begins_at_epoch_0_with_good_entries(rt: HostRuntime) -> Result<(), Fail> {
-    let old = unused(rt.alloc(), &[(20, u64::MAX), (10, 258)])?;
+fn begins_at_epoch_0_with_good_entries(rt: HostRuntime) {
+    let Ok(old) = unused(rt.alloc(), &[(20, u64::MAX), (10, 258)]) else {
+        panic!(rt; "refused");
+    };
     assert!(rt; is_unused(&old, rt.alloc(), &[(10, 258), (20, u64::MAX)]));
-    Ok(())
 }
 
 #[test]

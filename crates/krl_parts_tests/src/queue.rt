@@ -74,32 +74,46 @@ fn takes_out_in_order(rt: HostRuntime) {
     assert!(rt; fills(rt.alloc(), &mut list) && is_taken_out(&mut list));
 }
 
+/// Those five without the last and the first, and then all of them.
+static EIGHT: [(u64, u64); 8] = [
+    (1, 10),
+    (2, 30),
+    (3, 20),
+    (2, 20),
+    (2, 30),
+    (3, 20),
+    (2, 20),
+    (4, END),
+];
+
+/// Whether an empty list is filled, loses its last and its first, and is filled again.
+fn goes_on(alloc: Global, list: &mut WaitList) -> bool {
+    fills(alloc, list)
+        && is(list.remove_client(4), 4, END)
+        && is(list.remove_client(1), 1, 10)
+        && fills(alloc, list)
+        && list.len() == 8
+        && drains(list, &EIGHT)
+}
+
 #[test]
 fn takes_out_the_last_and_goes_on(rt: HostRuntime) {
     let mut list = WaitList::new();
-    assert!(rt; fills(rt.alloc(), &mut list));
-    assert!(rt; is(list.remove_client(4), 4, END));
-    assert!(rt; is(list.remove_client(1), 1, 10));
-    assert!(rt; fills(rt.alloc(), &mut list));
-    assert!(rt; list.len() == 8);
-    assert!(rt;
-        drains(
-            &mut list,
-            &[
-                (1, 10),
-                (2, 30),
-                (3, 20),
-                (2, 20),
-                (2, 30),
-                (3, 20),
-                (2, 20),
-                (4, END)
-            ]
-        )
-    );
+    assert!(rt; goes_on(rt.alloc(), &mut list));
     // What is empty takes a node again, at either end.
-    assert!(rt; fills(rt.alloc(), &mut list));
-    assert!(rt; drains(&mut list, &FIVE));
+    assert!(rt; fills(rt.alloc(), &mut list) && drains(&mut list, &FIVE));
+}
+
+/// Whether those five are split at 20 and put together the other way round.
+fn are_split_and_spliced(mut list: WaitList, point: Point) -> bool {
+    let mut low = list.split_at(point);
+    let is_split = low.len() == 3 && is(low.front(), 1, 10);
+    let is_rest = list.len() == 2 && is(list.front(), 2, 30);
+    low.splice_front(list);
+    low.splice_front(WaitList::new());
+    let mut all = WaitList::new();
+    all.splice_front(low);
+    is_split && is_rest && drains(&mut all, &[(2, 30), (4, END), (1, 10), (3, 20), (2, 20)])
 }
 
 #[test]
@@ -109,14 +123,7 @@ fn splits_and_splices(rt: HostRuntime) {
     let Some(point) = Point::new(20) else {
         panic!(rt; "20 is no point");
     };
-    let mut low = list.split_at(point);
-    assert!(rt; low.len() == 3 && is(low.front(), 1, 10));
-    assert!(rt; list.len() == 2 && is(list.front(), 2, 30));
-    low.splice_front(list);
-    low.splice_front(WaitList::new());
-    let mut all = WaitList::new();
-    all.splice_front(low);
-    assert!(rt; drains(&mut all, &[(2, 30), (4, END), (1, 10), (3, 20), (2, 20)]));
+    assert!(rt; are_split_and_spliced(list, point));
 }
 
 #[test]

@@ -1,6 +1,5 @@
 //! Values: the bytes that they are made of, and the numbers that eight of them tell.
 use krl_messages::Value;
-use std::test::Fail;
 
 /// One byte more than a value can have. Zeros stand where some value ends.
 static BYTES: [u8; 33] = [
@@ -51,22 +50,27 @@ fn values_of_other_lengths_differ(rt: HostRuntime) {
     }
 }
 
-#[test]
-fn eight_bytes_are_a_number(rt: HostRuntime) -> Result<(), Fail> {
-    for (number, bytes) in &NUMBERS {
-        let value = Value::from_u64(*number);
-        assert!(rt; value.bytes() == bytes.as_slice(), "{number}");
-        assert!(rt; value.as_u64() == Some(*number), "{number}");
-        assert!(rt; Value::new(bytes) == Some(value), "{number}");
-    }
-    Ok(())
+// Whether the number has these bytes, and they are the number.
+fn are_number(number: u64, bytes: &[u8]) -> bool {
+    let value = Value::from_u64(number);
+    value.bytes() == bytes && value.as_u64() == Some(number) && Value::new(bytes) == Some(value)
 }
 
 #[test]
-fn other_bytes_are_no_number(rt: HostRuntime) -> Result<(), Fail> {
-    for len in &LENGTHS {
-        let value = Value::new(first_bytes(*len)).ok_or("it is too long")?;
-        assert!(rt; value.as_u64().is_some() == (*len == 8), "{len}");
+fn eight_bytes_are_a_number(rt: HostRuntime) {
+    for (number, bytes) in &NUMBERS {
+        assert!(rt; are_number(*number, bytes), "{number}");
     }
-    Ok(())
+}
+
+// Whether the value of these bytes is a number; None where they are too many.
+fn is_number(bytes: &[u8]) -> Option<bool> {
+    Some(Value::new(bytes)?.as_u64().is_some())
+}
+
+#[test]
+fn other_bytes_are_no_number(rt: HostRuntime) {
+    for len in &LENGTHS {
+        assert!(rt; is_number(first_bytes(*len)) == Some(*len == 8), "{len}");
+    }
 }
