@@ -452,6 +452,35 @@ fn holds_the_parts_that_it_is_made_of(rt: HostRuntime) {
     assert!(rt; holds_those_parts(&mut durable, rt.alloc()));
 }
 
+// What it shows, written out and brought back.
+fn try_written_out(alloc: Global, durable: &Durable) -> Result<Durable, Refused> {
+    let records = durable.records(alloc)?;
+    Durable::from_parts(alloc, durable.run(0), durable.epoch(), &records)
+}
+
+// The same, asked for again where memory was refused.
+fn written_out(alloc: Global, durable: &Durable) -> Result<Durable, Refused> {
+    for _ in 1..CALLS {
+        match try_written_out(alloc, durable) {
+            Err(Refused::OutOfMemory) => {}
+            answer => return answer,
+        }
+    }
+    try_written_out(alloc, durable)
+}
+
+#[test]
+fn comes_back_as_it_is_written_out(rt: HostRuntime) {
+    let entries = [(20, Value::from_u64(2)), (10, Value::from_u64(1))];
+    let Ok(durable) = brought(rt.alloc(), &entries) else {
+        panic!(rt; "refused");
+    };
+    let Ok(mut back) = written_out(rt.alloc(), &durable) else {
+        panic!(rt; "refused");
+    };
+    assert!(rt; holds_those_parts(&mut back, rt.alloc()));
+}
+
 // Whether other parts with these entries are refused so.
 fn is_not_brought(alloc: Global, entries: &[(u64, Value)], expected: Refused) -> bool {
     match brought(alloc, entries) {

@@ -6,6 +6,8 @@ mod acts;
 #[cfg(test)]
 mod again;
 #[cfg(test)]
+mod changes;
+#[cfg(test)]
 mod exchange;
 #[cfg(test)]
 mod gathering;

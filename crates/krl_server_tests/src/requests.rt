@@ -42,7 +42,8 @@ fn pieces(
     })
 }
 
-fn write(change: Change) -> Option<WriteOp> {
+// The write that an act names.
+pub fn write(change: Change) -> Option<WriteOp> {
     match change {
         Change::Insert(key, text) => Some(WriteOp::Insert {
             key,

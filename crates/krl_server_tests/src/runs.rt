@@ -80,9 +80,7 @@ fn is_shown(alloc: Global, server: &Server, act: Act, expected: &Gives) -> bool 
             (server.phase() == Phase::Gathering) != clients.is_empty()
                 && are_missing(alloc, server, clients)
         }
-        (Act::Entries, Gives::Entries(entries)) => {
-            are_entries(server.durable().run(0), entries)
-        }
+        (Act::Entries, Gives::Entries(entries)) => { are_entries(server.durable().run(0), entries) }
         (Act::Nudge(client), Gives::Only(told)) => nudges(alloc, server, client, told),
         _ => false,
     }

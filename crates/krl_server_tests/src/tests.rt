@@ -8,6 +8,7 @@ ghost use Rattle.krl_durable.specs.Kept.{IsRow};
 
 use crate::acts::{Act, Gives};
 use crate::again::again;
+use crate::changes::{CHANGES, all_say};
 use crate::exchange::{CROWD, EXCHANGE, SHARES};
 use crate::gathering::{CONTRADICTS, GATHERS, REGISTERS};
 use crate::ranges::{
@@ -121,6 +122,22 @@ fn gives_each_row(rt: HostRuntime) {
         assert!(rt; gives_on_one(rt.alloc(), rows));
     }
     assert!(rt; gives_on_two(rt.alloc(), &WRITES));
+}
+
+// Whether each step of a server on both entries says what it changed.
+fn says_each_change(alloc: Global) -> bool {
+    let Some(durable) = unused(alloc, &two_entries()) else {
+        return false;
+    };
+    match started(alloc, durable) {
+        Some(mut server) => all_say(alloc, &mut server, &CHANGES),
+        None => false,
+    }
+}
+
+#[test]
+fn says_what_each_message_changed(rt: HostRuntime) {
+    assert!(rt; says_each_change(rt.alloc()));
 }
 
 #[test]
