@@ -247,6 +247,7 @@ pub(crate) fn read<R: Wait, G: Gate>(
 {
     let mut stage = Reading::Start;
     let mut is_read = false;
+    let mut is_rested = false;
     for turn in 0..MAX_TURNS {
         let status = node.status();
         gate.pass(turn, status);
@@ -259,12 +260,21 @@ pub(crate) fn read<R: Wait, G: Gate>(
         let is_waiting = waits(status);
         if is_waiting || !is_read {
             is_read = delivery.read(rt, office, &mut node);
+            is_rested = is_rested && is_read;
             if is_read && is_waiting {
                 gate.pause();
             }
             continue;
         }
         is_read = false;
+        // It rests after letters before it asks for more. By them it may have given back what the
+        // writer waits for: asked for again at once, that would be called back from the writer
+        // before it could insert.
+        if !is_rested {
+            is_rested = true;
+            gate.pause();
+            continue;
+        }
         if let Reading::Scan = stage {
             match look(&node) {
                 Ok(Some(rows)) => return (node, Some(rows)),
