@@ -3,19 +3,15 @@
 ghost use Rattle.std.specs.Prelude.{◌≡◌, IfOk};
 ghost use Rattle.krl_nodes.specs.Nodes.{IsSameServer, IsSameClient};
 
-use krl_client::{ScanAnswer, Status};
+use krl_client::ScanAnswer;
 use krl_messages::Value;
-use krl_modes::{KeyPart, RangePart};
-use krl_nodes::{ClientNode, ClientOrder, Office, ServerNode, ServerOrder, Turn};
-use krl_world::{Command, Refused};
+use krl_nodes::{ClientNode, ClientOrder, Office, Policy, ServerNode, ServerOrder, Turn};
+use krl_world::Refused;
 use std::alloc::Global;
 use std::sync::Wait;
 
-/// The points that these tests look at: 0 to 63.
-pub const POINTS: u64 = 64;
-
 /// How often a call is made at most: twice it may be refused.
-pub const CALLS: u64 = 3;
+const CALLS: u64 = 3;
 
 /// The entries that a test begins with, in its index.
 fn try_open(alloc: Global, entries: &[(u64, u64)]) -> Result<(Office, ServerNode), Refused>
@@ -91,103 +87,44 @@ pub fn scan(client: &ClientNode, lo: u64, hi: u64) -> Result<ScanAnswer, Refused
     client.scan(lo, hi)
 }
 
-/// Whether the server's turn does something.
-pub fn serves<R: Wait>(rt: &R, office: &Office, server: &mut ServerNode, order: ServerOrder) -> bool
-    requires { server.old.office ≡ office.now }
-    ensures { IsSameServer server.old server.new }
-{
-    matches!(serve(rt, office, server, order), Ok(Turn::Did(_)))
-}
-
-/// Whether no letter waits for the server.
-pub fn is_idle<R: Wait>(rt: &R, office: &Office, server: &mut ServerNode) -> bool
-    requires { server.old.office ≡ office.now }
-    ensures { IsSameServer server.old server.new }
-{
-    matches!(
-        serve(rt, office, server, ServerOrder::Letter),
-        Ok(Turn::Idle)
-    )
-}
-
-/// Whether the client's turn does something.
-pub fn acts<R: Wait>(rt: &R, office: &Office, client: &mut ClientNode, order: ClientOrder) -> bool
-    requires { client.old.office ≡ office.now }
-    ensures { IsSameClient client.old client.new }
-{
-    matches!(act(rt, office, client, order), Ok(Turn::Did(_)))
-}
-
-/// Whether the client obeys the command.
-pub fn obeys<R: Wait>(rt: &R, office: &Office, client: &mut ClientNode, what: Command) -> bool
-    requires { client.old.office ≡ office.now }
-    ensures { IsSameClient client.old client.new }
-{
-    acts(rt, office, client, ClientOrder::Command(what))
-}
-
-/// Whether the server's turn is refused so.
-pub fn server_refuses<R: Wait>(
+/// The server's turn by the policy, made again where memory was refused, twice at most.
+pub fn serve_by<R: Wait, P: Policy>(
     rt: &R,
     office: &Office,
     server: &mut ServerNode,
     order: ServerOrder,
-    expected: Refused,
-) -> bool
+    policy: &mut P,
+) -> Result<Turn, Refused>
     requires { server.old.office ≡ office.now }
     ensures { IsSameServer server.old server.new }
 {
-    match serve(rt, office, server, order) {
-        Ok(_) => false,
-        Err(refused) => refused == expected,
+    for _ in 1..CALLS {
+        match server.turn_by(rt, office, order, policy) {
+            Err(Refused::OutOfMemory) => {}
+            answer => return answer,
+        }
     }
+    server.turn_by(rt, office, order, policy)
 }
 
-/// Whether the client's turn is refused so.
-pub fn client_refuses<R: Wait>(
+/// The client's turn by the policy, made again where memory was refused, twice at most.
+pub fn act_by<R: Wait, P: Policy>(
     rt: &R,
     office: &Office,
     client: &mut ClientNode,
     order: ClientOrder,
-    expected: Refused,
-) -> bool
+    policy: &mut P,
+) -> Result<Turn, Refused>
     requires { client.old.office ≡ office.now }
     ensures { IsSameClient client.old client.new }
 {
-    match act(rt, office, client, order) {
-        Ok(_) => false,
-        Err(refused) => refused == expected,
-    }
-}
-
-/// Delivers the letters of both nodes until neither has one.
-pub fn settle<R: Wait>(rt: &R, office: &Office, server: &mut ServerNode, client: &mut ClientNode)
-    requires { (server.old.office ≡ office.now) × (client.old.office ≡ office.now) }
-    ensures { IsSameServer server.old server.new × IsSameClient client.old client.new }
-{
-    for _ in 0..100u64 {
-        let served = serves(rt, office, server, ServerOrder::Letter);
-        let acted = acts(rt, office, client, ClientOrder::Letter);
-        if !served & !acted {
-            return;
+    for _ in 1..CALLS {
+        match client.turn_by(rt, office, *&order, policy) {
+            Err(Refused::OutOfMemory) => {}
+            answer => return answer,
         }
     }
-}
-
-/// Whether the client's cache has just these rows in the span, each value a number.
-pub fn reads(client: &ClientNode, lo: u64, hi: u64, expected: &[(u64, u64)]) -> bool {
-    match scan(client, lo, hi) {
-        Ok(ScanAnswer::Rows(rows)) => are_numbers(rows.as_slice(), expected),
-        _ => false,
-    }
-}
-
-/// Whether the first point that the client's cache misses in the span is this one.
-pub fn misses(client: &ClientNode, lo: u64, hi: u64, expected: u64) -> bool {
-    match scan(client, lo, hi) {
-        Ok(ScanAnswer::Miss(point)) => point == expected,
-        _ => false,
-    }
+    client.turn_by(rt, office, order, policy)
 }
 
 /// Whether these are the rows, each value a number.

@@ -9,3 +9,5 @@ mod gates;
 mod nodes;
 #[cfg(test)]
 mod policies;
+#[cfg(test)]
+mod scene;

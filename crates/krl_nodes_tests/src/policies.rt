@@ -1,14 +1,9 @@
 //! Nodes whose letters are lost, repeated and read out of order, as policies pick.
-ghost use Rattle.std.specs.Prelude.{◌≡◌};
-ghost use Rattle.krl_nodes.specs.Nodes.{IsSameServer, IsSameClient};
-
-use crate::acts::{CALLS, acts, is_idle, open, reads, serves};
+use crate::scene::{Scene, Who};
 use krl_messages::{Value, WriteOp};
 use krl_modes::{KeyPart, Mode, RangePart};
-use krl_nodes::{
-    ClientNode, ClientOrder, Drawn, Office, Pick, Policy, ServerNode, ServerOrder, Turn,
-};
-use krl_world::{Command, Refused};
+use krl_nodes::{ClientOrder, Drawn, Pick, Policy, ServerOrder, Turn};
+use krl_world::Command;
 use std::sync::Wait;
 use std::test::Fail;
 
@@ -58,85 +53,41 @@ impl Policy for Youngest {
     }
 }
 
-/// The server's turn by the policy, made again where memory was refused, twice at most.
-fn serve_by<R: Wait, P: Policy>(
-    rt: &R,
-    office: &Office,
-    server: &mut ServerNode,
-    order: ServerOrder,
-    policy: &mut P,
-) -> Result<Turn, Refused>
-    requires { server.old.office ≡ office.now }
-    ensures { IsSameServer server.old server.new }
-{
-    for _ in 1..CALLS {
-        match server.turn_by(rt, office, order, policy) {
-            Err(Refused::OutOfMemory) => {}
-            answer => return answer,
-        }
-    }
-    server.turn_by(rt, office, order, policy)
-}
-
-/// The client's turn by the policy, made again where memory was refused, twice at most.
-fn act_by<R: Wait, P: Policy>(
-    rt: &R,
-    office: &Office,
-    client: &mut ClientNode,
-    order: ClientOrder,
-    policy: &mut P,
-) -> Result<Turn, Refused>
-    requires { client.old.office ≡ office.now }
-    ensures { IsSameClient client.old client.new }
-{
-    for _ in 1..CALLS {
-        match client.turn_by(rt, office, *&order, policy) {
-            Err(Refused::OutOfMemory) => {}
-            answer => return answer,
-        }
-    }
-    client.turn_by(rt, office, order, policy)
-}
-
-/// Delivers the letters of both nodes by the policies, until neither has one.
+/// Delivers the letters of the server and of one client by the policies, until neither has one.
 fn settle_by<R: Wait, P: Policy>(
     rt: &R,
-    office: &Office,
-    server: &mut ServerNode,
-    client: &mut ClientNode,
+    scene: &mut Scene,
+    who: Who,
     policy: &mut P,
     other: &mut P,
-)
-    requires { (server.old.office ≡ office.now) × (client.old.office ≡ office.now) }
-    ensures { IsSameServer server.old server.new × IsSameClient client.old client.new }
-{
+) {
     for _ in 0..ROUNDS {
-        let served = serve_by(rt, office, server, ServerOrder::Letter, policy);
-        let acted = act_by(rt, office, client, ClientOrder::Letter, other);
+        let served = scene.serve_by(rt, ServerOrder::Letter, policy);
+        let acted = scene.act_by(rt, who, ClientOrder::Letter, other);
         if let (Ok(Turn::Idle), Ok(Turn::Idle)) = (served, acted) {
             return;
         }
     }
 }
 
-/// What clients 1 and 2 are told in a round.
-fn order_of(client: u64, round: u64) -> ClientOrder {
+/// What a client is told in a round.
+fn order_of(who: Who, round: u64) -> ClientOrder {
     if round == 0 {
         return ClientOrder::Start;
     }
-    match (round % 10, client) {
+    match (round % 10, who) {
         (0 | 5, _) => ClientOrder::Tick,
-        (1, 1) => ClientOrder::Command(Command::Lock {
+        (1, Who::First) => ClientOrder::Command(Command::Lock {
             point: 15,
             hi: 16,
             mode: Mode::RangeIN,
         }),
-        (1, _) => ClientOrder::Command(Command::Lock {
+        (1, Who::Second) => ClientOrder::Command(Command::Lock {
             point: 15,
             hi: 22,
             mode: Mode::RangeSS,
         }),
-        (6, 1) => ClientOrder::Command(Command::Write(WriteOp::Insert {
+        (6, Who::First) => ClientOrder::Command(Command::Write(WriteOp::Insert {
             key: 15,
             value: Value::from_u64(5),
         })),
@@ -146,189 +97,161 @@ fn order_of(client: u64, round: u64) -> ClientOrder {
 }
 
 /// Whether what both clients hold at the point is compatible.
-fn are_compatible_at(one: &ClientNode, two: &ClientNode, point: u64) -> bool {
-    let (range, key) = one.held(point);
-    let (other_range, other_key) = two.held(point);
+fn are_compatible_at(scene: &Scene, point: u64) -> bool {
+    let (range, key) = scene.held(Who::First, point);
+    let (other_range, other_key) = scene.held(Who::Second, point);
     range.compatible(other_range) && key.compatible(other_key)
 }
 
 /// Whether what both clients hold is compatible at each point that these tests look at.
-fn are_compatible(one: &ClientNode, two: &ClientNode) -> bool {
-    (0..64u64).all(|point| are_compatible_at(one, two, point))
+fn are_compatible(scene: &Scene) -> bool {
+    (0..64u64).all(|point| are_compatible_at(scene, point))
+}
+
+/// Whether the client holds a part at 15.
+fn holds(scene: &Scene, who: Who) -> bool {
+    scene.held(who, 15) != (RangePart::N, KeyPart::N)
+}
+
+/// The server takes its turn, and the client does what it is told in this round. Whether the
+/// clients are compatible then.
+fn stays_sound<R: Wait>(
+    rt: &R,
+    scene: &mut Scene,
+    who: Who,
+    round: u64,
+    order: ServerOrder,
+    policy: &mut Drawn,
+) -> bool {
+    let _ = scene.serve_by(rt, order, policy);
+    let _ = scene.act_by(rt, who, order_of(who, round), policy);
+    are_compatible(scene)
 }
 
 /// Every node takes turns by a policy that is drawn from the seed. Whether both clients' parts are
-/// compatible after each, and how often either holds a part at 15.
-fn is_sound_by<R: Wait>(
-    rt: &R,
-    office: &Office,
-    server: &mut ServerNode,
-    one: &mut ClientNode,
-    two: &mut ClientNode,
-    seed: u64,
-) -> (bool, u64)
-    requires server { server.old.office ≡ office.now }
-    requires clients { (one.old.office ≡ office.now) × (two.old.office ≡ office.now) }
-    ensures server { IsSameServer server.old server.new }
-    ensures clients { IsSameClient one.old one.new × IsSameClient two.old two.new }
-{
+/// compatible after each, and either holds a part at 15 in some round.
+fn is_sound_by<R: Wait>(rt: &R, scene: &mut Scene, seed: u64) -> bool {
     let mut policy = Drawn::new(seed);
     let mut sound = true;
-    let mut held = 0u64;
+    let mut held = false;
     for round in 0..ROUNDS {
-        let _ = serve_by(rt, office, server, ServerOrder::Letter, &mut policy);
-        let _ = act_by(rt, office, one, order_of(1, round), &mut policy);
-        sound &= are_compatible(one, two);
-        let _ = serve_by(
+        let nudge = ServerOrder::Nudge(1 + round % 2);
+        sound &= stays_sound(
             rt,
-            office,
-            server,
-            ServerOrder::Nudge(1 + round % 2),
+            scene,
+            Who::First,
+            round,
+            ServerOrder::Letter,
             &mut policy,
         );
-        let _ = act_by(rt, office, two, order_of(2, round), &mut policy);
-        sound &= are_compatible(one, two);
-        if one.held(15) != (RangePart::N, KeyPart::N)
-            || two.held(15) != (RangePart::N, KeyPart::N)
-        {
-            held = held.wrapping_add(1);
-        }
+        sound &= stays_sound(rt, scene, Who::Second, round, nudge, &mut policy);
+        held |= holds(scene, Who::First) || holds(scene, Who::Second);
     }
-    (sound, held)
+    sound && held
 }
 
 /// Whether the server reads a letter by the policy.
-fn hears<R: Wait, P: Policy>(
-    rt: &R,
-    office: &Office,
-    server: &mut ServerNode,
-    policy: &mut P,
-) -> bool
-    requires { server.old.office ≡ office.now }
-    ensures { IsSameServer server.old server.new }
-{
+fn hears<R: Wait, P: Policy>(rt: &R, scene: &mut Scene, policy: &mut P) -> bool {
     matches!(
-        serve_by(rt, office, server, ServerOrder::Letter, policy),
+        scene.serve_by(rt, ServerOrder::Letter, policy),
         Ok(Turn::Did(_))
     )
 }
 
 /// Whether a letter to the server is lost.
-fn server_loses<R: Wait>(rt: &R, office: &Office, server: &mut ServerNode) -> bool
-    requires { server.old.office ≡ office.now }
-    ensures { IsSameServer server.old server.new }
-{
+fn server_loses<R: Wait>(rt: &R, scene: &mut Scene) -> bool {
     matches!(
-        serve_by(rt, office, server, ServerOrder::Letter, &mut Loses),
+        scene.serve_by(rt, ServerOrder::Letter, &mut Loses),
         Ok(Turn::Lost)
     )
 }
 
-/// Whether a letter to the client is lost.
-fn client_loses<R: Wait>(rt: &R, office: &Office, client: &mut ClientNode) -> bool
-    requires { client.old.office ≡ office.now }
-    ensures { IsSameClient client.old client.new }
-{
+/// Whether a letter to the first client is lost.
+fn client_loses<R: Wait>(rt: &R, scene: &mut Scene) -> bool {
     matches!(
-        act_by(rt, office, client, ClientOrder::Letter, &mut Loses),
+        scene.act_by(rt, Who::First, ClientOrder::Letter, &mut Loses),
         Ok(Turn::Lost)
     )
 }
 
-/// Whether the server loses the letter of a client that starts, reads the next one, and the client loses
-/// the answer.
-fn loses_each<R: Wait>(
-    rt: &R,
-    office: &Office,
-    server: &mut ServerNode,
-    client: &mut ClientNode,
-) -> bool
-    requires { (server.old.office ≡ office.now) × (client.old.office ≡ office.now) }
-    ensures { IsSameServer server.old server.new × IsSameClient client.old client.new }
-{
-    acts(rt, office, client, ClientOrder::Start)
-        && server_loses(rt, office, server)
-        && is_idle(rt, office, server)
-        && acts(rt, office, client, ClientOrder::Tick)
-        && serves(rt, office, server, ServerOrder::Letter)
-        && client_loses(rt, office, client)
-        && !acts(rt, office, client, ClientOrder::Letter)
+/// Whether the server loses the letter of a client that starts, reads the next one, and the client
+/// loses the answer.
+fn loses_each<R: Wait>(rt: &R, scene: &mut Scene) -> bool {
+    scene.acts(rt, Who::First, ClientOrder::Start)
+        && server_loses(rt, scene)
+        && scene.is_idle(rt)
+        && scene.acts(rt, Who::First, ClientOrder::Tick)
+        && scene.serves(rt, ServerOrder::Letter)
+        && client_loses(rt, scene)
+        && !scene.acts(rt, Who::First, ClientOrder::Letter)
 }
 
-/// Whether the client does what it is told in each of these rounds, with each letter delivered twice.
-fn comes_through<R: Wait>(
-    rt: &R,
-    office: &Office,
-    server: &mut ServerNode,
-    client: &mut ClientNode,
-    rounds: &[u64],
-) -> bool
-    requires { (server.old.office ≡ office.now) × (client.old.office ≡ office.now) }
-    ensures { IsSameServer server.old server.new × IsSameClient client.old client.new }
-{
+/// Whether the server reads a client's letter twice.
+fn hears_twice<R: Wait>(rt: &R, scene: &mut Scene) -> bool {
+    let mut twice = Twice { is_second: false };
+    scene.acts(rt, Who::First, ClientOrder::Start)
+        && hears(rt, scene, &mut twice)
+        && hears(rt, scene, &mut twice)
+        && scene.is_idle(rt)
+}
+
+/// Whether the server reads and answers the letter of the client that started last.
+fn hears_the_youngest<R: Wait>(rt: &R, scene: &mut Scene) -> bool {
+    scene.acts(rt, Who::First, ClientOrder::Start)
+        && scene.acts(rt, Who::Second, ClientOrder::Start)
+        && hears(rt, scene, &mut Youngest)
+        && !scene.acts(rt, Who::First, ClientOrder::Letter)
+        && scene.acts(rt, Who::Second, ClientOrder::Letter)
+}
+
+/// Whether the client does what it is told in each of these rounds, with each letter delivered
+/// twice.
+fn comes_through<R: Wait>(rt: &R, scene: &mut Scene, who: Who, rounds: &[u64]) -> bool {
     let mut policy = Twice { is_second: false };
     let mut other = Twice { is_second: false };
     for round in rounds {
-        let order = order_of(client.number(), *round);
-        if !acts(rt, office, client, order) {
+        if !scene.acts(rt, who, order_of(who, *round)) {
             return false;
         }
-        settle_by(rt, office, server, client, &mut policy, &mut other);
+        settle_by(rt, scene, who, &mut policy, &mut other);
     }
     true
 }
 
 #[test]
 fn a_policy_loses_a_letter(rt: HostRuntime) -> Result<(), Fail> {
-    let (office, mut server) = open(rt.alloc(), &[(10, 1)])?;
-    let mut client = office.seat_client(&rt, &mut server, 5)?;
-    assert!(rt; loses_each(&rt, &office, &mut server, &mut client));
+    let mut scene = Scene::open(&rt, &[(10, 1)], 5, 6)?;
+    assert!(rt; loses_each(&rt, &mut scene));
     Ok(())
 }
 
 #[test]
 fn a_letter_that_is_copied_stays(rt: HostRuntime) -> Result<(), Fail> {
-    let (office, mut server) = open(rt.alloc(), &[(10, 1)])?;
-    let mut client = office.seat_client(&rt, &mut server, 5)?;
-    let mut twice = Twice { is_second: false };
-    assert!(rt; acts(&rt, &office, &mut client, ClientOrder::Start));
-    assert!(rt; hears(&rt, &office, &mut server, &mut twice));
-    assert!(rt; hears(&rt, &office, &mut server, &mut twice));
-    assert!(rt; is_idle(&rt, &office, &mut server));
+    let mut scene = Scene::open(&rt, &[(10, 1)], 5, 6)?;
+    assert!(rt; hears_twice(&rt, &mut scene));
     Ok(())
 }
 
 #[test]
 fn the_youngest_letter_is_picked(rt: HostRuntime) -> Result<(), Fail> {
-    let (office, mut server) = open(rt.alloc(), &[(10, 1)])?;
-    let mut first = office.seat_client(&rt, &mut server, 1)?;
-    let mut second = office.seat_client(&rt, &mut server, 2)?;
-    assert!(rt; acts(&rt, &office, &mut first, ClientOrder::Start));
-    assert!(rt; acts(&rt, &office, &mut second, ClientOrder::Start));
-    assert!(rt; hears(&rt, &office, &mut server, &mut Youngest));
-    assert!(rt; !acts(&rt, &office, &mut first, ClientOrder::Letter));
-    assert!(rt; acts(&rt, &office, &mut second, ClientOrder::Letter));
+    let mut scene = Scene::open(&rt, &[(10, 1)], 1, 2)?;
+    assert!(rt; hears_the_youngest(&rt, &mut scene));
     Ok(())
 }
 
 #[test]
 fn nodes_come_through_repeated_letters(rt: HostRuntime) -> Result<(), Fail> {
-    let (office, mut server) = open(rt.alloc(), &[(10, 1), (20, 2)])?;
-    let mut writer = office.seat_client(&rt, &mut server, 1)?;
-    let mut reader = office.seat_client(&rt, &mut server, 2)?;
-    assert!(rt; comes_through(&rt, &office, &mut server, &mut writer, &[0, 1, 6, 9]));
-    assert!(rt; comes_through(&rt, &office, &mut server, &mut reader, &[0, 1]));
-    assert!(rt; reads(&reader, 11, 21, &[(15, 5), (20, 2)]));
+    let mut scene = Scene::open(&rt, &[(10, 1), (20, 2)], 1, 2)?;
+    assert!(rt; comes_through(&rt, &mut scene, Who::First, &[0, 1, 6, 9]));
+    assert!(rt; comes_through(&rt, &mut scene, Who::Second, &[0, 1]));
+    assert!(rt; scene.reads(Who::Second, 11, 21, &[(15, 5), (20, 2)]));
     Ok(())
 }
 
 /// Whether a run by this seed keeps both clients compatible, and one of them held something.
 fn is_sound(rt: &(impl Wait + AllocGlobal), seed: u64) -> Result<bool, Fail> {
-    let (office, mut server) = open(rt.alloc(), &[(10, 1), (20, 2)])?;
-    let mut one = office.seat_client(rt, &mut server, 1)?;
-    let mut two = office.seat_client(rt, &mut server, 2)?;
-    let (sound, held) = is_sound_by(rt, &office, &mut server, &mut one, &mut two, seed);
-    Ok(sound && held > 0)
+    let mut scene = Scene::open(rt, &[(10, 1), (20, 2)], 1, 2)?;
+    Ok(is_sound_by(rt, &mut scene, seed))
 }
 
 #[test]

@@ -1,5 +1,0 @@
-use Rattle.krl_nodes.specs.Nodes.{IsSameServer, IsSameClient}
-use Rattle.krl_nodes_tests.proofs.policies.settle_by.Given as goal
-
-abbrev pub invariant-loop : goal.invariant-loop
-invariant-loop g l = IsSameServer l.initial.server l.server × IsSameClient l.initial.client l.client
