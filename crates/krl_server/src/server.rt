@@ -109,11 +109,13 @@ impl Server {
     ///
     /// Whatever comes of it, only a Hello, a Bye or a new write changes what survives, and `change`
     /// says how. A host that keeps what survives in a store of its own writes that down before it
-    /// sends the messages. A write that is answered, new or once more, is answered first of all, by one push with the next number;
-    /// by none where the numbers are spent. Each push that is sent is the last one to its client,
-    /// which has to acknowledge it before the next. Where the message was acted upon, a Release
-    /// apart, and the server serves then, those who block a first waiter are called back, and
-    /// nobody else ever is.
+    /// sends the messages.
+    ///
+    /// A write that is answered, new or once more, is answered first of all, by one push with the
+    /// next number; by none where the numbers are spent. Each push that is sent is the last one to
+    /// its client, which has to acknowledge it before the next. Where the message was acted upon, a
+    /// Release apart, and the server serves then, those who block a first waiter are called back,
+    /// and nobody else ever is.
     ///
     /// # Errors
     ///
