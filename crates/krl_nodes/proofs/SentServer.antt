@@ -14,7 +14,6 @@ use Rattle.core.specs.contracts.hash.fold.FoldHasher as fold
 use Rattle.std.specs.contracts.alloc.Global as global
 use Rattle.std.specs.contracts.impls.GlobalAllocator.TheImpl as allocator
 use Rattle.std.proofs.Crossing.{Vec-send}
-use Rattle.std.proofs.MapsCrossing.{BTreeMap-send}
 use Rattle.indexmap.specs.contracts.columns.Columns as columns
 use Rattle.indexmap.specs.contracts.index_table.Bucket as bucket
 use Rattle.indexmap.specs.contracts.index_table.IndexTable as hash_table
@@ -29,12 +28,14 @@ use Rattle.krl_blocks.specs.contracts.spot.Spot as spot
 use Rattle.krl_blocks.specs.contracts.shelf.Shelf as shelf
 use Rattle.krl_blocks.specs.contracts.layout.Layout as layout
 use Rattle.krl_blocks.specs.contracts.blocks.Blocks as blocks
+use Rattle.slab.specs.contracts.Entry as place
+use Rattle.slab.specs.contracts.Slab as slab
+use Rattle.krl_store.specs.contracts.store.Store as store
 use Rattle.krl_durable.specs.contracts.record.Record as record_kept
 use Rattle.krl_durable.specs.contracts.register.Register as register
 use Rattle.krl_durable.specs.contracts.index.Index as index
 use Rattle.krl_durable.specs.contracts.durable.Durable as durable
 use Rattle.krl_table.specs.contracts.row.SlotRow as slot_row
-use Rattle.krl_table.specs.contracts.told.Told as told
 use Rattle.krl_table.specs.contracts.waiting.Waiting as waiting
 use Rattle.krl_table.specs.contracts.table.Table as table
 use Rattle.krl_server.specs.contracts.line.Line as line
@@ -102,15 +103,29 @@ module _ (V : RattleType) (v : IsSend V) where
   blocks_sent : IsSend (blocks.the_field V).row
   blocks_sent = view_send _ _ _ _ _ blocks_inside
 
+module _ (V : RattleType) (v : IsSend V) where
+  place_sent : IsSend (place.the_row V)
+  place_sent = search sendable depth 24 fits 4000
+
+  slab_inside : IsSend (slab.TheInside.the_row V global.the_row allocator.ghosts)
+  slab_inside = let a = Vec-send _ place_sent in search sendable depth 24 fits 4000
+
+  slab_sent : IsSend (slab.the_field V global.the_row allocator.ghosts).row
+  slab_sent = view_send _ _ _ _ _ slab_inside
+
+  store_inside : IsSend (store.TheInside.the_row V)
+  store_inside = recorded_send _ _ (store.TheInside.the_type V).to (store.TheInside.the_type V).to_one
+      (struct_send (shape (store.TheInside.the_type V)) (blocks_sent _ number_sent, (slab_sent, (number_sent, tt))))
+
+  store_sent : IsSend (store.the_field V).row
+  store_sent = view_send _ _ _ _ _ store_inside
+
 index_inside : IsSend index.TheInside.the_row
 index_inside = recorded_send _ _ (index.TheInside.the_type).to (index.TheInside.the_type).to_one
     (struct_send (shape index.TheInside.the_type) (blocks_sent _ value_sent, tt))
 
 waiter_sent : IsSend (waiter.the_field).row
 waiter_sent = let a = mode_sent in search sendable depth 24 fits 4000
-
-told_sent : IsSend (told.the_field).row
-told_sent = search sendable depth 24 fits 4000
 
 line_sent : IsSend line.the_row
 line_sent = let a = push_body_sent in search sendable depth 24 fits 4000
@@ -145,10 +160,11 @@ mode_row_sent = search sendable depth 30
 
 row_kept_sent : IsSend slot_row.the_row
 row_kept_sent = recorded_send _ _ (slot_row.the_type).to (slot_row.the_type).to_one
-    (struct_send (shape slot_row.the_type) (number_sent, (array_send _ 64 mode_row_sent, (wait_list_sent, (told_sent, tt)))))
+    (struct_send (shape slot_row.the_type) (array_send _ 64 mode_row_sent, (wait_list_sent, tt)))
 
 table_inside : IsSend table.TheInside.the_row
-table_inside = let a = row_kept_sent in let b = waiting_sent in search (sendable, BTreeMap-send) depth 24 fits 4000
+table_inside = recorded_send _ _ (table.TheInside.the_type).to (table.TheInside.the_type).to_one
+    (struct_send (shape table.TheInside.the_type) (store_sent _ row_kept_sent, (waiting_sent, tt)))
 
 table_sent : IsSend (table.the_field).row
 table_sent = view_send _ _ _ _ _ table_inside

@@ -22,7 +22,7 @@ use Rattle.std.specs.FinMap as fin
 use Rattle.krl_server.proofs.Tabled.{slots_have}
 use Rattle.krl_server.proofs.Boxes.{sends_more, sends_length}
 use Rattle.krl_server.proofs.Numbers.{sixty_four}
-use Rattle.krl_server.proofs.Turning.{front_is, front_none}
+use Rattle.krl_server.proofs.Turning.{front_is}
 use Rattle.krl_server.proofs.Rounds.{Ascends, slots_ascend}
 
 -- the callback to one client, by what was looked up
@@ -95,9 +95,6 @@ all_called s n u d old new le h = subst (Sends old new) (by_left h.left refl) h.
 -- who asks for an entry that is there is called back for
 pub for_is : (s : Server) (n : ℕ) (u : Waiter) (b : Bool) → b ≡ asks_absent s.durable.index u → b ≡ false → callbacks_for s n u ≡ callbacks_from s n u 0 most_clients
 for_is s n u b e f = ap (λ b. if b then [] else callbacks_from s n u 0 most_clients) (sym e ∙ f)
-
-pub for_none : (s : Server) (n : ℕ) (u : Waiter) (b : Bool) → b ≡ asks_absent s.durable.index u → b ≡ true → callbacks_for s n u ≡ []
-for_none s n u b e f = ap (λ b. if b then [] else callbacks_from s n u 0 most_clients) (sym e ∙ f)
 
 -- All slots
 
@@ -192,9 +189,6 @@ none_among s (n ∷ ns) h = ap (λ q. callbacks_at s n q ++ callbacks_among s ns
 pub slots_called : (s : Server) (from : ℕ) (old new : Sent) → AreCalled s from old new → ((k : ℕ) → from ≤ k → (s.rows k).queue ≡ []) → Sends old new (callbacks s)
 slots_called s from old new h gap = subst (Sends old new) (sym (append-nil h.outs) ∙ ap (λ l. h.outs ++ l) (sym (none_among s h.rest (λ k at. gap k (h.past k at)))) ∙ h.all) h.sends
 
--- a slot where nobody waits
+-- a slot where this one waits first
 pub at_first : (s : Server) (n : ℕ) (us : List Waiter) (u : Waiter) → front_of us ≡ Some u → callbacks_at s n us ≡ callbacks_for s n u
 at_first s n us u e = ap (callbacks_at s n) (front_is us u e)
-
-pub at_nobody : (s : Server) (n : ℕ) (us : List Waiter) → front_of us ≡ None → callbacks_at s n us ≡ []
-at_nobody s n us e = ap (callbacks_at s n) (front_none us e)

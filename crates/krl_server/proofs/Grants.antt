@@ -1,9 +1,9 @@
 -- What a grant takes, and what each raise of it leaves as it was.
-use Rattle.std.proofs.Common.{◌≡◌, ◌≢◌, ℕ, zero, suc, ◌≤◌, ◌<◌, Bool, true, false, not, ◌&&◌, ◌||◌, Option, Some, None, List, [], ◌∷◌, ◌++◌, take, length, refl, sym, ap, subst, ◌∙◌, ⊎_elim, arith}
+use Rattle.std.proofs.Common.{◌≡◌, ◌≢◌, ℕ, zero, suc, ◌≤◌, ◌<◌, Bool, true, false, not, ◌&&◌, ◌||◌, None, List, [], ◌∷◌, ◌++◌, take, length, refl, sym, ap, subst, ◌∙◌, ⊎_elim, arith}
 use Rattle.std.proofs.Common.{nat_eq, eq-eqb, ltb-true}
 use Rattle.std.proofs.lemmas.Bool.{cases_lt}
 use Rattle.std.proofs.lemmas.Bool.Decides.{nat_tests}
-use Rattle.std.specs.Prelude.{nat_lt, nat_le, is_some, IsSome, if◌then◌else◌}
+use Rattle.std.specs.Prelude.{nat_lt, nat_le, is_some, if◌then◌else◌}
 use Rattle.std.specs.List.{filter, AllByRecursion}
 use Rattle.std.specs.Ordering.{nat_cmp}
 use Rattle.std.specs.FinMap as fin
@@ -19,7 +19,6 @@ use Rattle.krl_table.specs.Rows.{Rows, mode_at, set_row}
 use Rattle.krl_table.specs.Calls.{with_mode, wanted, grant_first, granted_first, raised, raised_on}
 use Rattle.krl_table.specs.Replies.{can_have}
 use Rattle.krl_table.specs.Grants.{nobody_waits, can_take, goes_on, taken_after, taken_by, taken, granted_by, granted, most_more}
-use Rattle.krl_table.specs.Kept.{Kept, IsOver}
 use Rattle.krl_messages.specs.Several.{IsBefore, Ascend, most_holdings}
 use Rattle.krl_durable.specs.Registers.{Durable}
 use Rattle.krl_server.specs.Servers.{Server}
@@ -192,32 +191,28 @@ pub holdings_long : (s : Server) (c : ℕ) (ns : List ℕ) → length (holdings 
 holdings_long s c [] = refl
 holdings_long s c (n ∷ ns) = ap (λ k. suc k) (holdings_long s c ns)
 
-some_there : {A : Type 0} (o : Option A) → is_some o ≡ true → IsSome o
-some_there None e = absurd (cc)
-some_there (Some x) e = refl
-
--- each has a row
-pub rows_there : (m : Index) (t : Kept) → IsOver m t → (n : ℕ) (ns : List ℕ) → is_slot m n ≡ true → AreSlotsAfter m n ns → AllByRecursion (λ k. IsSome (fin.get t k)) (n ∷ ns)
-rows_there m t over n [] here h = (some_there (fin.get t n) (sym (over.same n) ∙ here), tt)
-rows_there m t over n (k ∷ ks) here h = (some_there (fin.get t n) (sym (over.same n) ∙ here), rows_there m t over k ks h.1 h.2)
+-- each is a slot
+pub slots_there : (m : Index) (n : ℕ) (ns : List ℕ) → is_slot m n ≡ true → AreSlotsAfter m n ns → AllByRecursion (λ k. is_slot m k ≡ true) (n ∷ ns)
+slots_there m n [] here h = (here, tt)
+slots_there m n (k ∷ ks) here h = (here, slots_there m k ks h.1 h.2)
 
 -- what a grant at a slot where somebody waits tells
-pub record IsTaken (t : Server) (rows : Kept) (c : ℕ) (slots : List ℕ) : Type 0 where
-  pub there : AllByRecursion (λ k. IsSome (fin.get rows k)) slots
+pub record IsTaken (t : Server) (c : ℕ) (slots : List ℕ) : Type 0 where
+  pub there : AllByRecursion (λ k. is_slot t.durable.index k ≡ true) slots
   pub order : Ascend (holdings t c slots)
   pub some : 1 ≤ length slots
   pub few : length slots ≤ most_holdings
 
-pub taken_told : (s t : Server) (rows : Kept) (n : ℕ) (u : Waiter) (slots : List ℕ) (rest : List Waiter) → ((q : ℕ) → END ≤ q → fin.get s.durable.index q ≡ None) → t.durable ≡ s.durable → IsOver s.durable.index rows → is_slot s.durable.index n ≡ true → (s.rows n).queue ≡ u ∷ rest → slots ≡ taken s.durable.index s.rows n → IsTaken t rows u.client slots
-taken_told s t rows n u slots rest near same over here queue is =
+pub taken_told : (s t : Server) (n : ℕ) (u : Waiter) (slots : List ℕ) (rest : List Waiter) → ((q : ℕ) → END ≤ q → fin.get s.durable.index q ≡ None) → t.durable ≡ s.durable → is_slot s.durable.index n ≡ true → (s.rows n).queue ≡ u ∷ rest → slots ≡ taken s.durable.index s.rows n → IsTaken t u.client slots
+taken_told s t n u slots rest near same here queue is =
     let m = s.durable.index in
     let first = first_rows m s.rows n u rest queue in
     let ns = taken_after m first n u most_more in
     let after = taken_slots m u most_more n first in
     let e : slots ≡ n ∷ ns = is ∙ taken_is m s.rows n u rest queue in
-    subst (IsTaken t rows u.client) (sym e)
+    subst (IsTaken t u.client) (sym e)
     (record {
-      there = rows_there m rows over n ns here after;
+      there = subst (λ (d : Durable). AllByRecursion (λ k. is_slot d.index k ≡ true) (n ∷ ns)) (sym same) (slots_there m n ns here after);
       order = slots_ascend t (λ q a. ap (λ (d : Durable). fin.get d.index q) same ∙ near q a) u.client n ns (ap (λ (d : Durable). is_slot d.index n) same ∙ here) (subst (λ (d : Durable). AreSlotsAfter d.index n ns) (sym same) after);
       some = omega arith;
       few = let x = taken_few m u most_more n first in omega (arith, x);

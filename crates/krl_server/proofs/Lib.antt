@@ -57,3 +57,4 @@ pub mod Stepped
 pub mod Started
 pub mod Nudged
 pub mod Listed
+pub mod Nears

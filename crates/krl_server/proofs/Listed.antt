@@ -1,10 +1,8 @@
 -- A list of the slots at which somebody waits, while they are answered.
-use Rattle.std.proofs.Common.{◌≡◌, ℕ, suc, ◌+◌, true, List, [], ◌∷◌, IsSome, Some, None, drop, sym, ap, subst, ◌∙◌, arith}
+use Rattle.std.proofs.Common.{◌≡◌, ℕ, suc, ◌+◌, true, List, [], ◌∷◌, Some, None, drop, sym, ap, subst, ◌∙◌, arith}
 use Rattle.std.specs.List.{AllByRecursion}
-use Rattle.std.specs.FinMap as fin
 use Rattle.krl_durable.specs.Index.{is_slot}
 use Rattle.krl_table.specs.Waiters.{AreWaiting}
-use Rattle.krl_table.specs.Kept.{IsOver}
 use Rattle.krl_server.specs.declared.state.State.{State}
 use Rattle.krl_server.specs.States.{meaning}
 use Rattle.krl_server.specs.Servers.{Server}
@@ -12,14 +10,14 @@ use Rattle.krl_server.specs.Answering.{Turn, next_turn, take_turn}
 use Rattle.krl_server.specs.Shows.{IsSound}
 use Rattle.krl_table.specs.Sound.{IsTable}
 use Rattle.krl_messages.specs.declared.to_client.ToClient.{ToClient}
-use Rattle.krl_server.specs.Doing.{turn_here, HasTurned, HaveWaiters}
+use Rattle.krl_server.specs.Doing.{HasTurned, HaveWaiters}
 use Rattle.krl_server.proofs.Ends.{turn_durable, turn_empties}
-use Rattle.krl_server.proofs.Rounds.{slot_over, NoneBelow, IsRound, round, none_past, none_up_to, none_at_all}
+use Rattle.krl_server.proofs.Rounds.{NoneBelow, IsRound, round, none_at_all}
 
 -- as the table finds them
-pub listed : (st : State) (from : ℕ) (ns : List ℕ) → IsOver st.durable.index st.table → AreWaiting (meaning st).rows from ns → AllByRecursion (λ n. IsSome (fin.get st.table n)) ns → HaveWaiters (meaning st) from ns
-listed st from [] over h there = h
-listed st from (n ∷ ns) over h there = (h.0.above, slot_over st n over there.0, h.0.least, listed st (suc n) ns over h.1 there.1)
+pub listed : (st : State) (from : ℕ) (ns : List ℕ) → AreWaiting (meaning st).rows from ns → AllByRecursion (λ n. is_slot st.durable.index n ≡ true) ns → HaveWaiters (meaning st) from ns
+listed st from [] h there = h
+listed st from (n ∷ ns) h there = (h.0.above, there.0, h.0.least, listed st (suc n) ns h.1 there.1)
 
 -- a turn brings nobody to a slot where nobody waited
 pub still_listed : (s : Server) (t : Turn) → next_turn s ≡ Some t → (from : ℕ) (ns : List ℕ) → HaveWaiters s from ns → HaveWaiters (take_turn s t).server from ns
@@ -44,9 +42,6 @@ module _ (s : Server) (ns : List ℕ) (i n : ℕ) (is : drop i ns ≡ n ∷ drop
 
   pub left_after_turn : (u : Server) (t : Turn) → next_turn s ≡ Some t → u ≡ (take_turn s t).server → NoneBelow u n → AreLeft u ns i
   left_after_turn u t e server none = subst (λ x. AreLeft x ns i) (sym server) (h.0, (λ k lt. subst (λ x. NoneBelow x n) server none k (omega (arith, lt, here.0))), still_listed s t e h.0 (drop i ns) h.2)
-
-  pub left_past : turn_here s n ≡ None → AreLeft s ns (i + 1)
-  left_past blocked = (suc n, none_past s n (none_up_to s h.0 n h.1 here.2) blocked, here.3)
 
 pub none_left_at_all : (s : Server) (ns : List ℕ) (i : ℕ) → drop i ns ≡ [] → AreLeft s ns i → next_turn s ≡ None
 none_left_at_all s ns i e h = none_at_all s h.0 h.1 (subst (HaveWaiters s h.0) e h.2)

@@ -1,9 +1,9 @@
 -- One walk upward over the slots answers all who can be answered.
 use Rattle.std.proofs.Common.{◌≡◌, ℕ, suc, ◌≤◌, ◌<◌, Bool, true, false, not, ◌&&◌, ◌||◌, Option, Some, None, List, [], ◌∷◌, ◌++◌, map, inl, inr, refl, sym, ap, subst, ◌∙◌, ⊎_elim, append_assoc, arith}
-use Rattle.std.proofs.Common.{nat_eq, eqb-true}
+use Rattle.std.proofs.Common.{nat_eq}
 use Rattle.std.proofs.lemmas.Bool.{cases_lt}
 use Rattle.std.proofs.lemmas.List.{append-nil}
-use Rattle.std.specs.Prelude.{nat_lt, is_some, IsSome, if◌then◌else◌}
+use Rattle.std.specs.Prelude.{nat_lt, is_some, if◌then◌else◌}
 use Rattle.std.specs.List.{AllByRecursion}
 use Rattle.std.specs.FinMap as fin
 use Rattle.krl_modes.specs.declared.point.TheConstants.{END}
@@ -25,8 +25,6 @@ use Rattle.krl_server.specs.declared.line.Line.{Line}
 use Rattle.krl_server.specs.Servers.{Server, set_line}
 use Rattle.krl_server.specs.Effects.{Done, with_line, with_rows, push_to, pushes, silent, holdings}
 use Rattle.krl_server.specs.Answering.{Turn, can_push, is_answerable, turn_at, turn_among, next_turn, tells_absent, grants, take_turn, Answered, goes_on, stops}
-use Rattle.krl_table.specs.Kept.{IsOver}
-use Rattle.krl_server.specs.declared.state.State.{State}
 use Rattle.krl_server.specs.Ends.{waiting}
 use Rattle.krl_server.specs.Shows.{IsSound}
 use Rattle.krl_server.specs.Doing.{turn_here, HasTurned}
@@ -176,23 +174,6 @@ turn_slot s n (u ∷ us) t e = by_test (is_answerable s n u) e
     by_test : (b : Bool) → (if b then Some (let x : Turn = record { slot = n; waiter = u } in x) else None) ≡ Some t → t.slot ≡ n
     by_test true f = let x : Turn = record { slot = n; waiter = u } in ap (λ y. y.slot) (sym (some_same x t f))
     by_test false f = absurd (no_none t f)
-
-some_true : {A : Type 0} (o : Option A) → IsSome o → is_some o ≡ true
-some_true None h = absurd (cc)
-some_true (Some x) h = refl
-
--- the slot is the index's
-pub slot_over : (st : State) (n : ℕ) → IsOver st.durable.index st.table → IsSome (fin.get st.table n) → is_slot st.durable.index n ≡ true
-slot_over st n over there = over.same n ∙ some_true (fin.get st.table n) there
-
-pub slot_low : (m : Index) (n : ℕ) → ((q : ℕ) → END ≤ q → fin.get m q ≡ None) → is_slot m n ≡ true → n ≤ END
-slot_low m n near e = ⊎_elim (λ (a : n < END). omega (arith, a))
-    (λ (a : END ≤ n). by_end (nat_eq n END) refl (sym (ap (λ o. nat_eq n END || is_some o) (near n a)) ∙ e))
-    (cases_lt n END)
-  where
-    by_end : (b : Bool) → nat_eq n END ≡ b → (b || false) ≡ true → n ≤ END
-    by_end true f g = let x = eqb-true n END f in omega (arith, x)
-    by_end false f g = absurd (cc)
 
 -- what holds after the turn at the next slot where somebody waits
 pub record IsRound (s u : Server) (n : ℕ) (o : ToClient) : Type 0 where

@@ -21,7 +21,7 @@ lines_of lines c = slice_index_or lines c blank_line
 abbrev pub meaning : State → Server
 meaning st = record { durable = st.durable; rows = rows_of st.table; lines = lines_of st.lines; missing = st.missing }
 
--- there is a line for each client, and the table has the slots of the index
+-- there is a line for each client, and the table's rows stand at slots of the index
 pub record IsFormed (st : State) : Type 0 where
   pub full : length st.lines ≡ 64
   pub over : IsOver st.durable.index st.table

@@ -1,6 +1,6 @@
 //! Answers to those who wait.
-ghost use Rattle.std.specs.Prelude.{◌≡◌, ◌<◌, ◌≤◌, ◌+◌, length, IsSome, IfSome, IfNone, Some, None, true};
-ghost use Rattle.std.specs.FinMap as map;
+ghost use Rattle.std.specs.Prelude.{◌≡◌, ◌<◌, ◌≤◌, ◌+◌, length, IfSome, IfNone, Some, None, true};
+ghost use Rattle.krl_durable.specs.Index.{is_slot};
 ghost use Rattle.krl_table.specs.Rows.{front_of};
 ghost use Rattle.krl_table.specs.Replies.{can_have};
 ghost use Rattle.krl_table.specs.Sound.{IsTable};
@@ -24,7 +24,7 @@ impl State {
         requires formed { IsFormed self.old }
         requires client { waiter.now.client < 64 }
         requires sound { IsSound (meaning self.old) }
-        requires there { IsSome (map.get self.old.table slot) }
+        requires slot { is_slot self.old.durable.index slot ≡ true }
         requires first { front_of ((meaning self.old).rows slot).queue ≡ Some waiter.now }
         requires fits { IfSome (front_of ((meaning self.old).rows slot).queue)
             (λ u. can_have (meaning self.old).rows slot u ≡ true) }
@@ -34,7 +34,7 @@ impl State {
             ≡ (grants (meaning self.old) (record { slot = slot; waiter = waiter.now })).outs }
         ensures formed { IsFormed self.new }
     {
-        let slots = self.table.grant(slot);
+        let slots = self.table.grant(&self.durable, slot);
         let holdings = self.holdings(slots.as_slice(), waiter.client);
         self.push(
             waiter.client,
@@ -49,7 +49,6 @@ impl State {
     fn tell_absent(&mut self, slot: u64, waiter: &Waiter) -> Option<ToClient>
         requires formed { IsFormed self.old }
         requires client { waiter.now.client < 64 }
-        requires there { IsSome (map.get self.old.table slot) }
         ensures server { meaning self.new
             ≡ (tells_absent (meaning self.old)
             (record { slot = slot; waiter = waiter.now })).server }
@@ -71,7 +70,7 @@ impl State {
     /// Answers the slot's first waiter, if that is possible.
     fn take_turn(&mut self, slot: u64) -> Option<ToClient>
         requires formed { IsFormed self.old }
-        requires there { IsSome (map.get self.old.table slot) }
+        requires slot { is_slot self.old.durable.index slot ≡ true }
         requires sound { IsSound (meaning self.old) }
         ensures turned { IfSome result
             (λ o. HasTurned (meaning self.old) (meaning self.new) slot o) }

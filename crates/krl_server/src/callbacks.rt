@@ -1,7 +1,6 @@
 //! Callbacks for those who wait first and are blocked.
-ghost use Rattle.std.specs.Prelude.{◌≡◌, ◌≤◌, ◌<◌, ◌+◌, ◌||◌, [], ◌∷◌, nat_eq, length, IsSome};
+ghost use Rattle.std.specs.Prelude.{◌≡◌, ◌≤◌, ◌<◌, ◌+◌, ◌||◌, [], ◌∷◌, nat_eq, length};
 ghost use Rattle.std.specs.Prelude.{if◌then◌else◌};
-ghost use Rattle.std.specs.FinMap as map;
 ghost use Rattle.krl_table.specs.Replies.{asks_absent};
 ghost use Rattle.krl_server.specs.Callbacks.{callbacks_for, callbacks_at, callbacks};
 ghost use Rattle.krl_server.specs.Shows.{IsSound};
@@ -87,14 +86,13 @@ impl State {
     /// Calls back all clients that block the slot's first waiter, if somebody waits there.
     fn call_back_at(&self, slot: u64, outbox: &mut Outbox)
         requires formed { IsFormed self.now }
-        requires there { IsSome (map.get self.now.table slot) }
         requires room { length outbox.old.sent
             + length (callbacks_at (meaning self.now) slot ((meaning self.now).rows slot).queue)
             ≤ outbox.old.room }
         ensures { Sends outbox.old outbox.new
             (callbacks_at (meaning self.now) slot ((meaning self.now).rows slot).queue) }
     {
-        match self.table.first(slot) {
+        match self.table.first(&self.durable, slot) {
             Some(first) => self.call_back_for(slot, &first, outbox),
             None => {}
         }

@@ -69,7 +69,8 @@ impl State {
             ≡ (if result then meaning self.old else adopts (meaning self.old) client pieces.now) }
         ensures formed { IsFormed self.new }
     {
-        if self.table.adopt_report(client, pieces).is_err() {
+        let adopted = self.table.adopt_report(&self.durable, client, pieces);
+        if adopted.is_err() {
             return true;
         }
         self.missing.remove(client);
@@ -85,7 +86,7 @@ impl State {
         ensures formed { IsFormed self.new }
     {
         self.hear(client);
-        self.table.lower(client, span, keep);
+        self.table.lower(&self.durable, client, span, keep);
     }
 
     /// The last push counts as acknowledged, and a lock request is taken.
@@ -103,62 +104,49 @@ impl State {
             asked: waiter.req,
             ..line
         };
-        self.table.enqueue(node);
+        self.table.enqueue(&self.durable, node);
     }
 
-    /// Judges the client's next write, and does and notes it.
-    ///
-    /// # Errors
-    ///
-    /// `AllocError` where the memory for a new slot is refused. Nothing has changed then.
-    pub(crate) fn write(&mut self, client: u64, op: WriteOp) -> Result<Outcome, AllocError>
+    /// Judges the client's next write, and does and notes it. It takes no memory.
+    pub(crate) fn write(&mut self, client: u64, op: WriteOp) -> Outcome
         requires formed { IsFormed self.old }
         requires client { client < 64 }
         requires key { op_key op < END }
         requires unspent { IsSomeAnd (record_of self.old.durable.register client)
             (λ r. r.last < END) }
-        ensures outcome { IfOk result (λ o. o ≡ judged (meaning self.old) client op) }
-        ensures writes { IfOk result
-            (λ o. meaning self.new ≡ writes (meaning self.old) client op o) }
-        ensures formed { OnOk result (IsFormed self.new) }
-        ensures refused { OnErr result (self.new ≡ self.old) }
+        ensures outcome { result ≡ judged (meaning self.old) client op }
+        ensures writes { meaning self.new ≡ writes (meaning self.old) client op result }
+        ensures formed { IsFormed self.new }
     {
         let (needed, judged, slots) = (*&op, *&op, *&op);
-        let held = self.table.held(client, needed);
+        let held = self.table.held(&self.durable, client, needed);
         let outcome = self.durable.judge(judged, held);
-        self.change_slots(client, slots, outcome)?;
+        self.change_slots(client, slots, outcome);
         let _outcome = self.durable.apply(client, op, held);
-        Ok(outcome)
+        outcome
     }
 
-    /// An insert that is applied makes a slot, and a delete takes one away.
-    ///
-    /// # Errors
-    ///
-    /// `AllocError` where the memory for a new slot is refused. Nothing has changed then.
-    fn change_slots(&mut self, client: u64, op: WriteOp, outcome: Outcome) -> Result<(), AllocError>
+    /// An insert that is applied makes a slot, and a delete takes one away. It takes no memory.
+    fn change_slots(&mut self, client: u64, op: WriteOp, outcome: Outcome)
         requires formed { IsFormed self.old }
         requires client { client < 64 }
         requires key { op_key op < END }
         requires judged { judged (meaning self.old) client op ≡ outcome }
-        ensures rows { OnOk result
-            ((meaning self.new).rows
-            ≡ rows_after self.old.durable.index (meaning self.old).rows client op outcome) }
-        ensures slots { OnOk result
-            (IsOver (index_after self.old.durable.index op outcome) self.new.table) }
+        ensures rows { (meaning self.new).rows
+            ≡ rows_after self.old.durable.index (meaning self.old).rows client op outcome }
+        ensures slots { IsOver (index_after self.old.durable.index op outcome) self.new.table }
         ensures rest { self.new ≡ record self.old { table = self.new.table } }
-        ensures refused { OnErr result (self.new ≡ self.old) }
     {
         match outcome {
             Outcome::Applied => match op {
-                WriteOp::Insert { key, value: _ } => self.table.split(key, client),
-                WriteOp::Put { .. } => Ok(()),
-                WriteOp::Delete { key } => {
-                    self.table.merge(key);
-                    Ok(())
+                WriteOp::Insert { key, value: _ } => {
+                    let key = Point::new(key).unwrap();
+                    self.table.split(&self.durable, key, client);
                 }
+                WriteOp::Put { .. } => {}
+                WriteOp::Delete { key } => self.table.merge(&self.durable, key),
             },
-            Outcome::Exists | Outcome::Absent | Outcome::NotHeld | Outcome::Full => Ok(()),
+            Outcome::Exists | Outcome::Absent | Outcome::NotHeld | Outcome::Full => {}
         }
     }
 
@@ -178,8 +166,7 @@ impl State {
         ensures outs { as_list result ≡ (answers (meaning self.old) client number op outcome).outs }
         ensures formed { IsFormed self.new }
     {
-        let point = Point::new(op.key()).unwrap();
-        let slot = self.table.slot_of(point);
+        let slot = self.durable.slot_of(op.key());
         let holding = self.holding(slot, client);
         self.push(
             client,

@@ -10,7 +10,8 @@ ghost use Rattle.krl_server.specs.Steps.{nudge, crash};
 ghost use Rattle.krl_server.specs.Ends.{most_messages};
 ghost use Rattle.krl_server.specs.States.{meaning};
 ghost use Rattle.krl_server.specs.Doing.{IsStarted, IsNotStarted, HasStepped, IsServer};
-ghost use Rattle.krl_server.specs.Says.{may_change_durable, HasCallbacks, AnswersWrite, PushesStand};
+ghost use Rattle.krl_server.specs.Says.{may_change_durable, HasCallbacks, AnswersWrite};
+ghost use Rattle.krl_server.specs.Says.{PushesStand};
 
 use crate::line::blank_lines;
 use crate::missing::Missing;
@@ -27,7 +28,7 @@ use std::marker::Model;
 
 /// A server between two steps.
 ///
-/// Of every server holds, whoever sends it what: the table's slots are the keys of the index, and
+/// Of every server holds, whoever sends it what: the table's rows stand at keys of the index, or at
 /// END; the modes of different clients on one slot go together; each waiter stands in the queue of
 /// the slot of its point, is the only one of its client, and its client is registered and has not
 /// left; so is who is missing, each of them once; push numbers are at most END; and while the
@@ -62,8 +63,9 @@ fn table_and_missing(alloc: Global, durable: &Durable) -> Result<(Table, Missing
     ensures slots { IfOk result (λ parts. IsOver durable.now.index parts.0) }
     ensures missing { IfOk result (λ parts. parts.1 ≡ missing_order durable.now.register) }
 {
+    let _kept = durable.epoch();
     let clients = durable.missing_order(alloc)?;
-    let table = Table::build(alloc, durable)?;
+    let table = Table::new(alloc)?;
     Ok((table, Missing::new(clients)))
 }
 

@@ -1,7 +1,7 @@
 //! What a server keeps.
-ghost use Rattle.std.specs.Prelude.{◌≡◌, ◌<◌, ◌≤◌, ℕ, IsSome, length, set};
+ghost use Rattle.std.specs.Prelude.{◌≡◌, ◌<◌, ◌≤◌, ℕ, true, IsSome, length, set};
 ghost use Rattle.std.specs.List.{AllByRecursion};
-ghost use Rattle.std.specs.FinMap as map;
+ghost use Rattle.krl_durable.specs.Index.{is_slot};
 ghost use Rattle.krl_modes.specs.Modes.{key_of};
 ghost use Rattle.krl_messages.specs.Several.{Ascend, most_holdings};
 ghost use Rattle.krl_server.specs.Servers.{incarnation_of, unlist};
@@ -99,14 +99,14 @@ impl State {
     /// What the client holds on the slot.
     pub(crate) fn holding(&self, slot: u64, client: u64) -> Holding
         requires formed { IsFormed self.now }
-        requires there { IsSome (map.get self.now.table slot) }
+        requires slot { is_slot self.now.durable.index slot ≡ true }
         requires client { client < 64 }
         ensures { result ≡ holding (meaning self.now) slot client }
     {
         let mode = self.table.mode(slot, client);
         let (_, key) = mode.parts();
         Holding {
-            span: self.table.span(slot),
+            span: self.durable.span_of(slot),
             mode,
             value: shown(key, self.durable.get(slot)),
         }
@@ -115,7 +115,7 @@ impl State {
     /// What the client holds on each of these slots, of which there are 1 to 8, in their order.
     pub(crate) fn holdings(&self, slots: &[Point], client: u64) -> Holdings
         requires formed { IsFormed self.now }
-        requires there { AllByRecursion (λ n. IsSome (map.get self.now.table n)) slots.now }
+        requires slots { AllByRecursion (λ n. is_slot self.now.durable.index n ≡ true) slots.now }
         requires order { Ascend (holdings (meaning self.now) client slots.now) }
         requires some { 1 ≤ length slots.now }
         requires few { length slots.now ≤ most_holdings }

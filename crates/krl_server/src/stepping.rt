@@ -161,7 +161,7 @@ impl State {
             }
             Case::Writes { number, op } => {
                 let (written, answered) = (*&op, *&op);
-                let outcome = self.write(client, written)?;
+                let outcome = self.write(client, written);
                 self.hear(client);
                 outbox.send_some(self.answer_write(client, number, answered, outcome));
                 let judged = Change::Judged {
@@ -228,7 +228,7 @@ impl State {
         if self.missing.is_gathering() {
             return;
         }
-        let slots = self.table.waiting_slots();
+        let slots = self.table.waiting_slots(&self.durable);
         self.answer(slots.as_slice(), outbox);
         if !after.calls_back() {
             return;
@@ -331,8 +331,8 @@ impl State {
         ensures calls { calls_of_first (meaning self.now) result
             ≡ calls_at_first (meaning self.now) (slot_of self.now.durable.index point) client }
     {
-        let slot = self.table.slot_of(point);
-        match self.table.first(slot) {
+        let slot = self.durable.slot_of(point.get());
+        match self.table.first(&self.durable, slot) {
             Some(first) => {
                 if first.waiter.client == client {
                     Some((slot, first))

@@ -1,30 +1,30 @@
 -- What a slot's first waiter can be told, by the slot's row alone.
-use Rattle.std.proofs.Common.{◌≡◌, ℕ, ◌<◌, Bool, true, false, not, ◌&&◌, ◌||◌, List, [], ◌∷◌, Some, None, IfSome, inl, refl, sym, ap, subst, ◌∙◌, arith}
+use Rattle.std.proofs.Common.{◌≡◌, ℕ, ◌≤◌, ◌<◌, Bool, true, false, not, ◌&&◌, ◌||◌, List, [], ◌∷◌, Some, None, IfSome, inl, refl, sym, ap, subst, ◌∙◌, arith}
 use Rattle.std.proofs.Common.{nat_eq, eq-eqb, ne_eqb, ltb-true, ltb-false}
 use Rattle.std.specs.Prelude.{is_some, nat_lt, if◌then◌else◌}
 use Rattle.std.specs.FinMap.{get}
 use Rattle.krl_modes.specs.declared.point.TheConstants.{END}
 use Rattle.krl_modes.specs.Modes.{needs_entry}
 use Rattle.krl_queue.specs.declared.waiter.Waiter.{Waiter}
-use Rattle.krl_durable.specs.Index.{Index}
+use Rattle.krl_durable.specs.Index.{Index, slot_of, is_slot, IsSlotOf}
 use Rattle.krl_table.specs.declared.reply.Reply.TheVariants as reply
 use Rattle.krl_table.specs.declared.row.SlotRow.{SlotRow}
 use Rattle.krl_table.specs.Rows.{Row, row_fits, front_of}
 use Rattle.krl_table.specs.Calls.{wanted}
 use Rattle.krl_table.specs.Replies.{asks_absent, lacks_entry, can_have, first_reply, first_reply_on, row_reply}
-use Rattle.krl_table.specs.Kept.{Kept, row_of, rows_of, IsOver, IsSound, IsWaiter, In}
+use Rattle.krl_table.specs.Kept.{Kept, row_of, row_there, rows_of, IsOver, In}
 use Rattle.krl_table.proofs.Means.{eq_cases, row-there}
-use Rattle.krl_table.proofs.Slots.{some_true, none_false}
+use Rattle.krl_table.proofs.Slots.{none_false, next_of}
 
 -- the waiter stands on the slot of its point, so its point is a key exactly where it is that slot, below END
-module _ (m : Index) (t : Kept) (over : IsOver m t) (n : ℕ) (u : Waiter) (at : IsWaiter t n u) where
+module _ (m : Index) (near : (n : ℕ) → END ≤ n → get m n ≡ None) (n : ℕ) (u : Waiter) (at : IsSlotOf m u.point n) where
   key_here : (b : Bool) → nat_lt n END ≡ b → is_some (get m n) ≡ b
   key_here true e = let lt = ltb-true n END e in
-      ap (λ b. b || is_some (get m n)) (sym (ne_eqb n END (λ f. omega (arith, f, lt)))) ∙ over.same n ∙ some_true (get t n) at.slot.there
-  key_here false e = none_false (get m n) (over.near n (ltb-false n END e))
+      ap (λ b. b || is_some (get m n)) (sym (ne_eqb n END (λ f. omega (arith, f, lt)))) ∙ at.slot
+  key_here false e = none_false (get m n) (near n (ltb-false n END e))
 
   no_key : u.point < n → is_some (get m u.point) ≡ false
-  no_key lt = second (nat_eq u.point END) (is_some (get m u.point)) (over.same u.point ∙ none_false (get t u.point) (at.slot.gap u.point (omega arith) lt))
+  no_key lt = second (nat_eq u.point END) (is_some (get m u.point)) (at.least u.point (omega arith) lt)
     where
       second : (a b : Bool) → (a || b) ≡ false → b ≡ false
       second true b e = absurd (cc)
@@ -33,17 +33,19 @@ module _ (m : Index) (t : Kept) (over : IsOver m t) (n : ℕ) (u : Waiter) (at :
   key_is : is_some (get m u.point) ≡ (nat_eq u.point n && nat_lt n END)
   key_is = eq_cases u.point n
       (λ e. ap (λ p. is_some (get m p)) e ∙ key_here (nat_lt n END) refl ∙ ap (λ b. b && nat_lt n END) (sym (eq-eqb u.point n e)))
-      (λ ne. no_key (let le = at.slot.from in omega (arith, le, ne)) ∙ ap (λ b. b && nat_lt n END) (sym (ne_eqb u.point n ne)))
+      (λ ne. no_key (let le = at.above in omega (arith, le, ne)) ∙ ap (λ b. b && nat_lt n END) (sym (ne_eqb u.point n ne)))
 
   pub lacks_is : lacks_entry n u ≡ asks_absent m u
   lacks_is = ap (λ b. needs_entry u.mode && not b) (sym key_is)
 
-pub reply_is : (m : Index) (t : Kept) → IsOver m t → IsSound t → (n : ℕ) (r : SlotRow) → get t n ≡ Some r → row_reply n (row_of r) ≡ first_reply m (rows_of t) n (rows_of t n).queue
-reply_is m t over sound n r here = ap (row_reply n) (sym (row-there t n r here)) ∙ by_queue (rows_of t n).queue refl
+pub reply_is : (m : Index) (t : Kept) → IsOver m t → (n : ℕ) → row_reply n (rows_of t n) ≡ first_reply m (rows_of t) n (rows_of t n).queue
+reply_is m t over n = by_queue (rows_of t n).queue refl
   where
     by_queue : (us : List Waiter) → (rows_of t n).queue ≡ us → first_reply_on n (rows_of t n) us ≡ first_reply m (rows_of t) n us
     by_queue [] e = refl
-    by_queue (u ∷ us) e = ap (λ b. if b then Some reply.Absent else (if can_have (rows_of t) n u then Some reply.Grant else None)) (lacks_is m t over n u (sound.placed n u (subst (In u) (sym e) (inl refl))))
+    by_queue (u ∷ us) e = let at = subst (In u) (sym e) (inl refl) in
+        ap (λ b. if b then Some reply.Absent else (if can_have (rows_of t) n u then Some reply.Grant else None))
+        (lacks_is m over.near n u (subst (IsSlotOf m u.point) (over.placed n u at) (next_of m over.near u.point (over.points n u at))))
 
 pub reply_grants : (n : ℕ) (row : Row) → row_reply n row ≡ Some reply.Grant → IfSome (front_of row.queue) (λ u. row_fits row u.client (wanted row u) ≡ true)
 reply_grants n row e = by_queue row.queue e

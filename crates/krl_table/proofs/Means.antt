@@ -1,22 +1,22 @@
 -- What a change of the kept rows means.
-use Rattle.std.proofs.Common.{◌≡◌, ◌≢◌, ℕ, zero, suc, ◌≤◌, ◌<◌, Bool, true, false, cond, List, [], ◌∷◌, Option, Some, None, IsSome, length, set, refl, sym, ap, subst, ◌∙◌, arith}
+use Rattle.std.proofs.Common.{◌≡◌, ◌≢◌, ℕ, zero, suc, ◌≤◌, ◌<◌, Bool, true, false, cond, List, [], ◌∷◌, Option, Some, None, IsSome, ◌⊎◌, length, set, refl, sym, ap, subst, ◌∙◌, arith, ⊎_elim}
 use Rattle.std.proofs.Common.{nat_eq, eq-eqb, ne_eqb}
 use Rattle.std.proofs.Math.ListN.{replicate}
-use Rattle.std.proofs.lemmas.List.{get_or-set_same, get_or-set_other}
+use Rattle.std.proofs.lemmas.Bool.{cases_lt}
+use Rattle.std.proofs.lemmas.List.{get_or-set_same, get_or-set_other, length-set}
 use Rattle.std.proofs.lemmas.Bool.Decides.{nat_tests}
 use Rattle.std.proofs.Math.Path.{fun_ext}
 use Rattle.std.specs.Prelude.{is_some, slice_get, if◌then◌else◌}
 use Rattle.std.specs.Ordering.{nat_cmp, eq_by_cmp}
 use Rattle.std.specs.Cmp.{nat_cmp_total}
-use Rattle.std.specs.FinMap.{get, insert, remove, get-insert, get-remove}
-use Rattle.krl_modes.specs.declared.point.TheConstants.{END}
+use Rattle.std.specs.FinMap.{FinMap, get, insert, remove, get-insert, get-remove}
 use Rattle.krl_modes.specs.declared.mode.Mode.{Mode}
 use Rattle.krl_modes.specs.declared.mode.Mode.TheVariants as mode
 use Rattle.krl_queue.specs.declared.waiter.Waiter.{Waiter}
-use Rattle.krl_durable.specs.Index.{Index}
+use Rattle.krl_store.specs.Stores.{Stored}
 use Rattle.krl_table.specs.declared.row.SlotRow.{SlotRow}
 use Rattle.krl_table.specs.Rows.{Row, Rows, blank_row, set_row, set_mode, front_of}
-use Rattle.krl_table.specs.Kept.{Kept, mode_of, row_of, row_there, rows_of, IsWhole, IsOver}
+use Rattle.krl_table.specs.Kept.{Kept, mode_of, row_of, row_there, rows_of, IsSet, AreSet, HasRoom}
 
 pub eq_cases : {A : Type 0} (a b : ℕ) → (a ≡ b → A) → (a ≢ b → A) → A
 eq_cases {A = A} a b f g = by_eq (nat_eq a b) refl
@@ -40,13 +40,6 @@ pub rows-put : (t : Kept) (k : ℕ) (r : SlotRow) (n : ℕ) → rows_of (insert 
 rows-put t k r n = ap row_there (get-put t k r n) ∙ by_test (nat_eq n k)
   where
     by_test : (b : Bool) → row_there (cond b (Some r) (get t n)) ≡ (if b then row_of r else rows_of t n)
-    by_test true = refl
-    by_test false = refl
-
-pub rows-gone : (t : Kept) (k n : ℕ) → rows_of (remove t k) n ≡ set_row (rows_of t) k blank_row n
-rows-gone t k n = ap row_there (get-gone t k n) ∙ by_test (nat_eq n k)
-  where
-    by_test : (b : Bool) → row_there (cond b None (get t n)) ≡ (if b then blank_row else rows_of t n)
     by_test true = refl
     by_test false = refl
 
@@ -75,75 +68,124 @@ blank-row n queue e = λ i. record { modes = fun_ext (blank-modes n) i; queue = 
 pub modes-set : (modes : List Mode) (c : ℕ) (g : Mode) → c < length modes → mode_of (set modes c g) ≡ set_mode (mode_of modes) c g
 modes-set modes c g lt = fun_ext (λ d. mode-set modes c g d lt)
 
--- Shapes
-
--- both stand there, or none, with the same first point and as many modes
-abbrev pub Alike : Option SlotRow → Option SlotRow → Type 0
-Alike None None = Unit {0}
-Alike None (Some s) = ⊥
-Alike (Some r) None = ⊥
-Alike (Some r) (Some s) = (s.low ≡ r.low) × (length s.modes ≡ length r.modes)
-
-abbrev pub AreAlike : Kept → Kept → Type 0
-AreAlike t u = (n : ℕ) → Alike (get t n) (get u n)
-
-pub alike_same : (o : Option SlotRow) → Alike o o
-alike_same None = tt
-alike_same (Some r) = (refl, refl)
-
-pub alike_trans : (o p q : Option SlotRow) → Alike o p → Alike p q → Alike o q
-alike_trans None None None h k = tt
-alike_trans None None (Some z) h k = absurd k
-alike_trans None (Some y) q h k = absurd h
-alike_trans (Some x) None q h k = absurd h
-alike_trans (Some x) (Some y) None h k = absurd k
-alike_trans (Some x) (Some y) (Some z) h k = (k.0 ∙ h.0, k.1 ∙ h.1)
-
-pub alike_some : (o p : Option SlotRow) → Alike o p → is_some p ≡ is_some o
-alike_some None None h = refl
-alike_some None (Some s) h = absurd h
-alike_some (Some r) None h = absurd h
-alike_some (Some r) (Some s) h = refl
-
-alike_none : (o p : Option SlotRow) → Alike o p → o ≡ None → p ≡ None
-alike_none None None h e = refl
-alike_none None (Some s) h e = absurd h
-alike_none (Some r) None h e = refl
-alike_none (Some r) (Some s) h e = absurd (cc)
-
-pub alike_there : (o p : Option SlotRow) → Alike o p → IsSome o → IsSome p
-alike_there None None h e = e
-alike_there None (Some s) h e = absurd h
-alike_there (Some r) None h e = absurd h
-alike_there (Some r) (Some s) h e = refl
-
-alike_back : (o p : Option SlotRow) (s : SlotRow) → Alike o p → p ≡ Some s → (r : SlotRow) × (o ≡ Some r) × (s.low ≡ r.low) × (length s.modes ≡ length r.modes)
-alike_back None None s h e = absurd (cc)
-alike_back None (Some x) s h e = absurd h
-alike_back (Some r) None s h e = absurd h
-alike_back (Some r) (Some x) s h e = let same : x ≡ s = cc in (r, refl, subst (λ y. y.low ≡ r.low) same h.0, subst (λ y. length y.modes ≡ length r.modes) same h.1)
-
-pub alike_whole : (t u : Kept) → AreAlike t u → IsWhole t → IsWhole u
-alike_whole t u h w = record {
-  last = alike_there (get t END) (get u END) (h END) w.last;
-  near = λ n lt. alike_none (get t n) (get u n) (h n) (w.near n lt);
-  rows = λ n s e. let x = alike_back (get t n) (get u n) s (h n) e in let r = w.rows n x.0 x.1 in record {
-    full = x.3 ∙ r.full;
-    first = subst (λ y. y ≤ n) (sym x.2) r.first;
-    alone = λ k a b. alike_none (get t k) (get u k) (h k) (r.alone k (subst (λ y. y ≤ k) x.2 a) b);
-    after = λ k f. alike_there (get t k) (get u k) (h k) (r.after k (sym x.2 ∙ f));
-  };
-}
-
-pub alike_over : (m : Index) (t u : Kept) → AreAlike t u → IsOver m t → IsOver m u
-alike_over m t u h o = record { near = o.near; same = λ n. o.same n ∙ sym (alike_some (get t n) (get u n) (h n)) }
-
--- a row is put in the place of one like it
-pub put_alike : (t : Kept) (k : ℕ) (r s : SlotRow) → get t k ≡ Some r → s.low ≡ r.low → length s.modes ≡ length r.modes → AreAlike t (insert t k s)
-put_alike t k r s here low full n = subst (Alike (get t n)) (sym (get-put t k s n)) (eq_cases n k
-    (λ e. subst (λ b. Alike (get t n) (cond b (Some s) (get t n))) (sym (eq-eqb n k e)) (subst (λ o. Alike o (Some s)) (sym (ap (get t) e ∙ here)) (low, full)))
-    (λ ne. subst (λ b. Alike (get t n) (cond b (Some s) (get t n))) (sym (ne_eqb n k ne)) (alike_same (get t n))))
-
 pub front-is : (ws : List Waiter) → slice_get ws 0 ≡ front_of ws
 front-is [] = refl
 front-is (w ∷ ws) = refl
+
+-- a row that is set, where the others were changed before at its slot alone
+pub set_after : (t u v : Kept) (k : ℕ) (row new : Row) → ((n : ℕ) → n ≢ k → get u n ≡ get t n) → row ≡ new → IsSet u v k row → IsSet t v k new
+set_after t u v k row new same e h = record {
+  here = h.here ∙ e;
+  others = λ n ne. h.others n ne ∙ same n ne;
+  used = h.used;
+}
+
+-- the rows, after one is set
+pub set_rows : (t u : Kept) (k : ℕ) (row : Row) → IsSet t u k row → (n : ℕ) → rows_of u n ≡ set_row (rows_of t) k row n
+set_rows t u k row h n = eq_cases n k
+    (λ e. ap (rows_of u) e ∙ h.here ∙ sym (ap (λ b. if b then row else rows_of t n) (eq-eqb n k e)))
+    (λ ne. ap row_there (h.others n ne) ∙ sym (ap (λ b. if b then row else rows_of t n) (ne_eqb n k ne)))
+
+pub insert_other : (t : Kept) (k : ℕ) (r : SlotRow) (n : ℕ) → n ≢ k → get (insert t k r) n ≡ get t n
+insert_other t k r n ne = get-put t k r n ∙ ap (λ b. cond b (Some r) (get t n)) (ne_eqb n k ne)
+
+pub insert_same : (t : Kept) (k : ℕ) (r : SlotRow) → get (insert t k r) k ≡ Some r
+insert_same t k r = get-put t k r k ∙ ap (λ b. cond b (Some r) (get t k)) (eq-eqb k k refl)
+
+-- what all tests for N say of a row where nobody waits
+pub blank_is : (r : SlotRow) → r.queue ≡ [] → ((c : ℕ) → mode_of r.modes c ≡ mode.N) → row_of r ≡ blank_row
+blank_is r none all i = record { modes = fun_ext all i; queue = none i }
+
+module _ (t u : Kept) (k : ℕ) (r : SlotRow) where
+  pub set_kept : u ≡ insert t k r → (row_of r ≡ blank_row → ⊥) → IsSet t u k (row_of r)
+  set_kept e some = record {
+    here = ap (λ y. rows_of y k) e ∙ ap row_there (insert_same t k r);
+    others = λ n ne. ap (λ y. get y n) e ∙ insert_other t k r n ne;
+    used = λ s at. let same : Some s ≡ Some r = sym at ∙ ap (λ y. get y k) e ∙ insert_same t k r in let is : s ≡ r = cc in subst (λ x. row_of x ≡ blank_row → ⊥) (sym is) some;
+  }
+
+  pub set_gone : u ≡ remove t k → row_of r ≡ blank_row → IsSet t u k (row_of r)
+  set_gone e blank = record {
+    here = ap (λ y. rows_of y k) e ∙ ap row_there gone ∙ sym blank;
+    others = λ n ne. ap (λ y. get y n) e ∙ get-gone t k n ∙ ap (λ b. cond b None (get t n)) (ne_eqb n k ne);
+    used = λ s at. absurd (let bad : Some s ≡ None = sym at ∙ ap (λ y. get y k) e ∙ gone in cc);
+  }
+    where
+      gone : get (remove t k) k ≡ None
+      gone = get-gone t k k ∙ ap (λ b. cond b None (get t k)) (eq-eqb k k refl)
+
+-- one row is set after another
+pub both_set : (t v u : Kept) (i : ℕ) (a : Row) (j : ℕ) (b : Row) → i ≢ j → IsSet t v i a → IsSet v u j b → AreSet t u i a j b
+both_set t v u i a j b apart x y = record {
+  first = ap row_there (y.others i apart) ∙ x.here;
+  second = y.here;
+  others = λ n ni nj. y.others n nj ∙ x.others n ni;
+  used = λ n r which e. eq_cases n j
+      (λ f. y.used r (ap (get u) (sym f) ∙ e))
+      (λ nj. x.used r (ap (get v) (sym (⊎_elim (λ (f : n ≡ i). f) (λ (f : n ≡ j). absurd (nj f)) which)) ∙ sym (y.others n nj) ∙ e));
+}
+
+-- two rows are set, after the second's was changed alone
+pub both_after : (t v u : Kept) (i : ℕ) (a : Row) (j : ℕ) (b : Row) → ((n : ℕ) → n ≢ j → get v n ≡ get t n) → AreSet v u i a j b → AreSet t u i a j b
+both_after t v u i a j b same h = record {
+  first = h.first;
+  second = h.second;
+  others = λ n ni nj. h.others n ni nj ∙ same n nj;
+  used = h.used;
+}
+
+-- one row is taken out, and another set
+pub gone_set : (t v w u : Kept) (i j : ℕ) (b : Row) → i ≢ j → v ≡ remove t i → ((n : ℕ) → n ≢ j → get w n ≡ get v n) → IsSet w u j b → AreSet t u i blank_row j b
+gone_set t v w u i j b apart e same h = record {
+  first = ap row_there gone;
+  second = h.here;
+  others = λ n ni nj. h.others n nj ∙ same n nj ∙ ap (λ y. get y n) e ∙ get-gone t i n ∙ ap (λ x. cond x None (get t n)) (ne_eqb n i ni);
+  used = λ n r which f. ⊎_elim
+      (λ (g : n ≡ i). absurd (let bad : Some r ≡ None = sym f ∙ ap (get u) g ∙ gone in cc))
+      (λ (g : n ≡ j). h.used r (ap (get u) (sym g) ∙ f)) which;
+}
+  where
+    gone : get u i ≡ None
+    gone = h.others i apart ∙ same i apart ∙ ap (λ y. get y i) e ∙ get-gone t i i ∙ ap (λ x. cond x None (get t i)) (eq-eqb i i refl)
+
+-- what is there is not None
+pub there_not : (o : Option SlotRow) → IsSome o → o ≡ None → ⊥
+there_not None h e = absurd (cc)
+there_not (Some r) h e = absurd (cc)
+
+-- two rows that are set, by other words for them
+pub both_as : (t u : Kept) (i : ℕ) (a a' : Row) (j : ℕ) (b b' : Row) → a ≡ a' → b ≡ b' → AreSet t u i a j b → AreSet t u i a' j b'
+both_as t u i a a' j b b' e f h = record { first = h.first ∙ e; second = h.second ∙ f; others = h.others; used = h.used }
+
+-- what two rows that are set mean
+pub both_rows : (t u : Kept) (i : ℕ) (a : Row) (j : ℕ) (b : Row) → i ≢ j → AreSet t u i a j b → (n : ℕ) → rows_of u n ≡ set_row (set_row (rows_of t) j b) i a n
+both_rows t u i a j b apart h n = eq_cases n i
+    (λ e. ap (rows_of u) e ∙ h.first ∙ sym (ap (λ x. if x then a else set_row (rows_of t) j b n) (eq-eqb n i e)))
+    (λ ni. eq_cases n j
+    (λ e. ap (rows_of u) e ∙ h.second ∙ sym (ap (λ x. if x then a else set_row (rows_of t) j b n) (ne_eqb n i ni) ∙ ap (λ x. if x then b else rows_of t n) (eq-eqb n j e)))
+    (λ nj. ap row_there (h.others n ni nj) ∙ sym (ap (λ x. if x then a else set_row (rows_of t) j b n) (ne_eqb n i ni) ∙ ap (λ x. if x then b else rows_of t n) (ne_eqb n j nj))))
+
+-- what holds of both, and of the others
+pub by_two : (t u : Kept) (i : ℕ) (a : Row) (j : ℕ) (b : Row) → AreSet t u i a j b → (P : Row → Type 0) → P a → P b → ((n : ℕ) → P (rows_of t n)) → (n : ℕ) → P (rows_of u n)
+by_two t u i a j b h P x y rest n = eq_cases n i
+    (λ e. subst P (sym (ap (rows_of u) e ∙ h.first)) x)
+    (λ ni. eq_cases n j
+    (λ e. subst P (sym (ap (rows_of u) e ∙ h.second)) y)
+    (λ nj. subst P (sym (ap row_there (h.others n ni nj))) (rest n)))
+
+-- Keys of any map
+
+test_of : (n k : ℕ) → eq_by_cmp nat_cmp n k ≡ nat_eq n k
+test_of n k = grind (arith, nat_tests)
+
+pub insert_at : {X : Type 0} (m : FinMap nat_cmp X) (k : ℕ) (v : X) → get (insert m k v) k ≡ Some v
+insert_at m k v = get-insert nat_cmp_total m k v k ∙ ap (λ b. cond b (Some v) (get m k)) (test_of k k ∙ eq-eqb k k refl)
+
+pub insert_past : {X : Type 0} (m : FinMap nat_cmp X) (k : ℕ) (v : X) (n : ℕ) → n ≢ k → get (insert m k v) n ≡ get m n
+insert_past m k v n ne = get-insert nat_cmp_total m k v n ∙ ap (λ b. cond b (Some v) (get m n)) (test_of n k ∙ ne_eqb n k ne)
+
+pub remove_at : {X : Type 0} (m : FinMap nat_cmp X) (k : ℕ) → get (remove m k) k ≡ None
+remove_at m k = get-remove nat_cmp_total m k k ∙ ap (λ b. cond b None (get m k)) (test_of k k ∙ eq-eqb k k refl)
+
+pub remove_past : {X : Type 0} (m : FinMap nat_cmp X) (k n : ℕ) → n ≢ k → get (remove m k) n ≡ get m n
+remove_past m k n ne = get-remove nat_cmp_total m k n ∙ ap (λ b. cond b None (get m n)) (test_of n k ∙ ne_eqb n k ne)

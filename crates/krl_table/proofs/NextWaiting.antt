@@ -10,11 +10,13 @@ use Rattle.std.specs.FinMap as fin
 use Rattle.krl_queue.specs.declared.waiter.Waiter.{Waiter}
 use Rattle.krl_table.specs.declared.row.SlotRow.{SlotRow}
 use Rattle.krl_table.specs.Waiters.{IsNextWaiting, AreWaiting}
-use Rattle.krl_table.specs.Kept.{Kept, row_there, rows_of, IsNext, IsSound, In}
+use Rattle.krl_durable.specs.Index.{Index, slot_of, is_slot, IsSlotOf}
+use Rattle.krl_modes.specs.declared.point.TheConstants.{END}
+use Rattle.krl_table.specs.Kept.{Kept, rows_of, IsOver, IsSound, In}
 use Rattle.krl_table.specs.Kept.{waiter_in, AreListed, AllWaitBelow, IsLeastPoint, lesser_point, lesser}
 use Rattle.krl_table.proofs.Means.{eq_cases}
-use Rattle.krl_table.proofs.Splits.{some_none}
-use Rattle.krl_table.proofs.Sounds.{some_same, next_same}
+use Rattle.krl_table.proofs.Slots.{next_of, slot_same, slot_twice}
+use Rattle.krl_table.proofs.Sounds.{some_same, some_none, has_row}
 
 -- The least point that a client below k waits for
 
@@ -92,29 +94,21 @@ all_least waiting low k (Some p) all h = let x = h.some p refl in record {
 -- Somebody waits at the slots of the points that are waited for
 
 -- the walk goes on from this point: whose point lies below it, that one's slot does
-abbrev pub Begins : Kept → ℕ → Type 0
-Begins t low = (q s : ℕ) → IsNext t q s → q < low → s < low
+abbrev pub Begins : Index → ℕ → Type 0
+Begins m low = (q s : ℕ) → IsSlotOf m q s → q < low → s < low
 
-there_not : (o : Option SlotRow) → IsSome o → o ≡ None → ⊥
-there_not None h e = absurd (cc)
-there_not (Some r) h e = absurd (cc)
+pub begins_first : (m : Index) → Begins m 0
+begins_first m q s next lt = absurd (omega (arith, lt))
 
-pub begins_first : (t : Kept) → Begins t 0
-begins_first t q s next lt = absurd (omega (arith, lt))
-
-pub begins_after : (t : Kept) (n : ℕ) → IsSome (fin.get t n) → Begins t (suc n)
-begins_after t n there q s next lt = ⊎_elim
-    (λ (far : n < s). absurd (there_not (fin.get t n) there (next.gap n (omega (arith, lt)) far)))
+pub begins_after : (m : Index) (n : ℕ) → is_slot m n ≡ true → Begins m (suc n)
+begins_after m n there q s next lt = ⊎_elim
+    (λ (far : n < s). absurd (slot_twice (is_slot m n) there (next.least n (omega (arith, lt)) far)))
     (λ (near : s ≤ n). omega (arith, near)) (cases_lt n s)
 
-module _ (t : Kept) (sound : IsSound t) (waiting : List (Option Waiter)) (l : AreListed waiting t) (low : ℕ) (begins : Begins t low) where
-  -- where somebody waits there is a row
-  has_row : (n : ℕ) (u : Waiter) → In u (rows_of t n).queue → IsSome (fin.get t n)
-  has_row n u at = by_row (fin.get t n) at
-    where
-      by_row : (o : Option SlotRow) → In u (row_there o).queue → IsSome o
-      by_row None h = absurd h
-      by_row (Some r) h = refl
+module _ (m : Index) (t : Kept) (over : IsOver m t) (sound : IsSound t) (waiting : List (Option Waiter)) (l : AreListed waiting t) (low : ℕ) (begins : Begins m low) where
+  -- where somebody waits, that is the slot of the point
+  its_slot : (n : ℕ) (u : Waiter) → In u (rows_of t n).queue → IsSlotOf m u.point n
+  its_slot n u at = subst (IsSlotOf m u.point) (over.placed n u at) (next_of m over.near u.point (over.points n u at))
 
   no_queue : (n : ℕ) → ((u : Waiter) → In u (rows_of t n).queue → ⊥) → (rows_of t n).queue ≡ []
   no_queue n none = by_queue (rows_of t n).queue none
@@ -123,21 +117,21 @@ module _ (t : Kept) (sound : IsSound t) (waiting : List (Option Waiter)) (l : Ar
       by_queue [] h = refl
       by_queue (u ∷ us) h = absurd (h u (inl refl))
 
-  point_from : (s q : ℕ) → IsNext t q s → low ≤ s → low ≤ q
+  point_from : (s q : ℕ) → IsSlotOf m q s → low ≤ s → low ≤ q
   point_from s q next le = ⊎_elim (λ (far : q < low). absurd (let x = begins q s next far in omega (arith, x, le))) (λ (near : low ≤ q). near) (cases_lt q low)
 
   pub nobody_waits : AllWaitBelow waiting low → (n : ℕ) → low ≤ n → (rows_of t n).queue ≡ []
-  nobody_waits below n le = no_queue n (λ u at. let far = below u.client u (sound.placed n u at).client (l.here n u at) in let near = point_from n u.point (sound.placed n u at).slot le in absurd (omega (arith, far, near)))
+  nobody_waits below n le = no_queue n (λ u at. let far = below u.client u (sound.clients n u at) (l.here n u at) in let near = point_from n u.point (its_slot n u at) le in absurd (omega (arith, far, near)))
 
-  pub least_waits : (p s : ℕ) → IsLeastPoint waiting low p → IsNext t p s → IsNextWaiting (rows_of t) low s
+  pub least_waits : (p s : ℕ) → IsLeastPoint waiting low p → IsSlotOf m p s → IsNextWaiting (rows_of t) low s
   least_waits p s h next = record {
-    above = let a = h.above in let b = next.from in omega (arith, a, b);
+    above = let a = h.above in let b = next.above in omega (arith, a, b);
     some = λ none. let w = h.some in let x = l.there w.0 w.1 w.2 in
-        let there : IsNext t p x.1.0 = subst (λ q. IsNext t q x.1.0) w.3 (sound.placed x.1.0 w.1 x.1.1).slot in
-        subst (In w.1) (ap (λ n. (rows_of t n).queue) (next_same t p x.1.0 s there next) ∙ none) x.1.1;
-    least = λ n a b. no_queue n (λ u at. let w = sound.placed n u at in let far = w.slot.from in
-        let least = h.least u.client u w.client (l.here n u at) (point_from n u.point w.slot a) in
-        there_not (fin.get t n) (has_row n u at) (next.gap n (omega (arith, least, far)) b));
+        let there : IsSlotOf m p x.1.0 = subst (λ q. IsSlotOf m q x.1.0) w.3 (its_slot x.1.0 w.1 x.1.1) in
+        subst (In w.1) (ap (λ n. (rows_of t n).queue) (slot_same m p x.1.0 s there next) ∙ none) x.1.1;
+    least = λ n a b. no_queue n (λ u at. let slot = its_slot n u at in let far = slot.above in
+        let least = h.least u.client u (sound.clients n u at) (l.here n u at) (point_from n u.point slot a) in
+        slot_twice (is_slot m n) (over.within n (has_row t n u at)) (next.least n (omega (arith, least, far)) b));
   }
 
 -- How many wait for points from this one on
@@ -191,41 +185,41 @@ fewer_past low high (Some w ∷ ws) (suc c) u le is near far = by_tests (nat_lt 
 -- The walk
 
 -- the slots below this point at which somebody waits were found
-pub record AreFound (t : Kept) (waiting : List (Option Waiter)) (low : ℕ) (found : List ℕ) : Type 0 where
-  pub begins : Begins t low
+pub record AreFound (m : Index) (t : Kept) (waiting : List (Option Waiter)) (low : ℕ) (found : List ℕ) : Type 0 where
+  pub begins : Begins m low
   pub room : length found + count_from low waiting ≤ 64
   pub before : (rest : List ℕ) → AreWaiting (rows_of t) low rest → AreWaiting (rows_of t) 0 (found ++ rest)
-  pub there : AllByRecursion (λ n. IsSome (fin.get t n)) found
+  pub there : AllByRecursion (λ n. is_slot m n ≡ true) found
 
-module _ (t : Kept) (sound : IsSound t) (waiting : List (Option Waiter)) (l : AreListed waiting t) where
-  pub none_found : AreFound t waiting 0 []
+module _ (m : Index) (t : Kept) (over : IsOver m t) (sound : IsSound t) (waiting : List (Option Waiter)) (l : AreListed waiting t) where
+  pub none_found : AreFound m t waiting 0 []
   none_found = record {
-    begins = begins_first t;
+    begins = begins_first m;
     room = let few = count_few 0 waiting in let full = l.full in omega (arith, few, full);
     before = λ rest h. h;
     there = tt;
   }
 
-  module _ (low : ℕ) (found : List ℕ) (h : AreFound t waiting low found) where
+  module _ (low : ℕ) (found : List ℕ) (h : AreFound m t waiting low found) where
     pub all_found : AllWaitBelow waiting low → AreWaiting (rows_of t) 0 found
-    all_found below = subst (AreWaiting (rows_of t) 0) (append-nil found) (h.before [] (nobody_waits t sound waiting l low h.begins below))
+    all_found below = subst (AreWaiting (rows_of t) 0) (append-nil found) (h.before [] (nobody_waits m t over sound waiting l low h.begins below))
 
-    module _ (p s : ℕ) (least : IsLeastPoint waiting low p) (next : IsNext t p s) where
+    module _ (p s : ℕ) (least : IsLeastPoint waiting low p) (next : IsSlotOf m p s) where
       pub fewer_left : suc (count_from (suc s) waiting) ≤ count_from low waiting
-      fewer_left = let w = least.some in let at = w.3 in let a = least.above in let b = next.from in
+      fewer_left = let w = least.some in let at = w.3 in let a = least.above in let b = next.above in
           fewer_past low (suc s) waiting w.0 w.1 (omega (arith, a, b)) w.2 (omega (arith, a, at)) (omega (arith, b, at))
 
       pub room_for_slot : length found < 64
       room_for_slot = let a = fewer_left in let b = h.room in omega (arith, a, b)
 
-      pub one_found : AreFound t waiting (suc s) (found ++ s ∷ [])
+      pub one_found : AreFound m t waiting (suc s) (found ++ s ∷ [])
       one_found = record {
-        begins = begins_after t s next.there;
+        begins = begins_after m s next.slot;
         room = let a = fewer_left in let b = h.room in let c = length-append found (s ∷ []) in omega (arith, a, b, c);
-        before = λ rest r. subst (AreWaiting (rows_of t) 0) (sym (append_assoc found (s ∷ []) rest)) (h.before (s ∷ rest) (least_waits t sound waiting l low h.begins p s least next, r));
+        before = λ rest r. subst (AreWaiting (rows_of t) 0) (sym (append_assoc found (s ∷ []) rest)) (h.before (s ∷ rest) (least_waits m t over sound waiting l low h.begins p s least next, r));
         there = all_more found h.there;
       }
         where
-          all_more : (ns : List ℕ) → AllByRecursion (λ n. IsSome (fin.get t n)) ns → AllByRecursion (λ n. IsSome (fin.get t n)) (ns ++ s ∷ [])
-          all_more [] a = (next.there, tt)
+          all_more : (ns : List ℕ) → AllByRecursion (λ n. is_slot m n ≡ true) ns → AllByRecursion (λ n. is_slot m n ≡ true) (ns ++ s ∷ [])
+          all_more [] a = (next.slot, tt)
           all_more (n ∷ ns) a = (a.0, all_more ns a.1)

@@ -1,58 +1,49 @@
 -- A client's mode on one slot rises to what a waiter wants; and so on slot after slot.
-use Rattle.std.proofs.Common.{◌≡◌, ℕ, zero, suc, ◌-◌, ◌<◌, Bool, true, false, ◌&&◌, List, [], ◌∷◌, ◌++◌, Option, Some, IsSome, IfSome, length, refl, sym, ap, subst, ◌∙◌, append_assoc, arith}
+use Rattle.std.proofs.Common.{◌≡◌, ℕ, zero, suc, ◌-◌, ◌≤◌, ◌<◌, Bool, true, false, not, ◌&&◌, ◌||◌, List, [], ◌∷◌, ◌++◌, Option, Some, None, IsSome, IfSome, length, refl, sym, ap, subst, ◌∙◌, append_assoc, arith}
 use Rattle.std.proofs.Math.Path.{fun_ext}
-use Rattle.std.proofs.lemmas.List.{length-set}
-use Rattle.std.specs.Prelude.{nat_lt, if◌then◌else◌}
-use Rattle.std.specs.FinMap.{get, insert}
+use Rattle.std.specs.Prelude.{nat_eq, nat_lt, if◌then◌else◌}
 use Rattle.krl_modes.specs.declared.point.TheConstants.{END}
-use Rattle.krl_modes.specs.Modes.{join}
+use Rattle.krl_modes.specs.declared.mode.Mode.{Mode}
+use Rattle.krl_modes.specs.declared.mode.Mode.TheVariants as mode
+use Rattle.krl_modes.specs.Modes.{compatible, needs_entry}
 use Rattle.krl_queue.specs.declared.waiter.Waiter.{Waiter}
-use Rattle.krl_durable.specs.Index.{Index, slot_of}
-use Rattle.krl_table.specs.declared.row.SlotRow.{SlotRow}
-use Rattle.krl_table.specs.Rows.{Row, Rows, front_of}
+use Rattle.krl_durable.specs.Index.{Index, slot_of, is_slot}
+use Rattle.krl_table.specs.Rows.{Row, Rows, blank_row, front_of, all_below, most_clients, row_fits}
 use Rattle.krl_table.specs.Calls.{with_mode, wanted, raised, raised_on, granted_first}
 use Rattle.krl_table.specs.Replies.{can_have}
 use Rattle.krl_table.specs.Grants.{can_take, goes_on, taken_after, taken_by, granted_by, most_more}
-use Rattle.krl_table.specs.Kept.{Kept, mode_of, row_of, rows_of, raised_row, IsOver, IsSound, AreBeside, AreListed}
-use Rattle.krl_table.proofs.Means.{eq_cases, AreAlike, alike_there, modes-set}
-use Rattle.krl_table.proofs.Changes.{changed_alike, changed_rows}
-use Rattle.krl_table.proofs.Besides.{set_beside, fits_beside}
-use Rattle.krl_table.proofs.Sounds.{IsClean, clean_put, one_here, one_other, strangers, queues_sound, listed_same}
+use Rattle.krl_table.specs.Kept.{Kept, rows_of, IsSet, IsOver, IsSound, AreListed}
+use Rattle.krl_table.proofs.Below.{clients_are}
+use Rattle.krl_table.proofs.Besides.{none_beside, set_beside, fits_beside}
+use Rattle.krl_table.proofs.Sounds.{set_strangers, modes_sound, same_queue, fewer_over, listed_same}
 
-pub raised_means : (w : Waiter) (r : SlotRow) → length r.modes ≡ 64 → w.client < 64 → row_of (raised_row w r) ≡ with_mode (row_of r) w.client (wanted (row_of r) w)
-raised_means w r full lt = λ i. record { modes = modes-set r.modes w.client (join (mode_of r.modes w.client) w.mode) (subst (λ x. w.client < x) (sym full) lt) i; queue = r.queue }
+-- where nobody holds anything, anything can stand
+all_true : (n : ℕ) (f : ℕ → Bool) → ((d : ℕ) → f d ≡ true) → all_below n f ≡ true
+all_true zero f h = refl
+all_true (suc n) f h = ap (λ b. b && all_below n f) (h n) ∙ all_true n f h
 
-module _ (t u : Kept) (k : ℕ) (w : Waiter) (sound : IsSound t) (client : w.client < 64) (some : IsSome (get t k)) (e : IfSome (get t k) (λ row. u ≡ insert t k (raised_row w row))) where
-  pub raised_is : (n : ℕ) → rows_of u n ≡ raised (rows_of t) k w n
-  raised_is = changed_rows t u k (raised_row w) some e (λ row. with_mode row w.client (wanted row w))
-      (λ r here. raised_means w r (sound.whole.rows k r here).full client)
+pub blank_fits : (c : ℕ) (g : Mode) → row_fits blank_row c g ≡ true
+blank_fits c g = all_true most_clients (λ d. nat_eq d c || compatible g mode.N) (λ d. ap (λ b. nat_eq d c || b) (none_beside g) ∙ or_yes (nat_eq d c))
+  where
+    or_yes : (b : Bool) → (b || true) ≡ true
+    or_yes true = refl
+    or_yes false = refl
 
-  pub raised_alike : AreAlike t u
-  raised_alike = changed_alike t u k (raised_row w) some e (λ r. refl) (λ r. length-set r.modes w.client _)
-
-  pub raised_there : IsSome (get u k)
-  raised_there = alike_there (get t k) (get u k) (raised_alike k) some
-
-  clean : IsClean u
-  clean = clean_put t u k (raised_row w) (λ r. refl) some e sound.clean
-
+module _ (t u : Kept) (k : ℕ) (w : Waiter) (sound : IsSound t) (client : w.client < 64) (s : IsSet t u k (with_mode (rows_of t k) w.client (wanted (rows_of t k) w))) where
   abbrev row : Row
   row = with_mode (rows_of t k) w.client (wanted (rows_of t k) w)
 
-  same_queue : (n : ℕ) → (rows_of u n).queue ≡ (rows_of t n).queue
-  same_queue n = eq_cases n k
-      (λ f. subst (λ y. (rows_of u y).queue ≡ (rows_of t y).queue) (sym f) (ap (λ (r : Row). r.queue) (one_here (rows_of t) (rows_of u) k row raised_is)))
-      (λ ne. ap (λ (r : Row). r.queue) (one_other (rows_of t) (rows_of u) k row raised_is n ne))
-
-  pub raised_sound : can_have (rows_of t) k w ≡ true → IsSound u
-  raised_sound fits = queues_sound t u raised_alike sound clean same_queue
-      (λ n. eq_cases n k
-      (λ f. subst (λ y. AreBeside (rows_of u y).modes) (sym f) (subst (λ (r : Row). AreBeside r.modes) (sym (one_here (rows_of t) (rows_of u) k row raised_is))
-      (set_beside (rows_of t k).modes w.client (wanted (rows_of t k) w) (sound.beside k) (fits_beside (rows_of t k) w.client (wanted (rows_of t k) w) (strangers t sound.whole k) fits))))
-      (λ ne. subst (λ (r : Row). AreBeside r.modes) (sym (one_other (rows_of t) (rows_of u) k row raised_is n ne)) (sound.beside n)))
+  pub raised_sound : k ≤ END → can_have (rows_of t) k w ≡ true → IsSound u
+  raised_sound le fits = modes_sound t u k row s refl sound le
+      (set_strangers (rows_of t k).modes w.client (wanted (rows_of t k) w) client (sound.strangers k))
+      (set_beside (rows_of t k).modes w.client (wanted (rows_of t k) w) (sound.beside k)
+      (fits_beside (rows_of t k) w.client (wanted (rows_of t k) w) (λ d lt. sound.strangers k d (let many = clients_are in omega (arith, lt, many))) fits))
 
   pub raised_listed : (waiting : List (Option Waiter)) → AreListed waiting t → AreListed waiting u
-  raised_listed waiting l = listed_same waiting t u same_queue l
+  raised_listed waiting l = listed_same waiting t u (same_queue t u k row s refl) l
+
+  pub raised_over : (m : Index) → IsOver m t → is_slot m k ≡ true → IsOver m u
+  raised_over m over slot = fewer_over t u k row s m over slot (λ v at. at)
 
 -- A grant that goes on
 
@@ -64,40 +55,38 @@ one_more : (m : Index) (rows : Rows) (n : ℕ) (w : Waiter) (k : ℕ) → goes_o
 one_more m rows n w k e = ap (λ b. if b then slot_of m (suc n) ∷ taken_after m (raised rows (slot_of m (suc n)) w) (slot_of m (suc n)) w k else []) e
 
 -- where the grant stands: these rows, the last slot, and how many are noted; what is left of it leads to one end
-pub record IsGoing (first : Kept) (slot : ℕ) (w : Waiter) (noted : List ℕ) (t : Kept) (at : ℕ) (now : List ℕ) : Type 0 where
-  pub over : (m : Index) → IsOver m first → IsOver m t
-  pub there : IsSome (get t at)
-  pub rows : (m : Index) → IsOver m first → raised_on (rows_of first) (taken_after m (rows_of first) slot w (8 - length noted)) w ≡ raised_on (rows_of t) (taken_after m (rows_of t) at w (8 - length now)) w
-  pub taken : (m : Index) → IsOver m first → noted ++ taken_after m (rows_of first) slot w (8 - length noted) ≡ now ++ taken_after m (rows_of t) at w (8 - length now)
+pub record IsGoing (m : Index) (first : Kept) (slot : ℕ) (w : Waiter) (noted : List ℕ) (t : Kept) (at : ℕ) (now : List ℕ) : Type 0 where
+  pub over : IsOver m t
+  pub rows : raised_on (rows_of first) (taken_after m (rows_of first) slot w (8 - length noted)) w ≡ raised_on (rows_of t) (taken_after m (rows_of t) at w (8 - length now)) w
+  pub taken : noted ++ taken_after m (rows_of first) slot w (8 - length noted) ≡ now ++ taken_after m (rows_of t) at w (8 - length now)
 
-pub begins : (t : Kept) (slot : ℕ) (w : Waiter) (noted : List ℕ) → IsSome (get t slot) → IsGoing t slot w noted t slot noted
-begins t slot w noted there = record { over = λ m o. o; there = there; rows = λ m o. refl; taken = λ m o. refl }
+pub begins : (m : Index) (t : Kept) (slot : ℕ) (w : Waiter) (noted : List ℕ) → IsOver m t → IsGoing m t slot w noted t slot noted
+begins m t slot w noted over = record { over = over; rows = refl; taken = refl }
 
-module _ (first : Kept) (slot : ℕ) (w : Waiter) (noted : List ℕ) (t : Kept) (at : ℕ) (now : List ℕ) (going : IsGoing first slot w noted t at now) where
+module _ (m : Index) (first : Kept) (slot : ℕ) (w : Waiter) (noted : List ℕ) (t : Kept) (at : ℕ) (now : List ℕ) (going : IsGoing m first slot w noted t at now) where
   -- nothing is left
-  pub ends_rows : ((m : Index) → IsOver m first → taken_after m (rows_of t) at w (8 - length now) ≡ []) → (m : Index) → IsOver m first → rows_of t ≡ raised_on (rows_of first) (taken_after m (rows_of first) slot w (8 - length noted)) w
-  ends_rows none m o = sym (going.rows m o ∙ ap (λ ns. raised_on (rows_of t) ns w) (none m o))
+  pub ends_rows : taken_after m (rows_of t) at w (8 - length now) ≡ [] → rows_of t ≡ raised_on (rows_of first) (taken_after m (rows_of first) slot w (8 - length noted)) w
+  ends_rows none = sym (going.rows ∙ ap (λ ns. raised_on (rows_of t) ns w) none)
 
-  pub ends_taken : ((m : Index) → IsOver m first → taken_after m (rows_of t) at w (8 - length now) ≡ []) → (m : Index) → IsOver m first → now ≡ noted ++ taken_after m (rows_of first) slot w (8 - length noted)
-  ends_taken none m o = sym (going.taken m o ∙ ap (λ ns. now ++ ns) (none m o) ∙ append_nil now)
+  pub ends_taken : taken_after m (rows_of t) at w (8 - length now) ≡ [] → now ≡ noted ++ taken_after m (rows_of first) slot w (8 - length noted)
+  ends_taken none = sym (going.taken ∙ ap (λ ns. now ++ ns) none ∙ append_nil now)
     where
       append_nil : (xs : List ℕ) → xs ++ [] ≡ xs
       append_nil [] = refl
       append_nil (x ∷ xs) = ap (λ ys. x ∷ ys) (append_nil xs)
 
-  pub full_ends : length now ≡ 8 → (m : Index) → IsOver m first → taken_after m (rows_of t) at w (8 - length now) ≡ []
-  full_ends e m o = let zero_left : 8 - length now ≡ 0 = omega (arith, e) in ap (λ k. taken_after m (rows_of t) at w k) zero_left
+  pub full_ends : length now ≡ 8 → taken_after m (rows_of t) at w (8 - length now) ≡ []
+  full_ends e = let zero_left : 8 - length now ≡ 0 = omega (arith, e) in ap (λ k. taken_after m (rows_of t) at w k) zero_left
 
-  pub test_ends : ((m : Index) → IsOver m t → goes_on m (rows_of t) at w ≡ false) → (m : Index) → IsOver m first → taken_after m (rows_of t) at w (8 - length now) ≡ []
-  test_ends stops m o = nothing_more m (rows_of t) at w (8 - length now) (stops m (going.over m o))
+  pub test_ends : goes_on m (rows_of t) at w ≡ false → taken_after m (rows_of t) at w (8 - length now) ≡ []
+  test_ends stops = nothing_more m (rows_of t) at w (8 - length now) stops
 
   -- the next slot is taken
-  pub goes : (u : Kept) (next : ℕ) → length now < 8 → ((m : Index) → IsOver m t → slot_of m (suc at) ≡ next) → ((m : Index) → IsOver m t → goes_on m (rows_of t) at w ≡ true) → ((n : ℕ) → rows_of u n ≡ raised (rows_of t) next w n) → ((m : Index) → IsOver m t → IsOver m u) → IsSome (get u next) → IsGoing first slot w noted u next (now ++ next ∷ [])
-  goes u next room slot_is on rows over there = record {
-    over = λ m o. over m (going.over m o);
-    there = there;
-    rows = λ m o. going.rows m o ∙ ap (λ ns. raised_on (rows_of t) ns w) (step m (going.over m o)) ∙ ap (λ (r : Rows). raised_on r (taken_after m (rows_of u) next w (8 - length (now ++ next ∷ []))) w) (sym is_raised);
-    taken = λ m o. going.taken m o ∙ ap (λ ns. now ++ ns) (step m (going.over m o)) ∙ sym (append_assoc now (next ∷ []) (taken_after m (rows_of u) next w (8 - length (now ++ next ∷ []))));
+  pub goes : (u : Kept) (next : ℕ) → length now < 8 → slot_of m (suc at) ≡ next → goes_on m (rows_of t) at w ≡ true → ((n : ℕ) → rows_of u n ≡ raised (rows_of t) next w n) → IsOver m u → IsGoing m first slot w noted u next (now ++ next ∷ [])
+  goes u next room slot_is on rows over = record {
+    over = over;
+    rows = going.rows ∙ ap (λ ns. raised_on (rows_of t) ns w) step ∙ ap (λ (r : Rows). raised_on r (taken_after m (rows_of u) next w (8 - length (now ++ next ∷ []))) w) (sym is_raised);
+    taken = going.taken ∙ ap (λ ns. now ++ ns) step ∙ sym (append_assoc now (next ∷ []) (taken_after m (rows_of u) next w (8 - length (now ++ next ∷ []))));
   }
     where
       is_raised : rows_of u ≡ raised (rows_of t) next w
@@ -110,9 +99,9 @@ module _ (first : Kept) (slot : ℕ) (w : Waiter) (noted : List ℕ) (t : Kept) 
       left : 8 - length now ≡ suc (8 - length (now ++ next ∷ []))
       left = let a = longer now in omega (arith, a, room)
 
-      step : (m : Index) → IsOver m t → taken_after m (rows_of t) at w (8 - length now) ≡ next ∷ taken_after m (rows_of u) next w (8 - length (now ++ next ∷ []))
-      step m o = ap (λ k. taken_after m (rows_of t) at w k) left ∙ one_more m (rows_of t) at w (8 - length (now ++ next ∷ [])) (on m o)
-          ∙ ap (λ s. s ∷ taken_after m (raised (rows_of t) s w) s w (8 - length (now ++ next ∷ []))) (slot_is m o)
+      step : taken_after m (rows_of t) at w (8 - length now) ≡ next ∷ taken_after m (rows_of u) next w (8 - length (now ++ next ∷ []))
+      step = ap (λ k. taken_after m (rows_of t) at w k) left ∙ one_more m (rows_of t) at w (8 - length (now ++ next ∷ [])) on
+          ∙ ap (λ s. s ∷ taken_after m (raised (rows_of t) s w) s w (8 - length (now ++ next ∷ []))) slot_is
           ∙ ap (λ (r : Rows). next ∷ taken_after m r next w (8 - length (now ++ next ∷ []))) (sym is_raised)
 
 -- Tests
@@ -131,6 +120,15 @@ pub by_take : (m : Index) (rows : Rows) (n next : ℕ) (w : Waiter) (b : Bool) �
 by_take m rows n next w b near below is e = ap (λ x. x && (nat_lt (suc n) w.hi && can_take rows (slot_of m (suc n)) w)) near ∙ ap (λ x. x && can_take rows (slot_of m (suc n)) w) below ∙ ap (λ s. can_take rows s w) is ∙ e
 
 -- A grant
+
+-- one slot is noted, so seven more may be
+pub one_noted : (old new : List ℕ) (k : ℕ) → old ≡ [] → new ≡ old ++ k ∷ [] → 8 - length new ≡ 7
+one_noted old new k e f = ap (λ l. 8 - length l) (f ∙ ap (λ l. l ++ k ∷ []) e)
+
+-- the point of a number
+pub unwrapped : (o : Option ℕ) (x k : ℕ) → o ≡ Some x → IfSome o (λ p. p ≡ k) → x ≡ k
+unwrapped None x k e h = absurd (cc)
+unwrapped (Some y) x k e h = let same : y ≡ x = cc in sym same ∙ h
 
 module _ (m : Index) (rows : Rows) (n : ℕ) (w : Waiter) (front : front_of (rows n).queue ≡ Some w) where
   by_front : (P : List Waiter → Type 0) → ((ws : List Waiter) → P (w ∷ ws)) → (ws : List Waiter) → front_of ws ≡ Some w → P ws

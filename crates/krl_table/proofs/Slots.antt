@@ -1,6 +1,6 @@
--- The slots of an index, and those of the kept rows: the least at or above a point, and the first point of a slot's span.
+-- The slots of an index: the least at or above a point, and the first point of a slot's span.
 use Rattle.std.proofs.Common.{◌≡◌, ◌≢◌, ℕ, zero, suc, ◌≤◌, ◌<◌, Bool, true, false, T, List, [], ◌∷◌, Option, Some, None, ◌↔◌, refl, sym, ap, subst, ◌∙◌, ⊎_elim, arith, ◌&&◌, ◌||◌}
-use Rattle.std.proofs.Common.{nat_eq, eqb-true, ltb-true, ltb-false}
+use Rattle.std.proofs.Common.{nat_eq, eqb-true, eq-eqb, ne_eqb, ltb-true, ltb-false}
 use Rattle.std.proofs.lemmas.Bool.{cases_lt, eqb-false}
 use Rattle.std.proofs.lemmas.Bool.Decides.{nat_tests}
 use Rattle.std.specs.Prelude.{nat_lt, nat_le, is_some, IsSome, if◌then◌else◌}
@@ -10,9 +10,7 @@ use Rattle.std.specs.FinMap as map
 use Rattle.std.specs.FinMap.Entries.{find, is_sorted, below_all}
 use Rattle.krl_modes.specs.declared.point.TheConstants.{END}
 use Rattle.krl_messages.specs.Values.{Value}
-use Rattle.krl_durable.specs.Index.{Index, first_or_end, after_keys, slot_of, low_of}
-use Rattle.krl_table.specs.declared.row.SlotRow.{SlotRow}
-use Rattle.krl_table.specs.Kept.{Kept, IsRow, IsOver, IsNext}
+use Rattle.krl_durable.specs.Index.{Index, first_or_end, after_keys, slot_of, low_of, is_slot, IsSlotOf}
 
 pub no_none : {X : Type 0} (x : X) → None ≡ Some x → ⊥
 no_none x e = absurd (cc)
@@ -127,71 +125,77 @@ is_none : {X : Type 0} (o : Option X) → is_some o ≡ false → o ≡ None
 is_none None e = refl
 is_none (Some x) e = absurd (cc)
 
--- no row there: neither END nor a key
+-- neither END nor a key
 free : (b : Bool) (o : Option Value) → (b || is_some o) ≡ false → (b ≡ false) × (o ≡ None)
 free true o e = absurd (cc)
 free false o e = (refl, is_none o e)
 
+-- or END, or a key
 taken : (b : Bool) (o : Option Value) → (b || is_some o) ≡ true → b ≡ false → o ≡ None → ⊥
 taken true o e f g = absurd (cc)
 taken false None e f g = absurd (cc)
 taken false (Some v) e f g = absurd (cc)
 
-module _ (m : Index) (t : Kept) (over : IsOver m t) where
+pub slot_twice : (b : Bool) → b ≡ true → b ≡ false → ⊥
+slot_twice b e f = absurd (cc)
+
+module _ (m : Index) where
+  no_key : (k : ℕ) → is_slot m k ≡ false → (k ≢ END) × (map.get m k ≡ None)
+  no_key k e = let x = free (nat_eq k END) (map.get m k) e in (eqb-false k END x.0, x.1)
+
+  a_key : (k : ℕ) → is_slot m k ≡ true → k ≢ END → map.get m k ≡ None → ⊥
+  a_key k h ne e = taken (nat_eq k END) (map.get m k) h (end_test k ne) e
+
+  pub no_slot : (k : ℕ) → k ≢ END → map.get m k ≡ None → is_slot m k ≡ false
+  no_slot k ne e = (λ i. end_test k ne i || is_some (e i))
+
+  -- a point has one slot
+  pub slot_same : (p i j : ℕ) → IsSlotOf m p i → IsSlotOf m p j → i ≡ j
+  slot_same p i j a b = ⊎_elim
+      (λ (x : i < j). absurd (slot_twice (is_slot m i) a.slot (b.least i a.above x)))
+      (λ (x : j ≤ i). ⊎_elim (λ (y : j < i). absurd (slot_twice (is_slot m j) b.slot (a.least j b.above y))) (λ (y : i ≤ j). omega (arith, x, y)) (cases_lt j i))
+      (cases_lt i j)
+
   rising : Rises (map.entries m)
   rising = rises (map.entries m) (map.entries_sorted m)
 
-  near : (k : ℕ) → END ≤ k → find nat_cmp k (map.entries m) ≡ None
-  near k a = sym (map.get-entries m k) ∙ over.near k a
+  -- the first point of a span lies in it
+  pub low_under : (n : ℕ) → low_of m n ≤ n
+  low_under n = (low_is (map.entries m) n 0 n rising (from_zero (map.entries m))).1 (omega arith, λ k a b. absurd (omega (arith, a, b)))
 
-  no_row : (k : ℕ) → map.get t k ≡ None → (k ≢ END) × (map.get m k ≡ None)
-  no_row k e = let x = free (nat_eq k END) (map.get m k) (over.same k ∙ none_false (map.get t k) e) in (eqb-false k END x.0, x.1)
+  module _ (near : (k : ℕ) → END ≤ k → map.get m k ≡ None) where
+    far : (k : ℕ) → END ≤ k → find nat_cmp k (map.entries m) ≡ None
+    far k a = sym (map.get-entries m k) ∙ near k a
 
-  a_row : (k : ℕ) → IsSome (map.get t k) → k ≢ END → map.get m k ≡ None → ⊥
-  a_row k h ne e = taken (nat_eq k END) (map.get m k) (over.same k ∙ some_true (map.get t k) h) (end_test k ne) e
+    -- no slot lies above END
+    pub slot_end : (n : ℕ) → is_slot m n ≡ true → n ≤ END
+    slot_end n h = ⊎_elim (λ (a : END < n). absurd (a_key n h (λ e. omega (arith, e, a)) (near n (omega (arith, a))))) (λ (a : n ≤ END). a) (cases_lt END n)
 
-  -- the slot of a point
-  pub slot_is : (p n : ℕ) → p ≤ END → IsNext t p n → slot_of m p ≡ n
-  slot_is p n le next =
-      let x = first_is (map.entries m) p rising near le in
-      ⊎_elim
-      (λ (a : slot_of m p < n). absurd (let y = no_row (slot_of m p) (next.gap (slot_of m p) x.low a) in x.at y.0 (sym (map.get-entries m (slot_of m p)) ∙ y.1)))
-      (λ (a : n ≤ slot_of m p). ⊎_elim
-      (λ (b : n < slot_of m p). absurd (a_row n next.there (λ e. omega (arith, e, b, x.high)) (map.get-entries m n ∙ x.gap n next.from b)))
-      (λ (b : slot_of m p ≤ n). omega (arith, a, b)) (cases_lt n (slot_of m p)))
-      (cases_lt (slot_of m p) n)
+    -- the slot of a point is the least slot at or above it
+    pub next_of : (p : ℕ) → p ≤ END → IsSlotOf m p (slot_of m p)
+    next_of p le =
+        let x = first_is (map.entries m) p rising far le in
+        record {
+          slot = by_end (nat_eq (slot_of m p) END) (map.get m (slot_of m p)) refl
+              (λ ne none. x.at (eqb-false (slot_of m p) END ne) (sym (map.get-entries m (slot_of m p)) ∙ none));
+          above = x.low;
+          least = λ k a b. no_slot k (λ e. omega (arith, e, b, x.high)) (map.get-entries m k ∙ x.gap k a b);
+        }
+      where
+        by_end : (b : Bool) (o : Option Value) → nat_eq (slot_of m p) END ≡ b → (nat_eq (slot_of m p) END ≡ false → o ≡ None → ⊥) → (b || is_some o) ≡ true
+        by_end true o e f = refl
+        by_end false None e f = absurd (f e refl)
+        by_end false (Some v) e f = refl
 
-  -- it is the least slot at or above the point
-  pub next_of : (p : ℕ) → p ≤ END → IsNext t p (slot_of m p)
-  next_of p le =
-      let x = first_is (map.entries m) p rising near le in
-      record {
-        there = is_there (map.get t (slot_of m p)) (sym (over.same (slot_of m p)) ∙ by_end (nat_eq (slot_of m p) END) (map.get m (slot_of m p)) refl
-            (λ ne none. x.at (eqb-false (slot_of m p) END ne) (sym (map.get-entries m (slot_of m p)) ∙ none)));
-        from = x.low;
-        gap = λ k a b. is_none (map.get t k) (sym (over.same k) ∙ (λ i. end_test k (λ e. omega (arith, e, b, x.high)) i || is_some ((map.get-entries m k ∙ x.gap k a b) i)));
-      }
-    where
-      is_there : (o : Option SlotRow) → is_some o ≡ true → IsSome o
-      is_there None e = absurd (cc)
-      is_there (Some r) e = refl
+    pub slot_is : (p n : ℕ) → p ≤ END → IsSlotOf m p n → slot_of m p ≡ n
+    slot_is p n le next = slot_same p (slot_of m p) n (next_of p le) next
 
-      by_end : (b : Bool) (o : Option Value) → nat_eq (slot_of m p) END ≡ b → (nat_eq (slot_of m p) END ≡ false → o ≡ None → ⊥) → (b || is_some o) ≡ true
-      by_end true o e f = refl
-      by_end false None e f = absurd (f e refl)
-      by_end false (Some v) e f = refl
+    -- a slot is its own slot
+    pub slot_self : (n : ℕ) → is_slot m n ≡ true → slot_of m n ≡ n
+    slot_self n h = slot_is n n (slot_end n h) (record { slot = h; above = omega arith; least = λ k a b. absurd (omega (arith, a, b)) })
 
-  -- the first point of its span
-  pub low_same : (n : ℕ) (r : SlotRow) → n ≤ END → IsRow t n r → low_of m n ≡ r.low
-  low_same n r le row =
-      let x = low_is (map.entries m) n 0 r.low rising (from_zero (map.entries m)) in
-      let y = low_is (map.entries m) n 0 (low_of m n) rising (from_zero (map.entries m)) in
-      let under : low_of m n ≤ r.low = x.1 (omega arith, λ k a b. sym (map.get-entries m k) ∙ (no_row k (row.alone k a b)).1) in
-      ⊎_elim
-      (λ (a : low_of m n < r.low). absurd (by_low r.low refl (omega (arith, a)) (λ k f. let b : k < n = omega (arith, f, row.first) in
-      a_row k (row.after k f) (λ e. omega (arith, e, b, le)) (map.get-entries m k ∙ (y.0 (omega arith)).1 k (omega (arith, f, a)) b))))
-      (λ (a : r.low ≤ low_of m n). omega (arith, a, under)) (cases_lt (low_of m n) r.low)
-    where
-      by_low : (l : ℕ) → r.low ≡ l → 0 < l → ((k : ℕ) → r.low ≡ suc k → ⊥) → ⊥
-      by_low zero e h f = absurd (omega (arith, h))
-      by_low (suc k) e h f = f k e
+    -- a span begins behind each slot before it
+    pub low_past : (s n : ℕ) → is_slot m s ≡ true → s < n → n ≤ END → suc s ≤ low_of m n
+    low_past s n h lt le = ⊎_elim (λ (a : s < low_of m n). a)
+        (λ (a : low_of m n ≤ s). absurd (a_key s h (λ e. omega (arith, e, lt, le))
+        (map.get-entries m s ∙ ((low_is (map.entries m) n 0 s rising (from_zero (map.entries m))).0 a).1 s (omega arith) lt))) (cases_lt s (low_of m n))

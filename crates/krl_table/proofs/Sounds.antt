@@ -1,116 +1,106 @@
--- What holds of every table, and what keeps it.
-use Rattle.std.proofs.Common.{◌≡◌, ◌≢◌, ℕ, ◌≤◌, ◌<◌, true, false, List, Option, Some, None, IsSome, IfSome, ◌⊎◌, set, refl, sym, ap, subst, ◌∙◌, ⊎_elim, arith}
-use Rattle.std.proofs.Common.{eq-eqb, ne_eqb}
+-- What holds of every table, after one row is set.
+use Rattle.std.proofs.Common.{◌≡◌, ◌≢◌, ℕ, suc, ◌+◌, ◌≤◌, ◌<◌, Bool, true, false, List, [], ◌∷◌, Option, Some, None, IsSome, ◌⊎◌, length, set, refl, sym, ap, subst, ◌∙◌, ⊎_elim, arith}
+use Rattle.std.proofs.Common.{nat_eq, eq-eqb, ne_eqb}
 use Rattle.std.proofs.lemmas.Bool.{cases_lt}
 use Rattle.std.proofs.lemmas.List.{length-set, get_or-set_same, get_or-set_other}
 use Rattle.std.specs.Prelude.{is_some, if◌then◌else◌}
-use Rattle.std.specs.FinMap.{get, insert}
+use Rattle.std.specs.FinMap.{get}
+use Rattle.krl_modes.specs.declared.point.TheConstants.{END}
+use Rattle.krl_modes.specs.declared.mode.Mode.{Mode}
 use Rattle.krl_modes.specs.declared.mode.Mode.TheVariants as mode
 use Rattle.krl_queue.specs.declared.waiter.Waiter.{Waiter}
 use Rattle.krl_queue.specs.Waiting.{first_of}
-use Rattle.krl_durable.specs.Index.{Index}
+use Rattle.krl_durable.specs.Index.{Index, slot_of, is_slot}
 use Rattle.krl_table.specs.declared.row.SlotRow.{SlotRow}
-use Rattle.krl_table.specs.Rows.{Row, Rows, blank_row, set_row, most_clients, mode_at}
+use Rattle.krl_table.specs.Rows.{Row, Rows, blank_row, most_clients, mode_at, set_mode}
 use Rattle.krl_table.specs.Sound.{IsPlaced, IsTable}
-use Rattle.krl_table.specs.Told.{nothing}
-use Rattle.krl_table.specs.Kept.{Kept, row_of, row_there, rows_of, each, IsEach, IsNext, IsOver, IsWhole, IsSound, IsWaiter, AreBeside, AreListed, In, times, waiter_in}
-use Rattle.krl_table.proofs.Maps.{there, get-insert_other, get-insert_same}
-use Rattle.krl_table.proofs.Means.{eq_cases, Alike, AreAlike, alike_whole}
+use Rattle.krl_table.specs.Kept.{Kept, row_of, row_there, rows_of, IsSet, IsOver, IsSound, AreBeside, AreListed, In, times, waiter_in}
+use Rattle.krl_table.proofs.Means.{eq_cases}
 use Rattle.krl_table.proofs.Below.{clients_are}
-use Rattle.krl_table.proofs.Slots.{slot_is}
-use Rattle.krl_table.proofs.Alone.{alone_here, in_times, times_none}
-use Rattle.krl_table.proofs.Splits.{some_none, at_some, modes_past}
-use Rattle.krl_table.proofs.Stands.{in_to_all, first_in}
+use Rattle.krl_table.proofs.Alone.{AreAlone, alone_here, none_times, times_none, in_times}
+use Rattle.krl_table.proofs.Stands.{first_in, in_to_all}
+use Rattle.krl_table.proofs.Slots.{slot_end}
 
--- no row keeps anything of a report
-abbrev pub IsClean : Kept → Type 0
-IsClean t = (n : ℕ) (r : SlotRow) → get t n ≡ Some r → r.told ≡ nothing
-
-pub some_same : {X : Type 0} {a b : X} → Some a ≡ Some b → a ≡ b
+pub some_same : {X : Type 0} {x y : X} → Some x ≡ Some y → x ≡ y
 some_same e = cc
 
-same_row : (o : Option SlotRow) (r s : SlotRow) → o ≡ Some r → o ≡ Some s → r ≡ s
-same_row o r s e f = let both : Some r ≡ Some s = sym e ∙ f in cc
+pub some_none : {X : Type 0} (o : Option X) (x : X) → o ≡ Some x → o ≡ None → ⊥
+some_none o x e f = let clash : Some x ≡ None = sym e ∙ f in absurd (cc)
 
-pub clean_put : (t u : Kept) (k : ℕ) (F : SlotRow → SlotRow) → ((r : SlotRow) → (F r).told ≡ r.told) → IsSome (get t k) → IfSome (get t k) (λ row. u ≡ insert t k (F row)) → IsClean t → IsClean u
-clean_put t u k F keeps some e clean n r here =
-    let x = there (get t k) some in
-    let put = at_some (λ row. u ≡ insert t k (F row)) (get t k) x.0 x.1 e in
-    eq_cases n k
-    (λ f. let is : r ≡ F x.0 = same_row (get u n) r (F x.0) here (ap (get u) f ∙ ap (λ y. get y k) put ∙ get-insert_same t k (F x.0)) in ap (λ y. y.told) is ∙ keeps x.0 ∙ clean k x.0 x.1)
-    (λ ne. clean n r (sym (ap (λ y. get y n) put ∙ get-insert_other t k n (λ f. ne (sym f)) (F x.0)) ∙ here))
-
-pub clean_each : (f : ℕ → SlotRow → SlotRow) (t u : Kept) → ((n : ℕ) (r : SlotRow) → get t n ≡ Some r → (f n r).told ≡ nothing) → IsEach f t u → IsClean u
-clean_each f t u keeps e n r here = by_there (get t n) refl (sym (e n) ∙ here)
+-- where somebody waits there is a row
+pub has_row : (t : Kept) (n : ℕ) (u : Waiter) → In u (rows_of t n).queue → IsSome (get t n)
+has_row t n u at = by_row (get t n) at
   where
-    by_there : (o : Option SlotRow) → get t n ≡ o → each f n o ≡ Some r → r.told ≡ nothing
-    by_there None g h = absurd (cc)
-    by_there (Some x) g h = let is : f n x ≡ r = cc in ap (λ y. y.told) (sym is) ∙ keeps n x g
+    by_row : (o : Option SlotRow) → In u (row_there o).queue → IsSome o
+    by_row None h = absurd h
+    by_row (Some r) h = refl
 
--- what holds of a row and its change holds of the rows
-pub each_rows : (f : ℕ → SlotRow → SlotRow) (t u : Kept) → IsEach f t u → (Q : ℕ → Row → Row → Type 0) → ((n : ℕ) → Q n blank_row blank_row) → ((n : ℕ) (r : SlotRow) → get t n ≡ Some r → Q n (row_of r) (row_of (f n r))) → (n : ℕ) → Q n (rows_of t n) (rows_of u n)
-each_rows f t u e Q blank some n = subst (λ o. Q n (rows_of t n) (row_there o)) (sym (e n)) (by_there (get t n) refl)
+-- where somebody holds something, too
+pub held_row : (t : Kept) (n c : ℕ) → (mode_at (rows_of t) n c ≡ mode.N → ⊥) → IsSome (get t n)
+held_row t n c h = by_row (get t n) h
   where
-    by_there : (o : Option SlotRow) → get t n ≡ o → Q n (row_there (get t n)) (row_there (each f n o))
-    by_there None g = subst (λ o. Q n (row_there o) blank_row) (sym g) (blank n)
-    by_there (Some r) g = subst (λ o. Q n (row_there o) (row_of (f n r))) (sym g) (some n r g)
+    by_row : (o : Option SlotRow) → ((row_there o).modes c ≡ mode.N → ⊥) → IsSome o
+    by_row None h = absurd (h refl)
+    by_row (Some r) h = refl
 
--- one row is another
-pub one_here : (old new : Rows) (k : ℕ) (row : Row) → ((n : ℕ) → new n ≡ set_row old k row n) → new k ≡ row
-one_here old new k row e = e k ∙ ap (λ b. if b then row else old k) (eq-eqb k k refl)
+-- a row that is kept stands at END or below
+pub row_end : (t : Kept) → IsSound t → (n : ℕ) → IsSome (get t n) → n ≤ END
+row_end t s n h = ⊎_elim (λ (a : END < n). absurd (let none = s.near n a in let clash = subst IsSome none h in cc)) (λ (a : n ≤ END). a) (cases_lt END n)
 
-pub one_other : (old new : Rows) (k : ℕ) (row : Row) → ((n : ℕ) → new n ≡ set_row old k row n) → (n : ℕ) → n ≢ k → new n ≡ old n
-one_other old new k row e n ne = e n ∙ ap (λ b. if b then row else old n) (ne_eqb n k ne)
+-- no mode but a client's
+abbrev pub NoStrangers : Row → Type 0
+NoStrangers row = (c : ℕ) → 64 ≤ c → row.modes c ≡ mode.N
 
-pub strangers : (t : Kept) → IsWhole t → (n c : ℕ) → most_clients ≤ c → mode_at (rows_of t) n c ≡ mode.N
-strangers t w n c le = by_there (get t n) refl
-  where
-    by_there : (o : Option SlotRow) → get t n ≡ o → (row_there o).modes c ≡ mode.N
-    by_there None e = refl
-    by_there (Some r) e = modes_past r.modes c (let full = (w.rows n r e).full in let many = clients_are in omega (arith, le, full, many))
+pub set_strangers : (modes : ℕ → Mode) (c : ℕ) (g : Mode) → c < 64 → ((d : ℕ) → 64 ≤ d → modes d ≡ mode.N) → (d : ℕ) → 64 ≤ d → set_mode modes c g d ≡ mode.N
+set_strangers modes c g lt h d le = ap (λ b. if b then g else modes d) (ne_eqb d c (λ e. omega (arith, e, le, lt))) ∙ h d le
 
--- a point has one slot
-pub next_same : (t : Kept) (p i j : ℕ) → IsNext t p i → IsNext t p j → i ≡ j
-next_same t p i j a b = ⊎_elim
-    (λ (x : i < j). absurd (there_not (get t i) a.there (b.gap i a.from x)))
-    (λ (x : j ≤ i). ⊎_elim (λ (y : j < i). absurd (there_not (get t j) b.there (a.gap j b.from y))) (λ (y : i ≤ j). omega (arith, x, y)) (cases_lt j i))
-    (cases_lt i j)
-  where
-    there_not : (o : Option SlotRow) → IsSome o → o ≡ None → ⊥
-    there_not None h e = absurd (cc)
-    there_not (Some r) h e = absurd (cc)
+module _ (t u : Kept) (k : ℕ) (row : Row) (s : IsSet t u k row) where
+  pub other_row : (n : ℕ) → n ≢ k → rows_of u n ≡ rows_of t n
+  other_row n ne = ap row_there (s.others n ne)
 
--- where the slots are the same, the slot of a point is the same
-module _ (t u : Kept) (alike : AreAlike t u) where
-  none_alike : (o p : Option SlotRow) → Alike o p → o ≡ None → p ≡ None
-  none_alike None None h e = refl
-  none_alike None (Some s) h e = absurd h
-  none_alike (Some r) p h e = absurd (cc)
+  -- what holds of the row that is set, and of the others
+  pub by_slot : (P : Row → Type 0) → P row → ((n : ℕ) → P (rows_of t n)) → (n : ℕ) → P (rows_of u n)
+  by_slot P here rest n = eq_cases n k
+      (λ e. subst (λ j. P (rows_of u j)) (sym e) (subst P (sym s.here) here))
+      (λ ne. subst P (sym (other_row n ne)) (rest n))
 
-  there_alike : (o p : Option SlotRow) → Alike o p → IsSome o → IsSome p
-  there_alike None p h e = absurd (cc)
-  there_alike (Some r) None h e = absurd h
-  there_alike (Some r) (Some s) h e = refl
-
-  pub next_alike : (p n : ℕ) → IsNext t p n → IsNext u p n
-  next_alike p n x = record {
-    there = there_alike (get t n) (get u n) (alike n) x.there;
-    from = x.from;
-    gap = λ k a b. none_alike (get t k) (get u k) (alike k) (x.gap k a b);
+  pub set_sound : IsSound t → k ≤ END → NoStrangers row → AreBeside row.modes → ((v : Waiter) → In v row.queue → v.client < 64) → ((c : ℕ) → AreAlone (λ n. times c (rows_of u n).queue)) → IsSound u
+  set_sound sound le strangers beside clients alone = record {
+    near = λ n lt. s.others n (λ e. omega (arith, e, lt, le)) ∙ sound.near n lt;
+    used = λ n r e. eq_cases n k (λ g. s.used r (ap (get u) (sym g) ∙ e)) (λ ne. sound.used n r (sym (s.others n ne) ∙ e));
+    strangers = λ n. by_slot NoStrangers strangers (λ j. sound.strangers j) n;
+    beside = λ n. by_slot (λ r. AreBeside r.modes) beside (λ j. sound.beside j) n;
+    clients = λ n. by_slot (λ r. (v : Waiter) → In v r.queue → v.client < 64) clients (λ j. sound.clients j) n;
+    alone = alone;
   }
 
-  pub waiter_alike : (n : ℕ) (v : Waiter) → IsWaiter t n v → IsWaiter u n v
-  waiter_alike n v x = record { client = x.client; point = x.point; slot = next_alike v.point n x.slot }
+  -- and its queue stays
+  module _ (queue : row.queue ≡ (rows_of t k).queue) where
+    pub same_queue : (n : ℕ) → (rows_of u n).queue ≡ (rows_of t n).queue
+    same_queue n = eq_cases n k
+        (λ e. subst (λ j. (rows_of u j).queue ≡ (rows_of t j).queue) (sym e) (ap (λ (r : Row). r.queue) s.here ∙ queue))
+        (λ ne. ap (λ (r : Row). r.queue) (other_row n ne))
 
-  -- with the same queues
-  pub queues_sound : IsSound t → IsClean u → ((n : ℕ) → (rows_of u n).queue ≡ (rows_of t n).queue) → ((n : ℕ) → AreBeside (rows_of u n).modes) → IsSound u
-  queues_sound s clean queue beside = record {
-    whole = alike_whole t u alike s.whole;
-    clean = clean;
-    beside = beside;
-    placed = λ n v at. waiter_alike n v (s.placed n v (subst (In v) (queue n) at));
-    alone = λ c i j ne. let x = s.alone c i j ne in let a = ap (times c) (queue i) in let b = ap (times c) (queue j) in omega (arith, x, a, b);
+    pub modes_sound : IsSound t → k ≤ END → NoStrangers row → AreBeside row.modes → IsSound u
+    modes_sound sound le strangers beside = set_sound sound le strangers beside
+        (λ v at. sound.clients k v (subst (In v) queue at))
+        (λ c i j ne. let x = sound.alone c i j ne in let a = ap (times c) (same_queue i) in let b = ap (times c) (same_queue j) in omega (arith, x, a, b))
+
+  -- over the same index, where nobody new waits
+  pub set_over : (m : Index) → IsOver m t → is_slot m k ≡ true → ((v : Waiter) → In v row.queue → (v.point ≤ END) × (slot_of m v.point ≡ k)) → IsOver m u
+  set_over m over slot placed = record {
+    near = over.near;
+    within = λ n h. eq_cases n k (λ e. ap (is_slot m) e ∙ slot) (λ ne. over.within n (subst IsSome (s.others n ne) h));
+    points = λ n v at. eq_cases n k
+        (λ e. (placed v (subst (λ (r : Row). In v r.queue) s.here (subst (λ j. In v (rows_of u j).queue) e at))).0)
+        (λ ne. over.points n v (subst (λ (r : Row). In v r.queue) (other_row n ne) at));
+    placed = λ n v at. eq_cases n k
+        (λ e. (placed v (subst (λ (r : Row). In v r.queue) s.here (subst (λ j. In v (rows_of u j).queue) e at))).1 ∙ sym e)
+        (λ ne. over.placed n v (subst (λ (r : Row). In v r.queue) (other_row n ne) at));
   }
+
+  pub fewer_over : (m : Index) → IsOver m t → is_slot m k ≡ true → ((v : Waiter) → In v row.queue → In v (rows_of t k).queue) → IsOver m u
+  fewer_over m over slot fewer = set_over m over slot (λ v at. (over.points k v (fewer v at), over.placed k v (fewer v at)))
 
 -- Who waits, by client
 
@@ -162,17 +152,17 @@ one_queue t s i j u v a b e = eq_cases i j (λ f. f)
 
 pub sound_table : (m : Index) (t : Kept) → IsOver m t → IsSound t → IsTable m (rows_of t)
 sound_table m t over s = record {
-  blank = λ n e. no_row (get t n) (sym (over.same n) ∙ e);
-  strangers = strangers t s.whole;
-  beside = s.beside;
-  placed = λ n. in_to_all (IsPlaced m n) (rows_of t n).queue (λ u at. let x = s.placed n u at in (let many = clients_are in let lt = x.client in omega (arith, lt, many), x.point, slot_is m t over u.point n x.point x.slot));
+  blank = λ n e. no_row n (get t n) refl e;
+  strangers = λ n c le. s.strangers n c (let many = clients_are in omega (arith, le, many));
+  beside = λ n. s.beside n;
+  placed = λ n. in_to_all (IsPlaced m n) (rows_of t n).queue (λ u at. let x = s.clients n u at in (let many = clients_are in omega (arith, x, many), over.points n u at, over.placed n u at));
   once = λ n c. alone_here (λ i. times c (rows_of t i).queue) (s.alone c) n;
   nowhere_else = λ n k c ne e. times_none c (rows_of t k).queue (none_there c n k ne (first_of c (rows_of t n).queue) refl e);
 }
   where
-    no_row : (o : Option SlotRow) → is_some o ≡ false → row_there o ≡ blank_row
-    no_row None e = refl
-    no_row (Some r) e = absurd (cc)
+    no_row : (n : ℕ) (o : Option SlotRow) → get t n ≡ o → is_slot m n ≡ false → row_there (get t n) ≡ blank_row
+    no_row n None f e = ap row_there f
+    no_row n (Some r) f e = absurd (let here = over.within n (subst IsSome (sym f) refl) in let bad : true ≡ false = sym here ∙ e in cc)
 
     none_there : (c n k : ℕ) → n ≢ k → (o : Option Waiter) → first_of c (rows_of t n).queue ≡ o → is_some o ≡ true → times c (rows_of t k).queue ≡ 0
     none_there c n k ne None e f = absurd (cc)

@@ -1,186 +1,228 @@
 -- A slot is parted in two.
-use Rattle.std.proofs.Common.{◌≡◌, ◌≢◌, ℕ, zero, suc, ◌≤◌, ◌<◌, Bool, true, false, ◌||◌, List, [], ◌∷◌, ◌++◌, Option, Some, None, IsSome, IfSome, length, refl, sym, ap, subst, ◌∙◌, ⊎_elim, arith}
-use Rattle.std.proofs.Common.{nat_eq, eq-eqb, ne_eqb}
+use Rattle.std.proofs.Common.{◌≡◌, ◌≢◌, ℕ, suc, ◌+◌, ◌≤◌, ◌<◌, Bool, true, false, ◌||◌, List, [], ◌∷◌, ◌++◌, Option, Some, None, IsSome, ◌⊎◌, inl, inr, refl, sym, ap, subst, ◌∙◌, ⊎_elim, arith}
+use Rattle.std.proofs.Common.{nat_eq, eq-eqb, ne_eqb, ltb-true, ltb-false}
 use Rattle.std.proofs.lemmas.Bool.{cases_lt}
-use Rattle.std.proofs.lemmas.List.{append-nil}
-use Rattle.std.proofs.Math.Path.{fun_ext}
-use Rattle.std.specs.Prelude.{is_some, if◌then◌else◌}
+use Rattle.std.proofs.lemmas.Bool.Decides.{nat_tests}
+use Rattle.std.specs.Prelude.{is_some, nat_le, nat_lt, if◌then◌else◌}
 use Rattle.std.specs.FinMap.{get, insert}
 use Rattle.krl_modes.specs.declared.point.TheConstants.{END}
-use Rattle.krl_modes.specs.declared.mode.Mode.{Mode}
 use Rattle.krl_modes.specs.declared.mode.Mode.TheVariants as mode
-use Rattle.krl_modes.specs.Modes.{range_of}
+use Rattle.krl_modes.specs.declared.part.RangePart.TheVariants as range
+use Rattle.krl_modes.specs.declared.part.KeyPart.TheVariants as key
+use Rattle.krl_modes.specs.Parts.{lets_insert}
+use Rattle.krl_modes.specs.Modes.{range_of, key_of, compatible, at_or_above}
 use Rattle.krl_messages.specs.Values.{Value}
 use Rattle.krl_queue.specs.declared.waiter.Waiter.{Waiter}
 use Rattle.krl_queue.specs.Waiting.{up_to, beyond}
-use Rattle.krl_durable.specs.Index.{Index}
+use Rattle.krl_durable.specs.Index.{Index, slot_of, is_slot, IsSlotOf}
 use Rattle.krl_table.specs.declared.row.SlotRow.{SlotRow}
-use Rattle.krl_table.specs.Rows.{set_row}
-use Rattle.krl_table.specs.Calls.{split_modes, mode_beside, split, split_at}
-use Rattle.krl_table.specs.Kept.{Kept, mode_of, row_of, row_there, rows_of, IsRow, IsWhole, IsOver, IsNext, IsParted}
-use Rattle.krl_table.proofs.Maps.{there, get-insert_other, get-insert_same}
-use Rattle.krl_table.proofs.Means.{eq_cases}
-use Rattle.krl_table.proofs.Slots.{slot_is}
-use Rattle.krl_table.proofs.Changes.{slot_under}
+use Rattle.krl_table.specs.Rows.{Row, Rows, blank_row, set_row, mode_at}
+use Rattle.krl_table.specs.Calls.{with_queue, split_modes, mode_beside, split, split_at}
+use Rattle.krl_table.specs.Points.{key_off_slot, range_at, key_at}
+use Rattle.krl_table.specs.Kept.{Kept, row_of, row_there, rows_of, AreSet, IsOver, IsSound, AreBeside, AreListed, In, times}
+use Rattle.krl_table.proofs.Means.{eq_cases, both_rows, by_two, insert_at, insert_past}
+use Rattle.krl_table.proofs.Alone.{AreAlone, alone_moved, times_parted}
+use Rattle.krl_table.proofs.Besides.{split_beside}
+use Rattle.krl_table.proofs.Stands.{in_filter, filter_in}
+use Rattle.krl_table.proofs.Slots.{no_slot, next_of, slot_is, slot_end, slot_twice}
+use Rattle.krl_table.proofs.Parts.{same_range, other_key, writer_key}
+use Rattle.krl_table.proofs.Sounds.{NoStrangers, listed_moved}
 
--- past its end a list of modes gives N
-pub modes_past : (modes : List Mode) (d : ℕ) → length modes ≤ d → mode_of modes d ≡ mode.N
-modes_past [] d le = refl
-modes_past (x ∷ xs) zero le = absurd (omega (arith, le))
-modes_past (x ∷ xs) (suc d) le = modes_past xs d (omega (arith, le))
+up_to_is : (p k : ℕ) → nat_le p k ≡ true → p ≤ k
+up_to_is p k e = grind (arith, nat_tests)
 
-pub some_none : {X : Type 0} (o : Option X) (x : X) → o ≡ Some x → o ≡ None → ⊥
-some_none o x e f = let clash : Some x ≡ None = sym e ∙ f in absurd (cc)
+beyond_is : (p k : ℕ) → nat_lt k p ≡ true → k < p
+beyond_is p k e = grind (arith, nat_tests)
 
-pub at_some : {X : Type 0} (P : X → Type 0) (o : Option X) (x : X) → o ≡ Some x → IfSome o P → P x
-at_some {X = X} P o x e h = subst (λ (y : Option X). IfSome y P) e h
+is_up_to : (p k : ℕ) → p ≤ k → nat_le p k ≡ true
+is_up_to p k le = grind (arith, nat_tests)
 
-split_all : (old new : List Mode) (c : ℕ) → c < 64 → length old ≡ 64 → length new ≡ 64 → ((d : ℕ) → d < 64 → mode_of new d ≡ split_modes (mode_of old) c d) → (d : ℕ) → mode_of new d ≡ split_modes (mode_of old) c d
-split_all old new c client full full_new is d = ⊎_elim (λ (a : d < 64). is d a)
-    (λ (a : 64 ≤ d). modes_past new d (omega (arith, a, full_new)) ∙ sym (ap (λ b. if b then Rattle.krl_modes.specs.Modes.at_or_above (range_of (mode_of old c)) Rattle.krl_modes.specs.declared.part.KeyPart.TheVariants.X else mode_beside (range_of (mode_of old d))) (ne_eqb d c (λ e. omega (arith, e, a, client)))
-    ∙ ap (λ x. mode_beside (range_of x)) (modes_past old d (omega (arith, a, full))))) (cases_lt d 64)
+is_beyond : (p k : ℕ) → k < p → nat_lt k p ≡ true
+is_beyond p k lt = grind (arith, nat_tests)
 
--- The steps: a new row at k, the waiters up to k out of the old one, into the new one, and the old one's low point.
-module _ (t : Kept) (k s : ℕ) (r x : SlotRow) (here : get t s ≡ Some r) (free : get t k ≡ None) where
-  apart : s ≢ k
-  apart e = some_none (get t s) r here (ap (get t) e ∙ free)
+or_yes : (b : Bool) → (b || true) ≡ true
+or_yes true = refl
+or_yes false = refl
 
-  module _ (made : Kept) (is_made : made ≡ insert t k x) where
-    pub still : get made s ≡ Some r
-    still = ap (λ y. get y s) is_made ∙ get-insert_other t k s (λ e. apart (sym e)) x ∙ here
+-- a slot k is new, below the slot s
+module _ (m : Index) (k s : ℕ) (v : Value) (near : (n : ℕ) → END ≤ n → get m n ≡ None) (far : k < END) (free : get m k ≡ None) (at : IsSlotOf m k s) where
+  abbrev more : Index
+  more = insert m k v
 
-    module _ (parted : Kept) (is_parted : IfSome (get made s) (λ row. parted ≡ insert made s (record row { queue = beyond k row.queue }))) where
-      abbrev kept : SlotRow
-      kept = record r { queue = beyond k r.queue }
+  pub none_yet : is_slot m k ≡ false
+  none_yet = no_slot m k (λ e. omega (arith, e, far)) free
 
-      parted_is : parted ≡ insert made s kept
-      parted_is = at_some (λ (row : SlotRow). parted ≡ insert made s (record row { queue = beyond k row.queue })) (get made s) r still is_parted
+  pub apart : k ≢ s
+  apart e = slot_twice (is_slot m k) (ap (is_slot m) e ∙ at.slot) none_yet
 
-      pub fresh : get parted k ≡ Some x
-      fresh = ap (λ y. get y k) parted_is ∙ get-insert_other made s k apart kept ∙ ap (λ y. get y k) is_made ∙ get-insert_same t k x
+  pub under : k < s
+  under = let a = at.above in let ne = apart in omega (arith, a, ne)
 
-      module _ (waiting : List Waiter) (given : Kept) (is_given : IfSome (get parted k) (λ row. given ≡ insert parted k (record row { queue = waiting ++ row.queue }))) where
-        abbrev filled : SlotRow
-        filled = record x { queue = waiting ++ x.queue }
+  pub new_slot : is_slot more k ≡ true
+  new_slot = ap (λ (o : Option Value). nat_eq k END || is_some o) (insert_at m k v) ∙ or_yes (nat_eq k END)
 
-        given_is : given ≡ insert parted k filled
-        given_is = at_some (λ (row : SlotRow). given ≡ insert parted k (record row { queue = waiting ++ row.queue })) (get parted k) x fresh is_given
+  pub other_slot : (n : ℕ) → n ≢ k → is_slot more n ≡ is_slot m n
+  other_slot n ne = ap (λ (o : Option Value). nat_eq n END || is_some o) (insert_past m k v n ne)
 
-        pub last_there : get given s ≡ Some kept
-        last_there = ap (λ y. get y s) given_is ∙ get-insert_other parted k s (λ e. apart (sym e)) filled ∙ ap (λ y. get y s) parted_is ∙ get-insert_same made s kept
+  pub more_near : (n : ℕ) → END ≤ n → get more n ≡ None
+  more_near n le = insert_past m k v n (λ e. omega (arith, e, le, far)) ∙ near n le
 
-        module _ (end : Kept) (low : ℕ) (low_is : low ≡ suc k) (is_end : IfSome (get given s) (λ row. end ≡ insert given s (record row { low = low }))) (taken : waiting ≡ up_to k r.queue) where
-          abbrev raised : SlotRow
-          raised = record r { queue = beyond k r.queue; low = low }
+  -- a point's slot stays, where it is not s
+  pub slot_stays : (p n : ℕ) → n ≢ s → IsSlotOf m p n → IsSlotOf more p n
+  slot_stays p n ns x = record {
+    slot = other_slot n (λ e. slot_twice (is_slot m n) x.slot (ap (is_slot m) e ∙ none_yet)) ∙ x.slot;
+    above = x.above;
+    least = λ j a b. other_slot j (λ e. not_inside (omega (arith, e, a)) (omega (arith, e, b))) ∙ x.least j a b;
+  }
+    where
+      -- no other span has k in it
+      not_inside : p ≤ k → k < n → ⊥
+      not_inside a b = ⊎_elim
+          (λ (d : n < s). slot_twice (is_slot m n) x.slot (at.least n (omega (arith, b)) d))
+          (λ (d : s ≤ n). slot_twice (is_slot m s) at.slot (x.least s (let c = under in omega (arith, a, c)) (omega (arith, d, ns)))) (cases_lt n s)
 
-          end_is : end ≡ insert given s raised
-          end_is = at_some (λ (row : SlotRow). end ≡ insert given s (record row { low = low })) (get given s) kept last_there is_end
+  -- behind k it stays, too
+  pub slot_beyond : (p : ℕ) → k < p → IsSlotOf m p s → IsSlotOf more p s
+  slot_beyond p lt x = record {
+    slot = other_slot s (λ e. apart (sym e)) ∙ x.slot;
+    above = x.above;
+    least = λ j a b. other_slot j (λ e. omega (arith, e, a, lt)) ∙ x.least j a b;
+  }
 
-          pub all_parted : IsParted t end k s r x
-          all_parted = record {
-            old = ap (λ y. get y s) end_is ∙ get-insert_same given s raised ∙ ap (λ l. Some (record r { queue = beyond k r.queue; low = l })) low_is;
-            new = ap (λ y. get y k) end_is ∙ get-insert_other given s k apart raised ∙ ap (λ y. get y k) given_is ∙ get-insert_same parted k filled ∙ ap (λ q. Some (record x { queue = q ++ x.queue })) taken;
-            others = λ n ne nk. ap (λ y. get y n) end_is ∙ get-insert_other given s n (λ e. ne (sym e)) raised ∙ ap (λ y. get y n) given_is ∙ get-insert_other parted k n (λ e. nk (sym e)) filled
-                ∙ ap (λ y. get y n) parted_is ∙ get-insert_other made s n (λ e. ne (sym e)) kept ∙ ap (λ y. get y n) is_made ∙ get-insert_other t k n (λ e. nk (sym e)) x;
-          }
+  -- up to k it is k
+  pub slot_new : (p : ℕ) → p ≤ k → IsSlotOf m p s → IsSlotOf more p k
+  slot_new p le x = record {
+    slot = new_slot;
+    above = le;
+    least = λ j a b. other_slot j (λ e. omega (arith, e, b)) ∙ x.least j a (let c = under in omega (arith, b, c));
+  }
 
--- What they make together.
-module _ (t end : Kept) (k s : ℕ) (r x : SlotRow) (here : get t s ≡ Some r) (free : get t k ≡ None) (parted : IsParted t end k s r x) where
-  pub not_both : s ≢ k
-  not_both e = some_none (get t s) r here (ap (get t) e ∙ free)
+  module _ (t u : Kept) (c : ℕ) (over : IsOver m t) (sound : IsSound t) (client : c < 64) (may : lets_insert (range_of (mode_at (rows_of t) s c)) ≡ true)
+      (set : AreSet t u k (record { modes = split_modes (rows_of t s).modes c; queue = up_to k (rows_of t s).queue }) s (with_queue (rows_of t s) (beyond k (rows_of t s).queue))) where
+    abbrev new : Row
+    new = record { modes = split_modes (rows_of t s).modes c; queue = up_to k (rows_of t s).queue }
 
-  abbrev old : SlotRow
-  old = record r { queue = beyond k r.queue; low = suc k }
+    abbrev old : Row
+    old = with_queue (rows_of t s) (beyond k (rows_of t s).queue)
 
-  abbrev new : SlotRow
-  new = record x { queue = up_to k r.queue ++ x.queue }
-
-  pub split_rows : (n : ℕ) → rows_of end n ≡ set_row (set_row (rows_of t) s (row_of old)) k (row_of new) n
-  split_rows n = eq_cases n k
-      (λ e. ap (λ y. row_there (get end y)) e ∙ ap row_there parted.new ∙ sym (ap (λ b. if b then row_of new else set_row (rows_of t) s (row_of old) n) (eq-eqb n k e)))
-      (λ nk. eq_cases n s
-      (λ e. ap (λ y. row_there (get end y)) e ∙ ap row_there parted.old ∙ sym (ap (λ b. if b then row_of new else set_row (rows_of t) s (row_of old) n) (ne_eqb n k nk) ∙ ap (λ b. if b then row_of old else rows_of t n) (eq-eqb n s e)))
-      (λ ns. ap row_there (parted.others n ns nk) ∙ sym (ap (λ b. if b then row_of new else set_row (rows_of t) s (row_of old) n) (ne_eqb n k nk) ∙ ap (λ b. if b then row_of old else rows_of t n) (ne_eqb n s ns))))
-
-  -- what is there stays
-  pub some_stays : (n : ℕ) → IsSome (get t n) → IsSome (get end n)
-  some_stays n h = eq_cases n s (λ e. subst (λ y. IsSome (get end y)) (sym e) (subst IsSome (sym parted.old) refl))
-      (λ ns. eq_cases n k (λ e. subst (λ y. IsSome (get end y)) (sym e) (subst IsSome (sym parted.new) refl)) (λ nk. subst IsSome (sym (parted.others n ns nk)) h))
-
-  -- what is not there stays away, but at k
-  pub none_stays : (n : ℕ) → n ≢ k → get t n ≡ None → get end n ≡ None
-  none_stays n nk e = parted.others n (λ f. some_none (get t s) r here (ap (get t) (sym f) ∙ e)) nk ∙ e
-
-  module _ (w : IsWhole t) (next : IsNext t k s) (new_low : x.low ≡ r.low) (new_full : length x.modes ≡ 64) where
-    row : IsRow t s r
-    row = w.rows s r here
-
-    pub under : k < s
-    under = omega (arith, next.from, λ (e : s ≡ k). not_both e)
-
-    low_under : r.low ≤ k
-    low_under = ⊎_elim (λ (a : k < r.low). absurd (by_low r.low refl a)) (λ (a : r.low ≤ k). a) (cases_lt k r.low)
+    no_row : rows_of t k ≡ blank_row
+    no_row = by_row (get t k) refl
       where
-        by_low : (l : ℕ) → r.low ≡ l → k < l → ⊥
-        by_low zero e a = omega (arith, a)
-        by_low (suc j) e a = let h = row.after j e in let y = there (get t j) h in some_none (get t j) y.0 y.1 (next.gap j (omega (arith, a)) (omega (arith, e, row.first)))
+        by_row : (o : Option SlotRow) → get t k ≡ o → row_there (get t k) ≡ blank_row
+        by_row None e = ap row_there e
+        by_row (Some r) e = absurd (slot_twice (is_slot m k) (over.within k (subst IsSome (sym e) refl)) none_yet)
 
-    pub split_whole : IsWhole end
-    split_whole = record {
-      last = some_stays END w.last;
-      near = λ n lt. none_stays n (λ e. omega (arith, e, lt, under, slot_under t w s next.there)) (w.near n lt);
-      rows = λ n y e. eq_cases n s
-          (λ f. let same : y ≡ old = let both : Some y ≡ Some old = sym e ∙ ap (get end) f ∙ parted.old in cc in subst (IsRow end n) (sym same) (subst (λ v. IsRow end v old) (sym f) record {
-            full = row.full;
-            first = omega (arith, under);
-            alone = λ j a b. none_stays j (λ g. omega (arith, g, a)) (next.gap j (omega (arith, a)) b);
-            after = λ j g. let same_k : k ≡ j = omega (arith, g) in subst (λ v. IsSome (get end v)) same_k (subst IsSome (sym parted.new) refl);
-          }))
-          (λ ns. eq_cases n k
-          (λ f. let same : y ≡ new = let both : Some y ≡ Some new = sym e ∙ ap (get end) f ∙ parted.new in cc in subst (IsRow end n) (sym same) (subst (λ v. IsRow end v new) (sym f) record {
-            full = new_full;
-            first = omega (arith, new_low, low_under);
-            alone = λ j a b. none_stays j (λ g. omega (arith, g, b)) (row.alone j (omega (arith, a, new_low)) (omega (arith, b, under)));
-            after = λ j g. some_stays j (row.after j (sym new_low ∙ g));
-          }))
-          (λ nk. let was : get t n ≡ Some y = sym (parted.others n ns nk) ∙ e in let its = w.rows n y was in record {
-            full = its.full;
-            first = its.first;
-            alone = λ j a b. none_stays j (λ g. not_inside n y was its ns nk (omega (arith, a, g)) (omega (arith, b, g))) (its.alone j a b);
-            after = λ j g. some_stays j (its.after j g);
-          }));
+    pub split_rows : (n : ℕ) → rows_of u n ≡ split m (rows_of t) k c n
+    split_rows n = both_rows t u k new s old apart set n ∙ ap (λ y. split_at (rows_of t) y k c n) (sym (slot_is m near k s (omega (arith, far)) at))
+
+    -- in whose queue it stood
+    came : (n : ℕ) (w : Waiter) → In w (rows_of u n).queue → (j : ℕ) × In w (rows_of t j).queue
+    came n w = eq_cases n k
+        (λ e x. (s, (in_filter (λ w. nat_le w.point k) (rows_of t s).queue w (subst (λ (r : Row). In w r.queue) (ap (rows_of u) e ∙ set.first) x)).0))
+        (λ nk. eq_cases n s
+        (λ e x. (s, (in_filter (λ w. nat_lt k w.point) (rows_of t s).queue w (subst (λ (r : Row). In w r.queue) (ap (rows_of u) e ∙ set.second) x)).0))
+        (λ ns x. (n, subst (λ (r : Row). In w r.queue) (ap row_there (set.others n nk ns)) x)))
+
+    -- in whose queue it stands now
+    goes : (n : ℕ) (w : Waiter) → In w (rows_of t n).queue → (j : ℕ) × In w (rows_of u j).queue
+    goes n w = eq_cases n k
+        (λ e x. absurd (subst (λ (r : Row). In w r.queue) (ap (rows_of t) e ∙ no_row) x))
+        (λ nk. eq_cases n s
+        (λ e x. let here = subst (λ (j : ℕ). In w (rows_of t j).queue) e x in ⊎_elim
+        (λ (lt : k < w.point). (let z : (i : ℕ) × In w (rows_of u i).queue = (s, subst (λ (r : Row). In w r.queue) (sym set.second) (filter_in (λ w. nat_lt k w.point) (rows_of t s).queue w here (is_beyond w.point k lt))) in z))
+        (λ (le : w.point ≤ k). (let z : (i : ℕ) × In w (rows_of u i).queue = (k, subst (λ (r : Row). In w r.queue) (sym set.first) (filter_in (λ w. nat_le w.point k) (rows_of t s).queue w here (is_up_to w.point k le))) in z))
+        (cases_lt k w.point))
+        (λ ns x. (n, subst (λ (r : Row). In w r.queue) (sym (ap row_there (set.others n nk ns))) x)))
+
+    pub split_listed : (waiting : List (Option Waiter)) → AreListed waiting t → AreListed waiting u
+    split_listed waiting = listed_moved waiting t u came goes
+
+    new_strangers : NoStrangers new
+    new_strangers d le = ap (λ b. if b then at_or_above (range_of (mode_at (rows_of t) s c)) key.X else mode_beside (range_of (mode_at (rows_of t) s d))) (ne_eqb d c (λ e. omega (arith, e, le, client)))
+        ∙ ap (λ x. mode_beside (range_of x)) (sound.strangers s d le)
+
+    is_alone : (d : ℕ) → AreAlone (λ n. times d (rows_of u n).queue)
+    is_alone d = alone_moved (λ n. times d (rows_of t n).queue) (λ n. times d (rows_of u n).queue) s k (λ e. apart (sym e)) (sound.alone d)
+        (let a = ap (λ (r : Row). times d r.queue) set.second in let b = ap (λ (r : Row). times d r.queue) set.first in let f = times_parted d k (rows_of t s).queue in omega (arith, a, b, f))
+        (λ j ns nk. let a = ap (λ (r : Row). times d r.queue) (ap row_there (set.others j nk ns)) in omega (arith, a))
+
+    pub split_sound : IsSound u
+    split_sound = record {
+      near = λ n lt. set.others n (λ e. omega (arith, e, lt, far)) (λ e. let le = slot_end m near s at.slot in omega (arith, e, lt, le)) ∙ sound.near n lt;
+      used = λ n r e. eq_cases n k (λ f. set.used n r (inl f) e) (λ nk. eq_cases n s (λ f. set.used n r (inr f) e) (λ ns. sound.used n r (sym (set.others n nk ns) ∙ e)));
+      strangers = λ n. by_two t u k new s old set NoStrangers new_strangers (sound.strangers s) (λ j. sound.strangers j) n;
+      beside = λ n. by_two t u k new s old set (λ r. AreBeside r.modes) (split_beside (rows_of t s).modes c may (sound.beside s)) (sound.beside s) (λ j. sound.beside j) n;
+      clients = λ n w x. let y = came n w x in sound.clients y.0 w y.1;
+      alone = is_alone;
+    }
+
+    pub split_over : IsOver more u
+    split_over = record {
+      near = more_near;
+      within = λ n h. eq_cases n k (λ e. ap (is_slot more) e ∙ new_slot)
+          (λ nk. other_slot n nk ∙ eq_cases n s (λ e. ap (is_slot m) e ∙ at.slot) (λ ns. over.within n (subst IsSome (set.others n nk ns) h)));
+      points = λ n w x. let y = came n w x in over.points y.0 w y.1;
+      placed = is_placed;
     }
       where
-        -- no other span has k in it
-        not_inside : (n : ℕ) (y : SlotRow) → get t n ≡ Some y → IsRow t n y → n ≢ s → n ≢ k → y.low ≤ k → k < n → ⊥
-        not_inside n y was its ns nk a b = ⊎_elim
-            (λ (c : n < s). some_none (get t n) y was (next.gap n (omega (arith, b)) c))
-            (λ (c : s ≤ n). some_none (get t s) r here (its.alone s (omega (arith, a, under)) (omega (arith, c, ns)))) (cases_lt n s)
+        its_slot : (n : ℕ) (w : Waiter) → In w (rows_of t n).queue → IsSlotOf m w.point n
+        its_slot n w x = subst (IsSlotOf m w.point) (over.placed n w x) (next_of m near w.point (over.points n w x))
 
-    module _ (m : Index) (over : IsOver m t) (v : Value) where
-      key_under : k < END
-      key_under = omega (arith, under, slot_under t w s next.there)
+        is_placed : (n : ℕ) (w : Waiter) → In w (rows_of u n).queue → slot_of more w.point ≡ n
+        is_placed n w = eq_cases n k
+            (λ e x. let f = in_filter (λ w. nat_le w.point k) (rows_of t s).queue w (subst (λ (r : Row). In w r.queue) (ap (rows_of u) e ∙ set.first) x) in
+            slot_is more more_near w.point k (over.points s w f.0) (slot_new w.point (up_to_is w.point k f.1) (its_slot s w f.0)) ∙ sym e)
+            (λ nk. eq_cases n s
+            (λ e x. let f = in_filter (λ w. nat_lt k w.point) (rows_of t s).queue w (subst (λ (r : Row). In w r.queue) (ap (rows_of u) e ∙ set.second) x) in
+            slot_is more more_near w.point s (over.points s w f.0) (slot_beyond w.point (beyond_is w.point k f.1) (its_slot s w f.0)) ∙ sym e)
+            (λ ns x. let y = subst (λ (r : Row). In w r.queue) (ap row_there (set.others n nk ns)) x in
+            slot_is more more_near w.point n (over.points n w y) (slot_stays w.point n ns (its_slot n w y))))
 
-      pub split_over : IsOver (insert m k v) end
-      split_over = record {
-        near = λ n le. get-insert_other m k n (λ e. omega (arith, e, le, key_under)) v ∙ over.near n le;
-        same = λ n. eq_cases n k
-            (λ e. ap (λ (o : Option Value). nat_eq n END || is_some o) (ap (get (insert m k v)) e ∙ get-insert_same m k v) ∙ or_yes (nat_eq n END) ∙ sym (ap is_some (ap (get end) e ∙ parted.new)))
-            (λ nk. ap (λ (o : Option Value). nat_eq n END || is_some o) (get-insert_other m k n (λ e. nk (sym e)) v) ∙ over.same n ∙ eq_cases n s
-            (λ e. ap is_some (ap (get t) e ∙ here) ∙ sym (ap is_some (ap (get end) e ∙ parted.old)))
-            (λ ns. ap is_some (sym (parted.others n ns nk))));
-      }
-        where
-          or_yes : (b : Bool) → (b || true) ≡ true
-          or_yes true = refl
-          or_yes false = refl
+    -- Point by point: no range part changes, and of the key parts at most the writer's on the new slot
 
-    module _ (c : ℕ) (client : c < 64) (modes : (d : ℕ) → d < 64 → mode_of x.modes d ≡ split_modes (mode_of r.modes) c d) (alone : x.queue ≡ []) where
-      pub new_means : row_of new ≡ record { modes = split_modes (mode_of r.modes) c; queue = up_to k r.queue }
-      new_means = let queue : up_to k r.queue ++ x.queue ≡ up_to k r.queue = ap (λ q. up_to k r.queue ++ q) alone ∙ append-nil (up_to k r.queue) in
-          λ i. record { modes = fun_ext (split_all r.modes x.modes c client row.full new_full modes) i; queue = queue i }
+    beside : (d : ℕ) → d ≢ c → compatible (mode_at (rows_of t) s c) (mode_at (rows_of t) s d) ≡ true
+    beside d ne = sound.beside s c d (λ e. ne (sym e))
 
-      pub split_means : (m : Index) → IsOver m t → k ≤ END → (n : ℕ) → rows_of end n ≡ split m (rows_of t) k c n
-      split_means m over le n = split_rows n ∙ ap (λ y. set_row (set_row (rows_of t) s (row_of old)) k y n) new_means
-          ∙ ap (λ y. set_row (set_row (rows_of t) s (record { modes = y.modes; queue = beyond k y.queue })) k (record { modes = split_modes y.modes c; queue = up_to k y.queue }) n) (sym (ap row_there here))
-          ∙ ap (λ y. split_at (rows_of t) y k c n) (sym (slot_is m t over k s le next))
+    modes_new : (d : ℕ) → mode_at (rows_of u) k d ≡ split_modes (rows_of t s).modes c d
+    modes_new d = ap (λ (r : Row). r.modes d) set.first
+
+    modes_same : (n d : ℕ) → n ≢ k → mode_at (rows_of u) n d ≡ mode_at (rows_of t) n d
+    modes_same n d nk = eq_cases n s
+        (λ e. ap (λ i. mode_at (rows_of u) i d) e ∙ ap (λ (r : Row). r.modes d) set.second ∙ ap (λ i. mode_at (rows_of t) i d) (sym e))
+        (λ ns. ap (λ (r : Row). r.modes d) (ap row_there (set.others n nk ns)))
+
+    range_within : (d p : ℕ) → p ≤ END → range_of (mode_at (rows_of u) (slot_of more p) d) ≡ range_of (mode_at (rows_of t) (slot_of m p) d)
+    range_within d p le = let its = next_of m near p le in eq_cases (slot_of m p) s
+        (λ e. let there = subst (IsSlotOf m p) e its in ⊎_elim
+        (λ (a : k < p). ap (λ n. range_of (mode_at (rows_of u) n d)) (slot_is more more_near p s le (slot_beyond p a there)) ∙ ap range_of (modes_same s d (λ f. apart (sym f))) ∙ ap (λ n. range_of (mode_at (rows_of t) n d)) (sym e))
+        (λ (a : p ≤ k). ap (λ n. range_of (mode_at (rows_of u) n d)) (slot_is more more_near p k le (slot_new p a there)) ∙ ap range_of (modes_new d) ∙ same_range (rows_of t s).modes c may beside d ∙ ap (λ n. range_of (mode_at (rows_of t) n d)) (sym e))
+        (cases_lt k p))
+        (λ ne. ap (λ n. range_of (mode_at (rows_of u) n d)) (slot_is more more_near p (slot_of m p) le (slot_stays p (slot_of m p) ne its))
+        ∙ ap range_of (modes_same (slot_of m p) d (λ e. slot_twice (is_slot m (slot_of m p)) its.slot (ap (is_slot m) e ∙ none_yet))))
+
+    pub split_ranges : (d p : ℕ) → range_at more (rows_of u) d p ≡ range_at m (rows_of t) d p
+    split_ranges d p = by_test (nat_lt END p) refl
+      where
+        by_test : (b : Bool) → nat_lt END p ≡ b → (if b then range.N else range_of (mode_at (rows_of u) (slot_of more p) d)) ≡ (if b then range.N else range_of (mode_at (rows_of t) (slot_of m p) d))
+        by_test true e = refl
+        by_test false e = range_within d p (ltb-false END p e)
+
+    range_there : (d : ℕ) → range_at m (rows_of t) d k ≡ range_of (mode_at (rows_of t) s d)
+    range_there d = by_test (nat_lt END k) refl
+      where
+        by_test : (b : Bool) → nat_lt END k ≡ b → (if b then range.N else range_of (mode_at (rows_of t) (slot_of m k) d)) ≡ range_of (mode_at (rows_of t) s d)
+        by_test true e = absurd (let x = ltb-true END k e in omega (arith, x, far))
+        by_test false e = ap (λ n. range_of (mode_at (rows_of t) n d)) (slot_is m near k s (omega (arith, far)) at)
+
+    pub split_keys : (d p : ℕ) → (p ≢ k) ⊎ (d ≢ c) → key_at more (rows_of u) d p ≡ key_at m (rows_of t) d p
+    split_keys d p which = eq_cases p k
+        (λ e. subst (λ x. key_at more (rows_of u) d x ≡ key_at m (rows_of t) d x) (sym e) (at_new (⊎_elim (λ (a : p ≢ k). absurd (a e)) (λ (a : d ≢ c). a) which)))
+        (λ ne. λ i. if (other_slot p ne) i then key_of ((modes_same p d ne) i) else key_off_slot ((split_ranges d p) i))
+      where
+        at_new : d ≢ c → key_at more (rows_of u) d k ≡ key_at m (rows_of t) d k
+        at_new ne = ap (λ (b : Bool). if b then key_of (mode_at (rows_of u) k d) else key_off_slot (range_at more (rows_of u) d k)) new_slot
+            ∙ ap key_of (modes_new d) ∙ other_key (rows_of t s).modes c may beside d ne ∙ ap key_off_slot (sym (range_there d))
+            ∙ sym (ap (λ (b : Bool). if b then key_of (mode_at (rows_of t) k d) else key_off_slot (range_at m (rows_of t) d k)) none_yet)
+
+    pub split_own : key_at more (rows_of u) c k ≡ key.X
+    split_own = ap (λ (b : Bool). if b then key_of (mode_at (rows_of u) k c) else key_off_slot (range_at more (rows_of u) c k)) new_slot ∙ ap key_of (modes_new c) ∙ writer_key (rows_of t s).modes c

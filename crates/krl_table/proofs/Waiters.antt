@@ -15,53 +15,9 @@ use Rattle.krl_table.specs.declared.row.SlotRow.{SlotRow}
 use Rattle.krl_table.specs.Rows.{waiter_at, waiter_of}
 use Rattle.krl_table.specs.Kept.{Kept, row_there, rows_of, IsOver, IsSound, AreListed, In, waiter_in}
 use Rattle.krl_table.proofs.Means.{eq_cases}
-use Rattle.krl_table.proofs.Splits.{some_none}
+use Rattle.krl_table.proofs.Rooms.{Lists, slots_have}
+use Rattle.krl_table.proofs.Sounds.{some_none, has_row}
 use Rattle.krl_table.proofs.Stands.{first_in, none_in, first_none}
-
--- Slots
-
--- the number stands in the list
-abbrev pub Lists : ℕ → List ℕ → Type 0
-Lists n [] = ⊥
-Lists n (k ∷ ks) = (n ≡ k) ⊎ Lists n ks
-
-end_in : (es : List (ℕ × Value)) → Lists END (map (λ e. e.0) es ++ END ∷ [])
-end_in [] = inl refl
-end_in (e ∷ es) = inr (end_in es)
-
-keys_in : (es : List (ℕ × Value)) (n : ℕ) → entries.find nat_cmp n es ≢ None → Lists n (map (λ e. e.0) es ++ END ∷ [])
-keys_in [] n some = absurd (some refl)
-keys_in (e ∷ es) n some = eq_cases n e.0 (λ f. inl f)
-    (λ ne. let apart : eq_by_cmp nat_cmp n e.0 ≡ false = grind (arith, nat_tests) in inr (keys_in es n (λ none. some (ap (λ b. cond b (Some e.1) (entries.find nat_cmp n es)) apart ∙ none))))
-
-not_truth : (b : Bool) → b ≡ false → b ≡ true → ⊥
-not_truth b e f = absurd (cc)
-
--- a slot stands in the list of all slots
-pub slots_have : (m : Index) (n : ℕ) → is_slot m n ≡ true → Lists n (slots m)
-slots_have m n e = eq_cases n END (λ f. subst (λ x. Lists x (slots m)) (sym f) (end_in (fin.entries m)))
-    (λ ne. keys_in (fin.entries m) n (λ none. not_truth (is_slot m n) (ap (λ b. b || is_some (fin.get m n)) (ne_eqb n END ne) ∙ ap is_some (fin.get-entries m n ∙ none)) e))
-
-key_found : (es : List (ℕ × Value)) (n : ℕ) → Lists n (map (λ e. e.0) es ++ END ∷ []) → (n ≡ END) ⊎ (is_some (entries.find nat_cmp n es) ≡ true)
-key_found [] n (inl e) = inl e
-key_found [] n (inr h) = absurd h
-key_found (e ∷ es) n (inl f) = inr (let same : eq_by_cmp nat_cmp n e.0 ≡ true = grind (arith, nat_tests) in ap (λ b. is_some (cond b (Some e.1) (entries.find nat_cmp n es))) same)
-key_found (e ∷ es) n (inr h) = ⊎_elim (λ (a : n ≡ END). inl a) (λ (a : is_some (entries.find nat_cmp n es) ≡ true). inr (by_test (eq_by_cmp nat_cmp n e.0) a)) (key_found es n h)
-  where
-    by_test : (b : Bool) → is_some (entries.find nat_cmp n es) ≡ true → is_some (cond b (Some e.1) (entries.find nat_cmp n es)) ≡ true
-    by_test true a = refl
-    by_test false a = a
-
--- and nothing else stands there
-pub slots_are : (m : Index) (n : ℕ) → Lists n (slots m) → is_slot m n ≡ true
-slots_are m n h = ⊎_elim
-    (λ (e : n ≡ END). ap (λ b. b || is_some (fin.get m n)) (eq-eqb n END e))
-    (λ (e : is_some (entries.find nat_cmp n (fin.entries m)) ≡ true). ap (λ b. nat_eq n END || b) (ap is_some (fin.get-entries m n) ∙ e) ∙ or_yes (nat_eq n END))
-    (key_found (fin.entries m) n h)
-  where
-    or_yes : (b : Bool) → (b || true) ≡ true
-    or_yes true = refl
-    or_yes false = refl
 
 -- Waiters
 
@@ -89,13 +45,6 @@ module _ (t : Kept) (sound : IsSound t) (waiting : List (Option Waiter)) (l : Ar
   pub none_waits : waiter_in waiting c ≡ None → (n : ℕ) → first_of c (rows_of t n).queue ≡ None
   none_waits none n = first_none c (rows_of t n).queue (λ u at e. some_none (waiter_in waiting u.client) u (l.here n u at) (ap (waiter_in waiting) e ∙ none))
 
-  row_there_is : (n : ℕ) (u : Waiter) → In u (rows_of t n).queue → is_some (fin.get t n) ≡ true
-  row_there_is n u at = by_row (fin.get t n) at
-    where
-      by_row : (o : Option SlotRow) → In u (row_there o).queue → is_some o ≡ true
-      by_row None h = absurd h
-      by_row (Some r) h = refl
-
   module _ (m : Index) (over : IsOver m t) where
     abbrev here : ℕ → Bool
     here n = is_some (first_of c (rows_of t n).queue)
@@ -114,6 +63,6 @@ module _ (t : Kept) (sound : IsSound t) (waiting : List (Option Waiter)) (l : Ar
         by_waiter None e = sym (ap (waiter_at (rows_of t) c) (find_none here (slots m) (λ n. ap is_some (none_waits e n))))
         by_waiter (Some u) e =
             let x = l.there c u e in
-            let at = slots_have m x.1.0 (over.same x.1.0 ∙ row_there_is x.1.0 u x.1.1) in
+            let at = slots_have m x.1.0 (over.within x.1.0 (has_row t x.1.0 u x.1.1)) in
             let k = find_some here (slots m) x.1.0 at (some_first c (rows_of t x.1.0).queue u x.1.1 x.0) in
             found u e k.0 k.1.0 k.1.1

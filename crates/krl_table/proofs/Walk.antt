@@ -1,118 +1,115 @@
--- A walk over the slots from one point on: the rows so far are changed, and the others are as they were.
-use Rattle.std.proofs.Common.{◌≡◌, ◌≢◌, ℕ, suc, ◌≤◌, ◌<◌, Bool, true, false, cond, Option, Some, None, IsSome, IfSome, ◌+◌, length, refl, sym, ap, subst, ◌∙◌, arith}
-use Rattle.std.proofs.Common.{nat_eq, eq-eqb, ne_eqb}
+-- A walk over the kept rows, in the order of their slots.
+use Rattle.std.proofs.Common.{◌≡◌, ◌≢◌, ℕ, suc, ◌≤◌, ◌<◌, ◌+◌, Bool, true, false, ◌&&◌, [], Option, Some, None, IsSome, refl, sym, ap, subst, ◌∙◌, arith, ⊎_elim}
+use Rattle.std.proofs.lemmas.Bool.{cases_lt}
 use Rattle.std.proofs.lemmas.Bool.Decides.{nat_tests}
-use Rattle.std.specs.Prelude.{nat_lt, if◌then◌else◌}
-use Rattle.std.specs.FinMap.{get, insert}
+use Rattle.std.proofs.Math.Path.{fun_ext}
+use Rattle.std.specs.Prelude.{nat_lt, nat_le, nat_eq, if◌then◌else◌}
+use Rattle.std.specs.FinMap.{get}
+use Rattle.krl_modes.specs.declared.mode.Mode.{Mode}
+use Rattle.krl_modes.specs.declared.mode.Mode.TheVariants as mode
+use Rattle.krl_modes.specs.Modes.{meet}
+use Rattle.krl_store.specs.Stores.{IsNextKey}
 use Rattle.krl_table.specs.declared.row.SlotRow.{SlotRow}
-use Rattle.krl_modes.specs.declared.point.TheConstants.{END}
-use Rattle.krl_table.specs.Kept.{Kept, each, IsEach, IsNext, IsWhole}
-use Rattle.krl_table.proofs.Means.{eq_cases, get-put, Alike, AreAlike, alike_whole}
-use Rattle.krl_table.proofs.Maps.{there}
+use Rattle.krl_table.specs.Rows.{Row, blank_row, set_mode}
+use Rattle.krl_table.specs.Kept.{Kept, row_of, row_there, rows_of, IsSet, IsAll, lowered_between}
+use Rattle.krl_table.specs.Calls.{with_mode}
+use Rattle.krl_table.proofs.Means.{eq_cases}
 
--- the row of slot n, changed by f where n lies below the point
-abbrev pub changed_below : (ℕ → SlotRow → SlotRow) → ℕ → ℕ → Option SlotRow → Option SlotRow
-changed_below f at n None = None
-changed_below f at n (Some r) = Some (if nat_lt n at then f n r else r)
+-- the rows below the point are changed, and the others are as they were
+pub record IsWalked (f : ℕ → Row → Row) (old new : Kept) (at : ℕ) : Type 0 where
+  pub done : (n : ℕ) → n < at → rows_of new n ≡ f n (rows_of old n)
+  pub rest : (n : ℕ) → at ≤ n → get new n ≡ get old n
+  pub kept : (n : ℕ) → IsSome (get new n) → IsSome (get old n)
+  pub used : (n : ℕ) (r : SlotRow) → get new n ≡ Some r → row_of r ≢ blank_row
 
-pub record IsWalked (f : ℕ → SlotRow → SlotRow) (old new : Kept) (at : ℕ) : Type 0 where
-  pub is : (n : ℕ) → get new n ≡ changed_below f at n (get old n)
+some_is : (o : Option SlotRow) → (o ≡ None → ⊥) → IsSome o
+some_is None h = absurd (h refl)
+some_is (Some r) h = refl
 
-more : (a b : ℕ) → a < suc b → a ≢ b → nat_lt a b ≡ true
-more a b h ne = grind (arith, nat_tests)
+-- no row is kept blank
+abbrev pub AreUsed : Kept → Type 0
+AreUsed t = (n : ℕ) (r : SlotRow) → get t n ≡ Some r → row_of r ≢ blank_row
 
-below_same : (f : ℕ → SlotRow → SlotRow) (p s n : ℕ) (o : Option SlotRow) → p ≤ s → (p ≤ n → n < s → o ≡ None) → n ≢ s → changed_below f (suc s) n o ≡ changed_below f p n o
-below_same f p s n None le gap ne = refl
-below_same f p s n (Some r) le gap ne = ap (λ b. Some (if b then f n r else r)) (by_tests (nat_lt n p) (nat_lt n (suc s)) refl refl)
+module _ (f : ℕ → Row → Row) (old : Kept) where
+  pub none_walked : (at : ℕ) → AreUsed old → ((n : ℕ) → n < at → f n (rows_of old n) ≡ rows_of old n) → IsWalked f old old at
+  none_walked at used same = record { done = λ n lt. sym (same n lt); rest = λ n le. refl; kept = λ n h. h; used = used }
+
+  module _ (keeps : (n : ℕ) → f n blank_row ≡ blank_row) (new : Kept) (at : ℕ) (w : IsWalked f old new at) where
+    -- where no row is kept from the point on, nothing is changed
+    none_left : (n : ℕ) → at ≤ n → get new n ≡ None → rows_of new n ≡ f n (rows_of old n)
+    none_left n le e = ap row_there e ∙ sym (keeps n) ∙ ap (f n) (sym (ap row_there (sym (w.rest n le) ∙ e)))
+
+    pub walk_step : (u : Kept) (s : ℕ) → IsNextKey new at s → IsSet new u s (f s (rows_of new s)) → IsWalked f old u (s + 1)
+    walk_step u s next set = record {
+      done = λ n lt. eq_cases n s
+          (λ e. subst (λ k. rows_of u k ≡ f k (rows_of old k)) (sym e) (set.here ∙ ap (f s) (ap row_there (w.rest s next.above))))
+          (λ ne. ap row_there (set.others n ne) ∙ ⊎_elim (λ (a : n < at). w.done n a) (λ (a : at ≤ n). none_left n a (next.least n a (omega (arith, lt, ne)))) (cases_lt n at));
+      rest = λ n le. set.others n (λ e. omega (arith, e, le)) ∙ w.rest n (let a = next.above in omega (arith, le, a));
+      kept = λ n h. eq_cases n s
+          (λ e. subst (λ k. IsSome (get old k)) (sym e) (subst IsSome (w.rest s next.above) next.there))
+          (λ ne. w.kept n (subst IsSome (set.others n ne) h));
+      used = λ n r e. eq_cases n s
+          (λ g. set.used r (ap (get u) (sym g) ∙ e))
+          (λ ne. w.used n r (sym (set.others n ne) ∙ e));
+    }
+
+    -- no row is left
+    pub walk_ends : ((n : ℕ) → at ≤ n → get new n ≡ None) → IsAll f old new
+    walk_ends none = record {
+      rows = λ n. ⊎_elim (λ (a : n < at). w.done n a) (λ (a : at ≤ n). none_left n a (none n a)) (cases_lt n at);
+      kept = w.kept;
+      used = w.used;
+    }
+
+    -- the rows that are left stay
+    pub walk_stops : (s : ℕ) → IsNextKey new at s → ((n : ℕ) (row : Row) → s ≤ n → f n row ≡ row) → IsAll f old new
+    walk_stops s next same = record {
+      rows = λ n. ⊎_elim (λ (a : n < at). w.done n a)
+          (λ (a : at ≤ n). ⊎_elim (λ (b : n < s). none_left n a (next.least n a b)) (λ (b : s ≤ n). ap row_there (w.rest n a) ∙ sym (same n (rows_of old n) b)) (cases_lt n s)) (cases_lt n at);
+      kept = w.kept;
+      used = w.used;
+    }
+
+-- Lower
+
+blank_set : (c : ℕ) (g : Mode) → g ≡ mode.N → with_mode blank_row c g ≡ blank_row
+blank_set c g e = λ i. record { modes = fun_ext (λ (d : ℕ). by_test (nat_eq d c)) i; queue = [] }
   where
-    inside : nat_lt n p ≡ false → nat_lt n (suc s) ≡ true → ⊥
-    inside a b = let from : p ≤ n = grind (arith, nat_tests) in let under : n < s = grind (arith, nat_tests, ne) in let none = gap from under in absurd (cc)
+    by_test : (b : Bool) → (if b then g else mode.N) ≡ mode.N
+    by_test true = e
+    by_test false = refl
 
-    by_tests : (a b : Bool) → nat_lt n p ≡ a → nat_lt n (suc s) ≡ b → nat_lt n (suc s) ≡ nat_lt n p
-    by_tests true true e f = f ∙ sym e
-    by_tests true false e f = grind (arith, nat_tests)
-    by_tests false true e f = absurd (inside e f)
-    by_tests false false e f = f ∙ sym e
+meet_n : (keep : Mode) → meet mode.N keep ≡ mode.N
+meet_n keep = grind arith
 
-none_before : (f : ℕ → SlotRow → SlotRow) (p n : ℕ) (o : Option SlotRow) → changed_below f p n o ≡ None → o ≡ None
-none_before f p n None e = refl
-none_before f p n (Some r) e = absurd (cc)
+pub lower_keeps : (from hi c : ℕ) (keep : Mode) (n : ℕ) → lowered_between from hi c keep n blank_row ≡ blank_row
+lower_keeps from hi c keep n = by_test (nat_le from n && nat_lt n hi)
+  where
+    by_test : (b : Bool) → (if b then with_mode blank_row c (meet mode.N keep) else blank_row) ≡ blank_row
+    by_test true = blank_set c (meet mode.N keep) (meet_n keep)
+    by_test false = refl
 
-some_before : (f : ℕ → SlotRow → SlotRow) (p n : ℕ) (o : Option SlotRow) (r : SlotRow) → p ≤ n → changed_below f p n o ≡ Some r → o ≡ Some r
-some_before f p n None r le e = e
-some_before f p n (Some x) r le e = let test : nat_lt n p ≡ false = grind (arith, nat_tests) in ap (λ b. Some (if b then f n x else x)) (sym test) ∙ e
+pub lower_before : (from hi c : ℕ) (keep : Mode) (n : ℕ) (row : Row) → n < from → lowered_between from hi c keep n row ≡ row
+lower_before from hi c keep n row lt = let test : nat_le from n ≡ false = grind (arith, nat_tests) in
+    ap (λ b. if b && nat_lt n hi then with_mode row c (meet (row.modes c) keep) else row) test
 
-module _ (f : ℕ → SlotRow → SlotRow) (old : Kept) where
-  pub none_walked : (at : ℕ) → ((n : ℕ) (r : SlotRow) → n < at → get old n ≡ Some r → f n r ≡ r) → IsWalked f old old at
-  none_walked at same = record { is = λ n. by_there n (get old n) refl }
-    where
-      by_there : (n : ℕ) (o : Option SlotRow) → get old n ≡ o → o ≡ changed_below f at n o
-      by_there n None e = refl
-      by_there n (Some r) e = by_test (nat_lt n at) refl
-        where
-          by_test : (b : Bool) → nat_lt n at ≡ b → Some r ≡ Some (if b then f n r else r)
-          by_test true g = ap (λ x. Some x) (sym (same n r (Rattle.std.proofs.Common.ltb-true n at g) e))
-          by_test false g = refl
+pub lower_past : (from hi c : ℕ) (keep : Mode) (n : ℕ) (row : Row) → hi ≤ n → lowered_between from hi c keep n row ≡ row
+lower_past from hi c keep n row le = let test : nat_lt n hi ≡ false = grind (arith, nat_tests) in
+    ap (λ (b : Bool). if b then with_mode row c (meet (row.modes c) keep) else row) (and_no (nat_le from n) (nat_lt n hi) test)
+  where
+    and_no : (a b : Bool) → b ≡ false → (a && b) ≡ false
+    and_no true b e = e
+    and_no false b e = refl
 
-  -- the next slot's row is changed
-  pub walked_on : (t u : Kept) (p s : ℕ) (r : SlotRow) → IsWalked f old t p → IsNext t p s → get t s ≡ Some r → u ≡ insert t s (f s r) → IsWalked f old u (suc s)
-  walked_on t u p s r w next here e = record {
-    is = λ n. ap (λ x. get x n) e ∙ get-put t s (f s r) n ∙ eq_cases n s
-        (λ g. ap (λ b. cond b (Some (f s r)) (get t n)) (eq-eqb n s g) ∙ subst (λ x. Some (f s r) ≡ changed_below f (suc s) x (get old x)) (sym g)
-        (sym (ap (changed_below f (suc s) s) (some_before f p s (get old s) r next.from (sym (w.is s) ∙ here)) ∙ ap (λ b. Some (if b then f s r else r)) (under s))))
-        (λ ne. ap (λ b. cond b (Some (f s r)) (get t n)) (ne_eqb n s ne) ∙ w.is n ∙ sym (below_same f p s n (get old n) next.from (λ a b. none_before f p n (get old n) (sym (w.is n) ∙ next.gap n a b)) ne));
-  }
-    where
-      under : (k : ℕ) → nat_lt k (suc k) ≡ true
-      under k = grind (arith, nat_tests)
+pub lower_here : (from hi c : ℕ) (keep : Mode) (n : ℕ) (row : Row) → from ≤ n → n < hi → lowered_between from hi c keep n row ≡ with_mode row c (meet (row.modes c) keep)
+lower_here from hi c keep n row le lt = let a : nat_le from n ≡ true = grind (arith, nat_tests) in let b : nat_lt n hi ≡ true = grind (arith, nat_tests) in
+    (λ i. if a i && b i then with_mode row c (meet (row.modes c) keep) else row)
 
-  pub walked_alike : (t : Kept) (p : ℕ) → ((n : ℕ) (r : SlotRow) → (f n r).low ≡ r.low) → ((n : ℕ) (r : SlotRow) → length (f n r).modes ≡ length r.modes) → IsWalked f old t p → AreAlike old t
-  walked_alike t p low full w n = subst (Alike (get old n)) (sym (w.is n)) (by_there (get old n))
-    where
-      by_there : (o : Option SlotRow) → Alike o (changed_below f p n o)
-      by_there None = tt
-      by_there (Some r) = by_test (nat_lt n p)
-        where
-          by_test : (b : Bool) → Alike (Some r) (Some (if b then f n r else r))
-          by_test true = (low n r, full n r)
-          by_test false = (refl, refl)
+-- Clear
 
-  -- a step of a walk
-  pub walk_step : (t u : Kept) (p s : ℕ) → IsWalked f old t p → IsNext t p s → IfSome (get t s) (λ row. u ≡ insert t s (f s row)) → IsWalked f old u (s + 1)
-  walk_step t u p s w next e = let x = there (get t s) next.there in let one : suc s ≡ s + 1 = omega arith in
-      subst (IsWalked f old u) one (walked_on t u p s x.0 w next x.1 (subst (λ (o : Option SlotRow). IfSome o (λ row. u ≡ insert t s (f s row))) x.1 e))
-
-  -- its rows are whole, and over the same index
-  pub walk_whole : (t : Kept) (p : ℕ) → ((n : ℕ) (r : SlotRow) → (f n r).low ≡ r.low) → ((n : ℕ) (r : SlotRow) → length (f n r).modes ≡ length r.modes) → IsWalked f old t p → IsWhole old → IsWhole t
-  walk_whole t p low full w = alike_whole old t (walked_alike t p low full w)
-
-  -- the walk came to its end, from where on nothing changes
-  pub walked_to : (t : Kept) (p : ℕ) → ((n : ℕ) (r : SlotRow) → p ≤ n → get old n ≡ Some r → f n r ≡ r) → IsWalked f old t p → IsEach f old t
-  walked_to t p rest w n = w.is n ∙ by_there (get old n) refl
-    where
-      by_there : (o : Option SlotRow) → get old n ≡ o → changed_below f p n o ≡ each f n o
-      by_there None e = refl
-      by_there (Some r) e = ap (λ x. Some x) (by_test (nat_lt n p) refl)
-        where
-          by_test : (b : Bool) → nat_lt n p ≡ b → (if b then f n r else r) ≡ f n r
-          by_test true g = refl
-          by_test false g = sym (rest n r (Rattle.std.proofs.Common.ltb-false n p g) e)
-
-  -- the walk came past END
-  pub walked_all : (t : Kept) (p : ℕ) → IsWhole old → END < p → IsWalked f old t p → IsEach f old t
-  walked_all t p whole far = walked_to t p (λ n r le e. absurd (let none = whole.near n (omega (arith, le, far)) in let clash : Some r ≡ None = sym e ∙ none in cc))
-
-  -- each row is one like the old one
-  pub each_alike : (t : Kept) → ((n : ℕ) (r : SlotRow) → (f n r).low ≡ r.low) → ((n : ℕ) (r : SlotRow) → length (f n r).modes ≡ length r.modes) → IsEach f old t → AreAlike old t
-  each_alike t low full e n = subst (Alike (get old n)) (sym (e n)) (by_there (get old n))
-    where
-      by_there : (o : Option SlotRow) → Alike o (each f n o)
-      by_there None = tt
-      by_there (Some r) = (low n r, full n r)
-
-  -- from the point on the rows are as they were
-  pub untouched : (t : Kept) (p : ℕ) → IsWalked f old t p → (n : ℕ) (r : SlotRow) → p ≤ n → get t n ≡ Some r → get old n ≡ Some r
-  untouched t p w n r le e = some_before f p n (get old n) r le (sym (w.is n) ∙ e)
-
-  pub untouched_none : (t : Kept) (p : ℕ) → IsWalked f old t p → (n : ℕ) → get t n ≡ None → get old n ≡ None
-  untouched_none t p w n e = none_before f p n (get old n) (sym (w.is n) ∙ e)
+pub clear_keeps : (c : ℕ) → (let row : Row = record { modes = set_mode (λ d. mode.N) c mode.N; queue = [] } in row) ≡ blank_row
+clear_keeps c = λ i. record { modes = fun_ext (λ (d : ℕ). by_test (nat_eq d c)) i; queue = [] }
+  where
+    by_test : (b : Bool) → (if b then mode.N else mode.N) ≡ mode.N
+    by_test true = refl
+    by_test false = refl

@@ -6,7 +6,6 @@ pub mod Replies
 pub mod Grants
 pub mod Sound
 pub use Rattle.krl_durable.specs.Index
-pub mod Told
 pub mod Waiters
 pub mod Kept
-pub mod Laws
+pub mod Reported

@@ -3,13 +3,14 @@
 
 mod conflict;
 mod first;
-pub mod laws;
 mod needs;
+mod pieces;
 mod reply;
+mod reports;
 mod row;
 mod steps;
+mod sweep;
 mod table;
-mod told;
 mod waiting;
 mod walks;
 

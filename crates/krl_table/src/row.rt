@@ -1,48 +1,44 @@
 //! The row of a slot.
-ghost use Rattle.std.specs.Prelude.{◌≡◌, ◌||◌, ℕ, ◌<◌, [], length, nat_eq, IfSome};
-ghost use Rattle.krl_modes.specs.Modes.{range_of, compatible};
-ghost use Rattle.krl_table.specs.Calls.{queue_with, split_modes, mode_beside, wanted};
+ghost use Rattle.std.specs.Prelude.{◌≡◌, ◌||◌, ◌↔◌, ℕ, true, ◌<◌, [], length, nat_eq, IfSome};
+ghost use Rattle.krl_modes.specs.Modes.{range_of, compatible, meet};
 ghost use Rattle.krl_modes.specs.declared.mode.Mode.TheVariants as mode;
-ghost use Rattle.krl_table.specs.Kept.{mode_of, row_of, lowered_row, cleared_row, granted_row};
-ghost use Rattle.krl_table.specs.Kept.{raised_row};
+ghost use Rattle.krl_queue.specs.Waiting.{without_first};
+ghost use Rattle.krl_table.specs.Calls.{queue_with, split_modes, mode_beside, wanted, with_mode};
+ghost use Rattle.krl_table.specs.Calls.{grant_first};
+ghost use Rattle.krl_table.specs.Kept.{mode_of, row_of};
 ghost use Rattle.krl_table.specs.Rows.{blank_row, front_of, all_below, most_clients, row_fits};
+ghost use Rattle.krl_table.specs.Rows.{set_mode};
 ghost use Rattle.krl_table.specs.Replies.{row_reply};
-ghost use Rattle.krl_table.specs.Told.{nothing, told_mode, tell_range, tell_key, settled_row};
-ghost use Rattle.krl_table.specs.Told.{forgot_row};
 
 use crate::reply::{self, Reply};
-use crate::told::{Reach, Told};
-use krl_modes::{KeyPart, Mode, RangePart, Span};
+use krl_modes::{KeyPart, Mode, RangePart};
 use krl_queue::{WaitList, WaitNode, Waiter};
 
-/// What is kept of a slot.
+/// What is kept of a slot where somebody holds or waits.
 #[derive(Drop)]
 pub struct SlotRow {
-    /// The first point of the slot's span.
-    pub(crate) low: u64,
     /// The mode of each client there.
     pub(crate) modes: [Mode; 64],
     /// Who waits there.
     pub(crate) queue: WaitList,
-    /// What a report tells of the slot, while it is taken in.
-    pub(crate) told: Told,
 }
 
 impl SlotRow {
     /// A row where nobody holds anything, and nobody waits. It takes no memory.
-    pub(crate) fn blank(low: u64) -> SlotRow
-        ensures low { result.low ≡ low }
-        ensures full { length result.modes ≡ 64 }
-        ensures queue { result.queue ≡ [] }
-        ensures told { result.told ≡ nothing }
-        ensures row { row_of result ≡ blank_row }
+    pub(crate) fn blank() -> SlotRow
+        ensures { row_of result ≡ blank_row }
     {
         SlotRow {
-            low,
             modes: [Mode::N; 64],
             queue: WaitList::new(),
-            told: Told::NOTHING,
         }
+    }
+
+    /// Whether nobody holds anything there, and nobody waits.
+    pub(crate) fn is_blank(&self) -> bool
+        ensures { (result ≡ true) ↔ (row_of self.now ≡ blank_row) }
+    {
+        self.queue.is_empty() && all_are_n(&self.modes)
     }
 
     /// The client's mode.
@@ -53,22 +49,43 @@ impl SlotRow {
         self.modes[client as usize]
     }
 
-    /// Lowers the client's mode to this one, if the slot's span lies in the span.
-    pub(crate) fn lower(&mut self, slot: u64, client: u64, span: Span, keep: Mode)
-        requires { client < 64 }
-        ensures { self.new ≡ lowered_row span client keep slot self.old }
+    /// The mode of each client.
+    pub(crate) fn all_modes(&self) -> [Mode; 64]
+        ensures modes { result ≡ self.now.modes }
+        ensures full { length self.now.modes ≡ 64 }
     {
-        if span.lo() <= self.low && slot < span.hi() {
-            self.modes[client as usize] = self.mode(client).meet(keep);
-        }
+        self.modes
     }
 
-    /// The client holds nothing.
+    /// The client has this mode from now on.
+    pub(crate) fn set(&mut self, client: u64, mode: Mode)
+        requires { client < 64 }
+        ensures { row_of self.new ≡ with_mode (row_of self.old) client mode }
+    {
+        self.modes[client as usize] = mode;
+    }
+
+    /// Lowers the client's mode to this one.
+    pub(crate) fn lower(&mut self, client: u64, keep: Mode)
+        requires { client < 64 }
+        ensures { row_of self.new
+            ≡ with_mode (row_of self.old) client (meet (mode_of self.old.modes client) keep) }
+    {
+        let kept = self.mode(client).meet(keep);
+        self.set(client, kept);
+    }
+
+    /// The client holds nothing, and its first waiter goes.
     pub(crate) fn clear(&mut self, client: u64)
         requires { client < 64 }
-        ensures { self.new ≡ cleared_row client self.old }
+        ensures modes { row_of self.new
+            ≡ record {
+              modes = set_mode (mode_of self.old.modes) client mode.N;
+              queue = without_first client self.old.queue;
+            } }
     {
-        self.modes[client as usize] = Mode::N;
+        self.set(client, Mode::N);
+        let _waiter = self.queue.remove_client(client);
     }
 
     /// Puts the waiter behind all others, or before them where its client holds a mode.
@@ -86,7 +103,7 @@ impl SlotRow {
     /// The first waiter gets what it wants, and waits no more.
     pub(crate) fn grant(&mut self) -> Option<Waiter>
         requires { IfSome (front_of self.old.queue) (λ u. u.client < 64) }
-        ensures row { self.new ≡ granted_row self.old }
+        ensures row { row_of self.new ≡ grant_first (row_of self.old) self.old.queue }
         ensures waiter { result ≡ front_of self.old.queue }
     {
         let waiter = self.queue.pop_front()?;
@@ -97,9 +114,11 @@ impl SlotRow {
     /// The waiter's client gets what it wants.
     pub(crate) fn raise(&mut self, waiter: &Waiter)
         requires { waiter.now.client < 64 }
-        ensures { self.new ≡ raised_row waiter.now self.old }
+        ensures { row_of self.new ≡ with_mode (row_of self.old) waiter.now.client
+            (wanted (row_of self.old) waiter.now) }
     {
-        self.modes[waiter.client as usize] = self.mode(waiter.client).join(waiter.mode);
+        let wanted = self.mode(waiter.client).join(waiter.mode);
+        self.set(waiter.client, wanted);
     }
 
     /// Whether the client may hold the mode beside what all others hold.
@@ -144,14 +163,12 @@ impl SlotRow {
 
     /// The row of a new slot that its writer parts from this one. Nobody waits there.
     pub(crate) fn split(&self, client: u64) -> SlotRow
-        ensures low { result.low ≡ self.now.low }
-        ensures full { length result.modes ≡ 64 }
-        ensures queue { result.queue ≡ [] }
-        ensures told { result.told ≡ nothing }
-        ensures modes { (d : ℕ) → d < 64
-            → mode_of result.modes d ≡ split_modes (mode_of self.now.modes) client d }
+        requires { client < 64 }
+        ensures { row_of result
+            ≡ record { modes = split_modes (mode_of self.now.modes) client; queue = [] } }
     {
-        let mut row = SlotRow::blank(self.low);
+        let _modes = self.all_modes();
+        let mut row = SlotRow::blank();
         for other in 0..64u64 {
             let (range, _) = self.mode(other).parts();
             row.modes[other as usize] = if other == client {
@@ -162,44 +179,19 @@ impl SlotRow {
         }
         row
     }
+}
 
-    /// Notes a reported range that begins in the slot's span.
-    pub(crate) fn tell_range(&mut self, part: RangePart, hi: u64)
-        ensures { self.new ≡ tell_range self.old part hi }
-    {
-        self.told.reach = self.told.reach.join(Reach::of(part, hi));
+/// Whether all modes are N.
+fn all_are_n(modes: &[Mode; 64]) -> bool
+    ensures { (result ≡ true) ↔ ((c : ℕ) → mode_of modes.now c ≡ mode.N) }
+{
+    let modes = *modes;
+    // With no early end the compiler compares many modes at a time.
+    let mut all = true;
+    for client in 0..64usize {
+        all = all & (modes[client] == Mode::N);
     }
-
-    /// Notes a reported key part at the slot.
-    pub(crate) fn tell_key(&mut self, part: KeyPart)
-        ensures { self.new ≡ tell_key self.old part }
-    {
-        self.told.key = self.told.key.join(part);
-    }
-
-    /// The mode that is told of the slot.
-    pub(crate) fn told_mode(&self) -> Mode
-        ensures { result ≡ told_mode self.now }
-    {
-        let range = self.told.reach.range_past(self.low);
-        Mode::at_or_above(range, self.told.key)
-    }
-
-    /// Gives the client the mode that is told of the slot, and forgets what was told.
-    pub(crate) fn settle(&mut self, client: u64)
-        requires { client < 64 }
-        ensures { self.new ≡ settled_row client self.old }
-    {
-        self.modes[client as usize] = self.told_mode();
-        self.told = Told::NOTHING;
-    }
-
-    /// Forgets what was told.
-    pub(crate) fn forget(&mut self)
-        ensures { self.new ≡ forgot_row self.old }
-    {
-        self.told = Told::NOTHING;
-    }
+    all
 }
 
 /// What another client than the writer has of a new slot, by its range part on the old one.

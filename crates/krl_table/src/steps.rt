@@ -1,283 +1,180 @@
-//! A row's change, as the map sees it.
-ghost use Rattle.std.specs.Prelude.{◌≡◌, ◌++◌, ◌<◌, ◌≤◌, ℕ, [], ◌∷◌, Some, None, IsSome, IfSome};
-ghost use Rattle.std.specs.Prelude.{OnOk, OnErr, drop};
+//! A row's change, as the kept rows see it.
+ghost use Rattle.std.specs.Prelude.{◌≡◌, ◌≢◌, ◌++◌, ◌<◌, ◌≤◌, ℕ, [], Some, None, IsSome, IfSome};
+ghost use Rattle.std.specs.Prelude.{drop};
 ghost use Rattle.std.specs.FinMap as map;
+ghost use Rattle.krl_modes.specs.Modes.{meet};
+ghost use Rattle.krl_modes.specs.declared.mode.Mode.TheVariants as mode;
 ghost use Rattle.krl_queue.specs.Waiting.{up_to, beyond, without_first};
-ghost use Rattle.krl_table.specs.Kept.{table, row_of, IsNext, IsParted, IsJoined, IsLeft};
-ghost use Rattle.krl_table.specs.Kept.{each, lowered_row, cleared_row, granted_row, raised_row};
-ghost use Rattle.krl_table.specs.Told.{tell_range, tell_keys, settled_row, forgot_row};
-ghost use Rattle.krl_table.specs.Calls.{queue_with};
-ghost use Rattle.krl_table.specs.Rows.{front_of};
-ghost use Rattle.krl_modes.specs.declared.point.TheConstants.{END};
+ghost use Rattle.krl_table.specs.Kept.{row_of, rows_of, IsSet, AreSet, HasRoom};
+ghost use Rattle.krl_table.specs.Calls.{queue_with, split_modes, wanted, with_mode, with_queue};
+ghost use Rattle.krl_table.specs.Calls.{grant_first, behind_first};
+ghost use Rattle.krl_table.specs.Rows.{blank_row, front_of, mode_at, set_mode};
 
 use crate::row::SlotRow;
-use crate::told::Reach;
-use krl_messages::KeyPiece;
-use krl_modes::{END, Mode, Point, RangePart, Span};
-use krl_queue::{WaitList, WaitNode, Waiter};
-use std::alloc::AllocError;
-use std::collections::BTreeMap;
+use krl_modes::{Mode, Point};
+use krl_queue::{WaitNode, Waiter};
+use krl_store::Store;
 
-/// The least slot at or above the point.
-pub(crate) fn next(rows: &BTreeMap<u64, SlotRow>, at: u64) -> u64
-    requires last { IsSome (map.get (table rows.now) END) }
-    requires point { at ≤ END }
-    ensures { IsNext (table rows.now) at result }
+/// Takes the row of the slot out for a change; where there is none, a blank one.
+fn take(rows: &mut Store<SlotRow>, slot: u64) -> SlotRow
+    ensures row { row_of result ≡ rows_of rows.old.map slot }
+    ensures others { (n : ℕ) → n ≢ slot → map.get rows.new.map n ≡ map.get rows.old.map n }
+    ensures room { HasRoom rows.old slot → HasRoom rows.new slot }
+    ensures there { IsSome (map.get rows.old.map slot) → HasRoom rows.new slot }
+    ensures stays { IsSome (map.get rows.old.map slot) → IsSome (map.get rows.new.map slot) }
+    ensures kept { (n : ℕ) → IsSome (map.get rows.new.map n) → IsSome (map.get rows.old.map n) }
+    ensures same { rows.new.room ≡ rows.old.room }
 {
-    match rows.range(at..).next() {
-        Some((slot, _)) => *slot,
-        None => END,
+    match rows.replace(slot, SlotRow::blank()) {
+        Some(row) => row,
+        None => SlotRow::blank(),
     }
 }
 
-/// Puts a row there, or nothing where its memory is refused.
-pub(crate) fn put(
-    rows: &mut BTreeMap<u64, SlotRow>,
-    slot: u64,
-    row: SlotRow,
-) -> Result<(), AllocError>
-    ensures put { OnOk result (table rows.new ≡ map.insert (table rows.old) slot row) }
-    ensures refused { OnErr result (table rows.new ≡ table rows.old) }
+/// Puts the row back, or none where it is blank now.
+fn put(rows: &mut Store<SlotRow>, slot: u64, row: SlotRow)
+    requires { HasRoom rows.old slot }
+    ensures set { IsSet rows.old.map rows.new.map slot (row_of row) }
+    ensures room { rows.new.room ≡ rows.old.room }
 {
-    rows.insert(slot, row)?;
-    Ok(())
+    if row.is_blank() {
+        let _gone = rows.remove(slot);
+    } else {
+        rows.put(slot, row);
+    }
 }
 
-/// Takes the row out.
-pub(crate) fn take(rows: &mut BTreeMap<u64, SlotRow>, slot: u64) -> SlotRow
-    requires { IsSome (map.get (table rows.old) slot) }
-    ensures taken { map.get (table rows.old) slot ≡ Some result }
-    ensures others { table rows.new ≡ map.remove (table rows.old) slot }
-{
-    rows.remove(&slot).unwrap()
-}
-
-/// Lowers the client's mode there, if the slot's span lies in this one.
-pub(crate) fn lower(
-    rows: &mut BTreeMap<u64, SlotRow>,
-    slot: u64,
-    client: u64,
-    span: Span,
-    keep: Mode,
-)
-    requires there { IsSome (map.get (table rows.old) slot) }
+/// Lowers the client's mode there to this one.
+pub(crate) fn lower(rows: &mut Store<SlotRow>, slot: u64, client: u64, keep: Mode)
+    requires there { IsSome (map.get rows.old.map slot) }
     requires client { client < 64 }
-    ensures { IfSome (map.get (table rows.old) slot)
-        (λ row. table rows.new
-        ≡ map.insert (table rows.old) slot (lowered_row span client keep slot row)) }
+    ensures set { IsSet rows.old.map rows.new.map slot (with_mode (rows_of rows.old.map slot) client
+        (meet (mode_at (rows_of rows.old.map) slot client) keep)) }
+    ensures room { rows.new.room ≡ rows.old.room }
 {
-    let row = rows.get_mut(&slot).unwrap();
-    row.lower(slot, client, span, keep);
+    let mut row = take(rows, slot);
+    row.lower(client, keep);
+    put(rows, slot, row);
 }
 
-/// The client holds nothing there.
-pub(crate) fn clear(rows: &mut BTreeMap<u64, SlotRow>, slot: u64, client: u64)
-    requires there { IsSome (map.get (table rows.old) slot) }
+/// The client holds nothing there, and its first waiter goes.
+pub(crate) fn clear(rows: &mut Store<SlotRow>, slot: u64, client: u64)
+    requires there { IsSome (map.get rows.old.map slot) }
     requires client { client < 64 }
-    ensures { IfSome (map.get (table rows.old) slot)
-        (λ row. table rows.new ≡ map.insert (table rows.old) slot (cleared_row client row)) }
+    ensures set { IsSet rows.old.map rows.new.map slot (record {
+      modes = set_mode (rows_of rows.old.map slot).modes client mode.N;
+      queue = without_first client (rows_of rows.old.map slot).queue;
+    }) }
+    ensures room { rows.new.room ≡ rows.old.room }
 {
-    let row = rows.get_mut(&slot).unwrap();
+    let mut row = take(rows, slot);
     row.clear(client);
+    put(rows, slot, row);
 }
 
-/// The waiter goes, which is the first of its client on the slot of its point; or none.
-pub(crate) fn leave(rows: &mut BTreeMap<u64, SlotRow>, waiter: &Option<Waiter>)
-    requires { IsSome (map.get (table rows.old) END) }
-    ensures { IsLeft (table rows.old) (table rows.new) waiter.now }
+/// The client has this mode there from now on.
+pub(crate) fn set(rows: &mut Store<SlotRow>, slot: u64, client: u64, mode: Mode)
+    requires room { HasRoom rows.old slot }
+    requires client { client < 64 }
+    ensures set { IsSet rows.old.map rows.new.map slot
+        (with_mode (rows_of rows.old.map slot) client mode) }
+    ensures room { rows.new.room ≡ rows.old.room }
 {
-    if let Some(waiter) = *waiter {
-        let slot = next(rows, waiter.point.get());
-        leave_slot(rows, slot, waiter.client);
-    }
-}
-
-/// The client's first waiter on the slot goes.
-fn leave_slot(rows: &mut BTreeMap<u64, SlotRow>, slot: u64, client: u64)
-    requires { IsSome (map.get (table rows.old) slot) }
-    ensures { IfSome (map.get (table rows.old) slot)
-        (λ row. table rows.new
-        ≡ map.insert (table rows.old) slot
-        (record row { queue = without_first client row.queue })) }
-{
-    let row = rows.get_mut(&slot).unwrap();
-    let _waiter = row.queue.remove_client(client);
+    let mut row = take(rows, slot);
+    row.set(client, mode);
+    put(rows, slot, row);
 }
 
 /// Puts the waiter behind all others there, or before them where its client holds a mode there.
-pub(crate) fn enqueue(rows: &mut BTreeMap<u64, SlotRow>, slot: u64, node: WaitNode)
-    requires there { IsSome (map.get (table rows.old) slot) }
+pub(crate) fn enqueue(rows: &mut Store<SlotRow>, slot: u64, node: WaitNode)
+    requires room { HasRoom rows.old slot }
     requires client { node.client < 64 }
-    ensures { IfSome (map.get (table rows.old) slot)
-        (λ row. table rows.new
-        ≡ map.insert (table rows.old) slot (record row { queue = queue_with (row_of row) node })) }
+    ensures set { IsSet rows.old.map rows.new.map slot (with_queue (rows_of rows.old.map slot)
+        (queue_with (rows_of rows.old.map slot) node)) }
+    ensures room { rows.new.room ≡ rows.old.room }
 {
-    let row = rows.get_mut(&slot).unwrap();
+    let mut row = take(rows, slot);
     row.enqueue(node);
+    put(rows, slot, row);
 }
 
 /// The first waiter there gets what it wants, and waits no more.
-pub(crate) fn grant(rows: &mut BTreeMap<u64, SlotRow>, slot: u64) -> Option<Waiter>
-    requires there { IsSome (map.get (table rows.old) slot) }
-    requires client { IfSome (map.get (table rows.old) slot)
-        (λ row. IfSome (front_of row.queue) (λ u. u.client < 64)) }
-    ensures row { IfSome (map.get (table rows.old) slot)
-        (λ row. table rows.new ≡ map.insert (table rows.old) slot (granted_row row)) }
-    ensures waiter { IfSome (map.get (table rows.old) slot) (λ row. result ≡ front_of row.queue) }
+pub(crate) fn grant(rows: &mut Store<SlotRow>, slot: u64) -> Option<Waiter>
+    requires there { IsSome (map.get rows.old.map slot) }
+    requires client { IfSome (front_of (rows_of rows.old.map slot).queue) (λ u. u.client < 64) }
+    ensures set { IsSet rows.old.map rows.new.map slot
+        (grant_first (rows_of rows.old.map slot) (rows_of rows.old.map slot).queue) }
+    ensures waiter { result ≡ front_of (rows_of rows.old.map slot).queue }
+    ensures room { rows.new.room ≡ rows.old.room }
 {
-    let row = rows.get_mut(&slot).unwrap();
-    row.grant()
+    let mut row = take(rows, slot);
+    let waiter = row.grant();
+    put(rows, slot, row);
+    waiter
 }
 
 /// The waiter's client gets what it wants there.
-pub(crate) fn raise(rows: &mut BTreeMap<u64, SlotRow>, slot: u64, waiter: &Waiter)
-    requires there { IsSome (map.get (table rows.old) slot) }
+pub(crate) fn raise(rows: &mut Store<SlotRow>, slot: u64, waiter: &Waiter)
+    requires room { HasRoom rows.old slot }
     requires client { waiter.now.client < 64 }
-    ensures { IfSome (map.get (table rows.old) slot)
-        (λ row. table rows.new ≡ map.insert (table rows.old) slot (raised_row waiter.now row)) }
+    ensures set { IsSet rows.old.map rows.new.map slot (with_mode (rows_of rows.old.map slot)
+        waiter.now.client (wanted (rows_of rows.old.map slot) waiter.now)) }
+    ensures room { rows.new.room ≡ rows.old.room }
 {
-    let row = rows.get_mut(&slot).unwrap();
+    let mut row = take(rows, slot);
     row.raise(waiter);
-}
-
-/// Notes a reported range that begins in the slot's span.
-pub(crate) fn tell_range(rows: &mut BTreeMap<u64, SlotRow>, slot: u64, part: RangePart, hi: u64)
-    requires { IsSome (map.get (table rows.old) slot) }
-    ensures { IfSome (map.get (table rows.old) slot)
-        (λ row. table rows.new ≡ map.insert (table rows.old) slot (tell_range row part hi)) }
-{
-    let row = rows.get_mut(&slot).unwrap();
-    row.tell_range(part, hi);
-}
-
-/// Gives the row what reaches it.
-pub(crate) fn set_reach(rows: &mut BTreeMap<u64, SlotRow>, slot: u64, reach: Reach)
-    requires { IsSome (map.get (table rows.old) slot) }
-    ensures { IfSome (map.get (table rows.old) slot)
-        (λ row. table rows.new
-        ≡ map.insert (table rows.old) slot
-        (record row { told = record { reach = reach; key = row.told.key } })) }
-{
-    let row = rows.get_mut(&slot).unwrap();
-    row.told.reach = reach;
-}
-
-/// Gives the client the mode that is told of the slot, and forgets what was told.
-pub(crate) fn settle(rows: &mut BTreeMap<u64, SlotRow>, slot: u64, client: u64)
-    requires there { IsSome (map.get (table rows.old) slot) }
-    requires client { client < 64 }
-    ensures { IfSome (map.get (table rows.old) slot)
-        (λ row. table rows.new ≡ map.insert (table rows.old) slot (settled_row client row)) }
-{
-    let row = rows.get_mut(&slot).unwrap();
-    row.settle(client);
-}
-
-/// Forgets what was told of the slot.
-pub(crate) fn forget(rows: &mut BTreeMap<u64, SlotRow>, slot: u64)
-    requires { IsSome (map.get (table rows.old) slot) }
-    ensures { IfSome (map.get (table rows.old) slot)
-        (λ row. table rows.new ≡ map.insert (table rows.old) slot (forgot_row row)) }
-{
-    let row = rows.get_mut(&slot).unwrap();
-    row.forget();
-}
-
-/// Takes those out of the row's queue who wait for a point up to this one.
-pub(crate) fn take_up_to(rows: &mut BTreeMap<u64, SlotRow>, slot: u64, point: Point) -> WaitList
-    requires { IsSome (map.get (table rows.old) slot) }
-    ensures taken { IfSome (map.get (table rows.old) slot) (λ row. result ≡ up_to point row.queue) }
-    ensures kept { IfSome (map.get (table rows.old) slot)
-        (λ row. table rows.new
-        ≡ map.insert (table rows.old) slot (record row { queue = beyond point row.queue })) }
-{
-    let row = rows.get_mut(&slot).unwrap();
-    row.queue.split_at(point)
-}
-
-/// Puts the list before those who wait in the row's queue.
-pub(crate) fn put_before(rows: &mut BTreeMap<u64, SlotRow>, slot: u64, list: WaitList)
-    requires { IsSome (map.get (table rows.old) slot) }
-    ensures { IfSome (map.get (table rows.old) slot)
-        (λ row. table rows.new
-        ≡ map.insert (table rows.old) slot (record row { queue = list ++ row.queue })) }
-{
-    let row = rows.get_mut(&slot).unwrap();
-    row.queue.splice_front(list);
+    put(rows, slot, row);
 }
 
 /// Takes the first waiter out.
-pub(crate) fn drop_front(rows: &mut BTreeMap<u64, SlotRow>, slot: u64) -> Option<Waiter>
-    requires { IsSome (map.get (table rows.old) slot) }
-    ensures row { IfSome (map.get (table rows.old) slot)
-        (λ row. table rows.new
-        ≡ map.insert (table rows.old) slot (record row { queue = drop 1 row.queue })) }
-    ensures waiter { IfSome (map.get (table rows.old) slot) (λ row. result ≡ front_of row.queue) }
+pub(crate) fn drop_front(rows: &mut Store<SlotRow>, slot: u64) -> Option<Waiter>
+    requires there { IsSome (map.get rows.old.map slot) }
+    ensures set { IsSet rows.old.map rows.new.map slot (with_queue (rows_of rows.old.map slot)
+        (behind_first (rows_of rows.old.map slot).queue)) }
+    ensures waiter { result ≡ front_of (rows_of rows.old.map slot).queue }
+    ensures room { rows.new.room ≡ rows.old.room }
 {
-    let row = rows.get_mut(&slot).unwrap();
-    row.queue.pop_front()
+    let mut row = take(rows, slot);
+    let waiter = row.queue.pop_front();
+    put(rows, slot, row);
+    waiter
 }
 
-/// Lets the slot's span begin there.
-pub(crate) fn set_low(rows: &mut BTreeMap<u64, SlotRow>, slot: u64, low: u64)
-    requires { IsSome (map.get (table rows.old) slot) }
-    ensures { IfSome (map.get (table rows.old) slot)
-        (λ row. table rows.new ≡ map.insert (table rows.old) slot (record row { low = low })) }
+/// Parts the row of the slot: the new row at the key, which its writer has alone, gets the waiters
+/// up to there.
+pub(crate) fn part(rows: &mut Store<SlotRow>, slot: u64, key: Point, client: u64)
+    requires there { IsSome (map.get rows.old.map slot) }
+    requires apart { key ≢ slot }
+    requires room { HasRoom rows.old key }
+    requires client { client < 64 }
+    ensures set { AreSet rows.old.map rows.new.map
+        key (record {
+          modes = split_modes (rows_of rows.old.map slot).modes client;
+          queue = up_to key (rows_of rows.old.map slot).queue;
+        })
+        slot (with_queue (rows_of rows.old.map slot)
+        (beyond key (rows_of rows.old.map slot).queue)) }
+    ensures room { rows.new.room ≡ rows.old.room }
 {
-    let row = rows.get_mut(&slot).unwrap();
-    row.low = low;
+    let mut row = take(rows, slot);
+    let mut new = row.split(client);
+    new.queue = row.queue.split_at(key);
+    put(rows, key.get(), new);
+    put(rows, slot, row);
 }
 
-/// Notes a reported key part at its point, where a slot stands there.
-pub(crate) fn tell_key(rows: &mut BTreeMap<u64, SlotRow>, piece: &KeyPiece)
-    ensures { (n : ℕ) → map.get (table rows.new) n
-        ≡ each (tell_keys (piece.now ∷ [])) n (map.get (table rows.old) n) }
+/// Takes the row at the key out, and puts its waiters before those of the slot.
+pub(crate) fn join(rows: &mut Store<SlotRow>, key: u64, slot: u64)
+    requires gone { IsSome (map.get rows.old.map key) }
+    requires kept { IsSome (map.get rows.old.map slot) }
+    requires apart { key ≢ slot }
+    ensures set { AreSet rows.old.map rows.new.map key blank_row
+        slot (with_queue (rows_of rows.old.map slot)
+        ((rows_of rows.old.map key).queue ++ (rows_of rows.old.map slot).queue)) }
+    ensures room { rows.new.room ≡ rows.old.room }
 {
-    if let Some(row) = rows.get_mut(&piece.point) {
-        row.tell_key(piece.part);
-    }
-}
-
-/// Parts the row of the slot: the new row at the key gets the waiters up to there, and the slot's
-/// span begins behind it. Where the memory for the row is refused, nothing changes.
-pub(crate) fn part(
-    rows: &mut BTreeMap<u64, SlotRow>,
-    slot: u64,
-    key: u64,
-    row: SlotRow,
-) -> Result<(), AllocError>
-    requires there { IsSome (map.get (table rows.old) slot) }
-    requires free { map.get (table rows.old) key ≡ None }
-    requires key { key < END }
-    ensures parted { OnOk result
-        (IfSome (map.get (table rows.old) slot)
-        (λ old. IsParted (table rows.old) (table rows.new) key slot old row)) }
-    ensures refused { OnErr result (table rows.new ≡ table rows.old) }
-{
-    let point = Point::new(key).unwrap();
-    put(rows, key, row)?;
-    let waiting = take_up_to(rows, slot, point);
-    put_before(rows, key, waiting);
-    set_low(rows, slot, key + 1);
-    Ok(())
-}
-
-/// Takes the row at the key out, and puts its waiters before those of the slot, whose span begins
-/// where that of the key did.
-pub(crate) fn join(rows: &mut BTreeMap<u64, SlotRow>, key: u64, slot: u64)
-    requires gone { IsSome (map.get (table rows.old) key) }
-    requires kept { IsSome (map.get (table rows.old) slot) }
-    requires apart { key < slot }
-    ensures { IfSome (map.get (table rows.old) key)
-        (λ gone. IfSome (map.get (table rows.old) slot)
-        (λ kept. IsJoined (table rows.old) (table rows.new) key slot gone kept)) }
-{
-    let SlotRow {
-        low,
-        modes: _,
-        queue,
-        told: _,
-    } = take(rows, key);
-    put_before(rows, slot, queue);
-    set_low(rows, slot, low);
+    let SlotRow { modes: _, queue } = rows.remove(key).unwrap();
+    let mut row = take(rows, slot);
+    row.queue.splice_front(queue);
+    put(rows, slot, row);
 }

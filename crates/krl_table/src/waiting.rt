@@ -1,5 +1,6 @@
 //! How each client waits.
-ghost use Rattle.std.specs.Prelude.{◌≡◌, ◌<◌, ℕ, Some, None, IfSome, MatchOption, set, length};
+ghost use Rattle.std.specs.Prelude.{◌≡◌, ◌<◌, ◌↔◌, ℕ, true, Some, None, IfSome, MatchOption, set};
+ghost use Rattle.std.specs.Prelude.{length, count_by, is_some};
 ghost use Rattle.krl_table.specs.Kept.{waiter_in, unlisted, AllWaitBelow, IsLeastPoint, lesser};
 
 use krl_modes::Point;
@@ -10,6 +11,9 @@ use krl_queue::Waiter;
 #[derive(Drop)]
 pub(crate) struct Waiting {
     pub(crate) by_client: [Option<Waiter>; 64],
+    /// How many of them wait.
+    count: u64,
+    ghost counted: { count ≡ count_by is_some by_client },
 }
 
 impl Waiting {
@@ -20,7 +24,15 @@ impl Waiting {
     {
         Waiting {
             by_client: [None; 64],
+            count: 0,
         }
+    }
+
+    /// Whether nobody waits. It looks at one number.
+    pub(crate) fn is_empty(&self) -> bool
+        ensures { (result ≡ true) ↔ ((c : ℕ) → waiter_in self.now.by_client c ≡ None) }
+    {
+        self.count == 0
     }
 
     /// How the client waits.
@@ -37,7 +49,12 @@ impl Waiting {
         ensures { self.new.by_client ≡ set self.old.by_client waiter.client (Some waiter) }
     {
         let client = waiter.client as usize;
+        let count = match self.by_client[client] {
+            Some(_) => self.count,
+            None => self.count + 1,
+        };
         self.by_client[client] = Some(waiter);
+        self.count = count;
     }
 
     /// The waiter's client waits no more, where there is one.
@@ -46,16 +63,33 @@ impl Waiting {
         ensures { self.new.by_client ≡ unlisted self.old.by_client waiter.now }
     {
         if let Some(waiter) = *waiter {
-            let client = waiter.client as usize;
-            self.by_client[client] = None;
+            self.clear(waiter.client);
         }
     }
 
-    /// The least point at or above this one that somebody waits for.
+    /// The client waits no more.
+    pub(crate) fn clear(&mut self, client: u64)
+        requires { client < 64 }
+        ensures { self.new.by_client ≡ set self.old.by_client client None }
+    {
+        let client = client as usize;
+        let count = match self.by_client[client] {
+            Some(_) => self.count - 1,
+            None => self.count,
+        };
+        self.by_client[client] = None;
+        self.count = count;
+    }
+
+    /// The least point at or above this one that somebody waits for. It looks at one number where
+    /// nobody waits.
     pub(crate) fn least_from(&self, low: u64) -> Option<Point>
         ensures { MatchOption result (AllWaitBelow self.now.by_client low)
             (λ point. IsLeastPoint self.now.by_client low point) }
     {
+        if self.is_empty() {
+            return None;
+        }
         let mut least = None;
         for waiter in &self.by_client {
             least = lesser(least, waiter, low);

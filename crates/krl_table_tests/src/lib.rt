@@ -4,4 +4,6 @@
 #[cfg(test)]
 mod again;
 #[cfg(test)]
+mod bench;
+#[cfg(test)]
 mod tests;

@@ -1,20 +1,41 @@
 //! A grant: on the waiter's slot, and on the slots after it.
-ghost use Rattle.std.specs.Prelude.{◌≡◌, ◌<◌, ◌≤◌, ◌-◌, ◌++◌, true, false, ℕ, suc, length};
+ghost use Rattle.std.specs.Prelude.{◌≡◌, ◌<◌, ◌≤◌, ◌-◌, ◌++◌, ◌&&◌, true, false, ℕ, suc, nat_eq};
+ghost use Rattle.std.specs.Prelude.{length};
 ghost use Rattle.std.specs.Prelude.{IsSome, IfSome, IfNone};
 ghost use Rattle.std.specs.FinMap as map;
 ghost use Rattle.krl_modes.specs.declared.point.TheConstants.{END};
-ghost use Rattle.krl_durable.specs.Index.{Index, slot_of};
+ghost use Rattle.krl_modes.specs.Modes.{needs_entry};
+ghost use Rattle.krl_durable.specs.Index.{Index, slot_of, is_slot};
 ghost use Rattle.krl_table.specs.Rows.{front_of};
 ghost use Rattle.krl_table.specs.Calls.{granted_first, raised, raised_on};
 ghost use Rattle.krl_table.specs.Grants.{granted, taken, can_take, goes_on, taken_after};
-ghost use Rattle.krl_table.specs.Kept.{rows_of, IsOver, IsTaken};
+ghost use Rattle.krl_table.specs.Kept.{row_of, rows_of, row_takes, IsOver, IsTaken};
 ghost use Rattle.krl_table.specs.Replies.{can_have};
 
 use super::Table;
+use crate::row::SlotRow;
 use crate::steps;
 use arrayvec::ArrayVec;
+use krl_durable::Durable;
 use krl_modes::{END, Point};
 use krl_queue::Waiter;
+
+/// Whether the waiter may take the slot, which has this row, beside its own.
+fn row_takes(row: &SlotRow, slot: u64, waiter: &Waiter) -> bool
+    requires { waiter.now.client < 64 }
+    ensures { result ≡ row_takes slot (row_of row.now) waiter.now }
+{
+    let free = row.queue.is_empty();
+    let fits = row.can_have(waiter);
+    free && fits && !lacks_entry(slot, waiter)
+}
+
+/// Whether the waiter asks for an entry alone, and the slot is END.
+fn lacks_entry(slot: u64, waiter: &Waiter) -> bool
+    ensures { result ≡ (needs_entry waiter.now.mode && nat_eq slot END) }
+{
+    waiter.mode.needs_entry() && slot == END
+}
 
 impl Table {
     /// The slot's first waiter gets what it wants, which can stand beside what all others hold
@@ -22,21 +43,20 @@ impl Table {
     /// of what the waiter asks for: up to the first where somebody waits, or where it can't stand
     /// beside what others hold, or which is END and the waiter asks for an entry alone. It answers
     /// the slots that were taken, in ascending order; none where nobody waits. It takes no memory.
-    pub fn grant(&mut self, slot: u64) -> ArrayVec<Point, 8>
-        requires there { IsSome (map.get self.old slot) }
+    pub fn grant(&mut self, durable: &Durable, slot: u64) -> ArrayVec<Point, 8>
+        requires over { IsOver durable.now.index self.old }
         requires fits { IfSome (front_of (rows_of self.old slot).queue)
             (λ u. can_have (rows_of self.old) slot u ≡ true) }
-        ensures granted { (m : Index) → IsOver m self.old → (n : ℕ)
-            → rows_of self.new n ≡ granted m (rows_of self.old) slot n }
-        ensures taken { (m : Index) → IsOver m self.old
-            → result.items ≡ taken m (rows_of self.old) slot }
-        ensures slots { (m : Index) → IsOver m self.old → IsOver m self.new }
+        ensures granted { (n : ℕ) → rows_of self.new n
+            ≡ granted durable.now.index (rows_of self.old) slot n }
+        ensures taken { result.items ≡ taken durable.now.index (rows_of self.old) slot }
+        ensures slots { IsOver durable.now.index self.new }
     {
         let mut taken = ArrayVec::new();
         if let Some(waiter) = self.front(slot) {
             self.grant_first(slot);
             taken.push(Point::new(slot).unwrap());
-            self.go_on(slot, &waiter, &mut taken);
+            self.go_on(durable, slot, &waiter, &mut taken);
         }
         taken
     }
@@ -48,7 +68,6 @@ impl Table {
             (λ u. can_have (rows_of self.old) slot u ≡ true) }
         ensures granted { (n : ℕ) → rows_of self.new n ≡ granted_first (rows_of self.old) slot n }
         ensures slots { (m : Index) → IsOver m self.old → IsOver m self.new }
-        ensures there { IsSome (map.get self.new slot) }
         ensures end { slot ≤ END }
     {
         let first = steps::grant(&mut self.rows, slot);
@@ -57,40 +76,49 @@ impl Table {
 
     /// The waiter's client gets what it wants on the slots after this one, as far as it may take
     /// them and there is room to note them. It takes one search for the next slot for each.
-    fn go_on(&mut self, slot: u64, waiter: &Waiter, taken: &mut ArrayVec<Point, 8>)
-        requires there { IsSome (map.get self.old slot) }
+    pub(super) fn go_on(
+        &mut self,
+        durable: &Durable,
+        slot: u64,
+        waiter: &Waiter,
+        taken: &mut ArrayVec<Point, 8>,
+    )
+        requires over { IsOver durable.now.index self.old }
         requires client { waiter.now.client < 64 }
-        ensures rows { (m : Index) → IsOver m self.old
-            → rows_of self.new
-            ≡ raised_on (rows_of self.old) (taken_after m (rows_of self.old) slot waiter.now
+        ensures rows { rows_of self.new
+            ≡ raised_on (rows_of self.old)
+            (taken_after durable.now.index (rows_of self.old) slot waiter.now
             (8 - length taken.old.items)) waiter.now }
-        ensures taken { (m : Index) → IsOver m self.old
-            → taken.new.items ≡ taken.old.items
-            ++ taken_after m (rows_of self.old) slot waiter.now (8 - length taken.old.items) }
-        ensures slots { (m : Index) → IsOver m self.old → IsOver m self.new }
+        ensures taken { taken.new.items ≡ taken.old.items
+            ++ taken_after durable.now.index (rows_of self.old) slot waiter.now
+            (8 - length taken.old.items) }
+        ensures slots { IsOver durable.now.index self.new }
     {
         let mut at = slot;
         while !taken.is_full() {
-            let Some(next) = self.next_taken(at, waiter) else {
+            let Some(next) = self.next_taken(durable, at, waiter) else {
                 return;
             };
-            self.raise(next.get(), waiter);
+            self.raise(durable, next.get(), waiter);
             taken.push(next);
             at = next.get();
         }
     }
 
     /// The slot after this one, where the waiter may take it.
-    fn next_taken(&self, at: u64, waiter: &Waiter) -> Option<Point>
-        requires { waiter.now.client < 64 }
-        ensures some { IfSome result (λ next. IsTaken self.now at waiter.now next) }
-        ensures none { IfNone result ((m : Index) → IsOver m self.now
-            → goes_on m (rows_of self.now) at waiter.now ≡ false) }
+    fn next_taken(&self, durable: &Durable, at: u64, waiter: &Waiter) -> Option<Point>
+        requires over { IsOver durable.now.index self.now }
+        requires client { waiter.now.client < 64 }
+        ensures some { IfSome result
+            (λ next. IsTaken durable.now.index self.now at waiter.now next) }
+        ensures slot { IfSome result (λ next. is_slot durable.now.index next ≡ true) }
+        ensures none { IfNone result
+            (goes_on durable.now.index (rows_of self.now) at waiter.now ≡ false) }
     {
         if at >= END || at + 1 >= waiter.hi {
             return None;
         }
-        let next = self.slot_after(at);
+        let next = durable.slot_of(at + 1);
         if self.can_take(next, waiter) {
             Point::new(next)
         } else {
@@ -98,40 +126,30 @@ impl Table {
         }
     }
 
-    /// The slot after this one.
-    fn slot_after(&self, slot: u64) -> u64
-        requires { slot < END }
-        ensures slot { (m : Index) → IsOver m self.now → result ≡ slot_of m (suc slot) }
-        ensures there { IsSome (map.get self.now result) }
-        ensures after { (slot < result) × (result ≤ END) }
-    {
-        steps::next(&self.rows, slot + 1)
-    }
-
     /// Whether the waiter may take the slot beside its own.
     fn can_take(&self, slot: u64, waiter: &Waiter) -> bool
-        requires there { IsSome (map.get self.now slot) }
-        requires client { waiter.now.client < 64 }
+        requires { waiter.now.client < 64 }
         ensures result { result ≡ can_take (rows_of self.now) slot waiter.now }
         ensures fits { result ≡ true → can_have (rows_of self.now) slot waiter.now ≡ true }
     {
-        let row = self.row(slot);
-        let free = row.queue.is_empty();
-        let fits = row.can_have(waiter);
-        free && fits && !(waiter.mode.needs_entry() && slot == END)
+        match self.rows.get(slot) {
+            Some(row) => row_takes(row, slot, waiter),
+            None => !lacks_entry(slot, waiter),
+        }
     }
 
     /// The waiter's client gets on the slot what it wants, which can stand beside what all others
     /// hold there.
-    fn raise(&mut self, slot: u64, waiter: &Waiter)
-        requires there { IsSome (map.get self.old slot) }
+    pub(super) fn raise(&mut self, durable: &Durable, slot: u64, waiter: &Waiter)
+        requires over { IsOver durable.now.index self.old }
+        requires slot { is_slot durable.now.index slot ≡ true }
         requires client { waiter.now.client < 64 }
         requires fits { can_have (rows_of self.old) slot waiter.now ≡ true }
         ensures raised { (n : ℕ)
             → rows_of self.new n ≡ raised (rows_of self.old) slot waiter.now n }
-        ensures slots { (m : Index) → IsOver m self.old → IsOver m self.new }
-        ensures there { IsSome (map.get self.new slot) }
+        ensures slots { IsOver durable.now.index self.new }
     {
+        let _kept = durable.epoch();
         steps::raise(&mut self.rows, slot, waiter);
     }
 }

@@ -1,20 +1,23 @@
-use Rattle.std.proofs.Common.{ℕ, refl, arith}
-use Rattle.std.proofs.lemmas.List.{length-set}
-use Rattle.krl_table.specs.declared.row.SlotRow.{SlotRow}
-use Rattle.krl_table.specs.Kept.{table}
-use Rattle.krl_table.specs.Kept.{cleared_row}
-use Rattle.krl_table.proofs.Means.{alike_whole}
-use Rattle.krl_table.proofs.Walk.{walk_step, walked_all}
-use Rattle.krl_table.proofs.Changes.{changed_alike}
+use Rattle.std.proofs.Common.{◌≡◌, refl, sym, ◌∙◌, arith}
+use Rattle.krl_table.specs.Kept.{rows_of, cleared_row}
+use Rattle.krl_table.proofs.Walk.{none_walked, walk_step, walk_ends, clear_keeps}
 use Rattle.krl_table.proofs.walks.clear.Goals as goal
 
-pub loop-at-preserved : goal.loop-at-preserved
-loop-at-preserved c =
-    let t = table c.loop-at.rows in let u = table c.clear.new.rows in let s = c.next-slot.result in
-    record {
-      whole = alike_whole t u (changed_alike t u s (λ (r : SlotRow). cleared_row c.args.client r) c.next-slot.ensures.there c.clear.ensures (λ r. refl) (λ r. length-set r.modes c.args.client _)) c.loop-at.invariant.whole;
-      walked = walk_step (λ (n : ℕ) (r : SlotRow). cleared_row c.args.client r) (table c.args.rows.now) t u c.loop-at.at s c.loop-at.invariant.walked c.next-slot.ensures c.clear.ensures;
+pub loop-slot-init : goal.loop-slot-init
+loop-slot-init c =
+    let t = c.args.rows.now.map in record {
+      walked = none_walked (λ n. cleared_row c.args.client) t 0 c.requires.used (λ n lt. absurd (omega (arith, lt)));
+      room = refl;
     }
 
-pub returns : goal.returns
-returns c = walked_all (λ (n : ℕ) (r : SlotRow). cleared_row c.args.client r) (table c.args.rows.now) (table c.loop-at.rows) c.loop-at.at c.requires.whole (omega arith) c.loop-at.invariant.walked
+pub loop-slot-preserved : goal.loop-slot-preserved
+loop-slot-preserved c =
+    let t = c.loop-slot.rows.map in let u = c.clear.new.rows.map in let s = c.in-Some.slot in let w = c.loop-slot.invariant in
+    record {
+      walked = walk_step (λ n. cleared_row c.args.client) c.args.rows.now.map (λ n. clear_keeps c.args.client) t c.loop-slot.at w.walked u s c.in-Some.ensures c.clear.ensures.set;
+      room = c.clear.ensures.room ∙ w.room;
+    }
+
+pub returns-clause-all : goal.returns-clause-all
+returns-clause-all c =
+    walk_ends (λ n. cleared_row c.args.client) c.args.rows.now.map (λ n. clear_keeps c.args.client) c.loop-slot.rows.map c.loop-slot.at c.loop-slot.invariant.walked c.in_default.ensures

@@ -1,16 +1,14 @@
-use Rattle.std.proofs.Common.{ℕ, ◌-◌, ◌+◌}
+use Rattle.std.proofs.Common.{◌≡◌, ◌-◌, ◌+◌, ◌≤◌}
 use Rattle.krl_modes.specs.declared.point.TheConstants.{END}
-use Rattle.krl_table.specs.declared.row.SlotRow.{SlotRow}
-use Rattle.krl_table.specs.Kept.{table, IsWhole}
 use Rattle.krl_table.specs.Kept.{cleared_row}
 use Rattle.krl_table.proofs.Walk.{IsWalked}
 use Rattle.krl_table.proofs.walks.clear.Given as goal
 
-abbrev pub invariant-loop-at : goal.invariant-loop-at
-invariant-loop-at l = record {
-  whole : IsWhole (table l.rows);
-  walked : IsWalked (λ (n : ℕ) (r : SlotRow). cleared_row l.client r) (table l.fn.rows) (table l.rows) l.at;
+abbrev pub invariant-loop-slot : goal.invariant-loop-slot
+invariant-loop-slot l = record {
+  walked : IsWalked (λ n. cleared_row l.client) l.fn.rows.map l.rows.map l.at;
+  room : l.rows.room ≡ l.fn.rows.room;
 }
 
-abbrev pub decreases-loop-at : goal.decreases-loop-at
-decreases-loop-at l = (END + 1) - l.at
+abbrev pub decreases-loop-slot : goal.decreases-loop-slot
+decreases-loop-slot l = END + 1 - l.at

@@ -1,13 +1,14 @@
-use Rattle.std.proofs.Common.{◌-◌}
-use Rattle.krl_table.specs.Kept.{table, lowered_row, IsWhole}
+use Rattle.std.proofs.Common.{◌≡◌, ◌-◌, ◌+◌, ◌≤◌}
+use Rattle.krl_table.specs.Kept.{lowered_between}
 use Rattle.krl_table.proofs.Walk.{IsWalked}
 use Rattle.krl_table.proofs.walks.lower.Given as goal
 
-abbrev pub invariant-loop-at : goal.invariant-loop-at
-invariant-loop-at l = record {
-  whole : IsWhole (table l.rows);
-  walked : IsWalked (lowered_row l.span l.client l.keep) (table l.fn.rows) (table l.rows) l.at;
+abbrev pub invariant-loop-slot : goal.invariant-loop-slot
+invariant-loop-slot l = record {
+  walked : IsWalked (lowered_between l.from l.hi l.client l.keep) l.fn.rows.map l.rows.map l.at;
+  from : l.from ≤ l.at;
+  room : l.rows.room ≡ l.fn.rows.room;
 }
 
-abbrev pub decreases-loop-at : goal.decreases-loop-at
-decreases-loop-at l = l.span.hi - l.at
+abbrev pub decreases-loop-slot : goal.decreases-loop-slot
+decreases-loop-slot l = l.hi - l.at

@@ -1,21 +1,21 @@
-use Rattle.std.proofs.Common.{◌≡◌, ◌∙◌, ap, subst}
-use Rattle.std.specs.Prelude.{IfSome}
+use Rattle.std.proofs.Common.{◌∙◌, ap, arith}
 use Rattle.krl_messages.specs.declared.to_client.PushBody.TheVariants as push
 use Rattle.krl_durable.specs.Index.{slot_of}
 use Rattle.krl_server.specs.States.{meaning}
 use Rattle.krl_server.specs.Effects.{pushes, holding}
 use Rattle.krl_server.proofs.state.State.answer_write.Goals as goal
 
+pub holding-holding-requires-clause-slot : goal.holding-holding-requires-clause-slot
+holding-holding-requires-clause-slot c = (c.slot_of-slot.ensures.least (omega (arith, c.key.ensures, c.requires.key))).slot
+
 pub returns-clause-server : goal.returns-clause-server
 returns-clause-server c =
     let s = meaning c.args.self.now in
-    let point = subst (λ o. IfSome o (λ p. p ≡ c.key.result)) c.unwrap-point.ensures c.new.ensures.point ∙ c.key.ensures in
-    let slot = c.slot_of-slot.ensures.slot c.args.self.now.durable.index c.requires.formed.over ∙ ap (slot_of c.args.self.now.durable.index) point in
+    let slot = c.slot_of-slot.ensures.slot ∙ ap (slot_of c.args.self.now.durable.index) c.key.ensures in
     c.push.ensures.server ∙ ap (λ h. (pushes s c.args.client (push.Answer c.args.number c.args.outcome h)).server) (c.holding-holding.ensures ∙ ap (λ n. holding s n c.args.client) slot)
 
 pub returns-clause-outs : goal.returns-clause-outs
 returns-clause-outs c =
     let s = meaning c.args.self.now in
-    let point = subst (λ o. IfSome o (λ p. p ≡ c.key.result)) c.unwrap-point.ensures c.new.ensures.point ∙ c.key.ensures in
-    let slot = c.slot_of-slot.ensures.slot c.args.self.now.durable.index c.requires.formed.over ∙ ap (slot_of c.args.self.now.durable.index) point in
+    let slot = c.slot_of-slot.ensures.slot ∙ ap (slot_of c.args.self.now.durable.index) c.key.ensures in
     c.push.ensures.outs ∙ ap (λ h. (pushes s c.args.client (push.Answer c.args.number c.args.outcome h)).outs) (c.holding-holding.ensures ∙ ap (λ n. holding s n c.args.client) slot)

@@ -1,15 +1,58 @@
-use Rattle.std.proofs.Common.{sym, ap, ◌∙◌}
+use Rattle.std.proofs.Common.{◌≡◌, ◌≤◌, ℕ, suc, Option, Some, None, IfSome, sym, ap, subst, ◌∙◌, arith}
 use Rattle.std.proofs.Math.Path.{fun_ext}
-use Rattle.krl_table.specs.Kept.{rows_of}
+use Rattle.krl_modes.specs.declared.point.TheConstants.{END}
+use Rattle.krl_table.specs.Kept.{rows_of, IsOver}
+use Rattle.krl_table.specs.Points.{MayInsert}
+use Rattle.krl_table.specs.Calls.{split}
+use Rattle.krl_durable.specs.Index.{slot_of}
+use Rattle.krl_durable.specs.Writes.{index_after, written}
 use Rattle.krl_server.specs.Effects.{rows_written, rows_after}
 use Rattle.krl_server.proofs.Changed.{insert_asks, delete_asks, put_after}
 use Rattle.krl_server.proofs.state.State.change_slots.Goals as goal
 
-pub split-requires-clause-may : goal.split-requires-clause-may
-split-requires-clause-may c = insert_asks c.args.self.now.durable.index c.args.self.now.table c.args.client c.args.op c.args.outcome c.in-Insert.key c.in-Insert.value c.requires.formed.over c.in-Insert.is c.in-Applied.is c.requires.key c.requires.judged
+-- the point of the key
+unwrapped : (o : Option ℕ) (x k : ℕ) → o ≡ Some x → IfSome o (λ p. p ≡ k) → x ≡ k
+unwrapped None x k e h = absurd (cc)
+unwrapped (Some y) x k e h = let same : y ≡ x = cc in sym same ∙ h
 
-pub merge-requires-clause-may : goal.merge-requires-clause-may
-merge-requires-clause-may c = (c.args.client, delete_asks c.args.self.now.durable.index c.args.self.now.table c.args.client c.args.op c.args.outcome c.in-Delete.key c.requires.formed.over c.in-Delete.is c.in-Applied.is c.requires.key c.requires.judged)
+pub unwrap-key-requires : goal.unwrap-key-requires
+unwrap-key-requires c = let asks = insert_asks c.args.self.now.durable.index c.args.self.now.table c.args.client c.args.op c.args.outcome c.in-Insert.key c.in-Insert.value c.in-Insert.is c.in-Applied.is c.requires.key c.requires.judged in
+    c.new.ensures.in_range.1 (let lt = asks.key in omega (arith, lt))
+
+pub split-requires : goal.split-requires
+split-requires c =
+    let m = c.args.self.now.durable.index in
+    let asks = insert_asks m c.args.self.now.table c.args.client c.args.op c.args.outcome c.in-Insert.key c.in-Insert.value c.in-Insert.is c.in-Applied.is c.requires.key c.requires.judged in
+    let same = unwrapped c.new.result c.unwrap-key.result c.in-Insert.key c.unwrap-key.ensures c.new.ensures.point in
+    record {
+      over = c.requires.formed.over;
+      client = c.requires.client;
+      key = subst (λ k. suc k ≤ END) (sym same) asks.key;
+      free = ap (Rattle.std.specs.FinMap.get m) same ∙ asks.free;
+      room = asks.room;
+      may = subst (λ k. MayInsert (rows_of c.args.self.now.table) (slot_of m k) c.args.client) (sym same) asks.may;
+    }
+
+pub merge-requires : goal.merge-requires
+merge-requires c =
+    let asks = delete_asks c.args.self.now.durable.index c.args.self.now.table c.args.client c.args.op c.args.outcome c.in-Delete.key c.in-Delete.is c.in-Applied.is c.requires.key c.requires.judged in
+    record { over = c.requires.formed.over; there = asks.there; key = asks.key; may = (c.args.client, asks.may) }
+
+pub returns-in-Insert-clause-rows : goal.returns-in-Insert-clause-rows
+returns-in-Insert-clause-rows c =
+    let m = c.args.self.now.durable.index in
+    let rows = rows_of c.args.self.now.table in
+    let same = unwrapped c.new.result c.unwrap-key.result c.in-Insert.key c.unwrap-key.ensures c.new.ensures.point in
+    fun_ext c.split.ensures.split ∙ ap (λ k. split m rows k c.args.client) same
+    ∙ sym (ap (λ o. rows_after m rows c.args.client c.args.op o) c.in-Applied.is ∙ ap (λ op. rows_written m rows c.args.client op) c.in-Insert.is)
+
+pub returns-in-Insert-clause-slots : goal.returns-in-Insert-clause-slots
+returns-in-Insert-clause-slots c =
+    let m = c.args.self.now.durable.index in
+    let same = unwrapped c.new.result c.unwrap-key.result c.in-Insert.key c.unwrap-key.ensures c.new.ensures.point in
+    subst (λ o. IsOver (index_after m c.args.op o) c.split.new.self) (sym c.in-Applied.is)
+    (subst (λ op. IsOver (written m op) c.split.new.self) (sym c.in-Insert.is)
+    (subst (λ k. IsOver (Rattle.std.specs.FinMap.insert m k c.in-Insert.value) c.split.new.self) same (c.split.ensures.slots c.in-Insert.value)))
 
 pub returns-in-Put-clause-slots : goal.returns-in-Put-clause-slots
 returns-in-Put-clause-slots c = put_after c.args.self.now.durable.index c.args.self.now.table c.args.op c.args.outcome c.in-Put.key c.in-Put.value _ c.in-Put.is c.in-Applied.is c.requires.key c.requires.judged c.requires.formed.over
@@ -18,5 +61,11 @@ pub returns-in-Delete-clause-rows : goal.returns-in-Delete-clause-rows
 returns-in-Delete-clause-rows c =
     let m = c.args.self.now.durable.index in
     let rows = rows_of c.args.self.now.table in
-    fun_ext (λ n. c.merge.ensures.merged m c.requires.formed.over n)
+    fun_ext c.merge.ensures.merged
     ∙ sym (ap (λ o. rows_after m rows c.args.client c.args.op o) c.in-Applied.is ∙ ap (λ op. rows_written m rows c.args.client op) c.in-Delete.is)
+
+pub returns-in-Delete-clause-slots : goal.returns-in-Delete-clause-slots
+returns-in-Delete-clause-slots c =
+    let m = c.args.self.now.durable.index in
+    subst (λ o. IsOver (index_after m c.args.op o) c.merge.new.self) (sym c.in-Applied.is)
+    (subst (λ op. IsOver (written m op) c.merge.new.self) (sym c.in-Delete.is) c.merge.ensures.slots)

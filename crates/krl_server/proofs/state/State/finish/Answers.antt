@@ -19,7 +19,7 @@ returns-then-not-calls_back-clause-finished c =
 
 pub answer-requires-clause-slots : goal.answer-requires-clause-slots
 answer-requires-clause-slots c = subst (HaveWaiters (meaning c.args.self.now) 0) (sym c.as_slice.ensures.value)
-    (listed c.args.self.now 0 c.waiting_slots-slots.result.items c.requires.formed.over c.waiting_slots-slots.ensures.slots c.waiting_slots-slots.ensures.there)
+    (listed c.args.self.now 0 c.waiting_slots-slots.result.items c.waiting_slots-slots.ensures.slots c.waiting_slots-slots.ensures.there)
 
 pub call_back-requires-clause-sound : goal.call_back-requires-clause-sound
 call_back-requires-clause-sound c = answering_sound (meaning c.args.self.now) (meaning c.answer.new.self) c.answer.ensures.answered.outs c.answer.ensures.answered.answered c.requires.sound

@@ -1,27 +1,26 @@
 use Rattle.std.proofs.Common.{refl, ◌∙◌}
 use Rattle.krl_server.specs.States.{meaning}
 use Rattle.krl_server.proofs.Grants.{taken_told}
-use Rattle.krl_server.proofs.Rounds.{slot_over}
 use Rattle.krl_server.proofs.Turning.{front_is}
 use Rattle.krl_server.proofs.state.State.grant.Goals as goal
 
-pub holdings-holdings-requires-clause-there : goal.holdings-holdings-requires-clause-there
-holdings-holdings-requires-clause-there c =
+pub holdings-holdings-requires-clause-slots : goal.holdings-holdings-requires-clause-slots
+holdings-holdings-requires-clause-slots c =
     let st = c.args.self.now in let m = st.durable.index in let s = meaning st in let u = c.args.waiter.now in let q = (s.rows c.args.slot).queue in
-    (taken_told s (meaning (record st { table = c.grant-slots.new.self })) c.grant-slots.new.self c.args.slot u c.as_slice.result.now _ c.requires.sound.near refl
-    (c.grant-slots.ensures.slots m c.requires.formed.over) (slot_over st c.args.slot c.requires.formed.over c.requires.there) (front_is q u c.requires.first)
-    (c.as_slice.ensures.value ∙ c.grant-slots.ensures.taken m c.requires.formed.over)).there
+    (taken_told s (meaning (record st { table = c.grant-slots.new.self })) c.args.slot u c.as_slice.result.now _ c.requires.sound.near refl
+    c.requires.slot (front_is q u c.requires.first)
+    (c.as_slice.ensures.value ∙ c.grant-slots.ensures.taken)).there
 
 pub holdings-holdings-requires-clause-order : goal.holdings-holdings-requires-clause-order
 holdings-holdings-requires-clause-order c =
     let st = c.args.self.now in let m = st.durable.index in let s = meaning st in let u = c.args.waiter.now in let q = (s.rows c.args.slot).queue in
-    (taken_told s (meaning (record st { table = c.grant-slots.new.self })) c.grant-slots.new.self c.args.slot u c.as_slice.result.now _ c.requires.sound.near refl
-    (c.grant-slots.ensures.slots m c.requires.formed.over) (slot_over st c.args.slot c.requires.formed.over c.requires.there) (front_is q u c.requires.first)
-    (c.as_slice.ensures.value ∙ c.grant-slots.ensures.taken m c.requires.formed.over)).order
+    (taken_told s (meaning (record st { table = c.grant-slots.new.self })) c.args.slot u c.as_slice.result.now _ c.requires.sound.near refl
+    c.requires.slot (front_is q u c.requires.first)
+    (c.as_slice.ensures.value ∙ c.grant-slots.ensures.taken)).order
 
 pub holdings-holdings-requires-clause-some : goal.holdings-holdings-requires-clause-some
 holdings-holdings-requires-clause-some c =
     let st = c.args.self.now in let m = st.durable.index in let s = meaning st in let u = c.args.waiter.now in let q = (s.rows c.args.slot).queue in
-    (taken_told s (meaning (record st { table = c.grant-slots.new.self })) c.grant-slots.new.self c.args.slot u c.as_slice.result.now _ c.requires.sound.near refl
-    (c.grant-slots.ensures.slots m c.requires.formed.over) (slot_over st c.args.slot c.requires.formed.over c.requires.there) (front_is q u c.requires.first)
-    (c.as_slice.ensures.value ∙ c.grant-slots.ensures.taken m c.requires.formed.over)).some
+    (taken_told s (meaning (record st { table = c.grant-slots.new.self })) c.args.slot u c.as_slice.result.now _ c.requires.sound.near refl
+    c.requires.slot (front_is q u c.requires.first)
+    (c.as_slice.ensures.value ∙ c.grant-slots.ensures.taken)).some

@@ -35,14 +35,14 @@ enqueue-requires-clause-client c = subst (λ (u : Waiter). u.client < 64) (sym c
 pub enqueue-requires-clause-free : goal.enqueue-requires-clause-free
 enqueue-requires-clause-free c = subst (λ (u : Waiter). WaitsNowhere (rows_of c.args.self.now.table) u.client) (sym c.in_ok-node-in-Waits.ensures.made) (waits_nowhere c.args.self.now.durable.index (rows_of c.args.self.now.table) c.args.message.now.client c.requires.server.ordered.table (facts_of (meaning c.args.self.now) c.args.message.now c.args.case.now _ c.requires.case c.in-Waits.is).free)
 
-pub write-requires-clause-client : goal.write-requires-clause-client
-write-requires-clause-client c = (facts_of (meaning c.args.self.now) c.args.message.now c.args.case.now _ c.requires.case c.in-Writes.is).client
+pub write-outcome-requires-clause-client : goal.write-outcome-requires-clause-client
+write-outcome-requires-clause-client c = (facts_of (meaning c.args.self.now) c.args.message.now c.args.case.now _ c.requires.case c.in-Writes.is).client
 
-pub write-requires-clause-key : goal.write-requires-clause-key
-write-requires-clause-key c = (facts_of (meaning c.args.self.now) c.args.message.now c.args.case.now _ c.requires.case c.in-Writes.is).key
+pub write-outcome-requires-clause-key : goal.write-outcome-requires-clause-key
+write-outcome-requires-clause-key c = (facts_of (meaning c.args.self.now) c.args.message.now c.args.case.now _ c.requires.case c.in-Writes.is).key
 
-pub write-requires-clause-unspent : goal.write-requires-clause-unspent
-write-requires-clause-unspent c = (facts_of (meaning c.args.self.now) c.args.message.now c.args.case.now _ c.requires.case c.in-Writes.is).unspent
+pub write-outcome-requires-clause-unspent : goal.write-outcome-requires-clause-unspent
+write-outcome-requires-clause-unspent c = (facts_of (meaning c.args.self.now) c.args.message.now c.args.case.now _ c.requires.case c.in-Writes.is).unspent
 
 pub hear-requires-in-Writes-clause-client : goal.hear-requires-in-Writes-clause-client
 hear-requires-in-Writes-clause-client c = (facts_of (meaning c.args.self.now) c.args.message.now c.args.case.now _ c.requires.case c.in-Writes.is).client
@@ -62,19 +62,19 @@ answer_write-requires-in-AnswersAgain-clause-client c = (facts_of (meaning c.arg
 pub answer_write-requires-in-AnswersAgain-clause-key : goal.answer_write-requires-in-AnswersAgain-clause-key
 answer_write-requires-in-AnswersAgain-clause-key c = (facts_of (meaning c.args.self.now) c.args.message.now c.args.case.now _ c.requires.case c.in-AnswersAgain.is).key
 
-pub returns-in_ok-outcome-in-Writes-clause-performed : goal.returns-in_ok-outcome-in-Writes-clause-performed
-returns-in_ok-outcome-in-Writes-clause-performed c =
+pub returns-in-Writes-clause-performed : goal.returns-in-Writes-clause-performed
+returns-in-Writes-clause-performed c =
     let s = meaning c.args.self.now in
     let own = c.args.message.now.client in
     let number = c.in-Writes.number in
     let op = c.in-Writes.op in
-    let o = c.in_ok-outcome-in-Writes.outcome in
-    let is = c.hear-in-Writes.ensures.heard ∙ ap (λ x. heard x own) c.in_ok-outcome-in-Writes.ensures.writes in
+    let o = c.write-outcome.result in
+    let is = c.hear-in-Writes.ensures.heard ∙ ap (λ x. heard x own) c.write-outcome.ensures.writes in
     record {
       outs = as_list c.answer_write.result;
       performed = subst (λ left. IsPerformed s c.args.message.now (meaning c.answer_write.new.self) left (as_list c.answer_write.result)) (sym (ap (λ (d : Performed). d.after) c.changing-in-Writes.ensures))
           (performed_write s c.args.message.now (meaning c.answer_write.new.self) number op o (as_list c.answer_write.result)
-          (ap (λ x. Judges number op x) c.in_ok-outcome-in-Writes.ensures.outcome ∙ (sym (ap (λ f. meant s own c.args.message.now.body f) c.in-Writes.is) ∙ c.requires.case))
+          (ap (λ x. Judges number op x) c.write-outcome.ensures.outcome ∙ (sym (ap (λ f. meant s own c.args.message.now.body f) c.in-Writes.is) ∙ c.requires.case))
           (c.answer_write.ensures.server ∙ ap (λ x. (answers x own number op o).server) is)
           (c.answer_write.ensures.outs ∙ ap (λ x. (answers x own number op o).outs) is));
       sends = c.send_some.ensures;

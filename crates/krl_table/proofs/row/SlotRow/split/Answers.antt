@@ -3,7 +3,7 @@ use Rattle.std.proofs.lemmas.List.{length-set}
 use Rattle.krl_modes.specs.Modes.{range_of}
 use Rattle.krl_table.specs.Calls.{split_modes}
 use Rattle.krl_table.specs.Kept.{mode_of}
-use Rattle.krl_table.proofs.Parted.{split_writer, split_other, split_more}
+use Rattle.krl_table.proofs.Parted.{split_all, split_writer, split_other, split_more}
 use Rattle.krl_table.proofs.row.SlotRow.split.Goals as goal
 use Rattle.krl_table.proofs.row.SlotRow.split.Goals.{then-other-client, else-other-client}
 
@@ -16,9 +16,14 @@ loop-other-preserved c =
       | else-other-client w ↦ split_other f c.args.client c.loop-other.other c.parts-range.result.0 c.if-other-client.row w.if-other-client.false part (w.row-is ∙ w.mode_beside.ensures)
     ] in
     record {
-      low = c.loop-other.invariant.low;
       full = length-set c.loop-other.row.modes c.loop-other.other c.if-other-client.row ∙ c.loop-other.invariant.full;
       queue = c.loop-other.invariant.queue;
-      told = c.loop-other.invariant.told;
       modes = split_more c.loop-other.row.modes (split_modes f c.args.client) c.loop-other.other c.if-other-client.row (omega (arith, c.loop-other.invariant.full)) c.loop-other.invariant.modes is;
     }
+
+pub returns : goal.returns
+returns c = let f = c.all_modes-modes.ensures.full in let new = c.loop-other.invariant in
+    (λ i. record {
+      modes = split_all c.args.self.now.modes c.loop-other.row.modes c.args.client c.requires f new.full (λ d lt. new.modes d (omega (arith, lt, c.loop-other-test.false))) i;
+      queue = new.queue i;
+    })

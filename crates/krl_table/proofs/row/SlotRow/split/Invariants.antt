@@ -1,14 +1,11 @@
 use Rattle.std.proofs.Common.{◌≡◌, ◌<◌, ℕ, [], length}
 use Rattle.krl_table.specs.Calls.{split_modes}
 use Rattle.krl_table.specs.Kept.{mode_of}
-use Rattle.krl_table.specs.Told.{nothing}
 use Rattle.krl_table.proofs.row.SlotRow.split.Given as goal
 
 abbrev pub invariant-loop-other : goal.invariant-loop-other
 invariant-loop-other l = record {
-  low : l.row.low ≡ l.self.low;
   full : length l.row.modes ≡ 64;
   queue : l.row.queue ≡ [];
-  told : l.row.told ≡ nothing;
   modes : (d : ℕ) → d < l.other → mode_of l.row.modes d ≡ split_modes (mode_of l.self.modes) l.client d;
 }

@@ -1,151 +1,56 @@
-use Rattle.std.proofs.Common.{◌≡◌, true, false, refl, sym, ap, subst, ◌∙◌}
+use Rattle.std.proofs.Common.{◌≡◌, ◌≤◌, ◌<◌, ◌↔◌, ℕ, Bool, true, false, refl, sym, ap, subst, ◌∙◌, arith}
+use Rattle.krl_modes.specs.declared.point.TheConstants.{END, TOP}
+use Rattle.krl_modes.specs.declared.mode.Mode.TheVariants as mode
 use Rattle.krl_table.specs.Reports.{conflicts, adopted}
-use Rattle.krl_table.specs.Kept.{table, rows_of, IsOver, IsSound, AreListed}
-use Rattle.krl_table.proofs.Means.{alike_whole, alike_over}
-use Rattle.krl_table.proofs.Indices.{an_index}
+use Rattle.krl_table.specs.Kept.{most_rows, rows_of, IsOver, AreListed}
 use Rattle.krl_table.proofs.Sounds.{listed_same}
-use Rattle.krl_table.proofs.Reach.{each_of}
-use Rattle.krl_table.proofs.Adopts.{IsIn, told_alike, keys_alike, spread_alike, fits_all, all_fits, settled_is, settled_alike, settled_queue, settled_sound, forgotten}
+use Rattle.krl_table.proofs.Clears.{lowered_sound, lowered_queue, lowered_over}
+use Rattle.krl_table.proofs.Reported.{no_conflict, fit_all, adopted_queue, adopted_sound, adopted_same, emptied_at, emptied_off, emptied_fits}
 use Rattle.krl_table.proofs.table.Table.adopt_report.Goals as goal
 
-pub spread-requires : goal.spread-requires
-spread-requires c =
-    let t0 = table c.self.inside.rows in let t1 = table c.tell_ranges.new.rows in let t2 = table c.tell_keys.new.rows in
-    let xs = c.as_slice.result.now in let ks = c.as_slice-2.result.now in
-    let over = an_index t0 c.self.invariant.0.whole in
-    let told = told_alike over.0 xs t0 t1 (c.tell_ranges.ensures.told over.0 over.1) in
-    let whole = alike_whole t1 t2 (keys_alike ks t1 t2 c.tell_keys.ensures) (alike_whole t0 t1 told c.self.invariant.0.whole) in
-    whole
-
 pub all_fit-requires : goal.all_fit-requires
-all_fit-requires c =
-    let t0 = table c.self.inside.rows in let t1 = table c.tell_ranges.new.rows in let t2 = table c.tell_keys.new.rows in
-    let xs = c.as_slice.result.now in let ks = c.as_slice-2.result.now in
-    let over = an_index t0 c.self.invariant.0.whole in
-    let told = told_alike over.0 xs t0 t1 (c.tell_ranges.ensures.told over.0 over.1) in
-    let whole = alike_whole t1 t2 (keys_alike ks t1 t2 c.tell_keys.ensures) (alike_whole t0 t1 told c.self.invariant.0.whole) in
-    let t3 = table c.spread.new.rows in
-    let whole_3 = alike_whole t2 t3 (spread_alike t2 t3 c.spread.ensures) whole in
-    whole_3
+all_fit-requires c = c.requires.over.near
 
 pub settle-requires : goal.settle-requires
 settle-requires c =
-    let t0 = table c.self.inside.rows in let t1 = table c.tell_ranges.new.rows in let t2 = table c.tell_keys.new.rows in
-    let xs = c.as_slice.result.now in let ks = c.as_slice-2.result.now in
-    let over = an_index t0 c.self.invariant.0.whole in
-    let told = told_alike over.0 xs t0 t1 (c.tell_ranges.ensures.told over.0 over.1) in
-    let whole = alike_whole t1 t2 (keys_alike ks t1 t2 c.tell_keys.ensures) (alike_whole t0 t1 told c.self.invariant.0.whole) in
-    let t3 = table c.spread.new.rows in
-    let whole_3 = alike_whole t2 t3 (spread_alike t2 t3 c.spread.ensures) whole in
-    record { whole = whole_3; client = c.requires }
-
-pub forget-requires : goal.forget-requires
-forget-requires c =
-    let t0 = table c.self.inside.rows in let t1 = table c.tell_ranges.new.rows in let t2 = table c.tell_keys.new.rows in
-    let xs = c.as_slice.result.now in let ks = c.as_slice-2.result.now in
-    let over = an_index t0 c.self.invariant.0.whole in
-    let told = told_alike over.0 xs t0 t1 (c.tell_ranges.ensures.told over.0 over.1) in
-    let whole = alike_whole t1 t2 (keys_alike ks t1 t2 c.tell_keys.ensures) (alike_whole t0 t1 told c.self.invariant.0.whole) in
-    let t3 = table c.spread.new.rows in
-    let whole_3 = alike_whole t2 t3 (spread_alike t2 t3 c.spread.ensures) whole in
-    whole_3
+    let m = c.args.durable.now.index in let t = c.self.inside.rows.map in let v = c.lower.new.rows.map in
+    record {
+      over = lowered_over 0 TOP c.args.client mode.N c.requires.client t v c.lower.ensures.all m (subst (IsOver m) (sym c.self.view_is) c.requires.over);
+      used = c.lower.ensures.all.used;
+      few = c.epoch-kept.ensures.kept.few;
+      room = subst (λ n. most_rows ≤ n) (sym c.lower.ensures.room) c.self.invariant.2;
+      client = c.requires.client;
+      free = λ n. emptied_at c.args.client t v c.self.invariant.0 c.lower.ensures.all n;
+    }
 
 pub invariant_of-self : goal.invariant_of-self
 invariant_of-self c =
-    let t0 = table c.self.inside.rows in let t1 = table c.tell_ranges.new.rows in let t2 = table c.tell_keys.new.rows in
-    let xs = c.as_slice.result.now in let ks = c.as_slice-2.result.now in
-    let over = an_index t0 c.self.invariant.0.whole in
-    let told = told_alike over.0 xs t0 t1 (c.tell_ranges.ensures.told over.0 over.1) in
-    let t3 = table c.spread.new.rows in
-    let within = each_of IsIn xs c.tell_ranges.ensures.within in
-    let pieces = c.args.pieces.now in
-    let t4 = table c.settle.new.rows in (
-      settled_sound over.0 t0 t1 t2 t3 over.1 c.self.invariant.0 xs ks within (c.tell_ranges.ensures.told over.0 over.1) c.tell_keys.ensures c.spread.ensures pieces (sym c.as_slice.ensures) (sym c.as_slice-2.ensures) c.args.client t4 c.requires c.settle.ensures (c.all_fit.ensures.0 c.if-all_fit.true),
-      listed_same c.self.inside.waiting.by_client t0 t4 (settled_queue over.0 t0 t1 t2 t3 over.1 c.self.invariant.0 xs ks within (c.tell_ranges.ensures.told over.0 over.1) c.tell_keys.ensures c.spread.ensures pieces (sym c.as_slice.ensures) (sym c.as_slice-2.ensures) c.args.client t4 c.requires c.settle.ensures) c.self.invariant.1,
+    let m = c.args.durable.now.index in let t = c.self.inside.rows.map in let v = c.lower.new.rows.map in let u = c.settle.new.rows.map in let pieces = c.args.pieces.now in
+    let fit = c.all_fit.ensures.0 (grind (arith, c.if-not-all_fit.false)) in
+    let sound = lowered_sound 0 TOP c.args.client mode.N c.requires.client t v c.lower.ensures.all c.self.invariant.0 in
+    let over = lowered_over 0 TOP c.args.client mode.N c.requires.client t v c.lower.ensures.all m (subst (IsOver m) (sym c.self.view_is) c.requires.over) in (
+      adopted_sound m c.args.client pieces v u c.requires.client sound c.settle.ensures.adopted (emptied_fits c.args.client t v c.lower.ensures.all m over.near pieces fit) c.settle.ensures.over c.settle.ensures.used,
+      listed_same c.self.inside.waiting.by_client t u (λ n. adopted_queue m c.args.client pieces v u c.requires.client sound c.settle.ensures.adopted n ∙ lowered_queue 0 TOP c.args.client mode.N c.requires.client t v c.lower.ensures.all n) c.self.invariant.1,
+      subst (λ n. most_rows ≤ n) (sym (c.settle.ensures.room ∙ c.lower.ensures.room)) c.self.invariant.2,
     )
 
-pub invariant_of-self-else-all_fit : goal.invariant_of-self-else-all_fit
-invariant_of-self-else-all_fit c =
-    let t0 = table c.self.inside.rows in let t1 = table c.tell_ranges.new.rows in let t2 = table c.tell_keys.new.rows in
-    let xs = c.as_slice.result.now in let ks = c.as_slice-2.result.now in
-    let over = an_index t0 c.self.invariant.0.whole in
-    let told = told_alike over.0 xs t0 t1 (c.tell_ranges.ensures.told over.0 over.1) in
-    let t3 = table c.spread.new.rows in
-    let within = each_of IsIn xs c.tell_ranges.ensures.within in
-    let pieces = c.args.pieces.now in
-    let t4 = table c.forget.new.rows in
-    let same : t4 ≡ t0 = (forgotten over.0 t0 t1 t2 t3 over.1 c.self.invariant.0 xs ks within (c.tell_ranges.ensures.told over.0 over.1) c.tell_keys.ensures c.spread.ensures pieces (sym c.as_slice.ensures) (sym c.as_slice-2.ensures) c.args.client t4 c.forget.ensures) in
-    (subst IsSound (sym same) c.self.invariant.0, subst (AreListed c.self.inside.waiting.by_client) (sym same) c.self.invariant.1)
+pub returns-clause-adopted : goal.returns-clause-adopted
+returns-clause-adopted c n =
+    let m = c.args.durable.now.index in let t = c.self.inside.rows.map in let v = c.lower.new.rows.map in
+    let over = subst (IsOver m) (sym c.self.view_is) c.requires.over in
+    c.settle.ensures.adopted n
+    ∙ adopted_same m c.args.client c.args.pieces.now t v over (λ k e. emptied_off c.args.client t v c.lower.ensures.all m over k e) (λ k e. Rattle.krl_table.proofs.Reported.blank_off c.args.client t v c.lower.ensures.all m over k e) n
+    ∙ ap (λ x. adopted m (rows_of x) c.args.client c.args.pieces.now n) c.self.view_is
 
-pub returns-then-all_fit-clause-conflict : goal.returns-then-all_fit-clause-conflict
-returns-then-all_fit-clause-conflict c m over_m =
-    let t0 = table c.self.inside.rows in let t1 = table c.tell_ranges.new.rows in let t2 = table c.tell_keys.new.rows in
-    let xs = c.as_slice.result.now in let ks = c.as_slice-2.result.now in
-    let over = an_index t0 c.self.invariant.0.whole in
-    let told = told_alike over.0 xs t0 t1 (c.tell_ranges.ensures.told over.0 over.1) in
-    let t3 = table c.spread.new.rows in
-    let within = each_of IsIn xs c.tell_ranges.ensures.within in
-    let pieces = c.args.pieces.now in
-    let mine = subst (IsOver m) (sym c.self.view_is) over_m in
-    (λ e. ap (λ t. conflicts m (rows_of t) c.args.client pieces) (sym c.self.view_is) ∙ (fits_all m t0 t1 t2 t3 mine c.self.invariant.0 xs ks within (c.tell_ranges.ensures.told m mine) c.tell_keys.ensures c.spread.ensures pieces (sym c.as_slice.ensures) (sym c.as_slice-2.ensures) c.args.client) (c.all_fit.ensures.0 c.if-all_fit.true), λ e. refl)
+pub returns-clause-conflict : goal.returns-clause-conflict
+returns-clause-conflict c =
+    let m = c.args.durable.now.index in
+    (λ ok. subst (λ x. conflicts m (rows_of x) c.args.client c.args.pieces.now ≡ false) c.self.view_is (no_conflict m (rows_of c.self.inside.rows.map) c.args.client c.args.pieces.now (c.all_fit.ensures.0 (grind (arith, c.if-not-all_fit.false)))), λ e. refl)
 
-pub returns-then-all_fit-clause-adopted : goal.returns-then-all_fit-clause-adopted
-returns-then-all_fit-clause-adopted c m over_m n =
-    let t0 = table c.self.inside.rows in let t1 = table c.tell_ranges.new.rows in let t2 = table c.tell_keys.new.rows in
-    let xs = c.as_slice.result.now in let ks = c.as_slice-2.result.now in
-    let over = an_index t0 c.self.invariant.0.whole in
-    let told = told_alike over.0 xs t0 t1 (c.tell_ranges.ensures.told over.0 over.1) in
-    let t3 = table c.spread.new.rows in
-    let within = each_of IsIn xs c.tell_ranges.ensures.within in
-    let pieces = c.args.pieces.now in
-    let mine = subst (IsOver m) (sym c.self.view_is) over_m in let t4 = table c.settle.new.rows in
-    (settled_is m t0 t1 t2 t3 mine c.self.invariant.0 xs ks within (c.tell_ranges.ensures.told m mine) c.tell_keys.ensures c.spread.ensures pieces (sym c.as_slice.ensures) (sym c.as_slice-2.ensures) c.args.client t4 c.requires c.settle.ensures n) ∙ ap (λ t. adopted m (rows_of t) c.args.client pieces n) c.self.view_is
-
-pub returns-then-all_fit-clause-slots : goal.returns-then-all_fit-clause-slots
-returns-then-all_fit-clause-slots c m over_m =
-    let t0 = table c.self.inside.rows in let t1 = table c.tell_ranges.new.rows in let t2 = table c.tell_keys.new.rows in
-    let xs = c.as_slice.result.now in let ks = c.as_slice-2.result.now in
-    let over = an_index t0 c.self.invariant.0.whole in
-    let told = told_alike over.0 xs t0 t1 (c.tell_ranges.ensures.told over.0 over.1) in
-    let t3 = table c.spread.new.rows in
-    let within = each_of IsIn xs c.tell_ranges.ensures.within in
-    let pieces = c.args.pieces.now in
-    let mine = subst (IsOver m) (sym c.self.view_is) over_m in let t4 = table c.settle.new.rows in
-    alike_over m t0 t4 (settled_alike m t0 t1 t2 t3 mine c.self.invariant.0 xs ks within (c.tell_ranges.ensures.told m mine) c.tell_keys.ensures c.spread.ensures pieces (sym c.as_slice.ensures) (sym c.as_slice-2.ensures) c.args.client t4 c.requires c.settle.ensures) mine
-
-pub returns-else-all_fit-clause-conflict : goal.returns-else-all_fit-clause-conflict
-returns-else-all_fit-clause-conflict c m over_m =
-    let t0 = table c.self.inside.rows in let t1 = table c.tell_ranges.new.rows in let t2 = table c.tell_keys.new.rows in
-    let xs = c.as_slice.result.now in let ks = c.as_slice-2.result.now in
-    let over = an_index t0 c.self.invariant.0.whole in
-    let told = told_alike over.0 xs t0 t1 (c.tell_ranges.ensures.told over.0 over.1) in
-    let t3 = table c.spread.new.rows in
-    let within = each_of IsIn xs c.tell_ranges.ensures.within in
-    let pieces = c.args.pieces.now in
-    let mine = subst (IsOver m) (sym c.self.view_is) over_m in
-    (λ e. absurd (cc), λ e. absurd (let all = c.all_fit.ensures.1 (all_fits m t0 t1 t2 t3 mine c.self.invariant.0 xs ks within (c.tell_ranges.ensures.told m mine) c.tell_keys.ensures c.spread.ensures pieces (sym c.as_slice.ensures) (sym c.as_slice-2.ensures) c.args.client (ap (λ t. conflicts m (rows_of t) c.args.client pieces) c.self.view_is ∙ e)) in let clash : true ≡ false = sym all ∙ c.if-all_fit.false in cc))
-
-pub returns-else-all_fit-clause-refused : goal.returns-else-all_fit-clause-refused
-returns-else-all_fit-clause-refused c =
-    let t0 = table c.self.inside.rows in let t1 = table c.tell_ranges.new.rows in let t2 = table c.tell_keys.new.rows in
-    let xs = c.as_slice.result.now in let ks = c.as_slice-2.result.now in
-    let over = an_index t0 c.self.invariant.0.whole in
-    let told = told_alike over.0 xs t0 t1 (c.tell_ranges.ensures.told over.0 over.1) in
-    let t3 = table c.spread.new.rows in
-    let within = each_of IsIn xs c.tell_ranges.ensures.within in
-    let pieces = c.args.pieces.now in
-    let t4 = table c.forget.new.rows in
-    (forgotten over.0 t0 t1 t2 t3 over.1 c.self.invariant.0 xs ks within (c.tell_ranges.ensures.told over.0 over.1) c.tell_keys.ensures c.spread.ensures pieces (sym c.as_slice.ensures) (sym c.as_slice-2.ensures) c.args.client t4 c.forget.ensures) ∙ c.self.view_is
-
-pub returns-else-all_fit-clause-slots : goal.returns-else-all_fit-clause-slots
-returns-else-all_fit-clause-slots c m over_m =
-    let t0 = table c.self.inside.rows in let t1 = table c.tell_ranges.new.rows in let t2 = table c.tell_keys.new.rows in
-    let xs = c.as_slice.result.now in let ks = c.as_slice-2.result.now in
-    let over = an_index t0 c.self.invariant.0.whole in
-    let told = told_alike over.0 xs t0 t1 (c.tell_ranges.ensures.told over.0 over.1) in
-    let t3 = table c.spread.new.rows in
-    let within = each_of IsIn xs c.tell_ranges.ensures.within in
-    let pieces = c.args.pieces.now in
-    let t4 = table c.forget.new.rows in
-    let same : t4 ≡ t0 = (forgotten over.0 t0 t1 t2 t3 over.1 c.self.invariant.0 xs ks within (c.tell_ranges.ensures.told over.0 over.1) c.tell_keys.ensures c.spread.ensures pieces (sym c.as_slice.ensures) (sym c.as_slice-2.ensures) c.args.client t4 c.forget.ensures) in
-    subst (IsOver m) (sym (same ∙ c.self.view_is)) over_m
+pub returns-then-not-all_fit-clause-conflict : goal.returns-then-not-all_fit-clause-conflict
+returns-then-not-all_fit-clause-conflict c =
+    let m = c.args.durable.now.index in (
+      λ ok. absurd (cc),
+      λ e. absurd (let yes = c.all_fit.ensures.1 (fit_all m (rows_of c.self.inside.rows.map) c.args.client c.args.pieces.now (subst (λ x. conflicts m (rows_of x) c.args.client c.args.pieces.now ≡ false) (sym c.self.view_is) e)) in
+          let no : c.all_fit.result ≡ false = grind (arith, c.if-not-all_fit.true) in let bad : true ≡ false = sym yes ∙ no in cc),
+    )

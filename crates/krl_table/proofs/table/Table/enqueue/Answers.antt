@@ -1,50 +1,35 @@
-use Rattle.std.proofs.Common.{◌≡◌, ℕ, ◌≤◌, ◌<◌, None, Some, IfSome, subst, sym, ap, ◌∙◌}
-use Rattle.std.specs.FinMap.{get, insert}
+use Rattle.std.proofs.Common.{◌≡◌, ◌≤◌, ℕ, Some, None, sym, ap, subst, ◌∙◌}
 use Rattle.krl_modes.specs.declared.point.TheConstants.{END}
-use Rattle.krl_queue.specs.declared.waiter.Waiter.{Waiter}
 use Rattle.krl_queue.specs.Waiting.{first_of}
-use Rattle.krl_table.specs.declared.row.SlotRow.{SlotRow}
-use Rattle.krl_table.specs.Rows.{set_row}
-use Rattle.krl_table.specs.Calls.{queue_with, with_queue}
-use Rattle.krl_table.specs.Kept.{table, row_of, rows_of, IsNext, IsSound, AreListed}
-use Rattle.krl_table.proofs.Means.{alike_over}
-use Rattle.krl_table.proofs.Slots.{slot_is}
-use Rattle.krl_table.proofs.Fronts.{more_is, more_alike, more_sound, more_listed}
+use Rattle.krl_table.specs.Calls.{with_queue, queue_with}
+use Rattle.krl_table.specs.Kept.{most_rows, rows_of, IsOver, IsSet, AreListed}
+use Rattle.krl_table.proofs.Rooms.{room_at}
+use Rattle.krl_table.proofs.Slots.{next_of, slot_end}
+use Rattle.krl_table.proofs.Fronts.{more_sound, more_listed, more_over}
 use Rattle.krl_table.proofs.table.Table.enqueue.Goals as goal
 
-pub enqueue-requires : goal.enqueue-requires
-enqueue-requires c = record { there = c.next-slot.ensures.there; client = c.requires.client }
-
-pub note-requires : goal.note-requires
-note-requires c = subst (λ w. w.client < 64) (sym c.waiter-waiter.ensures) c.requires.client
+pub enqueue-requires-clause-room : goal.enqueue-requires-clause-room
+enqueue-requires-clause-room c none =
+    let m = c.args.durable.now.index in let t = c.self.inside.rows.map in let over = subst (IsOver m) (sym c.self.view_is) c.requires.over in
+    room_at m t over c.self.inside.rows.room c.slot_of-slot.result c.self.invariant.2 c.epoch-kept.ensures.kept.few
+    (c.slot_of-slot.ensures.least c.get.ensures.in_range).slot none
 
 pub invariant_of-self : goal.invariant_of-self
 invariant_of-self c =
-    let t = table c.self.inside.rows in let u = table c.enqueue.new.rows in let k = c.next-slot.result in let w : Waiter = c.args.node in
-    let at = c.get.ensures.number ∙ ap (λ x. x.point) c.waiter-waiter.ensures in
-    let next : IsNext t w.point k = subst (λ p. IsNext t p k) at c.next-slot.ensures in
-    let point : w.point ≤ END = subst (λ p. p ≤ END) at c.get.ensures.in_range in
-    let free : (n : ℕ) → first_of w.client (rows_of t n).queue ≡ None = λ n. ap (λ x. first_of w.client (rows_of x n).queue) c.self.view_is ∙ c.requires.free n in (
-      more_sound t u k w c.self.invariant.0 next.there c.enqueue.ensures c.requires.client point next free,
-      subst (λ l. AreListed l u) (sym (c.note.ensures ∙ ap (λ x. Rattle.std.specs.Prelude.slice_set c.self.inside.waiting.by_client x.client (Some x)) c.waiter-waiter.ensures))
-          (more_listed t u k w c.self.invariant.0 next.there c.enqueue.ensures c.requires.client point next free c.self.inside.waiting.by_client c.self.invariant.1),
+    let m = c.args.durable.now.index in let t = c.self.inside.rows.map in let u = c.enqueue.new.rows.map in let w = c.args.node in let k = c.slot_of-slot.result in
+    let free = λ (n : ℕ). subst (λ x. first_of w.client (rows_of x n).queue ≡ None) (sym c.self.view_is) (c.requires.free n) in
+    let le = slot_end m c.requires.over.near k (c.slot_of-slot.ensures.least c.get.ensures.in_range).slot in (
+      more_sound t u k w c.self.invariant.0 c.enqueue.ensures.set c.requires.client free le,
+      subst (λ l. AreListed l u) (sym (c.note.ensures ∙ ap (λ x. Rattle.std.proofs.Common.set c.self.inside.waiting.by_client x.client (Some x)) c.waiter-waiter.ensures))
+          (more_listed t u k w c.self.invariant.0 c.enqueue.ensures.set c.requires.client free c.self.inside.waiting.by_client c.self.invariant.1),
+      subst (λ n. most_rows ≤ n) (sym c.enqueue.ensures.room) c.self.invariant.2,
     )
 
-pub returns-clause-enqueued : goal.returns-clause-enqueued
-returns-clause-enqueued c m over n =
-    let t = c.args.self.now in let u = table c.enqueue.new.rows in let k = c.next-slot.result in let w : Waiter = c.args.node in
-    let at = c.get.ensures.number ∙ ap (λ x. x.point) c.waiter-waiter.ensures in
-    let next : IsNext t w.point k = subst (λ x. IsNext x w.point k) c.self.view_is (subst (λ p. IsNext (table c.self.inside.rows) p k) at c.next-slot.ensures) in
-    let point : w.point ≤ END = subst (λ p. p ≤ END) at c.get.ensures.in_range in
-    let e = subst (λ x. IfSome (get x k) (λ (row : SlotRow). u ≡ insert x k (record row { queue = queue_with (row_of row) w }))) c.self.view_is c.enqueue.ensures in
-    more_is t u k w (subst IsSound c.self.view_is c.self.invariant.0) next.there e c.requires.client point next c.requires.free n
-    ∙ ap (λ y. set_row (rows_of t) y (with_queue (rows_of t y) (queue_with (rows_of t y) w)) n) (sym (slot_is m t over w.point k point next))
-
 pub returns-clause-slots : goal.returns-clause-slots
-returns-clause-slots c m =
-    let t = c.args.self.now in let u = table c.enqueue.new.rows in let k = c.next-slot.result in let w : Waiter = c.args.node in
-    let at = c.get.ensures.number ∙ ap (λ x. x.point) c.waiter-waiter.ensures in
-    let next : IsNext t w.point k = subst (λ x. IsNext x w.point k) c.self.view_is (subst (λ p. IsNext (table c.self.inside.rows) p k) at c.next-slot.ensures) in
-    let point : w.point ≤ END = subst (λ p. p ≤ END) at c.get.ensures.in_range in
-    let e = subst (λ x. IfSome (get x k) (λ (row : SlotRow). u ≡ insert x k (record row { queue = queue_with (row_of row) w }))) c.self.view_is c.enqueue.ensures in
-    alike_over m t u (more_alike t u k w (subst IsSound c.self.view_is c.self.invariant.0) next.there e c.requires.client point next c.requires.free)
+returns-clause-slots c =
+    let m = c.args.durable.now.index in let t = c.self.inside.rows.map in let u = c.enqueue.new.rows.map in let w = c.args.node in let k = c.slot_of-slot.result in
+    let free = λ (n : ℕ). subst (λ x. first_of w.client (rows_of x n).queue ≡ None) (sym c.self.view_is) (c.requires.free n) in
+    let over = subst (IsOver m) (sym c.self.view_is) c.requires.over in
+    let at : c.get.result ≡ w.point = c.get.ensures.number ∙ ap (λ x. x.point) c.waiter-waiter.ensures in
+    more_over t u k w c.self.invariant.0 c.enqueue.ensures.set c.requires.client free m over (c.slot_of-slot.ensures.least c.get.ensures.in_range).slot
+    (subst (λ n. n ≤ END) at c.get.ensures.in_range) (ap (Rattle.krl_durable.specs.Index.slot_of m) (sym at) ∙ sym c.slot_of-slot.ensures.slot)

@@ -1,41 +1,46 @@
-use Rattle.std.proofs.Common.{◌≡◌, ℕ, List, ◌-◌, ◌++◌, [], ◌∷◌, Option, Some, None, IfSome, length, sym, ap, ◌∙◌}
+use Rattle.std.proofs.Common.{◌≡◌, ℕ, List, ◌-◌, ◌++◌, [], ◌∷◌, Option, Some, None, IfSome, ◌<◌, length, sym, ap, subst, ◌∙◌}
 use Rattle.std.proofs.Math.Path.{fun_ext}
 use Rattle.krl_table.specs.Rows.{Rows}
 use Rattle.krl_table.specs.Calls.{raised_on, granted_first}
 use Rattle.krl_table.specs.Grants.{taken_after}
 use Rattle.krl_table.specs.Kept.{rows_of}
-use Rattle.krl_table.proofs.Raises.{granted_from, taken_from}
+use Rattle.krl_table.proofs.Raises.{granted_from, taken_from, one_noted, unwrapped}
+use Rattle.krl_table.proofs.Fronts.{front_there}
 use Rattle.krl_table.proofs.table.Table.grant.Goals as goal
-
-one_noted : (old new : List ℕ) (k : ℕ) → old ≡ [] → new ≡ old ++ k ∷ [] → 8 - length new ≡ 7
-one_noted old new k e f = ap (λ l. 8 - length l) (f ∙ ap (λ l. l ++ k ∷ []) e)
-
-unwrapped : (o : Option ℕ) (x k : ℕ) → o ≡ Some x → IfSome o (λ p. p ≡ k) → x ≡ k
-unwrapped None x k e h = absurd (cc)
-unwrapped (Some y) x k e h = let same : y ≡ x = cc in sym same ∙ h
 
 pub unwrap-requires : goal.unwrap-requires
 unwrap-requires c = c.new.ensures.in_range.1 c.grant_first.ensures.end
 
 pub returns-in-Some-clause-granted : goal.returns-in-Some-clause-granted
-returns-in-Some-clause-granted c m over n =
+returns-in-Some-clause-granted c n =
+    let m = c.args.durable.now.index in
     let rows = rows_of c.args.self.now in let w = c.in-Some.waiter in let k = c.args.slot in
     let first : rows_of c.grant_first.new.self ≡ granted_first rows k = fun_ext c.grant_first.ensures.granted in
     let many : 8 - length c.push.new.self.items ≡ 7 = one_noted c.new-taken.result.items c.push.new.self.items _ c.new-taken.ensures c.push.ensures.items in
-    ap (λ (r : Rows). r n) (c.go_on.ensures.rows m (c.grant_first.ensures.slots m over)
+    ap (λ (r : Rows). r n) (c.go_on.ensures.rows
     ∙ ap (λ j. raised_on (rows_of c.grant_first.new.self) (taken_after m (rows_of c.grant_first.new.self) k w j) w) many
     ∙ ap (λ (r : Rows). raised_on r (taken_after m r k w 7) w) first
     ∙ sym (granted_from m rows k w (sym c.front.ensures.front ∙ c.in-Some.is)))
 
 pub returns-in-Some-clause-taken : goal.returns-in-Some-clause-taken
-returns-in-Some-clause-taken c m over =
+returns-in-Some-clause-taken c =
+    let m = c.args.durable.now.index in
     let rows = rows_of c.args.self.now in let w = c.in-Some.waiter in let k = c.args.slot in
     let first : rows_of c.grant_first.new.self ≡ granted_first rows k = fun_ext c.grant_first.ensures.granted in
     let many = one_noted c.new-taken.result.items c.push.new.self.items _ c.new-taken.ensures c.push.ensures.items in
     let at : c.unwrap.result ≡ k = unwrapped c.new.result c.unwrap.result k c.unwrap.ensures c.new.ensures.point in
-    c.go_on.ensures.taken m (c.grant_first.ensures.slots m over)
+    c.go_on.ensures.taken
     ∙ ap (λ l. l ++ taken_after m (rows_of c.grant_first.new.self) k w (8 - length c.push.new.self.items)) (c.push.ensures.items ∙ ap (λ l. l ++ c.unwrap.result ∷ []) c.new-taken.ensures)
     ∙ ap (λ i. i ∷ taken_after m (rows_of c.grant_first.new.self) k w (8 - length c.push.new.self.items)) at
     ∙ ap (λ j. k ∷ taken_after m (rows_of c.grant_first.new.self) k w j) many
     ∙ ap (λ (r : Rows). k ∷ taken_after m r k w 7) first
     ∙ sym (taken_from m rows k w (sym c.front.ensures.front ∙ c.in-Some.is))
+
+pub grant_first-requires : goal.grant_first-requires
+grant_first-requires c = record { there = front_there c.args.self.now c.args.slot c.in-Some.waiter (sym c.front.ensures.front ∙ c.in-Some.is); fits = c.requires.fits }
+
+pub go_on-requires : goal.go_on-requires
+go_on-requires c = record {
+  over = c.grant_first.ensures.slots c.args.durable.now.index c.requires.over;
+  client = subst (λ o. IfSome o (λ u. u.client < 64)) c.in-Some.is c.front.ensures.client;
+}

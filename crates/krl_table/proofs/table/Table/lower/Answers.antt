@@ -1,25 +1,49 @@
-use Rattle.std.proofs.Common.{subst}
-use Rattle.krl_table.specs.Kept.{table, lowered_row, IsEach, IsSound}
-use Rattle.krl_table.proofs.Means.{alike_over}
-use Rattle.krl_table.proofs.Changes.{lowered_low, lowered_full, lowered_means}
-use Rattle.krl_table.proofs.Walk.{each_alike}
+use Rattle.std.proofs.Common.{◌≡◌, ◌≤◌, ◌<◌, ℕ, true, sym, ap, subst, ◌∙◌, arith}
+use Rattle.std.specs.FinMap.{get}
+use Rattle.krl_durable.specs.Index.{Index, low_of, is_slot, IsSlotOf}
+use Rattle.krl_table.specs.Calls.{lowered}
+use Rattle.krl_table.specs.Kept.{most_rows, rows_of, IsOver, AreListed}
 use Rattle.krl_table.proofs.Sounds.{listed_same}
-use Rattle.krl_table.proofs.Lowers.{lowered_sound, lowered_queue}
+use Rattle.krl_table.proofs.Clears.{lowered_sound, lowered_queue, lowered_over, lowered_is, begins_past, begins_at}
 use Rattle.krl_table.proofs.table.Table.lower.Goals as goal
+use Rattle.krl_table.proofs.table.Table.lower.Goals.{then-first-lo, else-first-lo}
+
+-- the slots whose spans begin in the span are those from the first on
+module _ (c : goal.After-lower) where
+  abbrev m : Index
+  m = c.args.durable.now.index
+
+  low_is : c.find-first.result.low ≡ low_of m c.find-first.result.point
+  low_is = c.find-first.ensures.low
+
+  at : IsSlotOf m c.args.span.lo c.find-first.result.point
+  at = subst (λ p. IsSlotOf m p c.find-first.result.point) c.lo.ensures.end c.find-first.ensures.least
+
+  abbrev Begins : ℕ → Type 0
+  Begins from = ((n : ℕ) → is_slot m n ≡ true → n < from → low_of m n < c.args.span.lo) × ((n : ℕ) → is_slot m n ≡ true → from ≤ n → c.args.span.lo ≤ low_of m n)
+
+  begins : Begins c.if-first-lo.from
+  begins = elim c.if-first-lo.branch [
+    | then-first-lo w ↦ subst Begins (sym w.from-is) (begins_past m c.requires.over.near c.args.span.lo c.find-first.result.point at (omega (arith, low_is, w.if-first-lo.true, c.lo-2.ensures.end)))
+    | else-first-lo w ↦ subst Begins (sym w.from-is) (begins_at m c.requires.over.near c.args.span.lo c.find-first.result.point at (omega (arith, low_is, w.if-first-lo.false, c.lo-2.ensures.end)))
+  ]
 
 pub invariant_of-self : goal.invariant_of-self
 invariant_of-self c =
-    let t = table c.self.inside.rows in let u = table c.lower.new.rows in (
-      lowered_sound c.args.span c.args.client c.args.keep t u c.requires c.lower.ensures c.self.invariant.0,
-      listed_same c.self.inside.waiting.by_client t u (lowered_queue c.args.span c.args.client c.args.keep t u c.requires c.lower.ensures) c.self.invariant.1,
+    let t = c.self.inside.rows.map in let u = c.lower.new.rows.map in let from = c.if-first-lo.from in let hi = c.hi.result in (
+      lowered_sound from hi c.args.client c.args.keep c.requires.client t u c.lower.ensures.all c.self.invariant.0,
+      listed_same c.self.inside.waiting.by_client t u (lowered_queue from hi c.args.client c.args.keep c.requires.client t u c.lower.ensures.all) c.self.invariant.1,
+      subst (λ n. most_rows ≤ n) (sym c.lower.ensures.room) c.self.invariant.2,
     )
 
 pub returns-clause-lowered : goal.returns-clause-lowered
-returns-clause-lowered c m over =
-    let t = c.args.self.now in let u = table c.lower.new.rows in let span = c.args.span in let f = lowered_row span c.args.client c.args.keep in
-    lowered_means m t u c.args.client span c.args.keep c.requires (subst IsSound c.self.view_is c.self.invariant.0).whole over (subst (λ x. IsEach f x u) c.self.view_is c.lower.ensures)
+returns-clause-lowered c n =
+    let m = c.args.durable.now.index in let t = c.self.inside.rows.map in let u = c.lower.new.rows.map in let from = c.if-first-lo.from in let hi = c.hi.result in
+    let over = subst (IsOver m) (sym c.self.view_is) c.requires.over in
+    lowered_is from hi c.args.client c.args.keep c.requires.client t u c.lower.ensures.all m over c.args.span c.hi.ensures.end (begins c) n
+    ∙ ap (λ x. lowered m (rows_of x) c.args.client c.args.span c.args.keep n) c.self.view_is
 
 pub returns-clause-slots : goal.returns-clause-slots
-returns-clause-slots c m =
-    let t = c.args.self.now in let u = table c.lower.new.rows in let span = c.args.span in let f = lowered_row span c.args.client c.args.keep in
-    alike_over m t u (each_alike f t u (lowered_low span c.args.client c.args.keep) (lowered_full span c.args.client c.args.keep) (subst (λ x. IsEach f x u) c.self.view_is c.lower.ensures))
+returns-clause-slots c =
+    let m = c.args.durable.now.index in
+    lowered_over c.if-first-lo.from c.hi.result c.args.client c.args.keep c.requires.client c.self.inside.rows.map c.lower.new.rows.map c.lower.ensures.all m (subst (IsOver m) (sym c.self.view_is) c.requires.over)

@@ -1,33 +1,34 @@
-use Rattle.std.proofs.Common.{◌≡◌, true, IsSome, IfSome, sym, subst}
-use Rattle.std.specs.FinMap.{get, insert}
+use Rattle.std.proofs.Common.{◌≡◌, ◌≤◌, true, sym, ap, subst, ◌∙◌}
+use Rattle.krl_table.specs.Calls.{raised}
 use Rattle.krl_table.specs.Replies.{can_have}
-use Rattle.krl_table.specs.Kept.{table, rows_of, raised_row, IsSound}
-use Rattle.krl_table.proofs.Means.{alike_over}
-use Rattle.krl_table.proofs.Raises.{raised_is, raised_alike, raised_there, raised_sound, raised_listed}
+use Rattle.krl_table.specs.Kept.{most_rows, rows_of, IsOver}
+use Rattle.krl_table.proofs.Means.{set_rows}
+use Rattle.krl_table.proofs.Rooms.{room_at}
+use Rattle.krl_table.proofs.Slots.{slot_end}
+use Rattle.krl_table.proofs.Raises.{raised_sound, raised_listed, raised_over}
 use Rattle.krl_table.proofs.table.Table.raise.Goals as goal
 
 pub raise-requires : goal.raise-requires
-raise-requires c = record { there = subst (λ x. IsSome (get x c.args.slot)) (sym c.self.view_is) c.requires.there; client = c.requires.client }
+raise-requires c =
+    let m = c.args.durable.now.index in let t = c.self.inside.rows.map in record {
+      room = λ none. room_at m t (subst (IsOver m) (sym c.self.view_is) c.requires.over) c.self.inside.rows.room c.args.slot c.self.invariant.2 c.epoch-kept.ensures.kept.few c.requires.slot none;
+      client = c.requires.client;
+    }
 
 pub invariant_of-self : goal.invariant_of-self
 invariant_of-self c =
-    let t = table c.self.inside.rows in let u = table c.raise.new.rows in let k = c.args.slot in let w = c.args.waiter.now in
-    let some = subst (λ x. IsSome (get x k)) (sym c.self.view_is) c.requires.there in (
-      raised_sound t u k w c.self.invariant.0 c.requires.client some c.raise.ensures (subst (λ x. can_have (rows_of x) k w ≡ true) (sym c.self.view_is) c.requires.fits),
-      raised_listed t u k w c.self.invariant.0 c.requires.client some c.raise.ensures c.self.inside.waiting.by_client c.self.invariant.1,
+    let m = c.args.durable.now.index in let t = c.self.inside.rows.map in let u = c.raise.new.rows.map in let k = c.args.slot in let w = c.args.waiter.now in
+    let le = slot_end m c.requires.over.near k c.requires.slot in (
+      raised_sound t u k w c.self.invariant.0 c.requires.client c.raise.ensures.set le (subst (λ x. can_have (rows_of x) k w ≡ true) (sym c.self.view_is) c.requires.fits),
+      raised_listed t u k w c.self.invariant.0 c.requires.client c.raise.ensures.set c.self.inside.waiting.by_client c.self.invariant.1,
+      subst (λ n. most_rows ≤ n) (sym c.raise.ensures.room) c.self.invariant.2,
     )
 
 pub returns-clause-raised : goal.returns-clause-raised
-returns-clause-raised c =
-    let t = c.args.self.now in let u = table c.raise.new.rows in let k = c.args.slot in let w = c.args.waiter.now in
-    raised_is t u k w (subst IsSound c.self.view_is c.self.invariant.0) c.requires.client c.requires.there (subst (λ x. IfSome (get x k) (λ row. u ≡ insert x k (raised_row w row))) c.self.view_is c.raise.ensures)
+returns-clause-raised c n = set_rows c.self.inside.rows.map c.raise.new.rows.map c.args.slot _ c.raise.ensures.set n
+    ∙ ap (λ x. raised (rows_of x) c.args.slot c.args.waiter.now n) c.self.view_is
 
 pub returns-clause-slots : goal.returns-clause-slots
-returns-clause-slots c m =
-    let t = c.args.self.now in let u = table c.raise.new.rows in let k = c.args.slot in let w = c.args.waiter.now in
-    alike_over m t u (raised_alike t u k w (subst IsSound c.self.view_is c.self.invariant.0) c.requires.client c.requires.there (subst (λ x. IfSome (get x k) (λ row. u ≡ insert x k (raised_row w row))) c.self.view_is c.raise.ensures))
-
-pub returns-clause-there : goal.returns-clause-there
-returns-clause-there c =
-    let t = c.args.self.now in let u = table c.raise.new.rows in let k = c.args.slot in let w = c.args.waiter.now in
-    raised_there t u k w (subst IsSound c.self.view_is c.self.invariant.0) c.requires.client c.requires.there (subst (λ x. IfSome (get x k) (λ row. u ≡ insert x k (raised_row w row))) c.self.view_is c.raise.ensures)
+returns-clause-slots c =
+    let m = c.args.durable.now.index in
+    raised_over c.self.inside.rows.map c.raise.new.rows.map c.args.slot c.args.waiter.now c.self.invariant.0 c.requires.client c.raise.ensures.set m (subst (IsOver m) (sym c.self.view_is) c.requires.over) c.requires.slot

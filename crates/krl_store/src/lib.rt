@@ -1,0 +1,6 @@
+//! Values by key, in key order, with room taken once.
+#![tactic(auto)]
+
+mod store;
+
+pub use store::Store;

@@ -1,0 +1,7 @@
+use Rattle.std.proofs.Common.{drop}
+use Rattle.krl_table.specs.Reported.{KeysRise}
+use Rattle.krl_table.proofs.pieces.keys_rise.Given as goal
+
+-- where the others rise from here on, all do
+abbrev pub invariant-loop-piece : goal.invariant-loop-piece
+invariant-loop-piece l = KeysRise l.low (drop l.piece-index l.pieces) → KeysRise 0 l.pieces

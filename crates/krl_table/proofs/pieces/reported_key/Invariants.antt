@@ -1,0 +1,8 @@
+use Rattle.std.proofs.Common.{◌≡◌, drop}
+use Rattle.krl_modes.specs.Parts.{key_join}
+use Rattle.krl_table.specs.Reports.{reported_key}
+use Rattle.krl_table.proofs.pieces.reported_key.Given as goal
+
+-- what was joined, and what is left to join
+abbrev pub invariant-loop-piece : goal.invariant-loop-piece
+invariant-loop-piece l = key_join l.part (reported_key (drop l.piece-index l.pieces) l.point) ≡ reported_key l.pieces l.point

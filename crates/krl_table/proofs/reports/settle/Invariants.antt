@@ -1,0 +1,15 @@
+use Rattle.std.proofs.Common.{◌≡◌, ◌-◌, ◌+◌}
+use Rattle.krl_modes.specs.declared.point.TheConstants.{END}
+use Rattle.krl_table.specs.Reported.{ReportsSame}
+use Rattle.krl_table.proofs.Reported.{IsSettled}
+use Rattle.krl_table.proofs.reports.settle.Given as goal
+
+abbrev pub invariant-loop-reported : goal.invariant-loop-reported
+invariant-loop-reported l = record {
+  settled : IsSettled l.durable.index l.client l.pieces l.fn.rows.map l.rows.map l.at;
+  same : ReportsSame l.durable.index l.at l.sweep l.pieces;
+  room : l.rows.room ≡ l.fn.rows.room;
+}
+
+abbrev pub decreases-loop-reported : goal.decreases-loop-reported
+decreases-loop-reported l = END + 1 - l.at

@@ -1,0 +1,52 @@
+use Rattle.std.proofs.Common.{◌≡◌, ℕ, ◌≤◌, ◌-◌, ◌++◌, ◌∷◌, [], Bool, true, false, ◌&&◌, length, refl, sym, ap, subst, ◌∙◌, arith}
+use Rattle.std.proofs.Math.Path.{fun_ext}
+use Rattle.krl_durable.specs.Index.{slot_of, IsSlotOf}
+use Rattle.krl_table.specs.Rows.{Rows}
+use Rattle.krl_table.specs.Calls.{raised, raised_on}
+use Rattle.krl_table.specs.Replies.{asks_absent, can_have}
+use Rattle.krl_table.specs.Grants.{nobody_waits, taken_after}
+use Rattle.krl_table.specs.Kept.{rows_of}
+use Rattle.krl_table.proofs.Answering.{lacks_is}
+use Rattle.krl_table.proofs.Raises.{one_noted, unwrapped}
+use Rattle.krl_table.proofs.AtOnce.{at_once_is, at_once_granted, at_once_taken}
+use Rattle.krl_table.proofs.table.Table.grant_at_once.Goals as goal
+
+first_of_two : (a b : Bool) → (a && b) ≡ true → a ≡ true
+first_of_two true b e = refl
+first_of_two false b e = e
+
+pub returns-clause-when : goal.returns-clause-when
+returns-clause-when c =
+    let m = c.args.durable.now.index in let rows = rows_of c.args.self.now in let w = c.args.waiter.now in let k = c.slot_of-slot.result in
+    let is_free : c.is_free_for.result ≡ true = grind (arith, c.if-not-is_free_for.false) in
+    let at : slot_of m w.point ≡ k = ap (slot_of m) (sym c.get.ensures.number) ∙ sym c.slot_of-slot.ensures.slot in
+    let slot = subst (λ p. IsSlotOf m p k) c.get.ensures.number (c.slot_of-slot.ensures.least c.get.ensures.in_range) in
+    sym (at_once_is m rows w k true false at (sym c.is_free_for.ensures ∙ is_free)
+    (sym (lacks_is m c.requires.over.near k w slot) ∙ sym c.asks_absent.ensures ∙ c.if-asks_absent.false))
+
+pub returns-clause-granted : goal.returns-clause-granted
+returns-clause-granted c n =
+    let m = c.args.durable.now.index in let rows = rows_of c.args.self.now in let w = c.args.waiter.now in let k = c.slot_of-slot.result in
+    let is_free : c.is_free_for.result ≡ true = grind (arith, c.if-not-is_free_for.false) in
+    let at : slot_of m w.point ≡ k = ap (slot_of m) (sym c.get.ensures.number) ∙ sym c.slot_of-slot.ensures.slot in
+    let free = first_of_two (nobody_waits (rows k).queue) (can_have rows k w) (sym c.is_free_for.ensures ∙ is_free) in
+    let many = one_noted c.new-taken.result.items c.push.new.self.items _ c.new-taken.ensures c.push.ensures.items in
+    ap (λ (r : Rows). r n) (c.go_on.ensures.rows
+    ∙ ap (λ j. raised_on (rows_of c.raise.new.self) (taken_after m (rows_of c.raise.new.self) k w j) w) many
+    ∙ ap (λ (r : Rows). raised_on r (taken_after m r k w 7) w) (fun_ext c.raise.ensures.raised)
+    ∙ sym (at_once_granted m rows w k at free))
+
+pub returns-clause-taken : goal.returns-clause-taken
+returns-clause-taken c =
+    let m = c.args.durable.now.index in let rows = rows_of c.args.self.now in let w = c.args.waiter.now in let k = c.slot_of-slot.result in
+    let is_free : c.is_free_for.result ≡ true = grind (arith, c.if-not-is_free_for.false) in
+    let at : slot_of m w.point ≡ k = ap (slot_of m) (sym c.get.ensures.number) ∙ sym c.slot_of-slot.ensures.slot in
+    let free = first_of_two (nobody_waits (rows k).queue) (can_have rows k w) (sym c.is_free_for.ensures ∙ is_free) in
+    let many = one_noted c.new-taken.result.items c.push.new.self.items _ c.new-taken.ensures c.push.ensures.items in
+    let point = unwrapped c.new.result c.unwrap.result k c.unwrap.ensures c.new.ensures.point in
+    c.go_on.ensures.taken
+    ∙ ap (λ l. l ++ taken_after m (rows_of c.raise.new.self) k w (8 - length c.push.new.self.items)) (c.push.ensures.items ∙ ap (λ l. l ++ c.unwrap.result ∷ []) c.new-taken.ensures)
+    ∙ ap (λ i. i ∷ taken_after m (rows_of c.raise.new.self) k w (8 - length c.push.new.self.items)) point
+    ∙ ap (λ j. k ∷ taken_after m (rows_of c.raise.new.self) k w j) many
+    ∙ ap (λ (r : Rows). k ∷ taken_after m r k w 7) (fun_ext c.raise.ensures.raised)
+    ∙ sym (at_once_taken m rows w k at free)

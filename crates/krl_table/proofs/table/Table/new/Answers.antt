@@ -1,0 +1,22 @@
+use Rattle.std.proofs.Common.{◌≡◌, ◌≤◌, ℕ, Some, None, IsSome, sym, ap, subst, refl, ◌∙◌, arith}
+use Rattle.std.specs.FinMap.{FinMap, get, empty, get-empty}
+use Rattle.std.specs.Ordering.{nat_cmp}
+use Rattle.krl_table.specs.Rows.{blank_row}
+use Rattle.krl_table.specs.Kept.{most_rows, Kept, row_there, rows_of, IsOver, IsSound, AreListed, waiter_in}
+use Rattle.krl_table.proofs.Nothing.{nothing_sound, nothing_over, nothing_listed, nothing_rows}
+use Rattle.krl_table.proofs.Rooms.{rows_are}
+use Rattle.krl_table.proofs.table.Table.new.Goals as goal
+
+pub invariant_of-result : goal.invariant_of-result
+invariant_of-result c =
+    let t = c.in_ok-rows.rows.map in let none = λ (n : ℕ). ap (λ s. get s.map n) c.in_ok-rows.ensures ∙ get-empty nat_cmp n in (
+      nothing_sound t none,
+      nothing_listed t none c.nobody.result.by_client c.nobody.ensures.full c.nobody.ensures.nobody,
+      subst (λ s. most_rows ≤ s.room) (sym c.in_ok-rows.ensures) (let e = rows_are in omega (arith, e)),
+    )
+
+pub returns-clause-blank : goal.returns-clause-blank
+returns-clause-blank c n = nothing_rows c.in_ok-rows.rows.map (λ n. ap (λ s. get s.map n) c.in_ok-rows.ensures ∙ get-empty nat_cmp n) n
+
+pub returns-clause-slots : goal.returns-clause-slots
+returns-clause-slots c m near = nothing_over c.in_ok-rows.rows.map (λ n. ap (λ s. get s.map n) c.in_ok-rows.ensures ∙ get-empty nat_cmp n) m near

@@ -1,0 +1,33 @@
+use Rattle.std.proofs.Common.{◌≡◌, ◌≤◌, ◌<◌, ◌+◌, ℕ, suc, true, false, Option, Some, None, IfSome, sym, ap, subst, add-one, ◌∙◌, arith}
+use Rattle.std.proofs.lemmas.Bool.Decides.{nat_tests}
+use Rattle.std.specs.Prelude.{nat_lt}
+use Rattle.krl_modes.specs.declared.point.TheConstants.{END}
+use Rattle.krl_durable.specs.Index.{slot_of}
+use Rattle.krl_table.specs.Kept.{rows_of, IsTaken}
+use Rattle.krl_table.proofs.Raises.{by_take}
+use Rattle.krl_table.proofs.table.Table.next_taken.Goals as goal
+
+-- what holds of the number holds of its point
+of_point : (o : Option ℕ) (k : ℕ) (P : ℕ → Type 0) → IfSome o (λ p. p ≡ k) → P k → IfSome o P
+of_point None k P h x = tt
+of_point (Some p) k P h x = subst P (sym h) x
+
+pub returns-then-can_take-clause-some : goal.returns-then-can_take-clause-some
+returns-then-can_take-clause-some c =
+    let m = c.args.durable.now.index in let t = c.args.self.now in let at = c.args.at in let w = c.args.waiter.now in let next = c.slot_of-next.result in
+    let slot : slot_of m (suc at) ≡ next = ap (slot_of m) (sym (add-one at)) ∙ sym c.slot_of-next.ensures.slot in
+    let near : nat_lt at END ≡ true = grind (arith, nat_tests, c.if-at-ge-END.false) in
+    let below : nat_lt (suc at) w.hi ≡ true = grind (arith, nat_tests, c.if-at-waiter.false) in
+    of_point c.new.result next (IsTaken m t at w) c.new.ensures.point (record {
+      slot = slot;
+      fits = c.can_take.ensures.fits c.if-can_take.true;
+      on = by_take m (rows_of t) at next w true near below slot (sym c.can_take.ensures.result ∙ c.if-can_take.true);
+    })
+
+pub returns-else-can_take-clause-none : goal.returns-else-can_take-clause-none
+returns-else-can_take-clause-none c =
+    let m = c.args.durable.now.index in let t = c.args.self.now in let at = c.args.at in let w = c.args.waiter.now in let next = c.slot_of-next.result in
+    let slot : slot_of m (suc at) ≡ next = ap (slot_of m) (sym (add-one at)) ∙ sym c.slot_of-next.ensures.slot in
+    let near : nat_lt at END ≡ true = grind (arith, nat_tests, c.if-at-ge-END.false) in
+    let below : nat_lt (suc at) w.hi ≡ true = grind (arith, nat_tests, c.if-at-waiter.false) in
+    by_take m (rows_of t) at next w false near below slot (sym c.can_take.ensures.result ∙ c.if-can_take.false)

@@ -1,0 +1,75 @@
+//! A report, slot by slot.
+ghost use Rattle.std.specs.Prelude.{◌≡◌, ◌≢◌, ◌<◌, ◌≤◌, ◌↔◌, ℕ, true, Some, None, length};
+ghost use Rattle.std.specs.FinMap as map;
+ghost use Rattle.krl_modes.specs.declared.point.TheConstants.{END};
+ghost use Rattle.krl_modes.specs.declared.mode.Mode.TheVariants as mode;
+ghost use Rattle.krl_durable.specs.Index.{is_slot};
+ghost use Rattle.krl_durable.specs.Writes.{most_entries};
+ghost use Rattle.krl_table.specs.declared.row.SlotRow.{SlotRow as Kept};
+ghost use Rattle.krl_table.specs.Rows.{blank_row, fits, mode_at};
+ghost use Rattle.krl_table.specs.Reports.{rebuilt, adopted};
+ghost use Rattle.krl_table.specs.Kept.{row_of, rows_of, IsOver, most_rows};
+
+use crate::row::SlotRow;
+use crate::steps;
+use crate::sweep::Sweep;
+use krl_durable::Durable;
+use krl_messages::Pieces;
+use krl_modes::Mode;
+use krl_store::Store;
+
+/// Whether the client may hold the mode on the slot, beside what all others hold.
+fn fits(rows: &Store<SlotRow>, slot: u64, client: u64, mode: Mode) -> bool
+    ensures { result ≡ fits (rows_of rows.now.map) slot client mode }
+{
+    match rows.get(slot) {
+        Some(row) => row.fits(client, mode),
+        None => true,
+    }
+}
+
+/// Whether on each slot the client may hold what is reported of it, beside what all others hold.
+pub(crate) fn all_fit(
+    rows: &Store<SlotRow>,
+    durable: &Durable,
+    client: u64,
+    pieces: &Pieces,
+) -> bool
+    requires { (n : ℕ) → END ≤ n → map.get durable.now.index n ≡ None }
+    ensures { (result ≡ true) ↔ ((n : ℕ) → is_slot durable.now.index n ≡ true
+        → fits (rows_of rows.now.map) n client (rebuilt durable.now.index pieces.now n) ≡ true) }
+{
+    let mut sweep = Sweep::over(pieces);
+    let mut at: u64 = 0;
+    while let Some(reported) = sweep.next(durable, at) {
+        if !fits(rows, reported.slot, client, reported.mode) {
+            return false;
+        }
+        at = reported.slot + 1;
+        sweep.pass(at);
+    }
+    true
+}
+
+/// Gives the client, which holds nothing, on each slot what is reported of it.
+pub(crate) fn settle(rows: &mut Store<SlotRow>, durable: &Durable, client: u64, pieces: &Pieces)
+    requires over { IsOver durable.now.index rows.old.map }
+    requires used { (n : ℕ) (r : Kept) → map.get rows.old.map n ≡ Some r → row_of r ≢ blank_row }
+    requires few { length (map.entries durable.now.index) ≤ most_entries }
+    requires room { most_rows ≤ rows.old.room }
+    requires client { client < 64 }
+    requires free { (n : ℕ) → mode_at (rows_of rows.old.map) n client ≡ mode.N }
+    ensures adopted { (n : ℕ) → rows_of rows.new.map n
+        ≡ adopted durable.now.index (rows_of rows.old.map) client pieces.now n }
+    ensures over { IsOver durable.now.index rows.new.map }
+    ensures used { (n : ℕ) (r : Kept) → map.get rows.new.map n ≡ Some r → row_of r ≢ blank_row }
+    ensures room { rows.new.room ≡ rows.old.room }
+{
+    let mut sweep = Sweep::over(pieces);
+    let mut at: u64 = 0;
+    while let Some(reported) = sweep.next(durable, at) {
+        steps::set(rows, reported.slot, client, reported.mode);
+        at = reported.slot + 1;
+        sweep.pass(at);
+    }
+}

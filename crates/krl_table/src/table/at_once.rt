@@ -1,0 +1,72 @@
+//! A grant to a client that need not wait.
+ghost use Rattle.std.specs.Prelude.{◌≡◌, ◌<◌, ◌↔◌, ◌&&◌, ℕ, true, [], IfSome, IfNone, is_some};
+ghost use Rattle.krl_durable.specs.Index.{slot_of};
+ghost use Rattle.krl_table.specs.Calls.{enqueued};
+ghost use Rattle.krl_table.specs.Grants.{granted, taken, nobody_waits, is_granted_at_once};
+ghost use Rattle.krl_table.specs.Kept.{rows_of, IsOver};
+ghost use Rattle.krl_table.specs.Replies.{can_have};
+
+use super::Table;
+use crate::reply;
+use arrayvec::ArrayVec;
+use krl_durable::Durable;
+use krl_modes::Point;
+use krl_queue::Waiter;
+
+impl Table {
+    /// Whether nobody waits anywhere. It looks at one number.
+    pub fn nobody_waits(&self) -> bool
+        ensures { (result ≡ true) ↔ ((n : ℕ) → (rows_of self.now n).queue ≡ []) }
+    {
+        self.waiting.is_empty()
+    }
+
+    /// Whether nobody waits on the slot, and what the waiter wants can stand beside what all others
+    /// hold there.
+    fn is_free_for(&self, slot: u64, waiter: &Waiter) -> bool
+        requires { waiter.now.client < 64 }
+        ensures { result ≡ (nobody_waits (rows_of self.now slot).queue
+            && can_have (rows_of self.now) slot waiter.now) }
+    {
+        match self.rows.get(slot) {
+            Some(row) => row.queue.is_empty() && row.can_have(waiter),
+            None => true,
+        }
+    }
+
+    /// Gives the client what `enqueue` of the waiter, and then `grant` on the slot of its point,
+    /// would give it, without a place in the queue: where nobody waits on that slot, and
+    /// `answerable` would then tell the waiter that it can be granted. It answers the slots that
+    /// were taken, in ascending order. It takes no memory.
+    ///
+    /// None, and nothing changes, where somebody waits there, where what the waiter wants can't
+    /// stand beside what all others hold, and where it asks for an entry and there is none.
+    pub fn grant_at_once(
+        &mut self,
+        durable: &Durable,
+        waiter: &Waiter,
+    ) -> Option<ArrayVec<Point, 8>>
+        requires over { IsOver durable.now.index self.old }
+        requires client { waiter.now.client < 64 }
+        ensures when { is_some result
+            ≡ is_granted_at_once durable.now.index (rows_of self.old) waiter.now }
+        ensures granted { IfSome result (λ _. (n : ℕ) → rows_of self.new n
+            ≡ granted durable.now.index (enqueued durable.now.index (rows_of self.old) waiter.now)
+            (slot_of durable.now.index waiter.now.point) n) }
+        ensures taken { IfSome result (λ slots. slots.items
+            ≡ taken durable.now.index (enqueued durable.now.index (rows_of self.old) waiter.now)
+            (slot_of durable.now.index waiter.now.point)) }
+        ensures none { IfNone result (self.new ≡ self.old) }
+        ensures slots { IsOver durable.now.index self.new }
+    {
+        let slot = durable.slot_of(waiter.point.get());
+        if reply::asks_absent(slot, waiter) || !self.is_free_for(slot, waiter) {
+            return None;
+        }
+        let mut taken = ArrayVec::new();
+        taken.push(Point::new(slot).unwrap());
+        self.raise(durable, slot, waiter);
+        self.go_on(durable, slot, waiter, &mut taken);
+        Some(taken)
+    }
+}
