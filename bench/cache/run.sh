@@ -1,11 +1,12 @@
 #!/bin/sh
 # What a client's cache costs: a scan of 100 rows, a lowering over 100 slots, and the adoption of one slot, in
-# ordered maps at 1,024 and at 65,536 entries, and in plain lists at 1,024.
+# ordered maps at 1,024 and at 65,536 entries, beside ordered maps in Rust, and in plain lists at 1,024.
 #
-#   bench/cache/run.sh          needs rt on the path; some minutes, most of them proof
+#   bench/cache/run.sh          needs rt and rustc on the path; some minutes, most of them proof
 #
 # main.rt.txt, proved and built by rt, fills a cache with slots side by side and makes the same calls at
-# places that no processor could guess; the lists make fewer of them. It runs five times, and the least
+# places that no processor could guess; the lists make fewer of them. Its twin twin.rs, built by rustc -O,
+# makes the same calls over two maps of Rust's std. Both run five times in turn, and the least
 # processor time of each kind of call counts. A line gives the call, the form, the entries, the nanoseconds of
 # a call, for a scan those of a row, and the ratio to the ordered maps at the same number of entries. It stops
 # where two runs answer differently. A scan of one piece is of slots whose gaps are read alike; of 100 pieces, of
@@ -34,11 +35,12 @@ mkdir -p "$room/crates/cache/src"
 cp "$here/main.rt.txt" "$room/crates/cache/src/main.rt"
 {
     printf 'krl_modes: thiserror\nkrl_messages: krl_modes\n'
-    printf 'krl_cache: krl_modes krl_messages\nkrl_cache_laws: krl_modes krl_messages krl_cache\n'
+    printf 'krl_cache: krl_modes krl_messages std_collections\nkrl_cache_laws: krl_modes krl_messages krl_cache\n'
     printf 'cache: krl_modes krl_messages krl_cache krl_cache_laws\n'
 } >"$room/crates.txt"
 printf 'Handles allowed: none.\n' >"$room/HANDLES"
 
+rustc --edition 2024 -O -o "$room/twin" "$here/twin.rs"
 (cd "$room/crates/cache" && rt run) >"$room/log" 2>&1 || {
     cat "$room/log" >&2
     exit 1
@@ -46,13 +48,15 @@ printf 'Handles allowed: none.\n' >"$room/HANDLES"
 
 for turn in 1 2 3 4 5; do
     "$room/crates/cache/out/cache"
+    "$room/twin"
 done | awk '
     {
         key = $1 " " $2 " " $3
         nanos = $4 / $5
         if (!(key in least) || nanos < least[key]) least[key] = nanos
-        if (key in sum && sum[key] != $6) { print key ": the sums differ"; failed = 1; exit 1 }
-        sum[key] = $6
+        same = $1 " " $3 " " $5
+        if (same in sum && sum[same] != $6) { print key ": the sums differ"; failed = 1; exit 1 }
+        sum[same] = $6
         if (!(key in seen)) { seen[key] = 1; keys[++count] = key }
     }
     END {

@@ -7,7 +7,11 @@ pub mod Firsts
 pub mod Marks
 pub mod Spans
 pub mod Rests
+pub mod Backs
 pub mod Scans
+pub mod Begun
+pub mod Sifting
+pub mod Sifted
 pub mod Mapped
 pub mod Told
 pub mod Truths
@@ -16,4 +20,6 @@ pub mod OneScan
 pub mod Walked
 pub mod Described
 pub mod Rooms
+pub mod Beside
 pub mod Merges
+pub mod Plans

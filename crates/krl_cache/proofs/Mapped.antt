@@ -28,7 +28,8 @@ use Rattle.krl_cache.specs.Lists.{part_of, value_of, lies_in, pick, tagged, row_
 use Rattle.krl_cache.specs.Maps.{at, part_at, Maps, maps_believe, AreMapsKept, AreStartsMerged, EndsAlike, row_of}
 use Rattle.krl_cache.proofs.Effects.{same_belief}
 use Rattle.krl_cache.proofs.Starts.{part_none}
-use Rattle.krl_cache.proofs.Rests.{Rise, rise_of, at_before, between}
+use Rattle.krl_cache.specs.Sifts.{Rise}
+use Rattle.krl_cache.proofs.Rests.{rise_of, at_before, between}
 use Rattle.krl_cache.proofs.Pieces.{stand_in_order}
 use Rattle.krl_cache.proofs.Entries.{keys_say, keys_ascend}
 use Rattle.krl_cache.proofs.Listed.{rows_are}

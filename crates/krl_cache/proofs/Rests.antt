@@ -12,11 +12,7 @@ use Rattle.std.proofs.lemmas.List.Elements.{filter_agree}
 use Rattle.std.proofs.lemmas.Bool.Decides.{nat_tests, leb_tells}
 use Rattle.krl_cache.specs.Lists.{lies_in}
 use Rattle.krl_cache.specs.Maps.{at, IsFree, AreNext}
-
--- keys that strictly rise from lo on
-abbrev pub Rise : {V : Type 0} → ℕ → List (ℕ × V) → Type 0
-Rise lo [] = Unit {0}
-Rise lo (e ∷ es) = (lo ≤ e.0) × Rise (suc e.0) es
+use Rattle.krl_cache.specs.Sifts.{Rise}
 
 above : {V : Type 0} (k : ℕ) (es : List (ℕ × V)) → AllByRecursion (λ y. nat_cmp k y ≡ Less) (keys_of es) → IsStrictlySortedBy nat_cmp (keys_of es) → Rise (suc k) es
 unfolding IsStrictlySortedBy
@@ -30,13 +26,13 @@ unfolding IsStrictlySortedBy
 rise_of [] s = tt
 rise_of (e ∷ es) s = (omega arith, above e.0 es s.0 s.1)
 
-apart : (q k : ℕ) → q < k → is_at (nat_cmp q) k ≡ false
+pub apart : (q k : ℕ) → q < k → is_at (nat_cmp q) k ≡ false
 apart q k l = grind (arith, nat_tests)
 
-apart_after : (q k : ℕ) → k < q → is_at (nat_cmp q) k ≡ false
+pub apart_after : (q k : ℕ) → k < q → is_at (nat_cmp q) k ≡ false
 apart_after q k l = grind (arith, nat_tests)
 
-alike : (k : ℕ) → is_at (nat_cmp k) k ≡ true
+pub alike : (k : ℕ) → is_at (nat_cmp k) k ≡ true
 alike k = grind (arith, nat_tests)
 
 pub at_before : {V : Type 0} (lo : ℕ) (es : List (ℕ × V)) (q : ℕ) → Rise lo es → q < lo → at es q ≡ None
@@ -74,7 +70,7 @@ inside lo hi q h = (grind (arith, nat_tests), grind (arith, nat_tests))
 outside : (lo hi q : ℕ) → lies_in lo hi q ≡ false → lo ≤ q → q < hi → ⊥
 outside lo hi q h a b = let is : lies_in lo hi q ≡ true = grind (arith, nat_tests) in let bad : true ≡ false = sym is ∙ h in cc
 
-chosen_are_next : {V : Type 0} (lo hi from : ℕ) (es : List (ℕ × V)) → Rise from es → AreNext (at es) lo hi (filter (λ (x : ℕ × V). lies_in lo hi x.0) es)
+pub chosen_are_next : {V : Type 0} (lo hi from : ℕ) (es : List (ℕ × V)) → Rise from es → AreNext (at es) lo hi (filter (λ (x : ℕ × V). lies_in lo hi x.0) es)
 chosen_are_next lo hi from [] h = λ q a b. refl
 chosen_are_next {V} lo hi from (e ∷ es) h =
     let rest = chosen_are_next lo hi (suc e.0) es h.1 in

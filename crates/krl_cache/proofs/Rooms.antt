@@ -138,7 +138,7 @@ part_filled f g lo hi part l a b new p =
 outside_fill : (lo hi q : ℕ) (part : RangePart) (o : Option RangePart) → lo < hi → hi ≤ q → cond (nat_eq q lo) (Some part) (cond (lies_in lo hi q) None o) ≡ o
 outside_fill lo hi q part o l h = grind (arith, nat_tests)
 
-outside_entry : (lo hi q : ℕ) (v : Option Entry) (o : Option Entry) → hi ≤ q → cond (lies_in lo hi q) v o ≡ o
+pub outside_entry : (lo hi q : ℕ) (v : Option Entry) (o : Option Entry) → hi ≤ q → cond (lies_in lo hi q) v o ≡ o
 outside_entry lo hi q v o h = grind (arith, nat_tests)
 
 -- how far the filling went: what is left leads to one end

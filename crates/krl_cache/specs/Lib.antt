@@ -1,6 +1,10 @@
+pub mod Backs
 pub mod Beliefs
+pub mod Joined
 pub mod Kept
 pub mod Lists
 pub mod Maps
+pub mod Plans
 pub mod Several
+pub mod Sifts
 pub mod Walks

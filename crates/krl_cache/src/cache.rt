@@ -18,7 +18,7 @@ use crate::parts::{part_of, value_of};
 use crate::rows::Rows;
 use crate::scanned::Scanned;
 use crate::walk::first_unknown;
-use crate::{maps, several};
+use crate::{adopt, maps, several};
 use krl_messages::{
     Holding, Holdings, KeyPiece, KeyPieces, Pieces, RangePiece, RangePieces, Value,
 };
@@ -31,8 +31,11 @@ use std::marker::Model;
 /// entries by their points. Neighbours with the same part are one.
 ///
 /// A look-up is one search. A scan searches where the span begins alone, and walks once over the
-/// parts and the entries that lie in it. Adopting and lowering search at both ends of the span, and
-/// two or three times for each part and each entry in it.
+/// parts and the entries that lie in it. Lowering searches at both ends of the span, and walks
+/// twice over the parts and once over the entries in it. Adopting walks back from the end of the
+/// span, by one search, to what stands before it; searches once for each end that changes, and
+/// twice for the entry; and twice for each part and each entry that goes. Several holdings side by
+/// side whose range parts agree are one piece: that walk is made once for all of them.
 #[derive(Drop)]
 pub struct Cache {
     starts: BTreeMap<u64, RangePart>,
@@ -172,7 +175,7 @@ impl Belief for Cache {
     }
 
     fn adopt(&mut self, holding: Holding) -> Result<(), AllocError> {
-        maps::adopt(&mut self.starts, &mut self.entries, holding)?;
+        adopt::adopt(&mut self.starts, &mut self.entries, holding)?;
         Ok(())
     }
 

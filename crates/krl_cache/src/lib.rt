@@ -6,14 +6,18 @@
 //! client keeps them, and answers by them, is this project's own.
 #![tactic(auto)]
 
+mod adopt;
+mod back;
 mod belief;
 mod cache;
 mod entry;
+mod joined;
 mod maps;
 mod parts;
 mod rows;
 mod scanned;
 mod several;
+mod sift;
 mod walk;
 
 pub use belief::Belief;

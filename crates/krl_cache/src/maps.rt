@@ -6,12 +6,12 @@ ghost use Rattle.krl_modes.specs.Parts.{range_meet, reads_key};
 ghost use Rattle.krl_modes.specs.Modes.{range_of, key_of};
 ghost use Rattle.krl_modes.specs.Spans.{contains};
 ghost use Rattle.krl_cache.specs.Beliefs as beliefs;
-ghost use Rattle.krl_cache.specs.Lists.{lies_in, entry_lowered, entry_of, own_entry};
+ghost use Rattle.krl_cache.specs.Lists.{lies_in, entry_lowered, entry_of};
 ghost use Rattle.krl_cache.specs.Maps.{at, part_at, IsFree, IsFreeFrom, IsFirst, IsPlaced, IsUndone, CanUndo, HasEnds, KeepsParts, EndsAlike, IsChanged, HoldsBefore, BeginsAnew, AreStartsMerged, gone, lowered_part};
 
 use crate::entry::Entry;
 use crate::parts::reads_key;
-use krl_messages::Holding;
+use crate::sift::run_out;
 use krl_modes::{KeyPart, Mode, RangePart, Span};
 use std::alloc::AllocError;
 use std::collections::BTreeMap;
@@ -47,6 +47,18 @@ pub fn first_in<V: Copy>(map: &BTreeMap<u64, V>, lo: u64, hi: u64) -> Option<(u6
     if key < hi { Some((key, value)) } else { None }
 }
 
+// How far nothing stands, from `lo` on, up to `hi` at most.
+pub fn free_to<V: Copy>(map: &BTreeMap<u64, V>, lo: u64, hi: u64) -> u64
+    requires { lo ≤ hi }
+    ensures within { (lo ≤ result) × (result ≤ hi) }
+    ensures free { IsFree (at map.now.entries) lo result }
+{
+    match first_from(map, lo) {
+        Some((key, _)) => key.min(hi),
+        None => hi,
+    }
+}
+
 // Puts another value at a key that stands in the map. It takes no memory.
 pub fn set<V: Copy + Drop>(map: &mut BTreeMap<u64, V>, key: u64, value: V)
     requires { IsSome (at map.old.entries key) }
@@ -56,6 +68,16 @@ pub fn set<V: Copy + Drop>(map: &mut BTreeMap<u64, V>, key: u64, value: V)
     if let Some(held) = map.get_mut(&key) {
         *held = value;
     }
+}
+
+// Puts a value at a key, in place of the one that stands there.
+pub fn put<V: Copy + Drop>(map: &mut BTreeMap<u64, V>, key: u64, value: V) -> Result<(), AllocError>
+    ensures ok { OnOk result ((q : ℕ) → at map.new.entries q
+        ≡ (if nat_eq q key then Some value else at map.old.entries q)) }
+    ensures err { OnErr result (map.new.entries ≡ map.old.entries) }
+{
+    map.insert(key, value)?;
+    Ok(())
 }
 
 // Takes the value at a key out.
@@ -142,16 +164,19 @@ pub fn fill(starts: &mut BTreeMap<u64, RangePart>, lo: u64, hi: u64, part: Range
     clear(starts, lo + 1, hi);
 }
 
-// Lowers the parts that begin from `lo` on below `hi`.
+// Lowers the parts that begin from `lo` on below `hi`, in one walk.
 fn meet_all(starts: &mut BTreeMap<u64, RangePart>, lo: u64, hi: u64, keep: RangePart)
     requires { lo ≤ hi }
     ensures { IsChanged (lowered_part keep) (at starts.old.entries) (at starts.new.entries) lo hi }
 {
-    let mut p = lo;
-    while let Some((start, part)) = first_in(starts, p, hi) {
-        set(starts, start, part.meet(keep));
-        p = start + 1;
+    if starts.len() == 0 {
+        return;
     }
+    let mut walk = starts.extract_if(lo..hi, move |_, part| {
+        *part = part.meet(keep);
+        false
+    });
+    run_out(&mut walk);
 }
 
 // Whether the part begins at the point.
@@ -165,7 +190,7 @@ fn begins(starts: &BTreeMap<u64, RangePart>, p: u64, part: RangePart) -> bool
 }
 
 // Whether the parts are the same.
-fn is_same(a: RangePart, b: RangePart) -> bool
+pub fn is_same(a: RangePart, b: RangePart) -> bool
     ensures { IsTrue result ↔ (a ≡ b) }
 {
     a == b
@@ -192,55 +217,29 @@ pub fn merge_at(starts: &mut BTreeMap<u64, RangePart>, p: u64, before: RangePart
     }
 }
 
-// Takes out the start of this part, where it held before.
-fn merge_found(starts: &mut BTreeMap<u64, RangePart>, p: u64, part: RangePart, before: RangePart)
-    requires here { at starts.old.entries p ≡ Some part }
-    requires before { HoldsBefore (at starts.old.entries) p before }
-    ensures kept { KeepsParts (at starts.old.entries) (at starts.new.entries) }
-    ensures anew { BeginsAnew (at starts.new.entries) p }
-{
-    if is_same(part, before) {
-        take_out(starts, p);
-    }
-}
-
-// Takes each such start out from `lo` to `hi`.
+// Takes each such start out from `lo` to `hi`, in one walk.
 fn merge(starts: &mut BTreeMap<u64, RangePart>, lo: u64, hi: u64)
     requires { (lo ≤ hi) × (hi ≤ TOP) }
     ensures kept { KeepsParts (at starts.old.entries) (at starts.new.entries) }
     ensures anew { (q : ℕ) → lo ≤ q → q ≤ hi → BeginsAnew (at starts.new.entries) q }
 {
-    let mut p = lo;
-    let mut before = part_before(starts, lo);
-    while let Some((start, part)) = first_in(starts, p, hi + 1) {
-        merge_found(starts, start, part, before);
-        before = part;
-        p = start + 1;
+    if starts.len() == 0 {
+        return;
     }
-}
-
-// Puts a part on a span.
-fn adopt_part(
-    starts: &mut BTreeMap<u64, RangePart>,
-    span: Span,
-    part: RangePart,
-) -> Result<(), AllocError>
-    ensures parts { OnOk result
-        ((p : ℕ) → part_at (at starts.new.entries) p
-        ≡ (if contains span p then part else part_at (at starts.old.entries) p)) }
-    ensures starts { OnOk result (EndsAlike (at starts.old.entries) (at starts.new.entries)) }
-    ensures merged { OnOk result (AreStartsMerged (at starts.old.entries)
-        → AreStartsMerged (at starts.new.entries)) }
-    ensures err { OnErr result (starts.new.entries ≡ starts.old.entries) }
-{
-    let lo = span.lo();
-    let hi = span.hi();
-    mark(starts, lo, hi)?;
-    fill(starts, lo, hi, part);
-    let before = part_before(starts, lo);
-    merge_at(starts, lo, before);
-    merge_at(starts, hi, part);
-    Ok(())
+    let mut before = part_before(starts, lo);
+    let mut walk = starts.extract_if(
+        lo..hi + 1,
+        move |_, part|
+            ensures stays { part.new ≡ part.old }
+            ensures next { before.exit ≡ part.old }
+            ensures same { IsTrue result ↔ (part.old ≡ before.entry) }
+        {
+            let held_before = is_same(*part, before);
+            before = *part;
+            held_before
+        },
+    );
+    run_out(&mut walk);
 }
 
 // Lowers the parts on a span.
@@ -308,59 +307,20 @@ pub fn adopt_entry(entries: &mut BTreeMap<u64, Entry>, span: Span, own: Entry)
     }
 }
 
-// Lowers the entries from `lo` on below `hi`.
+// Lowers the entries from `lo` on below `hi`, in one walk: those that are read no more go.
 fn lower_entries(entries: &mut BTreeMap<u64, Entry>, lo: u64, hi: u64, keep: KeyPart)
     requires { lo ≤ hi }
     ensures { IsChanged (entry_lowered keep) (at entries.old.entries)
         (at entries.new.entries) lo hi }
 {
-    let mut p = lo;
-    while let Some((point, entry)) = first_in(entries, p, hi) {
-        let part = entry.part.meet(keep);
-        let value = entry.value;
-        if reads_key(part) {
-            set(entries, point, Entry { part, value });
-        } else {
-            take_out(entries, point);
-        }
-        p = point + 1;
+    if entries.len() == 0 {
+        return;
     }
-}
-
-// Takes a holding over.
-pub fn adopt(
-    starts: &mut BTreeMap<u64, RangePart>,
-    entries: &mut BTreeMap<u64, Entry>,
-    holding: Holding,
-) -> Result<(), AllocError>
-    ensures parts { OnOk result
-        ((p : ℕ) → part_at (at starts.new.entries) p
-        ≡ (if contains holding.span p
-        then range_of holding.mode else part_at (at starts.old.entries) p)) }
-    ensures starts { OnOk result (EndsAlike (at starts.old.entries) (at starts.new.entries)) }
-    ensures merged { OnOk result (AreStartsMerged (at starts.old.entries)
-        → AreStartsMerged (at starts.new.entries)) }
-    ensures entries { OnOk result
-        ((p : ℕ) → at entries.new.entries p
-        ≡ (if contains holding.span p
-        then (if beliefs.is_last holding.span p then own_entry holding else None)
-        else at entries.old.entries p)) }
-    ensures span { beliefs.is_span holding.span ≡ true }
-    ensures top { holding.span.hi ≤ TOP }
-    ensures starts_stay { OnErr result (starts.new.entries ≡ starts.old.entries) }
-    ensures entries_stay { OnErr result (entries.new.entries ≡ entries.old.entries) }
-{
-    let span = holding.span;
-    let last = span.hi() - 1;
-    let (range, part) = holding.mode.parts();
-    let value = holding.value;
-    let fresh = hold(entries, last, part)?;
-    if let Err(error) = adopt_part(starts, span, range) {
-        undo(entries, last, fresh);
-        return Err(error);
-    }
-    adopt_entry(entries, span, Entry { part, value });
-    Ok(())
+    let mut walk = entries.extract_if(lo..hi, move |_, entry| {
+        entry.part = entry.part.meet(keep);
+        !reads_key(entry.part)
+    });
+    run_out(&mut walk);
 }
 
 // Takes the meet on a span.

@@ -1,4 +1,5 @@
-//! Several holdings, taken over at once: room is made for all of them first.
+//! Several holdings, taken over at once. Where they are no one piece, room is made for all of them
+//! first.
 ghost use Rattle.std.specs.Prelude.{◌≡◌, ◌≤◌, ℕ, true, IfOk, OnOk, OnErr};
 ghost use Rattle.std.specs.List.{AllByRecursion};
 ghost use Rattle.krl_messages.specs.Several.{Ascend};
@@ -6,7 +7,9 @@ ghost use Rattle.krl_cache.specs.Beliefs as beliefs;
 ghost use Rattle.krl_cache.specs.Maps.{at, part_at, HasEnds, KeepsParts, EndsAlike, BeginsAnew, AreStartsMerged};
 ghost use Rattle.krl_cache.specs.Several.{CanUndoBoth, UndoesBoth, HasRoom, AreReady, AreMergedBetween, is_end_of, parts_after, entries_after};
 
+use crate::adopt::adopt;
 use crate::entry::Entry;
+use crate::joined::{adopt_joined, joined_to};
 use crate::maps::{adopt_entry, fill, hold, mark_at, merge_at, part_before, undo};
 use krl_messages::{Holding, Holdings};
 use krl_modes::RangePart;
@@ -117,6 +120,30 @@ fn merge_all(starts: &mut BTreeMap<u64, RangePart>, holdings: &[Holding])
     }
 }
 
+// Takes holdings over that are no one piece, or none of them.
+fn adopt_apart(
+    starts: &mut BTreeMap<u64, RangePart>,
+    entries: &mut BTreeMap<u64, Entry>,
+    holdings: &[Holding],
+) -> Result<(), AllocError>
+    requires { Ascend holdings.now }
+    ensures parts { OnOk result ((p : ℕ) → part_at (at starts.new.entries) p
+        ≡ parts_after holdings.now p (part_at (at starts.old.entries) p)) }
+    ensures starts { OnOk result (EndsAlike (at starts.old.entries) (at starts.new.entries)) }
+    ensures merged { OnOk result (AreStartsMerged (at starts.old.entries)
+        → AreStartsMerged (at starts.new.entries)) }
+    ensures entries { OnOk result ((p : ℕ) → at entries.new.entries p
+        ≡ entries_after holdings.now p (at entries.old.entries p)) }
+    ensures spans { OnOk result (AllByRecursion (λ h. beliefs.is_span h.span ≡ true) holdings.now) }
+    ensures starts_stay { OnErr result (starts.new.entries ≡ starts.old.entries) }
+    ensures entries_stay { OnErr result (entries.new.entries ≡ entries.old.entries) }
+{
+    make_room(starts, entries, holdings)?;
+    fill_all(starts, entries, holdings);
+    merge_all(starts, holdings);
+    Ok(())
+}
+
 // Takes several holdings over, one after another, or none of them.
 pub fn adopt_all(
     starts: &mut BTreeMap<u64, RangePart>,
@@ -135,8 +162,17 @@ pub fn adopt_all(
     ensures entries_stay { OnErr result (entries.new.entries ≡ entries.old.entries) }
 {
     let holdings = holdings.as_slice();
-    make_room(starts, entries, holdings)?;
-    fill_all(starts, entries, holdings);
-    merge_all(starts, holdings);
-    Ok(())
+    let Some((first, rest)) = holdings.split_first() else {
+        return Ok(());
+    };
+    if rest.is_empty() {
+        let holding = *first;
+        return adopt(starts, entries, holding);
+    }
+    let lo = first.span.lo();
+    let (part, _) = first.mode.parts();
+    match joined_to(holdings, lo, part) {
+        Some(hi) => adopt_joined(starts, entries, holdings, lo, hi, part),
+        None => adopt_apart(starts, entries, holdings),
+    }
 }

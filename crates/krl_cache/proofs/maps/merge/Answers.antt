@@ -1,29 +1,27 @@
-use Rattle.std.proofs.Common.{refl, arith, ◌+◌, inl, inr}
-use Rattle.std.proofs.lemmas.Bool.Decides.{leb_tells}
-use Rattle.krl_cache.specs.Maps.{at}
-use Rattle.krl_cache.proofs.Starts.{holds_later, holds_next, keeps_on}
-use Rattle.krl_cache.proofs.Merges.{anew_none, anew_next}
+use Rattle.std.proofs.Common.{ℕ, ◌+◌, BTreeMap, sym, subst, ◌∙◌, rules, arith}
+use Rattle.krl_modes.specs.declared.part.RangePart.{RangePart}
+use Rattle.krl_cache.specs.Maps.{at, KeepsParts, BeginsAnew}
+use Rattle.krl_cache.proofs.Sifting.{walk_starts}
+use Rattle.krl_cache.proofs.Sifted.{sifted_merges}
 use Rattle.krl_cache.proofs.maps.merge.Goals as goal
 
-pub merge_found-requires-clause-before : goal.merge_found-requires-clause-before
-merge_found-requires-clause-before c =
-    holds_later (at c.loop-start.starts.entries) c.loop-start.p c.in-Some.start c.loop-start.before c.in-Some.ensures.from c.in-Some.ensures.free c.loop-start.invariant.before
-
-pub loop-start-preserved : goal.loop-start-preserved
-loop-start-preserved c =
-    let f = at c.args.starts.now.entries in
-    let g = at c.loop-start.starts.entries in
-    let h = at c.merge_found.new.starts.entries in
+pub returns : goal.returns
+returns c =
+    let e = c.extract_if-walk.ensures in
+    let old = c.args.starts.now in
+    let end = c.args.hi + 1 in
+    let s =
+    c.run_out.ensures.out.out _ c.args.lo end old.entries
+    (walk_starts _ _ _ c.args.lo end old c.extract_if-walk.result.map.now c.extract_if-walk.result.cursor _ (omega (arith, c.requires)) c.len.ensures.ordered e.unchanged e.holds (e.rest tt)) in
+    let m =
+    sifted_merges _ (λ (f : record { 0 : RangePart }). f.0) (record {
+      stays = λ f k v b w g t. search rules;
+      next = λ f k v b w g t. search rules;
+      same = λ f k v w g t. search rules;
+      other = λ f k v w g t z. search rules;
+    }) end _ c.args.lo old.entries _ s c.part_before-before.ensures in
+    let is = sym (c.starts-1.given.1 (sym (c.run_out.ensures.same ∙ e.same_map))) in
     record {
-      below = omega (arith, c.in-Some.ensures.below);
-      kept = keeps_on f g h c.loop-start.invariant.kept c.merge_found.ensures.kept;
-      before = holds_next g h c.in-Some.start (c.in-Some.start + 1) c.in-Some.part refl c.in-Some.ensures.here c.merge_found.ensures.kept;
-      anew = λ q a b. anew_next g h c.args.lo c.loop-start.p c.in-Some.start q c.loop-start.invariant.anew c.in-Some.ensures.free c.merge_found.ensures.kept c.merge_found.ensures.anew a (omega (arith, b));
+      kept = subst (λ (n : BTreeMap ℕ RangePart). KeepsParts (at old.entries) (at n.entries)) is m.0;
+      anew = λ q a b. subst (λ (n : BTreeMap ℕ RangePart). BeginsAnew (at n.entries) q) is (m.1 q a (omega (arith, b)));
     }
-
-pub returns-clause-anew : goal.returns-clause-anew
-returns-clause-anew c q a b =
-    elim (leb_tells c.loop-start.p q) [
-      | inl x ↦ anew_none (at c.loop-start.starts.entries) q (c.in_default.ensures q x.1 (omega (arith, b)))
-      | inr x ↦ c.loop-start.invariant.anew q a x.1
-    ]

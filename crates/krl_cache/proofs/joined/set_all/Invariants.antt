@@ -1,0 +1,7 @@
+use Rattle.std.proofs.Common.{drop}
+use Rattle.krl_cache.specs.Maps.{at}
+use Rattle.krl_cache.proofs.Beside.{IsSetting}
+use Rattle.krl_cache.proofs.joined.set_all.Given as goal
+
+abbrev pub invariant-loop-holding : goal.invariant-loop-holding
+invariant-loop-holding l = IsSetting l.holdings (at l.fn.entries.entries) (drop l.holding-index l.holdings) (at l.entries.entries)

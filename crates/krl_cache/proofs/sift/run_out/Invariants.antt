@@ -1,0 +1,15 @@
+use Rattle.std.proofs.Common.{ℕ, ◌≡◌, List}
+use Rattle.std.specs.Ordering.{nat_cmp}
+use Rattle.std.specs.Map.Calls.{CalledAtPair}
+use Rattle.std.specs.declared.ops.Range.{Range}
+use Rattle.std.specs.declared.ops.Bound.TheVariants.{Excluded}
+use Rattle.std_collections.specs.Layout.BTreeMapQueries.{end_test}
+use Rattle.krl_cache.specs.Sifts.{StandsAt}
+use Rattle.krl_cache.proofs.sift.run_out.Given as goal
+
+abbrev pub invariant-loop : goal.invariant-loop
+invariant-loop g l =
+    (l.walk.map.ghost_name ≡ l.fn.walk.map.ghost_name)
+    × ((f : g.row.F.Denot) (lo hi : ℕ) (old : List (ℕ × g.row.V.Denot))
+    → StandsAt (CalledAtPair g.F.FnMut) (λ (r : Range ℕ). end_test nat_cmp (Excluded r.end)) f lo hi old l.fn.walk.map.now l.fn.walk.cursor
+    → StandsAt (CalledAtPair g.F.FnMut) (λ (r : Range ℕ). end_test nat_cmp (Excluded r.end)) f lo hi old l.walk.map.now l.walk.cursor)
