@@ -1,6 +1,6 @@
 //! What a client is told and asked to do, one act after another, and what comes of it. Where an
 //! allocation is refused, a client shows what it showed, and the refused call is made again.
-use crate::again::{CALLS, again};
+use crate::again::CALLS;
 use krl_client::{Client, CommandRefused, LockStatus, ScanAnswer, Status, WriteStatus};
 use krl_messages::{
     Holding, Holdings, Outcome, Pieces, PushBody, Request, RequestBody, ToClient, ToClientBody,
@@ -302,12 +302,17 @@ fn is_found(answer: &ScanAnswer, expected: &Gives) -> bool {
     }
 }
 
+// Whether the scan is answered so, perhaps after refusals.
 fn scans(client: &Client, lo: u64, hi: u64, expected: &Gives) -> bool {
-    match (again(|| client.scan(lo, hi)), expected) {
-        (Ok(answer), _) => is_found(&answer, expected),
-        (Err(refusal), Gives::Refused(reason)) => refusal == *reason,
-        (Err(_), _) => false,
+    for _ in 0..CALLS {
+        match (client.scan(lo, hi), expected) {
+            (Ok(answer), _) => return is_found(&answer, expected),
+            (Err(CommandRefused::OutOfMemory), _) => {}
+            (Err(refusal), Gives::Refused(reason)) => return refusal == *reason,
+            (Err(_), _) => return false,
+        }
     }
+    false
 }
 
 fn pins(client: &mut Client, lo: u64, hi: u64, expected: &Gives) -> bool {

@@ -1,6 +1,6 @@
 //! Calls of a cache, one after another, and what each gives. Where an allocation is refused, a cache
 //! believes what it believed, and the refused call is made again.
-use crate::again::{CALLS, again};
+use crate::again::CALLS;
 use krl_cache::{Belief, Scanned};
 use krl_messages::{Holding, Holdings, KeyPiece, Pieces, RangePiece, Value};
 use krl_modes::{END, KeyPart, Mode, RangePart, Span};
@@ -47,26 +47,42 @@ fn seen<B: Belief>(cache: &B) -> [(RangePart, KeyPart, Option<Value>); 9] {
     all
 }
 
-// Whether the call is answered, perhaps after refusals, each of which changes nothing.
-fn is_done<B: Belief, F: Fn(&mut B) -> Result<(), AllocError>>(cache: &mut B, call: F) -> bool
-    requires { F.IsAlwaysCallable call }
-{
+// What changes what is believed.
+#[derive(Clone, Copy)]
+enum Change<'a> {
+    Adopt(Holding),
+    AdoptAll(&'a Holdings),
+    Lower(Span, Mode),
+}
+
+// Asks the cache for the change; None where a holding has not the value that it has to have.
+fn asked<B: Belief>(cache: &mut B, change: &Change<'_>) -> Option<Result<(), AllocError>> {
+    match change {
+        Change::Adopt(holding) => {
+            let judged = *holding;
+            if judged.has_its_value() {
+                Some(cache.adopt(*holding))
+            } else {
+                None
+            }
+        }
+        Change::AdoptAll(holdings) if holdings.have_values() => Some(cache.adopt_all(holdings)),
+        Change::AdoptAll(_) => None,
+        Change::Lower(span, keep) => Some(cache.lower(*span, *keep)),
+    }
+}
+
+// Whether the change is made, perhaps after refusals, each of which changes nothing.
+fn is_done<B: Belief>(cache: &mut B, change: &Change<'_>) -> bool {
     let before = seen(cache);
     for _ in 0..CALLS {
-        if call(cache).is_ok() {
-            return true;
-        }
-        if seen(cache) != before {
-            return false;
+        match asked(cache, change) {
+            Some(Ok(())) => return true,
+            Some(Err(_)) if seen(cache) == before => {}
+            _ => return false,
         }
     }
     false
-}
-
-// Whether the holding is adopted.
-fn adopts<B: Belief>(cache: &mut B, holding: Holding) -> bool {
-    let judged = holding;
-    judged.has_its_value() && is_done(cache, |cache: &mut B| cache.adopt(holding))
 }
 
 // The value of these bytes. None where they are more than 32.
@@ -111,15 +127,6 @@ fn listed(all: &[Held]) -> Option<Holdings> {
     Some(holdings)
 }
 
-// Whether they are all adopted.
-fn adopts_all<B: Belief>(cache: &mut B, holdings: &Holdings) -> bool {
-    holdings.have_values() && is_done(cache, |cache: &mut B| cache.adopt_all(holdings))
-}
-
-fn lowers<B: Belief>(cache: &mut B, span: Span, keep: Mode) -> bool {
-    is_done(cache, |cache: &mut B| cache.lower(span, keep))
-}
-
 fn are_rows(rows: &[(u64, Value)], expected: &[(u64, Bytes)]) -> bool {
     rows.len() == expected.len()
         && rows
@@ -144,7 +151,12 @@ fn is_found(found: &Scanned, gives: &Gives) -> bool {
 }
 
 fn scans<B: Belief>(alloc: Global, cache: &B, span: Span, gives: &Gives) -> bool {
-    again(|| cache.scan(alloc, span)).is_ok_and(|found| is_found(&found, gives))
+    for _ in 0..CALLS {
+        if let Ok(found) = cache.scan(alloc, span) {
+            return is_found(&found, gives);
+        }
+    }
+    false
 }
 
 fn are_ranges(pieces: &[RangePiece], expected: &[(u64, u64, RangePart)]) -> bool {
@@ -178,7 +190,12 @@ fn tells<B: Belief>(
     ranges: &[(u64, u64, RangePart)],
     keys: &[(u64, KeyPart)],
 ) -> bool {
-    again(|| cache.pieces(alloc)).is_ok_and(|pieces| are_told(&pieces, ranges, keys))
+    for _ in 0..CALLS {
+        if let Ok(pieces) = cache.pieces(alloc) {
+            return are_told(&pieces, ranges, keys);
+        }
+    }
+    false
 }
 
 // Whether the call gives this.
@@ -186,16 +203,16 @@ fn answers<B: Belief>(alloc: Global, cache: &mut B, ask: &Ask, expected: &Gives)
     match (ask, expected) {
         (Ask::Adopt(lo, hi, mode, bytes), Gives::Done) => {
             match holding((*lo, *hi, *mode, *bytes)) {
-                Some(holding) => adopts(cache, holding),
+                Some(holding) => is_done(cache, &Change::Adopt(holding)),
                 None => false,
             }
         }
         (Ask::AdoptAll(all), Gives::Done) => match listed(all) {
-            Some(holdings) => adopts_all(cache, &holdings),
+            Some(holdings) => is_done(cache, &Change::AdoptAll(&holdings)),
             None => false,
         },
         (Ask::Lower(lo, hi, keep), Gives::Done) => match Span::new(*lo, *hi) {
-            Ok(span) => lowers(cache, span, *keep),
+            Ok(span) => is_done(cache, &Change::Lower(span, *keep)),
             Err(_) => false,
         },
         (Ask::Scan(lo, hi), _) => match Span::new(*lo, *hi) {

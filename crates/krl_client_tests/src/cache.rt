@@ -392,15 +392,22 @@ fn one_runs<B: Belief>(rt: &impl Abort, alloc: Global, caches: &mut [B]) -> bool
     false
 }
 
-#[test]
-fn both_run(rt: HostRuntime) {
-    let alloc = rt.alloc();
+fn cache_runs(rt: &impl Abort, alloc: Global) -> bool {
     let mut caches = [Cache::new(alloc), Cache::new(alloc), Cache::new(alloc)];
-    assert!(rt; one_runs(&rt, alloc, &mut caches));
-    let mut plain = [
+    one_runs(rt, alloc, &mut caches)
+}
+
+fn plain_cache_runs(rt: &impl Abort, alloc: Global) -> bool {
+    let mut caches = [
         PlainCache::new(alloc),
         PlainCache::new(alloc),
         PlainCache::new(alloc),
     ];
-    assert!(rt; one_runs(&rt, alloc, &mut plain));
+    one_runs(rt, alloc, &mut caches)
+}
+
+#[test]
+fn both_run(rt: HostRuntime) {
+    assert!(rt; cache_runs(&rt, rt.alloc()));
+    assert!(rt; plain_cache_runs(&rt, rt.alloc()));
 }

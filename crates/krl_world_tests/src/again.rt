@@ -2,26 +2,9 @@
 //! test, or two in a row. What was refused has changed nothing.
 use krl_modes::{END, KeyPart, RangePart};
 use krl_world::{Refused, Step, World};
-use std::alloc::AllocError;
 
 /// How often a call is made at most: twice it may be refused.
 pub const CALLS: u64 = 3;
-
-/// Makes the call, and again as long as memory is refused, twice at most.
-pub fn again<T, E, F>(call: F) -> Result<T, E>
-where
-    E: From<AllocError> + PartialEq + Drop,
-    F: Fn() -> Result<T, E>,
-    requires { F.IsAlwaysCallable call }
-{
-    for _ in 1..CALLS {
-        match call() {
-            Err(refused) if refused == E::from(AllocError) => {}
-            answer => return answer,
-        }
-    }
-    call()
-}
 
 // What a caller sees of a world: how many messages were sent, how long its index and its writes
 // are, which nodes run, and what client 0 holds at some points.
@@ -64,21 +47,6 @@ pub fn takes(world: &mut World, step: Step) -> bool {
         }
         if seen(world) != before {
             return false;
-        }
-    }
-    false
-}
-
-/// Whether a run that is made again as long as memory is refused is right in the end. A refused
-/// run, an `Err`, says whether what it left is right.
-pub fn is_right_at_last<F: Fn() -> Result<bool, bool>>(run: F) -> bool
-    requires { F.IsAlwaysCallable run }
-{
-    for _ in 0..CALLS {
-        match run() {
-            Ok(is_right) => return is_right,
-            Err(false) => return false,
-            Err(true) => {}
         }
     }
     false

@@ -6,14 +6,13 @@ ghost use Rattle.std.specs.Map.{keys_of};
 ghost use Rattle.krl_modes.specs.declared.point.TheConstants.{END};
 ghost use Rattle.krl_durable.specs.Kept.{IsRow};
 
-use crate::again::{again, takes};
+use crate::again::{CALLS, takes};
 use krl_durable::{DurableV1, Record, Refused as EntriesRefused};
 use krl_messages::Outcome;
 use krl_modes::END;
-use krl_server::{Phase, Server};
+use krl_server::Phase;
 use krl_world::{Refused, Step, World};
 use std::alloc::Global;
-use std::test::Fail;
 
 /// An incarnation that has left and never wrote.
 const GONE: Record = Record {
@@ -58,12 +57,24 @@ fn survived(
     requires each { AllByRecursion IsRow records.now }
     requires once { IsDistinct nat_eq (keys_of records.now) }
 {
-    again(|| DurableV1::from_parts(alloc, &[(10, 258)], epoch, records))
+    for _ in 1..CALLS {
+        match DurableV1::from_parts(alloc, &[(10, 258)], epoch, records) {
+            Err(EntriesRefused::OutOfMemory) => {}
+            answer => return answer,
+        }
+    }
+    DurableV1::from_parts(alloc, &[(10, 258)], epoch, records)
 }
 
 /// A world that begins with it.
 fn migrated(alloc: Global, old: &DurableV1) -> Result<World, Refused> {
-    again(|| World::migrate(alloc, old))
+    for _ in 1..CALLS {
+        match World::migrate(alloc, old) {
+            Err(Refused::OutOfMemory) => {}
+            answer => return answer,
+        }
+    }
+    World::migrate(alloc, old)
 }
 
 /// Whether no world begins with it, for this reason.
@@ -84,18 +95,21 @@ fn starts_as(world: &mut World, client: u64, incarnation: u64) -> bool {
 
 /// Whether the incarnation is the registered one of the client, and has not left.
 fn is_registered(world: &World, client: u64, incarnation: u64) -> bool {
-    match world
-        .server()
-        .and_then(|server| server.durable().record(client))
-    {
+    match world.server() {
         None => false,
-        Some(record) => record.incarnation == incarnation && !record.left,
+        Some(server) => match server.durable().record(client) {
+            None => false,
+            Some(record) => record.incarnation == incarnation && !record.left,
+        },
     }
 }
 
-/// Whether the server serves in the epoch.
-fn serves_in(server: &Server, epoch: u64) -> bool {
-    server.phase() == Phase::Serving && server.durable().epoch() == epoch
+/// Whether the world's server serves in the epoch.
+fn serves_in(world: &World, epoch: u64) -> bool {
+    match world.server() {
+        None => false,
+        Some(server) => server.phase() == Phase::Serving && server.durable().epoch() == epoch,
+    }
 }
 
 /// Whether the index has just the one entry, and its value is these bytes.
@@ -110,33 +124,51 @@ fn has_bytes(world: &World, key: u64, bytes: &[u8]) -> bool {
     }
 }
 
-#[test]
-fn a_world_goes_on_from_it(rt: HostRuntime) -> Result<(), Fail> {
-    let old = survived(rt.alloc(), 4, &ALL_LEFT)?;
-    let mut world = migrated(rt.alloc(), &old)?;
-    assert!(rt; world.server().is_some_and(|server| serves_in(server, 5)));
-    assert!(rt; has_bytes(&world, 10, &[0, 0, 0, 0, 0, 0, 1, 2]));
-    assert!(rt; world.sent() == 0 && world.writes().is_empty());
-    assert!(rt; starts_as(&mut world, 0, 4));
-    assert!(rt; starts_as(&mut world, 5, 1));
-    assert!(rt; starts_as(&mut world, 9, 3));
-    Ok(())
+/// Whether the world goes on in epoch 5 from what survived epoch 4 where all have left.
+fn goes_on(world: &mut World) -> bool {
+    serves_in(world, 5)
+        && has_bytes(world, 10, &[0, 0, 0, 0, 0, 0, 1, 2])
+        && world.sent() == 0
+        && world.writes().is_empty()
+        && starts_as(world, 0, 4)
+        && starts_as(world, 5, 1)
+        && starts_as(world, 9, 3)
 }
 
 #[test]
-fn no_world_begins_while_somebody_has_not_left(rt: HostRuntime) -> Result<(), Fail> {
-    let old = survived(rt.alloc(), 4, &ONE_HERE)?;
-    assert!(rt; is_refused(rt.alloc(), &old, Refused::StillRegistered(0)));
-    let old = survived(rt.alloc(), END, &TWO_HERE)?;
-    assert!(rt; is_refused(rt.alloc(), &old, Refused::StillRegistered(3)));
-    Ok(())
+fn a_world_goes_on_from_it(rt: HostRuntime) {
+    let Ok(old) = survived(rt.alloc(), 4, &ALL_LEFT) else {
+        panic!(rt; "refused");
+    };
+    let Ok(mut world) = migrated(rt.alloc(), &old) else {
+        panic!(rt; "not migrated");
+    };
+    assert!(rt; goes_on(&mut world));
+}
+
+/// Whether no world begins with what survived so, for this reason.
+fn begins_not(alloc: Global, epoch: u64, records: &[(u64, Record)], expected: Refused) -> bool
+    requires epoch { epoch ≤ END }
+    requires each { AllByRecursion IsRow records.now }
+    requires once { IsDistinct nat_eq (keys_of records.now) }
+{
+    match survived(alloc, epoch, records) {
+        Ok(old) => is_refused(alloc, &old, expected),
+        Err(_) => false,
+    }
 }
 
 #[test]
-fn no_world_begins_after_the_last_epoch(rt: HostRuntime) -> Result<(), Fail> {
-    let old = survived(rt.alloc(), END, &ALL_LEFT)?;
-    assert!(rt; is_refused(rt.alloc(), &old, Refused::Spent));
-    let old = survived(rt.alloc(), END - 1, &ALL_LEFT)?;
+fn no_world_begins_while_somebody_has_not_left(rt: HostRuntime) {
+    assert!(rt; begins_not(rt.alloc(), 4, &ONE_HERE, Refused::StillRegistered(0)));
+    assert!(rt; begins_not(rt.alloc(), END, &TWO_HERE, Refused::StillRegistered(3)));
+}
+
+#[test]
+fn no_world_begins_after_the_last_epoch(rt: HostRuntime) {
+    assert!(rt; begins_not(rt.alloc(), END, &ALL_LEFT, Refused::Spent));
+    let Ok(old) = survived(rt.alloc(), END - 1, &ALL_LEFT) else {
+        panic!(rt; "refused");
+    };
     assert!(rt; migrated(rt.alloc(), &old).is_ok());
-    Ok(())
 }

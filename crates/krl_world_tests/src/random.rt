@@ -4,8 +4,7 @@ ghost use Rattle.std.specs.Prelude.{◌≤◌};
 use crate::scripts::writer;
 use krl_modes::END;
 use krl_script::{AnyWriter, MAX_STEPS, Progress, ScriptFault, Untold, busy_run, random_run};
-use std::alloc::Global;
-use std::test::Fail;
+use std::alloc::{AllocError, Global};
 
 /// Counts how often it is told of steps, and keeps the last number.
 #[derive(Drop)]
@@ -41,14 +40,27 @@ fn is_cut(alloc: Global, line: &str, room: usize) -> bool {
         && taken.0.rest.len() == line.len().saturating_sub(room)
 }
 
+/// The line of a run of 200 steps.
+fn line_of(alloc: Global, seed: u64) -> Result<String, AllocError> {
+    format!(in alloc; "random {seed} 200 sound\n")
+}
+
+/// Whether a run of 200 steps by this seed is sound.
+fn is_sound(alloc: Global, seed: u64) -> bool
+    requires { seed ≤ END }
+{
+    match line_of(alloc, seed) {
+        Ok(line) => writes(alloc, seed, 200, &line),
+        Err(_) => false,
+    }
+}
+
 #[test]
-fn each_seed_is_sound(rt: HostRuntime) -> Result<(), Fail> {
+fn each_seed_is_sound(rt: HostRuntime) {
     for seed in 0..20u64 {
-        let line = format!(in rt.alloc(); "random {seed} 200 sound\n")?;
-        assert!(rt; writes(rt.alloc(), seed, 200, &line), "seed {seed}");
+        assert!(rt; is_sound(rt.alloc(), seed), "seed {seed}");
     }
     assert!(rt; writes(rt.alloc(), END, 1, "random 9223372036854775807 1 sound\n"));
-    Ok(())
 }
 
 /// How many writes the run applied.
@@ -88,16 +100,30 @@ fn most_busy_runs_apply_writes(rt: HostRuntime) {
     assert!(rt; writing(rt.alloc(), true) >= 15);
 }
 
-#[test]
-fn each_seed_is_sound_in_haste(rt: HostRuntime) -> Result<(), Fail> {
-    for seed in 0..20u64 {
-        let line = format!(in rt.alloc(); "random {seed} 200 sound\n")?;
-        let mut taken = AnyWriter(writer(&line, 7, 1000));
-        let end = busy_run(rt.alloc(), &mut taken, &mut Untold, seed, 200);
-        assert!(rt; matches!(end, Ok((_, true))), "seed {seed}");
-        assert!(rt; taken.0.is_right && taken.0.rest.is_empty(), "seed {seed}");
+/// Whether the busy run is sound, and writes this line and no more.
+fn hastens(alloc: Global, seed: u64, line: &str) -> bool
+    requires { seed ≤ END }
+{
+    let mut taken = AnyWriter(writer(line, 7, 1000));
+    let end = busy_run(alloc, &mut taken, &mut Untold, seed, 200);
+    matches!(end, Ok((_, true))) && taken.0.is_right && taken.0.rest.is_empty()
+}
+
+/// Whether a busy run of 200 steps by this seed is sound.
+fn is_sound_in_haste(alloc: Global, seed: u64) -> bool
+    requires { seed ≤ END }
+{
+    match line_of(alloc, seed) {
+        Ok(line) => hastens(alloc, seed, &line),
+        Err(_) => false,
     }
-    Ok(())
+}
+
+#[test]
+fn each_seed_is_sound_in_haste(rt: HostRuntime) {
+    for seed in 0..20u64 {
+        assert!(rt; is_sound_in_haste(rt.alloc(), seed), "seed {seed}");
+    }
 }
 
 #[test]
@@ -109,11 +135,15 @@ fn a_write_that_fails_ends_the_run(rt: HostRuntime) {
     assert!(rt; !is_cut(rt.alloc(), line, line.len()));
 }
 
-#[test]
-fn every_10000th_step_is_told(rt: HostRuntime) {
+/// Whether a run of 20001 steps ends, and tells of the 10000th and the 20000th.
+fn tells_every_10000th(alloc: Global) -> bool {
     let mut told = Counted { times: 0, last: 0 };
     let mut taken = AnyWriter(writer("random 3 20001 sound\n", 1000, 1000));
-    let end = random_run(rt.alloc(), &mut taken, &mut told, 3, 20001);
-    assert!(rt; end.is_ok());
-    assert!(rt; told.times == 2 && told.last == 20000);
+    let end = random_run(alloc, &mut taken, &mut told, 3, 20001);
+    end.is_ok() && told.times == 2 && told.last == 20000
+}
+
+#[test]
+fn every_10000th_step_is_told(rt: HostRuntime) {
+    assert!(rt; tells_every_10000th(rt.alloc()));
 }

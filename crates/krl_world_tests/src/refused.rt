@@ -1,13 +1,12 @@
 //! Worlds whose requests for memory may be refused, one by one or two in a row: what was refused
 //! has changed nothing, and the same call made again gives its row.
-use crate::again::{CALLS, again, index_len, is_right_at_last, takes};
+use crate::again::{CALLS, index_len, takes};
 use crate::scripts::writer;
 use krl_messages::{Value, WriteOp};
 use krl_modes::Mode;
 use krl_script::{AnyWriter, ScriptFault, Untold, busy_run, random_run, run_script};
 use krl_world::{Answer, Command, Refused, Step, World};
 use std::alloc::{AllocError, Global};
-use std::process::Abort;
 
 fn entries(alloc: Global) -> Result<Vec<(u64, Value)>, AllocError> {
     let mut entries = Vec::new(alloc);
@@ -22,8 +21,13 @@ fn made(alloc: Global) -> Result<World, Refused> {
 }
 
 // The same, made again where memory was refused.
-fn world(rt: &impl Abort, alloc: Global) -> World {
-    again(|| made(alloc)).ok().expect(rt, "a world")
+fn made_at_last(alloc: Global) -> Option<World> {
+    for _ in 0..CALLS {
+        if let Ok(world) = made(alloc) {
+            return Some(world);
+        }
+    }
+    None
 }
 
 // Client 0 locks a range over both entries, inserts between them, and forgets; then its server
@@ -66,14 +70,30 @@ fn steps() -> [Step; 24] {
     ]
 }
 
+// Whether the world takes each of them.
+fn takes_each(world: &mut World) -> bool {
+    for step in &steps() {
+        if !takes(world, *step) {
+            return false;
+        }
+    }
+    true
+}
+
+// Whether the world is as it has to be after them.
+fn is_as_they_leave_it(world: &World) -> bool {
+    index_len(world) == 3
+        && world.writes().len() == 1
+        && world.client(0).is_none()
+        && world.server().is_some()
+}
+
 #[test]
 fn each_step_is_taken_again(rt: HostRuntime) {
-    let mut world = world(&rt, rt.alloc());
-    for step in &steps() {
-        assert!(rt; takes(&mut world, *step));
-    }
-    assert!(rt; index_len(&world) == 3 && world.writes().len() == 1);
-    assert!(rt; world.client(0).is_none() && world.server().is_some());
+    let Some(mut world) = made_at_last(rt.alloc()) else {
+        panic!(rt; "no world is made");
+    };
+    assert!(rt; takes_each(&mut world) && is_as_they_leave_it(&world));
 }
 
 fn is_refused(answer: &Result<Answer, Refused>) -> bool {
@@ -108,11 +128,6 @@ fn runs(alloc: Global) -> Result<bool, bool> {
     }
 }
 
-#[test]
-fn a_run_is_made_again(rt: HostRuntime) {
-    assert!(rt; is_right_at_last(|| runs(rt.alloc())));
-}
-
 static SCRIPT: &str = "seed 10=1 20=2\nclient 0\nsettle\nlock 0 5 RangeS-S\nsettle\n\
      scan 0 0 11\nscan 0 0 12\n";
 
@@ -132,11 +147,6 @@ fn scripted(alloc: Global) -> Result<bool, bool> {
     }
 }
 
-#[test]
-fn a_script_is_run_again(rt: HostRuntime) {
-    assert!(rt; is_right_at_last(|| scripted(rt.alloc())));
-}
-
 // Whether the run is sound. An `Err` where it ended for want of memory, with nothing written.
 fn drives(alloc: Global, is_busy: bool) -> Result<bool, bool> {
     let line = "random 7 40 sound\n";
@@ -153,9 +163,49 @@ fn drives(alloc: Global, is_busy: bool) -> Result<bool, bool> {
     }
 }
 
+// A run of all steps, one of the script, and random ones.
+enum Run {
+    Steps,
+    Script,
+    Random,
+    Busy,
+}
+
+// Makes the run once.
+fn run_once(alloc: Global, run: &Run) -> Result<bool, bool> {
+    match run {
+        Run::Steps => runs(alloc),
+        Run::Script => scripted(alloc),
+        Run::Random => drives(alloc, false),
+        Run::Busy => drives(alloc, true),
+    }
+}
+
+// Whether a run that is made again as long as memory is refused is right in the end. A refused
+// run, an `Err`, says whether what it left is right.
+fn is_right_at_last(alloc: Global, run: &Run) -> bool {
+    for _ in 0..CALLS {
+        match run_once(alloc, run) {
+            Ok(is_right) => return is_right,
+            Err(false) => return false,
+            Err(true) => {}
+        }
+    }
+    false
+}
+
+#[test]
+fn a_run_is_made_again(rt: HostRuntime) {
+    assert!(rt; is_right_at_last(rt.alloc(), &Run::Steps));
+}
+
+#[test]
+fn a_script_is_run_again(rt: HostRuntime) {
+    assert!(rt; is_right_at_last(rt.alloc(), &Run::Script));
+}
+
 #[test]
 fn a_random_run_is_made_again(rt: HostRuntime) {
-    for is_busy in [false, true] {
-        assert!(rt; is_right_at_last(|| drives(rt.alloc(), is_busy)));
-    }
+    assert!(rt; is_right_at_last(rt.alloc(), &Run::Random));
+    assert!(rt; is_right_at_last(rt.alloc(), &Run::Busy));
 }

@@ -6,8 +6,8 @@ apart : IsDistinct nat_eq (0 ∷ 9 ∷ [])
 unfolding IsDistinct
 apart = ((refl, tt), (tt, tt))
 
+pub begins_not-requires-clause-once : goal.begins_not-requires-clause-once
+begins_not-requires-clause-once g c = apart
+
 pub survived-requires-clause-once : goal.survived-requires-clause-once
 survived-requires-clause-once g c = apart
-
-pub survived-requires-2-clause-once : goal.survived-requires-2-clause-once
-survived-requires-2-clause-once g c = apart

@@ -10,8 +10,8 @@ three : IsDistinct nat_eq (0 ∷ 3 ∷ 1 ∷ [])
 unfolding IsDistinct
 three = ((refl, (refl, tt)), ((refl, tt), (tt, tt)))
 
-pub survived-requires-clause-once : goal.survived-requires-clause-once
-survived-requires-clause-once g c = two
+pub begins_not-requires-clause-once : goal.begins_not-requires-clause-once
+begins_not-requires-clause-once g c = two
 
-pub survived-requires-2-clause-once : goal.survived-requires-2-clause-once
-survived-requires-2-clause-once g c = three
+pub begins_not-requires-2-clause-once : goal.begins_not-requires-2-clause-once
+begins_not-requires-2-clause-once g c = three
