@@ -1,0 +1,8 @@
+pub mod Values
+pub mod Held
+pub mod RecordsKept
+pub mod Framing
+pub mod RowsLemmas
+pub mod Commanding
+pub mod Acting
+pub mod KeptLemmas

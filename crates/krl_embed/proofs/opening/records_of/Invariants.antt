@@ -1,0 +1,9 @@
+use Rattle.std.proofs.Common.{◌≡◌, take, map}
+use Rattle.krl_embed.specs.Records.{AreRows, record_of}
+use Rattle.krl_embed.proofs.opening.records_of.Given as goal
+
+abbrev pub invariant-loop-i : goal.invariant-loop-i
+invariant-loop-i l = record {
+  rows : AreRows l.records.items;
+  records : l.records.items ≡ map record_of (take l.i l.rows);
+}

@@ -1,0 +1,12 @@
+pub mod Owning
+pub mod Replies
+pub mod Frames
+pub mod Rows
+pub mod Changes
+pub mod Records
+pub mod Endpoints
+pub mod Clients
+pub mod Servers
+pub mod Opening
+pub mod Shown
+pub mod Kept

@@ -1,0 +1,111 @@
+-- What opening a client or a server does.
+use Rattle.std.specs.Prelude.{◌≡◌, ◌≤◌, ◌<◌, ℕ, suc, List, [], ◌∷◌, length, map, Option, Some, None, nat_eq, if◌then◌else◌}
+use Rattle.std.specs.List.{AllByRecursion, IsDistinct}
+use Rattle.std.specs.Map.{keys_of}
+use Rattle.krl_modes.specs.declared.point.TheConstants.{END}
+use Rattle.krl_messages.specs.declared.outcome.Outcome.{Outcome}
+use Rattle.krl_messages.specs.declared.outcome.Outcome.TheVariants as outcome
+use Rattle.krl_durable.specs.declared.record.Record.{Record}
+use Rattle.krl_durable.specs.declared.refused.Refused.{Refused}
+use Rattle.krl_durable.specs.declared.refused.Refused.TheVariants as refused
+use Rattle.krl_durable.specs.Registers.{Durable}
+use Rattle.krl_durable.specs.Openings.{of_parts, Refuses}
+use Rattle.krl_client.specs.Clients.{begun}
+use Rattle.krl_client.specs.Commands.{start_refusal}
+use Rattle.krl_client.specs.Ticks.{says_hello}
+use Rattle.krl_client.specs.Fields.{Fields}
+use Rattle.krl_client.specs.Fields as clients
+use Rattle.krl_client.specs.declared.refused.StartRefused.{StartRefused}
+use Rattle.krl_client.specs.declared.refused.StartRefused.TheVariants as due
+use Rattle.krl_server.specs.declared.state.State.{State}
+use Rattle.krl_server.specs.States as servers
+use Rattle.krl_server.specs.Steps.{start}
+use Rattle.krl_embed.specs.declared.code.Code.{Code}
+use Rattle.krl_embed.specs.declared.code.Code.TheVariants as code
+use Rattle.krl_embed.specs.declared.endpoint.Endpoint.{Endpoint}
+use Rattle.krl_embed.specs.declared.endpoint.Role.{Role}
+use Rattle.krl_embed.specs.declared.endpoint.Role.TheVariants as role
+use Rattle.krl_embed.specs.declared.records.RecordRow.{RecordRow}
+use Rattle.krl_embed.specs.declared.reply.Reply.{Reply}
+use Rattle.krl_embed.specs.declared.rows.Row.{Row}
+use Rattle.krl_embed.specs.Replies.{code_of}
+use Rattle.krl_embed.specs.Rows.{entry_of, HasValue, IsTooLong}
+use Rattle.krl_embed.specs.Records.{AreRows, record_of}
+use Rattle.krl_embed.specs.Frames.{said_frames}
+use Rattle.krl_embed.specs.Endpoints.{IsCode}
+
+-- a client that starts, whose Hello waits
+abbrev pub IsBegunRole : ℕ → ℕ → Role → Type 0
+IsBegunRole number incarnation (role.Client k) = clients.meaning k ≡ begun number incarnation
+IsBegunRole number incarnation (role.Left bye) = ⊥
+IsBegunRole number incarnation (role.Server s) = ⊥
+
+abbrev pub IsBegun : ℕ → ℕ → Endpoint → Type 0
+IsBegun number incarnation e =
+    IsBegunRole number incarnation e.role
+    × (e.outgoing ≡ said_frames (says_hello (begun number incarnation) ∷ []))
+
+-- why none starts: what is due, or memory
+abbrev pub why : Option StartRefused → Code
+why None = code.OutOfMemory
+why (Some due.BadClient) = code.BadClient
+why (Some due.Spent) = code.Spent
+
+-- a closed handle is open afterwards exactly where the code is Done
+abbrev pub BeginsClosed : ℕ → ℕ → Option Endpoint → Reply → Type 0
+BeginsClosed number incarnation None r = IsCode (why (start_refusal number incarnation)) r
+BeginsClosed number incarnation (Some e) r =
+    IsCode code.Done r × (start_refusal number incarnation ≡ None) × IsBegun number incarnation e
+
+abbrev pub Begins : ℕ → ℕ → Option Endpoint → Option Endpoint → Reply → Type 0
+Begins number incarnation None after r = BeginsClosed number incarnation after r
+Begins number incarnation (Some e) after r = (after ≡ Some e) × IsCode code.OpenAlready r
+
+-- what was kept
+abbrev pub parts : ℕ → List Row → List RecordRow → Durable
+parts epoch entries records = of_parts (map entry_of entries) epoch (map record_of records)
+
+-- a server that starts on what was kept
+abbrev pub IsStartedRole : Durable → Role → Type 0
+IsStartedRole d (role.Server s) = servers.meaning s ≡ start d
+IsStartedRole d (role.Client k) = ⊥
+IsStartedRole d (role.Left bye) = ⊥
+
+abbrev pub refused_code : Refused → Code
+refused_code refused.OutOfMemory = code.OutOfMemory
+refused_code refused.BadKey = code.BadKey
+refused_code refused.Twice = code.Twice
+refused_code refused.Full = code.Full
+
+-- the record at the detail's place is refused, or memory is
+abbrev pub RefusesRecordsAs : List RecordRow → ℕ → Option Code → Type 0
+RefusesRecordsAs records i (Some code.BadRecord) = i < length records
+RefusesRecordsAs records i (Some code.OutOfMemory) = Unit {0}
+RefusesRecordsAs records i _ = ⊥
+
+abbrev pub RefusesRecords : List RecordRow → Reply → Type 0
+RefusesRecords records r = RefusesRecordsAs records r.detail (code_of r)
+
+-- why none starts
+abbrev pub RefusesParts : ℕ → List Row → List RecordRow → ℕ → Option Code → Type 0
+RefusesParts epoch entries records i (Some code.Spent) = END ≤ epoch
+RefusesParts epoch entries records i (Some code.BadValue) = IsTooLong entries i
+RefusesParts epoch entries records i (Some code.BadRecord) = i < length records
+RefusesParts epoch entries records i (Some code.Full) = Refuses (map entry_of entries) refused.Full
+RefusesParts epoch entries records i (Some code.BadKey) = Refuses (map entry_of entries) refused.BadKey
+RefusesParts epoch entries records i (Some code.Twice) = Refuses (map entry_of entries) refused.Twice
+RefusesParts epoch entries records i (Some code.OutOfMemory) = Unit {0}
+RefusesParts epoch entries records i _ = ⊥
+
+abbrev pub RefusesOpening : ℕ → List Row → List RecordRow → Reply → Type 0
+RefusesOpening epoch entries records r = RefusesParts epoch entries records r.detail (code_of r)
+
+abbrev pub OpensClosed : ℕ → List Row → List RecordRow → Option Endpoint → Reply → Type 0
+OpensClosed epoch entries records None r = RefusesOpening epoch entries records r
+OpensClosed epoch entries records (Some e) r =
+    (code_of r ≡ Some code.Done) × (r.detail ≡ suc epoch) × IsStartedRole (parts epoch entries records) e.role
+    × (e.outgoing ≡ [])
+
+abbrev pub Opens : ℕ → List Row → List RecordRow → Option Endpoint → Option Endpoint → Reply → Type 0
+Opens epoch entries records None after r = OpensClosed epoch entries records after r
+Opens epoch entries records (Some e) after r = (after ≡ Some e) × IsCode code.OpenAlready r

@@ -1,0 +1,70 @@
+//! Exports on either, and on messages alone.
+ghost use Rattle.std.specs.Prelude.{◌≡◌, None};
+ghost use Rattle.krl_embed.specs.Endpoints.{IsCode, OnHandle};
+ghost use Rattle.krl_embed.specs.Frames.{TakesFrames};
+
+use crate::code::Code;
+use crate::handle::{Handle, put, take};
+use crate::reply::Reply;
+use krl_wire::{ReadError, has_counts, put_to_client, put_to_server, to_client_of, to_server_of};
+use std::alloc::Global;
+
+/// Takes the frames that wait to be sent.
+#[unsafe(no_mangle)]
+pub extern "C" fn krl_take(alloc: Global, handle: &mut Handle, bytes: &mut [u8]) -> Reply
+    ensures { OnHandle IsCode (TakesFrames bytes.old bytes.new) handle.old.owned.value handle.new.owned.value result }
+{
+    let Some(mut endpoint) = take(alloc, handle) else {
+        return Reply::of(Code::Closed);
+    };
+    let reply = endpoint.outgoing.take_into(bytes);
+    put(handle, endpoint);
+    reply
+}
+
+/// Closes the handle: what it kept is freed. A client says nothing.
+#[unsafe(no_mangle)]
+pub extern "C" fn krl_close(alloc: Global, handle: &mut Handle)
+    ensures { handle.new.owned.value ≡ None }
+{
+    let _ = take(alloc, handle);
+}
+
+// The bytes go into `spelling`: Done, and their count; or TooShort with that, and none goes there.
+fn copy_bytes(found: &[u8], spelling: &mut [u8]) -> Reply {
+    let count = found.len();
+    if spelling.len() < count {
+        return Reply::with(Code::TooShort, count as u64);
+    }
+    spelling[..count].copy_from_slice(found);
+    Reply::with(Code::Done, count as u64)
+}
+
+/// Reads a message to the server, and writes its spelling.
+#[unsafe(no_mangle)]
+pub extern "C" fn krl_respell_to_server(alloc: Global, bytes: &[u8], spelling: &mut [u8]) -> Reply {
+    let message = match to_server_of(alloc, bytes) {
+        Ok(message) => message,
+        Err(ReadError::OutOfMemory) => return Reply::of(Code::OutOfMemory),
+        Err(ReadError::Fault(fault)) => return Reply::with(Code::BadMessage, fault as u64),
+    };
+    let mut spelled = Vec::new(alloc);
+    if !has_counts(&message) || put_to_server(&mut spelled, &message).is_err() {
+        return Reply::of(Code::OutOfMemory);
+    }
+    copy_bytes(&spelled, spelling)
+}
+
+/// Reads a message to a client, and writes its spelling.
+#[unsafe(no_mangle)]
+pub extern "C" fn krl_respell_to_client(alloc: Global, bytes: &[u8], spelling: &mut [u8]) -> Reply {
+    let message = match to_client_of(bytes) {
+        Ok(message) => message,
+        Err(fault) => return Reply::with(Code::BadMessage, fault as u64),
+    };
+    let mut spelled = Vec::new(alloc);
+    if put_to_client(&mut spelled, &message).is_err() {
+        return Reply::of(Code::OutOfMemory);
+    }
+    copy_bytes(&spelled, spelling)
+}

@@ -1,0 +1,43 @@
+//! Handles.
+ghost use Rattle.std.specs.Prelude.{◌≡◌, is_some, Some, None, IsNone, MatchOption};
+
+use crate::endpoint::Endpoint;
+use crate::loose::Loose;
+use crate::owned::Owned;
+use std::alloc::Global;
+use std::mem::replace;
+
+/// A client or a server, as C keeps it. One of zeros is closed. C neither reads, writes nor copies one that
+/// is open.
+#[repr(C)]
+#[derive(Drop)]
+pub struct Handle {
+    is_open: bool,
+    owned: Owned,
+    ghost state: { is_open ≡ is_some owned.value },
+}
+
+pub(crate) fn take(alloc: Global, handle: &mut Handle) -> Option<Box<Endpoint>>
+    ensures taken { MatchOption result (handle.new ≡ handle.old)
+        (λ endpoint. (handle.old.owned.value ≡ Some endpoint.value) × (handle.new.owned.value ≡ None)) }
+    ensures closed { IsNone result → handle.old.owned.value ≡ None }
+{
+    if !handle.is_open {
+        return None;
+    }
+    let closed = Handle {
+        is_open: false,
+        owned: Owned::none(),
+    };
+    let Handle { is_open: _, owned } = replace(handle, closed);
+    Some(owned.into_loose(alloc).into_box())
+}
+
+pub(crate) fn put(handle: &mut Handle, endpoint: Box<Endpoint>)
+    ensures { handle.new.owned.value ≡ Some endpoint.value }
+{
+    *handle = Handle {
+        is_open: true,
+        owned: Owned::of(Loose::of(endpoint)),
+    };
+}

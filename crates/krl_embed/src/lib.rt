@@ -1,0 +1,23 @@
+//! A client or a server of the lock server behind a handle, for a program in C or Rust.
+//!
+//! The program owns the handle, its sockets and its disk. `krl.h` declares the exports.
+#![tactic(auto)]
+
+mod changes;
+mod client_calls;
+mod client_exports;
+mod client_shows;
+mod code;
+mod endpoint;
+mod exports;
+mod frames;
+mod handle;
+mod laws;
+mod loose;
+mod opening;
+mod owned;
+mod records;
+mod reply;
+mod rows;
+mod server_calls;
+mod server_exports;

@@ -1,0 +1,93 @@
+//! Starting a server on what was kept.
+ghost use Rattle.std.specs.Prelude.{◌≡◌, Some, IfOk, IfErr, map};
+ghost use Rattle.krl_server.specs.States.{meaning};
+ghost use Rattle.krl_server.specs.Steps.{start};
+ghost use Rattle.krl_embed.specs.Replies.{code_of};
+ghost use Rattle.krl_embed.specs.Opening.{parts, refused_code, RefusesOpening, RefusesRecords};
+ghost use Rattle.krl_embed.specs.Records.{AreRows, record_of};
+
+use crate::code::Code;
+use crate::records::{RecordRow, push_record};
+use crate::reply::Reply;
+use crate::rows::{Row, entries_of};
+use krl_durable::{Durable, Record, Refused};
+use krl_modes::END;
+use krl_server::{Server, StartRefused};
+use std::alloc::Global;
+
+// The records of these rows, in their order. A bad one is told by its place.
+fn records_of(alloc: Global, rows: &[RecordRow]) -> Result<Vec<(u64, Record)>, Reply>
+    ensures rows { IfOk result (λ records. AreRows records.items) }
+    ensures records { IfOk result (λ records. records.items ≡ map record_of rows.now) }
+    ensures why { IfErr result (RefusesRecords rows.now) }
+{
+    let mut records = Vec::new(alloc);
+    for i in 0..rows.len() {
+        if let Err(code) = push_record(&mut records, &rows[i]) {
+            return Err(Reply::with(code, i as u64));
+        }
+    }
+    Ok(records)
+}
+
+// Why no index begins with the entries.
+fn entries_refused(refused: Refused) -> Reply
+    ensures { code_of result ≡ Some (refused_code refused) }
+{
+    match refused {
+        Refused::OutOfMemory => Reply::of(Code::OutOfMemory),
+        Refused::BadKey => Reply::of(Code::BadKey),
+        Refused::Twice => Reply::of(Code::Twice),
+        Refused::Full => Reply::of(Code::Full),
+    }
+}
+
+// What survived, of these rows.
+fn durable_of(
+    alloc: Global,
+    epoch: u64,
+    entries: &[Row],
+    records: &[RecordRow],
+) -> Result<Durable, Reply>
+    ensures durable { IfOk result (λ d. d ≡ parts epoch entries.now records.now) }
+    ensures why { IfErr result (RefusesOpening epoch entries.now records.now) }
+{
+    if epoch >= END {
+        return Err(Reply::of(Code::Spent));
+    }
+    let entries = match entries_of(alloc, entries) {
+        Ok(entries) => entries,
+        Err(reply) => return Err(reply),
+    };
+    let records = match records_of(alloc, records) {
+        Ok(records) => records,
+        Err(reply) => return Err(reply),
+    };
+    match Durable::from_parts(alloc, &entries, epoch, &records) {
+        Ok(durable) => Ok(durable),
+        Err(refused) => Err(entries_refused(refused)),
+    }
+}
+
+/// A server that starts on what was kept.
+pub(crate) fn start(
+    alloc: Global,
+    epoch: u64,
+    entries: &[Row],
+    records: &[RecordRow],
+) -> Result<Server, Reply>
+    ensures server { IfOk result (λ s. meaning s ≡ start (parts epoch entries.now records.now)) }
+    ensures why { IfErr result (RefusesOpening epoch entries.now records.now) }
+{
+    let durable = match durable_of(alloc, epoch, entries, records) {
+        Ok(durable) => durable,
+        Err(reply) => return Err(reply),
+    };
+    match Server::start(alloc, durable) {
+        Ok(server) => Ok(server),
+        Err(not) => match not.refused {
+            StartRefused::Spent => Err(Reply::of(Code::Spent)),
+            StartRefused::OutOfMemory => Err(Reply::of(Code::OutOfMemory)),
+        },
+    }
+}

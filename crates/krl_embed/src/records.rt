@@ -1,0 +1,137 @@
+//! Records of clients, as C sees them.
+ghost use Rattle.std.specs.Prelude.{◌≡◌, ◌++◌, ◌∷◌, [], IfSome, IfErr, OnOk, nat_eq};
+ghost use Rattle.std.specs.List.{list_any};
+ghost use Rattle.krl_durable.specs.Kept.{IsRow};
+ghost use Rattle.krl_embed.specs.Changes.{optional_outcome_number};
+ghost use Rattle.krl_embed.specs.Shown.{record_row};
+ghost use Rattle.krl_embed.specs.Records as records;
+ghost use Rattle.krl_embed.specs.Records.{AreRows, IsNoRecord};
+
+use crate::code::Code;
+use krl_durable::Record;
+use krl_messages::Outcome;
+use krl_modes::END;
+
+/// What is kept of a client that ever registered.
+#[repr(C)]
+#[derive(Clone, Copy)]
+pub struct RecordRow {
+    client: u64,
+    incarnation: u64,
+    last: u64,
+    outcome: u32,
+    left: u32,
+}
+
+/// The number of an outcome: 0 where there is none.
+pub(crate) fn outcome_number(outcome: Option<Outcome>) -> u32
+    ensures { result ≡ optional_outcome_number outcome }
+{
+    match outcome {
+        None => 0,
+        Some(outcome) => outcome as u32 + 1,
+    }
+}
+
+// The outcome of a number; None for one that is no outcome's.
+fn outcome_of(number: u32) -> Option<Outcome>
+    ensures { result ≡ records.outcome_of number }
+{
+    match number {
+        1 => Some(Outcome::Applied),
+        2 => Some(Outcome::Exists),
+        3 => Some(Outcome::Absent),
+        4 => Some(Outcome::NotHeld),
+        5 => Some(Outcome::Full),
+        _ => None,
+    }
+}
+
+impl RecordRow {
+    /// Nobody's record.
+    pub(crate) fn blank() -> RecordRow {
+        RecordRow {
+            client: 0,
+            incarnation: 0,
+            last: 0,
+            outcome: 0,
+            left: 0,
+        }
+    }
+
+    /// The row of a client's record.
+    pub(crate) fn of(client: u64, kept: Record) -> RecordRow
+        ensures { result ≡ record_row client kept }
+    {
+        RecordRow {
+            client,
+            incarnation: kept.incarnation,
+            last: kept.last,
+            outcome: outcome_number(kept.outcome),
+            left: kept.left as u32,
+        }
+    }
+
+    // Whether its numbers are those of a record.
+    fn is_in_range(&self) -> bool {
+        self.client < 64
+            && 1 <= self.incarnation
+            && self.incarnation <= END
+            && self.last <= END
+            && self.outcome <= 5
+            && self.left <= 1
+    }
+
+    // The client and its record, where it is one.
+    fn record(&self) -> Option<(u64, Record)>
+        ensures row { IfSome result IsRow }
+        ensures found { IfSome result (λ e. e ≡ records.record_of self.now) }
+    {
+        if !self.is_in_range() {
+            return None;
+        }
+        if self.client >= 64 || self.incarnation == 0 || self.incarnation > END || self.last > END {
+            return None;
+        }
+        let outcome = outcome_of(self.outcome);
+        if outcome.is_some() == (self.last == 0) {
+            return None;
+        }
+        let record = Record {
+            incarnation: self.incarnation,
+            left: self.left == 1,
+            last: self.last,
+            outcome,
+        };
+        Some((self.client, record))
+    }
+}
+
+// Whether the client has a record already.
+fn is_there(rows: &[(u64, Record)], client: u64) -> bool
+    ensures { result ≡ list_any (λ row. nat_eq client row.0) rows.now }
+{
+    rows.iter().any(|row| client == row.0)
+}
+
+/// Puts the record behind the others, where it is one, and its client has none before.
+///
+/// # Errors
+///
+/// `BadRecord`; `OutOfMemory`. The records are as they were.
+pub(crate) fn push_record(rows: &mut Vec<(u64, Record)>, row: &RecordRow) -> Result<(), Code>
+    requires { AreRows rows.old.items }
+    ensures rows { AreRows rows.new.items }
+    ensures pushed { OnOk result
+        (rows.new.items ≡ rows.old.items ++ records.record_of row.now ∷ []) }
+    ensures why { IfErr result IsNoRecord }
+{
+    let Some(pair) = row.record() else {
+        return Err(Code::BadRecord);
+    };
+    if is_there(rows, pair.0) {
+        return Err(Code::BadRecord);
+    }
+    rows.push(pair)?;
+    Ok(())
+}

@@ -1,0 +1,109 @@
+//! Entries of the index, as C sees them.
+ghost use Rattle.std.specs.Prelude.{◌≡◌, ◌<◌, [], IfNone, IfSome, IfOk, IfErr, OnOk, map};
+ghost use Rattle.std.specs.List.{AllByRecursion};
+ghost use Rattle.krl_embed.specs.Rows.{row_of, entry_of, most_bytes, HasValue, RefusesRows, Copies};
+
+use crate::code::Code;
+use crate::reply::Reply;
+use krl_messages::Value;
+use std::alloc::Global;
+
+/// The most bytes of a value.
+const MOST_BYTES: u64 = 32;
+
+/// An entry of the index: its key, and a value of so many bytes.
+#[repr(C)]
+#[derive(Clone, Copy)]
+pub struct Row {
+    pub(crate) key: u64,
+    pub(crate) length: u64,
+    pub(crate) bytes: [u8; 32],
+}
+
+impl Row {
+    /// No entry.
+    pub(crate) fn blank() -> Row
+        ensures { result ≡ row_of (0, []) }
+    {
+        Row {
+            key: 0,
+            length: 0,
+            bytes: [0; 32],
+        }
+    }
+
+    /// The key alone.
+    pub(crate) fn of_key(key: u64) -> Row
+        ensures { result ≡ row_of (key, []) }
+    {
+        Row {
+            key,
+            ..Row::blank()
+        }
+    }
+
+    /// The entry's row: zeros stand behind the value's bytes.
+    pub(crate) fn of(entry: &(u64, Value)) -> Row
+        ensures { result ≡ row_of entry.now }
+    {
+        let bytes = entry.1.bytes();
+        let mut padded = [0; 32];
+        padded[..bytes.len()].copy_from_slice(bytes);
+        Row {
+            key: entry.0,
+            length: bytes.len() as u64,
+            bytes: padded,
+        }
+    }
+
+    /// The entry, where its value has at most 32 bytes.
+    fn entry(&self) -> Option<(u64, Value)>
+        ensures entry { IfSome result (λ e. e ≡ entry_of self.now) }
+        ensures fits { IfSome result (λ _. HasValue self.now) }
+        ensures long { IfNone result (most_bytes < self.now.length) }
+    {
+        if self.length > MOST_BYTES {
+            return None;
+        }
+        let value = Value::new(&self.bytes[..self.length as usize])?;
+        Some((self.key, value))
+    }
+}
+
+/// The entries of these rows, in their order.
+///
+/// # Errors
+///
+/// `BadValue`, with the row's place, where a value is too long; `OutOfMemory`.
+pub(crate) fn entries_of(alloc: Global, rows: &[Row]) -> Result<Vec<(u64, Value)>, Reply>
+    ensures fit { OnOk result (AllByRecursion HasValue rows.now) }
+    ensures entries { IfOk result (λ entries. entries.items ≡ map entry_of rows.now) }
+    ensures refused { IfErr result (RefusesRows rows.now) }
+{
+    let Ok(mut entries) = Vec::with_capacity(alloc, rows.len()) else {
+        return Err(Reply::of(Code::OutOfMemory));
+    };
+    for i in 0..rows.len() {
+        let Some(entry) = rows[i].entry() else {
+            return Err(Reply::with(Code::BadValue, i as u64));
+        };
+        if entries.push(entry).is_err() {
+            return Err(Reply::of(Code::OutOfMemory));
+        }
+    }
+    Ok(entries)
+}
+
+/// The entries go into `rows`: Done, and their count; or TooShort with that, and none goes there.
+pub(crate) fn copy_rows(found: &[(u64, Value)], rows: &mut [Row]) -> Reply
+    ensures { Copies found.now rows.old rows.new result }
+{
+    let count = found.len();
+    if rows.len() < count {
+        return Reply::with(Code::TooShort, count as u64);
+    }
+    for i in 0..count {
+        rows[i] = Row::of(&found[i]);
+    }
+    Reply::with(Code::Done, count as u64)
+}

@@ -1,0 +1,131 @@
+//! Exports on servers.
+ghost use Rattle.std.specs.Prelude.{◌≡◌};
+ghost use Rattle.krl_embed.specs.Endpoints.{IsCode, OnHandle, Shows, OfServer};
+ghost use Rattle.krl_embed.specs.Opening as opening;
+ghost use Rattle.krl_embed.specs.Shown as shown;
+ghost use Rattle.krl_embed.specs.Servers as calls;
+ghost use Rattle.krl_embed.specs.Servers.{OnServer, IsUnchanged};
+
+use crate::code::Code;
+use crate::endpoint::{Endpoint, Role};
+use crate::frames::Frames;
+use crate::handle::{Handle, put, take};
+use crate::opening::start;
+use crate::records::RecordRow;
+use crate::reply::Reply;
+use crate::rows::Row;
+use crate::server_calls::{self, Recorded, ServerState, Stepped};
+use std::alloc::Global;
+
+/// Starts a server on what was kept, in a closed handle. The detail is its epoch.
+#[unsafe(no_mangle)]
+pub extern "C" fn krl_server_open(
+    alloc: Global,
+    handle: &mut Handle,
+    epoch: u64,
+    entries: &[Row],
+    records: &[RecordRow],
+) -> Reply
+    ensures { opening.Opens epoch entries.now records.now handle.old.owned.value
+        handle.new.owned.value result }
+{
+    if let Some(endpoint) = take(alloc, handle) {
+        put(handle, endpoint);
+        return Reply::of(Code::OpenAlready);
+    }
+    let server = match start(alloc, epoch, entries, records) {
+        Ok(server) => server,
+        Err(reply) => return reply,
+    };
+    let epoch = server.durable().epoch();
+    let endpoint = Endpoint {
+        role: Role::Server(server),
+        outgoing: Frames::empty(alloc),
+    };
+    match Box::new(alloc, endpoint) {
+        Ok(endpoint) => {
+            put(handle, endpoint);
+            Reply::with(Code::Done, epoch)
+        }
+        Err(_) => Reply::of(Code::OutOfMemory),
+    }
+}
+
+/// Gives the server the bytes of a message. The change is to be kept before anything is sent.
+#[unsafe(no_mangle)]
+pub extern "C" fn krl_server_step(alloc: Global, handle: &mut Handle, bytes: &[u8]) -> Stepped
+    ensures { OnHandle IsUnchanged (OnServer IsUnchanged (calls.Hears bytes.now))
+        handle.old.owned.value handle.new.owned.value result }
+{
+    let Some(mut endpoint) = take(alloc, handle) else {
+        return Stepped::unchanged(Reply::of(Code::Closed));
+    };
+    let stepped = server_calls::step(alloc, &mut endpoint, bytes);
+    put(handle, endpoint);
+    stepped
+}
+
+/// Says again to a client what it may have missed.
+#[unsafe(no_mangle)]
+pub extern "C" fn krl_server_nudge(alloc: Global, handle: &mut Handle, client: u64) -> Reply
+    ensures { OnHandle IsCode (OnServer IsCode (calls.Nudges client))
+        handle.old.owned.value handle.new.owned.value result }
+{
+    let Some(mut endpoint) = take(alloc, handle) else {
+        return Reply::of(Code::Closed);
+    };
+    let reply = server_calls::nudge(alloc, &mut endpoint, client);
+    put(handle, endpoint);
+    reply
+}
+
+/// The server's epoch and phase.
+#[unsafe(no_mangle)]
+pub extern "C" fn krl_server_status(alloc: Global, handle: &mut Handle) -> ServerState
+    ensures unchanged { handle.new.owned.value ≡ handle.old.owned.value }
+    ensures answer { Shows shown.IsNoServerState
+        (OfServer shown.IsNoServerState shown.IsServerState)
+        handle.old.owned.value result }
+{
+    let Some(endpoint) = take(alloc, handle) else {
+        return ServerState::blank(Code::Closed);
+    };
+    let state = server_calls::status(&endpoint);
+    put(handle, endpoint);
+    state
+}
+
+/// The clients that the server waits for.
+#[unsafe(no_mangle)]
+pub extern "C" fn krl_server_missing(
+    alloc: Global,
+    handle: &mut Handle,
+    clients: &mut [u64],
+) -> Reply
+    ensures unchanged { handle.new.owned.value ≡ handle.old.owned.value }
+    ensures answer { Shows IsCode (OfServer IsCode (shown.TellsMissing clients.old clients.new))
+        handle.old.owned.value result }
+{
+    let Some(endpoint) = take(alloc, handle) else {
+        return Reply::of(Code::Closed);
+    };
+    let reply = server_calls::missing(alloc, &endpoint, clients);
+    put(handle, endpoint);
+    reply
+}
+
+/// What is kept of a client.
+#[unsafe(no_mangle)]
+pub extern "C" fn krl_server_record(alloc: Global, handle: &mut Handle, client: u64) -> Recorded
+    ensures unchanged { handle.new.owned.value ≡ handle.old.owned.value }
+    ensures answer { Shows shown.IsNotRecorded
+        (OfServer shown.IsNotRecorded (shown.IsRecorded client))
+        handle.old.owned.value result }
+{
+    let Some(endpoint) = take(alloc, handle) else {
+        return Recorded::blank(Code::Closed);
+    };
+    let recorded = server_calls::record(&endpoint, client);
+    put(handle, endpoint);
+    recorded
+}

@@ -1,0 +1,39 @@
+/* Where the fields of krl.h stand, as `hosts/rust/src/ffi.rs` has them too. It is compiled and not run. */
+#include "krl.h"
+
+#define SIZE(type, size) _Static_assert(sizeof(type) == (size), #type " has another size")
+#define AT(type, field, offset) _Static_assert(offsetof(type, field) == (offset), #type "." #field " is elsewhere")
+
+SIZE(krl_handle, 16);
+AT(krl_handle, at, 8);
+SIZE(krl_reply, 16);
+AT(krl_reply, detail, 8);
+SIZE(krl_row, 48);
+AT(krl_row, key, 0);
+AT(krl_row, length, 8);
+AT(krl_row, bytes, 16);
+SIZE(krl_record, 32);
+AT(krl_record, last, 16);
+AT(krl_record, outcome, 24);
+AT(krl_record, left, 28);
+SIZE(krl_change, 80);
+AT(krl_change, outcome, 4);
+AT(krl_change, client, 8);
+AT(krl_change, number, 16);
+AT(krl_change, write, 24);
+AT(krl_change, row, 32);
+SIZE(krl_stepped, 96);
+AT(krl_stepped, change, 16);
+SIZE(krl_client_state, 56);
+AT(krl_client_state, epoch, 16);
+AT(krl_client_state, seen, 24);
+AT(krl_client_state, lock, 32);
+AT(krl_client_state, write, 36);
+AT(krl_client_state, number, 40);
+AT(krl_client_state, outcome, 48);
+SIZE(krl_held, 24);
+AT(krl_held, range, 16);
+AT(krl_held, key, 20);
+SIZE(krl_server_state, 32);
+AT(krl_server_state, epoch, 16);
+AT(krl_server_state, phase, 24);

@@ -1,0 +1,91 @@
+//! A network between clients and a server that drops, repeats and swaps one message in ten each.
+use std::io::{Read, Write};
+use std::net::{Shutdown, SocketAddr, TcpListener, TcpStream};
+use std::thread;
+use std::time::Duration;
+
+/// One message in so many is dropped, one repeated, and one sent behind the next.
+const ONE_IN: u64 = 10;
+
+/// The longest message that is passed on.
+const LONGEST: u64 = 1 << 21;
+
+/// How long a message that is held back waits for the next one.
+const PATIENCE: Duration = Duration::from_secs(5);
+
+/// Starts the network, and says where clients connect.
+pub fn start(server: SocketAddr) -> std::io::Result<SocketAddr> {
+    let listener = TcpListener::bind("127.0.0.1:0")?;
+    let address = listener.local_addr()?;
+    thread::spawn(move || {
+        for (seed, client) in (1..).zip(listener.incoming().flatten()) {
+            // Where no server runs, the client's connection ends.
+            if let Ok(server) = TcpStream::connect(server) {
+                let _ = join(client, server, seed);
+            }
+        }
+    });
+    Ok(address)
+}
+
+fn join(client: TcpStream, server: TcpStream, seed: u64) -> std::io::Result<()> {
+    for stream in [&client, &server] {
+        stream.set_nodelay(true)?;
+        stream.set_write_timeout(Some(PATIENCE))?;
+    }
+    let (from, to) = (client.try_clone()?, server.try_clone()?);
+    thread::spawn(move || pass(from, to, Draws(2 * seed)));
+    thread::spawn(move || pass(server, client, Draws(2 * seed + 1)));
+    Ok(())
+}
+
+/// Passes messages on until one side ends, and ends the other then.
+fn pass(mut from: TcpStream, mut to: TcpStream, mut draws: Draws) {
+    let mut held: Option<Vec<u8>> = None;
+    while let Some(frame) = read_frame(&mut from) {
+        let frames = match draws.below(ONE_IN) {
+            0 => Vec::new(),
+            1 => [&frame[..], &frame[..]].concat(),
+            2 if held.is_none() => {
+                held = Some(frame);
+                continue;
+            }
+            _ => frame,
+        };
+        let behind = held.take().unwrap_or_default();
+        if to.write_all(&[frames, behind].concat()).is_err() {
+            break;
+        }
+    }
+    let _ = from.shutdown(Shutdown::Both);
+    let _ = to.shutdown(Shutdown::Both);
+}
+
+/// A length and its message.
+fn read_frame(stream: &mut TcpStream) -> Option<Vec<u8>> {
+    let mut length = [0; 8];
+    stream.read_exact(&mut length).ok()?;
+    let count = u64::from_le_bytes(length);
+    if count > LONGEST {
+        return None;
+    }
+    let mut frame = length.to_vec();
+    stream.take(count).read_to_end(&mut frame).ok()?;
+    (frame.len() as u64 == 8 + count).then_some(frame)
+}
+
+/// Numbers drawn from a seed (SplitMix64).
+pub struct Draws(pub u64);
+
+impl Draws {
+    pub fn next(&mut self) -> u64 {
+        self.0 = self.0.wrapping_add(0x9e37_79b9_7f4a_7c15);
+        let mixed = (self.0 ^ (self.0 >> 30)).wrapping_mul(0xbf58_476d_1ce4_e5b9);
+        let mixed = (mixed ^ (mixed >> 27)).wrapping_mul(0x94d0_49bb_1331_11eb);
+        mixed ^ (mixed >> 31)
+    }
+
+    pub fn below(&mut self, limit: u64) -> u64 {
+        self.next() % limit
+    }
+}

@@ -1,0 +1,69 @@
+//! Drives servers and clients of krl, each in a process of its own, and checks what they read.
+//!
+//! ```text
+//! krl_drive kill FOLDER ROUNDS [sqlite|unsynced] [direct|lossy]   kills servers and clients while others read and write
+//! krl_drive strangers                                             connects what is no client
+//! krl_drive strings COUNT CHANGED                                 hands strings to both decoders
+//! krl_drive bench FOLDER                                          takes measurements
+//! ```
+//!
+//! The status is 0 where all is well, 3 where something wrong was read or lost, and 1 where the
+//! drive itself failed.
+mod bench;
+mod ffi;
+mod history;
+mod kill;
+mod log;
+mod lossy;
+mod nodes;
+mod strangers;
+mod strings;
+mod unsynced;
+
+// What `krl`'s declarations take from it.
+mod row {
+    pub use krl::Row;
+}
+
+use std::error::Error;
+use std::path::Path;
+use std::process::ExitCode;
+
+/// What a run found: `false` where something was wrong.
+pub type Found = Result<bool, Box<dyn Error>>;
+
+fn main() -> ExitCode {
+    let words: Vec<String> = std::env::args().skip(1).collect();
+    let words: Vec<&str> = words.iter().map(String::as_str).collect();
+    match run(&words) {
+        Ok(true) => ExitCode::SUCCESS,
+        Ok(false) => ExitCode::from(3),
+        Err(error) => {
+            eprintln!("krl_drive: {error}");
+            ExitCode::FAILURE
+        }
+    }
+}
+
+fn run(words: &[&str]) -> Found {
+    match *words {
+        ["kill", folder, rounds] => {
+            kill::run(Path::new(folder), rounds.parse()?, "sqlite", "direct")
+        }
+        ["kill", folder, rounds, store, net] => {
+            kill::run(Path::new(folder), rounds.parse()?, store, net)
+        }
+        ["strangers"] => strangers::run(),
+        ["strings", count, changed] => strings::run(count.parse()?, changed.parse()?),
+        ["bench", folder] => bench::run(Path::new(folder)),
+        // The processes that `kill` starts.
+        ["server", address, folder, store] => nodes::server(address, Path::new(folder), store),
+        ["reader", number, address, folder] => {
+            nodes::reader(number.parse()?, address, Path::new(folder))
+        }
+        ["writer", number, address, folder] => {
+            nodes::writer(number.parse()?, address, Path::new(folder))
+        }
+        _ => Err("see the head of main.rs for the words".into()),
+    }
+}

@@ -1,0 +1,43 @@
+//! Finds the static library of krl and the C part of the Rattle kit, and links both.
+use std::env;
+use std::path::{Path, PathBuf};
+
+fn main() {
+    let library = library_folder();
+    let kit = kit_folder();
+    println!("cargo:rerun-if-changed={}", library.join("libkrl_embed.a").display());
+    link(&library, "krl_embed");
+    link(&kit, "libc_c");
+}
+
+fn link(folder: &Path, name: &str) {
+    println!("cargo:rustc-link-search=native={}", folder.display());
+    println!("cargo:rustc-link-lib=static={name}");
+}
+
+/// `KRL_LIBRARY`, or the folder in which `rt lib` leaves `libkrl_embed.a`.
+fn library_folder() -> PathBuf {
+    if let Some(folder) = named_by("KRL_LIBRARY") {
+        return folder;
+    }
+    let here = env::var_os("CARGO_MANIFEST_DIR").map(PathBuf::from).unwrap_or_default();
+    here.join("../../crates/krl_embed/out")
+}
+
+/// `KRL_KIT_C`, or the folder `c` of the kit whose `rt` is on the PATH.
+fn kit_folder() -> PathBuf {
+    if let Some(folder) = named_by("KRL_KIT_C") {
+        return folder;
+    }
+    let path = env::var_os("PATH").unwrap_or_default();
+    env::split_paths(&path)
+        .filter_map(|folder| folder.join("rt").canonicalize().ok())
+        .filter_map(|rt| Some(rt.parent()?.parent()?.join("c")))
+        .find(|c| c.join("liblibc_c.a").exists())
+        .unwrap_or_default()
+}
+
+fn named_by(variable: &str) -> Option<PathBuf> {
+    println!("cargo:rerun-if-env-changed={variable}");
+    env::var_os(variable).map(PathBuf::from)
+}

@@ -1,0 +1,164 @@
+//! What survives a restart of a server, and how it changes.
+use crate::row::{Row, Value};
+use std::collections::BTreeMap;
+use std::fmt;
+
+/// A change that a client asks for.
+#[derive(Clone, Copy, Debug, PartialEq, Eq)]
+pub enum Write {
+    /// A new row.
+    Insert(Row),
+    /// Another value for the row of that key.
+    Put(Row),
+    /// The row of that key goes.
+    Delete(u64),
+}
+
+/// How a write was judged. Only `Applied` has changed the table.
+#[derive(Clone, Copy, Debug, PartialEq, Eq)]
+pub enum Outcome {
+    /// The table has changed as the write says.
+    Applied,
+    /// An insert of a key that has a row already.
+    Exists,
+    /// A put or a delete of a key that has no row.
+    Absent,
+    /// The client did not hold what the write needs.
+    NotHeld,
+    /// An insert into a table that has its 65,536 rows.
+    Full,
+}
+
+/// What is kept of a client that ever registered.
+#[derive(Clone, Copy, Debug, PartialEq, Eq)]
+pub struct Record {
+    /// Its number, from 0 to 63.
+    pub client: u8,
+    /// Its last registered incarnation.
+    pub incarnation: u64,
+    /// Its last judged write, by number, and how it was judged.
+    pub last: Option<(u64, Outcome)>,
+    /// That incarnation has left.
+    pub left: bool,
+}
+
+/// One change of what survives.
+#[derive(Clone, Copy, Debug, PartialEq, Eq)]
+pub enum Change {
+    /// The server started in this epoch.
+    Started {
+        /// The epoch.
+        epoch: u64,
+    },
+    /// A client registered: its record is new, in the place of its older one or behind all others.
+    Registered {
+        /// The client.
+        client: u8,
+        /// The incarnation.
+        incarnation: u64,
+    },
+    /// A client left.
+    Left {
+        /// The client.
+        client: u8,
+    },
+    /// A write was judged. It changes the rows where the outcome is `Applied`, and its client's
+    /// record in any case.
+    Judged {
+        /// The client.
+        client: u8,
+        /// The write's number.
+        number: u64,
+        /// The write.
+        write: Write,
+        /// How it was judged.
+        outcome: Outcome,
+    },
+}
+
+/// All that survives.
+#[derive(Clone, Debug, Default, PartialEq, Eq)]
+pub struct Saved {
+    /// How many times a server has started.
+    pub epoch: u64,
+    /// The rows.
+    pub rows: BTreeMap<u64, Value>,
+    /// The records, in order of first registration.
+    pub records: Vec<Record>,
+}
+
+impl Saved {
+    /// Makes one change.
+    pub fn apply(&mut self, change: &Change) {
+        match *change {
+            Change::Started { epoch } => self.epoch = epoch,
+            Change::Registered { client, incarnation } => self.register(client, incarnation),
+            Change::Left { client } => self.revise(client, |record| record.left = true),
+            Change::Judged { client, number, write, outcome } => {
+                self.revise(client, |record| record.last = Some((number, outcome)));
+                if outcome == Outcome::Applied {
+                    self.write(write);
+                }
+            }
+        }
+    }
+
+    fn register(&mut self, client: u8, incarnation: u64) {
+        let new = Record { client, incarnation, last: None, left: false };
+        match self.records.iter_mut().find(|record| record.client == client) {
+            Some(record) => *record = new,
+            None => self.records.push(new),
+        }
+    }
+
+    fn revise(&mut self, client: u8, how: impl FnOnce(&mut Record)) {
+        if let Some(record) = self.records.iter_mut().find(|record| record.client == client) {
+            how(record);
+        }
+    }
+
+    fn write(&mut self, write: Write) {
+        match write {
+            Write::Insert(row) | Write::Put(row) => self.rows.insert(row.key, row.value),
+            Write::Delete(key) => self.rows.remove(&key),
+        };
+    }
+}
+
+impl Write {
+    /// The key that the write is about.
+    pub fn key(&self) -> u64 {
+        match self {
+            Write::Insert(row) | Write::Put(row) => row.key,
+            Write::Delete(key) => *key,
+        }
+    }
+}
+
+impl Outcome {
+    /// Each outcome, in the order of their numbers from 1.
+    pub(crate) const ALL: [Outcome; 5] =
+        [Outcome::Applied, Outcome::Exists, Outcome::Absent, Outcome::NotHeld, Outcome::Full];
+
+    /// The number of an outcome in `krl.h` and in a store.
+    pub(crate) fn tag(self) -> u32 {
+        match self {
+            Outcome::Applied => 1,
+            Outcome::Exists => 2,
+            Outcome::Absent => 3,
+            Outcome::NotHeld => 4,
+            Outcome::Full => 5,
+        }
+    }
+
+    /// The outcome of a number, if it is one.
+    pub(crate) fn of_tag(tag: u64) -> Option<Outcome> {
+        Outcome::ALL.into_iter().find(|outcome| u64::from(outcome.tag()) == tag)
+    }
+}
+
+impl fmt::Display for Outcome {
+    fn fmt(&self, f: &mut fmt::Formatter<'_>) -> fmt::Result {
+        fmt::Debug::fmt(self, f)
+    }
+}

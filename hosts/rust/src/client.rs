@@ -1,0 +1,257 @@
+//! A client over a network.
+use crate::change::{Outcome, Write};
+use crate::handle::{ClientHandle, Scan};
+use crate::jobs::{Answer, Job, Jobs, is_key};
+use crate::link::Link;
+use crate::lock_file::LockFile;
+use crate::refused::{JoinError, Refused};
+use crate::row::{Row, Value};
+use crate::stream::Address;
+use std::ops::Range;
+use std::path::Path;
+use std::sync::Arc;
+use std::thread::{self, JoinHandle};
+use std::time::{Duration, Instant};
+
+/// How long a client waits for an answer, unless `set_patience` says otherwise.
+const PATIENCE: Duration = Duration::from_secs(10);
+
+/// How long a client that is dropped waits until its Bye is kept.
+const FAREWELL: Duration = Duration::from_secs(1);
+
+/// A client waits no longer than this, a year.
+const LONGEST_PATIENCE: Duration = Duration::from_secs(365 * 24 * 3600);
+
+const MOST_CLIENTS: u8 = 64;
+
+/// A client of a number from 0 to 63. Its calls may come from several threads; a thread of its own
+/// keeps the connection, makes it again where it breaks, and says again what is not answered.
+///
+/// Where it is dropped, it says Bye and waits a second at most. What a process leaves behind that
+/// ends without a Bye keeps other clients waiting, until a client of its number joins again or it
+/// is evicted.
+pub struct Client {
+    link: Arc<Link>,
+    thread: Option<JoinHandle<()>>,
+    patience: Duration,
+    /// Others may take the number when this is closed.
+    _lock_file: LockFile,
+}
+
+/// A pinned range: no other client takes away what the client holds of it, as long as this lives.
+pub struct Pin<'c> {
+    link: &'c Link,
+    id: u64,
+}
+
+impl Client {
+    /// Joins the server as the client of this number. `lock_file` is the file of this number on
+    /// this machine: it keeps a second process off the number. Two machines have to have different
+    /// numbers. It waits ten seconds for an answer.
+    ///
+    /// # Errors
+    ///
+    /// `BadNumber` above 63; `LockFile` where another process has the file, or it can't be used;
+    /// `NoThread`; `Refused` where memory is refused; `NoAnswer`.
+    pub fn join(
+        server: impl Into<Address>,
+        number: u8,
+        lock_file: impl AsRef<Path>,
+    ) -> Result<Client, JoinError> {
+        Client::join_within(server, number, lock_file, PATIENCE)
+    }
+
+    /// The same, by a client that waits so long for an answer, here and in each later call.
+    pub fn join_within(
+        server: impl Into<Address>,
+        number: u8,
+        lock_file: impl AsRef<Path>,
+        patience: Duration,
+    ) -> Result<Client, JoinError> {
+        if number >= MOST_CLIENTS {
+            return Err(JoinError::BadNumber);
+        }
+        // The incarnation is on the disk before the Hello leaves.
+        let (lock_file, incarnation) = LockFile::take(lock_file.as_ref(), number)?;
+        let handle = ClientHandle::open(number, incarnation).map_err(JoinError::Refused)?;
+        let link = Arc::new(Link::new(server.into(), Jobs::new(handle)));
+        let run = Arc::clone(&link);
+        let thread =
+            thread::Builder::new().spawn(move || run.run()).map_err(JoinError::NoThread)?;
+        let patience = patience.min(LONGEST_PATIENCE);
+        let client = Client { link, thread: Some(thread), patience, _lock_file: lock_file };
+        match client.run(Job::Join) {
+            Ok(_) => Ok(client),
+            Err(_) => Err(JoinError::NoAnswer),
+        }
+    }
+
+    /// From now on, each call waits so long for an answer.
+    pub fn set_patience(&mut self, patience: Duration) {
+        self.patience = patience.min(LONGEST_PATIENCE);
+    }
+
+    /// The rows of the range: from the cache, with no message, where the client holds it; else it
+    /// locks what it lacks and waits. They are that range of the server's table at one moment of
+    /// the call.
+    ///
+    /// # Errors
+    ///
+    /// `BadRange` where the range does not begin below its end, or ends above 2^63; `Unanswered`;
+    /// `OutOfMemory`.
+    pub fn read(&self, keys: Range<u64>) -> Result<Vec<Row>, Refused> {
+        match self.run(Job::Read(keys))? {
+            Answer::Rows(rows) => Ok(rows),
+            _ => Err(Refused::Unanswered),
+        }
+    }
+
+    /// The rows of the range where the cache covers it, else `None`. It sends nothing and waits for
+    /// nobody. The rows are that range of the server's table at this moment, also while the server
+    /// is down.
+    pub fn cached(&self, keys: Range<u64>) -> Option<Vec<Row>> {
+        let mut rows = Vec::new();
+        self.cached_into(keys, &mut rows).then_some(rows)
+    }
+
+    /// The same, into `rows`, whose room is used again. Where the answer is `false`, the rows say
+    /// nothing.
+    pub fn cached_into(&self, keys: Range<u64>, rows: &mut Vec<Row>) -> bool {
+        match self.link.jobs().scan(&keys, rows) {
+            Ok(Scan::Rows(count)) => {
+                rows.truncate(count);
+                true
+            }
+            _ => false,
+        }
+    }
+
+    /// Inserts a row. The outcome is `Applied`, `Exists` or `Full`.
+    ///
+    /// # Errors
+    ///
+    /// `BadKey` for a key of 2^63 - 1 or more; `Unanswered`: then the table may have changed or may
+    /// still change; `OutOfMemory`.
+    pub fn insert(&self, key: u64, value: Value) -> Result<Outcome, Refused> {
+        self.write(Write::Insert(Row { key, value }))
+    }
+
+    /// Gives a row another value. The outcome is `Applied` or `Absent`.
+    ///
+    /// # Errors
+    ///
+    /// Those of `insert`.
+    pub fn put(&self, key: u64, value: Value) -> Result<Outcome, Refused> {
+        self.write(Write::Put(Row { key, value }))
+    }
+
+    /// Deletes a row. The outcome is `Applied` or `Absent`.
+    ///
+    /// # Errors
+    ///
+    /// Those of `insert`.
+    pub fn delete(&self, key: u64) -> Result<Outcome, Refused> {
+        self.write(Write::Delete(key))
+    }
+
+    fn write(&self, write: Write) -> Result<Outcome, Refused> {
+        if !is_key(write.key()) {
+            return Err(Refused::BadKey);
+        }
+        match self.run(Job::Write(write))? {
+            Answer::Outcome(outcome) => Ok(outcome),
+            _ => Err(Refused::Unanswered),
+        }
+    }
+
+    /// Pins the range: what the client holds of it, or is granted while the pin lives, no callback
+    /// and no forget takes. Other clients that want it wait until the pin is dropped. A client has
+    /// at most eight pins.
+    ///
+    /// # Errors
+    ///
+    /// `BadRange`; `TooManyPins`.
+    pub fn pin(&self, keys: Range<u64>) -> Result<Pin<'_>, Refused> {
+        let id = self.link.jobs().client.pin(&keys)?;
+        Ok(Pin { link: &self.link, id })
+    }
+
+    /// Gives back what the client holds of the range. Where a write is on its way it waits for the
+    /// answer first.
+    ///
+    /// # Errors
+    ///
+    /// `BadRange`; `Pinned` where the range meets a pin; `Unanswered`; `OutOfMemory`.
+    pub fn forget(&self, keys: Range<u64>) -> Result<(), Refused> {
+        self.run(Job::Forget(keys)).map(drop)
+    }
+
+    /// Gives back all that the client holds, and waits until the server has kept that it left.
+    ///
+    /// # Errors
+    ///
+    /// `Unanswered`: other clients may wait for what this one held then, until it is evicted.
+    pub fn leave(mut self) -> Result<(), Refused> {
+        let patience = self.patience;
+        self.end(patience)
+    }
+
+    fn run(&self, job: Job) -> Result<Answer, Refused> {
+        let id = self.link.jobs().add(job);
+        self.link.flush();
+        match self.link.wait(self.deadline(), |jobs| jobs.take(id)) {
+            Some(ended) => ended,
+            None => {
+                self.link.jobs().drop_job(id);
+                Err(Refused::Unanswered)
+            }
+        }
+    }
+
+    fn deadline(&self) -> Instant {
+        Instant::now() + self.patience
+    }
+
+    fn end(&mut self, patience: Duration) -> Result<(), Refused> {
+        let Some(thread) = self.thread.take() else { return Ok(()) };
+        self.link.leave();
+        let end = Instant::now() + patience;
+        let gone = self.link.wait(end, |_| self.link.is_gone().then_some(()));
+        self.link.end();
+        // A panic of that thread has been told by itself.
+        let _ = thread.join();
+        gone.ok_or(Refused::Unanswered)
+    }
+}
+
+impl Drop for Client {
+    fn drop(&mut self) {
+        let _ = self.end(FAREWELL);
+    }
+}
+
+impl Drop for Pin<'_> {
+    fn drop(&mut self) {
+        // The pin is this one's, and a client that has left has none.
+        let _ = self.link.jobs().client.unpin(self.id);
+    }
+}
+
+/// Ends the client of this number for good: an operator's call for a client whose process is gone
+/// and will not come back. A client with a greater incarnation says Hello, which takes all from the
+/// old one, and then Bye.
+///
+/// **The old process has to be dead.** One that still runs may go on to answer from its cache what
+/// is not so any more. On the client's own machine its lock file shows that it is; elsewhere nobody
+/// but the operator can know.
+///
+/// # Errors
+///
+/// Those of `Client::join`: `LockFile` where a process on this machine is that client.
+pub fn evict(
+    server: impl Into<Address>,
+    number: u8,
+    lock_file: impl AsRef<Path>,
+) -> Result<(), JoinError> {
+    Client::join(server, number, lock_file)?.leave().map_err(|_| JoinError::NoAnswer)
+}

@@ -1,0 +1,250 @@
+//! The connections of a server: threads that read and write, so that no slow peer stops the others.
+use crate::frames::{Frames, LONGEST_TO_SERVER};
+use crate::stream::{Address, Listener, Stream};
+use std::collections::HashMap;
+use std::io::{self, ErrorKind, Write};
+use std::sync::Arc;
+use std::sync::atomic::{AtomicBool, AtomicUsize, Ordering};
+use std::sync::mpsc::{Receiver, SyncSender, TrySendError, sync_channel};
+use std::thread::{self, JoinHandle};
+use std::time::Duration;
+
+/// The most connections that are open at once. One more is closed as it comes.
+const MOST_CONNECTIONS: usize = 256;
+
+/// The most messages that wait to be judged, and the most batches that wait to be written to one
+/// connection.
+const MOST_WAITING: usize = 256;
+
+/// A connection on which nothing comes for so long is closed: clients tick more often.
+const SILENCE: Duration = Duration::from_secs(30);
+
+/// A peer that takes nothing for so long loses its connection.
+const STALL: Duration = Duration::from_secs(5);
+
+/// What a connection has to say.
+pub(crate) enum Event {
+    /// It is open, and this writes to it.
+    Opened(u64, Outgoing),
+    /// A message came.
+    Message(u64, Vec<u8>),
+    /// Nothing more will come.
+    Closed(u64),
+    /// The server is to end.
+    Stop,
+}
+
+/// The way out to one connection.
+pub(crate) struct Outgoing {
+    batches: SyncSender<Vec<u8>>,
+    stream: Stream,
+}
+
+impl Outgoing {
+    /// Sends the frames, unless so much waits already that the peer seems stuck: then they are
+    /// lost.
+    fn send(&self, frames: Vec<u8>) {
+        if let Err(TrySendError::Disconnected(_)) = self.batches.try_send(frames) {
+            self.stream.shut();
+        }
+    }
+}
+
+impl Drop for Outgoing {
+    fn drop(&mut self) {
+        self.stream.shut();
+    }
+}
+
+/// All open connections, and to which of them each client's messages go.
+#[derive(Default)]
+pub(crate) struct Connections {
+    open: HashMap<u64, Outgoing>,
+    routes: HashMap<u8, u64>,
+    batches: HashMap<u64, Vec<u8>>,
+}
+
+impl Connections {
+    pub fn open(&mut self, connection: u64, outgoing: Outgoing) {
+        self.open.insert(connection, outgoing);
+    }
+
+    pub fn close(&mut self, connection: u64) {
+        self.open.remove(&connection);
+        self.routes.retain(|_, to| *to != connection);
+    }
+
+    /// From now on the client's messages go to this connection.
+    pub fn route(&mut self, client: u8, connection: u64) {
+        self.routes.insert(client, connection);
+    }
+
+    /// The clients that are connected, by number.
+    pub fn clients(&self) -> Vec<u8> {
+        let mut clients: Vec<u8> = self.routes.keys().copied().collect();
+        clients.sort_unstable();
+        clients
+    }
+
+    pub fn count(&self) -> usize {
+        self.open.len()
+    }
+
+    /// Puts the frame behind those that leave with the next `send`. Without a connection it is
+    /// lost.
+    pub fn put_for(&mut self, client: u8, frame: &[u8]) {
+        if let Some(connection) = self.routes.get(&client) {
+            self.batches.entry(*connection).or_default().extend_from_slice(frame);
+        }
+    }
+
+    /// The same, for a connection.
+    pub fn put(&mut self, connection: u64, frame: &[u8]) {
+        self.batches.entry(connection).or_default().extend_from_slice(frame);
+    }
+
+    /// Sends what was put.
+    pub fn send(&mut self) {
+        for (connection, frames) in self.batches.drain() {
+            if let Some(outgoing) = self.open.get(&connection) {
+                outgoing.send(frames);
+            }
+        }
+    }
+}
+
+/// The thread that takes connections.
+pub(crate) struct Listening {
+    address: Address,
+    stopped: Arc<AtomicBool>,
+    events: SyncSender<Event>,
+    thread: Option<JoinHandle<()>>,
+}
+
+impl Listening {
+    /// Takes connections, each in threads of its own, and tells what they say.
+    pub fn start(listener: Listener) -> io::Result<(Listening, Receiver<Event>)> {
+        let address = listener.address()?;
+        let stopped = Arc::new(AtomicBool::new(false));
+        let (events, waiting) = sync_channel(MOST_WAITING);
+        let (told, is_stopped) = (events.clone(), Arc::clone(&stopped));
+        let thread = spawn(move || accept(&listener, &told, &is_stopped))?;
+        Ok((Listening { address, stopped, events, thread: Some(thread) }, waiting))
+    }
+
+    /// Where it listens.
+    pub fn address(&self) -> &Address {
+        &self.address
+    }
+
+    /// Tells the server to end.
+    pub fn stop(&self) {
+        // Where nobody hears it, the server has ended already.
+        let _ = self.events.send(Event::Stop);
+    }
+
+    /// Ends the thread, and gives the address free.
+    pub fn end(&mut self) {
+        self.stopped.store(true, Ordering::Release);
+        let Some(thread) = self.thread.take() else { return };
+        // A connection wakes it. Where none can be made nothing would, and it goes on to wait.
+        if Stream::connect(&self.address, Duration::from_secs(1)).is_ok() {
+            let _ = thread.join();
+        }
+    }
+}
+
+fn spawn(run: impl FnOnce() + Send + 'static) -> io::Result<JoinHandle<()>> {
+    thread::Builder::new().spawn(run)
+}
+
+fn accept(listener: &Listener, events: &SyncSender<Event>, stopped: &AtomicBool) {
+    let count = Arc::new(AtomicUsize::new(0));
+    for connection in 0.. {
+        let accepted = listener.accept();
+        if stopped.load(Ordering::Acquire) {
+            return;
+        }
+        let Ok(stream) = accepted else {
+            // The system has no room for another connection just now.
+            thread::sleep(Duration::from_millis(10));
+            continue;
+        };
+        if count.load(Ordering::Acquire) < MOST_CONNECTIONS {
+            // A connection for which the system has no room or no thread is closed.
+            let _ = begin(connection, stream, events, &count);
+        }
+    }
+}
+
+/// Starts the two threads of a connection.
+fn begin(
+    connection: u64,
+    stream: Stream,
+    events: &SyncSender<Event>,
+    count: &Arc<AtomicUsize>,
+) -> io::Result<()> {
+    stream.set_timeouts(SILENCE, STALL)?;
+    let (reading, writing) = (stream.try_clone()?, stream.try_clone()?);
+    let (batches, waiting) = sync_channel(MOST_WAITING);
+    let outgoing = Outgoing { batches, stream };
+    spawn(move || write(writing, &waiting))?;
+    let seat = Seat::take(count);
+    let events = events.clone();
+    spawn(move || {
+        let _seat = seat;
+        // Where nobody hears it, the server has ended.
+        if events.send(Event::Opened(connection, outgoing)).is_ok() {
+            read(connection, reading, &events);
+            let _ = events.send(Event::Closed(connection));
+        }
+    })?;
+    Ok(())
+}
+
+/// One of the connections that may be open at once.
+struct Seat(Arc<AtomicUsize>);
+
+impl Seat {
+    fn take(count: &Arc<AtomicUsize>) -> Seat {
+        count.fetch_add(1, Ordering::AcqRel);
+        Seat(Arc::clone(count))
+    }
+}
+
+impl Drop for Seat {
+    fn drop(&mut self) {
+        self.0.fetch_sub(1, Ordering::AcqRel);
+    }
+}
+
+/// Reads until the stream ends, is silent for too long, or says what no client says.
+fn read(connection: u64, mut stream: Stream, events: &SyncSender<Event>) {
+    let mut frames = Frames::new(LONGEST_TO_SERVER);
+    loop {
+        match frames.fill(&mut stream) {
+            Ok(0) => return,
+            Ok(_) => {}
+            Err(error) if error.kind() == ErrorKind::Interrupted => {}
+            Err(_) => return,
+        }
+        while let Ok(Some(message)) = frames.next() {
+            if events.send(Event::Message(connection, message.to_vec())).is_err() {
+                return;
+            }
+        }
+        if frames.is_broken() {
+            return;
+        }
+    }
+}
+
+/// Writes each batch, until the stream fails or nothing more can come.
+fn write(mut stream: Stream, batches: &Receiver<Vec<u8>>) {
+    while let Ok(batch) = batches.recv() {
+        if stream.write_all(&batch).is_err() {
+            break;
+        }
+    }
+    stream.shut();
+}

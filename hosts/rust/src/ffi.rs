@@ -1,0 +1,146 @@
+//! The declarations of `krl.h`. Only tests compare the two: the layouts here and in
+//! `hosts/c/layout.c`, and the calls by running them.
+use crate::row::Row;
+use std::ffi::c_void;
+
+#[repr(C)]
+pub struct Handle {
+    pub is_open: bool,
+    pub at: *mut c_void,
+}
+
+#[repr(C)]
+#[derive(Clone, Copy, Debug)]
+pub struct Reply {
+    pub code: u32,
+    pub detail: u64,
+}
+
+#[repr(C)]
+#[derive(Clone, Copy, Debug)]
+pub struct RawRecord {
+    pub client: u64,
+    pub incarnation: u64,
+    pub last: u64,
+    pub outcome: u32,
+    pub left: u32,
+}
+
+#[repr(C)]
+#[derive(Clone, Copy, Debug)]
+pub struct RawChange {
+    pub kind: u32,
+    pub outcome: u32,
+    pub client: u64,
+    pub number: u64,
+    pub write: u64,
+    pub row: Row,
+}
+
+#[repr(C)]
+#[derive(Clone, Copy, Debug)]
+pub struct Stepped {
+    pub reply: Reply,
+    pub change: RawChange,
+}
+
+#[repr(C)]
+#[derive(Clone, Copy, Debug)]
+pub struct ClientState {
+    pub reply: Reply,
+    pub epoch: u64,
+    pub seen: u64,
+    pub lock: u32,
+    pub write: u32,
+    pub number: u64,
+    pub outcome: u64,
+}
+
+#[repr(C)]
+#[derive(Clone, Copy, Debug)]
+pub struct Held {
+    pub reply: Reply,
+    pub range: u32,
+    pub key: u32,
+}
+
+#[repr(C)]
+#[derive(Clone, Copy, Debug)]
+pub struct ServerState {
+    pub reply: Reply,
+    pub epoch: u64,
+    pub phase: u64,
+}
+
+unsafe extern "C" {
+    pub fn krl_client_open(handle: *mut Handle, number: u64, incarnation: u64) -> Reply;
+    pub fn krl_client_step(handle: *mut Handle, bytes: *const u8, length: usize) -> Reply;
+    pub fn krl_client_tick(handle: *mut Handle) -> Reply;
+    pub fn krl_client_lock(handle: *mut Handle, point: u64, hi: u64, mode: u32) -> Reply;
+    pub fn krl_client_insert(
+        handle: *mut Handle,
+        key: u64,
+        bytes: *const u8,
+        length: usize,
+    ) -> Reply;
+    pub fn krl_client_put(handle: *mut Handle, key: u64, bytes: *const u8, length: usize) -> Reply;
+    pub fn krl_client_delete(handle: *mut Handle, key: u64) -> Reply;
+    pub fn krl_client_scan(
+        handle: *mut Handle,
+        lo: u64,
+        hi: u64,
+        rows: *mut Row,
+        room: usize,
+    ) -> Reply;
+    pub fn krl_client_forget(handle: *mut Handle, lo: u64, hi: u64) -> Reply;
+    pub fn krl_client_pin(handle: *mut Handle, lo: u64, hi: u64) -> Reply;
+    pub fn krl_client_unpin(handle: *mut Handle, pin: u64) -> Reply;
+    pub fn krl_client_held(handle: *mut Handle, point: u64) -> Held;
+    pub fn krl_client_status(handle: *mut Handle) -> ClientState;
+    pub fn krl_client_leave(handle: *mut Handle) -> Reply;
+
+    pub fn krl_server_open(
+        handle: *mut Handle,
+        epoch: u64,
+        entries: *const Row,
+        entries_length: usize,
+        records: *const RawRecord,
+        records_length: usize,
+    ) -> Reply;
+    pub fn krl_server_step(handle: *mut Handle, bytes: *const u8, length: usize) -> Stepped;
+    pub fn krl_server_nudge(handle: *mut Handle, client: u64) -> Reply;
+    pub fn krl_server_status(handle: *mut Handle) -> ServerState;
+    pub fn krl_server_missing(handle: *mut Handle, clients: *mut u64, room: usize) -> Reply;
+
+    pub fn krl_take(handle: *mut Handle, bytes: *mut u8, room: usize) -> Reply;
+    pub fn krl_close(handle: *mut Handle);
+}
+
+#[cfg(test)]
+mod tests {
+    use super::*;
+    use std::mem::{offset_of, size_of};
+
+    /// `hosts/c/layout.c` has the same numbers, and a C compiler compares them with `krl.h`.
+    #[test]
+    fn layouts() {
+        assert_eq!([size_of::<Handle>(), offset_of!(Handle, at)], [16, 8]);
+        assert_eq!([size_of::<Reply>(), offset_of!(Reply, detail)], [16, 8]);
+        assert_eq!(size_of::<Row>(), 48);
+        assert_eq!([offset_of!(Row, key), offset_of!(Row, value)], [0, 8]);
+        assert_eq!([size_of::<RawRecord>(), offset_of!(RawRecord, last)], [32, 16]);
+        assert_eq!([offset_of!(RawRecord, outcome), offset_of!(RawRecord, left)], [24, 28]);
+        assert_eq!([size_of::<RawChange>(), offset_of!(RawChange, client)], [80, 8]);
+        assert_eq!([offset_of!(RawChange, number), offset_of!(RawChange, write)], [16, 24]);
+        assert_eq!([offset_of!(RawChange, outcome), offset_of!(RawChange, row)], [4, 32]);
+        assert_eq!([size_of::<Stepped>(), offset_of!(Stepped, change)], [96, 16]);
+        assert_eq!([size_of::<ClientState>(), offset_of!(ClientState, epoch)], [56, 16]);
+        assert_eq!([offset_of!(ClientState, seen), offset_of!(ClientState, lock)], [24, 32]);
+        assert_eq!([offset_of!(ClientState, write), offset_of!(ClientState, number)], [36, 40]);
+        assert_eq!(offset_of!(ClientState, outcome), 48);
+        assert_eq!([size_of::<Held>(), offset_of!(Held, range)], [24, 16]);
+        assert_eq!(offset_of!(Held, key), 20);
+        assert_eq!([size_of::<ServerState>(), offset_of!(ServerState, epoch)], [32, 16]);
+        assert_eq!(offset_of!(ServerState, phase), 24);
+    }
+}

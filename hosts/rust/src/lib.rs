@@ -1,0 +1,54 @@
+//! A key-range lock server over a network and a store, and clients that answer reads from their
+//! caches.
+//!
+//! The protocol's rules are the library's, `krl_embed`, whose functions are proved. This crate is
+//! the host around it: it has the sockets, the threads and the disk. Nothing of it is proved.
+//! `docs/EMBEDDING.md` says what a host has to do.
+//!
+//! ```no_run
+//! use krl::{Client, Server, SqliteStore, Value};
+//!
+//! let listener = std::net::TcpListener::bind("127.0.0.1:7400")?;
+//! let server = Server::start(listener, SqliteStore::open("table.db")?)?;
+//! let client = Client::join(server.address().clone(), 0, "client-0.lock")?;
+//! client.insert(15, Value::from(5))?;
+//! let rows = client.read(10..20)?;
+//! assert_eq!(client.cached(10..20), Some(rows)); // no message
+//! client.leave()?;
+//! # Ok::<(), Box<dyn std::error::Error>>(())
+//! ```
+mod change;
+mod client;
+mod code;
+mod connections;
+mod ffi;
+mod frames;
+mod handle;
+mod held_back;
+mod jobs;
+mod link;
+mod lock_file;
+mod message;
+mod refused;
+mod row;
+mod server;
+#[cfg(feature = "sqlite")]
+mod sqlite;
+mod status;
+mod store;
+mod stream;
+mod watch;
+
+pub use change::{Change, Outcome, Record, Saved, Write};
+pub use client::{Client, Pin, evict};
+pub use code::Code;
+pub use lock_file::LockFileError;
+pub use refused::{JoinError, Refused};
+pub use row::{END, MOST_BYTES, Row, Value};
+pub use server::{ServeError, Server};
+#[cfg(feature = "sqlite")]
+pub use sqlite::SqliteStore;
+pub use status::Status;
+pub use store::{MemoryStore, Store, StoreError};
+pub use stream::{Address, BadAddress, Listener};
+pub use watch::Wait;

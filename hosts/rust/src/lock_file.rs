@@ -1,0 +1,144 @@
+//! The lock file of a client number: one process at a time, and greater incarnations.
+use std::fmt;
+use std::fs::{File, OpenOptions, TryLockError};
+use std::io::{self, Read, Seek, SeekFrom, Write};
+use std::path::Path;
+use std::time::{SystemTime, UNIX_EPOCH};
+
+/// A lock file that this process holds. Another process may take it when this value is gone, or the
+/// process is.
+#[derive(Debug)]
+pub(crate) struct LockFile {
+    file: File,
+}
+
+/// Why a lock file was not taken.
+#[derive(Debug)]
+#[non_exhaustive]
+pub enum LockFileError {
+    /// Another process has it: it is a client of this number.
+    Taken,
+    /// It says something else than a lock file of this number does.
+    Strange,
+    /// The file can't be read or written.
+    File(io::Error),
+}
+
+// One line, always of the same length, so that it is written over in place: a crash leaves the old
+// line or the new one.
+const FORM: &str = "krl client 00 incarnation 00000000000000000000\n";
+
+impl LockFile {
+    /// Takes the file for the client of this number, makes it where there is none, and gives the
+    /// client's incarnation: greater than every one before. It is on the disk when this returns.
+    ///
+    /// The incarnation is the time in nanoseconds, or one more than the last one where the clock
+    /// went back. So it rises even where the file was lost.
+    pub fn take(path: &Path, number: u8) -> Result<(LockFile, u64), LockFileError> {
+        let mut options = OpenOptions::new();
+        let file = options.read(true).write(true).create(true).truncate(false).open(path)?;
+        match file.try_lock() {
+            Ok(()) => {}
+            Err(TryLockError::WouldBlock) => return Err(LockFileError::Taken),
+            Err(TryLockError::Error(error)) => return Err(error.into()),
+        }
+        let mut lock = LockFile { file };
+        let incarnation = now().max(lock.last(number)? + 1);
+        lock.note(number, incarnation)?;
+        sync_folder_of(path)?;
+        Ok((lock, incarnation))
+    }
+
+    /// The incarnation in the file, or 0 where it is new.
+    fn last(&mut self, number: u8) -> Result<u64, LockFileError> {
+        let mut text = String::new();
+        let mut start = (&self.file).take(FORM.len() as u64 + 1);
+        start.read_to_string(&mut text).map_err(|_| LockFileError::Strange)?;
+        if text.is_empty() {
+            return Ok(0);
+        }
+        let head = format!("krl client {number:02} incarnation ");
+        let last = text.strip_prefix(&head).and_then(|rest| rest.strip_suffix('\n'));
+        let last = last.and_then(|digits| digits.parse::<u64>().ok());
+        last.filter(|last| *last < u64::MAX).ok_or(LockFileError::Strange)
+    }
+
+    fn note(&mut self, number: u8, incarnation: u64) -> io::Result<()> {
+        self.file.seek(SeekFrom::Start(0))?;
+        self.file.write_all(line(number, incarnation).as_bytes())?;
+        self.file.sync_all()
+    }
+}
+
+fn line(number: u8, incarnation: u64) -> String {
+    format!("krl client {number:02} incarnation {incarnation:020}\n")
+}
+
+fn now() -> u64 {
+    let since = SystemTime::now().duration_since(UNIX_EPOCH).unwrap_or_default();
+    u64::try_from(since.as_nanos()).unwrap_or(0)
+}
+
+/// A file that is new has a name on the disk only when its folder is synced.
+fn sync_folder_of(path: &Path) -> io::Result<()> {
+    match path.parent() {
+        Some(folder) if !folder.as_os_str().is_empty() => File::open(folder)?.sync_all(),
+        _ => File::open(".")?.sync_all(),
+    }
+}
+
+impl fmt::Display for LockFileError {
+    fn fmt(&self, f: &mut fmt::Formatter<'_>) -> fmt::Result {
+        match self {
+            LockFileError::Taken => f.write_str("another process is the client of this number"),
+            LockFileError::Strange => f.write_str("the file is no lock file of this client number"),
+            LockFileError::File(error) => write!(f, "the lock file can't be used: {error}"),
+        }
+    }
+}
+
+impl std::error::Error for LockFileError {}
+
+impl From<io::Error> for LockFileError {
+    fn from(error: io::Error) -> LockFileError {
+        LockFileError::File(error)
+    }
+}
+
+#[cfg(test)]
+mod tests {
+    use super::*;
+
+    fn path(name: &str) -> std::path::PathBuf {
+        std::env::temp_dir().join(format!("krl-{}-{name}.lock", std::process::id()))
+    }
+
+    #[test]
+    fn one_holder_and_rising_incarnations() {
+        let path = path("rising");
+        let (held, first) = LockFile::take(&path, 3).unwrap();
+        assert!(matches!(LockFile::take(&path, 3), Err(LockFileError::Taken)));
+        drop(held);
+        let (held, second) = LockFile::take(&path, 3).unwrap();
+        assert!(second > first);
+        drop(held);
+        let far = i64::MAX as u64 - 5;
+        std::fs::write(&path, line(3, far)).unwrap();
+        assert_eq!(LockFile::take(&path, 3).unwrap().1, far + 1);
+        assert_eq!(std::fs::read_to_string(&path).unwrap(), line(3, far + 1));
+        std::fs::remove_file(&path).unwrap();
+    }
+
+    #[test]
+    fn another_file_is_left_alone() {
+        let path = path("other");
+        for text in
+            ["hello\n", "krl client 04 incarnation 00000000000000000001\n", "krl client 03 "]
+        {
+            std::fs::write(&path, text).unwrap();
+            assert!(matches!(LockFile::take(&path, 3), Err(LockFileError::Strange)));
+            assert_eq!(std::fs::read_to_string(&path).unwrap(), text);
+        }
+        std::fs::remove_file(&path).unwrap();
+    }
+}

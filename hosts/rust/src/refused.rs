@@ -1,0 +1,95 @@
+//! Why a client's call was refused.
+use crate::code::Code;
+use crate::lock_file::LockFileError;
+use std::fmt;
+use std::io;
+
+/// Why a call of a client did not do what it should.
+#[derive(Clone, Copy, Debug, PartialEq, Eq)]
+#[non_exhaustive]
+pub enum Refused {
+    /// No answer came within the client's patience. A read or a forget has changed nothing that is
+    /// seen. A write may have changed the table or may still change it: the client goes on to ask
+    /// for it, until it is answered or the client is gone.
+    Unanswered,
+    /// The range does not begin below its end, or ends above 2^63.
+    BadRange,
+    /// A key of 2^63 - 1 or more.
+    BadKey,
+    /// The range meets a pin.
+    Pinned,
+    /// The client has eight pins.
+    TooManyPins,
+    /// Memory was refused.
+    OutOfMemory,
+    /// The library refused it, by a code that this call can't bring about.
+    Other(Code),
+}
+
+/// Why a client did not join.
+#[derive(Debug)]
+#[non_exhaustive]
+pub enum JoinError {
+    /// The lock file was not taken.
+    LockFile(LockFileError),
+    /// A number above 63.
+    BadNumber,
+    /// The server did not answer within the client's patience. There is none, or it knows a greater
+    /// incarnation of this number.
+    NoAnswer,
+    /// The system has no thread for the client's connection.
+    NoThread(io::Error),
+    /// The library refused the start.
+    Refused(Code),
+}
+
+impl From<Code> for Refused {
+    fn from(code: Code) -> Refused {
+        match code {
+            Code::BadSpan => Refused::BadRange,
+            Code::BadPoint => Refused::BadKey,
+            Code::Pinned => Refused::Pinned,
+            Code::TooManyPins => Refused::TooManyPins,
+            Code::OutOfMemory => Refused::OutOfMemory,
+            code => Refused::Other(code),
+        }
+    }
+}
+
+impl fmt::Display for Refused {
+    fn fmt(&self, f: &mut fmt::Formatter<'_>) -> fmt::Result {
+        match self {
+            Refused::Unanswered => f.write_str("no answer came in time"),
+            Refused::BadRange => {
+                f.write_str("the range does not begin below its end, or ends above 2^63")
+            }
+            Refused::BadKey => f.write_str("the key is 2^63 - 1 or more"),
+            Refused::Pinned => f.write_str("the range meets a pin"),
+            Refused::TooManyPins => f.write_str("the client has eight pins"),
+            Refused::OutOfMemory => f.write_str("memory was refused"),
+            Refused::Other(code) => code.fmt(f),
+        }
+    }
+}
+
+impl fmt::Display for JoinError {
+    fn fmt(&self, f: &mut fmt::Formatter<'_>) -> fmt::Result {
+        match self {
+            JoinError::LockFile(error) => error.fmt(f),
+            JoinError::BadNumber => f.write_str("a client's number is 0 to 63"),
+            JoinError::NoAnswer => f.write_str("the server did not answer in time"),
+            JoinError::NoThread(error) => write!(f, "the client gets no thread: {error}"),
+            JoinError::Refused(code) => code.fmt(f),
+        }
+    }
+}
+
+impl std::error::Error for Refused {}
+
+impl std::error::Error for JoinError {}
+
+impl From<LockFileError> for JoinError {
+    fn from(error: LockFileError) -> JoinError {
+        JoinError::LockFile(error)
+    }
+}

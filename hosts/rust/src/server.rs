@@ -1,0 +1,315 @@
+//! A server over a network and a store.
+use crate::change::Change;
+use crate::code::Code;
+use crate::connections::{Connections, Event, Listening};
+use crate::frames;
+use crate::handle::ServerHandle;
+use crate::held_back::HeldBack;
+use crate::message::{Kind, client_of, kind_of};
+use crate::status::Status;
+use crate::store::{Store, StoreError};
+use crate::stream::{Address, Listener};
+use crate::watch::Watch;
+use std::convert::Infallible;
+use std::fmt;
+use std::io;
+use std::sync::mpsc::{Receiver, RecvTimeoutError};
+use std::sync::{Arc, Mutex, PoisonError};
+use std::thread::{self, JoinHandle};
+use std::time::{Duration, Instant};
+
+/// The most messages that are judged before what they changed is kept.
+const MOST_AT_ONCE: usize = 256;
+
+/// How often a client that seems stuck is told again what it may have missed.
+const NUDGE: Duration = Duration::from_millis(50);
+
+/// A server that runs in threads of its own. It ends where it is dropped.
+pub struct Server {
+    listening: Listening,
+    status: Arc<Mutex<Status>>,
+    thread: Option<JoinHandle<Result<(), ServeError>>>,
+}
+
+/// Why a server does not run, or ended.
+#[derive(Debug)]
+#[non_exhaustive]
+pub enum ServeError {
+    /// The store failed. What was not kept was not told to anybody either.
+    Store(StoreError),
+    /// What the store gave is not what a server kept, or memory was refused.
+    Refused(Code),
+    /// The listener failed.
+    Network(io::Error),
+    /// A thread of the server panicked.
+    Panicked,
+}
+
+impl Server {
+    /// Serves what the store keeps, for ever: the call comes back with an error alone.
+    ///
+    /// # Errors
+    ///
+    /// Those of `start`; and `Store` where a change could not be kept. Nothing that rests on it was
+    /// sent.
+    pub fn serve(
+        listener: impl Into<Listener>,
+        store: impl Store + 'static,
+    ) -> Result<Infallible, ServeError> {
+        Server::start(listener, store)?.wait()
+    }
+
+    /// Starts a server in threads of its own. When this returns, the new epoch is kept and
+    /// connections are taken.
+    ///
+    /// # Errors
+    ///
+    /// `Store` where the store fails; `Refused` where what it gives is not what a server kept, or
+    /// memory is refused; `Network` where the listener fails or there is no thread.
+    pub fn start(
+        listener: impl Into<Listener>,
+        mut store: impl Store + 'static,
+    ) -> Result<Server, ServeError> {
+        let saved = store.load()?;
+        let (server, epoch) = ServerHandle::open(&saved).map_err(ServeError::Refused)?;
+        // The epoch is kept before anything is sent.
+        store.keep(&[Change::Started { epoch }])?;
+        let (listening, waiting) = Listening::start(listener.into())?;
+        let status = Arc::new(Mutex::new(Status { epoch, ..Status::default() }));
+        let shown = Arc::clone(&status);
+        let turns = Turns {
+            server,
+            store,
+            waiting,
+            connections: Connections::default(),
+            held_back: HeldBack::new(),
+            watch: Watch::default(),
+            status: Status { epoch, ..Status::default() },
+            nudged: Instant::now(),
+            frames: Vec::new(),
+        };
+        let thread = thread::Builder::new().spawn(move || turns.run(&shown))?;
+        Ok(Server { listening, status, thread: Some(thread) })
+    }
+
+    /// Where it listens.
+    pub fn address(&self) -> &Address {
+        self.listening.address()
+    }
+
+    /// What it looks like now, or a few milliseconds ago.
+    pub fn status(&self) -> Status {
+        self.status.lock().unwrap_or_else(PoisonError::into_inner).clone()
+    }
+
+    /// A reader of the status that may live in another thread.
+    pub fn watch(&self) -> impl Fn() -> Status + Send + use<> {
+        let status = Arc::clone(&self.status);
+        move || status.lock().unwrap_or_else(PoisonError::into_inner).clone()
+    }
+
+    /// Waits until the server ends, which it does by an error alone: nobody can stop it but its
+    /// owner, which waits here.
+    pub fn wait(mut self) -> Result<Infallible, ServeError> {
+        self.join()?;
+        Err(ServeError::Panicked)
+    }
+
+    /// Ends the server, and says how it ended. What it kept stays; its clients answer from their
+    /// caches.
+    pub fn stop(mut self) -> Result<(), ServeError> {
+        self.listening.stop();
+        self.join()
+    }
+
+    /// Waits until the server has ended, and gives its address free.
+    fn join(&mut self) -> Result<(), ServeError> {
+        let Some(thread) = self.thread.take() else { return Ok(()) };
+        let ended = thread.join().unwrap_or(Err(ServeError::Panicked));
+        self.listening.end();
+        ended
+    }
+}
+
+impl Drop for Server {
+    fn drop(&mut self) {
+        if self.thread.is_some() {
+            self.listening.stop();
+            let _ = self.join();
+        }
+    }
+}
+
+/// The one thread that owns the server and its store.
+struct Turns<S> {
+    server: ServerHandle,
+    store: S,
+    waiting: Receiver<Event>,
+    connections: Connections,
+    held_back: HeldBack,
+    watch: Watch,
+    status: Status,
+    nudged: Instant,
+    frames: Vec<u8>,
+}
+
+impl<S: Store> Turns<S> {
+    fn run(mut self, shown: &Mutex<Status>) -> Result<(), ServeError> {
+        while self.turn()? {
+            self.show(shown);
+        }
+        Ok(())
+    }
+
+    /// Takes what waits, judges it all, keeps what it changed, and only then sends. It answers
+    /// whether to go on.
+    fn turn(&mut self) -> Result<bool, ServeError> {
+        let mut changes = Vec::new();
+        for event in self.take_what_waits() {
+            match event {
+                Event::Opened(connection, outgoing) => self.connections.open(connection, outgoing),
+                Event::Closed(connection) => self.connections.close(connection),
+                Event::Message(connection, message) => {
+                    changes.extend(self.judge(connection, &message)?);
+                }
+                Event::Stop => return Ok(false),
+            }
+        }
+        self.nudge();
+        self.keep(&changes)?;
+        self.send()?;
+        Ok(true)
+    }
+
+    fn take_what_waits(&mut self) -> Vec<Event> {
+        let first = match self.waiting.recv_timeout(NUDGE) {
+            Ok(event) => event,
+            Err(RecvTimeoutError::Timeout) => return Vec::new(),
+            Err(RecvTimeoutError::Disconnected) => Event::Stop,
+        };
+        let more = self.waiting.try_iter().take(MOST_AT_ONCE - 1);
+        std::iter::once(first).chain(more).collect()
+    }
+
+    /// Gives the server one message, and says what has to be kept. A string that is no message ends
+    /// its connection.
+    fn judge(&mut self, connection: u64, message: &[u8]) -> Result<Option<Change>, ServeError> {
+        let change = match self.server.step(message) {
+            Ok(change) => change,
+            Err(Code::BadMessage) => {
+                self.status.refused += 1;
+                self.connections.close(connection);
+                return Ok(None);
+            }
+            Err(Code::Alarm) => {
+                self.alarm(message);
+                return Ok(None);
+            }
+            // As if the message had been lost.
+            Err(Code::OutOfMemory) => return Ok(None),
+            Err(code) => return Err(ServeError::Refused(code)),
+        };
+        self.status.taken += 1;
+        let kind = kind_of(message);
+        if let Some(client) = client_of(message) {
+            self.connections.route(client, connection);
+            self.watch.heard(client, kind, Instant::now());
+        }
+        if kind == Kind::Bye {
+            // It leaves after what it says is kept, and tells the client that it need not say Bye
+            // again.
+            self.connections.put(connection, &frames::EMPTY);
+        }
+        Ok(change)
+    }
+
+    fn alarm(&mut self, message: &[u8]) {
+        self.status.alarms_raised += 1;
+        // A client repeats its report.
+        let known = &mut self.status.alarms;
+        known.extend(client_of(message).filter(|client| !known.contains(client)));
+    }
+
+    fn nudge(&mut self) {
+        if self.nudged.elapsed() < NUDGE {
+            return;
+        }
+        self.nudged = Instant::now();
+        for client in self.connections.clients() {
+            // A nudge for which there is no memory is a message that is lost.
+            let _ = self.server.nudge(client);
+        }
+    }
+
+    fn keep(&mut self, changes: &[Change]) -> Result<(), ServeError> {
+        if !changes.is_empty() {
+            self.store.keep(changes)?;
+            self.status.changes += changes.len() as u64;
+            self.status.keeps += 1;
+        }
+        Ok(())
+    }
+
+    fn send(&mut self) -> Result<(), ServeError> {
+        let mut frames = std::mem::take(&mut self.frames);
+        frames.clear();
+        self.server.take(&mut frames).map_err(ServeError::Refused)?;
+        let now = Instant::now();
+        for (message, frame) in frames::split(&frames) {
+            self.put(message, frame, now);
+        }
+        self.connections.send();
+        self.frames = frames;
+        Ok(())
+    }
+
+    fn put(&mut self, message: &[u8], frame: &[u8], now: Instant) {
+        let Some(client) = client_of(message) else { return };
+        let kind = kind_of(message);
+        self.watch.said(client, kind, now);
+        let is_push = matches!(kind, Kind::Answered { .. } | Kind::Push);
+        if is_push && self.held_back.holds(client, message, now) {
+            return;
+        }
+        self.connections.put_for(client, frame);
+        self.status.sent += 1;
+    }
+
+    fn show(&mut self, shown: &Mutex<Status>) {
+        self.status.is_serving = self.server.is_serving();
+        // Where there is no memory for it, it is shown as it was.
+        if let Ok(missing) = self.server.missing() {
+            self.status.missing = missing;
+        }
+        self.status.connected = self.connections.clients();
+        self.status.connections = self.connections.count() as u64;
+        self.status.waits = self.watch.waits(Instant::now());
+        self.status.held_back = self.held_back.count();
+        shown.lock().unwrap_or_else(PoisonError::into_inner).clone_from(&self.status);
+    }
+}
+
+impl fmt::Display for ServeError {
+    fn fmt(&self, f: &mut fmt::Formatter<'_>) -> fmt::Result {
+        match self {
+            ServeError::Store(error) => error.fmt(f),
+            ServeError::Refused(code) => write!(f, "the server can't run: {code}"),
+            ServeError::Network(error) => write!(f, "the listener failed: {error}"),
+            ServeError::Panicked => f.write_str("a thread of the server panicked"),
+        }
+    }
+}
+
+impl std::error::Error for ServeError {}
+
+impl From<StoreError> for ServeError {
+    fn from(error: StoreError) -> ServeError {
+        ServeError::Store(error)
+    }
+}
+
+impl From<io::Error> for ServeError {
+    fn from(error: io::Error) -> ServeError {
+        ServeError::Network(error)
+    }
+}

@@ -1,0 +1,213 @@
+//! A store over SQLite.
+use crate::change::{Change, Outcome, Record, Saved, Write};
+use crate::row::{Row, Value};
+use crate::store::{Store, StoreError};
+use rusqlite::{Connection, Row as SqlRow, Transaction, params};
+use std::path::Path;
+use std::time::Duration;
+
+/// A store in one file of SQLite, in WAL mode with synchronous=FULL: `keep` returns once the
+/// changes are on the disk. A write's row and its client's record change in one transaction.
+pub struct SqliteStore {
+    connection: Connection,
+}
+
+/// How long it waits for another process that has the file open.
+const PATIENCE: Duration = Duration::from_millis(200);
+
+const TABLES: &str = "
+    CREATE TABLE IF NOT EXISTS epoch (id INTEGER PRIMARY KEY CHECK (id = 0), epoch INTEGER NOT NULL);
+    CREATE TABLE IF NOT EXISTS entry (key INTEGER PRIMARY KEY, value BLOB NOT NULL);
+    CREATE TABLE IF NOT EXISTS record (
+        place INTEGER PRIMARY KEY, client INTEGER NOT NULL UNIQUE, incarnation INTEGER NOT NULL,
+        last INTEGER NOT NULL, outcome INTEGER NOT NULL, has_left INTEGER NOT NULL);
+    INSERT OR IGNORE INTO epoch VALUES (0, 0);";
+
+const EPOCH: &str = "UPDATE epoch SET epoch = ?1 WHERE id = 0";
+
+// A record that is there keeps its place: the records are in order of first registration.
+const REGISTER: &str =
+    "INSERT INTO record (client, incarnation, last, outcome, has_left) VALUES (?1, ?2, 0, 0, 0)
+    ON CONFLICT (client) DO UPDATE SET incarnation = ?2, last = 0, outcome = 0, has_left = 0";
+const LEAVE: &str = "UPDATE record SET has_left = 1 WHERE client = ?1";
+const JUDGE: &str = "UPDATE record SET last = ?2, outcome = ?3 WHERE client = ?1";
+
+const PUT: &str = "INSERT OR REPLACE INTO entry (key, value) VALUES (?1, ?2)";
+const DELETE: &str = "DELETE FROM entry WHERE key = ?1";
+
+impl SqliteStore {
+    /// Opens the file, and makes it where there is none. Another process that has it open makes
+    /// this fail, and every later open of another process fails while this store lives.
+    pub fn open(path: impl AsRef<Path>) -> Result<SqliteStore, StoreError> {
+        let connection = Connection::open(path)?;
+        connection.busy_timeout(PATIENCE)?;
+        connection.pragma_update(None, "locking_mode", "EXCLUSIVE")?;
+        let mode: String =
+            connection.query_row("PRAGMA journal_mode = WAL", [], |row| row.get(0))?;
+        if mode != "wal" {
+            return Err(StoreError::says("SQLite gives no WAL mode for this file"));
+        }
+        connection.pragma_update(None, "synchronous", "FULL")?;
+        connection.execute_batch(TABLES)?;
+        Ok(SqliteStore { connection })
+    }
+}
+
+impl Store for SqliteStore {
+    fn load(&mut self) -> Result<Saved, StoreError> {
+        let epoch = self.connection.query_row("SELECT epoch FROM epoch", [], |row| row.get(0))?;
+        let mut saved = Saved { epoch: positive(epoch)?, ..Saved::default() };
+        let mut entries = self.connection.prepare("SELECT key, value FROM entry")?;
+        let mut rows = entries.query([])?;
+        while let Some(row) = rows.next()? {
+            let Row { key, value } = row_of(row)?;
+            saved.rows.insert(key, value);
+        }
+        let mut records = self.connection.prepare(
+            "SELECT client, incarnation, last, outcome, has_left FROM record ORDER BY place",
+        )?;
+        let mut rows = records.query([])?;
+        while let Some(row) = rows.next()? {
+            saved.records.push(record_of(row)?);
+        }
+        Ok(saved)
+    }
+
+    fn keep(&mut self, changes: &[Change]) -> Result<(), StoreError> {
+        let transaction = self.connection.transaction()?;
+        changes.iter().try_for_each(|change| keep_one(&transaction, change))?;
+        Ok(transaction.commit()?)
+    }
+}
+
+fn keep_one(transaction: &Transaction<'_>, change: &Change) -> Result<(), StoreError> {
+    match change {
+        Change::Started { epoch } => run(transaction, EPOCH, params![signed(*epoch)?]),
+        Change::Registered { client, incarnation } => {
+            run(transaction, REGISTER, params![client, signed(*incarnation)?])
+        }
+        Change::Left { client } => run(transaction, LEAVE, params![client]),
+        Change::Judged { client, number, write, outcome } => {
+            run(transaction, JUDGE, params![client, signed(*number)?, outcome.tag()])?;
+            match outcome {
+                Outcome::Applied => keep_write(transaction, write),
+                _ => Ok(()),
+            }
+        }
+    }
+}
+
+fn keep_write(transaction: &Transaction<'_>, write: &Write) -> Result<(), StoreError> {
+    match write {
+        Write::Insert(Row { key, value }) | Write::Put(Row { key, value }) => {
+            run(transaction, PUT, params![signed(*key)?, &value[..]])
+        }
+        Write::Delete(key) => run(transaction, DELETE, params![signed(*key)?]),
+    }
+}
+
+fn run(
+    transaction: &Transaction<'_>,
+    statement: &str,
+    values: &[&dyn rusqlite::ToSql],
+) -> Result<(), StoreError> {
+    transaction.prepare_cached(statement)?.execute(values)?;
+    Ok(())
+}
+
+fn row_of(row: &SqlRow<'_>) -> Result<Row, StoreError> {
+    let bytes: Vec<u8> = row.get(1)?;
+    let value = Value::new(&bytes)
+        .ok_or_else(|| StoreError::says("a value in the store has more than 32 bytes"))?;
+    Ok(Row { key: positive(row.get(0)?)?, value })
+}
+
+fn record_of(row: &SqlRow<'_>) -> Result<Record, StoreError> {
+    let last = positive(row.get(2)?)?;
+    let outcome = Outcome::of_tag(positive(row.get(3)?)?);
+    if (last == 0) != outcome.is_none() {
+        return Err(StoreError::says(
+            "a record in the store has an outcome and no write, or no outcome of one",
+        ));
+    }
+    Ok(Record {
+        client: row.get(0)?,
+        incarnation: positive(row.get(1)?)?,
+        last: outcome.map(|outcome| (last, outcome)),
+        left: row.get(4)?,
+    })
+}
+
+/// SQLite's numbers are signed. Each number that is kept lies below 2^63.
+fn signed(number: u64) -> Result<i64, StoreError> {
+    i64::try_from(number).map_err(|_| StoreError::says("a number of 2^63 or more can't be kept"))
+}
+
+fn positive(number: i64) -> Result<u64, StoreError> {
+    u64::try_from(number).map_err(|_| StoreError::says("a number in the store is negative"))
+}
+
+impl From<rusqlite::Error> for StoreError {
+    fn from(error: rusqlite::Error) -> StoreError {
+        StoreError(Box::new(error))
+    }
+}
+
+#[cfg(test)]
+mod tests {
+    use super::*;
+
+    fn row(key: u64, bytes: &[u8]) -> Row {
+        Row { key, value: Value::new(bytes).unwrap() }
+    }
+
+    fn changes() -> Vec<Change> {
+        let judged = |number, write, outcome| Change::Judged { client: 9, number, write, outcome };
+        vec![
+            Change::Started { epoch: 1 },
+            Change::Registered { client: 9, incarnation: 5 },
+            Change::Registered { client: 2, incarnation: 7 },
+            judged(1, Write::Insert(row(10, b"ten")), Outcome::Applied),
+            judged(2, Write::Insert(row(10, b"other")), Outcome::Exists),
+            judged(3, Write::Insert(row(u64::MAX >> 1, &[0xff; 32])), Outcome::Applied),
+            judged(4, Write::Put(row(10, b"")), Outcome::Applied),
+            Change::Left { client: 2 },
+            judged(5, Write::Delete(10), Outcome::Applied),
+            Change::Registered { client: 2, incarnation: 8 },
+            Change::Registered { client: 9, incarnation: 6 },
+            Change::Started { epoch: 2 },
+        ]
+    }
+
+    #[test]
+    fn what_is_loaded_is_what_was_kept() {
+        let folder = std::env::temp_dir().join(format!("krl-sqlite-{}", std::process::id()));
+        std::fs::create_dir_all(&folder).unwrap();
+        let file = folder.join("table.db");
+        let mut expected = Saved::default();
+        assert_eq!(SqliteStore::open(&file).unwrap().load().unwrap(), expected);
+        for change in changes() {
+            SqliteStore::open(&file).unwrap().keep(&[change]).unwrap();
+            expected.apply(&change);
+            assert_eq!(SqliteStore::open(&file).unwrap().load().unwrap(), expected, "{change:?}");
+        }
+        let mut at_once = SqliteStore::open(folder.join("other.db")).unwrap();
+        at_once.keep(&changes()).unwrap();
+        assert_eq!(at_once.load().unwrap(), expected);
+        assert!(SqliteStore::open(folder.join("other.db")).is_err(), "one process at a time");
+        std::fs::remove_dir_all(&folder).unwrap();
+    }
+
+    #[test]
+    fn a_batch_is_kept_whole_or_not_at_all() {
+        let mut store = SqliteStore::open(":memory:").err();
+        assert!(store.take().is_some(), "a store in memory has no WAL");
+        let folder = std::env::temp_dir().join(format!("krl-batch-{}", std::process::id()));
+        std::fs::create_dir_all(&folder).unwrap();
+        let mut store = SqliteStore::open(folder.join("table.db")).unwrap();
+        let bad = Change::Registered { client: 1, incarnation: u64::MAX };
+        assert!(store.keep(&[Change::Started { epoch: 4 }, bad]).is_err());
+        assert_eq!(store.load().unwrap(), Saved::default());
+        std::fs::remove_dir_all(&folder).unwrap();
+    }
+}

@@ -1,0 +1,181 @@
+//! What an operator sees of a server.
+use crate::watch::Wait;
+use std::fmt::{self, Write};
+
+/// A server at one moment.
+#[derive(Clone, Debug, Default, PartialEq, Eq)]
+pub struct Status {
+    /// How many times a server has started on this store.
+    pub epoch: u64,
+    /// It answers requests. Otherwise it waits for the reports of the clients in `missing`.
+    pub is_serving: bool,
+    /// The clients that have to report, or be evicted, before the server serves.
+    pub missing: Vec<u8>,
+    /// The clients that are connected.
+    pub connected: Vec<u8>,
+    /// The clients that wait for a lock.
+    pub waits: Vec<Wait>,
+    /// The clients whose report contradicted what the server knows, each once: two processes under
+    /// one number, or a server on an older store.
+    pub alarms: Vec<u8>,
+    /// How many such reports came.
+    pub alarms_raised: u64,
+    /// The open connections, those of strangers too.
+    pub connections: u64,
+    /// The messages that were taken.
+    pub taken: u64,
+    /// The messages that were sent.
+    pub sent: u64,
+    /// The strings that were no message. Each ended its connection.
+    pub refused: u64,
+    /// The repeats of pushes that were held back.
+    pub held_back: u64,
+    /// The changes that were kept.
+    pub changes: u64,
+    /// How often the store was asked to keep changes.
+    pub keeps: u64,
+}
+
+impl Status {
+    /// The status in Prometheus' text format.
+    pub fn prometheus(&self) -> String {
+        let mut text = String::new();
+        for (name, kind, value) in self.numbers() {
+            line(&mut text, format_args!("# TYPE krl_{name} {kind}\nkrl_{name} {value}"));
+        }
+        self.put_clients(&mut text);
+        text
+    }
+
+    fn numbers(&self) -> [(&'static str, &'static str, u64); 10] {
+        [
+            ("epoch", "gauge", self.epoch),
+            ("serving", "gauge", self.is_serving.into()),
+            ("connections", "gauge", self.connections),
+            ("alarms_total", "counter", self.alarms_raised),
+            ("messages_taken_total", "counter", self.taken),
+            ("messages_sent_total", "counter", self.sent),
+            ("messages_refused_total", "counter", self.refused),
+            ("pushes_held_back_total", "counter", self.held_back),
+            ("changes_total", "counter", self.changes),
+            ("keeps_total", "counter", self.keeps),
+        ]
+    }
+
+    fn put_clients(&self, text: &mut String) {
+        line(text, format_args!("# TYPE krl_missing gauge"));
+        for client in &self.missing {
+            line(text, format_args!("krl_missing{{client=\"{client}\"}} 1"));
+        }
+        line(text, format_args!("# TYPE krl_connected gauge"));
+        for client in &self.connected {
+            line(text, format_args!("krl_connected{{client=\"{client}\"}} 1"));
+        }
+        line(text, format_args!("# TYPE krl_wait_seconds gauge"));
+        for wait in &self.waits {
+            let Wait { client, point, mode, .. } = wait;
+            let seconds = wait.waited.as_secs_f64();
+            let labels =
+                format_args!("client=\"{client}\",point=\"{point}\",mode=\"{mode}\"").to_string();
+            line(text, format_args!("krl_wait_seconds{{{labels}}} {seconds}"));
+        }
+        line(text, format_args!("# TYPE krl_waits_for gauge"));
+        for (client, other) in self.pairs() {
+            line(text, format_args!("krl_waits_for{{client=\"{client}\",other=\"{other}\"}} 1"));
+        }
+    }
+
+    /// Each client that waits, with each one that it waits for.
+    fn pairs(&self) -> impl Iterator<Item = (u8, u8)> {
+        self.waits.iter().flat_map(|wait| wait.waits_for.iter().map(|other| (wait.client, *other)))
+    }
+}
+
+/// A line of text. Writing to a string does not fail.
+fn line(text: &mut String, words: fmt::Arguments<'_>) {
+    let _ = writeln!(text, "{words}");
+}
+
+fn list(clients: &[u8]) -> String {
+    match clients {
+        [] => "nobody".to_string(),
+        _ => clients.iter().map(u8::to_string).collect::<Vec<_>>().join(", "),
+    }
+}
+
+impl fmt::Display for Status {
+    fn fmt(&self, f: &mut fmt::Formatter<'_>) -> fmt::Result {
+        let phase = if self.is_serving { "serving" } else { "gathering reports" };
+        writeln!(f, "epoch {}, {phase}", self.epoch)?;
+        if !self.is_serving {
+            writeln!(f, "missing: {}", list(&self.missing))?;
+        }
+        writeln!(f, "connected: {} ({} connections)", list(&self.connected), self.connections)?;
+        for wait in &self.waits {
+            let Wait { client, point, mode, .. } = wait;
+            let (ms, whom) = (wait.waited.as_millis(), list(&wait.waits_for));
+            writeln!(
+                f,
+                "client {client} waits for {mode} at {point} for {ms} ms: called back: {whom}"
+            )?;
+        }
+        if !self.alarms.is_empty() {
+            writeln!(
+                f,
+                "ALARM: the report of {} contradicts what the server knows",
+                list(&self.alarms)
+            )?;
+        }
+        let Status { taken, sent, refused, held_back, .. } = self;
+        writeln!(
+            f,
+            "messages: {taken} taken, {sent} sent, {refused} refused, {held_back} held back"
+        )?;
+        writeln!(f, "store: {} changes in {} transactions", self.changes, self.keeps)
+    }
+}
+
+#[cfg(test)]
+mod tests {
+    use super::*;
+    use std::time::Duration;
+
+    fn status() -> Status {
+        let wait = Wait {
+            client: 3,
+            point: 10,
+            mode: "RangeX-X",
+            waited: Duration::from_millis(40),
+            waits_for: vec![0, 2],
+        };
+        Status {
+            epoch: 4,
+            missing: vec![1],
+            connected: vec![0, 3],
+            waits: vec![wait],
+            ..Status::default()
+        }
+    }
+
+    #[test]
+    fn text() {
+        let text = status().to_string();
+        assert!(text.starts_with(
+            "epoch 4, gathering reports\nmissing: 1\nconnected: 0, 3 (0 connections)\n"
+        ));
+        assert!(text.contains("client 3 waits for RangeX-X at 10 for 40 ms: called back: 0, 2\n"));
+        assert!(!text.contains("ALARM"));
+    }
+
+    #[test]
+    fn prometheus() {
+        let text = status().prometheus();
+        assert!(text.contains("# TYPE krl_epoch gauge\nkrl_epoch 4\n"));
+        assert!(text.contains("krl_missing{client=\"1\"} 1\n"));
+        assert!(
+            text.contains("krl_wait_seconds{client=\"3\",point=\"10\",mode=\"RangeX-X\"} 0.04\n")
+        );
+        assert!(text.contains("krl_waits_for{client=\"3\",other=\"2\"} 1\n"));
+        assert!(text.lines().all(|line| line.len() < 200 && !line.is_empty()));
+    }
+}

@@ -1,0 +1,187 @@
+//! Each call of a client, over TCP and over a Unix socket.
+use krl::{Address, Client, JoinError, Listener, LockFileError, MemoryStore, Outcome, Refused};
+use krl::{Row, Server, Value, evict};
+use std::path::{Path, PathBuf};
+use std::thread;
+use std::time::Duration;
+
+/// A folder that is gone when the test is.
+struct Folder(PathBuf);
+
+impl Folder {
+    fn new(name: &str) -> Folder {
+        let folder = std::env::temp_dir().join(format!("krl-calls-{}-{name}", std::process::id()));
+        std::fs::create_dir_all(&folder).unwrap();
+        Folder(folder)
+    }
+
+    fn lock(&self, number: u8) -> PathBuf {
+        self.0.join(format!("client-{number}.lock"))
+    }
+
+    fn join(&self, server: &Server, number: u8) -> Client {
+        Client::join(server.address().clone(), number, self.lock(number)).unwrap()
+    }
+}
+
+impl Drop for Folder {
+    fn drop(&mut self) {
+        let _ = std::fs::remove_dir_all(&self.0);
+    }
+}
+
+fn server(address: &str) -> Server {
+    let listener = Listener::bind(&address.parse().unwrap()).unwrap();
+    Server::start(listener, MemoryStore::default()).unwrap()
+}
+
+fn value(text: &str) -> Value {
+    Value::new(text.as_bytes()).unwrap()
+}
+
+fn row(key: u64, text: &str) -> Row {
+    Row { key, value: value(text) }
+}
+
+fn each_call(server: &Server, folder: &Folder) {
+    let (first, second) = (folder.join(server, 0), folder.join(server, 63));
+    assert_eq!(first.cached(0..100), None);
+    assert_eq!(first.read(0..100), Ok(vec![]));
+    assert_eq!(first.cached(0..100), Some(vec![]));
+    assert_eq!(second.insert(20, value("b")), Ok(Outcome::Applied));
+    assert_eq!(second.insert(10, value("a")), Ok(Outcome::Applied));
+    assert_eq!(second.insert(10, value("z")), Ok(Outcome::Exists));
+    assert_eq!(first.read(0..100), Ok(vec![row(10, "a"), row(20, "b")]));
+    assert_eq!(second.put(20, value("c")), Ok(Outcome::Applied));
+    assert_eq!(second.put(21, value("c")), Ok(Outcome::Absent));
+    assert_eq!(first.read(20..21), Ok(vec![row(20, "c")]));
+    assert_eq!(first.delete(10), Ok(Outcome::Applied));
+    assert_eq!(first.delete(10), Ok(Outcome::Absent));
+    assert_eq!(second.read(0..100), Ok(vec![row(20, "c")]));
+    assert_eq!(second.forget(0..100), Ok(()));
+    assert_eq!(second.cached(0..100), None);
+    assert_eq!(first.leave(), Ok(()));
+    assert_eq!(second.leave(), Ok(()));
+}
+
+#[test]
+fn calls_over_tcp() {
+    let folder = Folder::new("tcp");
+    let server = server("127.0.0.1:0");
+    each_call(&server, &folder);
+    let status = server.status();
+    assert!(status.is_serving && status.refused == 0 && status.alarms.is_empty(), "{status}");
+    server.stop().unwrap();
+}
+
+#[test]
+fn calls_over_a_unix_socket() {
+    let folder = Folder::new("unix");
+    let address = format!("unix:{}", folder.0.join("socket").display());
+    for _ in 0..2 {
+        let server = server(&address);
+        each_call(&server, &folder);
+        server.stop().unwrap();
+    }
+}
+
+#[test]
+fn a_file_that_is_no_socket_is_left_alone() {
+    let folder = Folder::new("file");
+    let file = folder.0.join("file");
+    std::fs::write(&file, "mine").unwrap();
+    assert!(Listener::bind(&Address::Unix(file.clone())).is_err());
+    assert_eq!(std::fs::read_to_string(file).unwrap(), "mine");
+}
+
+#[test]
+fn what_is_refused() {
+    let folder = Folder::new("refused");
+    let server = server("127.0.0.1:0");
+    let mut client = folder.join(&server, 1);
+    assert_eq!(client.read(5..5), Err(Refused::BadRange));
+    assert_eq!(client.read(0..u64::MAX), Err(Refused::BadRange));
+    assert_eq!(client.insert(krl::END, Value::default()), Err(Refused::BadKey));
+    assert_eq!(client.cached(5..5), None);
+    assert_eq!(client.read(0..1 << 63), Ok(vec![]));
+    let join = |number, lock: &Path| {
+        let wait = Duration::from_millis(300);
+        Client::join_within(server.address().clone(), number, lock, wait).err()
+    };
+    let taken = join(1, &folder.lock(1));
+    assert!(matches!(taken, Some(JoinError::LockFile(LockFileError::Taken))));
+    let strange = join(2, &folder.0.join("none").join("lock"));
+    assert!(matches!(strange, Some(JoinError::LockFile(LockFileError::File(_)))));
+    assert!(matches!(join(64, &folder.lock(2)), Some(JoinError::BadNumber)));
+    let pins: Vec<_> = (0..8).map(|lo| client.pin(lo..lo + 1).unwrap()).collect();
+    assert_eq!(client.pin(0..1).err(), Some(Refused::TooManyPins));
+    assert_eq!(client.forget(0..4), Err(Refused::Pinned));
+    drop(pins);
+    assert_eq!(client.forget(0..4), Ok(()));
+    server.stop().unwrap();
+    client.set_patience(Duration::from_millis(200));
+    assert_eq!(client.read(0..9), Err(Refused::Unanswered));
+    assert_eq!(client.leave(), Err(Refused::Unanswered));
+}
+
+#[test]
+fn a_server_that_does_not_run_answers_nobody() {
+    let folder = Folder::new("nobody");
+    let address: Address = "127.0.0.1:1".parse().unwrap();
+    let joined = Client::join_within(address, 1, folder.lock(1), Duration::from_millis(200));
+    assert!(matches!(joined.err(), Some(JoinError::NoAnswer)));
+}
+
+#[test]
+fn a_pin_keeps_others_waiting() {
+    let folder = Folder::new("pin");
+    let server = server("127.0.0.1:0");
+    let (reader, writer) = (folder.join(&server, 1), folder.join(&server, 2));
+    writer.insert(10, value("a")).unwrap();
+    reader.read(0..11).unwrap();
+    let pin = reader.pin(0..11).unwrap();
+    thread::scope(|scope| {
+        let put = scope.spawn(|| writer.put(10, value("b")));
+        thread::sleep(Duration::from_millis(300));
+        assert_eq!(reader.cached(0..11), Some(vec![row(10, "a")]));
+        let waits = server.status().waits;
+        assert!(waits.iter().any(|wait| wait.client == 2 && wait.waits_for == [1]), "{waits:?}");
+        drop(pin);
+        assert_eq!(put.join().unwrap(), Ok(Outcome::Applied));
+    });
+    assert_eq!(reader.read(0..11), Ok(vec![row(10, "b")]));
+}
+
+#[test]
+fn an_evicted_client_keeps_nobody_waiting() {
+    let folder = Folder::new("evict");
+    let server = server("127.0.0.1:0");
+    let (address, living) = (server.address().clone(), folder.join(&server, 1));
+    living.insert(10, value("a")).unwrap();
+    assert!(evict(address.clone(), 1, folder.lock(1)).is_err(), "its process lives");
+    // A client that is gone without a Bye: this one's thread goes on, but nobody hears it after the eviction.
+    evict(address, 1, folder.0.join("lost.lock")).unwrap();
+    let other = folder.join(&server, 2);
+    assert_eq!(other.put(10, value("b")), Ok(Outcome::Applied));
+}
+
+#[test]
+fn threads_share_a_client() {
+    let folder = Folder::new("threads");
+    let server = server("127.0.0.1:0");
+    let client = folder.join(&server, 1);
+    thread::scope(|scope| {
+        for place in 0..4u64 {
+            let client = &client;
+            scope.spawn(move || {
+                for turn in 0..25u64 {
+                    let key = 100 * place + turn;
+                    assert_eq!(client.insert(key, Value::from(turn)), Ok(Outcome::Applied));
+                    let rows = client.read(100 * place..key + 1).unwrap();
+                    assert_eq!(rows.len() as u64, turn + 1);
+                }
+            });
+        }
+    });
+    assert_eq!(client.read(0..1000).unwrap().len(), 100);
+}

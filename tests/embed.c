@@ -1,0 +1,97 @@
+/* Runs a server and a client through the exports of krl_embed in one process, and refuses each allocation in turn.
+ *
+ *     embed N      the Nth allocation is refused (none where N is 0)
+ *
+ * A call that is refused for want of memory is made again, and must then be done; what is lost is said again by a tick. In
+ * the end the client must have read and written what it has without a refusal. The status is 0 where it has, 1 where it
+ * has not, and 2 where fewer than N allocations were made.
+ */
+#include "krl.h"
+#include <stdio.h>
+#include <stdlib.h>
+#include <string.h>
+
+static long refused, seen;
+
+void *__real_malloc(size_t size);
+void *__real_realloc(void *at, size_t size);
+
+static bool refuses(void) { return ++seen == refused; }
+void *__wrap_malloc(size_t size) { return refuses() ? NULL : __real_malloc(size); }
+void *__wrap_realloc(void *at, size_t size) { return refuses() ? NULL : __real_realloc(at, size); }
+
+static void want(bool holds, const char *what) {
+    if (!holds) {
+        fprintf(stderr, "embed %ld: %s\n", refused, what);
+        exit(1);
+    }
+}
+
+/* A call that is refused for want of memory is made again. */
+#define AGAIN(reply, call)                                                                                             \
+    do {                                                                                                               \
+        reply = call;                                                                                                  \
+        if (reply.code == KRL_OUT_OF_MEMORY) reply = call;                                                             \
+        want(reply.code == KRL_DONE || reply.code == KRL_UNSAID, #call);                                               \
+    } while (0)
+
+static int changes;
+
+static void hand_over(krl_handle *from, krl_handle *to, bool to_server) {
+    static uint8_t bytes[65536];
+    krl_reply taken = krl_take(from, bytes, sizeof bytes), reply;
+    want(taken.code == KRL_DONE, "take");
+    for (uint64_t at = 0, length; at < taken.detail; at += length) {
+        memcpy(&length, bytes + at, 8);
+        at += 8;
+        if (to_server) {
+            krl_stepped stepped = krl_server_step(to, bytes + at, length);
+            if (stepped.reply.code == KRL_OUT_OF_MEMORY) {
+                want(stepped.change.kind == KRL_UNCHANGED, "a refused step has changed something");
+                stepped = krl_server_step(to, bytes + at, length);
+            }
+            want(stepped.reply.code == KRL_DONE || stepped.reply.code == KRL_UNSAID, "step of the server");
+            changes += stepped.change.kind != KRL_UNCHANGED;
+        } else {
+            AGAIN(reply, krl_client_step(to, bytes + at, length));
+        }
+    }
+}
+
+static void talk(krl_handle *client, krl_handle *server) {
+    krl_reply reply;
+    for (int i = 0; i < 4; i++) {
+        hand_over(client, server, true);
+        hand_over(server, client, false);
+        AGAIN(reply, krl_client_tick(client));
+    }
+}
+
+int main(int count, char **words) {
+    krl_handle server = {0}, client = {0};
+    krl_row entries[] = {{10, 2, {1, 2}}, {20, 0, {0}}, {30, 1, {7}}}, rows[4];
+    krl_reply reply;
+    refused = count > 1 ? atol(words[1]) : 0;
+    AGAIN(reply, krl_server_open(&server, 0, entries, 3, NULL, 0));
+    want(reply.detail == 1, "the epoch");
+    AGAIN(reply, krl_client_open(&client, 3, 1));
+    talk(&client, &server);
+    AGAIN(reply, krl_client_lock(&client, 0, 100, KRL_RANGE_X_X));
+    talk(&client, &server);
+    AGAIN(reply, krl_client_insert(&client, 15, (const uint8_t *)"abc", 3));
+    talk(&client, &server);
+    krl_client_state state = krl_client_status(&client);
+    want(state.write == KRL_WRITE_JUDGED && state.outcome == KRL_APPLIED && state.number == 1, "the write");
+    AGAIN(reply, krl_client_scan(&client, 0, 21, rows, 4));
+    want(reply.detail == 3 && rows[1].key == 15 && rows[1].length == 3 && !memcmp(rows[1].bytes, "abc", 4), "the scan");
+    want(krl_client_scan(&client, 0, 21, rows, 2).code == KRL_TOO_SHORT, "a room that is too short");
+    AGAIN(reply, krl_client_leave(&client));
+    want(krl_client_tick(&client).code == KRL_GONE, "a client that has left");
+    AGAIN(reply, krl_client_leave(&client));
+    hand_over(&client, &server, true);
+    want(krl_server_record(&server, 3).record.left == 1 && changes == 3, "what was kept");
+    krl_close(&client);
+    krl_close(&server);
+    want(krl_client_tick(&client).code == KRL_CLOSED && krl_take(&server, NULL, 0).code == KRL_CLOSED, "closed");
+    return seen < refused ? 2 : 0;
+}
