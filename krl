@@ -74,7 +74,7 @@ run_unproved() {
     status=0
     (cd "$crate" && rt try --seconds "$seconds" -- "$@" 2>"$work/said") || status=$?
     if grep -q '^run=ended' "$work/said"; then
-        grep -v -e '^checked: ' -e '^interpreter: ' -e '^run=' "$work/said" >&2 || :
+        grep -v -e '^checked: ' -e '^interpreter: ' -e '^races: ' -e '^run=' "$work/said" >&2 || :
     else
         cat "$work/said" >&2
         say "no answer: an unproved run has room for 1 MiB of output, and for $seconds seconds; a proved one has no such limit"
