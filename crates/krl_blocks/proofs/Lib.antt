@@ -11,3 +11,4 @@ pub mod Apart
 pub mod Shelving
 pub mod Storing
 pub mod Changing
+mod Guesses

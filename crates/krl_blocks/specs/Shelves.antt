@@ -10,7 +10,8 @@ pub record Shelved (V : Type 0) : Type 0 where
   pub most : ℕ
 
 -- one block has other entries
-pub record IsOneOther {V : Type 0} (xs ys : List (List (ℕ × V))) (b : ℕ) (How : List (ℕ × V) → List (ℕ × V) → Type 0) : Type 0 where
+pub record IsOneOther
+    {V : Type 0} (xs ys : List (List (ℕ × V))) (b : ℕ) (How : List (ℕ × V) → List (ℕ × V) → Type 0) : Type 0 where
   pub block : List (ℕ × V)
   pub other : List (ℕ × V)
   pub there : Some block ≡ slice_get xs b

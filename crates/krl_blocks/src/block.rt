@@ -1,4 +1,5 @@
-//! One block of a shelf: entries whose keys rise.
+//! One block of a shelf: entries whose keys rise. Where an entry is looked for, the guess of its
+//! place is looked at first.
 ghost use Rattle.std.specs.Prelude.{◌≡◌, ◌<◌, length, IfSome, MatchOption, slice_get, ◌++◌, ◌∷◌, []};
 ghost use Rattle.krl_blocks.specs.Entries.{KeysRise, NoKey, IsInserted, IsRemoved, IsChanged};
 ghost use Rattle.krl_blocks.specs.Shelves.{IsOneOther};
@@ -8,14 +9,14 @@ use crate::search::count_keys;
 use crate::shelf::{MOST, Shelf};
 
 /// Puts an entry of a key that no entry has into the block there, which has room for it.
-pub fn put_in<V: Copy + Drop>(shelf: &mut Shelf<V>, b: usize, key: u64, value: V)
+pub fn put_in<V: Copy + Drop>(shelf: &mut Shelf<V>, b: usize, key: u64, value: V, guess: usize)
     requires within { b < length shelf.old.blocks }
     requires rising { IfSome (slice_get shelf.old.blocks b) (λ x. KeysRise x) }
     requires room { IfSome (slice_get shelf.old.blocks b) (λ x. length x < 64) }
     ensures one { IsOneOther shelf.old.blocks shelf.new.blocks b (λ x y. IsInserted x y key value) }
     ensures most { shelf.new.most ≡ shelf.old.most }
 {
-    let i = count_keys(shelf.get(b), key);
+    let i = count_keys(shelf.get(b), key, guess);
     shelf.put(b, i, (key, value));
 }
 
@@ -31,7 +32,12 @@ pub fn push_in<V: Copy + Drop>(shelf: &mut Shelf<V>, b: usize, key: u64, value: 
 }
 
 /// Takes the entry of the key out of the block there, and answers its value.
-pub fn take_from<V: Copy + Drop>(shelf: &mut Shelf<V>, b: usize, key: u64) -> Option<V>
+pub fn take_from<V: Copy + Drop>(
+    shelf: &mut Shelf<V>,
+    b: usize,
+    key: u64,
+    guess: usize,
+) -> Option<V>
     requires within { b < length shelf.old.blocks }
     requires rising { IfSome (slice_get shelf.old.blocks b) (λ x. KeysRise x) }
     ensures one { IsOneOther shelf.old.blocks shelf.new.blocks b
@@ -39,7 +45,7 @@ pub fn take_from<V: Copy + Drop>(shelf: &mut Shelf<V>, b: usize, key: u64) -> Op
     ensures most { shelf.new.most ≡ shelf.old.most }
 {
     let block = shelf.get(b);
-    let i = count_keys(block, key);
+    let i = count_keys(block, key, guess);
     match block.get(i) {
         Some(entry) if entry.0 == key => {
             let value = entry.1;
@@ -51,7 +57,13 @@ pub fn take_from<V: Copy + Drop>(shelf: &mut Shelf<V>, b: usize, key: u64) -> Op
 }
 
 /// Gives the entry of the key in the block there another value, and answers the one before.
-pub fn set_in<V: Copy + Drop>(shelf: &mut Shelf<V>, b: usize, key: u64, value: V) -> Option<V>
+pub fn set_in<V: Copy + Drop>(
+    shelf: &mut Shelf<V>,
+    b: usize,
+    key: u64,
+    value: V,
+    guess: usize,
+) -> Option<V>
     requires within { b < length shelf.old.blocks }
     requires rising { IfSome (slice_get shelf.old.blocks b) (λ x. KeysRise x) }
     ensures one { IsOneOther shelf.old.blocks shelf.new.blocks b
@@ -59,7 +71,7 @@ pub fn set_in<V: Copy + Drop>(shelf: &mut Shelf<V>, b: usize, key: u64, value: V
     ensures most { shelf.new.most ≡ shelf.old.most }
 {
     let block = shelf.get(b);
-    let i = count_keys(block, key);
+    let i = count_keys(block, key, guess);
     match block.get(i) {
         Some(entry) if entry.0 == key => {
             let was = entry.1;

@@ -126,6 +126,17 @@ impl<V: Copy + Drop> Blocks<V> {
         }
     }
 
+    /// As `get`; and later searches begin where the key stands. So what is done next at the key, or
+    /// at the one behind it, needs no search.
+    pub fn reach(&mut self, key: u64) -> Option<V>
+        ensures value { MatchOption result (NoKey key self.old.list)
+            (λ v. HasEntry self.old.list key v) }
+        ensures same { self.new ≡ self.old }
+    {
+        self.layout.seek(key);
+        self.get(key)
+    }
+
     /// Puts in an entry of a key that no entry has. It takes no memory: there is room.
     pub fn insert(&mut self, key: u64, value: V)
         requires new { NoKey key self.old.list }

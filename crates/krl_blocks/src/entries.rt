@@ -1,5 +1,5 @@
 //! All entries, as they lie.
-ghost use Rattle.std.specs.Prelude.{◌≡◌, ◌<◌, length, slice_get, Some, []};
+ghost use Rattle.std.specs.Prelude.{◌≡◌, ◌<◌, length, slice_get, Some};
 ghost use Rattle.krl_blocks.specs.Runs.{runs_of};
 
 use crate::shelf::Shelf;
@@ -12,13 +12,6 @@ pub struct Entries<'a, V> {
 }
 
 impl<'a, V: Copy + Drop> Entries<'a, V> {
-    /// No entries.
-    pub fn none() -> Entries<'a, V>
-        ensures { runs_of result ≡ [] }
-    {
-        Entries { shelf: None }
-    }
-
     /// How many runs there are.
     pub fn len(&self) -> usize
         ensures { result ≡ length (runs_of self.now) }

@@ -5,6 +5,7 @@ ghost use Rattle.krl_blocks.specs.Entries.{NoKey, IsFound, IsInserted, IsRemoved
 ghost use Rattle.krl_blocks.specs.Laid.{flat, last_length, is_thin, IsKept, IsShort, IsNearly, IsMergeable, IsParted};
 
 use crate::block::{halve, push_in, put_in, set_in, take_from};
+use crate::finger::Finger;
 use crate::found::Found;
 use crate::search::{count_keys, count_tops};
 use crate::shelf::{MOST, Shelf};
@@ -21,6 +22,8 @@ pub struct Layout<V> {
     pub tops: Vec<u64>,
     /// The blocks, in key order.
     pub shelf: Shelf<V>,
+    /// Where a search begins.
+    finger: Finger,
 }
 
 impl<V: Copy + Drop> Layout<V> {
@@ -32,6 +35,7 @@ impl<V: Copy + Drop> Layout<V> {
         Layout {
             tops: Vec::new(alloc),
             shelf: Shelf::new(alloc),
+            finger: Finger { block: 0, entry: 0 },
         }
     }
 
@@ -58,7 +62,7 @@ impl<V: Copy + Drop> Layout<V> {
         ensures { IsFound (flat self.now.shelf.blocks) point result.before result.run.now }
     {
         let tops: &[u64] = &self.tops;
-        let b = count_tops(tops, point);
+        let b = count_tops(tops, point, self.finger.block);
         let (front, _) = tops.split_at(b);
         let last = front.last().copied();
         if b >= self.shelf.len() {
@@ -68,7 +72,8 @@ impl<V: Copy + Drop> Layout<V> {
             };
         }
         let entries = self.shelf.get(b);
-        let (below, run) = entries.split_at(count_keys(entries, point));
+        let count = count_keys(entries, point, self.finger.entry);
+        let (below, run) = entries.split_at(count);
         match below.last() {
             None => Found { before: last, run },
             Some(entry) => Found {
@@ -76,6 +81,22 @@ impl<V: Copy + Drop> Layout<V> {
                 run,
             },
         }
+    }
+
+    /// Later searches begin where the point stands.
+    pub fn seek(&mut self, point: u64)
+        requires kept { IsKept self.old.tops self.old.shelf }
+        ensures tops { self.new.tops ≡ self.old.tops }
+        ensures shelf { self.new.shelf ≡ self.old.shelf }
+    {
+        let tops: &[u64] = &self.tops;
+        let b = count_tops(tops, point, self.finger.block);
+        let mut entry = 0;
+        if b < self.shelf.len() {
+            let entries = self.shelf.get(b);
+            entry = count_keys(entries, point, self.finger.entry);
+        }
+        self.finger = Finger { block: b, entry };
     }
 
     /// Gives the entry of the key another value, and answers the one before.
@@ -87,9 +108,9 @@ impl<V: Copy + Drop> Layout<V> {
             (NoKey key (flat self.old.shelf.blocks) × (flat self.new.shelf.blocks ≡ flat self.old.shelf.blocks))
             (λ was. IsChanged (flat self.old.shelf.blocks) (flat self.new.shelf.blocks) key value was) }
     {
-        let b = count_tops(&self.tops, key);
+        let b = count_tops(&self.tops, key, self.finger.block);
         if b < self.shelf.len() {
-            set_in(&mut self.shelf, b, key, value)
+            set_in(&mut self.shelf, b, key, value, self.finger.entry)
         } else {
             None
         }
@@ -120,7 +141,7 @@ impl<V: Copy + Drop> Layout<V> {
         ensures room { IfSome (slice_get self.new.shelf.blocks result) (λ x. length x < 64) }
         ensures some { length self.new.shelf.blocks ≤ result → length self.new.shelf.blocks < self.new.shelf.most }
     {
-        let b = count_tops(&self.tops, key);
+        let b = count_tops(&self.tops, key, self.finger.block);
         if b >= self.shelf.len() || self.shelf.get(b).len() < MOST {
             return b;
         }
@@ -157,7 +178,7 @@ impl<V: Copy + Drop> Layout<V> {
         ensures inserted { IsInserted (flat self.old.shelf.blocks) (flat self.new.shelf.blocks) key value }
     {
         if b < self.shelf.len() {
-            put_in(&mut self.shelf, b, key, value);
+            put_in(&mut self.shelf, b, key, value, self.finger.entry);
         } else if self.last_is_full() {
             self.append(key, value);
         } else {
@@ -210,11 +231,11 @@ impl<V: Copy + Drop> Layout<V> {
             (NoKey key (flat self.old.shelf.blocks) × (flat self.new.shelf.blocks ≡ flat self.old.shelf.blocks))
             (λ v. IsRemoved (flat self.old.shelf.blocks) (flat self.new.shelf.blocks) key v) }
     {
-        let b = count_tops(&self.tops, key);
+        let b = count_tops(&self.tops, key, self.finger.block);
         if b >= self.shelf.len() {
             return None;
         }
-        let value = take_from(&mut self.shelf, b, key)?;
+        let value = take_from(&mut self.shelf, b, key, self.finger.entry)?;
         self.settle(b);
         Some(value)
     }

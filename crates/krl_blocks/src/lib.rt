@@ -4,6 +4,7 @@
 mod block;
 mod blocks;
 mod entries;
+mod finger;
 mod found;
 mod halves;
 mod layout;

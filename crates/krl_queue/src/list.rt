@@ -1,6 +1,7 @@
 //! Lists of waiters.
-ghost use Rattle.std.specs.Prelude.{◌≡◌, ◌↔◌, [], ◌∷◌, ◌++◌, length, drop, min, slice_get, IsTrue, MatchOption};
-ghost use Rattle.krl_queue.specs.Waiting.{first_of, without_first, up_to, beyond};
+ghost use Rattle.std.specs.Prelude.{◌≡◌, ◌↔◌, [], ◌∷◌, ◌++◌, length, drop, min, slice_get, IsTrue};
+ghost use Rattle.std.specs.Prelude.{MatchOption};
+ghost use Rattle.krl_queue.specs.Waiting.{first_of, without_first, up_to, beyond, goes_before};
 
 use crate::chain::Chain;
 use crate::loose::Loose;
@@ -93,6 +94,27 @@ impl WaitList {
             return None;
         }
         Some(*self.chain.waiter(self.head, &Index::first()))
+    }
+
+    /// Whether the other client waits, and the client does not wait before it. It takes time in
+    /// proportion to the places that it passes.
+    pub fn goes_before(&self, client: u64, other: u64) -> bool
+        ensures { result ≡ goes_before client other self.now }
+    {
+        let mut at = self.head;
+        let mut i = Index::first();
+        while !at.is_null() {
+            let waits = self.chain.waiter(at, &i).client;
+            if waits == client {
+                return false;
+            }
+            if waits == other {
+                return true;
+            }
+            at = self.chain.next(at, &i);
+            i = i.next();
+        }
+        false
     }
 
     /// Takes the first waiter out and frees its node; None where nobody waits. It takes constant

@@ -91,7 +91,7 @@ impl<V: Drop> Store<V> {
             → length (map.entries self.old.map) < self.old.room }
         ensures { self.new ≡ record self.old { map = map.insert self.old.map key value } }
     {
-        match self.places.get(key) {
+        match self.places.reach(key) {
             Some(place) => {
                 exchange(&mut self.values, place, value);
             }
@@ -110,7 +110,7 @@ impl<V: Drop> Store<V> {
             (self.new ≡ record self.old { map = map.insert self.old.map key value }) }
         ensures none { IfNone result (self.new ≡ self.old) }
     {
-        let place = self.places.get(key)?;
+        let place = self.places.reach(key)?;
         Some(exchange(&mut self.values, place, value))
     }
 

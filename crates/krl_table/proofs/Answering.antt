@@ -6,14 +6,13 @@ use Rattle.std.specs.FinMap.{get}
 use Rattle.krl_modes.specs.declared.point.TheConstants.{END}
 use Rattle.krl_modes.specs.Modes.{needs_entry}
 use Rattle.krl_queue.specs.declared.waiter.Waiter.{Waiter}
-use Rattle.krl_durable.specs.Index.{Index, slot_of, is_slot, IsSlotOf}
+use Rattle.krl_durable.specs.Index.{Index, IsSlotOf}
 use Rattle.krl_table.specs.declared.reply.Reply.TheVariants as reply
-use Rattle.krl_table.specs.declared.row.SlotRow.{SlotRow}
 use Rattle.krl_table.specs.Rows.{Row, row_fits, front_of}
 use Rattle.krl_table.specs.Calls.{wanted}
 use Rattle.krl_table.specs.Replies.{asks_absent, lacks_entry, can_have, first_reply, first_reply_on, row_reply}
-use Rattle.krl_table.specs.Kept.{Kept, row_of, row_there, rows_of, IsOver, In}
-use Rattle.krl_table.proofs.Means.{eq_cases, row-there}
+use Rattle.krl_table.specs.Kept.{Kept, rows_of, IsOver, In}
+use Rattle.krl_table.proofs.Means.{eq_cases}
 use Rattle.krl_table.proofs.Slots.{none_false, next_of}
 
 -- the waiter stands on the slot of its point, so its point is a key exactly where it is that slot, below END

@@ -1,6 +1,6 @@
 -- Changes of many rows: a client is cleared, or lowered on a span.
-use Rattle.std.proofs.Common.{◌≡◌, ◌≢◌, ℕ, suc, ◌+◌, ◌≤◌, ◌<◌, Bool, true, false, not, cond, ◌&&◌, List, [], ◌∷◌, Option, Some, None, IsSome, IfSome, set, refl, sym, ap, subst, ◌∙◌, ⊎_elim, arith}
-use Rattle.std.proofs.Common.{nat_eq, ltb-true, ltb-false}
+use Rattle.std.proofs.Common.{◌≡◌, ℕ, suc, ◌+◌, ◌≤◌, ◌<◌, Bool, true, false, not, cond, ◌&&◌, List, [], ◌∷◌, Option, Some, None, IsSome, set, refl, sym, ap, subst, ◌∙◌, ⊎_elim, arith}
+use Rattle.std.proofs.Common.{nat_eq}
 use Rattle.std.proofs.lemmas.Bool.{cases_lt}
 use Rattle.std.proofs.lemmas.Bool.Decides.{nat_tests}
 use Rattle.std.proofs.lemmas.List.Sums.{sum_by-cons}
@@ -13,18 +13,18 @@ use Rattle.krl_modes.specs.Modes.{meet}
 use Rattle.krl_modes.specs.Spans.{Bounds, within}
 use Rattle.krl_queue.specs.declared.waiter.Waiter.{Waiter}
 use Rattle.krl_queue.specs.Waiting.{without_first}
-use Rattle.krl_durable.specs.Index.{Index, slot_of, low_of, span_of, is_slot, IsSlotOf}
+use Rattle.krl_durable.specs.Index.{Index, low_of, span_of, is_slot, IsSlotOf}
 use Rattle.krl_table.specs.declared.row.SlotRow.{SlotRow}
 use Rattle.krl_table.specs.Rows.{Row, blank_row, set_mode, mode_at}
 use Rattle.krl_table.specs.Calls.{with_mode, unqueue, cleared, lowered}
 use Rattle.krl_table.specs.Kept.{Kept, row_there, rows_of, cleared_row, lowered_between, IsAll, IsOver, IsSound, AreBeside, AreListed, In, times}
 use Rattle.krl_table.proofs.Means.{eq_cases}
-use Rattle.krl_table.proofs.Alone.{alone_here, times_fewer, none_times, in_times}
+use Rattle.krl_table.proofs.Alone.{alone_here, times_fewer}
 use Rattle.krl_table.proofs.Besides.{cleared_beside, lowered_beside}
 use Rattle.krl_table.proofs.Stands.{in_unqueue, unqueue_in}
-use Rattle.krl_table.proofs.Slots.{no_slot, low_under, low_past, slot_end, slot_twice}
+use Rattle.krl_table.proofs.Slots.{low_under, low_past, slot_end, slot_twice}
 use Rattle.krl_table.proofs.Walk.{lower_before, lower_past, lower_here}
-use Rattle.krl_table.proofs.Sounds.{NoStrangers, set_strangers, listed_same, listed_less}
+use Rattle.krl_table.proofs.Sounds.{NoStrangers, set_strangers, listed_less}
 
 times_more : (c : ℕ) (u : Waiter) (us : List Waiter) → times c (u ∷ us) ≡ cond (nat_eq c u.client) 1 0 + times c us
 times_more c u us = sum_by-cons (λ u. cond (nat_eq c u.client) 1 0) u us

@@ -22,3 +22,5 @@ pub mod Reported
 pub mod Rising
 pub mod AtOnce
 pub mod Counted
+pub mod Within
+pub mod Holds

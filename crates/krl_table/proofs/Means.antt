@@ -1,22 +1,20 @@
 -- What a change of the kept rows means.
-use Rattle.std.proofs.Common.{◌≡◌, ◌≢◌, ℕ, zero, suc, ◌≤◌, ◌<◌, Bool, true, false, cond, List, [], ◌∷◌, Option, Some, None, IsSome, ◌⊎◌, length, set, refl, sym, ap, subst, ◌∙◌, arith, ⊎_elim}
+use Rattle.std.proofs.Common.{◌≡◌, ◌≢◌, ℕ, zero, suc, ◌<◌, Bool, true, false, cond, List, [], ◌∷◌, Option, Some, None, IsSome, length, set, refl, sym, ap, subst, ◌∙◌, arith, ⊎_elim}
 use Rattle.std.proofs.Common.{nat_eq, eq-eqb, ne_eqb}
 use Rattle.std.proofs.Math.ListN.{replicate}
-use Rattle.std.proofs.lemmas.Bool.{cases_lt}
-use Rattle.std.proofs.lemmas.List.{get_or-set_same, get_or-set_other, length-set}
+use Rattle.std.proofs.lemmas.List.{get_or-set_same, get_or-set_other}
 use Rattle.std.proofs.lemmas.Bool.Decides.{nat_tests}
 use Rattle.std.proofs.Math.Path.{fun_ext}
-use Rattle.std.specs.Prelude.{is_some, slice_get, if◌then◌else◌}
+use Rattle.std.specs.Prelude.{slice_get, if◌then◌else◌}
 use Rattle.std.specs.Ordering.{nat_cmp, eq_by_cmp}
 use Rattle.std.specs.Cmp.{nat_cmp_total}
 use Rattle.std.specs.FinMap.{FinMap, get, insert, remove, get-insert, get-remove}
 use Rattle.krl_modes.specs.declared.mode.Mode.{Mode}
 use Rattle.krl_modes.specs.declared.mode.Mode.TheVariants as mode
 use Rattle.krl_queue.specs.declared.waiter.Waiter.{Waiter}
-use Rattle.krl_store.specs.Stores.{Stored}
 use Rattle.krl_table.specs.declared.row.SlotRow.{SlotRow}
 use Rattle.krl_table.specs.Rows.{Row, Rows, blank_row, set_row, set_mode, front_of}
-use Rattle.krl_table.specs.Kept.{Kept, mode_of, row_of, row_there, rows_of, IsSet, AreSet, HasRoom}
+use Rattle.krl_table.specs.Kept.{Kept, mode_of, row_of, row_there, rows_of, IsSet, AreSet}
 
 pub eq_cases : {A : Type 0} (a b : ℕ) → (a ≡ b → A) → (a ≢ b → A) → A
 eq_cases {A = A} a b f g = by_eq (nat_eq a b) refl
@@ -104,15 +102,16 @@ module _ (t u : Kept) (k : ℕ) (r : SlotRow) where
     used = λ s at. let same : Some s ≡ Some r = sym at ∙ ap (λ y. get y k) e ∙ insert_same t k r in let is : s ≡ r = cc in subst (λ x. row_of x ≡ blank_row → ⊥) (sym is) some;
   }
 
-  pub set_gone : u ≡ remove t k → row_of r ≡ blank_row → IsSet t u k (row_of r)
-  set_gone e blank = record {
-    here = ap (λ y. rows_of y k) e ∙ ap row_there gone ∙ sym blank;
-    others = λ n ne. ap (λ y. get y n) e ∙ get-gone t k n ∙ ap (λ b. cond b None (get t n)) (ne_eqb n k ne);
-    used = λ s at. absurd (let bad : Some s ≡ None = sym at ∙ ap (λ y. get y k) e ∙ gone in cc);
-  }
-    where
-      gone : get (remove t k) k ≡ None
-      gone = get-gone t k k ∙ ap (λ b. cond b None (get t k)) (eq-eqb k k refl)
+-- the row of a slot is taken out, where what it becomes is blank
+pub set_blank : (t u : Kept) (k : ℕ) (row : Row) → u ≡ remove t k → row ≡ blank_row → IsSet t u k row
+set_blank t u k row e blank = record {
+  here = ap (λ y. rows_of y k) e ∙ ap row_there gone ∙ sym blank;
+  others = λ n ne. ap (λ y. get y n) e ∙ get-gone t k n ∙ ap (λ b. cond b None (get t n)) (ne_eqb n k ne);
+  used = λ s at. absurd (let bad : Some s ≡ None = sym at ∙ ap (λ y. get y k) e ∙ gone in cc);
+}
+  where
+    gone : get (remove t k) k ≡ None
+    gone = get-gone t k k ∙ ap (λ b. cond b None (get t k)) (eq-eqb k k refl)
 
 -- one row is set after another
 pub both_set : (t v u : Kept) (i : ℕ) (a : Row) (j : ℕ) (b : Row) → i ≢ j → IsSet t v i a → IsSet v u j b → AreSet t u i a j b

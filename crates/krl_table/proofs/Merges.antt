@@ -1,6 +1,6 @@
 -- Two slots become one.
-use Rattle.std.proofs.Common.{◌≡◌, ◌≢◌, ℕ, suc, ◌+◌, ◌≤◌, ◌<◌, Bool, true, false, ◌&&◌, ◌||◌, List, [], ◌∷◌, ◌++◌, Option, Some, None, IsSome, ◌⊎◌, inl, inr, refl, sym, ap, subst, ◌∙◌, ⊎_elim, arith}
-use Rattle.std.proofs.Common.{nat_eq, eq-eqb, ne_eqb, ltb-true, ltb-false}
+use Rattle.std.proofs.Common.{◌≡◌, ◌≢◌, ℕ, suc, ◌≤◌, ◌<◌, Bool, true, false, ◌&&◌, ◌||◌, List, ◌++◌, Option, Some, None, IsSome, inl, inr, refl, sym, ap, subst, ◌∙◌, ⊎_elim, arith}
+use Rattle.std.proofs.Common.{nat_eq, ne_eqb, ltb-true, ltb-false}
 use Rattle.std.proofs.lemmas.Bool.{cases_lt}
 use Rattle.std.specs.Prelude.{is_some, nat_lt, if◌then◌else◌}
 use Rattle.std.specs.FinMap.{get, remove}
@@ -10,7 +10,6 @@ use Rattle.krl_modes.specs.declared.part.RangePart.TheVariants as range
 use Rattle.krl_modes.specs.declared.part.KeyPart.{KeyPart}
 use Rattle.krl_modes.specs.declared.part.KeyPart.TheVariants as key
 use Rattle.krl_modes.specs.declared.mode.Mode.{Mode}
-use Rattle.krl_modes.specs.declared.mode.Mode.TheVariants as mode
 use Rattle.krl_modes.specs.Parts.{ranges_compatible, keys_compatible, is_range_X, is_key_X}
 use Rattle.krl_modes.specs.Modes.{range_of, key_of, compatible}
 use Rattle.krl_messages.specs.Values.{Value}
@@ -24,7 +23,7 @@ use Rattle.krl_table.specs.Kept.{Kept, row_there, rows_of, AreSet, IsOver, IsSou
 use Rattle.krl_table.proofs.Means.{eq_cases, both_rows, by_two, remove_at, remove_past}
 use Rattle.krl_table.proofs.Alone.{AreAlone, alone_moved, times_both}
 use Rattle.krl_table.proofs.Stands.{in_both, in_left, in_right}
-use Rattle.krl_table.proofs.Slots.{next_of, slot_is, slot_self, slot_end, slot_twice}
+use Rattle.krl_table.proofs.Slots.{next_of, slot_is, slot_self, slot_end}
 use Rattle.krl_table.proofs.Sounds.{NoStrangers, listed_moved}
 
 and_first : (a b : Bool) → (a && b) ≡ true → a ≡ true

@@ -1,17 +1,14 @@
 -- The slots at which somebody waits, one after another.
-use Rattle.std.proofs.Common.{◌≡◌, ℕ, zero, suc, ◌+◌, ◌≤◌, ◌<◌, min, Bool, true, false, List, [], ◌∷◌, ◌++◌, length, Option, Some, None, IsSome, MatchOption, inl, refl, sym, ap, subst, ◌∙◌, ⊎_elim, append_assoc, length-append, arith}
+use Rattle.std.proofs.Common.{◌≡◌, ℕ, zero, suc, ◌+◌, ◌≤◌, ◌<◌, min, Bool, true, false, List, [], ◌∷◌, ◌++◌, length, Option, Some, None, MatchOption, inl, refl, sym, ap, subst, ◌∙◌, ⊎_elim, append_assoc, length-append, arith}
 use Rattle.std.proofs.Common.{ltb-true, ltb-false}
 use Rattle.std.proofs.lemmas.List.{append-nil}
 use Rattle.std.specs.List.{AllByRecursion}
 use Rattle.std.proofs.Math.Nat.{min-le_left, min-le_right, min-eq_left, min-eq_right}
 use Rattle.std.proofs.lemmas.Bool.{cases_lt}
 use Rattle.std.specs.Prelude.{nat_lt, if◌then◌else◌}
-use Rattle.std.specs.FinMap as fin
 use Rattle.krl_queue.specs.declared.waiter.Waiter.{Waiter}
-use Rattle.krl_table.specs.declared.row.SlotRow.{SlotRow}
 use Rattle.krl_table.specs.Waiters.{IsNextWaiting, AreWaiting}
-use Rattle.krl_durable.specs.Index.{Index, slot_of, is_slot, IsSlotOf}
-use Rattle.krl_modes.specs.declared.point.TheConstants.{END}
+use Rattle.krl_durable.specs.Index.{Index, is_slot, IsSlotOf}
 use Rattle.krl_table.specs.Kept.{Kept, rows_of, IsOver, IsSound, In}
 use Rattle.krl_table.specs.Kept.{waiter_in, AreListed, AllWaitBelow, IsLeastPoint, lesser_point, lesser}
 use Rattle.krl_table.proofs.Means.{eq_cases}

@@ -1,8 +1,8 @@
 -- Lists of pieces that rise, and what is left of a report behind a point.
-use Rattle.std.proofs.Common.{◌≡◌, ℕ, zero, suc, ◌+◌, ◌≤◌, ◌<◌, Bool, true, false, ◌&&◌, List, [], ◌∷◌, None, ◌⊎◌, inl, inr, drop, slice_index_or, length, refl, sym, ap, subst, ◌∙◌, arith}
+use Rattle.std.proofs.Common.{◌≡◌, ℕ, zero, suc, ◌+◌, ◌≤◌, ◌<◌, Bool, true, false, ◌&&◌, List, [], ◌∷◌, None, inl, inr, drop, slice_index_or, length, refl, sym, ap, subst, ◌∙◌, arith}
 use Rattle.std.proofs.Common.{ne_eqb}
 use Rattle.std.proofs.lemmas.Bool.Decides.{nat_tests}
-use Rattle.std.specs.Prelude.{nat_eq, nat_lt, if◌then◌else◌}
+use Rattle.std.specs.Prelude.{nat_lt, if◌then◌else◌}
 use Rattle.std.specs.FinMap.{get}
 use Rattle.krl_modes.specs.declared.point.TheConstants.{END}
 use Rattle.krl_modes.specs.declared.part.RangePart.{RangePart}
@@ -15,7 +15,7 @@ use Rattle.krl_modes.specs.Spans.{Bounds, meets}
 use Rattle.krl_messages.specs.declared.range_pieces.RangePiece.{RangePiece}
 use Rattle.krl_messages.specs.declared.key_pieces.KeyPiece.{KeyPiece}
 use Rattle.krl_messages.specs.declared.pieces.Pieces.{Pieces}
-use Rattle.krl_durable.specs.Index.{Index, low_of, span_of, is_slot}
+use Rattle.krl_durable.specs.Index.{Index, span_of}
 use Rattle.krl_table.specs.Reports.{reported_range, reported_key}
 use Rattle.krl_table.specs.Reported.{RangesOff, KeysOff, RangesRise, KeysRise, SameRanges, SameKeys, ReportsSame, BeginsSpan, IsNextReported, NothingFrom}
 use Rattle.krl_table.proofs.Reported.{range_right, key_right, from_item, from_place, drop_all, low_from}

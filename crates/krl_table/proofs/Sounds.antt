@@ -1,6 +1,6 @@
 -- What holds of every table, after one row is set.
-use Rattle.std.proofs.Common.{◌≡◌, ◌≢◌, ℕ, suc, ◌+◌, ◌≤◌, ◌<◌, Bool, true, false, List, [], ◌∷◌, Option, Some, None, IsSome, ◌⊎◌, length, set, refl, sym, ap, subst, ◌∙◌, ⊎_elim, arith}
-use Rattle.std.proofs.Common.{nat_eq, eq-eqb, ne_eqb}
+use Rattle.std.proofs.Common.{◌≡◌, ◌≢◌, ℕ, ◌≤◌, ◌<◌, true, false, List, Option, Some, None, IsSome, ◌⊎◌, set, refl, sym, ap, subst, ◌∙◌, ⊎_elim, arith}
+use Rattle.std.proofs.Common.{ne_eqb}
 use Rattle.std.proofs.lemmas.Bool.{cases_lt}
 use Rattle.std.proofs.lemmas.List.{length-set, get_or-set_same, get_or-set_other}
 use Rattle.std.specs.Prelude.{is_some, if◌then◌else◌}
@@ -12,14 +12,13 @@ use Rattle.krl_queue.specs.declared.waiter.Waiter.{Waiter}
 use Rattle.krl_queue.specs.Waiting.{first_of}
 use Rattle.krl_durable.specs.Index.{Index, slot_of, is_slot}
 use Rattle.krl_table.specs.declared.row.SlotRow.{SlotRow}
-use Rattle.krl_table.specs.Rows.{Row, Rows, blank_row, most_clients, mode_at, set_mode}
+use Rattle.krl_table.specs.Rows.{Row, blank_row, mode_at, set_mode}
 use Rattle.krl_table.specs.Sound.{IsPlaced, IsTable}
-use Rattle.krl_table.specs.Kept.{Kept, row_of, row_there, rows_of, IsSet, IsOver, IsSound, AreBeside, AreListed, In, times, waiter_in}
+use Rattle.krl_table.specs.Kept.{Kept, row_there, rows_of, IsSet, IsOver, IsSound, AreBeside, AreListed, In, times, waiter_in}
 use Rattle.krl_table.proofs.Means.{eq_cases}
 use Rattle.krl_table.proofs.Below.{clients_are}
-use Rattle.krl_table.proofs.Alone.{AreAlone, alone_here, none_times, times_none, in_times}
+use Rattle.krl_table.proofs.Alone.{AreAlone, alone_here, times_none, in_times}
 use Rattle.krl_table.proofs.Stands.{first_in, in_to_all}
-use Rattle.krl_table.proofs.Slots.{slot_end}
 
 pub some_same : {X : Type 0} {x y : X} → Some x ≡ Some y → x ≡ y
 some_same e = cc

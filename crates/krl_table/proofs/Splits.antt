@@ -1,12 +1,11 @@
 -- A slot is parted in two.
-use Rattle.std.proofs.Common.{◌≡◌, ◌≢◌, ℕ, suc, ◌+◌, ◌≤◌, ◌<◌, Bool, true, false, ◌||◌, List, [], ◌∷◌, ◌++◌, Option, Some, None, IsSome, ◌⊎◌, inl, inr, refl, sym, ap, subst, ◌∙◌, ⊎_elim, arith}
-use Rattle.std.proofs.Common.{nat_eq, eq-eqb, ne_eqb, ltb-true, ltb-false}
+use Rattle.std.proofs.Common.{◌≡◌, ◌≢◌, ℕ, ◌≤◌, ◌<◌, Bool, true, false, ◌||◌, List, Option, Some, None, IsSome, ◌⊎◌, inl, inr, refl, sym, ap, subst, ◌∙◌, ⊎_elim, arith}
+use Rattle.std.proofs.Common.{nat_eq, ne_eqb, ltb-true, ltb-false}
 use Rattle.std.proofs.lemmas.Bool.{cases_lt}
 use Rattle.std.proofs.lemmas.Bool.Decides.{nat_tests}
 use Rattle.std.specs.Prelude.{is_some, nat_le, nat_lt, if◌then◌else◌}
 use Rattle.std.specs.FinMap.{get, insert}
 use Rattle.krl_modes.specs.declared.point.TheConstants.{END}
-use Rattle.krl_modes.specs.declared.mode.Mode.TheVariants as mode
 use Rattle.krl_modes.specs.declared.part.RangePart.TheVariants as range
 use Rattle.krl_modes.specs.declared.part.KeyPart.TheVariants as key
 use Rattle.krl_modes.specs.Parts.{lets_insert}
@@ -16,10 +15,10 @@ use Rattle.krl_queue.specs.declared.waiter.Waiter.{Waiter}
 use Rattle.krl_queue.specs.Waiting.{up_to, beyond}
 use Rattle.krl_durable.specs.Index.{Index, slot_of, is_slot, IsSlotOf}
 use Rattle.krl_table.specs.declared.row.SlotRow.{SlotRow}
-use Rattle.krl_table.specs.Rows.{Row, Rows, blank_row, set_row, mode_at}
+use Rattle.krl_table.specs.Rows.{Row, blank_row, mode_at}
 use Rattle.krl_table.specs.Calls.{with_queue, split_modes, mode_beside, split, split_at}
 use Rattle.krl_table.specs.Points.{key_off_slot, range_at, key_at}
-use Rattle.krl_table.specs.Kept.{Kept, row_of, row_there, rows_of, AreSet, IsOver, IsSound, AreBeside, AreListed, In, times}
+use Rattle.krl_table.specs.Kept.{Kept, row_there, rows_of, AreSet, IsOver, IsSound, AreBeside, AreListed, In, times}
 use Rattle.krl_table.proofs.Means.{eq_cases, both_rows, by_two, insert_at, insert_past}
 use Rattle.krl_table.proofs.Alone.{AreAlone, alone_moved, times_parted}
 use Rattle.krl_table.proofs.Besides.{split_beside}

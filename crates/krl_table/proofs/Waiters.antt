@@ -1,20 +1,11 @@
 -- How a client waits.
-use Rattle.std.proofs.Common.{◌≡◌, ◌≢◌, ℕ, Bool, true, false, ◌||◌, cond, List, [], ◌∷◌, ◌++◌, Option, Some, None, ◌⊎◌, inl, inr, map, refl, sym, ap, subst, ◌∙◌, ⊎_elim, arith}
-use Rattle.std.proofs.Common.{nat_eq, ne_eqb, eq-eqb}
-use Rattle.std.proofs.lemmas.Bool.Decides.{nat_tests}
+use Rattle.std.proofs.Common.{◌≡◌, ℕ, Bool, true, false, cond, List, [], ◌∷◌, Option, Some, None, inl, inr, refl, sym, ap, ◌∙◌}
 use Rattle.std.specs.Prelude.{is_some, find}
-use Rattle.std.specs.Ordering.{nat_cmp, eq_by_cmp}
-use Rattle.std.specs.FinMap as fin
-use Rattle.std.specs.FinMap.Entries as entries
-use Rattle.krl_modes.specs.declared.point.TheConstants.{END}
-use Rattle.krl_messages.specs.Values.{Value}
 use Rattle.krl_queue.specs.declared.waiter.Waiter.{Waiter}
 use Rattle.krl_queue.specs.Waiting.{first_of}
-use Rattle.krl_durable.specs.Index.{Index, slots, is_slot}
-use Rattle.krl_table.specs.declared.row.SlotRow.{SlotRow}
+use Rattle.krl_durable.specs.Index.{Index, slots}
 use Rattle.krl_table.specs.Rows.{waiter_at, waiter_of}
-use Rattle.krl_table.specs.Kept.{Kept, row_there, rows_of, IsOver, IsSound, AreListed, In, waiter_in}
-use Rattle.krl_table.proofs.Means.{eq_cases}
+use Rattle.krl_table.specs.Kept.{Kept, rows_of, IsOver, IsSound, AreListed, In, waiter_in}
 use Rattle.krl_table.proofs.Rooms.{Lists, slots_have}
 use Rattle.krl_table.proofs.Sounds.{some_none, has_row}
 use Rattle.krl_table.proofs.Stands.{first_in, none_in, first_none}

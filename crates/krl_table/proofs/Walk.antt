@@ -1,5 +1,5 @@
 -- A walk over the kept rows, in the order of their slots.
-use Rattle.std.proofs.Common.{◌≡◌, ◌≢◌, ℕ, suc, ◌≤◌, ◌<◌, ◌+◌, Bool, true, false, ◌&&◌, [], Option, Some, None, IsSome, refl, sym, ap, subst, ◌∙◌, arith, ⊎_elim}
+use Rattle.std.proofs.Common.{◌≡◌, ◌≢◌, ℕ, ◌≤◌, ◌<◌, ◌+◌, Bool, true, false, ◌&&◌, [], Option, Some, None, IsSome, refl, sym, ap, subst, ◌∙◌, arith, ⊎_elim}
 use Rattle.std.proofs.lemmas.Bool.{cases_lt}
 use Rattle.std.proofs.lemmas.Bool.Decides.{nat_tests}
 use Rattle.std.proofs.Math.Path.{fun_ext}
@@ -11,7 +11,9 @@ use Rattle.krl_modes.specs.Modes.{meet}
 use Rattle.krl_store.specs.Stores.{IsNextKey}
 use Rattle.krl_table.specs.declared.row.SlotRow.{SlotRow}
 use Rattle.krl_table.specs.Rows.{Row, blank_row, set_mode}
-use Rattle.krl_table.specs.Kept.{Kept, row_of, row_there, rows_of, IsSet, IsAll, lowered_between}
+use Rattle.krl_table.specs.declared.extent.Extent.{Extent}
+use Rattle.krl_table.specs.Kept.{Kept, row_of, row_there, rows_of, IsSet, IsAll, lowered_between, cleared_row}
+use Rattle.krl_table.specs.Extents.{cleared_within}
 use Rattle.krl_table.specs.Calls.{with_mode}
 use Rattle.krl_table.proofs.Means.{eq_cases}
 
@@ -113,3 +115,25 @@ clear_keeps c = λ i. record { modes = fun_ext (λ (d : ℕ). by_test (nat_eq d 
     by_test : (b : Bool) → (if b then mode.N else mode.N) ≡ mode.N
     by_test true = refl
     by_test false = refl
+
+pub clears_keep : (e : Extent) (c n : ℕ) → cleared_within e c n blank_row ≡ blank_row
+clears_keep e c n = by_test (nat_le e.first n && nat_le n e.last)
+  where
+    by_test : (b : Bool) → (if b then cleared_row c blank_row else blank_row) ≡ blank_row
+    by_test true = clear_keeps c
+    by_test false = refl
+
+pub clears_before : (e : Extent) (c n : ℕ) (row : Row) → n < e.first → cleared_within e c n row ≡ row
+clears_before e c n row lt = let test : nat_le e.first n ≡ false = grind (arith, nat_tests) in ap (λ b. if b && nat_le n e.last then cleared_row c row else row) test
+
+pub clears_past : (e : Extent) (c n : ℕ) (row : Row) → e.last < n → cleared_within e c n row ≡ row
+clears_past e c n row lt = let test : nat_le n e.last ≡ false = grind (arith, nat_tests) in
+    ap (λ (b : Bool). if b then cleared_row c row else row) (and_no (nat_le e.first n) (nat_le n e.last) test)
+  where
+    and_no : (a b : Bool) → b ≡ false → (a && b) ≡ false
+    and_no true b e = e
+    and_no false b e = refl
+
+pub clears_here : (e : Extent) (c n : ℕ) (row : Row) → e.first ≤ n → n ≤ e.last → cleared_within e c n row ≡ cleared_row c row
+clears_here e c n row a b = let x : nat_le e.first n ≡ true = grind (arith, nat_tests) in let y : nat_le n e.last ≡ true = grind (arith, nat_tests) in
+    (λ i. if x i && y i then cleared_row c row else row)

@@ -7,5 +7,7 @@ pub mod Grants
 pub mod Sound
 pub use Rattle.krl_durable.specs.Index
 pub mod Waiters
+pub mod Holds
 pub mod Kept
 pub mod Reported
+pub mod Extents

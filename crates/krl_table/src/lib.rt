@@ -2,6 +2,8 @@
 #![tactic(auto)]
 
 mod conflict;
+mod extent;
+mod extents;
 mod first;
 mod needs;
 mod pieces;

@@ -9,7 +9,9 @@ ghost use Rattle.krl_table.specs.declared.row.SlotRow.{SlotRow as Kept};
 ghost use Rattle.krl_table.specs.Rows.{blank_row, fits, mode_at};
 ghost use Rattle.krl_table.specs.Reports.{rebuilt, adopted};
 ghost use Rattle.krl_table.specs.Kept.{row_of, rows_of, IsOver, most_rows};
+ghost use Rattle.krl_table.specs.Extents.{AreWithin};
 
+use crate::extents::Extents;
 use crate::row::SlotRow;
 use crate::steps;
 use crate::sweep::Sweep;
@@ -52,23 +54,32 @@ pub(crate) fn all_fit(
 }
 
 /// Gives the client, which holds nothing, on each slot what is reported of it.
-pub(crate) fn settle(rows: &mut Store<SlotRow>, durable: &Durable, client: u64, pieces: &Pieces)
+pub(crate) fn settle(
+    rows: &mut Store<SlotRow>,
+    extents: &mut Extents,
+    durable: &Durable,
+    client: u64,
+    pieces: &Pieces,
+)
     requires over { IsOver durable.now.index rows.old.map }
     requires used { (n : ℕ) (r : Kept) → map.get rows.old.map n ≡ Some r → row_of r ≢ blank_row }
     requires few { length (map.entries durable.now.index) ≤ most_entries }
     requires room { most_rows ≤ rows.old.room }
     requires client { client < 64 }
     requires free { (n : ℕ) → mode_at (rows_of rows.old.map) n client ≡ mode.N }
+    requires within { AreWithin extents.old.by_client rows.old.map }
     ensures adopted { (n : ℕ) → rows_of rows.new.map n
         ≡ adopted durable.now.index (rows_of rows.old.map) client pieces.now n }
     ensures over { IsOver durable.now.index rows.new.map }
     ensures used { (n : ℕ) (r : Kept) → map.get rows.new.map n ≡ Some r → row_of r ≢ blank_row }
+    ensures within { AreWithin extents.new.by_client rows.new.map }
     ensures room { rows.new.room ≡ rows.old.room }
 {
     let mut sweep = Sweep::over(pieces);
     let mut at: u64 = 0;
     while let Some(reported) = sweep.next(durable, at) {
         steps::set(rows, reported.slot, client, reported.mode);
+        extents.note(client, reported.slot);
         at = reported.slot + 1;
         sweep.pass(at);
     }

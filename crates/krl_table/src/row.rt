@@ -41,6 +41,16 @@ impl SlotRow {
         self.queue.is_empty() && all_are_n(&self.modes)
     }
 
+    /// Whether nobody but the client holds anything there, and nobody waits.
+    pub(crate) fn is_blank_beside(&self, client: u64) -> bool
+        requires { client < 64 }
+        ensures { (result ≡ true) ↔ (with_mode (row_of self.now) client mode.N ≡ blank_row) }
+    {
+        let mut modes = self.all_modes();
+        modes[client as usize] = Mode::N;
+        self.queue.is_empty() && all_are_n(&modes)
+    }
+
     /// The client's mode.
     pub(crate) fn mode(&self, client: u64) -> Mode
         requires { client < 64 }

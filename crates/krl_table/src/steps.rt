@@ -1,6 +1,6 @@
 //! A row's change, as the kept rows see it.
-ghost use Rattle.std.specs.Prelude.{◌≡◌, ◌≢◌, ◌++◌, ◌<◌, ◌≤◌, ℕ, [], Some, None, IsSome, IfSome};
-ghost use Rattle.std.specs.Prelude.{drop};
+ghost use Rattle.std.specs.Prelude.{◌≡◌, ◌≢◌, ◌++◌, ◌<◌, ◌≤◌, ℕ, [], true, Some, None};
+ghost use Rattle.std.specs.Prelude.{drop, IsSome, IfSome};
 ghost use Rattle.std.specs.FinMap as map;
 ghost use Rattle.krl_modes.specs.Modes.{meet};
 ghost use Rattle.krl_modes.specs.declared.mode.Mode.TheVariants as mode;
@@ -44,7 +44,20 @@ fn put(rows: &mut Store<SlotRow>, slot: u64, row: SlotRow)
     }
 }
 
-/// Lowers the client's mode there to this one.
+/// Whether the row there is blank, once the client's mode is lowered to this one.
+fn goes_blank(rows: &Store<SlotRow>, slot: u64, client: u64, keep: Mode) -> bool
+    requires client { client < 64 }
+    ensures { result ≡ true → with_mode (rows_of rows.now.map slot) client
+        (meet (mode_at (rows_of rows.now.map) slot client) keep) ≡ blank_row }
+{
+    match rows.get(slot) {
+        Some(row) => row.mode(client).meet(keep) == Mode::N && row.is_blank_beside(client),
+        None => false,
+    }
+}
+
+/// Lowers the client's mode there to this one. A row that goes blank goes as it stands: no other
+/// row is put in its place meanwhile.
 pub(crate) fn lower(rows: &mut Store<SlotRow>, slot: u64, client: u64, keep: Mode)
     requires there { IsSome (map.get rows.old.map slot) }
     requires client { client < 64 }
@@ -52,6 +65,10 @@ pub(crate) fn lower(rows: &mut Store<SlotRow>, slot: u64, client: u64, keep: Mod
         (meet (mode_at (rows_of rows.old.map) slot client) keep)) }
     ensures room { rows.new.room ≡ rows.old.room }
 {
+    if goes_blank(rows, slot, client, keep) {
+        let _blank = rows.remove(slot);
+        return;
+    }
     let mut row = take(rows, slot);
     row.lower(client, keep);
     put(rows, slot, row);

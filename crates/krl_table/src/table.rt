@@ -20,8 +20,10 @@ ghost use Rattle.krl_table.specs.Waiters.{WaitsNowhere, AreWaiting};
 mod at_once;
 mod granting;
 mod replies;
+mod shown;
 
 use crate::conflict::Conflict;
+use crate::extents::Extents;
 use crate::first::FirstWaiter;
 use crate::row::SlotRow;
 use crate::waiting::Waiting;
@@ -50,6 +52,7 @@ const MAX_ROWS: usize = 65_537;
 pub struct Table {
     rows: Store<SlotRow>,
     waiting: Waiting,
+    extents: Extents,
 }
 
 impl Model for Table {
@@ -60,6 +63,7 @@ impl Model for Table {
     ghost use Rattle.krl_table.specs.declared.row.SlotRow.{SlotRow};
     ghost use Rattle.krl_table.specs.contracts.row.SlotRow as slot_row;
     ghost use Rattle.krl_table.specs.Kept.{IsSound, AreListed, most_rows};
+    ghost use Rattle.krl_table.specs.Extents.{AreWithin};
 
     ghost Value = { map.FinMap nat_cmp SlotRow };
 
@@ -68,7 +72,7 @@ impl Model for Table {
     ghost view = { λ t. t.rows.map };
 
     ghost invariant = { λ t. IsSound t.rows.map × AreListed t.waiting.by_client t.rows.map
-        × (most_rows ≤ t.rows.room) };
+        × (most_rows ≤ t.rows.room) × AreWithin t.extents.by_client t.rows.map };
 }
 
 impl Table {
@@ -87,6 +91,7 @@ impl Table {
         Ok(Table {
             rows,
             waiting: Waiting::nobody(),
+            extents: Extents::nowhere(),
         })
     }
 
@@ -146,6 +151,7 @@ impl Table {
         requires { client < 64 }
         ensures waiter { (m : Index) → IsOver m self.now
             → result ≡ waiter_of m (rows_of self.now) client }
+        ensures client { IfSome result (λ u. u.client ≡ client) }
         ensures nowhere { result ≡ None → WaitsNowhere (rows_of self.now) client }
         ensures sound { (m : Index) → IsOver m self.now → IsTable m (rows_of self.now) }
     {
@@ -189,14 +195,17 @@ impl Table {
         walks::lower(&mut self.rows, client, from, span.hi(), keep);
     }
 
-    /// The client holds nothing, and waits no more. It looks at all rows that are kept.
+    /// The client holds nothing, and waits no more. It looks at the rows that are kept between the
+    /// first and the last slot at which it held or waited since it was cleared.
     pub fn clear(&mut self, client: u64)
         requires { client < 64 }
         ensures cleared { (n : ℕ) → rows_of self.new n ≡ cleared (rows_of self.old) client n }
         ensures slots { (m : Index) → IsOver m self.old → IsOver m self.new }
     {
-        walks::clear(&mut self.rows, client);
+        let extent = self.extents.of(client);
+        walks::clear(&mut self.rows, client, extent);
         self.waiting.clear(client);
+        self.extents.forget(client);
     }
 
     /// The waiter, of a client that has none, goes to the slot of its point: behind all others, or
@@ -211,9 +220,11 @@ impl Table {
     {
         let _kept = durable.epoch();
         let waiter = node.waiter();
+        let client = waiter.client;
         let slot = durable.slot_of(waiter.point.get());
         steps::enqueue(&mut self.rows, slot, node);
         self.waiting.note(waiter);
+        self.extents.note(client, slot);
     }
 
     /// The slot's first waiter waits no more.
@@ -253,6 +264,7 @@ impl Table {
     {
         let slot = durable.slot_of(key.get());
         steps::part(&mut self.rows, slot, key, client);
+        self.extents.follow(slot, key.get());
     }
 
     /// The slot, whose entry some client may delete, goes, and its waiters stand before those of
@@ -275,14 +287,16 @@ impl Table {
     {
         let slot = durable.slot_of(key + 1);
         steps::join(&mut self.rows, key, slot);
+        self.extents.follow(key, slot);
     }
 
     /// The client, which restarts with what it still holds, has on each slot the least mode at or
     /// above what it reports there: the join of the range parts whose spans meet the slot's, and
     /// the greatest key part at the slot. Key parts at other points are passed over. It takes no
-    /// memory. It looks at the rows that are kept, and at the slots of which something is reported,
-    /// with a search for each. Where the pieces of both lists come in order it reads a piece once
-    /// for each slot that it meets, and once to pass it; else each piece for each of those slots.
+    /// memory. It looks at the rows that are kept from the first on where the client held or waited
+    /// since it was cleared, and at the slots of which something is reported, with a search for
+    /// each. Where the pieces of both lists come in order it reads a piece once for each slot that
+    /// it meets, and once to pass it; else each piece for each of those slots.
     ///
     /// # Errors
     ///
@@ -308,8 +322,9 @@ impl Table {
             return Err(Conflict);
         }
         // What it held before goes, of which nothing may be left where nothing is reported.
-        walks::lower(&mut self.rows, client, 0, TOP, Mode::N);
-        reports::settle(&mut self.rows, durable, client, pieces);
+        let extent = self.extents.of(client);
+        walks::lower(&mut self.rows, client, extent.first, TOP, Mode::N);
+        reports::settle(&mut self.rows, &mut self.extents, durable, client, pieces);
         Ok(())
     }
 }

@@ -4,8 +4,10 @@ ghost use Rattle.std.specs.FinMap as map;
 ghost use Rattle.krl_modes.specs.declared.point.TheConstants.{END};
 ghost use Rattle.krl_table.specs.declared.row.SlotRow.{SlotRow as Kept};
 ghost use Rattle.krl_table.specs.Rows.{blank_row};
-ghost use Rattle.krl_table.specs.Kept.{row_of, IsAll, lowered_between, cleared_row};
+ghost use Rattle.krl_table.specs.Kept.{row_of, IsAll, lowered_between};
+ghost use Rattle.krl_table.specs.Extents.{cleared_within};
 
+use crate::extent::Extent;
 use crate::row::SlotRow;
 use crate::steps;
 use krl_modes::Mode;
@@ -29,16 +31,20 @@ pub(crate) fn lower(rows: &mut Store<SlotRow>, client: u64, from: u64, hi: u64, 
     }
 }
 
-/// The client holds nothing on any slot, and its first waiter on each goes.
-pub(crate) fn clear(rows: &mut Store<SlotRow>, client: u64)
+/// The client holds nothing on the slots of the extent, and its first waiter on each goes. It looks
+/// at the rows that are kept there, and at the one after them.
+pub(crate) fn clear(rows: &mut Store<SlotRow>, client: u64, extent: Extent)
     requires used { (n : ℕ) (r : Kept) → map.get rows.old.map n ≡ Some r → row_of r ≢ blank_row }
     requires near { (n : ℕ) → END < n → map.get rows.old.map n ≡ None }
     requires client { client < 64 }
-    ensures all { IsAll (λ n. cleared_row client) rows.old.map rows.new.map }
+    ensures all { IsAll (cleared_within extent client) rows.old.map rows.new.map }
     ensures room { rows.new.room ≡ rows.old.room }
 {
-    let mut at: u64 = 0;
+    let mut at = extent.first;
     while let Some(slot) = rows.next(at) {
+        if slot > extent.last {
+            return;
+        }
         steps::clear(rows, slot, client);
         at = slot + 1;
     }

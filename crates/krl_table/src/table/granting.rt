@@ -151,5 +151,6 @@ impl Table {
     {
         let _kept = durable.epoch();
         steps::raise(&mut self.rows, slot, waiter);
+        self.extents.note(waiter.client, slot);
     }
 }

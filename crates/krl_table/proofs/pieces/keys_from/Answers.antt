@@ -1,4 +1,4 @@
-use Rattle.std.proofs.Common.{◌≡◌, ◌≤◌, sym, ap, subst, ◌∙◌, arith}
+use Rattle.std.proofs.Common.{sym, ap, subst, ◌∙◌}
 use Rattle.krl_table.specs.Reports.{reported_key}
 use Rattle.krl_table.specs.Reported.{KeysRise}
 use Rattle.krl_table.proofs.Rising.{key_passed, keys_tail}

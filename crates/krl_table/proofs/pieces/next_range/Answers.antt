@@ -1,4 +1,4 @@
-use Rattle.std.proofs.Common.{◌≡◌, ◌≤◌, ℕ, arith}
+use Rattle.std.proofs.Common.{arith}
 use Rattle.krl_table.proofs.Reported.{ranges_begin, ranges_go, ranges_end}
 use Rattle.krl_table.proofs.Rising.{ranges_off_from}
 use Rattle.krl_table.proofs.pieces.next_range.Goals as goal

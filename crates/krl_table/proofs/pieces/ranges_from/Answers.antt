@@ -1,4 +1,4 @@
-use Rattle.std.proofs.Common.{◌≡◌, ◌≤◌, sym, ap, subst, ◌∙◌, arith}
+use Rattle.std.proofs.Common.{sym, ap, subst, ◌∙◌, arith}
 use Rattle.krl_table.specs.Reports.{reported_range}
 use Rattle.krl_table.specs.Reported.{RangesRise}
 use Rattle.krl_table.proofs.Rising.{range_passed, ranges_tail}

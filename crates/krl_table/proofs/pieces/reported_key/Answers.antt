@@ -1,4 +1,4 @@
-use Rattle.std.proofs.Common.{◌≡◌, ◌+◌, drop, sym, ap, ◌∙◌, arith}
+use Rattle.std.proofs.Common.{◌+◌, drop, sym, ap, ◌∙◌, arith}
 use Rattle.krl_modes.specs.Parts.{key_join}
 use Rattle.krl_table.specs.Reports.{reported_key}
 use Rattle.krl_table.proofs.Reported.{key_begins, key_goes, key_ends}

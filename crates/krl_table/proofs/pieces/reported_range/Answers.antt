@@ -1,4 +1,4 @@
-use Rattle.std.proofs.Common.{◌≡◌, ◌+◌, drop, sym, ap, ◌∙◌, arith}
+use Rattle.std.proofs.Common.{◌+◌, drop, sym, ap, ◌∙◌, arith}
 use Rattle.krl_modes.specs.Parts.{range_join}
 use Rattle.krl_table.specs.Reports.{reported_range}
 use Rattle.krl_table.proofs.Reported.{range_begins, range_goes, range_ends}

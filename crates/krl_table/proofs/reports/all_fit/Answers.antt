@@ -1,6 +1,5 @@
-use Rattle.std.proofs.Common.{◌≡◌, ◌≤◌, ◌<◌, ◌+◌, ℕ, true, false, refl, sym, ap, subst, ◌∙◌, ⊎_elim, arith}
+use Rattle.std.proofs.Common.{◌≡◌, ◌≤◌, ◌<◌, ◌+◌, true, false, refl, sym, ap, subst, ◌∙◌, ⊎_elim, arith}
 use Rattle.std.proofs.lemmas.Bool.{cases_lt}
-use Rattle.krl_modes.specs.declared.point.TheConstants.{END}
 use Rattle.krl_table.specs.Rows.{fits}
 use Rattle.krl_table.specs.Reports.{rebuilt}
 use Rattle.krl_table.specs.Reported.{ReportsSame}

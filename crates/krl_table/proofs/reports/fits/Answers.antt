@@ -1,4 +1,4 @@
-use Rattle.std.proofs.Common.{◌≡◌, sym, ap, ◌∙◌}
+use Rattle.std.proofs.Common.{sym, ap, ◌∙◌}
 use Rattle.krl_table.specs.Rows.{row_fits}
 use Rattle.krl_table.specs.Kept.{row_there}
 use Rattle.krl_table.proofs.Raises.{blank_fits}

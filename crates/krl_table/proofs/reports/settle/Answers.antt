@@ -1,10 +1,11 @@
-use Rattle.std.proofs.Common.{◌≡◌, ◌≤◌, ◌+◌, ℕ, refl, sym, ap, subst, ◌∙◌, arith}
+use Rattle.std.proofs.Common.{◌≤◌, ◌+◌, refl, sym, subst, ◌∙◌, arith}
 use Rattle.krl_table.specs.Calls.{with_mode}
 use Rattle.krl_table.specs.Kept.{most_rows, rows_of, IsSet}
 use Rattle.krl_table.specs.Reported.{ReportsSame}
 use Rattle.krl_table.proofs.Rooms.{room_at}
 use Rattle.krl_table.proofs.Reported.{begins_past_slot, settle_begins, settle_goes, settle_ends}
 use Rattle.krl_table.proofs.Rising.{same_begins, same_goes, next_same, nothing_same}
+use Rattle.krl_table.proofs.Within.{within_one, free_mode}
 use Rattle.krl_table.proofs.reports.settle.Goals as goal
 
 pub loop-reported-init : goal.loop-reported-init
@@ -12,6 +13,7 @@ loop-reported-init c =
     let m = c.args.durable.now.index in let pieces = c.args.pieces.now in record {
       settled = settle_begins m c.args.client pieces c.args.rows.now.map c.requires.over c.requires.used;
       same = subst (λ p. ReportsSame m 0 p pieces) (sym c.over-sweep.ensures) (same_begins m c.requires.over.near pieces 0);
+      within = c.requires.within;
       room = refl;
     }
 
@@ -31,6 +33,7 @@ loop-reported-preserved c =
       settled = settle_goes m c.args.client pieces c.args.rows.now.map t c.loop-reported.at w.settled c.requires.free u r.slot next
           (subst (λ g. IsSet t u r.slot (with_mode (rows_of t r.slot) c.args.client g)) (c.in-Some.ensures.mode ∙ w.same r.slot next.above next.there) c.set.ensures.set);
       same = same_goes m c.requires.over.near pieces c.loop-reported.sweep c.pass.new.self c.loop-reported.at (r.slot + 1) (let a = next.above in omega (arith, a)) (begins_past_slot m r.slot next.there) w.same c.pass.ensures.ranges c.pass.ensures.keys;
+      within = within_one c.loop-reported.extents.by_client c.note.new.self.by_client t u r.slot _ c.set.ensures.set c.note.ensures.wider w.within c.args.client c.note.ensures.there (λ d. free_mode (rows_of t r.slot) c.args.client d r.mode);
       room = c.set.ensures.room ∙ w.room;
     }
 
@@ -41,5 +44,6 @@ returns c =
       adopted = settle_ends m c.args.client c.args.pieces.now c.args.rows.now.map c.loop-reported.rows.map c.loop-reported.at w.settled c.requires.free none;
       over = w.settled.over;
       used = w.settled.used;
+      within = w.within;
       room = w.room;
     }

@@ -1,6 +1,7 @@
 use Rattle.std.proofs.Common.{◌≡◌, ◌-◌, ◌+◌}
 use Rattle.krl_modes.specs.declared.point.TheConstants.{END}
 use Rattle.krl_table.specs.Reported.{ReportsSame}
+use Rattle.krl_table.specs.Extents.{AreWithin}
 use Rattle.krl_table.proofs.Reported.{IsSettled}
 use Rattle.krl_table.proofs.reports.settle.Given as goal
 
@@ -8,6 +9,7 @@ abbrev pub invariant-loop-reported : goal.invariant-loop-reported
 invariant-loop-reported l = record {
   settled : IsSettled l.durable.index l.client l.pieces l.fn.rows.map l.rows.map l.at;
   same : ReportsSame l.durable.index l.at l.sweep l.pieces;
+  within : AreWithin l.extents.by_client l.rows.map;
   room : l.rows.room ≡ l.fn.rows.room;
 }
 

@@ -1,12 +1,13 @@
 use Rattle.std.proofs.Common.{◌≡◌, ◌-◌, ◌+◌, ◌≤◌}
 use Rattle.krl_modes.specs.declared.point.TheConstants.{END}
-use Rattle.krl_table.specs.Kept.{cleared_row}
+use Rattle.krl_table.specs.Extents.{cleared_within}
 use Rattle.krl_table.proofs.Walk.{IsWalked}
 use Rattle.krl_table.proofs.walks.clear.Given as goal
 
 abbrev pub invariant-loop-slot : goal.invariant-loop-slot
 invariant-loop-slot l = record {
-  walked : IsWalked (λ n. cleared_row l.client) l.fn.rows.map l.rows.map l.at;
+  walked : IsWalked (cleared_within l.extent l.client) l.fn.rows.map l.rows.map l.at;
+  first : l.extent.first ≤ l.at;
   room : l.rows.room ≡ l.fn.rows.room;
 }
 

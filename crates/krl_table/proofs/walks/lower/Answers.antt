@@ -1,4 +1,4 @@
-use Rattle.std.proofs.Common.{◌≡◌, refl, sym, ◌∙◌, arith}
+use Rattle.std.proofs.Common.{refl, sym, ◌∙◌, arith}
 use Rattle.krl_table.specs.Kept.{rows_of, lowered_between}
 use Rattle.krl_table.proofs.Means.{set_after}
 use Rattle.krl_table.proofs.Walk.{none_walked, walk_step, walk_ends, walk_stops, lower_keeps, lower_before, lower_past, lower_here}

@@ -1,4 +1,4 @@
-use Rattle.std.proofs.Common.{◌≡◌, ◌-◌, ◌+◌, ◌≤◌}
+use Rattle.std.proofs.Common.{◌≡◌, ◌-◌, ◌≤◌}
 use Rattle.krl_table.specs.Kept.{lowered_between}
 use Rattle.krl_table.proofs.Walk.{IsWalked}
 use Rattle.krl_table.proofs.walks.lower.Given as goal

@@ -1,4 +1,4 @@
-use Rattle.std.proofs.Common.{ap, ◌∙◌, sym}
+use Rattle.std.proofs.Common.{ap}
 use Rattle.krl_table.proofs.Means.{blank_is}
 use Rattle.krl_table.proofs.row.SlotRow.is_blank.Goals as goal
 

@@ -1,5 +1,4 @@
-use Rattle.std.proofs.Common.{◌≡◌, ◌≤◌, ◌<◌, subst, arith}
-use Rattle.krl_modes.specs.declared.point.TheConstants.{END, TOP}
+use Rattle.std.proofs.Common.{subst, arith}
 use Rattle.krl_messages.specs.declared.pieces.Pieces.{Pieces}
 use Rattle.krl_table.specs.Reported.{NothingFrom, IsNextReported}
 use Rattle.krl_table.proofs.Reported.{ranges_nearer, next_reported, nothing_more}

@@ -1,11 +1,12 @@
-use Rattle.std.proofs.Common.{◌≡◌, ◌≤◌, ◌<◌, ◌↔◌, ℕ, Bool, true, false, refl, sym, ap, subst, ◌∙◌, arith}
-use Rattle.krl_modes.specs.declared.point.TheConstants.{END, TOP}
+use Rattle.std.proofs.Common.{◌≡◌, ◌≤◌, true, false, refl, sym, ap, subst, ◌∙◌, arith}
+use Rattle.krl_modes.specs.declared.point.TheConstants.{TOP}
 use Rattle.krl_modes.specs.declared.mode.Mode.TheVariants as mode
 use Rattle.krl_table.specs.Reports.{conflicts, adopted}
-use Rattle.krl_table.specs.Kept.{most_rows, rows_of, IsOver, AreListed}
+use Rattle.krl_table.specs.Kept.{most_rows, rows_of, IsOver}
 use Rattle.krl_table.proofs.Sounds.{listed_same}
 use Rattle.krl_table.proofs.Clears.{lowered_sound, lowered_queue, lowered_over}
 use Rattle.krl_table.proofs.Reported.{no_conflict, fit_all, adopted_queue, adopted_sound, adopted_same, emptied_at, emptied_off, emptied_fits}
+use Rattle.krl_table.proofs.Within.{all_lowered, lower_within}
 use Rattle.krl_table.proofs.table.Table.adopt_report.Goals as goal
 
 pub all_fit-requires : goal.all_fit-requires
@@ -13,33 +14,38 @@ all_fit-requires c = c.requires.over.near
 
 pub settle-requires : goal.settle-requires
 settle-requires c =
+    let all = all_lowered c.args.client c.requires.client c.self.inside.extents.by_client c.self.inside.rows.map c.lower.new.rows.map c.self.invariant.3 c.of-extent.result c.of-extent.ensures c.lower.ensures.all in
     let m = c.args.durable.now.index in let t = c.self.inside.rows.map in let v = c.lower.new.rows.map in
     record {
-      over = lowered_over 0 TOP c.args.client mode.N c.requires.client t v c.lower.ensures.all m (subst (IsOver m) (sym c.self.view_is) c.requires.over);
-      used = c.lower.ensures.all.used;
+      over = lowered_over 0 TOP c.args.client mode.N c.requires.client t v all m (subst (IsOver m) (sym c.self.view_is) c.requires.over);
+      used = all.used;
       few = c.epoch-kept.ensures.kept.few;
       room = subst (λ n. most_rows ≤ n) (sym c.lower.ensures.room) c.self.invariant.2;
       client = c.requires.client;
-      free = λ n. emptied_at c.args.client t v c.self.invariant.0 c.lower.ensures.all n;
+      free = λ n. emptied_at c.args.client t v c.self.invariant.0 all n;
+      within = lower_within c.self.inside.extents.by_client 0 TOP c.args.client mode.N t v all c.self.invariant.3;
     }
 
 pub invariant_of-self : goal.invariant_of-self
 invariant_of-self c =
+    let all = all_lowered c.args.client c.requires.client c.self.inside.extents.by_client c.self.inside.rows.map c.lower.new.rows.map c.self.invariant.3 c.of-extent.result c.of-extent.ensures c.lower.ensures.all in
     let m = c.args.durable.now.index in let t = c.self.inside.rows.map in let v = c.lower.new.rows.map in let u = c.settle.new.rows.map in let pieces = c.args.pieces.now in
     let fit = c.all_fit.ensures.0 (grind (arith, c.if-not-all_fit.false)) in
-    let sound = lowered_sound 0 TOP c.args.client mode.N c.requires.client t v c.lower.ensures.all c.self.invariant.0 in
-    let over = lowered_over 0 TOP c.args.client mode.N c.requires.client t v c.lower.ensures.all m (subst (IsOver m) (sym c.self.view_is) c.requires.over) in (
-      adopted_sound m c.args.client pieces v u c.requires.client sound c.settle.ensures.adopted (emptied_fits c.args.client t v c.lower.ensures.all m over.near pieces fit) c.settle.ensures.over c.settle.ensures.used,
-      listed_same c.self.inside.waiting.by_client t u (λ n. adopted_queue m c.args.client pieces v u c.requires.client sound c.settle.ensures.adopted n ∙ lowered_queue 0 TOP c.args.client mode.N c.requires.client t v c.lower.ensures.all n) c.self.invariant.1,
+    let sound = lowered_sound 0 TOP c.args.client mode.N c.requires.client t v all c.self.invariant.0 in
+    let over = lowered_over 0 TOP c.args.client mode.N c.requires.client t v all m (subst (IsOver m) (sym c.self.view_is) c.requires.over) in (
+      adopted_sound m c.args.client pieces v u c.requires.client sound c.settle.ensures.adopted (emptied_fits c.args.client t v all m over.near pieces fit) c.settle.ensures.over c.settle.ensures.used,
+      listed_same c.self.inside.waiting.by_client t u (λ n. adopted_queue m c.args.client pieces v u c.requires.client sound c.settle.ensures.adopted n ∙ lowered_queue 0 TOP c.args.client mode.N c.requires.client t v all n) c.self.invariant.1,
       subst (λ n. most_rows ≤ n) (sym (c.settle.ensures.room ∙ c.lower.ensures.room)) c.self.invariant.2,
+      c.settle.ensures.within,
     )
 
 pub returns-clause-adopted : goal.returns-clause-adopted
 returns-clause-adopted c n =
+    let all = all_lowered c.args.client c.requires.client c.self.inside.extents.by_client c.self.inside.rows.map c.lower.new.rows.map c.self.invariant.3 c.of-extent.result c.of-extent.ensures c.lower.ensures.all in
     let m = c.args.durable.now.index in let t = c.self.inside.rows.map in let v = c.lower.new.rows.map in
     let over = subst (IsOver m) (sym c.self.view_is) c.requires.over in
     c.settle.ensures.adopted n
-    ∙ adopted_same m c.args.client c.args.pieces.now t v over (λ k e. emptied_off c.args.client t v c.lower.ensures.all m over k e) (λ k e. Rattle.krl_table.proofs.Reported.blank_off c.args.client t v c.lower.ensures.all m over k e) n
+    ∙ adopted_same m c.args.client c.args.pieces.now t v over (λ k e. emptied_off c.args.client t v all m over k e) (λ k e. Rattle.krl_table.proofs.Reported.blank_off c.args.client t v all m over k e) n
     ∙ ap (λ x. adopted m (rows_of x) c.args.client c.args.pieces.now n) c.self.view_is
 
 pub returns-clause-conflict : goal.returns-clause-conflict

@@ -1,8 +1,8 @@
-use Rattle.std.proofs.Common.{◌≡◌, ◌<◌, true, Some, None, IfSome, sym, ap, subst, ◌∙◌, arith}
+use Rattle.std.proofs.Common.{◌≡◌, ◌<◌, true, Some, IfSome, sym, ap, subst, ◌∙◌, arith}
 use Rattle.std.specs.FinMap.{get}
 use Rattle.krl_table.specs.Rows.{row_fits, front_of}
 use Rattle.krl_table.specs.Calls.{wanted}
-use Rattle.krl_table.specs.Replies.{answerable, row_reply, first_reply}
+use Rattle.krl_table.specs.Replies.{answerable, row_reply}
 use Rattle.krl_table.specs.Kept.{row_of, row_there, rows_of, IsOver}
 use Rattle.krl_table.proofs.Fronts.{front_client}
 use Rattle.krl_table.proofs.Answering.{reply_is, reply_grants}

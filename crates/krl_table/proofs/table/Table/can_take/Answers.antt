@@ -5,9 +5,8 @@ use Rattle.krl_modes.specs.declared.point.TheConstants.{END}
 use Rattle.krl_modes.specs.Modes.{needs_entry}
 use Rattle.krl_table.specs.Rows.{row_fits, blank_row}
 use Rattle.krl_table.specs.Calls.{wanted}
-use Rattle.krl_table.specs.Replies.{can_have}
 use Rattle.krl_table.specs.Grants.{nobody_waits}
-use Rattle.krl_table.specs.Kept.{row_of, row_there, rows_of, row_takes}
+use Rattle.krl_table.specs.Kept.{row_of, row_there, row_takes}
 use Rattle.krl_table.proofs.Raises.{blank_fits}
 use Rattle.krl_table.proofs.table.Table.can_take.Goals as goal
 

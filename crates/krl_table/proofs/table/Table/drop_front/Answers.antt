@@ -1,10 +1,11 @@
-use Rattle.std.proofs.Common.{◌≡◌, ◌≤◌, ◌<◌, Some, None, false, true, IsSome, IfSome, Option, sym, ap, subst, refl, ◌∙◌}
-use Rattle.std.specs.Prelude.{is_some, option_copied}
+use Rattle.std.proofs.Common.{◌≡◌, ◌≤◌, ◌<◌, Some, None, true, IsSome, IfSome, Option, sym, ap, subst, refl, ◌∙◌}
+use Rattle.std.specs.Prelude.{is_some}
 use Rattle.std.specs.FinMap.{get}
 use Rattle.krl_table.specs.declared.row.SlotRow.{SlotRow}
 use Rattle.krl_table.specs.Kept.{most_rows, rows_of, IsOver, AreListed}
 use Rattle.krl_table.proofs.Fronts.{front_client, dropped_sound, dropped_listed, dropped_over}
 use Rattle.krl_table.proofs.Sounds.{row_end}
+use Rattle.krl_table.proofs.Within.{same_wider, within_less, free_behind}
 use Rattle.krl_table.proofs.table.Table.drop_front.Goals as goal
 
 some_of : (o : Option SlotRow) → is_some o ≡ true → IsSome o
@@ -21,6 +22,7 @@ invariant_of-self c =
       dropped_sound t u k c.self.invariant.0 le c.drop_front-first.ensures.set,
       subst (λ l. AreListed l u) (sym c.leave.ensures) (dropped_listed t u k c.self.invariant.0 le c.drop_front-first.ensures.set c.self.inside.waiting.by_client c.drop_front-first.result c.drop_front-first.ensures.waiter c.self.invariant.1),
       subst (λ n. most_rows ≤ n) (sym c.drop_front-first.ensures.room) c.self.invariant.2,
+      (let es = c.self.inside.extents.by_client in within_less es es t u k _ c.drop_front-first.ensures.set (same_wider es) c.self.invariant.3 (free_behind (rows_of t k))),
     )
 
 pub returns-then-has_row-clause-slots : goal.returns-then-has_row-clause-slots

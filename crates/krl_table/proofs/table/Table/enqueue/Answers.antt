@@ -1,11 +1,12 @@
 use Rattle.std.proofs.Common.{◌≡◌, ◌≤◌, ℕ, Some, None, sym, ap, subst, ◌∙◌}
 use Rattle.krl_modes.specs.declared.point.TheConstants.{END}
 use Rattle.krl_queue.specs.Waiting.{first_of}
-use Rattle.krl_table.specs.Calls.{with_queue, queue_with}
-use Rattle.krl_table.specs.Kept.{most_rows, rows_of, IsOver, IsSet, AreListed}
+use Rattle.krl_table.specs.Kept.{most_rows, rows_of, IsOver, AreListed}
+use Rattle.krl_table.specs.Extents.{extent_in, Lies}
 use Rattle.krl_table.proofs.Rooms.{room_at}
-use Rattle.krl_table.proofs.Slots.{next_of, slot_end}
+use Rattle.krl_table.proofs.Slots.{slot_end}
 use Rattle.krl_table.proofs.Fronts.{more_sound, more_listed, more_over}
+use Rattle.krl_table.proofs.Within.{within_one, free_queue_with}
 use Rattle.krl_table.proofs.table.Table.enqueue.Goals as goal
 
 pub enqueue-requires-clause-room : goal.enqueue-requires-clause-room
@@ -23,6 +24,7 @@ invariant_of-self c =
       subst (λ l. AreListed l u) (sym (c.note.ensures ∙ ap (λ x. Rattle.std.proofs.Common.set c.self.inside.waiting.by_client x.client (Some x)) c.waiter-waiter.ensures))
           (more_listed t u k w c.self.invariant.0 c.enqueue.ensures.set c.requires.client free c.self.inside.waiting.by_client c.self.invariant.1),
       subst (λ n. most_rows ≤ n) (sym c.enqueue.ensures.room) c.self.invariant.2,
+      within_one c.self.inside.extents.by_client c.note-2.new.self.by_client t u k _ c.enqueue.ensures.set c.note-2.ensures.wider c.self.invariant.3 w.client (subst (λ x. Lies (extent_in c.note-2.new.self.by_client x) k) (ap (λ x. x.client) c.waiter-waiter.ensures) c.note-2.ensures.there) (λ d. free_queue_with (rows_of t k) w d),
     )
 
 pub returns-clause-slots : goal.returns-clause-slots

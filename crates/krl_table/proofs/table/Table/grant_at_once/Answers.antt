@@ -1,9 +1,9 @@
-use Rattle.std.proofs.Common.{◌≡◌, ℕ, ◌≤◌, ◌-◌, ◌++◌, ◌∷◌, [], Bool, true, false, ◌&&◌, length, refl, sym, ap, subst, ◌∙◌, arith}
+use Rattle.std.proofs.Common.{◌≡◌, ◌-◌, ◌++◌, ◌∷◌, [], Bool, true, false, ◌&&◌, length, refl, sym, ap, subst, ◌∙◌, arith}
 use Rattle.std.proofs.Math.Path.{fun_ext}
 use Rattle.krl_durable.specs.Index.{slot_of, IsSlotOf}
 use Rattle.krl_table.specs.Rows.{Rows}
-use Rattle.krl_table.specs.Calls.{raised, raised_on}
-use Rattle.krl_table.specs.Replies.{asks_absent, can_have}
+use Rattle.krl_table.specs.Calls.{raised_on}
+use Rattle.krl_table.specs.Replies.{can_have}
 use Rattle.krl_table.specs.Grants.{nobody_waits, taken_after}
 use Rattle.krl_table.specs.Kept.{rows_of}
 use Rattle.krl_table.proofs.Answering.{lacks_is}

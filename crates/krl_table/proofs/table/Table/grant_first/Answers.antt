@@ -1,4 +1,4 @@
-use Rattle.std.proofs.Common.{◌≡◌, ◌≤◌, ◌<◌, true, Option, Some, None, IsSome, IfSome, sym, ap, subst, ◌∙◌}
+use Rattle.std.proofs.Common.{◌≡◌, ◌≤◌, ◌<◌, true, IsSome, IfSome, sym, ap, subst, ◌∙◌}
 use Rattle.std.specs.FinMap.{get}
 use Rattle.krl_table.specs.Rows.{front_of}
 use Rattle.krl_table.specs.Replies.{can_have}
@@ -7,6 +7,7 @@ use Rattle.krl_table.specs.Kept.{most_rows, rows_of, IsOver, AreListed}
 use Rattle.krl_table.proofs.Means.{set_rows}
 use Rattle.krl_table.proofs.Fronts.{front_client, granted_sound, granted_listed, granted_over}
 use Rattle.krl_table.proofs.Sounds.{row_end}
+use Rattle.krl_table.proofs.Within.{same_wider, within_less, free_granted}
 use Rattle.krl_table.proofs.table.Table.grant_first.Goals as goal
 
 pub grant-first-requires : goal.grant-first-requires
@@ -25,6 +26,7 @@ invariant_of-self c =
       granted_sound t u k c.self.invariant.0 le c.grant-first.ensures.set (subst (λ x. IfSome (front_of (rows_of x k).queue) (λ w. can_have (rows_of x) k w ≡ true)) (sym c.self.view_is) c.requires.fits),
       subst (λ l. AreListed l u) (sym c.leave.ensures) (granted_listed t u k c.self.invariant.0 le c.grant-first.ensures.set c.self.inside.waiting.by_client c.grant-first.result c.grant-first.ensures.waiter c.self.invariant.1),
       subst (λ n. most_rows ≤ n) (sym c.grant-first.ensures.room) c.self.invariant.2,
+      (let es = c.self.inside.extents.by_client in within_less es es t u k _ c.grant-first.ensures.set (same_wider es) c.self.invariant.3 (free_granted (rows_of t k))),
     )
 
 pub returns-clause-granted : goal.returns-clause-granted

@@ -1,10 +1,10 @@
 use Rattle.std.proofs.Common.{◌≡◌, ◌≤◌, ◌<◌, ℕ, true, sym, ap, subst, ◌∙◌, arith}
-use Rattle.std.specs.FinMap.{get}
 use Rattle.krl_durable.specs.Index.{Index, low_of, is_slot, IsSlotOf}
 use Rattle.krl_table.specs.Calls.{lowered}
-use Rattle.krl_table.specs.Kept.{most_rows, rows_of, IsOver, AreListed}
+use Rattle.krl_table.specs.Kept.{most_rows, rows_of, IsOver}
 use Rattle.krl_table.proofs.Sounds.{listed_same}
 use Rattle.krl_table.proofs.Clears.{lowered_sound, lowered_queue, lowered_over, lowered_is, begins_past, begins_at}
+use Rattle.krl_table.proofs.Within.{lower_within}
 use Rattle.krl_table.proofs.table.Table.lower.Goals as goal
 use Rattle.krl_table.proofs.table.Table.lower.Goals.{then-first-lo, else-first-lo}
 
@@ -34,6 +34,7 @@ invariant_of-self c =
       lowered_sound from hi c.args.client c.args.keep c.requires.client t u c.lower.ensures.all c.self.invariant.0,
       listed_same c.self.inside.waiting.by_client t u (lowered_queue from hi c.args.client c.args.keep c.requires.client t u c.lower.ensures.all) c.self.invariant.1,
       subst (λ n. most_rows ≤ n) (sym c.lower.ensures.room) c.self.invariant.2,
+      lower_within c.self.inside.extents.by_client from hi c.args.client c.args.keep t u c.lower.ensures.all c.self.invariant.3,
     )
 
 pub returns-clause-lowered : goal.returns-clause-lowered

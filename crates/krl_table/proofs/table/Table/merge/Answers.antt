@@ -1,5 +1,4 @@
-use Rattle.std.proofs.Common.{◌≡◌, ◌≢◌, ◌≤◌, ◌<◌, ℕ, suc, ◌+◌, true, false, Some, None, IsSome, refl, sym, ap, subst, ◌∙◌, add-one, arith}
-use Rattle.std.specs.FinMap.{get, remove}
+use Rattle.std.proofs.Common.{◌≡◌, ◌≤◌, ◌<◌, ℕ, suc, ◌+◌, sym, ap, subst, ◌∙◌, add-one, arith}
 use Rattle.krl_modes.specs.declared.point.TheConstants.{END}
 use Rattle.krl_modes.specs.declared.mode.Mode.{Mode}
 use Rattle.krl_modes.specs.declared.mode.Mode.TheVariants as mode
@@ -9,9 +8,10 @@ use Rattle.krl_durable.specs.Index.{Index, slot_of, IsSlotOf}
 use Rattle.krl_table.specs.Rows.{mode_at}
 use Rattle.krl_table.specs.Calls.{merged}
 use Rattle.krl_table.specs.Points.{range_at, key_at, MayDelete}
-use Rattle.krl_table.specs.Kept.{most_rows, Kept, rows_of, IsOver, AreListed}
+use Rattle.krl_table.specs.Kept.{most_rows, Kept, rows_of, IsOver}
 use Rattle.krl_table.proofs.Sounds.{held_row}
 use Rattle.krl_table.proofs.Merges.{its_gap, its_next, under, merge_rows, merge_listed, merge_sound, merge_over, merge_ranges, merge_keys}
+use Rattle.krl_table.proofs.Within.{merge_within}
 use Rattle.krl_table.proofs.table.Table.merge.Goals as goal
 
 -- who has a gap alone holds something
@@ -46,6 +46,7 @@ invariant_of-self c =
       merge_sound m k s c.requires.over.near c.requires.key c.requires.there at t u w over c.self.invariant.0 may c.join.ensures.set,
       merge_listed m k s c.requires.over.near c.requires.key c.requires.there at t u w over c.self.invariant.0 may c.join.ensures.set c.self.inside.waiting.by_client c.self.invariant.1,
       subst (λ n. most_rows ≤ n) (sym c.join.ensures.room) c.self.invariant.2,
+      merge_within c.self.inside.extents.by_client c.follow.new.self.by_client t u k s c.follow.ensures.wider c.self.invariant.3 c.follow.ensures.there c.join.ensures.set,
     )
 
 pub returns-clause-merged : goal.returns-clause-merged

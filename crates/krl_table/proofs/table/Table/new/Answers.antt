@@ -1,10 +1,10 @@
-use Rattle.std.proofs.Common.{◌≡◌, ◌≤◌, ℕ, Some, None, IsSome, sym, ap, subst, refl, ◌∙◌, arith}
-use Rattle.std.specs.FinMap.{FinMap, get, empty, get-empty}
+use Rattle.std.proofs.Common.{◌≤◌, ℕ, sym, ap, subst, ◌∙◌, arith}
+use Rattle.std.specs.FinMap.{get, get-empty}
 use Rattle.std.specs.Ordering.{nat_cmp}
-use Rattle.krl_table.specs.Rows.{blank_row}
-use Rattle.krl_table.specs.Kept.{most_rows, Kept, row_there, rows_of, IsOver, IsSound, AreListed, waiter_in}
+use Rattle.krl_table.specs.Kept.{most_rows}
 use Rattle.krl_table.proofs.Nothing.{nothing_sound, nothing_over, nothing_listed, nothing_rows}
 use Rattle.krl_table.proofs.Rooms.{rows_are}
+use Rattle.krl_table.proofs.Within.{none_within}
 use Rattle.krl_table.proofs.table.Table.new.Goals as goal
 
 pub invariant_of-result : goal.invariant_of-result
@@ -13,6 +13,7 @@ invariant_of-result c =
       nothing_sound t none,
       nothing_listed t none c.nobody.result.by_client c.nobody.ensures.full c.nobody.ensures.nobody,
       subst (λ s. most_rows ≤ s.room) (sym c.in_ok-rows.ensures) (let e = rows_are in omega (arith, e)),
+      none_within c.nowhere.result.by_client t none,
     )
 
 pub returns-clause-blank : goal.returns-clause-blank

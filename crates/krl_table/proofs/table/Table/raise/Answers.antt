@@ -6,6 +6,7 @@ use Rattle.krl_table.proofs.Means.{set_rows}
 use Rattle.krl_table.proofs.Rooms.{room_at}
 use Rattle.krl_table.proofs.Slots.{slot_end}
 use Rattle.krl_table.proofs.Raises.{raised_sound, raised_listed, raised_over}
+use Rattle.krl_table.proofs.Within.{within_one, free_mode}
 use Rattle.krl_table.proofs.table.Table.raise.Goals as goal
 
 pub raise-requires : goal.raise-requires
@@ -22,6 +23,7 @@ invariant_of-self c =
       raised_sound t u k w c.self.invariant.0 c.requires.client c.raise.ensures.set le (subst (λ x. can_have (rows_of x) k w ≡ true) (sym c.self.view_is) c.requires.fits),
       raised_listed t u k w c.self.invariant.0 c.requires.client c.raise.ensures.set c.self.inside.waiting.by_client c.self.invariant.1,
       subst (λ n. most_rows ≤ n) (sym c.raise.ensures.room) c.self.invariant.2,
+      within_one c.self.inside.extents.by_client c.note.new.self.by_client t u k _ c.raise.ensures.set c.note.ensures.wider c.self.invariant.3 w.client c.note.ensures.there (λ d. free_mode (rows_of t k) w.client d _),
     )
 
 pub returns-clause-raised : goal.returns-clause-raised

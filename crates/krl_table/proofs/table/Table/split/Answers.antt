@@ -1,19 +1,19 @@
-use Rattle.std.proofs.Common.{◌≡◌, ◌≢◌, ◌≤◌, ◌<◌, ◌⊎◌, ℕ, true, false, [], Some, None, IsSome, refl, sym, ap, subst, ◌∙◌, arith}
-use Rattle.std.specs.FinMap.{get, insert}
+use Rattle.std.proofs.Common.{◌≡◌, ◌≤◌, ℕ, true, [], sym, ap, subst, ◌∙◌}
 use Rattle.krl_modes.specs.declared.point.TheConstants.{END}
 use Rattle.krl_modes.specs.declared.mode.Mode.{Mode}
 use Rattle.krl_modes.specs.declared.mode.Mode.TheVariants as mode
-use Rattle.krl_modes.specs.declared.part.KeyPart.TheVariants as key
 use Rattle.krl_modes.specs.Parts.{lets_insert}
 use Rattle.krl_modes.specs.Modes.{range_of}
 use Rattle.krl_durable.specs.Index.{Index, slot_of, IsSlotOf}
 use Rattle.krl_table.specs.Rows.{mode_at}
 use Rattle.krl_table.specs.Calls.{split}
 use Rattle.krl_table.specs.Points.{range_at, key_at, MayInsert}
-use Rattle.krl_table.specs.Kept.{most_rows, Kept, rows_of, IsOver, AreListed}
+use Rattle.krl_table.specs.Kept.{most_rows, Kept, rows_of, IsOver}
+use Rattle.krl_table.specs.Extents.{extent_in, Lies}
 use Rattle.krl_table.proofs.Sounds.{held_row}
 use Rattle.krl_table.proofs.Rooms.{room_new}
 use Rattle.krl_table.proofs.Splits.{apart, split_rows, split_listed, split_sound, split_over, split_ranges, split_keys, split_own}
+use Rattle.krl_table.proofs.Within.{split_within}
 use Rattle.krl_table.proofs.table.Table.split.Goals as goal
 
 -- who may insert holds something
@@ -48,6 +48,8 @@ invariant_of-self c =
       split_sound m k s [] c.requires.over.near c.requires.key c.requires.free at t u c.args.client over c.self.invariant.0 c.requires.client may c.part.ensures.set,
       split_listed m k s [] c.requires.over.near c.requires.key c.requires.free at t u c.args.client over c.self.invariant.0 c.requires.client may c.part.ensures.set c.self.inside.waiting.by_client c.self.invariant.1,
       subst (λ n. most_rows ≤ n) (sym c.part.ensures.room) c.self.invariant.2,
+      split_within c.self.inside.extents.by_client c.follow.new.self.by_client t u k s c.args.client c.follow.ensures.wider c.self.invariant.3
+          (λ d lt h. subst (Lies (extent_in c.follow.new.self.by_client d)) c.get-2.ensures.number (c.follow.ensures.there d lt h)) may c.part.ensures.set,
     )
 
 pub returns-clause-split : goal.returns-clause-split

@@ -1,4 +1,4 @@
-use Rattle.std.proofs.Common.{◌≡◌, ℕ, None, sym, ap, subst, ◌∙◌}
+use Rattle.std.proofs.Common.{◌≡◌, None, sym, ap, subst, ◌∙◌}
 use Rattle.krl_table.specs.Kept.{rows_of, IsOver}
 use Rattle.krl_table.specs.Rows.{waiter_of}
 use Rattle.krl_table.specs.Sound.{IsTable}

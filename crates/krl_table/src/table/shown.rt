@@ -1,0 +1,64 @@
+//! What a client holds, and whom it waits behind.
+ghost use Rattle.std.specs.Prelude.{◌≡◌, ◌≢◌, ◌<◌, ℕ, true, false, None};
+ghost use Rattle.std.specs.FinMap as map;
+ghost use Rattle.krl_modes.specs.declared.point.TheConstants.{END};
+ghost use Rattle.krl_modes.specs.declared.mode.Mode.TheVariants as mode;
+ghost use Rattle.krl_queue.specs.Waiting.{goes_before};
+ghost use Rattle.krl_table.specs.Holds.{HoldsAt};
+ghost use Rattle.krl_table.specs.Kept.{rows_of};
+ghost use Rattle.krl_table.specs.Rows.{mode_at};
+
+use super::Table;
+use crate::row::SlotRow;
+use krl_modes::Mode;
+use krl_store::Store;
+
+impl Table {
+    /// Whether the other client waits on the slot, and the client does not wait there before it.
+    pub fn goes_before(&self, slot: u64, client: u64, other: u64) -> bool
+        ensures { result ≡ goes_before client other (rows_of self.now slot).queue }
+    {
+        match self.rows.get(slot) {
+            Some(row) => row.queue.goes_before(client, other),
+            None => false,
+        }
+    }
+
+    /// At how many slots the client holds a mode other than N. It looks at all rows that are kept,
+    /// with two searches for each.
+    pub fn held_slots(&self, client: u64) -> u64
+        requires { client < 64 }
+        ensures { HoldsAt (rows_of self.now) client result }
+    {
+        count_held(&self.rows, client)
+    }
+}
+
+// Whether the client holds a mode other than N on the slot.
+fn holds(rows: &Store<SlotRow>, slot: u64, client: u64) -> bool
+    requires { client < 64 }
+    ensures held { result ≡ true → mode_at (rows_of rows.now.map) slot client ≢ mode.N }
+    ensures free { result ≡ false → mode_at (rows_of rows.now.map) slot client ≡ mode.N }
+{
+    match rows.get(slot) {
+        Some(row) => row.mode(client) != Mode::N,
+        None => false,
+    }
+}
+
+// At how many slots it does.
+fn count_held(rows: &Store<SlotRow>, client: u64) -> u64
+    requires near { (n : ℕ) → END < n → map.get rows.now.map n ≡ None }
+    requires client { client < 64 }
+    ensures { HoldsAt (rows_of rows.now.map) client result }
+{
+    let mut count: u64 = 0;
+    let mut at: u64 = 0;
+    while let Some(slot) = rows.next(at) {
+        if holds(rows, slot, client) {
+            count += 1;
+        }
+        at = slot + 1;
+    }
+    count
+}
