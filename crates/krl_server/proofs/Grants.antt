@@ -152,6 +152,37 @@ granted_below m rows n k lt = by_queue (rows n).queue refl
         (λ r j far slot fits same. row_other r j (with_mode (r j) u.client (wanted (r j) u)) k (λ f. omega (arith, f, far, lt)) ∙ same)
         most_more n (granted_first rows n) (omega arith) (row_other rows n (grant_first (rows n) (rows n).queue) k (λ f. omega (arith, f, lt)))
 
+-- a row at which somebody waits stays, beside the grant's own
+module _ (m : Index) (u : Waiter) (k : ℕ) (v : Waiter) (vs : List Waiter) where
+  free_next : (rows : Rows) (n : ℕ) → goes_on m rows n u ≡ true → nobody_waits (rows (slot_of m (suc n))).queue ≡ true
+  free_next rows n e =
+      let x = and_true (nat_lt n END) (nat_lt (suc n) u.hi && can_take rows (slot_of m (suc n)) u) e in
+      let y = and_true (nat_lt (suc n) u.hi) (can_take rows (slot_of m (suc n)) u) x.1 in
+      (and_true (nobody_waits (rows (slot_of m (suc n))).queue) (can_have rows (slot_of m (suc n)) u && not (needs_entry u.mode && nat_eq (slot_of m (suc n)) END)) y.1).0
+
+  not_next : (rows : Rows) (n : ℕ) → goes_on m rows n u ≡ true → (rows k).queue ≡ v ∷ vs → k ≢ slot_of m (suc n)
+  not_next rows n e queue f =
+      let taken : true ≡ false = sym (free_next rows n e) ∙ ap (λ j. nobody_waits (rows j).queue) (sym f) ∙ ap nobody_waits queue in
+      absurd (cc)
+
+  raised_beside : (j n : ℕ) (rows : Rows) → (rows k).queue ≡ v ∷ vs → raised_on rows (taken_after m rows n u j) u k ≡ rows k
+  raised_beside zero n rows queue = refl
+  raised_beside (suc j) n rows queue = if_case (λ ns. raised_on rows ns u k ≡ rows k) (goes_on m rows n u) (slot_of m (suc n) ∷ taken_after m (raised rows (slot_of m (suc n)) u) (slot_of m (suc n)) u j) []
+      (λ e. let next = slot_of m (suc n) in
+      raised_beside j next (raised rows next u) (raised_queue rows next u k ∙ queue)
+      ∙ row_other rows next (with_mode (rows next) u.client (wanted (rows next) u)) k (not_next rows n e queue))
+      (λ e. refl)
+
+pub granted_beside : (m : Index) (rows : Rows) (n k : ℕ) (v : Waiter) (vs : List Waiter) → k ≢ n → (rows k).queue ≡ v ∷ vs → granted m rows n k ≡ rows k
+granted_beside m rows n k v vs ne queue = by_queue (rows n).queue refl
+  where
+    first : granted_first rows n k ≡ rows k
+    first = row_other rows n (grant_first (rows n) (rows n).queue) k ne
+
+    by_queue : (us : List Waiter) → (rows n).queue ≡ us → granted_by m rows n us k ≡ rows k
+    by_queue [] e = refl
+    by_queue (u ∷ us) e = raised_beside m u k v vs most_more n (granted_first rows n) (ap (λ r. r.queue) first ∙ queue) ∙ first
+
 -- What a push tells of the slots
 
 -- the span of a slot begins behind each slot below it

@@ -1,4 +1,5 @@
 mod Worked
+pub mod AtOnce
 pub mod Slots
 pub mod Meaning
 pub mod Follows
@@ -58,3 +59,4 @@ pub mod Started
 pub mod Nudged
 pub mod Listed
 pub mod Nears
+pub mod Waits

@@ -41,7 +41,7 @@ pushed_means st c body line e lt room = subst (λ l. meaning (record st { lines 
     ∙ ap (λ ls. record (meaning st) { lines = ls }) (lines_set st.lines c (record x { pushed = suc x.pushed; unheard = Some body }) lt)
     ∙ sym (ap (λ d. d.server) (pushes_next (meaning st) c body (subst (λ l. l.pushed < END) e room))))
 
-set_twice : (lines : ℕ → Line) (c : ℕ) (x y : Line) → set_line (set_line lines c x) c y ≡ set_line lines c y
+pub set_twice : (lines : ℕ → Line) (c : ℕ) (x y : Line) → set_line (set_line lines c x) c y ≡ set_line lines c y
 set_twice lines c x y = fun_ext (λ d. by_test (nat_eq d c) d)
   where
     by_test : (b : Bool) (d : ℕ) → (if b then y else (if b then x else lines d)) ≡ (if b then y else lines d)

@@ -33,7 +33,7 @@ first_in c (u ∷ us) e = by_eq (nat_eq u.client c) refl e (first_in c us)
     by_eq true f g ih = (u, inl refl, eqb-true u.client c f)
     by_eq false f g ih = let x = ih g in (x.0, inr x.1, x.2)
 
-in_first : (c : ℕ) (us : List Waiter) (u : Waiter) → In u us → u.client ≡ c → is_some (first_of c us) ≡ true
+pub in_first : (c : ℕ) (us : List Waiter) (u : Waiter) → In u us → u.client ≡ c → is_some (first_of c us) ≡ true
 in_first c [] u at e = absurd at
 in_first c (v ∷ vs) u at e = by_eq (nat_eq v.client c) refl at (in_first c vs u)
   where

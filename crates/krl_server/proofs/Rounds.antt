@@ -1,5 +1,5 @@
 -- One walk upward over the slots answers all who can be answered.
-use Rattle.std.proofs.Common.{◌≡◌, ℕ, suc, ◌≤◌, ◌<◌, Bool, true, false, not, ◌&&◌, ◌||◌, Option, Some, None, List, [], ◌∷◌, ◌++◌, map, inl, inr, refl, sym, ap, subst, ◌∙◌, ⊎_elim, append_assoc, arith}
+use Rattle.std.proofs.Common.{◌≡◌, ◌≢◌, ℕ, suc, ◌≤◌, ◌<◌, Bool, true, false, not, ◌&&◌, ◌||◌, Option, Some, None, List, [], ◌∷◌, ◌++◌, map, inl, inr, refl, sym, ap, subst, ◌∙◌, ⊎_elim, append_assoc, arith}
 use Rattle.std.proofs.Common.{nat_eq}
 use Rattle.std.proofs.lemmas.Bool.{cases_lt}
 use Rattle.std.proofs.lemmas.List.{append-nil}
@@ -35,7 +35,7 @@ use Rattle.krl_server.proofs.Counted.{above_all, keys_under}
 use Rattle.krl_server.proofs.Tabled.{slots_have}
 use Rattle.krl_server.proofs.Ends.{pushes_rows, turn_durable, turn_less}
 use Rattle.krl_server.proofs.Follows.{some_same}
-use Rattle.krl_server.proofs.Grants.{granted_below}
+use Rattle.krl_server.proofs.Grants.{granted_below, granted_beside}
 use Rattle.krl_server.proofs.Turns.{turn_sound}
 use Rattle.krl_server.proofs.Kept.{turn_table}
 
@@ -107,6 +107,27 @@ next_is s n t near there none e = among_first s n t (slots s.durable.index) (slo
 pub empty_none : (s : Server) (n : ℕ) → (s.rows n).queue ≡ [] → turn_here s n ≡ None
 empty_none s n e = ap (λ q. turn_at s n q None) e
 
+-- where nobody is next, nobody can be answered at any slot
+at_nothing : (s : Server) (n : ℕ) (us : List Waiter) (later : Option Turn) → turn_at s n us later ≡ None → (turn_at s n us None ≡ None) × (later ≡ None)
+at_nothing s n [] later e = (refl, e)
+at_nothing s n (u ∷ us) later e = by_test (is_answerable s n u) e
+  where
+    by_test : (b : Bool) → (if b then Some (let x : Turn = record { slot = n; waiter = u } in x) else later) ≡ None → ((if b then Some (let x : Turn = record { slot = n; waiter = u } in x) else None) ≡ None) × (later ≡ None)
+    by_test true f = absurd (cc)
+    by_test false f = (refl, f)
+
+among_none : (s : Server) (ns : List ℕ) → turn_among s ns ≡ None → (n : ℕ) → In n ns → turn_here s n ≡ None
+among_none s [] e n at = absurd at
+among_none s (k ∷ ks) e n (inl f) = subst (λ x. turn_here s x ≡ None) (sym f) (at_nothing s k (s.rows k).queue (turn_among s ks) e).0
+among_none s (k ∷ ks) e n (inr at) = among_none s ks (at_nothing s k (s.rows k).queue (turn_among s ks) e).1 n at
+
+pub none_here : (s : Server) → IsTable s.durable.index s.rows → next_turn s ≡ None → (n : ℕ) → turn_here s n ≡ None
+none_here s table e n = by_slot (is_slot s.durable.index n) refl
+  where
+    by_slot : (b : Bool) → is_slot s.durable.index n ≡ b → turn_here s n ≡ None
+    by_slot true f = among_none s (slots s.durable.index) e n (slots_have s.durable.index n f)
+    by_slot false f = empty_none s n (ap (λ (r : Row). r.queue) (table.blank n f))
+
 pub none_up_to : (s : Server) (from n : ℕ) → NoneBelow s from → ((k : ℕ) → from ≤ k → k < n → (s.rows k).queue ≡ []) → NoneBelow s n
 none_up_to s from n none gap k lt = ⊎_elim (λ (a : k < from). none k a) (λ (a : from ≤ k). empty_none s k (gap k a lt)) (cases_lt k from)
 
@@ -130,7 +151,7 @@ pushes_can s c body d = if_both (λ (x : Done). can_push (x.server.lines d) ≡ 
     (λ ne. sym (ap can_push (line_other s.lines c d (record (s.lines c) { pushed = suc (s.lines c).pushed; unheard = Some body }) ne)) ∙ f))
     (λ f. f)
 
-turn_can : (s : Server) (t : Turn) (d : ℕ) → can_push ((take_turn s t).server.lines d) ≡ true → can_push (s.lines d) ≡ true
+pub turn_can : (s : Server) (t : Turn) (d : ℕ) → can_push ((take_turn s t).server.lines d) ≡ true → can_push (s.lines d) ≡ true
 turn_can s t d = if_both (λ (x : Done). can_push (x.server.lines d) ≡ true → can_push (s.lines d) ≡ true) (asks_absent s.durable.index t.waiter) (tells_absent s t) (grants s t)
     (pushes_can (with_rows s (dropped s.rows t.slot)) t.waiter.client (push.Absent t.waiter.req t.waiter.point) d)
     (pushes_can (with_rows s (granted s.durable.index s.rows t.slot)) t.waiter.client (push.Grant t.waiter.req (holdings (with_rows s (granted s.durable.index s.rows t.slot)) t.waiter.client (taken s.durable.index s.rows t.slot))) d)
@@ -140,7 +161,13 @@ turn_row s t k lt = if_both (λ (x : Done). x.server.rows k ≡ s.rows k) (asks_
     (ap (λ r. r k) (pushes_rows (with_rows s (dropped s.rows t.slot)) t.waiter.client (push.Absent t.waiter.req t.waiter.point)) ∙ row_other s.rows t.slot (with_queue (s.rows t.slot) (behind_first (s.rows t.slot).queue)) k (λ e. omega (arith, e, lt)))
     (ap (λ r. r k) (pushes_rows (with_rows s (granted s.durable.index s.rows t.slot)) t.waiter.client (push.Grant t.waiter.req (holdings (with_rows s (granted s.durable.index s.rows t.slot)) t.waiter.client (taken s.durable.index s.rows t.slot)))) ∙ granted_below s.durable.index s.rows t.slot k lt)
 
-module _ (s u : Server) (k : ℕ) (index : u.durable ≡ s.durable) (row : u.rows k ≡ s.rows k) (can : (c : ℕ) → can_push (u.lines c) ≡ true → can_push (s.lines c) ≡ true) where
+-- nor does it change a row at which somebody waits, beside its own
+pub turn_row_beside : (s : Server) (t : Turn) (k : ℕ) (v : Waiter) (vs : List Waiter) → k ≢ t.slot → (s.rows k).queue ≡ v ∷ vs → (take_turn s t).server.rows k ≡ s.rows k
+turn_row_beside s t k v vs ne queue = if_both (λ (x : Done). x.server.rows k ≡ s.rows k) (asks_absent s.durable.index t.waiter) (tells_absent s t) (grants s t)
+    (ap (λ r. r k) (pushes_rows (with_rows s (dropped s.rows t.slot)) t.waiter.client (push.Absent t.waiter.req t.waiter.point)) ∙ row_other s.rows t.slot (with_queue (s.rows t.slot) (behind_first (s.rows t.slot).queue)) k ne)
+    (ap (λ r. r k) (pushes_rows (with_rows s (granted s.durable.index s.rows t.slot)) t.waiter.client (push.Grant t.waiter.req (holdings (with_rows s (granted s.durable.index s.rows t.slot)) t.waiter.client (taken s.durable.index s.rows t.slot)))) ∙ granted_beside s.durable.index s.rows t.slot k v vs ne queue)
+
+module _ (s u : Server) (k : ℕ) (index : u.durable ≡ s.durable) (row : u.rows k ≡ s.rows k) (can : (v : Waiter) → In v (s.rows k).queue → can_push (u.lines v.client) ≡ true → can_push (s.lines v.client) ≡ true) where
   same_has : (v : Waiter) → (asks_absent u.durable.index v || can_have u.rows k v) ≡ (asks_absent s.durable.index v || can_have s.rows k v)
   same_has v = ap (λ d. asks_absent d.index v || can_have u.rows k v) index ∙ ap (λ (r : Row). asks_absent s.durable.index v || all_below most_clients (λ d. nat_eq d v.client || Rattle.krl_modes.specs.Modes.compatible (wanted r v) (r.modes d))) row
 
@@ -148,22 +175,22 @@ module _ (s u : Server) (k : ℕ) (index : u.durable ≡ s.durable) (row : u.row
   fewer false b x y f e g = refl
   fewer true b x y f e g = e ∙ sym (ap (λ t. t && y) (f refl)) ∙ g
 
-  not_yet : (v : Waiter) → is_answerable s k v ≡ false → is_answerable u k v ≡ false
-  not_yet v e = fewer (can_push (u.lines v.client)) (can_push (s.lines v.client)) _ _ (can v.client) (same_has v) e
+  not_yet : (v : Waiter) → In v (s.rows k).queue → is_answerable s k v ≡ false → is_answerable u k v ≡ false
+  not_yet v at e = fewer (can_push (u.lines v.client)) (can_push (s.lines v.client)) _ _ (can v at) (same_has v) e
 
-  by_queue : (us : List Waiter) → turn_at s k us None ≡ None → turn_at u k us None ≡ None
-  by_queue [] e = refl
-  by_queue (v ∷ vs) e = by_test (is_answerable s k v) refl e
+  by_queue : (us : List Waiter) → ((v : Waiter) → In v us → In v (s.rows k).queue) → turn_at s k us None ≡ None → turn_at u k us None ≡ None
+  by_queue [] all e = refl
+  by_queue (v ∷ vs) all e = by_test (is_answerable s k v) refl e
     where
       by_test : (b : Bool) → is_answerable s k v ≡ b → (if b then Some (let x : Turn = record { slot = k; waiter = v } in x) else None) ≡ None → turn_at u k (v ∷ vs) None ≡ None
       by_test true f g = absurd (cc)
-      by_test false f g = ap (λ b. if b then Some (let x : Turn = record { slot = k; waiter = v } in x) else None) (not_yet v f)
+      by_test false f g = ap (λ b. if b then Some (let x : Turn = record { slot = k; waiter = v } in x) else None) (not_yet v (all v (inl refl)) f)
 
   pub still_none : turn_here s k ≡ None → turn_here u k ≡ None
-  still_none e = ap (λ r. turn_at u k r.queue None) row ∙ by_queue (s.rows k).queue e
+  still_none e = ap (λ r. turn_at u k r.queue None) row ∙ by_queue (s.rows k).queue (λ v at. at) e
 
 pub none_after : (s : Server) (t : Turn) → NoneBelow s t.slot → NoneBelow (take_turn s t).server t.slot
-none_after s t none k lt = still_none s (take_turn s t).server k (turn_durable s t) (turn_row s t k lt) (turn_can s t) (none k lt)
+none_after s t none k lt = still_none s (take_turn s t).server k (turn_durable s t) (turn_row s t k lt) (λ v at. turn_can s t v.client) (none k lt)
 
 -- One round of the walk
 
@@ -185,6 +212,7 @@ pub record IsRound (s u : Server) (n : ℕ) (o : ToClient) : Type 0 where
   pub table : IsTable u.durable.index u.rows
   pub none : NoneBelow u n
   pub less : suc (waiting u) ≤ waiting s
+  pub slot : turn.slot ≡ n
 
 pub round : (s u : Server) (from n : ℕ) (o : ToClient) → IsSound s → IsTable s.durable.index s.rows → NoneBelow s from → is_slot s.durable.index n ≡ true → ((k : ℕ) → from ≤ k → k < n → (s.rows k).queue ≡ []) → HasTurned s u n o → IsRound s u n o
 round s u from n o sound table none there gap h =
@@ -197,6 +225,7 @@ round s u from n o sound table none there gap h =
       next = next;
       outs = h.out;
       is = h.server;
+      slot = slot;
       sound = subst IsSound (sym h.server) (turn_sound s h.turn sound next);
       table = subst (λ x. IsTable x.durable.index x.rows) (sym h.server) (turn_table s h.turn next table);
       none = subst (λ x. NoneBelow x n) (sym h.server) (subst (NoneBelow v) slot (none_after s h.turn (subst (NoneBelow s) (sym slot) below)));

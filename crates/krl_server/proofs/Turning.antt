@@ -76,6 +76,10 @@ sent_one (Some y) x e = cc
 pub if_some : {A : Type 0} (P : A → Type 0) (o : Option A) (x : A) → o ≡ Some x → P x → IfSome o P
 if_some P o x e p = subst (λ o. IfSome o P) (sym e) p
 
+pub always_if_some : {A P : Type 0} (o : Option A) → P → IfSome o (λ _. P)
+always_if_some None p = tt
+always_if_some (Some x) p = p
+
 -- the turn at a slot whose first waiter is u
 module _ (s : Server) (n : ℕ) (u : Waiter) (first : front_of (s.rows n).queue ≡ Some u) where
   abbrev turn : Turn

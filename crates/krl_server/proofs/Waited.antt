@@ -1,5 +1,5 @@
 -- Who waits, by client.
-use Rattle.std.proofs.Common.{◌≡◌, ℕ, ◌<◌, Bool, true, false, not, ◌||◌, Some, List, [], ◌∷◌, refl, subst, find}
+use Rattle.std.proofs.Common.{◌≡◌, ℕ, zero, suc, ◌+◌, ◌<◌, Bool, true, false, not, ◌||◌, Some, List, [], ◌∷◌, refl, ap, ◌∙◌, subst, find, arith}
 use Rattle.std.proofs.Common.{nat_eq}
 use Rattle.std.proofs.lemmas.Bool.{ltb-true}
 use Rattle.std.specs.Prelude.{is_some, nat_lt, if◌then◌else◌}
@@ -10,6 +10,7 @@ use Rattle.krl_queue.specs.Waiting.{first_of}
 use Rattle.krl_durable.specs.Index.{Index, slots}
 use Rattle.krl_table.specs.Rows.{Rows, most_clients, waiter_at, waiter_of, waits}
 use Rattle.krl_server.specs.Cases.{is_strange}
+use Rattle.krl_server.specs.Doing.{count_below}
 use Rattle.krl_server.proofs.Tests.{or_false, not_false}
 use Rattle.krl_server.proofs.Numbers.{sixty_four}
 
@@ -24,6 +25,15 @@ waiter_waits m rows c = by_slots (slots m)
         by_test : (b : Bool) → is_some (first_of c (rows n).queue) ≡ b → is_some (waiter_at rows c (find (λ n. is_some (first_of c (rows n).queue)) ns)) ≡ list_any (λ n. is_some (first_of c (rows n).queue)) ns → is_some (waiter_at rows c (if b then Some n else find (λ n. is_some (first_of c (rows n).queue)) ns)) ≡ (b || list_any (λ n. is_some (first_of c (rows n).queue)) ns)
         by_test true e ih = e
         by_test false e ih = ih
+
+-- where nobody waits, no client does
+no_slot : (rows : Rows) (c : ℕ) → ((n : ℕ) → (rows n).queue ≡ []) → (ns : List ℕ) → list_any (λ n. is_some (first_of c (rows n).queue)) ns ≡ false
+no_slot rows c none [] = refl
+no_slot rows c none (n ∷ ns) = ap (λ q. is_some (first_of c q) || list_any (λ k. is_some (first_of c (rows k).queue)) ns) (none n) ∙ no_slot rows c none ns
+
+pub none_count : (m : Index) (rows : Rows) (k : ℕ) → ((n : ℕ) → (rows n).queue ≡ []) → count_below k (waits m rows) ≡ 0
+none_count m rows zero none = refl
+none_count m rows (suc k) none = let ih = none_count m rows k none in ap (λ b. (if b then 1 else 0) + count_below k (waits m rows)) (no_slot rows k none (slots m)) ∙ omega (arith, ih)
 
 -- the number of a client
 pub not_strange : (m : ToServer) → is_strange m ≡ false → m.client < 64

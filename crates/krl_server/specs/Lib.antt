@@ -16,6 +16,7 @@ pub mod Keeps
 pub mod Ends
 pub mod Says
 pub mod Within
+pub mod Waits
 pub use Rattle.krl_durable.specs.Index
 pub use Rattle.krl_durable.specs.Registers
 pub use Rattle.krl_durable.specs.Writes

@@ -2,6 +2,7 @@
 #![tactic(auto)]
 
 mod answering;
+mod at_once;
 mod callbacks;
 mod case;
 mod effects;
@@ -12,6 +13,7 @@ mod missing;
 mod out;
 mod phase;
 mod server;
+mod shown;
 mod start_refused;
 mod state;
 mod stepping;

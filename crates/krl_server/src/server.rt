@@ -1,5 +1,5 @@
 //! The server, as a host runs it.
-ghost use Rattle.std.specs.Prelude.{◌≡◌, ◌≤◌, ℕ, false, [], length, MatchResult, IfOk, OnErr};
+ghost use Rattle.std.specs.Prelude.{◌≡◌, ◌<◌, ◌≤◌, ℕ, false, [], length, MatchResult, IfOk, OnErr};
 ghost use Rattle.krl_durable.specs.Registers.{missing_order};
 ghost use Rattle.krl_durable.specs.Changes.{IsChange};
 ghost use Rattle.krl_table.specs.Rows.{blank_row};
@@ -12,6 +12,8 @@ ghost use Rattle.krl_server.specs.States.{meaning};
 ghost use Rattle.krl_server.specs.Doing.{IsStarted, IsNotStarted, HasStepped, IsServer};
 ghost use Rattle.krl_server.specs.Says.{may_change_durable, HasCallbacks, AnswersWrite};
 ghost use Rattle.krl_server.specs.Says.{PushesStand};
+ghost use Rattle.krl_server.specs.Waits.{waiter_of, waited_for};
+ghost use Rattle.krl_table.specs.Holds.{HoldsAt};
 
 use crate::line::blank_lines;
 use crate::missing::Missing;
@@ -19,9 +21,11 @@ use crate::out::ServerOut;
 use crate::phase::Phase;
 use crate::start_refused::{NotStarted, StartRefused};
 use crate::state::State;
+use arrayvec::ArrayVec;
 use krl_durable::Durable;
 use krl_messages::{Items, ToClient, ToServer};
 use krl_modes::END;
+use krl_queue::Waiter;
 use krl_table::Table;
 use std::alloc::{AllocError, Global};
 use std::marker::Model;
@@ -201,5 +205,33 @@ impl Server {
     {
         let clients = self.state.missing.to_vec(alloc)?;
         Ok(Items::from(clients))
+    }
+
+    /// How the client waits; None where it does not. It takes no memory.
+    pub fn waiter_of(&self, client: u64) -> Option<Waiter>
+        requires { client < 64 }
+        ensures { result ≡ waiter_of (meaning self.now) client }
+    {
+        self.state.waiter_of(client)
+    }
+
+    /// The clients that the client waits for, in ascending order: at the slot at which it waits,
+    /// those that wait before it, and those that hold what does not go beside what it wants.
+    /// Nobody where it does not wait, or where it waits for a push of its own to be acknowledged,
+    /// or, while the server gathers, for the missing alone. It takes no memory.
+    pub fn waited_for(&self, client: u64) -> ArrayVec<u64, 64>
+        requires { client < 64 }
+        ensures { result.items ≡ waited_for (meaning self.now) client }
+    {
+        self.state.waited_for(client)
+    }
+
+    /// At how many slots the client holds a mode other than N. It looks at all rows that the table
+    /// keeps, and takes no memory.
+    pub fn held_slots(&self, client: u64) -> u64
+        requires { client < 64 }
+        ensures { HoldsAt (meaning self.now).rows client result }
+    {
+        self.state.table.held_slots(client)
     }
 }

@@ -30,11 +30,14 @@ use std::alloc::{AllocError, Global};
 
 impl State {
     /// How many clients wait.
-    fn count_waiting(&self) -> usize
+    pub(crate) fn count_waiting(&self) -> usize
         requires { IsFormed self.now }
         ensures count { result ≡ waiting_clients (meaning self.now) }
         ensures few { result ≤ 64 }
     {
+        if self.table.nobody_waits() {
+            return 0;
+        }
         let mut count = 0;
         for client in 0..64u64 {
             if self.waits(client) {
@@ -201,8 +204,33 @@ impl State {
         ensures refused { OnErr result (self.new ≡ self.old) }
     {
         let case = self.case_of(message);
-        let mut outbox = Outbox::new(alloc, self.room(&case))?;
-        let done = self.perform(alloc, message, &case, &mut outbox)?;
+        match self.step_at_once(alloc, message, &case)? {
+            Some(out) => Ok(out),
+            None => self.step_by_turns(alloc, message, &case),
+        }
+    }
+
+    /// One step of this case: it is done, and then whoever can be answered is.
+    ///
+    /// # Errors
+    ///
+    /// `AllocError` where memory is refused. Nothing has changed then, and nothing is sent.
+    fn step_by_turns(
+        &mut self,
+        alloc: Global,
+        message: &ToServer,
+        case: &Case,
+    ) -> Result<ServerOut, AllocError>
+        requires server { IsServer self.old }
+        requires case { meant (meaning self.old) message.now.client message.now.body case.now
+            ≡ case_of (meaning self.old) message.now }
+        ensures stepped { IfOk result
+            (λ out. HasStepped (meaning self.old) message.now (meaning self.new) out) }
+        ensures formed { OnOk result (IsFormed self.new) }
+        ensures refused { OnErr result (self.new ≡ self.old) }
+    {
+        let mut outbox = Outbox::new(alloc, self.room(case))?;
+        let done = self.perform(alloc, message, case, &mut outbox)?;
         self.finish(done.after, &mut outbox);
         Ok(ServerOut {
             messages: outbox.into_items(),

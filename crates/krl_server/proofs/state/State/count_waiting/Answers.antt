@@ -1,8 +1,9 @@
 use Rattle.std.proofs.Common.{◌≡◌, sym, ap, ◌∙◌, arith}
 use Rattle.krl_table.specs.Kept.{rows_of}
-use Rattle.krl_table.specs.Rows.{waits}
+use Rattle.krl_table.specs.Rows.{waits, most_clients}
 use Rattle.krl_server.specs.Doing.{count_below}
 use Rattle.krl_server.proofs.Numbers.{sixty_four}
+use Rattle.krl_server.proofs.Waited.{none_count}
 use Rattle.krl_server.proofs.state.State.count_waiting.Goals as goal
 
 pub returns-clause-count : goal.returns-clause-count
@@ -11,3 +12,6 @@ returns-clause-count c =
     let high = c.loop-client.auto.client-end in
     let all : c.loop-client.client ≡ 64 = omega (arith, low, high) in
     c.loop-client.invariant.count ∙ ap (λ n. count_below n (waits c.args.self.now.durable.index (rows_of c.args.self.now.table))) (all ∙ sym sixty_four)
+
+pub returns-then-nobody_waits-clause-count : goal.returns-then-nobody_waits-clause-count
+returns-then-nobody_waits-clause-count c = sym (none_count c.args.self.now.durable.index (rows_of c.args.self.now.table) most_clients (c.nobody_waits.ensures.0 c.if-nobody_waits.true))

@@ -1,0 +1,52 @@
+use Rattle.std.proofs.Common.{◌++◌, ◌∷◌, [], length, Some, None, sym, ap, subst, ◌∙◌, arith}
+use Rattle.std.specs.Prelude.{if◌then◌else◌}
+use Rattle.krl_server.specs.Callbacks.{callbacks}
+use Rattle.krl_server.specs.Cases.{is_alarm}
+use Rattle.krl_server.specs.Changes.{change_of}
+use Rattle.krl_server.specs.Doing.{HaveWaiters}
+use Rattle.krl_server.specs.Outboxes.{Sent}
+use Rattle.krl_server.specs.States.{meaning, meant}
+use Rattle.krl_server.specs.Steps.{ServerStep}
+use Rattle.krl_server.proofs.Boxes.{sends_length}
+use Rattle.krl_server.proofs.Facts.{facts_of}
+use Rattle.krl_server.proofs.Listed.{listed}
+use Rattle.krl_server.proofs.AtOnce.{made_at_once}
+use Rattle.krl_server.proofs.state.State.step_at_once.Goals as goal
+
+pub grant_at_once-requires-clause-client : goal.grant_at_once-requires-clause-client
+grant_at_once-requires-clause-client c = (facts_of (meaning c.args.self.now) c.args.message.now c.args.case.now _ c.requires.case c.in-Waits.is).client
+
+pub call_back-requires-clause-slots : goal.call_back-requires-clause-slots
+call_back-requires-clause-slots c = subst (HaveWaiters (meaning c.grant_at_once.new.self) 0) (sym c.as_slice.ensures.value)
+    (listed c.grant_at_once.new.self 0 c.waiting_slots-slots.result.items c.waiting_slots-slots.ensures.slots c.waiting_slots-slots.ensures.there)
+
+pub call_back-requires-clause-sound : goal.call_back-requires-clause-sound
+call_back-requires-clause-sound c =
+    (made_at_once c.args.self.now c.args.message.now c.args.case.now c.in-Waits.req c.in-Waits.point c.in-Waits.hi c.in-Waits.mode (meaning c.grant_at_once.new.self) c.in-Some.granted
+    c.requires.server c.requires.case c.in-Waits.is (sym c.is_gathering.ensures ∙ c.if-is_gathering.false) c.in-Some.ensures.turned c.in-Some.ensures.free).sound
+
+pub call_back-requires-clause-room : goal.call_back-requires-clause-room
+call_back-requires-clause-room c =
+    let few = (made_at_once c.args.self.now c.args.message.now c.args.case.now c.in-Waits.req c.in-Waits.point c.in-Waits.hi c.in-Waits.mode (meaning c.grant_at_once.new.self) c.in-Some.granted
+    c.requires.server c.requires.case c.in-Waits.is (sym c.is_gathering.ensures ∙ c.if-is_gathering.false) c.in-Some.ensures.turned c.in-Some.ensures.free).few in
+    let sent = sends_length c.in_ok-outbox.outbox c.send.new.self (c.in-Some.granted ∷ []) c.send.ensures in
+    let none = ap (λ b. length b.sent) c.in_ok-outbox.ensures in
+    let room = ap (λ b. b.room) c.in_ok-outbox.ensures in
+    let more = c.send.ensures.room in
+    let count = c.count_waiting.ensures.count in
+    omega (arith, few, sent, none, room, more, count)
+
+pub returns-in-Some-clause-stepped : goal.returns-in-Some-clause-stepped
+returns-in-Some-clause-stepped c =
+    let s = meaning c.args.self.now in
+    let m = c.args.message.now in
+    let o = c.in-Some.granted in
+    let t = meaning c.grant_at_once.new.self in
+    let e = sym c.requires.case ∙ ap (meant s m.client m.body) c.in-Waits.is in
+    let sent = c.into_items.ensures ∙ c.call_back.ensures.sent ∙ ap (λ l. l ++ callbacks t) (c.send.ensures.sent ∙ ap (λ (b : Sent). b.sent ++ (o ∷ [])) c.in_ok-outbox.ensures) in
+    record {
+      step = subst (ServerStep s m t) (sym sent)
+          (made_at_once c.args.self.now m c.args.case.now c.in-Waits.req c.in-Waits.point c.in-Waits.hi c.in-Waits.mode t o c.requires.server c.requires.case c.in-Waits.is (sym c.is_gathering.ensures ∙ c.if-is_gathering.false) c.in-Some.ensures.turned c.in-Some.ensures.free).step;
+      alarm = sym (ap (λ k. if is_alarm k then Some m.client else None) e);
+      change = sym (ap (change_of m) e);
+    }

@@ -1,0 +1,35 @@
+-- Who waits for whom: what an operator sees of a server.
+use Rattle.std.specs.Prelude.{ℕ, zero, suc, Bool, false, not, ◌||◌, List, [], ◌∷◌, Option, None, Some, if◌then◌else◌}
+use Rattle.krl_queue.specs.declared.waiter.Waiter.{Waiter}
+use Rattle.krl_queue.specs.Waiting.{goes_before}
+use Rattle.krl_durable.specs.Index.{slot_of}
+use Rattle.krl_table.specs.Rows as table
+use Rattle.krl_table.specs.Rows.{most_clients}
+use Rattle.krl_server.specs.Servers.{Server}
+use Rattle.krl_server.specs.Callbacks.{is_beside}
+
+-- how the client waits
+abbrev pub waiter_of : Server → ℕ → Option Waiter
+waiter_of s c = table.waiter_of s.durable.index s.rows c
+
+-- the client d is in the way of the waiter u of slot n: it waits there before it, or what it holds there does not go
+-- beside what u wants
+abbrev pub is_in_the_way : Server → ℕ → Waiter → ℕ → Bool
+is_in_the_way s n u d = goes_before u.client d (s.rows n).queue || not (is_beside s n u d)
+
+abbrev pub waits_for_by : Server → Option Waiter → ℕ → Bool
+waits_for_by s None d = false
+waits_for_by s (Some u) d = is_in_the_way s (slot_of s.durable.index u.point) u d
+
+-- the client c waits for the client d
+abbrev pub waits_for : Server → ℕ → ℕ → Bool
+waits_for s c d = waits_for_by s (waiter_of s c) d
+
+-- those of k clients, from d on, that c waits for
+abbrev pub waited_from : Server → ℕ → ℕ → ℕ → List ℕ
+waited_from s c d zero = []
+waited_from s c d (suc k) = if waits_for s c d then d ∷ waited_from s c (suc d) k else waited_from s c (suc d) k
+
+-- the clients that c waits for, in ascending order
+abbrev pub waited_for : Server → ℕ → List ℕ
+waited_for s c = waited_from s c 0 most_clients

@@ -1,0 +1,114 @@
+//! A lock that nobody has to wait for.
+ghost use Rattle.std.specs.Prelude.{◌≡◌, ◌<◌, ℕ, [], IfOk, OnErr, IfSome, IfNone};
+ghost use Rattle.krl_durable.specs.Index.{slot_of};
+ghost use Rattle.krl_server.specs.Cases.{case_of};
+ghost use Rattle.krl_server.specs.Effects.{heard, queues};
+ghost use Rattle.krl_server.specs.Doing.{IsServer, HasTurned, HasStepped};
+ghost use Rattle.krl_server.specs.Shows.{IsSound};
+ghost use Rattle.krl_server.specs.States.{meaning, meant, IsFormed};
+
+use crate::case::Case;
+use crate::line::Line;
+use crate::out::{Outbox, ServerOut};
+use crate::state::State;
+use krl_messages::{PushBody, ToClient, ToServer};
+use krl_modes::END;
+use krl_queue::Waiter;
+use std::alloc::{AllocError, Global};
+
+impl State {
+    /// Takes a lock request and grants it, where nobody waits on its slot: the lock is found free
+    /// in one search, and the waiter takes no place in a queue. The last push counts as
+    /// acknowledged. It takes no memory.
+    ///
+    /// None, and nothing changes, where the request has to wait or to hear that there is no entry,
+    /// and where the number of the next push is spent.
+    fn grant_at_once(&mut self, waiter: &Waiter) -> Option<ToClient>
+        requires formed { IsFormed self.old }
+        requires client { waiter.now.client < 64 }
+        requires sound { IsSound (meaning self.old) }
+        ensures turned { IfSome result (λ o. HasTurned
+            (queues (heard (meaning self.old) waiter.now.client) waiter.now) (meaning self.new)
+            (slot_of self.old.durable.index waiter.now.point) o) }
+        ensures free { IfSome result (λ _. ((meaning self.old).rows
+            (slot_of self.old.durable.index waiter.now.point)).queue ≡ []) }
+        ensures none { IfNone result (self.new ≡ self.old) }
+        ensures formed { IsFormed self.new }
+    {
+        let line = self.line(waiter.client);
+        if line.pushed >= END {
+            return None;
+        }
+        let slots = self.table.grant_at_once(&self.durable, waiter)?;
+        self.lines[waiter.client as usize] = Line {
+            unheard: None,
+            asked: waiter.req,
+            ..line
+        };
+        let holdings = self.holdings(slots.as_slice(), waiter.client);
+        self.push(
+            waiter.client,
+            PushBody::Grant {
+                req: waiter.req,
+                holdings,
+            },
+        )
+    }
+
+    /// The step of a lock request that can be granted at once, while the server serves. Nobody else
+    /// can be answered then: who waits at other slots still does, and is called back for. None, and
+    /// nothing has changed, where it is another message, or the request has to wait.
+    ///
+    /// # Errors
+    ///
+    /// `AllocError` where the memory for the messages is refused. Nothing has changed then.
+    pub(crate) fn step_at_once(
+        &mut self,
+        alloc: Global,
+        message: &ToServer,
+        case: &Case,
+    ) -> Result<Option<ServerOut>, AllocError>
+        requires server { IsServer self.old }
+        requires case { meant (meaning self.old) message.now.client message.now.body case.now
+            ≡ case_of (meaning self.old) message.now }
+        ensures stepped { IfOk result (λ r. IfSome r
+            (λ out. HasStepped (meaning self.old) message.now (meaning self.new) out)) }
+        ensures none { IfOk result (λ r. IfNone r (self.new ≡ self.old)) }
+        ensures formed { IsFormed self.new }
+        ensures refused { OnErr result (self.new ≡ self.old) }
+    {
+        let Case::Waits {
+            req,
+            point,
+            hi,
+            mode,
+        } = *case
+        else {
+            return Ok(None);
+        };
+        if self.missing.is_gathering() {
+            return Ok(None);
+        }
+        let mut outbox = Outbox::new(alloc, 1 + 63 * self.count_waiting())?;
+        let waiter = Waiter {
+            client: message.client,
+            req,
+            point,
+            hi,
+            mode,
+        };
+        match self.grant_at_once(&waiter) {
+            Some(granted) => {
+                outbox.send(granted);
+                let slots = self.table.waiting_slots(&self.durable);
+                self.call_back(slots.as_slice(), &mut outbox);
+                Ok(Some(ServerOut {
+                    messages: outbox.into_items(),
+                    alarm: None,
+                    change: None,
+                }))
+            }
+            None => Ok(None),
+        }
+    }
+}

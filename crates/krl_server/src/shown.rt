@@ -1,0 +1,75 @@
+//! Who waits for whom.
+ghost use Rattle.std.specs.Prelude.{◌≡◌, ◌<◌, not};
+ghost use Rattle.krl_server.specs.Callbacks.{is_beside};
+ghost use Rattle.krl_server.specs.States.{meaning, IsFormed};
+ghost use Rattle.krl_server.specs.Waits.{waiter_of, is_in_the_way, waits_for, waited_for};
+
+use crate::state::State;
+use arrayvec::ArrayVec;
+use krl_queue::Waiter;
+
+impl State {
+    /// How the client waits.
+    pub(crate) fn waiter_of(&self, client: u64) -> Option<Waiter>
+        requires formed { IsFormed self.now }
+        requires client { client < 64 }
+        ensures { result ≡ waiter_of (meaning self.now) client }
+    {
+        self.table.waiter_of(client)
+    }
+
+    /// Whether what the other client holds on the slot does not go beside what the waiter wants.
+    fn holds_against(&self, slot: u64, waiter: &Waiter, other: u64) -> bool
+        requires clients { waiter.now.client < 64 }
+        requires other { other < 64 }
+        ensures { result ≡ not (is_beside (meaning self.now) slot waiter.now other) }
+    {
+        if other == waiter.client {
+            return false;
+        }
+        let wanted = self.table.mode(slot, waiter.client).join(waiter.mode);
+        !wanted.compatible(self.table.mode(slot, other))
+    }
+
+    /// Whether the other client waits on the slot before the waiter, or holds there what does not
+    /// go beside what it wants.
+    fn is_in_the_way(&self, slot: u64, waiter: &Waiter, other: u64) -> bool
+        requires client { waiter.now.client < 64 }
+        requires other { other < 64 }
+        ensures { result ≡ is_in_the_way (meaning self.now) slot waiter.now other }
+    {
+        self.table.goes_before(slot, waiter.client, other)
+            || self.holds_against(slot, waiter, other)
+    }
+
+    /// Whether the client waits for the other one.
+    fn waits_for(&self, client: u64, other: u64) -> bool
+        requires formed { IsFormed self.now }
+        requires client { client < 64 }
+        requires other { other < 64 }
+        ensures { result ≡ waits_for (meaning self.now) client other }
+    {
+        match self.table.waiter_of(client) {
+            Some(waiter) => {
+                let slot = self.durable.slot_of(waiter.point.get());
+                self.is_in_the_way(slot, &waiter, other)
+            }
+            None => false,
+        }
+    }
+
+    /// The clients that the client waits for, in ascending order.
+    pub(crate) fn waited_for(&self, client: u64) -> ArrayVec<u64, 64>
+        requires formed { IsFormed self.now }
+        requires client { client < 64 }
+        ensures { result.items ≡ waited_for (meaning self.now) client }
+    {
+        let mut others = ArrayVec::new();
+        for other in 0..64u64 {
+            if self.waits_for(client, other) {
+                others.push(other);
+            }
+        }
+        others
+    }
+}
