@@ -67,8 +67,29 @@ static void talk(krl_handle *client, krl_handle *server) {
     }
 }
 
+/* Client 3 holds the entries 10, 15, 20 and 30 and END, with the gaps below them. This one asks for a part of that, and
+ * waits. */
+static void keep_waiting(krl_handle *other, krl_handle *server) {
+    uint64_t clients[KRL_CLIENTS];
+    krl_reply reply;
+    AGAIN(reply, krl_client_open(other, 4, 1));
+    talk(other, server);
+    AGAIN(reply, krl_client_lock(other, 12, 13, KRL_RANGE_S_S));
+    talk(other, server);
+    krl_waiting waiting = krl_server_waiter(server, 4);
+    want(waiting.reply.code == KRL_DONE && waiting.waits == 1 && waiting.request == 1, "that it waits");
+    want(waiting.point == 12 && waiting.hi == 13 && waiting.mode == KRL_RANGE_S_S, "for what it waits");
+    want(krl_server_waiter(server, 3).waits == 0, "a client that does not wait");
+    reply = krl_server_waited_for(server, 4, clients, KRL_CLIENTS);
+    want(reply.code == KRL_DONE && reply.detail == 1 && clients[0] == 3, "whom it waits for");
+    reply = krl_server_waited_for(server, 4, clients, 0);
+    want(reply.code == KRL_TOO_SHORT && reply.detail == 1, "a room for nobody");
+    want(krl_server_held(server, 3).detail == 5 && krl_server_held(server, 4).detail == 0, "what is held");
+    want(krl_server_held(server, 64).code == KRL_BAD_CLIENT, "a number that is no client's");
+}
+
 int main(int count, char **words) {
-    krl_handle server = {0}, client = {0};
+    krl_handle server = {0}, client = {0}, other = {0};
     krl_row entries[] = {{10, 2, {1, 2}}, {20, 0, {0}}, {30, 1, {7}}}, rows[4];
     krl_reply reply;
     refused = count > 1 ? atol(words[1]) : 0;
@@ -85,11 +106,14 @@ int main(int count, char **words) {
     AGAIN(reply, krl_client_scan(&client, 0, 21, rows, 4));
     want(reply.detail == 3 && rows[1].key == 15 && rows[1].length == 3 && !memcmp(rows[1].bytes, "abc", 4), "the scan");
     want(krl_client_scan(&client, 0, 21, rows, 2).code == KRL_TOO_SHORT, "a room that is too short");
+    keep_waiting(&other, &server);
     AGAIN(reply, krl_client_leave(&client));
     want(krl_client_tick(&client).code == KRL_GONE, "a client that has left");
     AGAIN(reply, krl_client_leave(&client));
     hand_over(&client, &server, true);
-    want(krl_server_record(&server, 3).record.left == 1 && changes == 3, "what was kept");
+    want(krl_server_record(&server, 3).record.left == 1 && changes == 4, "what was kept");
+    want(krl_server_waiter(&server, 4).waits == 0 && krl_server_held(&server, 4).detail == 1, "what was waited for");
+    krl_close(&other);
     krl_close(&client);
     krl_close(&server);
     want(krl_client_tick(&client).code == KRL_CLOSED && krl_take(&server, NULL, 0).code == KRL_CLOSED, "closed");

@@ -3,8 +3,8 @@
  * The host owns the sockets, the disk and the threads. It hands each message to `krl_client_step` or
  * `krl_server_step`, keeps what a server's step says on its disk, and then takes what is to be sent with `krl_take`.
  *
- * A handle serves one call at a time, and stays on the thread that opened it. Two threads may use two handles at
- * once. No call waits.
+ * A handle serves one call at a time, on any thread. Where several threads use it, each call sees what the one before
+ * did: a mutex does that, or the start or the end of a thread. Two threads may use two handles at once. No call waits.
  *
  * No pointer may be null but one to no bytes, rows or records. Any other number may be anything: each call tests
  * what it is given and says by its code what was wrong. A call whose code is neither KRL_DONE nor KRL_UNSAID has
@@ -76,7 +76,7 @@ enum krl_code {
     KRL_BAD_CLIENT = 13,
     /* No number is left: for an incarnation, an epoch, a request or a write. */
     KRL_SPENT = 14,
-    /* A record that none can have, or a second one of its client; the detail is its place. */
+    /* A record that no client can have, or whose client has one before it; the detail is the place of the first. */
     KRL_BAD_RECORD = 15,
     /* An entry with a value of more than 32 bytes; the detail is its place. Or such a value in a write. */
     KRL_BAD_VALUE = 16,
@@ -245,7 +245,7 @@ typedef struct krl_record {
     uint64_t client;
     /* Its last registered incarnation, from 1 to KRL_END. */
     uint64_t incarnation;
-    /* The number of its last judged write, or 0. */
+    /* The number of its last judged write, at most KRL_END, or 0. */
     uint64_t last;
     /* How that write was judged, by a `krl_outcome`: KRL_NO_OUTCOME exactly where `last` is 0. */
     uint32_t outcome;
@@ -315,6 +315,20 @@ typedef struct krl_recorded {
     krl_reply reply;
     krl_record record;
 } krl_recorded;
+
+/* How a client waits at a server. But where the code is KRL_DONE and it waits all else is 0. */
+typedef struct krl_waiting {
+    krl_reply reply;
+    /* The number of its lock request. */
+    uint64_t request;
+    /* It asks for the points from this one on below `hi`, and waits at the slot of this one. */
+    uint64_t point;
+    uint64_t hi;
+    /* A `krl_mode`. */
+    uint32_t mode;
+    /* 1 where it waits. */
+    uint32_t waits;
+} krl_waiting;
 
 /* Clients.
  *
@@ -408,6 +422,22 @@ krl_reply krl_server_missing(krl_handle *handle, uint64_t *clients, size_t room)
 
 /* What is kept of a client. Refused by KRL_BAD_CLIENT where it never registered. */
 krl_recorded krl_server_record(krl_handle *handle, uint64_t client);
+
+/* What an operator sees: who waits, for whom, and how much each client holds. These calls take no memory and change
+ * nothing. Each is refused by KRL_BAD_CLIENT where the number is 64 or more. */
+
+/* How a client waits for a lock. */
+krl_waiting krl_server_waiter(krl_handle *handle, uint64_t client);
+
+/* The clients that a client waits for, in ascending order: at the slot at which it waits, those that wait before it,
+ * and those that hold there what does not go beside what it wants. They go into `clients`, and the detail is their
+ * count: at most 64. None where it does not wait, or waits for nobody but itself to acknowledge a push. Refused by
+ * KRL_TOO_SHORT. */
+krl_reply krl_server_waited_for(krl_handle *handle, uint64_t client, uint64_t *clients, size_t room);
+
+/* At how many slots a client holds a mode other than N: the detail. It takes time in proportion to the slots at which
+ * anybody holds or waits. */
+krl_reply krl_server_held(krl_handle *handle, uint64_t client);
 
 /* Either. */
 

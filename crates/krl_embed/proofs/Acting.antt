@@ -1,10 +1,9 @@
 -- What a server does with a message that raises an alarm, and what is told of a step.
-use Rattle.std.proofs.Common.{◌≡◌, ◌∙◌, ℕ, List, [], ◌∷◌, ◌++◌, Bool, true, false, Option, Some, None, Result, Ok, Err, ap, refl, sym, subst}
+use Rattle.std.proofs.Common.{◌≡◌, ◌∙◌, ℕ, List, [], Bool, true, false, Option, Some, None, Result, Ok, Err, ap, refl, sym}
 use Rattle.std.specs.Prelude.{if◌then◌else◌}
 use Rattle.krl_messages.specs.declared.to_server.ToServer.{ToServer}
 use Rattle.krl_messages.specs.declared.to_client.ToClient.{ToClient}
 use Rattle.krl_wire.specs.declared.fault.Fault.{Fault}
-use Rattle.krl_durable.specs.Changes.{IsChange}
 use Rattle.krl_server.specs.declared.state.State.{State}
 use Rattle.krl_server.specs.declared.out.ServerOut.{ServerOut}
 use Rattle.krl_server.specs.States.{meaning}
@@ -13,13 +12,11 @@ use Rattle.krl_server.specs.Effects.{Done, effect}
 use Rattle.krl_server.specs.Cases.{Case, Alarms, case_of, is_alarm}
 use Rattle.krl_server.specs.Steps.{Kind, Idle, Ends, at_once, gathers, serves, kind_of}
 use Rattle.krl_server.specs.Doing.{HasStepped}
-use Rattle.krl_embed.specs.declared.code.Code.{Code}
 use Rattle.krl_embed.specs.declared.code.Code.TheVariants as code
 use Rattle.krl_embed.specs.declared.server_calls.Stepped.{Stepped}
 use Rattle.krl_embed.specs.Replies.{code_of}
-use Rattle.krl_embed.specs.Frames.{told_frames, Waits, WaitsBy}
-use Rattle.krl_embed.specs.Changes.{unchanged, change_row}
-use Rattle.krl_embed.specs.Servers.{Acts, IsRefused, HasActed, HasAlarmed, HearsRead}
+use Rattle.krl_embed.specs.Changes.{unchanged}
+use Rattle.krl_embed.specs.Servers.{Acts, HearsRead}
 
 -- a step that has not acted ends at once
 idle_ends : (done : Done) (kind : Kind) (t : Server) (outs : List ToClient) → kind ≡ Idle → Ends done kind t outs

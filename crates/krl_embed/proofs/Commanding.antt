@@ -1,5 +1,5 @@
 -- What a client says waits to be sent, and so a call has done what it should.
-use Rattle.std.proofs.Common.{◌≡◌, ◌∙◌, ℕ, List, [], ◌∷◌, ◌++◌, Option, Some, None, Result, Ok, Err, ap, refl, sym, subst}
+use Rattle.std.proofs.Common.{◌≡◌, ◌∙◌, ℕ, List, [], ◌∷◌, Option, Some, None, Result, Ok, Err, ap, sym, subst}
 use Rattle.std.specs.Prelude.{IfOk, IfErr, OnOk, OnErr}
 use Rattle.std.specs.Global.{Vec}
 use Rattle.krl_messages.specs.declared.to_server.ToServer.{ToServer}
@@ -8,8 +8,8 @@ use Rattle.krl_client.specs.Clients.{Client}
 use Rattle.krl_client.specs.Fields.{Fields, meaning, IsDue}
 use Rattle.krl_embed.specs.declared.code.Code.{Code}
 use Rattle.krl_embed.specs.declared.code.Code.TheVariants as code
-use Rattle.krl_embed.specs.Frames.{said_frames, Waits, WaitsBy}
-use Rattle.krl_embed.specs.Clients.{refusal_code, Did, Refused, Commanded, SaidOr}
+use Rattle.krl_embed.specs.Frames.{said_frames, WaitsBy}
+use Rattle.krl_embed.specs.Clients.{refusal_code, Did, Commanded, SaidOr}
 
 -- it says these
 pub did : (Becomes : Fields → List ToServer → Type 0) (k l : Fields) (old new : List ℕ) (list : List ToServer)

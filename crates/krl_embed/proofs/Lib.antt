@@ -6,3 +6,7 @@ pub mod RowsLemmas
 pub mod Commanding
 pub mod Acting
 pub mod KeptLemmas
+pub mod SentMessages
+pub mod SentClient
+pub mod SentServer
+pub mod SentEndpoint

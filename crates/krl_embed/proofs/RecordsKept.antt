@@ -1,6 +1,6 @@
--- A record behind others.
-use Rattle.std.proofs.Common.{◌≡◌, ℕ, ◌∙◌, sym, ap, refl, subst, List, [], ◌∷◌, ◌++◌, Bool, true, false, nat_eq}
-use Rattle.std.specs.Prelude.{◌||◌}
+-- Records behind others, and the first that is bad.
+use Rattle.std.proofs.Common.{◌≡◌, ℕ, ◌∙◌, sym, ap, refl, subst, List, [], ◌∷◌, ◌++◌, take, map, Bool, false, nat_eq, Option, Some}
+use Rattle.std.specs.Prelude.{◌||◌, slice_get}
 use Rattle.std.specs.List.{AllByRecursion, IsDistinct, list_any}
 use Rattle.std.specs.Map.{keys_of}
 use Rattle.std.proofs.lemmas.Cmp.{nat_eq_equiv}
@@ -8,7 +8,13 @@ use Rattle.std.proofs.lemmas.List.{map_push}
 use Rattle.std.proofs.lemmas.Map.Keys.{IsDistinct-push}
 use Rattle.krl_durable.specs.declared.record.Record.{Record}
 use Rattle.krl_durable.specs.Kept.{IsRow}
-use Rattle.krl_embed.specs.Records.{AreRows}
+use Rattle.krl_embed.specs.declared.code.Code.{Code}
+use Rattle.krl_embed.specs.declared.code.Code.TheVariants as code
+use Rattle.krl_embed.specs.declared.records.RecordRow.{RecordRow}
+use Rattle.krl_embed.specs.declared.reply.Reply.{Reply}
+use Rattle.krl_embed.specs.Replies.{code_of}
+use Rattle.krl_embed.specs.Records.{AreRows, RefusesRow, record_of}
+use Rattle.krl_embed.specs.Opening.{RefusesRecords, RefusesRecordsAs}
 
 all_push : {X : Type 0} (P : X → Type 0) (xs : List X) (x : X) → AllByRecursion P xs → P x → AllByRecursion P (xs ++ x ∷ [])
 all_push P [] x h p = (p, tt)
@@ -26,3 +32,20 @@ rows_push rows row h is new =
 pub rows_none : AreRows []
 unfolding IsDistinct
 rows_none = (tt, tt)
+
+refuses : (rows : List RecordRow) (i : ℕ) (row : RecordRow) (c : Code) → slice_get rows i ≡ Some row
+    → AreRows (map record_of (take i rows)) → RefusesRow (map record_of (take i rows)) row c
+    → RefusesRecordsAs rows i (Some c)
+refuses rows i row code.BadRecord here before why = record { before = before; row = row; here = here; bad = why }
+refuses rows i row code.OutOfMemory here before why = tt
+refuses rows i row _ here before why = absurd why
+
+pub refused : (rows : List RecordRow) (i : ℕ) (row : RecordRow) (kept : List (ℕ × Record)) (c : Code) (r : Reply)
+    → slice_get rows i ≡ Some row → AreRows kept → kept ≡ map record_of (take i rows) → RefusesRow kept row c
+    → code_of r ≡ Some c → r.detail ≡ i → RefusesRecords rows r
+refused rows i row kept c r here before made why is at =
+    let made_before = subst (λ (k : List (ℕ × Record)). AreRows k) made before in
+    let made_why = subst (λ (k : List (ℕ × Record)). RefusesRow k row c) made why in
+    let there = refuses rows i row c here made_before made_why in
+    let placed = subst (λ (n : ℕ). RefusesRecordsAs rows n (Some c)) (sym at) there in
+    subst (λ (o : Option Code). RefusesRecordsAs rows r.detail o) (sym is) placed

@@ -1,5 +1,6 @@
 -- What the calls on a client do: with the client, with what waits to be sent, and what they answer.
-use Rattle.std.specs.Prelude.{◌≡◌, ℕ, List, [], ◌∷◌, ◌++◌, length, nat_le, if◌then◌else◌, slice_get, Option, Some, None, Result, Ok, Err}
+use Rattle.std.specs.Prelude.{◌≡◌, ℕ, List, [], ◌∷◌, ◌++◌, length, nat_le, if◌then◌else◌, slice_get, Option, Some, None}
+use Rattle.std.specs.Prelude.{Result, Ok, Err}
 use Rattle.std.specs.Global.{Vec}
 use Rattle.krl_modes.specs.Modes.{all_modes}
 use Rattle.krl_modes.specs.declared.mode.Mode.{Mode}

@@ -10,3 +10,5 @@ pub mod Servers
 pub mod Opening
 pub mod Shown
 pub mod Kept
+pub mod Respelling
+pub mod Waits

@@ -1,5 +1,6 @@
 -- What opening a client or a server does.
-use Rattle.std.specs.Prelude.{◌≡◌, ◌≤◌, ◌<◌, ℕ, suc, List, [], ◌∷◌, length, map, Option, Some, None, nat_eq, if◌then◌else◌}
+use Rattle.std.specs.Prelude.{◌≡◌, ◌≤◌, ◌<◌, ℕ, suc, List, [], ◌∷◌, length, map, Option, Some, None, nat_eq}
+use Rattle.std.specs.Prelude.{if◌then◌else◌}
 use Rattle.std.specs.List.{AllByRecursion, IsDistinct}
 use Rattle.std.specs.Map.{keys_of}
 use Rattle.krl_modes.specs.declared.point.TheConstants.{END}
@@ -30,7 +31,7 @@ use Rattle.krl_embed.specs.declared.reply.Reply.{Reply}
 use Rattle.krl_embed.specs.declared.rows.Row.{Row}
 use Rattle.krl_embed.specs.Replies.{code_of}
 use Rattle.krl_embed.specs.Rows.{entry_of, HasValue, IsTooLong}
-use Rattle.krl_embed.specs.Records.{AreRows, record_of}
+use Rattle.krl_embed.specs.Records.{IsFirstBad, record_of}
 use Rattle.krl_embed.specs.Frames.{said_frames}
 use Rattle.krl_embed.specs.Endpoints.{IsCode}
 
@@ -77,9 +78,9 @@ refused_code refused.BadKey = code.BadKey
 refused_code refused.Twice = code.Twice
 refused_code refused.Full = code.Full
 
--- the record at the detail's place is refused, or memory is
+-- the record at the detail's place is the first bad one, or memory is refused
 abbrev pub RefusesRecordsAs : List RecordRow → ℕ → Option Code → Type 0
-RefusesRecordsAs records i (Some code.BadRecord) = i < length records
+RefusesRecordsAs records i (Some code.BadRecord) = IsFirstBad records i
 RefusesRecordsAs records i (Some code.OutOfMemory) = Unit {0}
 RefusesRecordsAs records i _ = ⊥
 
@@ -90,7 +91,7 @@ RefusesRecords records r = RefusesRecordsAs records r.detail (code_of r)
 abbrev pub RefusesParts : ℕ → List Row → List RecordRow → ℕ → Option Code → Type 0
 RefusesParts epoch entries records i (Some code.Spent) = END ≤ epoch
 RefusesParts epoch entries records i (Some code.BadValue) = IsTooLong entries i
-RefusesParts epoch entries records i (Some code.BadRecord) = i < length records
+RefusesParts epoch entries records i (Some code.BadRecord) = IsFirstBad records i
 RefusesParts epoch entries records i (Some code.Full) = Refuses (map entry_of entries) refused.Full
 RefusesParts epoch entries records i (Some code.BadKey) = Refuses (map entry_of entries) refused.BadKey
 RefusesParts epoch entries records i (Some code.Twice) = Refuses (map entry_of entries) refused.Twice

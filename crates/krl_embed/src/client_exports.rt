@@ -72,7 +72,8 @@ pub extern "C" fn krl_client_open(
 /// Gives the client the bytes of a message.
 #[unsafe(no_mangle)]
 pub extern "C" fn krl_client_step(alloc: Global, handle: &mut Handle, bytes: &[u8]) -> Reply
-    ensures { OnHandle IsCode (OnClient (calls.Hears bytes.now)) handle.old.owned.value handle.new.owned.value result }
+    ensures { OnHandle IsCode (OnClient (calls.Hears bytes.now))
+        handle.old.owned.value handle.new.owned.value result }
 {
     let Some(mut endpoint) = take(alloc, handle) else {
         return Reply::of(Code::Closed);
@@ -85,7 +86,8 @@ pub extern "C" fn krl_client_step(alloc: Global, handle: &mut Handle, bytes: &[u
 /// Says again what is not answered.
 #[unsafe(no_mangle)]
 pub extern "C" fn krl_client_tick(alloc: Global, handle: &mut Handle) -> Reply
-    ensures { OnHandle IsCode (OnClient (calls.Ticks)) handle.old.owned.value handle.new.owned.value result }
+    ensures { OnHandle IsCode (OnClient calls.Ticks)
+        handle.old.owned.value handle.new.owned.value result }
 {
     let Some(mut endpoint) = take(alloc, handle) else {
         return Reply::of(Code::Closed);
@@ -116,7 +118,8 @@ pub extern "C" fn krl_client_lock(
 }
 
 fn write(alloc: Global, handle: &mut Handle, change: Option<WriteOp>) -> Reply
-    ensures { OnHandle IsCode (OnClient (calls.Writes change)) handle.old.owned.value handle.new.owned.value result }
+    ensures { OnHandle IsCode (OnClient (calls.Writes change))
+        handle.old.owned.value handle.new.owned.value result }
 {
     let Some(mut endpoint) = take(alloc, handle) else {
         return Reply::of(Code::Closed);
@@ -232,7 +235,8 @@ pub extern "C" fn krl_client_pin(alloc: Global, handle: &mut Handle, lo: u64, hi
 /// Frees a pin.
 #[unsafe(no_mangle)]
 pub extern "C" fn krl_client_unpin(alloc: Global, handle: &mut Handle, id: u64) -> Reply
-    ensures { OnHandle IsCode (OnClient (calls.Unpins id)) handle.old.owned.value handle.new.owned.value result }
+    ensures { OnHandle IsCode (OnClient (calls.Unpins id))
+        handle.old.owned.value handle.new.owned.value result }
 {
     let Some(mut endpoint) = take(alloc, handle) else {
         return Reply::of(Code::Closed);

@@ -1,7 +1,11 @@
 //! Exports on either, and on messages alone.
 ghost use Rattle.std.specs.Prelude.{◌≡◌, None};
 ghost use Rattle.krl_embed.specs.Endpoints.{IsCode, OnHandle};
+ghost use Rattle.krl_wire.specs.Reading as reading;
+ghost use Rattle.krl_wire.specs.Spelling as wire;
 ghost use Rattle.krl_embed.specs.Frames.{TakesFrames};
+ghost use Rattle.krl_embed.specs.Respelling.{Respells};
+ghost use Rattle.krl_embed.specs.Shown.{Copies};
 
 use crate::code::Code;
 use crate::handle::{Handle, put, take};
@@ -12,7 +16,8 @@ use std::alloc::Global;
 /// Takes the frames that wait to be sent.
 #[unsafe(no_mangle)]
 pub extern "C" fn krl_take(alloc: Global, handle: &mut Handle, bytes: &mut [u8]) -> Reply
-    ensures { OnHandle IsCode (TakesFrames bytes.old bytes.new) handle.old.owned.value handle.new.owned.value result }
+    ensures { OnHandle IsCode (TakesFrames bytes.old bytes.new)
+        handle.old.owned.value handle.new.owned.value result }
 {
     let Some(mut endpoint) = take(alloc, handle) else {
         return Reply::of(Code::Closed);
@@ -31,7 +36,9 @@ pub extern "C" fn krl_close(alloc: Global, handle: &mut Handle)
 }
 
 // The bytes go into `spelling`: Done, and their count; or TooShort with that, and none goes there.
-fn copy_bytes(found: &[u8], spelling: &mut [u8]) -> Reply {
+fn copy_bytes(found: &[u8], spelling: &mut [u8]) -> Reply
+    ensures { Copies found.now spelling.old spelling.new result }
+{
     let count = found.len();
     if spelling.len() < count {
         return Reply::with(Code::TooShort, count as u64);
@@ -40,9 +47,12 @@ fn copy_bytes(found: &[u8], spelling: &mut [u8]) -> Reply {
     Reply::with(Code::Done, count as u64)
 }
 
-/// Reads a message to the server, and writes its spelling.
+/// Reads a message to the server, and writes its spelling: the same bytes.
 #[unsafe(no_mangle)]
-pub extern "C" fn krl_respell_to_server(alloc: Global, bytes: &[u8], spelling: &mut [u8]) -> Reply {
+pub extern "C" fn krl_respell_to_server(alloc: Global, bytes: &[u8], spelling: &mut [u8]) -> Reply
+    ensures { Respells reading.to_server_of wire.to_server bytes.now
+        spelling.old spelling.new result }
+{
     let message = match to_server_of(alloc, bytes) {
         Ok(message) => message,
         Err(ReadError::OutOfMemory) => return Reply::of(Code::OutOfMemory),
@@ -55,9 +65,12 @@ pub extern "C" fn krl_respell_to_server(alloc: Global, bytes: &[u8], spelling: &
     copy_bytes(&spelled, spelling)
 }
 
-/// Reads a message to a client, and writes its spelling.
+/// Reads a message to a client, and writes its spelling: the same bytes.
 #[unsafe(no_mangle)]
-pub extern "C" fn krl_respell_to_client(alloc: Global, bytes: &[u8], spelling: &mut [u8]) -> Reply {
+pub extern "C" fn krl_respell_to_client(alloc: Global, bytes: &[u8], spelling: &mut [u8]) -> Reply
+    ensures { Respells reading.to_client_of wire.to_client bytes.now
+        spelling.old spelling.new result }
+{
     let message = match to_client_of(bytes) {
         Ok(message) => message,
         Err(fault) => return Reply::with(Code::BadMessage, fault as u64),

@@ -1,6 +1,7 @@
 //! Messages that wait to be sent.
 ghost use Rattle.std.specs.Prelude.{◌≡◌, ◌++◌, [], IfOk, OnOk};
-ghost use Rattle.krl_embed.specs.Frames.{frame, said_frame, told_frame, said_frames, told_frames, Waits, Takes};
+ghost use Rattle.krl_embed.specs.Frames.{frame, said_frame, told_frame, said_frames, told_frames};
+ghost use Rattle.krl_embed.specs.Frames.{Waits, Takes};
 
 use crate::code::Code;
 use crate::reply::Reply;

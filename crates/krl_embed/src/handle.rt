@@ -7,8 +7,8 @@ use crate::owned::Owned;
 use std::alloc::Global;
 use std::mem::replace;
 
-/// A client or a server, as C keeps it. One of zeros is closed. C neither reads, writes nor copies one that
-/// is open.
+/// A client or a server, as C keeps it. One of zeros is closed. C neither reads, writes nor copies
+/// one that is open.
 #[repr(C)]
 #[derive(Drop)]
 pub struct Handle {
@@ -19,7 +19,8 @@ pub struct Handle {
 
 pub(crate) fn take(alloc: Global, handle: &mut Handle) -> Option<Box<Endpoint>>
     ensures taken { MatchOption result (handle.new ≡ handle.old)
-        (λ endpoint. (handle.old.owned.value ≡ Some endpoint.value) × (handle.new.owned.value ≡ None)) }
+        (λ endpoint. (handle.old.owned.value ≡ Some endpoint.value)
+        × (handle.new.owned.value ≡ None)) }
     ensures closed { IsNone result → handle.old.owned.value ≡ None }
 {
     if !handle.is_open {
@@ -33,11 +34,19 @@ pub(crate) fn take(alloc: Global, handle: &mut Handle) -> Option<Box<Endpoint>>
     Some(owned.into_loose(alloc).into_box())
 }
 
+// The value. It may go to another thread: no other value has a proof of this call's bound.
+fn crosses<T: Send>(value: T) -> T
+    ensures { result ≡ value }
+{
+    value
+}
+
+// A handle may be used on any thread: all that it keeps may go there.
 pub(crate) fn put(handle: &mut Handle, endpoint: Box<Endpoint>)
     ensures { handle.new.owned.value ≡ Some endpoint.value }
 {
     *handle = Handle {
         is_open: true,
-        owned: Owned::of(Loose::of(endpoint)),
+        owned: Owned::of(Loose::of(crosses(endpoint))),
     };
 }

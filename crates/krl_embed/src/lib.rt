@@ -21,3 +21,4 @@ mod reply;
 mod rows;
 mod server_calls;
 mod server_exports;
+mod server_shows;

@@ -1,11 +1,12 @@
 //! Records of clients, as C sees them.
-ghost use Rattle.std.specs.Prelude.{◌≡◌, ◌++◌, ◌∷◌, [], IfSome, IfErr, OnOk, nat_eq};
+ghost use Rattle.std.specs.Prelude.{◌≡◌, ◌++◌, ◌∷◌, [], true, false, IfSome, IfNone, IfErr, OnOk};
+ghost use Rattle.std.specs.Prelude.{nat_eq};
 ghost use Rattle.std.specs.List.{list_any};
 ghost use Rattle.krl_durable.specs.Kept.{IsRow};
 ghost use Rattle.krl_embed.specs.Changes.{optional_outcome_number};
 ghost use Rattle.krl_embed.specs.Shown.{record_row};
 ghost use Rattle.krl_embed.specs.Records as records;
-ghost use Rattle.krl_embed.specs.Records.{AreRows, IsNoRecord};
+ghost use Rattle.krl_embed.specs.Records.{AreRows, RefusesRow};
 
 use crate::code::Code;
 use krl_durable::Record;
@@ -72,36 +73,44 @@ impl RecordRow {
         }
     }
 
-    // Whether its numbers are those of a record.
-    fn is_in_range(&self) -> bool {
+    // Whether it has an outcome exactly where a write was judged.
+    fn has_outcome(&self) -> bool
+        ensures { result ≡ records.has_outcome self.now }
+    {
+        if self.last == 0 {
+            self.outcome == 0
+        } else {
+            1 <= self.outcome && self.outcome <= 5
+        }
+    }
+
+    // Whether a client can have it.
+    fn is_record(&self) -> bool
+        ensures { result ≡ records.is_record self.now }
+    {
         self.client < 64
             && 1 <= self.incarnation
             && self.incarnation <= END
             && self.last <= END
-            && self.outcome <= 5
             && self.left <= 1
+            && self.has_outcome()
     }
 
     // The client and its record, where it is one.
     fn record(&self) -> Option<(u64, Record)>
         ensures row { IfSome result IsRow }
         ensures found { IfSome result (λ e. e ≡ records.record_of self.now) }
+        ensures is { IfSome result (λ _. records.is_record self.now ≡ true) }
+        ensures none { IfNone result (records.is_record self.now ≡ false) }
     {
-        if !self.is_in_range() {
-            return None;
-        }
-        if self.client >= 64 || self.incarnation == 0 || self.incarnation > END || self.last > END {
-            return None;
-        }
-        let outcome = outcome_of(self.outcome);
-        if outcome.is_some() == (self.last == 0) {
+        if !self.is_record() {
             return None;
         }
         let record = Record {
             incarnation: self.incarnation,
             left: self.left == 1,
             last: self.last,
-            outcome,
+            outcome: outcome_of(self.outcome),
         };
         Some((self.client, record))
     }
@@ -118,13 +127,14 @@ fn is_there(rows: &[(u64, Record)], client: u64) -> bool
 ///
 /// # Errors
 ///
-/// `BadRecord`; `OutOfMemory`. The records are as they were.
+/// `BadRecord` where it is none, or its client has one; `OutOfMemory`. The records are as they
+/// were.
 pub(crate) fn push_record(rows: &mut Vec<(u64, Record)>, row: &RecordRow) -> Result<(), Code>
     requires { AreRows rows.old.items }
     ensures rows { AreRows rows.new.items }
     ensures pushed { OnOk result
         (rows.new.items ≡ rows.old.items ++ records.record_of row.now ∷ []) }
-    ensures why { IfErr result IsNoRecord }
+    ensures why { IfErr result (RefusesRow rows.old.items row.now) }
 {
     let Some(pair) = row.record() else {
         return Err(Code::BadRecord);

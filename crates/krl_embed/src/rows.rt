@@ -46,14 +46,21 @@ impl Row {
     pub(crate) fn of(entry: &(u64, Value)) -> Row
         ensures { result ≡ row_of entry.now }
     {
+        let mut row = Row::blank();
+        row.put(entry);
+        row
+    }
+
+    // Becomes the entry's row. The bytes go to where they stay: a copy of what was written just now
+    // waits for it.
+    fn put(&mut self, entry: &(u64, Value))
+        ensures { self.new ≡ row_of entry.now }
+    {
         let bytes = entry.1.bytes();
-        let mut padded = [0; 32];
-        padded[..bytes.len()].copy_from_slice(bytes);
-        Row {
-            key: entry.0,
-            length: bytes.len() as u64,
-            bytes: padded,
-        }
+        self.key = entry.0;
+        self.length = bytes.len() as u64;
+        self.bytes = [0; 32];
+        self.bytes[..bytes.len()].copy_from_slice(bytes);
     }
 
     /// The entry, where its value has at most 32 bytes.
@@ -103,7 +110,7 @@ pub(crate) fn copy_rows(found: &[(u64, Value)], rows: &mut [Row]) -> Reply
         return Reply::with(Code::TooShort, count as u64);
     }
     for i in 0..count {
-        rows[i] = Row::of(&found[i]);
+        rows[i].put(&found[i]);
     }
     Reply::with(Code::Done, count as u64)
 }

@@ -158,7 +158,7 @@ pub(crate) fn status(endpoint: &Endpoint) -> ServerState
 }
 
 // The numbers go into `clients`: Done, and their count; or TooShort with that, and none goes there.
-fn copy_clients(found: &[u64], clients: &mut [u64]) -> Reply
+pub(crate) fn copy_clients(found: &[u64], clients: &mut [u64]) -> Reply
     ensures { shown.Copies found.now clients.old clients.new result }
 {
     let count = found.len();
@@ -171,7 +171,8 @@ fn copy_clients(found: &[u64], clients: &mut [u64]) -> Reply
 
 /// The clients that the server waits for.
 pub(crate) fn missing(alloc: Global, endpoint: &Endpoint, clients: &mut [u64]) -> Reply
-    ensures { OfServer IsCode (shown.TellsMissing clients.old clients.new) endpoint.now.role result }
+    ensures { OfServer IsCode (shown.TellsMissing clients.old clients.new)
+        endpoint.now.role result }
 {
     match &endpoint.role {
         Role::Server(server) => match server.missing(alloc) {

@@ -5,6 +5,7 @@ ghost use Rattle.krl_embed.specs.Opening as opening;
 ghost use Rattle.krl_embed.specs.Shown as shown;
 ghost use Rattle.krl_embed.specs.Servers as calls;
 ghost use Rattle.krl_embed.specs.Servers.{OnServer, IsUnchanged};
+ghost use Rattle.krl_embed.specs.Waits as waits;
 
 use crate::code::Code;
 use crate::endpoint::{Endpoint, Role};
@@ -15,6 +16,7 @@ use crate::records::RecordRow;
 use crate::reply::Reply;
 use crate::rows::Row;
 use crate::server_calls::{self, Recorded, ServerState, Stepped};
+use crate::server_shows::{self, Waiting};
 use std::alloc::Global;
 
 /// Starts a server on what was kept, in a closed handle. The detail is its epoch.
@@ -128,4 +130,56 @@ pub extern "C" fn krl_server_record(alloc: Global, handle: &mut Handle, client: 
     let recorded = server_calls::record(&endpoint, client);
     put(handle, endpoint);
     recorded
+}
+
+/// How a client waits for a lock.
+#[unsafe(no_mangle)]
+pub extern "C" fn krl_server_waiter(alloc: Global, handle: &mut Handle, client: u64) -> Waiting
+    ensures unchanged { handle.new.owned.value ≡ handle.old.owned.value }
+    ensures answer { Shows waits.IsNoWait (OfServer waits.IsNoWait (waits.TellsWait client))
+        handle.old.owned.value result }
+{
+    let Some(endpoint) = take(alloc, handle) else {
+        return Waiting::blank(Code::Closed);
+    };
+    let waiting = server_shows::waiter(&endpoint, client);
+    put(handle, endpoint);
+    waiting
+}
+
+/// The clients that a client waits for.
+#[unsafe(no_mangle)]
+pub extern "C" fn krl_server_waited_for(
+    alloc: Global,
+    handle: &mut Handle,
+    client: u64,
+    clients: &mut [u64],
+) -> Reply
+    ensures unchanged { handle.new.owned.value ≡ handle.old.owned.value }
+    ensures answer { Shows (waits.IsUntold clients.old clients.new)
+        (OfServer (waits.IsUntold clients.old clients.new)
+        (waits.TellsWaited client clients.old clients.new))
+        handle.old.owned.value result }
+{
+    let Some(endpoint) = take(alloc, handle) else {
+        return Reply::of(Code::Closed);
+    };
+    let reply = server_shows::waited_for(&endpoint, client, clients);
+    put(handle, endpoint);
+    reply
+}
+
+/// At how many slots a client holds something.
+#[unsafe(no_mangle)]
+pub extern "C" fn krl_server_held(alloc: Global, handle: &mut Handle, client: u64) -> Reply
+    ensures unchanged { handle.new.owned.value ≡ handle.old.owned.value }
+    ensures answer { Shows IsCode (OfServer IsCode (waits.TellsHeld client))
+        handle.old.owned.value result }
+{
+    let Some(endpoint) = take(alloc, handle) else {
+        return Reply::of(Code::Closed);
+    };
+    let reply = server_shows::held_slots(&endpoint, client);
+    put(handle, endpoint);
+    reply
 }

@@ -37,6 +37,8 @@ use Rattle.krl_durable.specs.contracts.index.Index as index
 use Rattle.krl_durable.specs.contracts.durable.Durable as durable
 use Rattle.krl_table.specs.contracts.row.SlotRow as slot_row
 use Rattle.krl_table.specs.contracts.waiting.Waiting as waiting
+use Rattle.krl_table.specs.contracts.extent.Extent as extent
+use Rattle.krl_table.specs.contracts.extents.Extents as extents
 use Rattle.krl_table.specs.contracts.table.Table as table
 use Rattle.krl_server.specs.contracts.line.Line as line
 use Rattle.krl_server.specs.contracts.missing.Missing as missing
@@ -162,9 +164,15 @@ row_kept_sent : IsSend slot_row.the_row
 row_kept_sent = recorded_send _ _ (slot_row.the_type).to (slot_row.the_type).to_one
     (struct_send (shape slot_row.the_type) (array_send _ 64 mode_row_sent, (wait_list_sent, tt)))
 
+extent_sent : IsSend extent.the_row
+extent_sent = search sendable depth 20
+
+extents_sent : IsSend (extents.the_field).row
+extents_sent = struct_send (shape extents.the_type) (array_send _ 64 extent_sent, tt)
+
 table_inside : IsSend table.TheInside.the_row
 table_inside = recorded_send _ _ (table.TheInside.the_type).to (table.TheInside.the_type).to_one
-    (struct_send (shape table.TheInside.the_type) (store_sent _ row_kept_sent, (waiting_sent, tt)))
+    (struct_send (shape table.TheInside.the_type) (store_sent _ row_kept_sent, (waiting_sent, (extents_sent, tt))))
 
 table_sent : IsSend (table.the_field).row
 table_sent = view_send _ _ _ _ _ table_inside

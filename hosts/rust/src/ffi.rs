@@ -72,6 +72,17 @@ pub struct ServerState {
     pub phase: u64,
 }
 
+#[repr(C)]
+#[derive(Clone, Copy, Debug)]
+pub struct RawWaiting {
+    pub reply: Reply,
+    pub request: u64,
+    pub point: u64,
+    pub hi: u64,
+    pub mode: u32,
+    pub waits: u32,
+}
+
 unsafe extern "C" {
     pub fn krl_client_open(handle: *mut Handle, number: u64, incarnation: u64) -> Reply;
     pub fn krl_client_step(handle: *mut Handle, bytes: *const u8, length: usize) -> Reply;
@@ -111,6 +122,14 @@ unsafe extern "C" {
     pub fn krl_server_nudge(handle: *mut Handle, client: u64) -> Reply;
     pub fn krl_server_status(handle: *mut Handle) -> ServerState;
     pub fn krl_server_missing(handle: *mut Handle, clients: *mut u64, room: usize) -> Reply;
+    pub fn krl_server_waiter(handle: *mut Handle, client: u64) -> RawWaiting;
+    pub fn krl_server_waited_for(
+        handle: *mut Handle,
+        client: u64,
+        clients: *mut u64,
+        room: usize,
+    ) -> Reply;
+    pub fn krl_server_held(handle: *mut Handle, client: u64) -> Reply;
 
     pub fn krl_take(handle: *mut Handle, bytes: *mut u8, room: usize) -> Reply;
     pub fn krl_close(handle: *mut Handle);
@@ -142,5 +161,8 @@ mod tests {
         assert_eq!(offset_of!(Held, key), 20);
         assert_eq!([size_of::<ServerState>(), offset_of!(ServerState, epoch)], [32, 16]);
         assert_eq!(offset_of!(ServerState, phase), 24);
+        assert_eq!([size_of::<RawWaiting>(), offset_of!(RawWaiting, request)], [48, 16]);
+        assert_eq!([offset_of!(RawWaiting, point), offset_of!(RawWaiting, hi)], [24, 32]);
+        assert_eq!([offset_of!(RawWaiting, mode), offset_of!(RawWaiting, waits)], [40, 44]);
     }
 }

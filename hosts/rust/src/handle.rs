@@ -3,15 +3,16 @@ use crate::change::{Change, Outcome, Record, Saved, Write};
 use crate::code::Code;
 use crate::ffi;
 use crate::row::Row;
+use crate::watch::{CLIENTS, Waiting};
 use std::ops::Range;
 use std::ptr;
 
 /// An open handle. It stays in its place: the library's caller may not copy it.
 struct Handle(Box<ffi::Handle>);
 
-// The library has nothing that belongs to a thread: no statics, and memory of `malloc` alone. A
-// handle serves one call at a time, since each call takes it by `&mut`; a mutex makes each thread
-// see what the one before it did.
+// What a handle keeps may go to another thread: the library's proof says so. A handle serves one
+// call at a time, since each call takes it by `&mut`; a mutex makes each thread see what the one
+// before it did.
 unsafe impl Send for Handle {}
 
 impl Handle {
@@ -243,16 +244,49 @@ impl ServerHandle {
 
     /// The clients whose reports are missing.
     pub fn missing(&mut self) -> Result<Vec<u8>, Code> {
-        let mut clients = [0; 64];
+        let mut clients = [0; CLIENTS as usize];
         let room = clients.len();
         let reply = unsafe { ffi::krl_server_missing(self.0.raw(), clients.as_mut_ptr(), room) };
-        let count = usize::try_from(done(reply)?).map_err(|_| Code::OutOfMemory)?;
-        Ok(clients.iter().take(count).filter_map(|client| u8::try_from(*client).ok()).collect())
+        listed(reply, &clients)
+    }
+
+    /// The clients that wait for a lock, by number, each with those that it waits for.
+    pub fn waiting(&mut self) -> Result<Vec<Waiting>, Code> {
+        (0..CLIENTS).filter_map(|client| self.waiting_of(client).transpose()).collect()
+    }
+
+    fn waiting_of(&mut self, client: u8) -> Result<Option<Waiting>, Code> {
+        let raw = unsafe { ffi::krl_server_waiter(self.0.raw(), client.into()) };
+        done(raw.reply)?;
+        if raw.waits == 0 {
+            return Ok(None);
+        }
+        let ffi::RawWaiting { request, point, mode, .. } = raw;
+        let waits_for = self.waited_for(client)?;
+        Ok(Some(Waiting { client, request, point, mode, waits_for }))
+    }
+
+    fn waited_for(&mut self, client: u8) -> Result<Vec<u8>, Code> {
+        let mut clients = [0; CLIENTS as usize];
+        let (at, room) = (clients.as_mut_ptr(), clients.len());
+        let reply = unsafe { ffi::krl_server_waited_for(self.0.raw(), client.into(), at, room) };
+        listed(reply, &clients)
+    }
+
+    /// At how many slots the client holds something.
+    pub fn held(&mut self, client: u8) -> Result<u64, Code> {
+        done(unsafe { ffi::krl_server_held(self.0.raw(), client.into()) })
     }
 
     pub fn take(&mut self, frames: &mut Vec<u8>) -> Result<(), Code> {
         self.0.take(frames)
     }
+}
+
+/// The numbers of clients that a call wrote, where it did.
+fn listed(reply: ffi::Reply, clients: &[u64]) -> Result<Vec<u8>, Code> {
+    let count = usize::try_from(done(reply)?).map_err(|_| Code::OutOfMemory)?;
+    Ok(clients.iter().take(count).filter_map(|client| u8::try_from(*client).ok()).collect())
 }
 
 fn raw_record(record: &Record) -> ffi::RawRecord {

@@ -51,4 +51,4 @@ pub use sqlite::SqliteStore;
 pub use status::Status;
 pub use store::{MemoryStore, Store, StoreError};
 pub use stream::{Address, BadAddress, Listener};
-pub use watch::Wait;
+pub use watch::{Holding, Wait};

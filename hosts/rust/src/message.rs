@@ -3,13 +3,8 @@
 /// What a message is about, as far as a host cares.
 #[derive(Clone, Copy, Debug, PartialEq, Eq)]
 pub(crate) enum Kind {
-    Hello,
     Bye,
-    Lock { request: u64, point: u64, mode: u8 },
-    Release { lo: u64, hi: u64 },
-    Answered { request: u64 },
     Push,
-    Callback { lo: u64, hi: u64 },
     Other,
 }
 
@@ -21,24 +16,11 @@ pub(crate) fn client_of(message: &[u8]) -> Option<u8> {
 
 /// What the message is about. Only of messages that the library wrote or took.
 pub(crate) fn kind_of(message: &[u8]) -> Kind {
-    try_kind_of(message).unwrap_or(Kind::Other)
-}
-
-fn try_kind_of(message: &[u8]) -> Option<Kind> {
-    Some(match *message.get(1)? {
-        0 => Kind::Hello,
-        1 => Kind::Bye,
-        3 => Kind::Lock {
-            request: number(message, 34)?,
-            point: number(message, 42)?,
-            mode: *message.get(58)?,
-        },
-        7 => Kind::Release { lo: number(message, 34)?, hi: number(message, 42)? },
-        17 | 18 => Kind::Answered { request: number(message, 34)? },
-        19 => Kind::Push,
-        20 => Kind::Callback { lo: number(message, 26)?, hi: number(message, 34)? },
+    match message.get(1) {
+        Some(1) => Kind::Bye,
+        Some(17..=19) => Kind::Push,
         _ => Kind::Other,
-    })
+    }
 }
 
 fn number(message: &[u8], at: usize) -> Option<u64> {

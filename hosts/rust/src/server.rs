@@ -21,7 +21,8 @@ use std::time::{Duration, Instant};
 /// The most messages that are judged before what they changed is kept.
 const MOST_AT_ONCE: usize = 256;
 
-/// How often a client that seems stuck is told again what it may have missed.
+/// How often a client that seems stuck is told again what it may have missed, and the server is
+/// asked who waits for whom.
 const NUDGE: Duration = Duration::from_millis(50);
 
 /// A server that runs in threads of its own. It ends where it is dropped.
@@ -97,7 +98,8 @@ impl Server {
         self.listening.address()
     }
 
-    /// What it looks like now, or a few milliseconds ago.
+    /// What it looks like now, or a few milliseconds ago. Who waits for whom is as of 50
+    /// milliseconds ago at most, and what a client holds as of some three seconds ago.
     pub fn status(&self) -> Status {
         self.status.lock().unwrap_or_else(PoisonError::into_inner).clone()
     }
@@ -210,12 +212,10 @@ impl<S: Store> Turns<S> {
             Err(code) => return Err(ServeError::Refused(code)),
         };
         self.status.taken += 1;
-        let kind = kind_of(message);
         if let Some(client) = client_of(message) {
             self.connections.route(client, connection);
-            self.watch.heard(client, kind, Instant::now());
         }
-        if kind == Kind::Bye {
+        if kind_of(message) == Kind::Bye {
             // It leaves after what it says is kept, and tells the client that it need not say Bye
             // again.
             self.connections.put(connection, &frames::EMPTY);
@@ -239,6 +239,19 @@ impl<S: Store> Turns<S> {
             // A nudge for which there is no memory is a message that is lost.
             let _ = self.server.nudge(client);
         }
+        self.look();
+    }
+
+    /// Sees who waits for whom, and how much one client holds, the next in its turn.
+    fn look(&mut self) {
+        if let Ok(waiting) = self.server.waiting() {
+            self.status.waits = self.watch.waits(waiting, self.nudged);
+        }
+        let client = self.watch.next_counted();
+        if let Ok(slots) = self.server.held(client) {
+            self.watch.counted(client, slots);
+        }
+        self.status.holdings = self.watch.holdings().to_vec();
     }
 
     fn keep(&mut self, changes: &[Change]) -> Result<(), ServeError> {
@@ -265,10 +278,7 @@ impl<S: Store> Turns<S> {
 
     fn put(&mut self, message: &[u8], frame: &[u8], now: Instant) {
         let Some(client) = client_of(message) else { return };
-        let kind = kind_of(message);
-        self.watch.said(client, kind, now);
-        let is_push = matches!(kind, Kind::Answered { .. } | Kind::Push);
-        if is_push && self.held_back.holds(client, message, now) {
+        if kind_of(message) == Kind::Push && self.held_back.holds(client, message, now) {
             return;
         }
         self.connections.put_for(client, frame);
@@ -283,7 +293,6 @@ impl<S: Store> Turns<S> {
         }
         self.status.connected = self.connections.clients();
         self.status.connections = self.connections.count() as u64;
-        self.status.waits = self.watch.waits(Instant::now());
         self.status.held_back = self.held_back.count();
         shown.lock().unwrap_or_else(PoisonError::into_inner).clone_from(&self.status);
     }

@@ -1,5 +1,5 @@
 //! What an operator sees of a server.
-use crate::watch::Wait;
+use crate::watch::{Holding, Wait};
 use std::fmt::{self, Write};
 
 /// A server at one moment.
@@ -15,6 +15,8 @@ pub struct Status {
     pub connected: Vec<u8>,
     /// The clients that wait for a lock.
     pub waits: Vec<Wait>,
+    /// The clients that hold something.
+    pub holdings: Vec<Holding>,
     /// The clients whose report contradicted what the server knows, each once: two processes under
     /// one number, or a server on an older store.
     pub alarms: Vec<u8>,
@@ -83,6 +85,10 @@ impl Status {
         for (client, other) in self.pairs() {
             line(text, format_args!("krl_waits_for{{client=\"{client}\",other=\"{other}\"}} 1"));
         }
+        line(text, format_args!("# TYPE krl_held_slots gauge"));
+        for Holding { client, slots } in &self.holdings {
+            line(text, format_args!("krl_held_slots{{client=\"{client}\"}} {slots}"));
+        }
     }
 
     /// Each client that waits, with each one that it waits for.
@@ -114,10 +120,10 @@ impl fmt::Display for Status {
         for wait in &self.waits {
             let Wait { client, point, mode, .. } = wait;
             let (ms, whom) = (wait.waited.as_millis(), list(&wait.waits_for));
-            writeln!(
-                f,
-                "client {client} waits for {mode} at {point} for {ms} ms: called back: {whom}"
-            )?;
+            writeln!(f, "client {client} waits for {whom}: {mode} at {point}, for {ms} ms")?;
+        }
+        for Holding { client, slots } in &self.holdings {
+            writeln!(f, "client {client} holds {slots} slots")?;
         }
         if !self.alarms.is_empty() {
             writeln!(
@@ -153,6 +159,7 @@ mod tests {
             missing: vec![1],
             connected: vec![0, 3],
             waits: vec![wait],
+            holdings: vec![Holding { client: 2, slots: 7 }],
             ..Status::default()
         }
     }
@@ -163,7 +170,8 @@ mod tests {
         assert!(text.starts_with(
             "epoch 4, gathering reports\nmissing: 1\nconnected: 0, 3 (0 connections)\n"
         ));
-        assert!(text.contains("client 3 waits for RangeX-X at 10 for 40 ms: called back: 0, 2\n"));
+        assert!(text.contains("client 3 waits for 0, 2: RangeX-X at 10, for 40 ms\n"));
+        assert!(text.contains("client 2 holds 7 slots\n"));
         assert!(!text.contains("ALARM"));
     }
 
@@ -176,6 +184,7 @@ mod tests {
             text.contains("krl_wait_seconds{client=\"3\",point=\"10\",mode=\"RangeX-X\"} 0.04\n")
         );
         assert!(text.contains("krl_waits_for{client=\"3\",other=\"2\"} 1\n"));
+        assert!(text.contains("krl_held_slots{client=\"2\"} 7\n"));
         assert!(text.lines().all(|line| line.len() < 200 && !line.is_empty()));
     }
 }

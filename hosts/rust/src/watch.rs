@@ -1,7 +1,8 @@
-//! Who waits for whom, as a host sees it from the messages that pass.
-use crate::message::Kind;
-use std::collections::BTreeMap;
+//! Who waits, for whom, and for how long.
 use std::time::{Duration, Instant};
+
+/// The numbers of clients lie below this one.
+pub(crate) const CLIENTS: u8 = 64;
 
 /// A client that waits for a lock.
 #[derive(Clone, Debug, PartialEq, Eq)]
@@ -12,123 +13,135 @@ pub struct Wait {
     pub point: u64,
     /// The name of the mode that it asks for.
     pub mode: &'static str,
-    /// For how long.
+    /// For how long it was seen to wait.
     pub waited: Duration,
-    /// The clients that were called back for it and have not given way: those it waits for. None
-    /// where the lock stands behind another one's request.
+    /// The clients that it waits for: those that wait before it, and those that hold what does not
+    /// go beside what it wants. None where it has to acknowledge a push first, or where the server
+    /// gathers reports.
     pub waits_for: Vec<u8>,
 }
 
-/// A callback that was not obeyed within so long is forgotten: the server says it again while it
-/// matters.
-const FRESH: Duration = Duration::from_millis(500);
+/// How much a client holds.
+#[derive(Clone, Copy, Debug, PartialEq, Eq)]
+pub struct Holding {
+    /// The client.
+    pub client: u8,
+    /// The number of slots, each an entry with the gap below it, of which it holds something.
+    pub slots: u64,
+}
 
 const MODES: [&str; 13] = [
     "N", "S", "U", "X", "RangeS-S", "RangeS-U", "RangeI-N", "RangeI-S", "RangeI-U", "RangeI-X",
     "RangeX-S", "RangeX-U", "RangeX-X",
 ];
 
-struct Asked {
+/// A client that waits, as the server tells it.
+pub(crate) struct Waiting {
+    pub client: u8,
+    pub request: u64,
+    pub point: u64,
+    pub mode: u32,
+    pub waits_for: Vec<u8>,
+}
+
+/// A request that was seen to wait, and since when.
+struct Seen {
+    client: u8,
     request: u64,
-    point: u64,
-    mode: &'static str,
     since: Instant,
 }
 
-struct Called {
-    lo: u64,
-    hi: u64,
-    last: Instant,
-}
-
-/// What clients asked for and what they were called back for.
+/// Since when clients wait, and how much they hold.
 #[derive(Default)]
 pub(crate) struct Watch {
-    asked: BTreeMap<u8, Asked>,
-    called: BTreeMap<u8, Called>,
+    seen: Vec<Seen>,
+    holdings: Vec<Holding>,
+    counted: u8,
 }
 
 impl Watch {
-    /// The server took this from the client.
-    pub fn heard(&mut self, client: u8, kind: Kind, now: Instant) {
-        match kind {
-            Kind::Hello | Kind::Bye => {
-                self.asked.remove(&client);
-                self.called.remove(&client);
-            }
-            Kind::Lock { request, point, mode } => self.asks(client, request, point, mode, now),
-            Kind::Release { lo, hi } => {
-                self.called.retain(|of, called| *of != client || called.lo < lo || hi < called.hi);
-            }
-            _ => {}
-        }
-    }
-
-    /// The server said this to the client.
-    pub fn said(&mut self, client: u8, kind: Kind, now: Instant) {
-        match kind {
-            Kind::Answered { request } => {
-                self.asked.retain(|of, asked| *of != client || asked.request > request);
-            }
-            Kind::Callback { lo, hi } => {
-                self.called.insert(client, Called { lo, hi, last: now });
-            }
-            _ => {}
-        }
-    }
-
-    fn asks(&mut self, client: u8, request: u64, point: u64, mode: u8, now: Instant) {
-        let mode = MODES.get(usize::from(mode)).copied().unwrap_or("unknown");
-        let is_known = self.asked.get(&client).is_some_and(|asked| asked.request == request);
-        if !is_known {
-            self.asked.insert(client, Asked { request, point, mode, since: now });
-        }
-    }
-
-    /// The clients that wait, by number.
-    pub fn waits(&self, now: Instant) -> Vec<Wait> {
-        self.asked
+    /// The server tells now that these clients wait, and no others.
+    pub fn waits(&mut self, waiting: Vec<Waiting>, now: Instant) -> Vec<Wait> {
+        let since: Vec<_> = waiting.iter().map(|it| self.since(it, now)).collect();
+        self.seen = waiting
             .iter()
-            .map(|(client, asked)| Wait {
-                client: *client,
-                point: asked.point,
-                mode: asked.mode,
-                waited: now.saturating_duration_since(asked.since),
-                waits_for: self.called_at(asked.point, now),
-            })
-            .collect()
+            .zip(&since)
+            .map(|(it, since)| Seen { client: it.client, request: it.request, since: *since })
+            .collect();
+        waiting.into_iter().zip(since).map(|(it, since)| wait(it, since, now)).collect()
     }
 
-    fn called_at(&self, point: u64, now: Instant) -> Vec<u8> {
-        self.called
+    fn since(&self, waiting: &Waiting, now: Instant) -> Instant {
+        self.seen
             .iter()
-            .filter(|(_, called)| called.lo <= point && point < called.hi)
-            .filter(|(_, called)| now.saturating_duration_since(called.last) < FRESH)
-            .map(|(client, _)| *client)
-            .collect()
+            .find(|seen| seen.client == waiting.client && seen.request == waiting.request)
+            .map_or(now, |seen| seen.since)
     }
+
+    /// The client whose slots are counted next: each in its turn, since counting takes time.
+    pub fn next_counted(&mut self) -> u8 {
+        self.counted = (self.counted + 1) % CLIENTS;
+        self.counted
+    }
+
+    /// The client holds something of so many slots.
+    pub fn counted(&mut self, client: u8, slots: u64) {
+        self.holdings.retain(|holding| holding.client != client);
+        if slots > 0 {
+            self.holdings.push(Holding { client, slots });
+            self.holdings.sort_by_key(|holding| holding.client);
+        }
+    }
+
+    /// The clients that hold something, by number, as they were last counted.
+    pub fn holdings(&self) -> &[Holding] {
+        &self.holdings
+    }
+}
+
+fn wait(waiting: Waiting, since: Instant, now: Instant) -> Wait {
+    let Waiting { client, point, mode, waits_for, .. } = waiting;
+    let place = usize::try_from(mode).ok();
+    let mode = place.and_then(|place| MODES.get(place)).copied().unwrap_or("unknown");
+    Wait { client, point, mode, waited: now.saturating_duration_since(since), waits_for }
 }
 
 #[cfg(test)]
 mod tests {
     use super::*;
 
+    fn waiting(client: u8, request: u64) -> Waiting {
+        Waiting { client, request, point: 5, mode: 6, waits_for: vec![0] }
+    }
+
     #[test]
-    fn a_wait_begins_and_ends() {
+    fn a_wait_lasts_as_long_as_its_request() {
         let (mut watch, start) = (Watch::default(), Instant::now());
-        let asks = Kind::Lock { request: 2, point: 5, mode: 6 };
-        watch.heard(1, asks, start);
-        watch.said(0, Kind::Callback { lo: 0, hi: 11 }, start);
-        watch.heard(1, asks, start + FRESH / 2);
-        let waits = watch.waits(start + FRESH / 2);
-        let expected =
-            Wait { client: 1, point: 5, mode: "RangeI-N", waited: FRESH / 2, waits_for: vec![0] };
-        assert_eq!(waits, [expected]);
-        watch.heard(0, Kind::Release { lo: 0, hi: 11 }, start);
-        assert_eq!(watch.waits(start)[0].waits_for, []);
-        watch.said(1, Kind::Answered { request: 1 }, start);
-        assert_eq!(watch.waits(start).len(), 1);
-        watch.said(1, Kind::Answered { request: 2 }, start);
-        assert_eq!(watch.waits(start), []);
+        let later = start + Duration::from_millis(40);
+        assert_eq!(watch.waits(vec![waiting(1, 2)], start)[0].waited, Duration::ZERO);
+        let waits = watch.waits(vec![waiting(1, 2), waiting(3, 1)], later);
+        let expected = Wait {
+            client: 1,
+            point: 5,
+            mode: "RangeI-N",
+            waited: later - start,
+            waits_for: vec![0],
+        };
+        assert_eq!(waits[0], expected);
+        assert_eq!(waits[1].waited, Duration::ZERO);
+        assert_eq!(watch.waits(vec![waiting(1, 3)], later)[0].waited, Duration::ZERO);
+        assert_eq!(watch.waits(Vec::new(), later), []);
+    }
+
+    #[test]
+    fn holdings_are_by_client() {
+        let mut watch = Watch::default();
+        let counted: Vec<_> = (0..CLIENTS).map(|_| watch.next_counted()).collect();
+        assert_eq!((counted[0], counted[62], counted[63]), (1, 63, 0));
+        watch.counted(3, 7);
+        watch.counted(1, 2);
+        watch.counted(3, 8);
+        watch.counted(1, 0);
+        assert_eq!(watch.holdings(), [Holding { client: 3, slots: 8 }]);
     }
 }

@@ -3,7 +3,7 @@ use krl::{Address, Client, JoinError, Listener, LockFileError, MemoryStore, Outc
 use krl::{Row, Server, Value, evict};
 use std::path::{Path, PathBuf};
 use std::thread;
-use std::time::Duration;
+use std::time::{Duration, Instant};
 
 /// A folder that is gone when the test is.
 struct Folder(PathBuf);
@@ -150,6 +150,23 @@ fn a_pin_keeps_others_waiting() {
         assert_eq!(put.join().unwrap(), Ok(Outcome::Applied));
     });
     assert_eq!(reader.read(0..11), Ok(vec![row(10, "b")]));
+}
+
+#[test]
+fn what_a_client_holds_is_counted() {
+    let folder = Folder::new("counted");
+    let server = server("127.0.0.1:0");
+    let client = folder.join(&server, 1);
+    client.insert(10, value("a")).unwrap();
+    client.read(0..11).unwrap();
+    let pin = client.pin(0..11).unwrap();
+    let counted = || server.status().holdings.iter().any(|it| it.client == 1 && it.slots > 0);
+    let end = Instant::now() + Duration::from_secs(20);
+    while !counted() && Instant::now() < end {
+        thread::sleep(Duration::from_millis(50));
+    }
+    assert!(counted(), "{}", server.status());
+    drop(pin);
 }
 
 #[test]

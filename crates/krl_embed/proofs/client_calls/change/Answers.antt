@@ -1,4 +1,3 @@
-use Rattle.std.proofs.Common.{sym}
 use Rattle.krl_client.specs.Fields.{meaning}
 use Rattle.krl_client.specs.Commands.{write_refusal, wrote, says_write}
 use Rattle.krl_embed.specs.Replies as replies

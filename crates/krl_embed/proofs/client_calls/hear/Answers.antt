@@ -1,6 +1,5 @@
-use Rattle.std.proofs.Common.{sym, refl, List}
-use Rattle.krl_messages.specs.declared.to_server.ToServer.{ToServer}
-use Rattle.krl_client.specs.Fields.{Fields, meaning, Follows}
+use Rattle.std.proofs.Common.{sym, refl}
+use Rattle.krl_client.specs.Fields.{meaning, Follows}
 use Rattle.krl_client.specs.Messages.{case_of}
 use Rattle.krl_embed.specs.Replies as replies
 use Rattle.krl_embed.proofs.Commanding.{did, did_not}

@@ -1,4 +1,4 @@
-use Rattle.std.proofs.Common.{◌≡◌, ◌∙◌, sym, ap, nat_eq}
+use Rattle.std.proofs.Common.{◌∙◌, sym, ap, nat_eq}
 use Rattle.std.specs.List.{list_any}
 use Rattle.krl_embed.proofs.RecordsKept.{rows_push}
 use Rattle.krl_embed.proofs.records.push_record.Goals as goal

@@ -1,8 +1,8 @@
 -- `into_loose` gives what it owns.
-use Rattle.std.proofs.Common.{◌≡◌, List, [], ◌∷◌, ◌++◌, refl, sym, subst, Option, Some}
+use Rattle.std.proofs.Common.{◌≡◌, List, [], ◌∷◌, ◌++◌, refl, Option, Some}
 use Rattle.std.specs.Prelude.{IsSome}
 use mir.Val.{Val, vptr}
-use base.Logic.{SProp, ent, emp, never, fst∗}
+use base.Logic.{SProp, emp, never, fst∗}
 use base.Fml.{ftrue}
 use prog.Wp.{WpFn}
 use contract.Monad.{fact, fact_i}
@@ -13,8 +13,8 @@ use types.Part.{agg, whole, sub}
 use types.Run.{stop, fld, of_opd, and_then, no_more, returns, enter}
 use types.ByLocal.{alloc_all, pass_all, free_all, look_at, get, get_in, sets, is}
 use denote.Exit.{yes}
-use denote.RattleType.{RattleType, owns}
-use denote.RawPtr.{Ptr, block_ptr, null_ptr, ptr_val, in_a_block}
+use denote.RattleType.{owns}
+use denote.RawPtr.{block_ptr, null_ptr, ptr_val, in_a_block}
 use denote.Signature.{types_at, plain}
 use denote.Steps.{nothing, heard}
 use denote.Triple.Walked.{Stays, stay_dropped, walk_of, Goes-dropped}

@@ -1,0 +1,62 @@
+-- Messages may go to another thread.
+use denote.Param.Send.{IsSend, sendable}
+use Rattle.std.proofs.Crossing.{Vec-send}
+use Rattle.krl_modes.specs.contracts.span.Span as span
+use Rattle.krl_modes.specs.contracts.mode.Mode as mode
+use Rattle.krl_messages.specs.contracts.range_pieces.RangePiece as range_piece
+use Rattle.krl_messages.specs.contracts.key_pieces.KeyPiece as key_piece
+use Rattle.krl_messages.specs.contracts.items.Items as items
+use Rattle.krl_messages.specs.contracts.pieces.Pieces as pieces
+use Rattle.krl_messages.specs.contracts.outcome.Outcome as outcome
+use Rattle.krl_messages.specs.contracts.write_op.WriteOp as write_op
+use Rattle.krl_messages.specs.contracts.holding.Holding as holding
+use Rattle.krl_messages.specs.contracts.to_server.RequestBody as request_body
+use Rattle.krl_messages.specs.contracts.to_server.Request as request
+use Rattle.krl_messages.specs.contracts.to_server.ToServer as to_server
+use Rattle.krl_messages.specs.contracts.to_server.ToServerBody as to_server_body
+use Rattle.krl_messages.specs.contracts.to_client.PushBody as push_body
+
+pub span_sent : IsSend (span.the_field).row
+span_sent = search sendable depth 24 fits 4000
+
+pub mode_sent : IsSend (mode.the_field).row
+mode_sent = search sendable depth 30
+
+pub write_op_sent : IsSend (write_op.the_field).row
+write_op_sent = search sendable depth 24 fits 4000
+
+pub outcome_sent : IsSend (outcome.the_field).row
+outcome_sent = search sendable depth 24 fits 4000
+
+range_piece_sent : IsSend (range_piece.the_field).row
+range_piece_sent = let a = span_sent in search sendable depth 24 fits 4000
+
+key_piece_sent : IsSend (key_piece.the_field).row
+key_piece_sent = search sendable depth 24 fits 4000
+
+ranges_sent : IsSend (items.the_row range_piece.the_row)
+ranges_sent = let a = range_piece_sent in search (sendable, Vec-send) depth 16
+
+keys_sent : IsSend (items.the_row key_piece.the_row)
+keys_sent = let a = key_piece_sent in search (sendable, Vec-send) depth 16
+
+pieces_sent : IsSend (pieces.the_field).row
+pieces_sent = let a = ranges_sent in let b = keys_sent in search sendable depth 24 fits 4000
+
+request_body_sent : IsSend (request_body.the_field).row
+request_body_sent = let a = mode_sent in let b = write_op_sent in let c = span_sent in search sendable depth 24 fits 4000
+
+request_sent : IsSend (request.the_field).row
+request_sent = let a = request_body_sent in search sendable depth 24 fits 4000
+
+body_sent : IsSend (to_server_body.the_field).row
+body_sent = let a = pieces_sent in let b = request_sent in search sendable depth 24 fits 4000
+
+pub to_server_sent : IsSend to_server.the_row
+to_server_sent = let a = body_sent in search sendable depth 24 fits 4000
+
+holding_sent : IsSend (holding.the_field).row
+holding_sent = let a = span_sent in let b = mode_sent in search sendable depth 24 fits 4000
+
+pub push_body_sent : IsSend (push_body.the_field).row
+push_body_sent = let a = holding_sent in let b = outcome_sent in search sendable depth 24 fits 4000

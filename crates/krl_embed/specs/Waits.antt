@@ -1,0 +1,49 @@
+-- Who waits at a server, for whom, and how much clients hold, as C sees it.
+use Rattle.std.specs.Prelude.{◌≡◌, ◌≤◌, ◌<◌, ℕ, List, Option, Some, None}
+use Rattle.krl_queue.specs.declared.waiter.Waiter.{Waiter}
+use Rattle.krl_table.specs.Rows.{most_clients}
+use Rattle.krl_table.specs.Holds.{HoldsAt}
+use Rattle.krl_wire.specs.Spelling.{mode_tag}
+use Rattle.krl_server.specs.declared.state.State.{State}
+use Rattle.krl_server.specs.States.{meaning}
+use Rattle.krl_server.specs.Waits.{waiter_of, waited_for}
+use Rattle.krl_embed.specs.declared.code.Code.{Code}
+use Rattle.krl_embed.specs.declared.code.Code.TheVariants as code
+use Rattle.krl_embed.specs.declared.reply.Reply.{Reply}
+use Rattle.krl_embed.specs.declared.server_shows.Waiting.{Waiting}
+use Rattle.krl_embed.specs.Replies.{code_of}
+use Rattle.krl_embed.specs.Endpoints.{IsCode}
+use Rattle.krl_embed.specs.Shown.{Copies}
+
+-- what is told of a client; a number that is no client's is refused
+pub record OfNumber {R : Type 0} (Is : Code → R → Type 0) (c : ℕ) (Tells : R → Type 0) (r : R) : Type 0 where
+  pub client : c < 64 → Tells r
+  pub stranger : 64 ≤ c → Is code.BadClient r
+
+-- it waits so, with what it asked for
+abbrev pub IsWait : Option Waiter → Waiting → Type 0
+IsWait None r = (r.waits ≡ 0) × (r.request ≡ 0) × (r.point ≡ 0) × (r.hi ≡ 0) × (r.mode ≡ 0)
+IsWait (Some u) r =
+    (r.waits ≡ 1) × (r.request ≡ u.req) × (r.point ≡ u.point) × (r.hi ≡ u.hi) × (r.mode ≡ mode_tag u.mode)
+
+abbrev pub IsNoWait : Code → Waiting → Type 0
+IsNoWait c r = IsCode c r.reply × IsWait None r
+
+abbrev pub TellsWait : ℕ → State → Waiting → Type 0
+TellsWait c s r =
+    OfNumber IsNoWait c (λ r. IsCode code.Done r.reply × IsWait (waiter_of (meaning s) c) r) r
+
+-- this code, and the room is as it was
+abbrev pub IsUntold : List ℕ → List ℕ → Code → Reply → Type 0
+IsUntold was now c r = IsCode c r × (now ≡ was)
+
+abbrev pub TellsWaited : ℕ → List ℕ → List ℕ → State → Reply → Type 0
+TellsWaited c was now s r = OfNumber (IsUntold was now) c (Copies (waited_for (meaning s) c) was now) r
+
+-- the detail says at how many slots the client holds a mode other than N
+pub record IsHolding (s : State) (c : ℕ) (r : Reply) : Type 0 where
+  pub done : code_of r ≡ Some code.Done
+  pub count : HoldsAt (meaning s).rows c r.detail
+
+abbrev pub TellsHeld : ℕ → State → Reply → Type 0
+TellsHeld c s r = OfNumber IsCode c (IsHolding s c) r

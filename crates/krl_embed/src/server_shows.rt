@@ -1,0 +1,102 @@
+//! Who waits at a server, for whom, and how much clients hold, as C sees it.
+ghost use Rattle.krl_embed.specs.declared.code.Code.TheVariants as code;
+ghost use Rattle.krl_embed.specs.Endpoints.{IsCode, OfServer};
+ghost use Rattle.krl_embed.specs.Waits as waits;
+ghost use Rattle.krl_embed.specs.Waits.{IsNoWait, IsUntold, IsWait};
+
+use crate::code::Code;
+use crate::endpoint::{Endpoint, Role};
+use crate::reply::Reply;
+use crate::server_calls::copy_clients;
+use krl_queue::Waiter;
+use krl_server::Server;
+
+/// The first number that is no client's.
+const CLIENTS: u64 = 64;
+
+/// How a client waits at a server.
+#[repr(C)]
+#[derive(Clone, Copy)]
+pub struct Waiting {
+    reply: Reply,
+    request: u64,
+    point: u64,
+    hi: u64,
+    mode: u32,
+    waits: u32,
+}
+
+impl Waiting {
+    /// Nobody waits, by this code.
+    pub(crate) fn blank(code: Code) -> Waiting
+        ensures { IsNoWait code result }
+    {
+        Waiting {
+            reply: Reply::of(code),
+            request: 0,
+            point: 0,
+            hi: 0,
+            mode: 0,
+            waits: 0,
+        }
+    }
+
+    fn of(waiter: &Option<Waiter>) -> Waiting
+        ensures code { IsCode code.Done result.reply }
+        ensures wait { IsWait waiter.now result }
+    {
+        match *waiter {
+            Some(waiter) => Waiting {
+                reply: Reply::of(Code::Done),
+                request: waiter.req,
+                point: waiter.point.get(),
+                hi: waiter.hi,
+                mode: waiter.mode as u32,
+                waits: 1,
+            },
+            None => Waiting::blank(Code::Done),
+        }
+    }
+}
+
+/// How the client waits at the server.
+pub(crate) fn waiter(endpoint: &Endpoint, client: u64) -> Waiting
+    ensures { OfServer IsNoWait (waits.TellsWait client) endpoint.now.role result }
+{
+    match &endpoint.role {
+        Role::Server(_) if client >= CLIENTS => Waiting::blank(Code::BadClient),
+        Role::Server(server) => Waiting::of(&server.waiter_of(client)),
+        Role::Client(_) | Role::Left(_) => Waiting::blank(Code::NoServer),
+    }
+}
+
+fn copy_waited_for(server: &Server, client: u64, clients: &mut [u64]) -> Reply
+    ensures { waits.TellsWaited client clients.old clients.new server.now result }
+{
+    if client >= CLIENTS {
+        return Reply::of(Code::BadClient);
+    }
+    copy_clients(server.waited_for(client).as_slice(), clients)
+}
+
+/// The clients that the client waits for.
+pub(crate) fn waited_for(endpoint: &Endpoint, client: u64, clients: &mut [u64]) -> Reply
+    ensures { OfServer (IsUntold clients.old clients.new)
+        (waits.TellsWaited client clients.old clients.new) endpoint.now.role result }
+{
+    match &endpoint.role {
+        Role::Server(server) => copy_waited_for(server, client, clients),
+        Role::Client(_) | Role::Left(_) => Reply::of(Code::NoServer),
+    }
+}
+
+/// At how many slots the client holds a mode other than N.
+pub(crate) fn held_slots(endpoint: &Endpoint, client: u64) -> Reply
+    ensures { OfServer IsCode (waits.TellsHeld client) endpoint.now.role result }
+{
+    match &endpoint.role {
+        Role::Server(_) if client >= CLIENTS => Reply::of(Code::BadClient),
+        Role::Server(server) => Reply::with(Code::Done, server.held_slots(client)),
+        Role::Client(_) | Role::Left(_) => Reply::of(Code::NoServer),
+    }
+}
