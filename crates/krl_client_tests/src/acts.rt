@@ -1,10 +1,11 @@
 //! What a client is told and asked to do, one act after another, and what comes of it. Where an
 //! allocation is refused, a client shows what it showed, and the refused call is made again.
 use crate::again::CALLS;
+use crate::shown::{are_numbers, are_told};
 use krl_client::{Client, CommandRefused, LockStatus, ScanAnswer, Status, WriteStatus};
 use krl_messages::{
-    Holding, Holdings, Outcome, Pieces, PushBody, Request, RequestBody, ToClient, ToClientBody,
-    ToServer, ToServerBody, Value, WriteOp,
+    Holding, Holdings, Outcome, PushBody, Request, RequestBody, ToClient, ToClientBody, ToServer,
+    ToServerBody, Value, WriteOp,
 };
 use krl_modes::{END, KeyPart, Mode, RangePart, Span};
 
@@ -94,23 +95,6 @@ fn seen(client: &Client) -> (Status, [(RangePart, KeyPart); 8]) {
     (client.status(), all)
 }
 
-fn are_ranges(pieces: &Pieces, expected: &[(u64, u64, RangePart)]) -> bool {
-    let told = pieces.ranges.as_slice();
-    told.len() == expected.len()
-        && told.iter().zip(expected.iter()).all(|(piece, range)| {
-            (piece.span.lo(), piece.span.hi(), piece.part) == *range
-        })
-}
-
-fn are_keys(pieces: &Pieces, expected: &[(u64, KeyPart)]) -> bool {
-    let told = pieces.keys.as_slice();
-    told.len() == expected.len()
-        && told
-            .iter()
-            .zip(expected.iter())
-            .all(|(piece, key)| (piece.point, piece.part) == *key)
-}
-
 fn is_release(body: &RequestBody, lo: u64, hi: u64, keep: Mode) -> bool {
     match body {
         RequestBody::Release { span, mode } => {
@@ -154,7 +138,7 @@ pub fn is_said(message: &ToServer, expected: &Says) -> bool {
     match (&message.body, expected) {
         (ToServerBody::Hello, Says::Hello) => true,
         (ToServerBody::Report { epoch, pieces }, Says::Report(number, ranges, keys)) => {
-            epoch == number && are_ranges(pieces, ranges) && are_keys(pieces, keys)
+            epoch == number && are_told(pieces, ranges, keys)
         }
         (ToServerBody::Request(request), _) => is_request(request, expected),
         _ => false,
@@ -176,7 +160,10 @@ fn are_said(messages: &[ToServer], expected: &Gives) -> bool {
 
 fn holding(held: Held) -> Option<Holding> {
     let Held(lo, hi, mode, number) = held;
-    let value = number.map(Value::from_u64);
+    let value = match number {
+        Some(number) => Some(Value::from_u64(number)),
+        None => None,
+    };
     match Span::new(lo, hi) {
         Ok(span) => Some(Holding { span, mode, value }),
         Err(_) => None,
@@ -286,16 +273,9 @@ fn commands(client: &mut Client, act: Act, expected: &Gives) -> bool {
     false
 }
 
-fn are_rows(rows: &[(u64, Value)], expected: &[(u64, u64)]) -> bool {
-    rows.len() == expected.len()
-        && rows.iter().zip(expected.iter()).all(|(row, told)| {
-            row.0 == told.0 && row.1.as_u64() == Some(told.1)
-        })
-}
-
 fn is_found(answer: &ScanAnswer, expected: &Gives) -> bool {
     match (answer, expected) {
-        (ScanAnswer::Rows(rows), Gives::Rows(entries)) => are_rows(rows.as_slice(), entries),
+        (ScanAnswer::Rows(rows), Gives::Rows(entries)) => are_numbers(rows.as_slice(), entries),
         (ScanAnswer::Miss(p), Gives::Miss(point)) => p == point,
         (ScanAnswer::Pending(key), Gives::Pending(point)) => key == point,
         _ => false,

@@ -1,8 +1,9 @@
 //! Calls of a cache, one after another, and what each gives. Where an allocation is refused, a cache
 //! believes what it believed, and the refused call is made again.
 use crate::again::CALLS;
+use crate::shown::{are_rows, are_told};
 use krl_cache::{Belief, Scanned};
-use krl_messages::{Holding, Holdings, KeyPiece, Pieces, RangePiece, Value};
+use krl_messages::{Holding, Holdings, Value};
 use krl_modes::{END, KeyPart, Mode, RangePart, Span};
 use std::alloc::{AllocError, Global};
 
@@ -85,17 +86,12 @@ fn is_done<B: Belief>(cache: &mut B, change: &Change<'_>) -> bool {
     false
 }
 
-// The value of these bytes. None where they are more than 32.
-fn value_of(bytes: Option<Bytes>) -> Option<Option<Value>> {
-    match bytes {
-        Some(bytes) => Some(Some(Value::new(bytes)?)),
-        None => Some(None),
-    }
-}
-
 fn holding(held: Held) -> Option<Holding> {
     let (lo, hi, mode, bytes) = held;
-    let value = value_of(bytes)?;
+    let value = match bytes {
+        Some(bytes) => Some(Value::new(bytes)?),
+        None => None,
+    };
     match Span::new(lo, hi) {
         Ok(span) => Some(Holding { span, mode, value }),
         Err(_) => None,
@@ -127,21 +123,6 @@ fn listed(all: &[Held]) -> Option<Holdings> {
     Some(holdings)
 }
 
-fn are_rows(rows: &[(u64, Value)], expected: &[(u64, Bytes)]) -> bool {
-    rows.len() == expected.len()
-        && rows
-            .iter()
-            .zip(expected.iter())
-            .all(|(row, told)| row.0 == told.0 && row.1.bytes() == told.1)
-}
-
-pub fn has_rows(found: &Scanned, expected: &[(u64, Bytes)]) -> bool {
-    match found {
-        Scanned::Rows(rows) => are_rows(rows.as_slice(), expected),
-        Scanned::Miss(_) => false,
-    }
-}
-
 fn is_found(found: &Scanned, gives: &Gives) -> bool {
     match (found, gives) {
         (Scanned::Rows(rows), Gives::Rows(expected)) => are_rows(rows.as_slice(), expected),
@@ -159,31 +140,6 @@ fn scans<B: Belief>(alloc: Global, cache: &B, span: Span, gives: &Gives) -> bool
     false
 }
 
-fn are_ranges(pieces: &[RangePiece], expected: &[(u64, u64, RangePart)]) -> bool {
-    pieces.len() == expected.len()
-        && pieces.iter().zip(expected.iter()).all(|(piece, told)| (
-            piece.span.lo(),
-            piece.span.hi(),
-            piece.part,
-        ) == *told)
-}
-
-fn are_keys(pieces: &[KeyPiece], expected: &[(u64, KeyPart)]) -> bool {
-    pieces.len() == expected.len()
-        && pieces
-            .iter()
-            .zip(expected.iter())
-            .all(|(piece, told)| (piece.point, piece.part) == *told)
-}
-
-pub fn are_told(
-    pieces: &Pieces,
-    ranges: &[(u64, u64, RangePart)],
-    keys: &[(u64, KeyPart)],
-) -> bool {
-    are_ranges(pieces.ranges.as_slice(), ranges) && are_keys(pieces.keys.as_slice(), keys)
-}
-
 fn tells<B: Belief>(
     alloc: Global,
     cache: &B,
@@ -196,6 +152,15 @@ fn tells<B: Belief>(
         }
     }
     false
+}
+
+// Whether the value is of these bytes, or there is none.
+fn is_value(value: Option<Value>, expected: Option<Bytes>) -> bool {
+    match (value, expected) {
+        (None, None) => true,
+        (Some(value), Some(bytes)) => value.bytes() == bytes,
+        _ => false,
+    }
 }
 
 // Whether the call gives this.
@@ -219,10 +184,10 @@ fn answers<B: Belief>(alloc: Global, cache: &mut B, ask: &Ask, expected: &Gives)
             Ok(span) => scans(alloc, cache, span, expected),
             Err(_) => false,
         },
-        (Ask::At(p), Gives::Here(range, key, bytes)) => match value_of(*bytes) {
-            Some(value) => at(cache, *p) == (*range, *key, value),
-            None => false,
-        },
+        (Ask::At(p), Gives::Here(range, key, bytes)) => {
+            let (range_there, key_there, value) = at(cache, *p);
+            range_there == *range && key_there == *key && is_value(value, *bytes)
+        }
         (Ask::Pieces, Gives::Told(ranges, keys)) => tells(alloc, cache, ranges, keys),
         _ => false,
     }

@@ -1,16 +1,13 @@
 //! Both forms of a cache. Where an allocation is refused, a cache believes what it believed, and
 //! the refused call is made again; so each run ends alike, whichever one or two allocations in a
 //! row fail.
-ghost use Rattle.std.specs.Prelude.{◌≡◌};
-
-use crate::again::CALLS;
-use crate::asks::{Ask, Bytes, Gives, all_give, are_told, has_rows};
+use crate::asks::{Ask, Bytes, Gives, all_give};
+use crate::shown::{Range, are_rows, are_told};
 use krl_cache::{Belief, Cache, Scanned};
 use krl_cache_laws::{CacheCall, CacheReply, PlainCache, run_cache};
 use krl_messages::{Holding, Value};
 use krl_modes::{END, KeyPart, Mode, RangePart, Span, TOP};
-use std::alloc::{AllocError, Global};
-use std::process::Abort;
+use std::alloc::Global;
 
 // Two holdings side by side: the one reads its gap and its entry, the other inserts into its gap.
 static TWO_HOLDINGS: [(Ask, Gives); 10] = [
@@ -276,84 +273,116 @@ static ADOPTS_EACH_LENGTH: [(Ask, Gives); 10] = [
     ),
 ];
 
+// How many tables of rows there are.
+const TABLES: u64 = 7;
+
+fn table(number: u64) -> &'static [(Ask, Gives)] {
+    match number {
+        0 => TWO_HOLDINGS.as_slice(),
+        1 => ADOPTS_OVER.as_slice(),
+        2 => KEYS_AND_THE_END.as_slice(),
+        3 => ADOPTS_SEVERAL.as_slice(),
+        4 => ADOPTS_EIGHT.as_slice(),
+        5 => MERGES.as_slice(),
+        _ => ADOPTS_EACH_LENGTH.as_slice(),
+    }
+}
+
+fn cache_gives(alloc: Global, rows: &[(Ask, Gives)]) -> bool {
+    all_give(alloc, &mut Cache::new(alloc), rows)
+}
+
+fn plain_cache_gives(alloc: Global, rows: &[(Ask, Gives)]) -> bool {
+    all_give(alloc, &mut PlainCache::new(alloc), rows)
+}
+
 #[test]
 fn cache_gives_each_row(rt: HostRuntime) {
-    for rows in [
-        TWO_HOLDINGS.as_slice(),
-        ADOPTS_OVER.as_slice(),
-        KEYS_AND_THE_END.as_slice(),
-        ADOPTS_SEVERAL.as_slice(),
-        ADOPTS_EIGHT.as_slice(),
-        MERGES.as_slice(),
-        ADOPTS_EACH_LENGTH.as_slice(),
-    ] {
-        assert!(rt; all_give(rt.alloc(), &mut Cache::new(rt.alloc()), rows));
+    for number in 0..TABLES {
+        assert!(rt; cache_gives(rt.alloc(), table(number)), "{number}");
     }
 }
 
 #[test]
 fn plain_cache_gives_each_row(rt: HostRuntime) {
-    for rows in [
-        TWO_HOLDINGS.as_slice(),
-        ADOPTS_OVER.as_slice(),
-        KEYS_AND_THE_END.as_slice(),
-        ADOPTS_SEVERAL.as_slice(),
-        ADOPTS_EIGHT.as_slice(),
-        MERGES.as_slice(),
-        ADOPTS_EACH_LENGTH.as_slice(),
-    ] {
-        assert!(rt; all_give(rt.alloc(), &mut PlainCache::new(rt.alloc()), rows));
+    for number in 0..TABLES {
+        assert!(rt; plain_cache_gives(rt.alloc(), table(number)), "{number}");
     }
 }
 
-fn span(rt: &impl Abort, lo: u64, hi: u64) -> Span
-    ensures { result ≡ record { lo = lo; hi = hi } }
-{
-    Span::new(lo, hi).expect(rt, "a span")
-}
-
 fn has_refusal(replies: &[CacheReply]) -> bool {
-    replies
-        .iter()
-        .any(|reply| matches!(reply, CacheReply::OutOfMemory))
+    for reply in replies {
+        if matches!(reply, CacheReply::OutOfMemory) {
+            return true;
+        }
+    }
+    false
 }
 
-// Whether these are the replies to the calls of `run`.
-fn are_replies(replies: &[CacheReply]) -> bool {
-    match replies {
-        [
-            CacheReply::Done,
-            CacheReply::Done,
-            CacheReply::Found(first),
-            CacheReply::Found(Scanned::Miss(11)),
-            CacheReply::Done,
-            CacheReply::Range(RangePart::N),
-            CacheReply::Key(KeyPart::N),
-            CacheReply::Value(None),
-            CacheReply::Found(Scanned::Miss(0)),
-            CacheReply::Told(pieces),
-        ] => {
-            has_rows(first, &[(10, &[0, 0, 0, 0, 0, 0, 0, 1])])
-                && are_told(pieces, &[(11, 21, RangePart::I)], &[])
+// A reply to a call.
+enum Reply {
+    Done,
+    Rows(&'static [(u64, Bytes)]),
+    Miss(u64),
+    Range(RangePart),
+    Key(KeyPart),
+    NoValue,
+    Told(&'static [Range], &'static [(u64, KeyPart)]),
+}
+
+// The replies to the calls of `run`.
+static REPLIES: [Reply; 10] = [
+    Reply::Done,
+    Reply::Done,
+    Reply::Rows(&[(10, &[0, 0, 0, 0, 0, 0, 0, 1])]),
+    Reply::Miss(11),
+    Reply::Done,
+    Reply::Range(RangePart::N),
+    Reply::Key(KeyPart::N),
+    Reply::NoValue,
+    Reply::Miss(0),
+    Reply::Told(&[(11, 21, RangePart::I)], &[]),
+];
+
+fn is_reply(reply: &CacheReply, expected: &Reply) -> bool {
+    match (reply, expected) {
+        (CacheReply::Done, Reply::Done) => true,
+        (CacheReply::Found(Scanned::Rows(rows)), Reply::Rows(told)) => {
+            are_rows(rows.as_slice(), told)
         }
+        (CacheReply::Found(Scanned::Miss(p)), Reply::Miss(point)) => p == point,
+        (CacheReply::Range(part), Reply::Range(told)) => part == told,
+        (CacheReply::Key(part), Reply::Key(told)) => part == told,
+        (CacheReply::Value(None), Reply::NoValue) => true,
+        (CacheReply::Told(pieces), Reply::Told(ranges, keys)) => are_told(pieces, ranges, keys),
         _ => false,
     }
 }
 
-// The calls of two holdings, in one run.
-fn run<B: Belief>(
-    rt: &impl Abort,
-    alloc: Global,
-    cache: &mut B,
-) -> Result<Vec<CacheReply>, AllocError> {
-    let (first, both) = (span(rt, 0, 11), span(rt, 0, 21));
+fn are_replies(replies: &[CacheReply]) -> bool {
+    if replies.len() != REPLIES.len() {
+        return false;
+    }
+    for i in 0..replies.len() {
+        if !is_reply(&replies[i], &REPLIES[i]) {
+            return false;
+        }
+    }
+    true
+}
+
+// The calls of two holdings, in one run. None where it is refused memory.
+fn run<B: Belief>(alloc: Global, cache: &mut B) -> Option<Vec<CacheReply>> {
+    let first = Span::new(0, 11).ok()?;
+    let second = Span::new(11, 21).ok()?;
+    let both = Span::new(0, 21).ok()?;
     let read = Holding {
         span: first,
         mode: Mode::RangeSS,
         value: Some(Value::from_u64(1)),
     };
     let inserts = Holding {
-        span: span(rt, 11, 21),
+        span: second,
         mode: Mode::RangeIN,
         value: None,
     };
@@ -369,12 +398,12 @@ fn run<B: Belief>(
         CacheCall::Scan(first),
         CacheCall::Pieces,
     ];
-    run_cache(alloc, cache, calls.as_slice())
+    run_cache(alloc, cache, calls.as_slice()).ok()
 }
 
 // Whether a cache that believes nothing gives the replies; None where the run is refused memory.
-fn runs<B: Belief>(rt: &impl Abort, alloc: Global, cache: &mut B) -> Option<bool> {
-    let replies = run(rt, alloc, cache).ok()?;
+fn runs<B: Belief>(alloc: Global, cache: &mut B) -> Option<bool> {
+    let replies = run(alloc, cache)?;
     if has_refusal(replies.as_slice()) {
         return None;
     }
@@ -383,31 +412,31 @@ fn runs<B: Belief>(rt: &impl Abort, alloc: Global, cache: &mut B) -> Option<bool
 
 // Whether one of these caches, that believe nothing, gives the replies: a run that is refused
 // memory is made again on the next.
-fn one_runs<B: Belief>(rt: &impl Abort, alloc: Global, caches: &mut [B]) -> bool {
+fn one_runs<B: Belief>(alloc: Global, caches: &mut [B]) -> bool {
     for cache in caches {
-        if let Some(are_right) = runs(rt, alloc, cache) {
+        if let Some(are_right) = runs(alloc, cache) {
             return are_right;
         }
     }
     false
 }
 
-fn cache_runs(rt: &impl Abort, alloc: Global) -> bool {
+fn cache_runs(alloc: Global) -> bool {
     let mut caches = [Cache::new(alloc), Cache::new(alloc), Cache::new(alloc)];
-    one_runs(rt, alloc, &mut caches)
+    one_runs(alloc, &mut caches)
 }
 
-fn plain_cache_runs(rt: &impl Abort, alloc: Global) -> bool {
+fn plain_cache_runs(alloc: Global) -> bool {
     let mut caches = [
         PlainCache::new(alloc),
         PlainCache::new(alloc),
         PlainCache::new(alloc),
     ];
-    one_runs(rt, alloc, &mut caches)
+    one_runs(alloc, &mut caches)
 }
 
 #[test]
 fn both_run(rt: HostRuntime) {
-    assert!(rt; cache_runs(&rt, rt.alloc()));
-    assert!(rt; plain_cache_runs(&rt, rt.alloc()));
+    assert!(rt; cache_runs(rt.alloc()));
+    assert!(rt; plain_cache_runs(rt.alloc()));
 }

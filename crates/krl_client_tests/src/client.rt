@@ -1,6 +1,6 @@
 //! Clients that are told everything by hand. Each run ends alike, whichever one or two allocations
 //! in a row fail.
-use crate::acts::{Says, fails, is_said};
+use crate::acts::{Act, Gives, Says, fails, is_said};
 use crate::again::CALLS;
 use crate::joining::{BEFORE_IT_JOINS, EPOCHS};
 use crate::locking::{LOCKS, PINS};
@@ -9,15 +9,23 @@ use krl_client::{Client, CommandRefused, StartRefused};
 use krl_messages::{ToServer, ToServerBody};
 use krl_modes::END;
 use std::alloc::{AllocError, Global};
-use std::process::Abort;
 
-fn start(rt: &impl Abort, alloc: Global) -> Client {
-    match Client::start(alloc, 3, 2) {
-        Ok((client, hello)) => {
-            assert!(rt; is_said(&hello, &Says::Hello));
-            client
-        }
-        Err(_) => panic!(rt; "no client starts"),
+// A client that has said its Hello.
+fn started(alloc: Global) -> Option<Client> {
+    let Ok((client, hello)) = Client::start(alloc, 3, 2) else {
+        return None;
+    };
+    if is_said(&hello, &Says::Hello) {
+        return Some(client);
+    }
+    None
+}
+
+// Whether a client gives each of these rows: the first that it does not, if any.
+fn fails_on(alloc: Global, rows: &[(Act, Gives)]) -> Option<usize> {
+    match started(alloc) {
+        Some(mut client) => fails(&mut client, rows),
+        None => Some(usize::MAX),
     }
 }
 
@@ -30,7 +38,7 @@ fn clients_give_each_row(rt: HostRuntime) {
         PINS.as_slice(),
         EPOCHS.as_slice(),
     ] {
-        assert_eq!(rt; fails(&mut start(&rt, rt.alloc()), rows), None);
+        assert_eq!(rt; fails_on(rt.alloc(), rows), None);
     }
 }
 
@@ -41,8 +49,11 @@ fn is_bye(list: &[ToServer]) -> bool {
     }
 }
 
-// Whether the client leaves, perhaps after refusals, each of which hands it back.
-fn leaves(client: Client) -> bool {
+// Whether a client leaves, perhaps after refusals, each of which hands it back.
+fn leaves(alloc: Global) -> bool {
+    let Some(client) = started(alloc) else {
+        return false;
+    };
     let said = client
         .leave()
         .or_else(|client| client.leave())
@@ -52,7 +63,7 @@ fn leaves(client: Client) -> bool {
 
 #[test]
 fn leaves_with_a_bye(rt: HostRuntime) {
-    assert!(rt; leaves(start(&rt, rt.alloc())));
+    assert!(rt; leaves(rt.alloc()));
 }
 
 static STARTS: [(u64, u64, Option<StartRefused>); 5] = [
@@ -63,14 +74,15 @@ static STARTS: [(u64, u64, Option<StartRefused>); 5] = [
     (0, 0, None),
 ];
 
+// Why no client of this number and incarnation starts. None where one starts.
+fn refusal(alloc: Global, number: u64, incarnation: u64) -> Option<StartRefused> {
+    Client::start(alloc, number, incarnation).err()
+}
+
 #[test]
 fn starts_by_its_limits(rt: HostRuntime) {
     for (number, incarnation, expected) in &STARTS {
-        let refusal = match Client::start(rt.alloc(), *number, *incarnation) {
-            Ok(_) => None,
-            Err(refusal) => Some(refusal),
-        };
-        assert!(rt; refusal == *expected);
+        assert!(rt; refusal(rt.alloc(), *number, *incarnation) == *expected);
     }
 }
 
@@ -103,9 +115,17 @@ fn is_named(alloc: Global, refusal: CommandRefused, name: &str) -> bool {
     false
 }
 
+// The place of the first refusal that is not named so.
+fn misnamed(alloc: Global) -> Option<usize> {
+    for i in 0..NAMES.len() {
+        if !is_named(alloc, NAMES[i].0, NAMES[i].1) {
+            return Some(i);
+        }
+    }
+    None
+}
+
 #[test]
 fn refusals_are_named(rt: HostRuntime) {
-    for (refusal, name) in &NAMES {
-        assert!(rt; is_named(rt.alloc(), *refusal, name), "{name}");
-    }
+    assert_eq!(rt; misnamed(rt.alloc()), None);
 }

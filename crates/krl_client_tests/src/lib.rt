@@ -17,4 +17,6 @@ mod joining;
 #[cfg(test)]
 mod locking;
 #[cfg(test)]
+mod shown;
+#[cfg(test)]
 mod writing;

@@ -6,7 +6,6 @@ use krl_client::{Status, WriteStatus};
 use krl_nodes::{Gate, NodesReport, NotRun, run_nodes, run_nodes_by};
 use std::sync::Wait;
 use std::sync::atomic::{AtomicBool, AtomicU64, Ordering};
-use std::test::Fail;
 use std::thread;
 use std::thread::Threads;
 use std::time::{Clock, Duration};
@@ -105,53 +104,64 @@ impl<R: Clock> Gate for Naps<'_, R> {
     }
 }
 
-// Whether the run by this seed ends with rows that contain key 15; None where it gives up.
-fn comes_through(rt: &(impl Threads + Wait + Sync + Clock + AllocGlobal), seed: u64) -> Option<bool>
+// How a run ended. What it reported is let go here, once for all tests.
+#[derive(Clone, Copy)]
+enum Ended {
+    Right,
+    Wrong,
+    GaveUp,
+    OutOfMemory,
+}
+
+impl Ended {
+    fn of(run: Result<NodesReport, NotRun>) -> Ended {
+        match run {
+            Ok(report) if are_numbers(report.rows.as_slice(), &[(15, 5), (20, 2)]) => Ended::Right,
+            Ok(_) => Ended::Wrong,
+            Err(NotRun::GaveUp) => Ended::GaveUp,
+            Err(NotRun::OutOfMemory) => Ended::OutOfMemory,
+        }
+    }
+}
+
+// How the run by this seed ends.
+fn by_seed(rt: &(impl Threads + Wait + Sync + Clock + AllocGlobal), seed: u64) -> Ended
     requires { seed ≤ END }
 {
-    match run_nodes_by(rt, rt.alloc(), Naps { rt }, Naps { rt }, seed) {
-        Ok(report) => Some(are_numbers(report.rows.as_slice(), &[(15, 5), (20, 2)])),
-        Err(NotRun::GaveUp) => None,
-        Err(NotRun::OutOfMemory) => Some(false),
-    }
+    Ended::of(run_nodes_by(rt, rt.alloc(), Naps { rt }, Naps { rt }, seed))
 }
 
-#[test]
-fn nodes_run_on_threads_as_letters_are_lost(rt: HostRuntime) -> Result<(), Fail> {
+// Whether each of 20 runs has its rows or gives up, and some have their rows.
+fn come_through(rt: &(impl Threads + Wait + Sync + Clock + AllocGlobal)) -> bool {
     let mut is_any = false;
     for seed in 1..21u64 {
-        let ended = comes_through(&rt, seed);
-        assert!(rt; ended != Some(false), "{seed}");
-        is_any |= ended.is_some();
+        match by_seed(rt, seed) {
+            Ended::Right => is_any = true,
+            Ended::GaveUp => {}
+            Ended::Wrong | Ended::OutOfMemory => return false,
+        }
     }
-    assert!(rt; is_any);
-    Ok(())
-}
-
-// Whether the run has its rows, where it has any.
-fn is_right(ended: Result<NodesReport, NotRun>) -> bool {
-    match ended {
-        Ok(report) => are_numbers(report.rows.as_slice(), &[(15, 5), (20, 2)]),
-        Err(NotRun::GaveUp | NotRun::OutOfMemory) => true,
-    }
+    is_any
 }
 
 #[test]
-fn nodes_end_whatever_is_refused(rt: HostRuntime) -> Result<(), Fail> {
-    let ended = run_nodes(&rt, rt.alloc(), Naps { rt: &rt }, Naps { rt: &rt });
-    assert!(rt; is_right(ended));
-    Ok(())
+fn nodes_run_on_threads_as_letters_are_lost(rt: HostRuntime) {
+    assert!(rt; come_through(&rt));
 }
 
 #[test]
-fn nodes_end_whatever_is_refused_by_a_policy(rt: HostRuntime) -> Result<(), Fail> {
-    let ended = run_nodes_by(&rt, rt.alloc(), Naps { rt: &rt }, Naps { rt: &rt }, 1);
-    assert!(rt; is_right(ended));
-    Ok(())
+fn nodes_end_whatever_is_refused(rt: HostRuntime) {
+    let run = run_nodes(&rt, rt.alloc(), Naps { rt: &rt }, Naps { rt: &rt });
+    assert!(rt; !matches!(Ended::of(run), Ended::Wrong));
 }
 
 #[test]
-fn nodes_run_on_threads(rt: HostRuntime) -> Result<(), Fail> {
+fn nodes_end_whatever_is_refused_by_a_policy(rt: HostRuntime) {
+    assert!(rt; !matches!(by_seed(&rt, 1), Ended::Wrong));
+}
+
+#[test]
+fn nodes_run_on_threads(rt: HostRuntime) {
     let meeting = Meeting::new();
     let writes = Writes {
         rt: &rt,
@@ -161,10 +171,7 @@ fn nodes_run_on_threads(rt: HostRuntime) -> Result<(), Fail> {
         rt: &rt,
         meeting: &meeting,
     };
-    let Ok(report) = run_nodes(&rt, rt.alloc(), writes, reads) else {
-        panic!(rt; "gave up")
-    };
-    assert!(rt; are_numbers(report.rows.as_slice(), &[(15, 5), (20, 2)]));
+    let run = run_nodes(&rt, rt.alloc(), writes, reads);
+    assert!(rt; matches!(Ended::of(run), Ended::Right));
     assert_eq!(rt; meeting.met.load(Ordering::SeqCst), 2);
-    Ok(())
 }

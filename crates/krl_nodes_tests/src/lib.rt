@@ -8,6 +8,10 @@ mod gates;
 #[cfg(test)]
 mod nodes;
 #[cfg(test)]
+mod picks;
+#[cfg(test)]
 mod policies;
 #[cfg(test)]
 mod scene;
+#[cfg(test)]
+mod steps;

@@ -1,57 +1,15 @@
 //! Nodes whose letters are lost, repeated and read out of order, as policies pick.
+use crate::picks::Twice;
 use crate::scene::{Scene, Who};
+use crate::steps::{Step, Told, check};
 use krl_messages::{Value, WriteOp};
 use krl_modes::{KeyPart, Mode, RangePart};
-use krl_nodes::{ClientOrder, Drawn, Pick, Policy, ServerOrder, Turn};
+use krl_nodes::{ClientOrder, Drawn, Policy, ServerOrder};
 use krl_world::Command;
 use std::sync::Wait;
-use std::test::Fail;
 
 /// How often every node takes a turn in one run.
 const ROUNDS: u64 = 200;
-
-/// Each letter is delivered twice: it stays the first time.
-#[derive(Drop)]
-struct Twice {
-    is_second: bool,
-}
-
-impl Policy for Twice {
-    ghost picks = { λ _ _ _ _. Unit {0} };
-
-    fn pick(&mut self, _letters: usize) -> Pick {
-        self.is_second = !self.is_second;
-        if self.is_second {
-            Pick::Copy(0)
-        } else {
-            Pick::Take(0)
-        }
-    }
-}
-
-/// Every letter is lost.
-#[derive(Drop)]
-struct Loses;
-
-impl Policy for Loses {
-    ghost picks = { λ _ _ _ _. Unit {0} };
-
-    fn pick(&mut self, _letters: usize) -> Pick {
-        Pick::Lose(0)
-    }
-}
-
-/// The youngest letter is delivered first.
-#[derive(Drop)]
-struct Youngest;
-
-impl Policy for Youngest {
-    ghost picks = { λ _ _ _ _. Unit {0} };
-
-    fn pick(&mut self, _letters: usize) -> Pick {
-        Pick::Take(usize::MAX)
-    }
-}
 
 /// Delivers the letters of the server and of one client by the policies, until neither has one.
 fn settle_by<R: Wait, P: Policy>(
@@ -64,7 +22,7 @@ fn settle_by<R: Wait, P: Policy>(
     for _ in 0..ROUNDS {
         let served = scene.serve_by(rt, ServerOrder::Letter, policy);
         let acted = scene.act_by(rt, who, ClientOrder::Letter, other);
-        if let (Ok(Turn::Idle), Ok(Turn::Idle)) = (served, acted) {
+        if served.is_idle() && acted.is_idle() {
             return;
         }
     }
@@ -150,60 +108,6 @@ fn is_sound_by<R: Wait>(rt: &R, scene: &mut Scene, seed: u64) -> bool {
     sound && held
 }
 
-/// Whether the server reads a letter by the policy.
-fn hears<R: Wait, P: Policy>(rt: &R, scene: &mut Scene, policy: &mut P) -> bool {
-    matches!(
-        scene.serve_by(rt, ServerOrder::Letter, policy),
-        Ok(Turn::Did(_))
-    )
-}
-
-/// Whether a letter to the server is lost.
-fn server_loses<R: Wait>(rt: &R, scene: &mut Scene) -> bool {
-    matches!(
-        scene.serve_by(rt, ServerOrder::Letter, &mut Loses),
-        Ok(Turn::Lost)
-    )
-}
-
-/// Whether a letter to the first client is lost.
-fn client_loses<R: Wait>(rt: &R, scene: &mut Scene) -> bool {
-    matches!(
-        scene.act_by(rt, Who::First, ClientOrder::Letter, &mut Loses),
-        Ok(Turn::Lost)
-    )
-}
-
-/// Whether the server loses the letter of a client that starts, reads the next one, and the client
-/// loses the answer.
-fn loses_each<R: Wait>(rt: &R, scene: &mut Scene) -> bool {
-    scene.acts(rt, Who::First, ClientOrder::Start)
-        && server_loses(rt, scene)
-        && scene.is_idle(rt)
-        && scene.acts(rt, Who::First, ClientOrder::Tick)
-        && scene.serves(rt, ServerOrder::Letter)
-        && client_loses(rt, scene)
-        && !scene.acts(rt, Who::First, ClientOrder::Letter)
-}
-
-/// Whether the server reads a client's letter twice.
-fn hears_twice<R: Wait>(rt: &R, scene: &mut Scene) -> bool {
-    let mut twice = Twice { is_second: false };
-    scene.acts(rt, Who::First, ClientOrder::Start)
-        && hears(rt, scene, &mut twice)
-        && hears(rt, scene, &mut twice)
-        && scene.is_idle(rt)
-}
-
-/// Whether the server reads and answers the letter of the client that started last.
-fn hears_the_youngest<R: Wait>(rt: &R, scene: &mut Scene) -> bool {
-    scene.acts(rt, Who::First, ClientOrder::Start)
-        && scene.acts(rt, Who::Second, ClientOrder::Start)
-        && hears(rt, scene, &mut Youngest)
-        && !scene.acts(rt, Who::First, ClientOrder::Letter)
-        && scene.acts(rt, Who::Second, ClientOrder::Letter)
-}
-
 /// Whether the client does what it is told in each of these rounds, with each letter delivered
 /// twice.
 fn comes_through<R: Wait>(rt: &R, scene: &mut Scene, who: Who, rounds: &[u64]) -> bool {
@@ -218,46 +122,74 @@ fn comes_through<R: Wait>(rt: &R, scene: &mut Scene, who: Who, rounds: &[u64]) -
     true
 }
 
+// The server loses the letter of a client that starts, and reads the next one; the client loses the
+// answer.
+static LOSES_EACH: [Step; 7] = [
+    Step::Acts(Who::First, Told::Start),
+    Step::ServerLoses,
+    Step::NoLetterWaits,
+    Step::Acts(Who::First, Told::Tick),
+    Step::Serves(ServerOrder::Letter),
+    Step::ClientLoses(Who::First),
+    Step::HasNoLetter(Who::First),
+];
+
 #[test]
-fn a_policy_loses_a_letter(rt: HostRuntime) -> Result<(), Fail> {
-    let mut scene = Scene::open(&rt, &[(10, 1)], 5, 6)?;
-    assert!(rt; loses_each(&rt, &mut scene));
-    Ok(())
+fn a_policy_loses_a_letter(rt: HostRuntime) {
+    check(&rt, &[(10, 1)], (5, 6), &LOSES_EACH);
+}
+
+static HEARS_TWICE: [Step; 3] = [
+    Step::Acts(Who::First, Told::Start),
+    Step::HearsTwice,
+    Step::NoLetterWaits,
+];
+
+#[test]
+fn a_letter_that_is_copied_stays(rt: HostRuntime) {
+    check(&rt, &[(10, 1)], (5, 6), &HEARS_TWICE);
+}
+
+// The server reads and answers the letter of the client that started last.
+static HEARS_THE_YOUNGEST: [Step; 5] = [
+    Step::Acts(Who::First, Told::Start),
+    Step::Acts(Who::Second, Told::Start),
+    Step::HearsTheYoungest,
+    Step::HasNoLetter(Who::First),
+    Step::Acts(Who::Second, Told::Letter),
+];
+
+#[test]
+fn the_youngest_letter_is_picked(rt: HostRuntime) {
+    check(&rt, &[(10, 1)], (1, 2), &HEARS_THE_YOUNGEST);
+}
+
+/// Whether both clients come through, and the second reads what the first inserted.
+fn both_come_through(rt: &(impl Wait + AllocGlobal)) -> bool {
+    let Some(mut scene) = Scene::open(rt, &[(10, 1), (20, 2)], 1, 2) else {
+        return false;
+    };
+    comes_through(rt, &mut scene, Who::First, &[0, 1, 6, 9])
+        && comes_through(rt, &mut scene, Who::Second, &[0, 1])
+        && scene.reads(Who::Second, 11, 21, &[(15, 5), (20, 2)])
 }
 
 #[test]
-fn a_letter_that_is_copied_stays(rt: HostRuntime) -> Result<(), Fail> {
-    let mut scene = Scene::open(&rt, &[(10, 1)], 5, 6)?;
-    assert!(rt; hears_twice(&rt, &mut scene));
-    Ok(())
-}
-
-#[test]
-fn the_youngest_letter_is_picked(rt: HostRuntime) -> Result<(), Fail> {
-    let mut scene = Scene::open(&rt, &[(10, 1)], 1, 2)?;
-    assert!(rt; hears_the_youngest(&rt, &mut scene));
-    Ok(())
-}
-
-#[test]
-fn nodes_come_through_repeated_letters(rt: HostRuntime) -> Result<(), Fail> {
-    let mut scene = Scene::open(&rt, &[(10, 1), (20, 2)], 1, 2)?;
-    assert!(rt; comes_through(&rt, &mut scene, Who::First, &[0, 1, 6, 9]));
-    assert!(rt; comes_through(&rt, &mut scene, Who::Second, &[0, 1]));
-    assert!(rt; scene.reads(Who::Second, 11, 21, &[(15, 5), (20, 2)]));
-    Ok(())
+fn nodes_come_through_repeated_letters(rt: HostRuntime) {
+    assert!(rt; both_come_through(&rt));
 }
 
 /// Whether a run by this seed keeps both clients compatible, and one of them held something.
-fn is_sound(rt: &(impl Wait + AllocGlobal), seed: u64) -> Result<bool, Fail> {
-    let mut scene = Scene::open(rt, &[(10, 1), (20, 2)], 1, 2)?;
-    Ok(is_sound_by(rt, &mut scene, seed))
+fn is_sound(rt: &(impl Wait + AllocGlobal), seed: u64) -> bool {
+    match Scene::open(rt, &[(10, 1), (20, 2)], 1, 2) {
+        Some(mut scene) => is_sound_by(rt, &mut scene, seed),
+        None => false,
+    }
 }
 
 #[test]
-fn large_clients_stay_compatible(rt: HostRuntime) -> Result<(), Fail> {
+fn large_clients_stay_compatible(rt: HostRuntime) {
     for seed in 1..21u64 {
-        assert!(rt; is_sound(&rt, seed)?, "{seed}");
+        assert!(rt; is_sound(&rt, seed), "{seed}");
     }
-    Ok(())
 }

@@ -3,16 +3,15 @@
 ghost use Rattle.std.specs.Prelude.{◌≡◌};
 
 use crate::acts;
+use crate::acts::Came;
 use krl_client::ScanAnswer;
 use krl_durable::Durable;
 use krl_modes::{KeyPart, RangePart};
-use krl_nodes::{
-    ClientNode, ClientOrder, NotSeated, Office, Policy, ServerNode, ServerOrder, Turn,
-};
-use krl_world::{Command, Refused};
+use krl_nodes::{ClientNode, ClientOrder, NotSeated, Office, Policy, ServerNode, ServerOrder};
+use krl_world::Refused;
+use std::alloc::Global;
 use std::marker::Model;
 use std::sync::Wait;
-use std::test::Fail;
 
 /// Which of the two clients.
 #[derive(Clone, Copy)]
@@ -21,24 +20,25 @@ pub enum Who {
     Second,
 }
 
-/// An office, its server, and two clients with their seats. Contracts see nothing of it: a test
-/// looks at answers alone.
+/// An office, its server, and two clients, each where it has a seat. Contracts see nothing of it: a
+/// test looks at answers alone.
 pub struct Scene {
     office: Office,
     server: ServerNode,
-    first: ClientNode,
-    second: ClientNode,
+    first: Option<ClientNode>,
+    second: Option<ClientNode>,
 }
 
 impl Model for Scene {
-    ghost use Rattle.std.specs.Prelude.{◌≡◌};
+    ghost use Rattle.std.specs.Prelude.{◌≡◌, IfSome};
 
     ghost Value = { Unit {0} };
 
     ghost view = { λ _. tt };
 
-    ghost invariant = { λ s. (s.server.office ≡ s.office) × (s.first.office ≡ s.office)
-        × (s.second.office ≡ s.office) };
+    ghost invariant = { λ s. (s.server.office ≡ s.office)
+        × IfSome s.first (λ c. c.office ≡ s.office)
+        × IfSome s.second (λ c. c.office ≡ s.office) };
 }
 
 impl Drop for Scene {
@@ -53,31 +53,83 @@ impl Drop for Scene {
 }
 
 impl Scene {
+    /// An office with a server on these entries, where nobody has a seat.
+    fn empty(alloc: Global, entries: &[(u64, u64)]) -> Option<Scene> {
+        match acts::open(alloc, entries) {
+            Ok((office, server)) => Some(Scene {
+                office,
+                server,
+                first: None,
+                second: None,
+            }),
+            Err(_) => None,
+        }
+    }
+
     /// An office with a server on these entries, and with clients of these numbers, which are down.
     pub fn open<R: Wait + AllocGlobal>(
         rt: &R,
         entries: &[(u64, u64)],
         first: u64,
         second: u64,
-    ) -> Result<Scene, Fail> {
-        let (office, mut server) = acts::open(rt.alloc(), entries)?;
-        let first = office.seat_client(rt, &mut server, first)?;
-        let second = office.seat_client(rt, &mut server, second)?;
-        Ok(Scene {
+    ) -> Option<Scene> {
+        let mut scene = Scene::empty(rt.alloc(), entries)?;
+        if scene.seat(rt, Who::First, first).is_none()
+            && scene.seat(rt, Who::Second, second).is_none()
+        {
+            return Some(scene);
+        }
+        None
+    }
+
+    /// Seats the client of this number. Why it gets no seat, where it gets none.
+    pub fn seat<R: Wait>(&mut self, rt: &R, who: Who, number: u64) -> Option<NotSeated> {
+        let server = &mut self.server;
+        match who {
+            Who::First => acts::seat(rt, &self.office, server, &mut self.first, number),
+            Who::Second => acts::seat(rt, &self.office, server, &mut self.second, number),
+        }
+    }
+
+    /// Whether the client gives its seat back. One that runs keeps it.
+    pub fn retires<R: Wait>(&mut self, rt: &R, who: Who) -> bool {
+        let server = &mut self.server;
+        match who {
+            Who::First => acts::retire(rt, &self.office, server, &mut self.first),
+            Who::Second => acts::retire(rt, &self.office, server, &mut self.second),
+        }
+    }
+
+    /// What is durable once the office is closed.
+    ///
+    /// # Errors
+    ///
+    /// The scene as it was, where some client has a seat.
+    pub fn close(self) -> Result<Durable, Scene> {
+        let Scene {
             office,
             server,
             first,
             second,
-        })
+        } = self;
+        match office.close(server) {
+            Ok(durable) => Ok(durable),
+            Err(open) => Err(Scene {
+                office: open.office,
+                server: open.server,
+                first,
+                second,
+            }),
+        }
     }
 
     /// The server's turn.
-    pub fn serve<R: Wait>(&mut self, rt: &R, order: ServerOrder) -> Result<Turn, Refused> {
+    pub fn serve<R: Wait>(&mut self, rt: &R, order: ServerOrder) -> Came {
         acts::serve(rt, &self.office, &mut self.server, order)
     }
 
     /// A client's turn.
-    pub fn act<R: Wait>(&mut self, rt: &R, who: Who, order: ClientOrder) -> Result<Turn, Refused> {
+    pub fn act<R: Wait>(&mut self, rt: &R, who: Who, order: ClientOrder) -> Came {
         match who {
             Who::First => acts::act(rt, &self.office, &mut self.first, order),
             Who::Second => acts::act(rt, &self.office, &mut self.second, order),
@@ -90,7 +142,7 @@ impl Scene {
         rt: &R,
         order: ServerOrder,
         policy: &mut P,
-    ) -> Result<Turn, Refused> {
+    ) -> Came {
         acts::serve_by(rt, &self.office, &mut self.server, order, policy)
     }
 
@@ -101,75 +153,52 @@ impl Scene {
         who: Who,
         order: ClientOrder,
         policy: &mut P,
-    ) -> Result<Turn, Refused> {
+    ) -> Came {
         match who {
             Who::First => acts::act_by(rt, &self.office, &mut self.first, order, policy),
             Who::Second => acts::act_by(rt, &self.office, &mut self.second, order, policy),
         }
     }
 
-    fn client(&self, who: Who) -> &ClientNode {
+    fn client(&self, who: Who) -> Option<&ClientNode> {
         match who {
-            Who::First => &self.first,
-            Who::Second => &self.second,
+            Who::First => self.first.as_ref(),
+            Who::Second => self.second.as_ref(),
         }
     }
 
-    /// A client's scan of its own cache.
-    pub fn scan(&self, who: Who, lo: u64, hi: u64) -> Result<ScanAnswer, Refused> {
-        acts::scan(self.client(who), lo, hi)
+    /// A client's scan of its own cache. One that has no seat is no client.
+    fn scan(&self, who: Who, lo: u64, hi: u64) -> Result<ScanAnswer, Refused> {
+        match self.client(who) {
+            Some(client) => acts::scan(client, lo, hi),
+            None => Err(Refused::BadClient),
+        }
     }
 
-    /// Whether the client is down.
+    /// Whether the client has a seat, and is down.
     pub fn is_down(&self, who: Who) -> bool {
-        self.client(who).status().is_none()
+        match self.client(who) {
+            Some(client) => client.status().is_none(),
+            None => false,
+        }
     }
 
     /// What the client holds at the point.
     pub fn held(&self, who: Who, point: u64) -> (RangePart, KeyPart) {
-        self.client(who).held(point)
+        match self.client(who) {
+            Some(client) => client.held(point),
+            None => (RangePart::N, KeyPart::N),
+        }
     }
 
     /// Whether the server's turn does something.
     pub fn serves<R: Wait>(&mut self, rt: &R, order: ServerOrder) -> bool {
-        matches!(self.serve(rt, order), Ok(Turn::Did(_)))
-    }
-
-    /// Whether no letter waits for the server.
-    pub fn is_idle<R: Wait>(&mut self, rt: &R) -> bool {
-        matches!(self.serve(rt, ServerOrder::Letter), Ok(Turn::Idle))
+        self.serve(rt, order).did()
     }
 
     /// Whether the client's turn does something.
     pub fn acts<R: Wait>(&mut self, rt: &R, who: Who, order: ClientOrder) -> bool {
-        matches!(self.act(rt, who, order), Ok(Turn::Did(_)))
-    }
-
-    /// Whether the server's turn is refused so.
-    pub fn server_refuses<R: Wait>(
-        &mut self,
-        rt: &R,
-        order: ServerOrder,
-        expected: Refused,
-    ) -> bool {
-        match self.serve(rt, order) {
-            Ok(_) => false,
-            Err(refused) => refused == expected,
-        }
-    }
-
-    /// Whether the client's turn is refused so.
-    pub fn client_refuses<R: Wait>(
-        &mut self,
-        rt: &R,
-        who: Who,
-        order: ClientOrder,
-        expected: Refused,
-    ) -> bool {
-        match self.act(rt, who, order) {
-            Ok(_) => false,
-            Err(refused) => refused == expected,
-        }
+        self.act(rt, who, order).did()
     }
 
     /// Delivers the letters of the server and the first client until neither has one.
@@ -199,70 +228,11 @@ impl Scene {
         }
     }
 
-    /// Why a client of this number gets no seat; None where it gets one, which goes with its node.
-    pub fn not_seated<R: Wait>(&mut self, rt: &R, number: u64) -> Option<NotSeated> {
-        self.office.seat_client(rt, &mut self.server, number).err()
-    }
-
-    /// Takes the first client's seat back, and gives it one again.
-    pub fn reseated<R: Wait>(self, rt: &R) -> Option<Scene> {
-        let Scene {
-            office,
-            mut server,
-            first,
-            second,
-        } = self;
-        let number = first.number();
-        let Ok(()) = office.retire(rt, &mut server, first) else {
-            return None;
-        };
-        let Ok(first) = office.seat_client(rt, &mut server, number) else {
-            return None;
-        };
-        Some(Scene {
-            office,
-            server,
-            first,
-            second,
-        })
-    }
-
-    /// What comes back where the first client may not retire, and then the office may not close.
-    pub fn still_open<R: Wait>(self, rt: &R) -> Option<Scene> {
-        let Scene {
-            office,
-            mut server,
-            first,
-            second,
-        } = self;
-        let Err(up) = office.retire(rt, &mut server, first) else {
-            return None;
-        };
-        let Err(seated) = office.close(server) else {
-            return None;
-        };
-        Some(Scene {
-            office: seated.office,
-            server: seated.server,
-            first: up.still_up,
-            second,
-        })
-    }
-
-    /// What is durable once both clients are retired and the office is closed.
-    pub fn close<R: Wait>(self, rt: &R) -> Option<Durable> {
-        let Scene {
-            office,
-            mut server,
-            first,
-            second,
-        } = self;
-        let Ok(()) = office.retire(rt, &mut server, first) else {
-            return None;
-        };
-        let Ok(()) = office.retire(rt, &mut server, second) else {
-            return None;
-        };
-        office.close(server).ok()
+    /// Whether the client's scan is refused so.
+    pub fn scan_is_refused(&self, who: Who, lo: u64, hi: u64, expected: Refused) -> bool {
+        match self.scan(who, lo, hi) {
+            Ok(_) => false,
+            Err(refused) => refused == expected,
+        }
     }
 }

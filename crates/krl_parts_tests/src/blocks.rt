@@ -1,7 +1,7 @@
 //! Ordered maps in blocks, beside a list with a place for each key: 10,000 keys come in no order,
-//! two of three go, and the others are walked and found, four times over. Where room is refused it
-//! is asked for again, so that each run ends the same, whichever requests for memory are refused. No
-//! later call asks for memory.
+//! two of three go, and the others are walked, found and reached, four times over. Where room is
+//! refused it is asked for again, so that each run ends the same, whichever requests for memory are
+//! refused. No later call asks for memory.
 ghost use Rattle.std.specs.Prelude.{◌≡◌, ◌≤◌, IfOk};
 
 use crate::again::CALLS;
@@ -84,6 +84,17 @@ fn thins(blocks: &mut Blocks<u64>, beside: &mut [Option<u64>], round: u64) -> bo
     true
 }
 
+// At how many keys something stands beside.
+fn count(beside: &[Option<u64>]) -> usize {
+    let mut count = 0usize;
+    for value in beside {
+        if value.is_some() {
+            count = count.saturating_add(1);
+        }
+    }
+    count
+}
+
 // Whether a walk by runs meets just what stands beside, in key order.
 fn is_walked(blocks: &Blocks<u64>, beside: &[Option<u64>]) -> bool {
     let entries = blocks.entries();
@@ -98,7 +109,7 @@ fn is_walked(blocks: &Blocks<u64>, beside: &[Option<u64>]) -> bool {
             met = met.saturating_add(1);
         }
     }
-    met == blocks.len() && met == beside.iter().filter(|value| value.is_some()).count()
+    met == blocks.len() && met == count(beside)
 }
 
 // Whether a search finds what stands beside at the key, and the key before it.
@@ -120,6 +131,24 @@ fn are_found(blocks: &Blocks<u64>, beside: &[Option<u64>]) -> bool {
         }
         if here.is_some() {
             before = Some(key);
+        }
+    }
+    true
+}
+
+// Whether each key is reached, in no order, as it stands beside; and what is looked for then, the
+// key itself and the one behind it.
+fn are_reached(blocks: &mut Blocks<u64>, beside: &[Option<u64>]) -> bool
+    ensures { blocks.new.room ≡ blocks.old.room }
+{
+    for n in 0..KEYS {
+        let key = key_at(n);
+        let next = key.saturating_add(1);
+        if blocks.reach(key) != held(beside, key)
+            || blocks.get(key) != held(beside, key)
+            || blocks.get(next) != held(beside, next)
+        {
+            return false;
         }
     }
     true
@@ -157,6 +186,7 @@ fn goes_round(blocks: &mut Blocks<u64>, beside: &mut [Option<u64>], round: u64) 
         && thins(blocks, beside, round)
         && is_walked(blocks, beside)
         && are_found(blocks, beside)
+        && are_reached(blocks, beside)
 }
 
 // Four rounds on both.

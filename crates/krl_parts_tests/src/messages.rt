@@ -6,7 +6,7 @@ use krl_messages::{
     ToServerBody, Value, WriteOp,
 };
 use krl_modes::{END, KeyPart, Mode, RangePart, Span, TOP};
-use std::alloc::{AllocError, Global};
+use std::alloc::Global;
 
 static KEYS: [KeyPiece; 2] = [
     KeyPiece {
@@ -30,33 +30,40 @@ static HOLDINGS: [(u64, u64, Mode, Option<u64>, bool); 6] = [
     (11, TOP, Mode::RangeXX, Some(1), false),
 ];
 
-/// A report of two range parts and two key parts.
-fn report(alloc: Global, span: Span) -> Result<ToServer, AllocError> {
-    let piece = RangePiece {
-        span,
-        part: RangePart::S,
-    };
-    Ok(ToServer {
-        client: 3,
-        incarnation: 2,
-        body: ToServerBody::Report {
-            epoch: 1,
-            pieces: Pieces {
-                ranges: RangePieces::from(Vec::from_slice(alloc, &[piece, piece])?),
-                keys: KeyPieces::from(Vec::from_slice(alloc, &KEYS)?),
-            },
-        },
-    })
-}
-
-/// The report, asked for again where it is refused.
-fn reported(alloc: Global, span: Span) -> Option<ToServer> {
+/// Range parts, asked for again where they are refused.
+fn ranges(alloc: Global, parts: &[RangePiece]) -> Option<RangePieces> {
     for _ in 0..CALLS {
-        if let Ok(message) = report(alloc, span) {
-            return Some(message);
+        if let Ok(pieces) = Vec::from_slice(alloc, parts) {
+            return Some(pieces.into());
         }
     }
     None
+}
+
+/// Two key parts, asked for again where they are refused.
+fn keys(alloc: Global) -> Option<KeyPieces> {
+    for _ in 0..CALLS {
+        if let Ok(pieces) = Vec::from_slice(alloc, &KEYS) {
+            return Some(pieces.into());
+        }
+    }
+    None
+}
+
+/// A report of two range parts and of those key parts.
+fn report(alloc: Global, span: Span) -> Option<ToServer> {
+    let part = RangePart::S;
+    let ranges = ranges(
+        alloc,
+        &[RangePiece { span, part }, RangePiece { span, part }],
+    )?;
+    let keys = keys(alloc)?;
+    let pieces = Pieces { ranges, keys };
+    Some(ToServer {
+        client: 3,
+        incarnation: 2,
+        body: ToServerBody::Report { epoch: 1, pieces },
+    })
 }
 
 /// Its clone, asked for again where it is refused.
@@ -86,7 +93,7 @@ fn is_report(message: &ToServer, span: Span) -> bool {
 /// Whether the report on this span has an equal clone.
 fn is_cloned(alloc: Global, lo: u64, hi: u64) -> Option<bool> {
     let span = Span::new(lo, hi).ok()?;
-    let message = reported(alloc, span)?;
+    let message = report(alloc, span)?;
     let copy = cloned(alloc, &message)?;
     Some(message == copy && is_report(&copy, span))
 }
@@ -98,11 +105,12 @@ fn clones_a_report(rt: HostRuntime) {
 
 /// The holding of a row.
 fn holding_of(lo: u64, hi: u64, mode: Mode, value: Option<u64>) -> Option<Holding> {
-    Some(Holding {
-        span: Span::new(lo, hi).ok()?,
-        mode,
-        value: value.map(Value::from_u64),
-    })
+    let span = Span::new(lo, hi).ok()?;
+    let value = match value {
+        Some(number) => Some(Value::from_u64(number)),
+        None => None,
+    };
+    Some(Holding { span, mode, value })
 }
 
 /// Whether its slot is the last point of its span, and it has its value or not, as told.

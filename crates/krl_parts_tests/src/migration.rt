@@ -45,43 +45,20 @@ static ONE_HERE: [(u64, Record); 2] = [(0, HERE), (9, WRITER)];
 // The last two of them have not left.
 static TWO_HERE: [(u64, Record); 3] = [(0, GONE), (3, HERE), (1, HERE)];
 
-// What survived: one entry, epoch 4 and these records.
-fn survived(alloc: Global, records: &[(u64, Record)]) -> Result<DurableV1, Refused>
+// What survived: one entry, epoch 4 and these records. None where memory is refused.
+fn survived(alloc: Global, records: &[(u64, Record)]) -> Option<DurableV1>
     requires each { AllByRecursion IsRow records.now }
     requires once { IsDistinct nat_eq (keys_of records.now) }
 {
-    for _ in 1..CALLS {
-        match DurableV1::from_parts(alloc, &[(10, 258)], 4, records) {
-            Err(Refused::OutOfMemory) => {}
-            answer => return answer,
+    for _ in 0..CALLS {
+        if let Ok(old) = DurableV1::from_parts(alloc, &[(10, 258)], 4, records) {
+            return Some(old);
         }
     }
-    DurableV1::from_parts(alloc, &[(10, 258)], 4, records)
+    None
 }
 
-// What never served: these entries alone.
-fn unused(alloc: Global, entries: &[(u64, u64)]) -> Result<DurableV1, Refused> {
-    for _ in 1..CALLS {
-        match DurableV1::new(alloc, entries) {
-            Err(Refused::OutOfMemory) => {}
-            answer => return answer,
-        }
-    }
-    DurableV1::new(alloc, entries)
-}
-
-// What becomes of it.
-fn migrated(alloc: Global, old: &DurableV1) -> Result<Durable, NotMigrated> {
-    for _ in 1..CALLS {
-        match Durable::migrate(alloc, old) {
-            Err(NotMigrated::OutOfMemory) => {}
-            answer => return answer,
-        }
-    }
-    Durable::migrate(alloc, old)
-}
-
-// Whether it is what survived with these records: a refusal leaves it so too.
+// Whether it is what survived with these records: migrating it leaves it so.
 fn has_survived(old: &DurableV1, records: &[(u64, Record)]) -> bool {
     for (c, record) in records {
         if old.record(*c) != Some(*record) {
@@ -89,14 +66,6 @@ fn has_survived(old: &DurableV1, records: &[(u64, Record)]) -> bool {
         }
     }
     old.epoch() == 4 && old.entries() == [(10, 258)].as_slice()
-}
-
-// Whether the value of its one entry is these eight bytes.
-fn has_eight_bytes(durable: &Durable, key: u64, bytes: &[u8; 8]) -> bool {
-    match durable.run(0) {
-        [(found, value)] => *found == key && value.bytes() == bytes.as_slice(),
-        _ => false,
-    }
 }
 
 // Whether the clients that have not left are these, asked for again where memory was refused.
@@ -109,6 +78,14 @@ fn are_missing(old: &DurableV1, alloc: Global, expected: &[u64]) -> bool {
     false
 }
 
+// Whether the value of its one entry is the eight bytes of the number.
+fn has_eight_bytes(durable: &Durable) -> bool {
+    match durable.run(0) {
+        [(key, value)] => *key == 10 && value.bytes() == [0, 0, 0, 0, 0, 0, 1, 2].as_slice(),
+        _ => false,
+    }
+}
+
 // Whether those who have left have their records, and nobody else has one.
 fn has_records(durable: &Durable) -> bool {
     for (c, record) in &ALL_LEFT {
@@ -119,86 +96,95 @@ fn has_records(durable: &Durable) -> bool {
     durable.record(1).is_none()
 }
 
-// Whether it is migrated, and keeps all but the form of its value.
-fn is_migrated(alloc: Global, old: &DurableV1) -> bool {
-    match migrated(alloc, old) {
-        Ok(durable) => {
-            has_eight_bytes(&durable, 10, &[0, 0, 0, 0, 0, 0, 1, 2])
-                && durable.epoch() == 4
-                && has_records(&durable)
+// Whether it keeps all but the form of its value where nobody is missing, and is else refused, since
+// this client has not left.
+fn is_migrated(alloc: Global, old: &DurableV1, missing: Option<u64>) -> bool {
+    for _ in 0..CALLS {
+        match Durable::migrate(alloc, old) {
+            Err(NotMigrated::OutOfMemory) => {}
+            Err(NotMigrated::StillRegistered(named)) => return missing == Some(named),
+            Ok(new) => {
+                return missing.is_none()
+                    && new.epoch() == 4
+                    && has_eight_bytes(&new)
+                    && has_records(&new);
+            }
         }
-        Err(_) => false,
     }
+    false
 }
 
-// Whether it is what survived where all have left, and is still so once it is migrated.
-fn stays_and_is_migrated(alloc: Global, old: &DurableV1) -> bool {
-    has_survived(old, &ALL_LEFT)
-        && are_missing(old, alloc, &[])
-        && is_migrated(alloc, old)
-        && has_survived(old, &ALL_LEFT)
+// Whether just these are missing of what survived with these records, which is migrated or refused
+// by that, and stays as it was.
+fn migrates(alloc: Global, records: &[(u64, Record)], missing: &[u64]) -> bool
+    requires each { AllByRecursion IsRow records.now }
+    requires once { IsDistinct nat_eq (keys_of records.now) }
+{
+    let Some(old) = survived(alloc, records) else {
+        return false;
+    };
+    has_survived(&old, records)
+        && are_missing(&old, alloc, missing)
+        && is_migrated(alloc, &old, missing.first().copied())
+        && has_survived(&old, records)
 }
 
 #[test]
 fn keeps_all_but_the_form_of_values(rt: HostRuntime) {
-    let Ok(old) = survived(rt.alloc(), &ALL_LEFT) else {
-        panic!(rt; "refused");
-    };
-    assert!(rt; stays_and_is_migrated(rt.alloc(), &old));
-}
-
-// Whether it is not migrated, since this client has not left.
-fn still_has(alloc: Global, old: &DurableV1, client: u64) -> bool {
-    match migrated(alloc, old) {
-        Err(NotMigrated::StillRegistered(named)) => named == client,
-        _ => false,
-    }
+    assert!(rt; migrates(rt.alloc(), &ALL_LEFT, &[]));
 }
 
 #[test]
 fn names_the_one_who_has_not_left(rt: HostRuntime) {
-    let Ok(old) = survived(rt.alloc(), &ONE_HERE) else {
-        panic!(rt; "refused");
-    };
-    assert!(rt; are_missing(&old, rt.alloc(), &[0]) && still_has(rt.alloc(), &old, 0));
-    assert!(rt; has_survived(&old, &ONE_HERE));
+    assert!(rt; migrates(rt.alloc(), &ONE_HERE, &[0]));
 }
 
 #[test]
 fn names_the_first_who_has_not_left(rt: HostRuntime) {
-    let Ok(old) = survived(rt.alloc(), &TWO_HERE) else {
-        panic!(rt; "refused");
-    };
-    assert!(rt; are_missing(&old, rt.alloc(), &[3, 1]) && still_has(rt.alloc(), &old, 3));
-    assert!(rt; has_survived(&old, &TWO_HERE));
+    assert!(rt; migrates(rt.alloc(), &TWO_HERE, &[3, 1]));
 }
 
-// Whether these numbers are refused so.
-fn is_refused(alloc: Global, entries: &[(u64, u64)], expected: Refused) -> bool {
-    match unused(alloc, entries) {
-        Ok(_) => false,
-        Err(refused) => refused == expected,
+// How these numbers are refused, as they never served. None where they are not.
+fn refusal(alloc: Global, entries: &[(u64, u64)]) -> Option<Refused> {
+    for _ in 1..CALLS {
+        match DurableV1::new(alloc, entries) {
+            Err(Refused::OutOfMemory) => {}
+            answer => return answer.err(),
+        }
     }
+    DurableV1::new(alloc, entries).err()
 }
 
-// Whether what never served has these entries, and nothing else.
-fn is_unused(old: &DurableV1, alloc: Global, entries: &[(u64, u64)]) -> bool {
-    old.entries() == entries
+// What never served: these entries alone. None where they are refused.
+fn unused(alloc: Global, entries: &[(u64, u64)]) -> Option<DurableV1> {
+    for _ in 0..CALLS {
+        if let Ok(old) = DurableV1::new(alloc, entries) {
+            return Some(old);
+        }
+    }
+    None
+}
+
+// Whether what never served has these entries in this order, and nothing else.
+fn begins(alloc: Global, entries: &[(u64, u64)], sorted: &[(u64, u64)]) -> bool {
+    let Some(old) = unused(alloc, entries) else {
+        return false;
+    };
+    old.entries() == sorted
         && old.epoch() == 0
         && old.record(0).is_none()
-        && are_missing(old, alloc, &[])
+        && are_missing(&old, alloc, &[])
 }
 
 #[test]
 fn begins_at_epoch_0_with_good_entries(rt: HostRuntime) {
-    let Ok(old) = unused(rt.alloc(), &[(20, u64::MAX), (10, 258)]) else {
-        panic!(rt; "refused");
-    };
-    assert!(rt; is_unused(&old, rt.alloc(), &[(10, 258), (20, u64::MAX)]));
+    let (entries, sorted) = ([(20, u64::MAX), (10, 258)], [(10, 258), (20, u64::MAX)]);
+    assert!(rt; begins(rt.alloc(), &entries, &sorted));
 }
 
 #[test]
 fn refuses_the_first_bad_number(rt: HostRuntime) {
-    assert!(rt; is_refused(rt.alloc(), &[(1, 0), (2, 0), (1, 0)], Refused::Twice));
-    assert!(rt; is_refused(rt.alloc(), &[(END, 0), (2, 0), (2, 0)], Refused::BadKey));
+    let (twice, bad) = ([(1, 0), (2, 0), (1, 0)], [(END, 0), (2, 0), (2, 0)]);
+    assert!(rt; refusal(rt.alloc(), &twice) == Some(Refused::Twice));
+    assert!(rt; refusal(rt.alloc(), &bad) == Some(Refused::BadKey));
 }

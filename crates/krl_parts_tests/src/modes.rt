@@ -48,20 +48,28 @@ static NO_NAMES: [&str; 7] = [
 
 static NO_SPANS: [(u64, u64); 5] = [(0, TOP + 1), (0, u64::MAX), (5, 5), (6, 5), (TOP, TOP)];
 
-fn has_row(mode: Mode, row: &(&str, &str, &str, &str)) -> bool {
+fn has_names(mode: Mode, row: &(&str, &str, &str, &str)) -> bool {
     let (range, key) = mode.parts();
     mode.name() == row.0
         && range.name() == row.1
         && key.name() == row.2
         && mode.cap().name() == row.3
-        && Mode::from_name(row.0.as_bytes()) == Some(mode)
-        && Mode::of(range, key) == Some(mode)
+}
+
+// Whether the mode is found by its name, and by its parts.
+fn is_found(mode: Mode, name: &str) -> bool {
+    let (range, key) = mode.parts();
+    Mode::from_name(name.as_bytes()) == Some(mode) && Mode::of(range, key) == Some(mode)
 }
 
 #[test]
 fn each_mode_has_its_row_of_the_table(rt: HostRuntime) {
     for (mode, row) in Mode::ALL.iter().zip(&ROWS) {
-        assert!(rt; has_row(*mode, row), "{}", row.0);
+        assert!(rt;
+            has_names(*mode, row) && is_found(*mode, row.0),
+            "{}",
+            row.0
+        );
     }
 }
 

@@ -1,6 +1,7 @@
 //! Waiting lists. A refused node is asked for again with the waiter that came back, so that each
 //! run ends in the same lists, whichever requests for memory are refused. No other call asks for
 //! memory.
+use crate::again::CALLS;
 use krl_modes::{END, Mode, Point};
 use krl_queue::{WaitList, WaitNode, Waiter};
 use std::alloc::Global;
@@ -9,19 +10,22 @@ use std::marker::Send;
 /// Clients with the points that they wait for.
 static FIVE: [(u64, u64); 5] = [(1, 10), (2, 30), (3, 20), (2, 20), (4, END)];
 
-/// A node, which is asked for again with the waiter that came back, twice at most.
+/// A node, which is asked for again with the waiter that came back.
 fn node(alloc: Global, client: u64, point: u64) -> Option<WaitNode> {
-    let waiter = Waiter {
+    let mut waiter = Waiter {
         client,
         req: 7,
         point: Point::new(point)?,
         hi: point.saturating_add(1),
         mode: Mode::RangeSU,
     };
-    WaitNode::try_new(alloc, waiter)
-        .or_else(|refused| WaitNode::try_new(alloc, refused.value))
-        .or_else(|refused| WaitNode::try_new(alloc, refused.value))
-        .ok()
+    for _ in 0..CALLS {
+        match WaitNode::try_new(alloc, waiter) {
+            Ok(node) => return Some(node),
+            Err(refused) => waiter = refused.value,
+        }
+    }
+    None
 }
 
 /// Puts those five in: the first before all others, at last.
@@ -42,7 +46,10 @@ fn fills(alloc: Global, list: &mut WaitList) -> bool {
 }
 
 fn is(waiter: Option<Waiter>, client: u64, point: u64) -> bool {
-    waiter.is_some_and(|w| w.client == client && w.req == 7 && w.point.get() == point)
+    match waiter {
+        Some(w) => w.client == client && w.req == 7 && w.point.get() == point,
+        None => false,
+    }
 }
 
 /// Takes out all that wait, and says whether they were just these, in this order.

@@ -1,6 +1,6 @@
 //! What each message changes in what survives, as the step says it.
 use crate::acts::{Act, Asked, Change as Write, Who};
-use crate::again::{CALLS, again};
+use crate::again::CALLS;
 use crate::named::{A, A2, B, DELETE, LOCK_5};
 use crate::requests::{message, write};
 use krl_durable::Change;
@@ -103,7 +103,7 @@ fn is_said(alloc: Global, server: &mut Server, message: &ToServer, expected: Say
 // Whether each act's step says what its row has.
 pub fn all_say(alloc: Global, server: &mut Server, rows: &[(Act, Says)]) -> bool {
     for (act, expected) in rows {
-        let Ok(Some(message)) = again(|| message(alloc, *act)) else {
+        let Some(message) = message(alloc, *act) else {
             return false;
         };
         if !is_said(alloc, server, &message, *expected) {

@@ -1,5 +1,6 @@
 //! The messages of clients, as the acts name them.
 use crate::acts::{Act, Asked, Change, Who, value};
+use crate::again::CALLS;
 use krl_messages::{
     KeyPiece, KeyPieces, Pieces, RangePiece, RangePieces, Request, RequestBody, ToServer,
     ToServerBody, WriteOp,
@@ -83,8 +84,7 @@ fn request(asked: Asked) -> Option<RequestBody> {
     }
 }
 
-// What the server is told, where the act is a message.
-pub fn message(alloc: Global, act: Act) -> Result<Option<ToServer>, AllocError> {
+fn try_message(alloc: Global, act: Act) -> Result<Option<ToServer>, AllocError> {
     let (Who(client, incarnation), body) = match act {
         Act::Hello(who) => (who, ToServerBody::Hello),
         Act::Bye(who) => (who, ToServerBody::Bye),
@@ -105,4 +105,15 @@ pub fn message(alloc: Global, act: Act) -> Result<Option<ToServer>, AllocError> 
         incarnation,
         body,
     }))
+}
+
+// What the server is told, asked for again where memory is refused. None where the act is no
+// message.
+pub fn message(alloc: Global, act: Act) -> Option<ToServer> {
+    for _ in 0..CALLS {
+        if let Ok(message) = try_message(alloc, act) {
+            return message;
+        }
+    }
+    None
 }

@@ -1,9 +1,9 @@
 //! What a server shows, before a call and after it.
-use crate::again::again;
+use crate::again::CALLS;
 use krl_durable::{Durable, Record};
 use krl_messages::{Items, ToClient, Value};
 use krl_server::{Phase, Server};
-use std::alloc::{AllocError, Global};
+use std::alloc::Global;
 
 // What survives, as far as four entries and four clients show it.
 #[derive(Clone, Copy, PartialEq, Eq)]
@@ -37,12 +37,22 @@ pub struct Shows {
     nudges: [Option<ToClient>; 4],
 }
 
-pub fn missing(alloc: Global, server: &Server) -> Result<Items<u64>, AllocError> {
-    again(|| server.missing(alloc))
+pub fn missing(alloc: Global, server: &Server) -> Option<Items<u64>> {
+    for _ in 0..CALLS {
+        if let Ok(clients) = server.missing(alloc) {
+            return Some(clients);
+        }
+    }
+    None
 }
 
-pub fn nudge(alloc: Global, server: &Server, client: u64) -> Result<Items<ToClient>, AllocError> {
-    again(|| server.nudge(alloc, client))
+pub fn nudge(alloc: Global, server: &Server, client: u64) -> Option<Items<ToClient>> {
+    for _ in 0..CALLS {
+        if let Ok(messages) = server.nudge(alloc, client) {
+            return Some(messages);
+        }
+    }
+    None
 }
 
 pub fn showing(alloc: Global, server: &Server) -> Shows {
@@ -59,15 +69,12 @@ pub fn showing(alloc: Global, server: &Server) -> Shows {
 }
 
 fn first_of_nudge(alloc: Global, server: &Server, client: u64) -> Option<ToClient> {
-    match nudge(alloc, server, client) {
-        Ok(messages) => messages.as_slice().first().copied(),
-        Err(_) => None,
-    }
+    nudge(alloc, server, client)?.as_slice().first().copied()
 }
 
 fn first_missing(alloc: Global, server: &Server) -> [Option<u64>; 4] {
     let mut first = [None; 4];
-    if let Ok(clients) = missing(alloc, server) {
+    if let Some(clients) = missing(alloc, server) {
         for i in 0..4usize {
             first[i] = clients.as_slice().get(i).copied();
         }

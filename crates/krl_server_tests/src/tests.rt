@@ -7,7 +7,7 @@ ghost use Rattle.krl_modes.specs.declared.point.TheConstants.{END};
 ghost use Rattle.krl_durable.specs.Kept.{IsRow};
 
 use crate::acts::{Act, Gives};
-use crate::again::again;
+use crate::again::CALLS;
 use crate::changes::{CHANGES, all_say};
 use crate::exchange::{CROWD, EXCHANGE, SHARES};
 use crate::gathering::{CONTRADICTS, GATHERS, REGISTERS};
@@ -56,7 +56,12 @@ static NO_NUMBER_LEFT: [(u64, Record); 1] = [(
 
 // What survives where nothing has happened to these entries yet.
 fn unused(alloc: Global, entries: &[(u64, Value)]) -> Option<Durable> {
-    again(|| Durable::new(alloc, entries)).ok()
+    for _ in 0..CALLS {
+        if let Ok(durable) = Durable::new(alloc, entries) {
+            return Some(durable);
+        }
+    }
+    None
 }
 
 // What a host kept of the one entry: this epoch, and these records.
@@ -65,7 +70,13 @@ fn kept(alloc: Global, epoch: u64, records: &[(u64, Record)]) -> Option<Durable>
     requires each { AllByRecursion IsRow records.now }
     requires once { IsDistinct nat_eq (keys_of records.now) }
 {
-    again(|| Durable::from_parts(alloc, &one_entry(), epoch, records)).ok()
+    let entries = one_entry();
+    for _ in 0..CALLS {
+        if let Ok(durable) = Durable::from_parts(alloc, &entries, epoch, records) {
+            return Some(durable);
+        }
+    }
+    None
 }
 
 // What a host kept of two clients.

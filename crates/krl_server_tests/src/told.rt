@@ -26,11 +26,12 @@ fn receiver(told: Told) -> Who {
 
 // Whether these are the holdings, one after another.
 fn are_held(holdings: &[Holding], expected: &[Held]) -> bool {
+    for (found, held) in holdings.iter().zip(expected) {
+        if holding(*held) != Some(*found) {
+            return false;
+        }
+    }
     holdings.len() == expected.len()
-        && holdings
-            .iter()
-            .zip(expected.iter())
-            .all(|(found, held)| holding(*held) == Some(*found))
 }
 
 // Whether the push answers the request with just these holdings.
@@ -103,9 +104,10 @@ fn is_told(epoch: u64, message: &ToClient, told: Told) -> bool {
 }
 
 pub fn are_told(epoch: u64, messages: &[ToClient], expected: &[Told]) -> bool {
+    for (message, told) in messages.iter().zip(expected) {
+        if !is_told(epoch, message, *told) {
+            return false;
+        }
+    }
     messages.len() == expected.len()
-        && messages
-            .iter()
-            .zip(expected.iter())
-            .all(|(message, told)| is_told(epoch, message, *told))
 }

@@ -4,8 +4,10 @@ ghost use Rattle.std.specs.Prelude.{◌≡◌, ◌<◌, true, IfSome, IsSomeAnd}
 ghost use Rattle.krl_modes.specs.declared.point.TheConstants.{END};
 ghost use Rattle.krl_durable.specs.Registers.{record_of};
 
-use krl_durable::{Durable, Refused};
-use krl_messages::{Outcome, Pieces, Value, WriteOp};
+use crate::again::CALLS;
+use crate::report::{Report, pieces};
+use krl_durable::{Durable, Record, Refused};
+use krl_messages::{Outcome, Value, WriteOp};
 use krl_modes::{END, Mode, Point, TOP};
 use krl_queue::{WaitNode, Waiter};
 use krl_table::{Reply, Table};
@@ -13,11 +15,20 @@ use std::alloc::{AllocError, Global};
 use std::marker::Model;
 
 /// The client that is registered, and so may write.
-pub const WRITER: u64 = 0;
+const WRITER: u64 = 0;
+
+static REGISTERED: [(u64, Record); 1] = [(
+    WRITER,
+    Record {
+        incarnation: 1,
+        left: false,
+        last: 0,
+        outcome: None,
+    },
+)];
 
 /// A table, and what survives, whose slots its rows stand at. Contracts see nothing of it: a test
 /// looks at answers alone.
-#[derive(Drop)]
 pub struct Bench {
     durable: Durable,
     table: Table,
@@ -31,6 +42,29 @@ impl Model for Bench {
     ghost view = { λ _. tt };
 
     ghost invariant = { λ b. IsOver b.durable.index b.table };
+}
+
+impl Drop for Bench {
+    fn drop(self) {
+        let Bench {
+            durable: _,
+            table: _,
+        } = self;
+    }
+}
+
+/// A waiter that asks from the point up to `hi`.
+fn waiter(client: u64, at: u64, hi: u64, mode: Mode) -> Option<Waiter>
+    ensures { IfSome result (λ made. made.client ≡ client) }
+{
+    let point = Point::new(at)?;
+    Some(Waiter {
+        client,
+        req: 1,
+        point,
+        hi,
+        mode,
+    })
 }
 
 /// A node of the waiter. One that is refused memory is made again of the waiter that came back,
@@ -53,6 +87,12 @@ fn entries_at(alloc: Global, keys: &[u64]) -> Result<Vec<(u64, Value)>, AllocErr
     Ok(entries)
 }
 
+/// What survives of entries at these keys, where the writer is registered.
+fn durable_of(alloc: Global, keys: &[u64]) -> Result<Durable, Refused> {
+    let entries = entries_at(alloc, keys)?;
+    Durable::from_parts(alloc, &entries, 0, &REGISTERED)
+}
+
 /// The writer is registered, and there is a number for another write of it.
 fn has_number(durable: &Durable) -> bool
     ensures { result ≡ true
@@ -64,15 +104,32 @@ fn has_number(durable: &Durable) -> bool
     }
 }
 
+/// The modes at a slot where one client has this one, and no other client has any.
+fn alone(client: usize, mode: Mode) -> [Mode; 64] {
+    let mut modes = [Mode::N; 64];
+    if client < 64 {
+        modes[client] = mode;
+    }
+    modes
+}
+
 impl Bench {
-    /// A table where nobody holds anything and nobody waits, over entries at these keys.
-    pub fn open(alloc: Global, keys: &[u64]) -> Result<Bench, Refused> {
-        let entries = entries_at(alloc, keys)?;
-        let mut durable = Durable::new(alloc, &entries)?;
-        durable.register(WRITER, 1)?;
+    fn try_open(alloc: Global, keys: &[u64]) -> Result<Bench, Refused> {
+        let durable = durable_of(alloc, keys)?;
         let _kept = durable.epoch();
         let table = Table::new(alloc)?;
         Ok(Bench { durable, table })
+    }
+
+    /// A table where nobody holds anything and nobody waits, over entries at these keys. One that
+    /// is refused memory is opened again.
+    pub fn open(alloc: Global, keys: &[u64]) -> Option<Bench> {
+        for _ in 0..CALLS {
+            if let Ok(bench) = Bench::try_open(alloc, keys) {
+                return Some(bench);
+            }
+        }
+        None
     }
 
     /// The client, which waits nowhere yet, waits at the point.
@@ -82,46 +139,29 @@ impl Bench {
 
     /// It waits at the point, for a lock of the points from there up to `hi`.
     pub fn waits_to(&mut self, alloc: Global, client: u64, at: u64, hi: u64, mode: Mode) -> bool {
-        let Some(point) = Point::new(at) else {
-            return false;
-        };
-        if client >= 64 {
+        if client >= 64 || self.table.waiter_of(client).is_some() {
             return false;
         }
-        let waiter = Waiter {
-            client,
-            req: 1,
-            point,
-            hi,
-            mode,
-        };
-        let Some(node) = node(alloc, waiter) else {
+        let Some(waiter) = waiter(client, at, hi, mode) else {
             return false;
         };
-        match self.table.waiter_of(client) {
-            Some(_waits) => false,
-            None => {
+        match node(alloc, waiter) {
+            Some(node) => {
                 self.table.enqueue(&self.durable, node);
                 true
             }
+            None => false,
         }
     }
 
     /// The client asks for the points from this one up to `hi`, and gets them at once: the slots
     /// that are taken.
-    pub fn takes_at_once(&mut self, client: u64, at: u64, hi: u64, mode: Mode) -> usize {
-        let Some(point) = Point::new(at) else {
-            return 0;
-        };
+    pub fn taken_at_once(&mut self, client: u64, at: u64, hi: u64, mode: Mode) -> usize {
         if client >= 64 {
             return 0;
         }
-        let waiter = Waiter {
-            client,
-            req: 1,
-            point,
-            hi,
-            mode,
+        let Some(waiter) = waiter(client, at, hi, mode) else {
+            return 0;
         };
         match self.table.grant_at_once(&self.durable, &waiter) {
             Some(taken) => taken.len(),
@@ -146,43 +186,48 @@ impl Bench {
         }
     }
 
-    /// It gets what it wants there, on one slot.
-    pub fn grants(&mut self, at: u64) -> bool {
-        self.taken(at) == 1
-    }
-
-    /// The client asks at the point, and gets it.
-    pub fn gets(&mut self, alloc: Global, client: u64, at: u64, mode: Mode) -> bool {
-        self.waits(alloc, client, at, mode) && self.grants(at)
-    }
-
-    /// There is a slot, where the client has this mode.
-    pub fn holds(&self, at: u64, client: u64, mode: Mode) -> bool {
-        self.durable.slot_of(at) == at && client < 64 && self.table.mode(at, client) == mode
-    }
-
-    /// There is a slot, whose span begins there.
-    pub fn spans(&self, at: u64, lo: u64) -> bool {
-        at <= END && self.durable.slot_of(at) == at && self.durable.span_of(at).lo() == lo
-    }
-
-    /// The client is first at the point's slot.
-    pub fn is_first(&self, at: u64, client: u64) -> bool {
-        match self.table.front(self.durable.slot_of(at)) {
-            Some(waiter) => waiter.client == client,
-            None => false,
+    /// The client's mode at the point. None where that is no slot.
+    pub fn mode(&self, client: u64, at: u64) -> Option<Mode> {
+        if client < 64 && self.durable.slot_of(at) == at {
+            Some(self.table.mode(at, client))
+        } else {
+            None
         }
     }
 
-    /// The client is first at the point's slot, whose span begins there, and finds these modes.
-    pub fn finds(&self, at: u64, client: u64, lo: u64, modes: &[Mode; 64]) -> bool {
+    /// Where the span of the slot at this point begins. None where there is none.
+    pub fn span_from(&self, at: u64) -> Option<u64> {
+        if at <= END && self.durable.slot_of(at) == at {
+            Some(self.durable.span_of(at).lo())
+        } else {
+            None
+        }
+    }
+
+    /// The client that is first at the point's slot.
+    pub fn first(&self, at: u64) -> Option<u64> {
+        let waiter = self.table.front(self.durable.slot_of(at))?;
+        Some(waiter.client)
+    }
+
+    /// The client is first at the point's slot, whose span begins there, and finds the holder's
+    /// mode, and no other.
+    pub fn finds(&self, client: u64, at: u64, lo: u64, holder: usize, mode: Mode) -> bool {
         let slot = self.durable.slot_of(at);
         match self.table.first(&self.durable, slot) {
             Some(first) => {
-                first.waiter.client == client && first.span.lo() == lo && first.modes == *modes
+                first.waiter.client == client
+                    && first.span.lo() == lo
+                    && first.modes == alone(holder, mode)
             }
             None => false,
         }
+    }
+
+    /// Nobody is first at the point's slot.
+    pub fn finds_nobody(&self, at: u64) -> bool {
+        let slot = self.durable.slot_of(at);
+        self.table.first(&self.durable, slot).is_none()
     }
 
     /// Somebody waits at these slots, and at no other.
@@ -191,40 +236,44 @@ impl Bench {
         waiting.as_slice() == slots
     }
 
-    /// The client has a waiter.
-    pub fn has_waiter(&self, client: u64) -> bool {
-        client < 64 && self.table.waiter_of(client).is_some()
+    /// The client has no waiter.
+    pub fn waits_nowhere(&self, client: u64) -> bool {
+        client < 64 && self.table.waiter_of(client).is_none()
     }
 
     /// The first waiter at the point's slot goes.
-    pub fn drops(&mut self, at: u64) {
+    pub fn drops(&mut self, at: u64) -> bool {
         let slot = self.durable.slot_of(at);
         self.table.drop_front(slot);
+        true
     }
 
     /// The client goes.
-    pub fn clears(&mut self, client: u64) {
-        if client < 64 {
-            self.table.clear(client);
-        }
-    }
-
-    /// The client reports these, and what it reports is taken in.
-    pub fn adopts(&mut self, client: u64, pieces: &Pieces) -> bool {
-        client < 64
-            && self
-                .table
-                .adopt_report(&self.durable, client, pieces)
-                .is_ok()
-    }
-
-    /// The writer inserts the key, where it may: the key is a slot then.
-    pub fn inserts(&mut self, key: u64) -> bool {
-        let Some(point) = Point::new(key) else {
+    pub fn clears(&mut self, client: u64) -> bool {
+        if client >= 64 {
             return false;
+        }
+        self.table.clear(client);
+        true
+    }
+
+    /// The client reports this: whether it is taken in, or contradicts what others hold.
+    pub fn adopts(&mut self, alloc: Global, client: u64, report: Report) -> Option<bool> {
+        if client >= 64 {
+            return None;
+        }
+        let pieces = pieces(alloc, report)?;
+        let adopted = self.table.adopt_report(&self.durable, client, &pieces);
+        Some(adopted.is_ok())
+    }
+
+    /// How the writer's insert of the key is judged. Where it is Applied, the key is a slot then.
+    pub fn inserts(&mut self, key: u64) -> Option<Outcome> {
+        let Some(point) = Point::new(key) else {
+            return None;
         };
         if key >= END || !has_number(&self.durable) {
-            return false;
+            return None;
         }
         let op = WriteOp::Insert {
             key,
@@ -235,16 +284,16 @@ impl Bench {
         match self.durable.judge(judged, held) {
             Outcome::Applied => {
                 self.table.split(&self.durable, point, WRITER);
-                self.durable.apply(WRITER, op, held) == Outcome::Applied
+                Some(self.durable.apply(WRITER, op, held))
             }
-            Outcome::Exists | Outcome::Absent | Outcome::NotHeld | Outcome::Full => false,
+            refused => Some(refused),
         }
     }
 
-    /// The writer deletes the key, where it may: the key is no slot then.
-    pub fn deletes(&mut self, key: u64) -> bool {
+    /// How the writer's delete of the key is judged. Where it is Applied, the key is no slot then.
+    pub fn deletes(&mut self, key: u64) -> Option<Outcome> {
         if key >= END || !has_number(&self.durable) {
-            return false;
+            return None;
         }
         let op = WriteOp::Delete { key };
         let (needed, judged) = (op, op);
@@ -252,9 +301,9 @@ impl Bench {
         match self.durable.judge(judged, held) {
             Outcome::Applied => {
                 self.table.merge(&self.durable, key);
-                self.durable.apply(WRITER, op, held) == Outcome::Applied
+                Some(self.durable.apply(WRITER, op, held))
             }
-            Outcome::Exists | Outcome::Absent | Outcome::NotHeld | Outcome::Full => false,
+            refused => Some(refused),
         }
     }
 }

@@ -4,6 +4,10 @@
 #[cfg(test)]
 mod again;
 #[cfg(test)]
+mod asks;
+#[cfg(test)]
 mod bench;
+#[cfg(test)]
+mod report;
 #[cfg(test)]
 mod tests;

@@ -1,202 +1,193 @@
-use crate::again::again;
-use crate::bench::Bench;
-use krl_durable::Refused;
-use krl_messages::{KeyPiece, Pieces, RangePiece};
-use krl_modes::{END, KeyPart, Mode, RangePart, Span, TOP};
-use std::alloc::{AllocError, Global};
-use std::test::Fail;
+use crate::asks::{Alone, Ask, check};
+use crate::report::Report;
+use krl_messages::Outcome;
+use krl_modes::{END, KeyPart, Mode, RangePart, TOP};
 
 static TWO_KEYS: [u64; 2] = [10, 20];
 
 static EIGHT_KEYS: [u64; 8] = [10, 20, 30, 40, 50, 60, 70, 80];
 
-// A bench over these keys. One that is refused memory is opened again.
-fn bench_of(alloc: Global, keys: &[u64]) -> Result<Bench, Refused> {
-    again(|| Bench::open(alloc, keys))
-}
-
-#[test]
-fn inserts_among_waiters(rt: HostRuntime) -> Result<(), Fail> {
-    let alloc = rt.alloc();
-    let mut bench = bench_of(alloc, &TWO_KEYS)?;
-    assert!(rt; bench.gets(alloc, 0, 15, Mode::RangeIN));
-    assert!(rt; bench.gets(alloc, 1, 15, Mode::RangeIN));
-    assert!(rt; bench.waits(alloc, 2, 13, Mode::RangeXX));
-    assert!(rt; bench.waits(alloc, 3, 18, Mode::RangeXX));
-    assert!(rt; bench.waiting([20].as_slice()));
-    assert!(rt; bench.inserts(15));
-    assert!(rt; bench.holds(15, 0, Mode::RangeIX));
-    assert!(rt; bench.holds(15, 1, Mode::RangeIN));
-    assert!(rt; bench.holds(20, 0, Mode::RangeIN));
-    assert!(rt; bench.spans(15, 11) && bench.spans(20, 16));
-    assert!(rt; bench.is_first(15, 2) && bench.is_first(20, 3));
-    assert!(rt; bench.waiting([15, 20].as_slice()));
-    bench.clears(2);
-    assert!(rt; bench.waiting([20].as_slice()) && !bench.has_waiter(2));
+static INSERTS: [Ask; 21] = [
+    Ask::Gets(0, 15, Mode::RangeIN),
+    Ask::Gets(1, 15, Mode::RangeIN),
+    Ask::Waits(2, 13, Mode::RangeXX),
+    Ask::Waits(3, 18, Mode::RangeXX),
+    Ask::Waiting(&[20]),
+    Ask::Inserts(15, Outcome::Applied),
+    Ask::Holds(0, 15, Mode::RangeIX),
+    Ask::Holds(1, 15, Mode::RangeIN),
+    Ask::Holds(0, 20, Mode::RangeIN),
+    Ask::Spans(15, 11),
+    Ask::Spans(20, 16),
+    Ask::IsFirst(2, 15),
+    Ask::IsFirst(3, 20),
+    Ask::Waiting(&[15, 20]),
+    Ask::Clears(2),
+    Ask::Waiting(&[20]),
+    Ask::WaitsNowhere(2),
     // It is an entry now, and the writer holds nothing at 25.
-    assert!(rt; !bench.inserts(15) && !bench.inserts(25) && !bench.spans(25, 21));
-    Ok(())
-}
+    Ask::Inserts(15, Outcome::Exists),
+    Ask::Inserts(25, Outcome::NotHeld),
+    Ask::IsNoSlot(25),
+    Ask::Waiting(&[20]),
+];
 
 #[test]
-fn deletes_between_waiters(rt: HostRuntime) -> Result<(), Fail> {
-    let alloc = rt.alloc();
-    let mut bench = bench_of(alloc, &TWO_KEYS)?;
-    assert!(rt; bench.gets(alloc, 0, 5, Mode::RangeXX));
-    assert!(rt; !bench.deletes(10));
-    assert!(rt; bench.gets(alloc, 0, 15, Mode::RangeXX));
-    assert!(rt; bench.waits(alloc, 1, 3, Mode::RangeSS));
-    assert!(rt; bench.waits(alloc, 2, 15, Mode::RangeSS));
-    assert!(rt; !bench.grants(3));
-    assert!(rt; bench.deletes(10));
-    assert!(rt; bench.spans(20, 0) && !bench.spans(10, 0));
-    assert!(rt; bench.holds(20, 0, Mode::RangeXX));
-    assert!(rt; bench.is_first(20, 1));
-    bench.drops(20);
-    assert!(rt; bench.is_first(20, 2));
-    bench.drops(20);
-    assert!(rt; bench.waiting([].as_slice()));
-    Ok(())
+fn inserts_among_waiters(rt: HostRuntime) {
+    check(&rt, rt.alloc(), &TWO_KEYS, &INSERTS);
 }
 
-// The eight slots from the first key on, though the client asks for all nine.
+static DELETES: [Ask; 15] = [
+    Ask::Gets(0, 5, Mode::RangeXX),
+    Ask::Deletes(10, Outcome::NotHeld),
+    Ask::Gets(0, 15, Mode::RangeXX),
+    Ask::Waits(1, 3, Mode::RangeSS),
+    Ask::Waits(2, 15, Mode::RangeSS),
+    Ask::Takes(3, 0),
+    Ask::Deletes(10, Outcome::Applied),
+    Ask::Spans(20, 0),
+    Ask::IsNoSlot(10),
+    Ask::Holds(0, 20, Mode::RangeXX),
+    Ask::IsFirst(1, 20),
+    Ask::Drops(20),
+    Ask::IsFirst(2, 20),
+    Ask::Drops(20),
+    Ask::Waiting(&[]),
+];
+
 #[test]
-fn takes_eight_of_nine_free_slots(rt: HostRuntime) -> Result<(), Fail> {
-    let alloc = rt.alloc();
-    let mut bench = bench_of(alloc, &EIGHT_KEYS)?;
-    assert!(rt; bench.waits_to(alloc, 0, 5, TOP, Mode::RangeSS));
-    assert!(rt; bench.taken(5) == 8);
-    for key in &EIGHT_KEYS {
-        assert!(rt; bench.holds(*key, 0, Mode::RangeSS));
-    }
-    assert!(rt; bench.holds(END, 0, Mode::N));
+fn deletes_between_waiters(rt: HostRuntime) {
+    check(&rt, rt.alloc(), &TWO_KEYS, &DELETES);
+}
+
+static EIGHT_OF_NINE: [Ask; 18] = [
+    // The eight slots from the first key on, though the client asks for all nine.
+    Ask::WaitsTo(0, 5, TOP, Mode::RangeSS),
+    Ask::Takes(5, 8),
+    Ask::Holds(0, 10, Mode::RangeSS),
+    Ask::Holds(0, 20, Mode::RangeSS),
+    Ask::Holds(0, 30, Mode::RangeSS),
+    Ask::Holds(0, 40, Mode::RangeSS),
+    Ask::Holds(0, 50, Mode::RangeSS),
+    Ask::Holds(0, 60, Mode::RangeSS),
+    Ask::Holds(0, 70, Mode::RangeSS),
+    Ask::Holds(0, 80, Mode::RangeSS),
+    Ask::Holds(0, END, Mode::N),
     // Up to the first slot where another's lock bars the way.
-    assert!(rt; bench.gets(alloc, 1, 90, Mode::RangeXX));
-    assert!(rt; bench.waits_to(alloc, 2, 61, TOP, Mode::RangeSS));
-    assert!(rt; bench.taken(61) == 2);
-    assert!(rt; bench.holds(70, 2, Mode::RangeSS) && bench.holds(80, 2, Mode::RangeSS));
-    assert!(rt; bench.holds(END, 2, Mode::N) && bench.waiting([].as_slice()));
-    Ok(())
-}
+    Ask::Gets(1, 90, Mode::RangeXX),
+    Ask::WaitsTo(2, 61, TOP, Mode::RangeSS),
+    Ask::Takes(61, 2),
+    Ask::Holds(2, 70, Mode::RangeSS),
+    Ask::Holds(2, 80, Mode::RangeSS),
+    Ask::Holds(2, END, Mode::N),
+    Ask::Waiting(&[]),
+];
 
 #[test]
-fn grants_at_once_where_nobody_waits(rt: HostRuntime) -> Result<(), Fail> {
-    let alloc = rt.alloc();
-    let mut bench = bench_of(alloc, &EIGHT_KEYS)?;
-    assert!(rt; bench.is_quiet());
+fn takes_eight_of_nine_free_slots(rt: HostRuntime) {
+    check(&rt, rt.alloc(), &EIGHT_KEYS, &EIGHT_OF_NINE);
+}
+
+static AT_ONCE: [Ask; 16] = [
+    Ask::IsQuiet(true),
     // As many slots as a waiter would get.
-    assert!(rt; bench.takes_at_once(0, 5, TOP, Mode::RangeSS) == 8);
-    assert!(rt; bench.holds(10, 0, Mode::RangeSS) && bench.holds(80, 0, Mode::RangeSS));
-    assert!(rt; bench.holds(END, 0, Mode::N) && bench.is_quiet());
+    Ask::TakesAtOnce(0, 5, TOP, Mode::RangeSS, 8),
+    Ask::Holds(0, 10, Mode::RangeSS),
+    Ask::Holds(0, 80, Mode::RangeSS),
+    Ask::Holds(0, END, Mode::N),
+    Ask::IsQuiet(true),
     // Another may read there, but not write.
-    assert!(rt; bench.takes_at_once(1, 15, 16, Mode::RangeSS) == 1);
-    assert!(rt; bench.takes_at_once(2, 15, 16, Mode::RangeXX) == 0);
+    Ask::TakesAtOnce(1, 15, 16, Mode::RangeSS, 1),
+    Ask::TakesAtOnce(2, 15, 16, Mode::RangeXX, 0),
     // There is no entry at 15.
-    assert!(rt; bench.takes_at_once(2, 15, 16, Mode::S) == 0);
-    assert!(rt; bench.takes_at_once(2, 20, 21, Mode::S) == 1 && bench.holds(20, 2, Mode::S));
+    Ask::TakesAtOnce(2, 15, 16, Mode::S, 0),
+    Ask::TakesAtOnce(2, 20, 21, Mode::S, 1),
+    Ask::Holds(2, 20, Mode::S),
     // Nobody goes past one who waits.
-    assert!(rt; bench.waits(alloc, 3, 15, Mode::RangeXX) && !bench.is_quiet());
-    assert!(rt; bench.takes_at_once(4, 15, 16, Mode::RangeSS) == 0);
-    assert!(rt; bench.holds(20, 4, Mode::N) && bench.is_first(20, 3));
-    Ok(())
-}
-
-// Who waits, and at which point: two of them in one slot.
-static WAITERS: [(u64, u64); 5] = [(0, 55), (1, 15), (2, 12), (3, 5), (63, 85)];
+    Ask::Waits(3, 15, Mode::RangeXX),
+    Ask::IsQuiet(false),
+    Ask::TakesAtOnce(4, 15, 16, Mode::RangeSS, 0),
+    Ask::Holds(4, 20, Mode::N),
+    Ask::IsFirst(3, 20),
+];
 
 #[test]
-fn finds_the_slots_where_somebody_waits(rt: HostRuntime) -> Result<(), Fail> {
-    let alloc = rt.alloc();
-    let mut bench = bench_of(alloc, &EIGHT_KEYS)?;
-    assert!(rt; bench.waiting([].as_slice()));
-    for (client, point) in &WAITERS {
-        assert!(rt; bench.waits(alloc, *client, *point, Mode::RangeSS));
-    }
-    assert!(rt; bench.waiting([10, 20, 60, END].as_slice()));
+fn grants_at_once_where_nobody_waits(rt: HostRuntime) {
+    check(&rt, rt.alloc(), &EIGHT_KEYS, &AT_ONCE);
+}
+
+static WAITERS: [Ask; 10] = [
+    Ask::Waiting(&[]),
+    // Two of them wait in one slot.
+    Ask::Waits(0, 55, Mode::RangeSS),
+    Ask::Waits(1, 15, Mode::RangeSS),
+    Ask::Waits(2, 12, Mode::RangeSS),
+    Ask::Waits(3, 5, Mode::RangeSS),
+    Ask::Waits(63, 85, Mode::RangeSS),
+    Ask::Waiting(&[10, 20, 60, END]),
     // Without the last of them nobody waits there, and where two waited one still does.
-    bench.clears(63);
-    bench.clears(1);
-    assert!(rt; bench.waiting([10, 20, 60].as_slice()));
-    Ok(())
-}
+    Ask::Clears(63),
+    Ask::Clears(1),
+    Ask::Waiting(&[10, 20, 60]),
+];
 
 #[test]
-fn tells_what_a_first_waiter_finds(rt: HostRuntime) -> Result<(), Fail> {
-    let alloc = rt.alloc();
-    let mut bench = bench_of(alloc, &EIGHT_KEYS)?;
-    let mut modes = [Mode::N; 64];
-    assert!(rt; bench.gets(alloc, 5, 15, Mode::RangeXX));
-    modes[5] = Mode::RangeXX;
-    assert!(rt; !bench.finds(20, 5, 11, &modes));
-    assert!(rt; bench.waits(alloc, 1, 15, Mode::RangeSS));
-    assert!(rt; bench.waits(alloc, 2, 12, Mode::S));
-    assert!(rt; bench.finds(20, 1, 11, &modes) && !bench.finds(30, 1, 21, &modes));
-    Ok(())
+fn finds_the_slots_where_somebody_waits(rt: HostRuntime) {
+    check(&rt, rt.alloc(), &EIGHT_KEYS, &WAITERS);
 }
 
-// A range part on a span.
-fn range(lo: u64, hi: u64, part: RangePart) -> Option<RangePiece> {
-    match Span::new(lo, hi) {
-        Ok(span) => Some(RangePiece { span, part }),
-        Err(_bad) => None,
-    }
-}
-
-// A report of these ranges, and of one key part. One that is refused memory is made again.
-fn report(
-    alloc: Global,
-    ranges: &[Option<RangePiece>],
-    key: KeyPiece,
-) -> Result<Pieces, AllocError> {
-    again(|| listed(alloc, ranges, key))
-}
-
-fn listed(
-    alloc: Global,
-    ranges: &[Option<RangePiece>],
-    key: KeyPiece,
-) -> Result<Pieces, AllocError> {
-    let mut list = Vec::new(alloc);
-    for piece in ranges {
-        if let Some(piece) = *piece {
-            list.push(piece)?;
-        }
-    }
-    let mut keys = Vec::new(alloc);
-    keys.push(key)?;
-    Ok(Pieces {
-        ranges: list.into(),
-        keys: keys.into(),
-    })
-}
+static FIRST_WAITERS: [Ask; 6] = [
+    Ask::Gets(5, 15, Mode::RangeXX),
+    Ask::FindsNobody(20),
+    Ask::Waits(1, 15, Mode::RangeSS),
+    Ask::Waits(2, 12, Mode::S),
+    Ask::Finds(1, 20, 11, Alone(5, Mode::RangeXX)),
+    Ask::FindsNobody(30),
+];
 
 #[test]
-fn takes_reports_in(rt: HostRuntime) -> Result<(), Fail> {
-    let alloc = rt.alloc();
-    let mut bench = bench_of(alloc, &TWO_KEYS)?;
-    let shared = range(0, 11, RangePart::S);
-    let insert = range(5, 15, RangePart::I);
-    let key = |point: u64, part: KeyPart| KeyPiece { point, part };
-    let first = report(alloc, &[shared, insert], key(10, KeyPart::S))?;
-    assert!(rt; bench.adopts(0, &first));
-    assert!(rt; bench.holds(10, 0, Mode::RangeXS));
-    assert!(rt; bench.holds(20, 0, Mode::RangeIN));
-    assert!(rt; bench.holds(END, 0, Mode::N));
+fn tells_what_a_first_waiter_finds(rt: HostRuntime) {
+    check(&rt, rt.alloc(), &EIGHT_KEYS, &FIRST_WAITERS);
+}
+
+const FIRST: Report = Report(
+    &[(0, 11, RangePart::S), (5, 15, RangePart::I)],
+    &[(10, KeyPart::S)],
+);
+
+const SECOND: Report = Report(&[(16, 17, RangePart::I)], &[(15, KeyPart::X)]);
+
+const THIRD: Report = Report(
+    &[(5, 15, RangePart::I), (0, 11, RangePart::S)],
+    &[(20, KeyPart::X)],
+);
+
+static REPORTS: [Ask; 18] = [
+    Ask::Adopts(0, FIRST),
+    Ask::Holds(0, 10, Mode::RangeXS),
+    Ask::Holds(0, 20, Mode::RangeIN),
+    Ask::Holds(0, END, Mode::N),
     // A key part at a point that is no slot is passed over.
-    let second = report(alloc, &[range(16, 17, RangePart::I)], key(15, KeyPart::X))?;
-    assert!(rt; bench.adopts(1, &second));
-    assert!(rt; bench.holds(10, 1, Mode::N));
-    assert!(rt; bench.holds(20, 1, Mode::RangeIN));
+    Ask::Adopts(1, SECOND),
+    Ask::Holds(1, 10, Mode::N),
+    Ask::Holds(1, 20, Mode::RangeIN),
     // One slot is in the way, so nothing changes on the other either.
-    let third = report(alloc, &[insert, shared], key(20, KeyPart::X))?;
-    assert!(rt; !bench.adopts(2, &third));
-    assert!(rt; bench.holds(10, 2, Mode::N) && bench.holds(20, 2, Mode::N));
-    assert!(rt; bench.holds(10, 0, Mode::RangeXS) && bench.holds(20, 1, Mode::RangeIN));
+    Ask::Contradicts(2, THIRD),
+    Ask::Holds(2, 10, Mode::N),
+    Ask::Holds(2, 20, Mode::N),
+    Ask::Holds(0, 10, Mode::RangeXS),
+    Ask::Holds(1, 20, Mode::RangeIN),
     // What was refused is forgotten.
-    assert!(rt; bench.adopts(2, &second));
-    assert!(rt; bench.holds(10, 2, Mode::N) && bench.holds(20, 2, Mode::RangeIN));
+    Ask::Adopts(2, SECOND),
+    Ask::Holds(2, 10, Mode::N),
+    Ask::Holds(2, 20, Mode::RangeIN),
     // Of what it held before nothing is left.
-    assert!(rt; bench.adopts(0, &second));
-    assert!(rt; bench.holds(10, 0, Mode::N) && bench.holds(20, 0, Mode::RangeIN));
-    Ok(())
+    Ask::Adopts(0, SECOND),
+    Ask::Holds(0, 10, Mode::N),
+    Ask::Holds(0, 20, Mode::RangeIN),
+];
+
+#[test]
+fn takes_reports_in(rt: HostRuntime) {
+    check(&rt, rt.alloc(), &TWO_KEYS, &REPORTS);
 }

@@ -1,5 +1,5 @@
-use Rattle.krl_nodes.specs.Nodes.{IsSameClient}
+use Rattle.std.specs.Prelude.{◌≡◌, IfSome}
 use Rattle.krl_nodes_tests.proofs.acts.act.Given as goal
 
 abbrev pub invariant-loop : goal.invariant-loop
-invariant-loop g l = IsSameClient l.initial.client l.client
+invariant-loop g l = IfSome l.seat (λ c. c.office ≡ l.office)

@@ -6,5 +6,5 @@ apart : IsDistinct nat_eq (0 ∷ 9 ∷ [])
 unfolding IsDistinct
 apart = ((refl, tt), (tt, tt))
 
-pub survived-requires-clause-once : goal.survived-requires-clause-once
-survived-requires-clause-once g c = apart
+pub migrates-requires-clause-once : goal.migrates-requires-clause-once
+migrates-requires-clause-once g c = apart

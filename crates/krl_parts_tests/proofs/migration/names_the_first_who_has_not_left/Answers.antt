@@ -6,5 +6,5 @@ three : IsDistinct nat_eq (0 ∷ 3 ∷ 1 ∷ [])
 unfolding IsDistinct
 three = ((refl, (refl, tt)), ((refl, tt), (tt, tt)))
 
-pub survived-requires-clause-once : goal.survived-requires-clause-once
-survived-requires-clause-once g c = three
+pub migrates-requires-clause-once : goal.migrates-requires-clause-once
+migrates-requires-clause-once g c = three

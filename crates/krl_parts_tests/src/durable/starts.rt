@@ -1,0 +1,99 @@
+//! What survives, made of its parts. A call that is refused memory is made again, so that each run
+//! ends alike, whichever one or two allocations in a row fail.
+use crate::again::CALLS;
+use krl_durable::{Durable, Record, Refused};
+use krl_messages::{Outcome, Value};
+use std::alloc::{AllocError, Global};
+
+/// What there is beside the entries.
+#[derive(Clone, Copy)]
+pub enum Start {
+    /// Nothing has happened to them yet.
+    Unused,
+    /// Epoch 7, and the records of two clients.
+    Brought,
+    /// The same, written out and brought back.
+    WrittenOut,
+}
+
+/// A client that has not left, and never wrote.
+pub const SILENT: Record = Record {
+    incarnation: 1,
+    left: false,
+    last: 0,
+    outcome: None,
+};
+
+/// A client that has left after its fourth write.
+pub const LEFT: Record = Record {
+    incarnation: 3,
+    left: true,
+    last: 4,
+    outcome: Some(Outcome::Applied),
+};
+
+static RECORDS: [(u64, Record); 2] = [(5, SILENT), (2, LEFT)];
+
+/// Two entries, the later one first.
+pub fn two_entries() -> [(u64, Value); 2] {
+    [(20, Value::from_u64(2)), (10, Value::from_u64(1))]
+}
+
+fn brought(alloc: Global, entries: &[(u64, Value)]) -> Result<Durable, Refused> {
+    Durable::from_parts(alloc, entries, 7, &RECORDS)
+}
+
+// What it shows, written out and brought back.
+fn written_out(alloc: Global, durable: &Durable) -> Result<Durable, Refused> {
+    let records = durable.records(alloc)?;
+    Durable::from_parts(alloc, durable.run(0), durable.epoch(), &records)
+}
+
+fn try_start(alloc: Global, start: Start, entries: &[(u64, Value)]) -> Result<Durable, Refused> {
+    match start {
+        Start::Unused => Durable::new(alloc, entries),
+        Start::Brought => brought(alloc, entries),
+        Start::WrittenOut => written_out(alloc, &brought(alloc, entries)?),
+    }
+}
+
+/// What survives of these entries. None where it is refused.
+pub fn started(alloc: Global, start: Start, entries: &[(u64, Value)]) -> Option<Durable> {
+    for _ in 0..CALLS {
+        if let Ok(durable) = try_start(alloc, start, entries) {
+            return Some(durable);
+        }
+    }
+    None
+}
+
+/// How these entries are refused. None where they are not.
+pub fn refusal(alloc: Global, start: Start, entries: &[(u64, Value)]) -> Option<Refused> {
+    for _ in 1..CALLS {
+        match try_start(alloc, start, entries) {
+            Err(Refused::OutOfMemory) => {}
+            answer => return answer.err(),
+        }
+    }
+    try_start(alloc, start, entries).err()
+}
+
+// As many entries as this, with keys that fall or rise.
+fn try_many(alloc: Global, n: u64, falls: bool) -> Result<Vec<(u64, Value)>, AllocError> {
+    let mut entries = Vec::new(alloc);
+    for i in 0..n {
+        let key = if falls { n.saturating_sub(i) } else { i };
+        entries.push((key, Value::from_u64(i)))?;
+    }
+    Ok(entries)
+}
+
+/// As many entries as this, with keys that fall or rise. None where memory is refused.
+pub fn many(alloc: Global, n: u64, falls: bool) -> Option<Vec<(u64, Value)>> {
+    for _ in 0..CALLS {
+        if let Ok(entries) = try_many(alloc, n, falls) {
+            return Some(entries);
+        }
+    }
+    None
+}

@@ -1,5 +1,0 @@
-use Rattle.krl_table_tests.proofs.Applied.{near_end}
-use Rattle.krl_table_tests.proofs.bench.Bench.open.Goals as goal
-
-pub invariant_of-result : goal.invariant_of-result
-invariant_of-result c = let m = c.register.new.self.index in c.in_ok-table.ensures.slots m (near_end m c.epoch-kept.ensures.kept.keys)
