@@ -154,28 +154,36 @@ fn script_command<'a>(alloc: Global) -> Result<Command<'a>, AllocError> {
         .arg(flag(alloc, "svg", "Write that picture as a drawing in SVG"))
 }
 
-fn random_command<'a>(alloc: Global) -> Result<Command<'a>, AllocError> {
-    let seed = number(
+fn seed_option<'a>(alloc: Global) -> Arg<'a> {
+    number(
         alloc,
         "seed",
         "0 to 9223372036854775807",
         0,
         END,
         "What the steps are drawn from",
-    );
-    let steps = number(
+    )
+    .required(true)
+}
+
+fn steps_option<'a>(alloc: Global) -> Arg<'a> {
+    number(
         alloc,
         "steps",
         "1 to 100000",
         1,
         MAX_STEPS,
         "How many steps are taken, refused ones too",
-    );
+    )
+    .required(true)
+}
+
+fn random_command<'a>(alloc: Global) -> Result<Command<'a>, AllocError> {
     Command::new(alloc, "random")
         .about("Drive a world through steps that are drawn, and say whether it stayed sound")
         .after_help(RANDOM)
-        .arg(seed.required(true))?
-        .arg(steps.required(true))?
+        .arg(seed_option(alloc))?
+        .arg(steps_option(alloc))?
         .arg(flag(
             alloc,
             "busy",
@@ -186,6 +194,27 @@ fn random_command<'a>(alloc: Global) -> Result<Command<'a>, AllocError> {
             "progress",
             "Tell of every 10,000th step on standard error, also where it is no terminal",
         ))
+}
+
+fn program<'a>(alloc: Global) -> Command<'a> {
+    Command::new(alloc, "krl")
+        .version("0.1.0")
+        .about("A key-range lock server with client range caches")
+        .subcommand_required(true)
+}
+
+// The command with another one under it.
+fn add<'a>(
+    command: Command<'a>,
+    under: Result<Command<'a>, AllocError>,
+) -> Result<Command<'a>, AllocError> {
+    command.subcommand(under?)
+}
+
+fn commands<'a>(alloc: Global) -> Result<Command<'a>, AllocError> {
+    let command = add(program(alloc), script_command(alloc))?;
+    let command = add(command, random_command(alloc))?;
+    add(command, nodes_command(alloc))
 }
 
 // What clap found, which is in the ranges that it was told.
@@ -237,16 +266,7 @@ fn request_of(matches: &ArgMatches) -> Request {
 /// What clap says of words that it refuses, of `--help` and of `--version`; its kind is
 /// `OutOfMemory` where memory ran out.
 pub fn read(alloc: Global, words: &[String]) -> Result<Request, Error> {
-    let script = script_command(alloc)?;
-    let random = random_command(alloc)?;
-    let nodes = nodes_command(alloc)?;
-    let command = Command::new(alloc, "krl")
-        .version("0.1.0")
-        .about("A key-range lock server with client range caches")
-        .subcommand_required(true)
-        .subcommand(script)?
-        .subcommand(random)?
-        .subcommand(nodes)?;
+    let command = commands(alloc)?;
     let matches = command.try_get_matches_from(words)?;
     Ok(request_of(&matches))
 }
