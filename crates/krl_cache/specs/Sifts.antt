@@ -55,7 +55,8 @@ module _ {F V : Type 0} (T : F → ℕ → V → Bool → V → F → Type 0) wh
     pub after : AreOut lo hi back
 
   -- such a walk stands before what it has left to ask, in the map m
-  abbrev pub StandsAt : {R : Type 0} → (R → ℕ → Ordering) → F → ℕ → ℕ → List (ℕ × V) → BTreeMap ℕ V → Option (Cursor R F) → Type 0
+  abbrev pub StandsAt : {R : Type 0} → (R → ℕ → Ordering) → F → ℕ → ℕ → List (ℕ × V) → BTreeMap ℕ V
+      → Option (Cursor R F) → Type 0
   StandsAt end f lo hi old m None = (g : F) × Stands f lo hi old g [] m.entries
   StandsAt end f lo hi old m (Some c) = Stands f lo hi old c.within.test (extract_rest end m (Some c)) m.entries
 
