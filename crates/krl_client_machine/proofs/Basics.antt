@@ -13,10 +13,11 @@ use Rattle.krl_messages.specs.declared.to_server.RequestBody.{RequestBody}
 use Rattle.krl_messages.specs.declared.to_server.RequestBody.TheVariants as request
 use Rattle.krl_messages.specs.declared.to_client.ToClientBody.{ToClientBody}
 use Rattle.krl_messages.specs.declared.to_client.ToClientBody.TheVariants as told
-use Rattle.krl_protocol.specs.Links.{In, Link, Head, Lowered, untouched, lowered}
+use Rattle.krl_protocol.specs.Links.{Link, Head, Lowered, untouched, lowered}
 use Rattle.krl_cache.proofs.Truths.{inside_span, outside_span}
 use Rattle.krl_client.specs.declared.refused.CommandRefused.{CommandRefused}
 use Rattle.krl_modes.specs.Parts.{is_range_X}
+use Rattle.krl_messages.specs.Members.{In}
 use Rattle.krl_client_machine.specs.Shows.{Grows, IsAsked, IsFrom, IsTo}
 
 pub in_append : {A : Type 0} (x : A) (xs bs : List A) → In x (xs ++ bs) → In x xs ⊎ In x bs

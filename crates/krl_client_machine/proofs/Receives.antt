@@ -19,11 +19,12 @@ use Rattle.std.specs.List.{AllByRecursion}
 use Rattle.krl_messages.specs.Values.{Value}
 use Rattle.krl_protocol.specs.Worlds.{row_of}
 use Rattle.krl_protocol.specs.Links
-use Rattle.krl_protocol.specs.Links.{In, Op, Said, Link, Shared, belief, adopted, OutAfter, joins, accepts}
+use Rattle.krl_protocol.specs.Links.{Op, Said, Link, Shared, belief, adopted, OutAfter, joins, accepts}
 use Rattle.krl_protocol.specs.Holdings.{said_at, or_by, said_by}
 use Rattle.krl_modes.specs.Parts.{reads_key}
 use Rattle.krl_messages.specs.Holdings.{ends_at_end, has_its_value}
 use Rattle.krl_messages.specs.Several.{have_values}
+use Rattle.krl_messages.specs.Members.{In}
 use Rattle.krl_cache.specs.Beliefs.{Belief, is_last, adopt, adopt_all}
 use Rattle.krl_cache.specs.Kept.{Describes}
 use Rattle.krl_cache.proofs.Truths.{and_true, or_false, not_is_true}

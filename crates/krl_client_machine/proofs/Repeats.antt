@@ -3,7 +3,8 @@ use Rattle.std.proofs.Common.{◌≡◌, ℕ, ◌≤◌, Bool, true, false, Opti
 use Rattle.krl_messages.specs.declared.write_op.WriteOp.{WriteOp}
 use Rattle.krl_messages.specs.declared.pieces.Pieces.{Pieces}
 use Rattle.krl_messages.specs.declared.to_server.ToServer.{ToServer}
-use Rattle.krl_protocol.specs.Links.{In, Link, Shared, LinkSteps, idle, next, head_of, hellos_again, reports_again, speaks, writes_again}
+use Rattle.krl_messages.specs.Members.{In}
+use Rattle.krl_protocol.specs.Links.{Link, Shared, LinkSteps, idle, next, head_of, hellos_again, reports_again, speaks, writes_again}
 use Rattle.krl_cache.specs.Beliefs.{Belief}
 use Rattle.krl_cache.specs.Kept.{Describes}
 use Rattle.krl_client.specs.Clients.{Client, Asked, NotAsked, Granted, NoEntry, Dropped, Waiting, outstanding, has_joined}

@@ -14,7 +14,7 @@ use Rattle.krl_messages.specs.declared.to_server.ToServer.{ToServer}
 use Rattle.krl_messages.specs.Values.{Value}
 use Rattle.krl_protocol.specs.Worlds.{row_of}
 use Rattle.krl_protocol.specs.Links
-use Rattle.krl_protocol.specs.Links.{In, Op, op_key, Link, Shared, LinkStep, idle, next, MayIssue, head_of, starts, crashes, leaves, lowers, issues, speaks}
+use Rattle.krl_protocol.specs.Links.{Op, op_key, Link, Shared, LinkStep, idle, next, MayIssue, head_of, starts, crashes, leaves, lowers, issues, speaks}
 use Rattle.krl_protocol.proofs.Modes.{mode_parts}
 use Rattle.krl_modes.specs.Parts.{reads_key}
 use Rattle.krl_cache.specs.Beliefs.{lower, is_span}
@@ -24,6 +24,7 @@ use Rattle.krl_cache.proofs.Calls.{either_none}
 use Rattle.krl_messages.specs.Writes.{op_key as key_of_op}
 use Rattle.krl_client.specs.Clients.{Client, begun, Asked, Waiting, outstanding, has_joined, is_in, is_writing_in}
 use Rattle.krl_modes.specs.Parts.{is_key_X, is_range_X}
+use Rattle.krl_messages.specs.Members.{In}
 use Rattle.krl_client.specs.Commands.{holds_for, lock_refusal, write_refusal, forget_refusal, locked, wrote, lowered, forgot, says_lock, says_write, says_release, says_bye}
 use Rattle.krl_client.specs.Ticks.{says_hello}
 use Rattle.krl_client_machine.specs.Shows.{op_of, op_shown, Grows, server_part, IsFrom, ShowsClient, ShowsSeat, Leads}

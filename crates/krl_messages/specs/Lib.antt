@@ -4,3 +4,4 @@ pub mod Holdings
 pub mod Several
 pub mod Places
 pub mod Writes
+pub mod Members

@@ -11,8 +11,8 @@ use Rattle.krl_messages.specs.declared.holding.Holding.{Holding}
 use Rattle.krl_messages.specs.declared.to_client.ToClient.{ToClient}
 use Rattle.krl_messages.specs.declared.to_client.PushBody.TheVariants as push
 use Rattle.krl_messages.specs.declared.to_server.ToServer.{ToServer}
+use Rattle.krl_messages.specs.Members.{In}
 use Rattle.krl_queue.specs.declared.waiter.Waiter.{Waiter}
-use Rattle.krl_protocol.specs.Links.{In}
 use Rattle.krl_protocol.proofs.Worlds.{eq_cases}
 use Rattle.krl_durable.specs.Index.{Index, slots, slot_of}
 use Rattle.krl_table.specs.declared.reply.Reply.TheVariants as reply

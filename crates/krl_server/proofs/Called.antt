@@ -7,8 +7,8 @@ use Rattle.krl_modes.specs.Spans.{Bounds}
 use Rattle.krl_modes.specs.Modes.{compatible, cap}
 use Rattle.krl_modes.specs.declared.point.TheConstants.{END}
 use Rattle.krl_messages.specs.declared.to_client.ToClient.{ToClient}
+use Rattle.krl_messages.specs.Members.{In}
 use Rattle.krl_queue.specs.declared.waiter.Waiter.{Waiter}
-use Rattle.krl_protocol.specs.Links.{In}
 use Rattle.krl_durable.specs.Index.{is_slot, slots, span_of}
 use Rattle.krl_table.specs.Rows.{front_of, most_clients, mode_at}
 use Rattle.krl_table.specs.Calls.{wanted}

@@ -9,7 +9,7 @@ use Rattle.krl_messages.specs.declared.write_op.WriteOp.{WriteOp}
 use Rattle.krl_queue.specs.declared.waiter.Waiter.{Waiter}
 use Rattle.krl_messages.specs.Writes.{op_key}
 use Rattle.krl_modes.specs.declared.point.TheConstants.{END}
-use Rattle.krl_protocol.specs.Links.{In}
+use Rattle.krl_messages.specs.Members.{In}
 use Rattle.krl_durable.specs.Index.{slot_of, is_slot}
 use Rattle.krl_table.specs.Rows.{Row, most_clients}
 use Rattle.krl_table.specs.Calls.{with_mode, with_queue, queue_with}

@@ -4,8 +4,9 @@ use Rattle.std.proofs.Common.{nat_eq}
 use Rattle.std.proofs.lemmas.Bool.{eqb-false}
 use Rattle.std.specs.Prelude.{if◌then◌else◌}
 use Rattle.krl_modes.specs.declared.mode.Mode.TheVariants as mode
+use Rattle.krl_messages.specs.Members.{In}
 use Rattle.krl_queue.specs.declared.waiter.Waiter.{Waiter}
-use Rattle.krl_protocol.specs.Links.{In, Notice, Link, next, idle, registers, sees_off, no_range, no_key}
+use Rattle.krl_protocol.specs.Links.{Notice, Link, next, idle, registers, sees_off, no_range, no_key}
 use Rattle.krl_protocol.specs.Worlds.{Logged}
 use Rattle.krl_protocol.proofs.Steps.{put, put_changed}
 use Rattle.krl_protocol.proofs.Points.{no_none}

@@ -10,9 +10,9 @@ use Rattle.std.specs.FinMap as map
 use Rattle.std.specs.FinMap.Entries.{find}
 use Rattle.krl_modes.specs.declared.point.TheConstants.{END}
 use Rattle.krl_messages.specs.Values.{Value}
+use Rattle.krl_messages.specs.Members.{In}
 use Rattle.krl_queue.specs.declared.waiter.Waiter.{Waiter}
 use Rattle.krl_queue.specs.Waiting.{first_of}
-use Rattle.krl_protocol.specs.Links.{In}
 use Rattle.krl_protocol.proofs.Worlds.{eq_cases}
 use Rattle.krl_protocol.proofs.Points.{no_none}
 use Rattle.krl_durable.specs.Index.{Index, slots}

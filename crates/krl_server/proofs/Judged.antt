@@ -13,7 +13,7 @@ use Rattle.krl_messages.specs.declared.to_client.PushBody.TheVariants as push
 use Rattle.krl_messages.specs.Values.{Value}
 use Rattle.krl_protocol.specs.Modes.{rank}
 use Rattle.krl_protocol.specs.Links as links
-use Rattle.krl_protocol.specs.Links.{In, Head, Write, Shared, Link, Passes, IsSlot, MaySay}
+use Rattle.krl_protocol.specs.Links.{Head, Write, Shared, Link, Passes, IsSlot, MaySay}
 use Rattle.krl_protocol.specs.Worlds.{Logged}
 use Rattle.krl_protocol.proofs.Refines as refines
 use Rattle.krl_protocol.specs.Holdings.{said_at, said_by}
@@ -21,6 +21,7 @@ use Rattle.krl_protocol.proofs.Holdings.{slot_holding, said_each, speaks_at}
 use Rattle.krl_protocol.proofs.Steps.{put, put_changed}
 use Rattle.krl_durable.specs.Index.{slot_of}
 use Rattle.krl_messages.specs.Writes.{op_key}
+use Rattle.krl_messages.specs.Members.{In}
 use Rattle.krl_table.specs.Rows.{column, mode_at}
 use Rattle.krl_server.specs.Servers.{Server}
 use Rattle.krl_server.specs.Effects.{shown, holding, holdings, heard, answers}

@@ -5,7 +5,7 @@ use Rattle.std.proofs.lemmas.Map.Keys.{IsDistinct-head, IsDistinct-tail}
 use Rattle.std.specs.Prelude.{nat_lt}
 use Rattle.std.specs.List.{AllByRecursion, IsDistinct}
 use Rattle.std.specs.Map.{keys_of}
-use Rattle.krl_protocol.specs.Links.{In}
+use Rattle.krl_messages.specs.Members.{In}
 use Rattle.krl_durable.specs.declared.record.Record.{Record}
 use Rattle.krl_durable.specs.Registers.{Register, Durable, record_of}
 use Rattle.krl_durable.specs.Kept.{IsKept}

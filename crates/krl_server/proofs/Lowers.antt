@@ -7,7 +7,8 @@ use Rattle.krl_modes.specs.Modes.{range_of, key_of, meet}
 use Rattle.krl_modes.specs.Parts.{range_meet, key_meet}
 use Rattle.krl_modes.specs.Spans.{Bounds, within}
 use Rattle.krl_modes.proofs.ModeLaws.{meet-parts}
-use Rattle.krl_protocol.specs.Links.{In, Head, Release, Link, Passes, IsSlot, InSpan, SlotLowered, next, idle, takes_head, takes_release}
+use Rattle.krl_messages.specs.Members.{In}
+use Rattle.krl_protocol.specs.Links.{Head, Release, Link, Passes, IsSlot, InSpan, SlotLowered, next, idle, takes_head, takes_release}
 use Rattle.krl_protocol.specs.Tables as machine
 use Rattle.krl_protocol.specs.Worlds.{Logged}
 use Rattle.krl_protocol.proofs.Tables.{slot_near, table_row, release_lowers}

@@ -5,8 +5,9 @@ use Rattle.krl_modes.specs.declared.point.TheConstants.{END}
 use Rattle.krl_messages.specs.declared.to_client.ToClientBody.TheVariants as told
 use Rattle.krl_messages.specs.declared.to_client.PushBody.{PushBody}
 use Rattle.krl_messages.specs.declared.to_client.PushBody.TheVariants as push
+use Rattle.krl_messages.specs.Members.{In}
 use Rattle.krl_protocol.specs.Links as links
-use Rattle.krl_protocol.specs.Links.{In, Head, Notice, Shared, Link, Passes, MaySay, AnswersLast, next, idle, notifies, takes_head}
+use Rattle.krl_protocol.specs.Links.{Head, Notice, Shared, Link, Passes, MaySay, AnswersLast, next, idle, notifies, takes_head}
 use Rattle.krl_protocol.specs.Worlds.{Logged, Steps, none}
 use Rattle.krl_protocol.proofs.Steps.{put, put_changed, heard_kept, link_steps}
 use Rattle.krl_protocol.proofs.Points.{no_none}

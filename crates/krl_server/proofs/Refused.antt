@@ -4,7 +4,7 @@ use Rattle.krl_modes.specs.declared.point.TheConstants.{END}
 use Rattle.krl_messages.specs.declared.write_op.WriteOp.{WriteOp}
 use Rattle.krl_messages.specs.declared.outcome.Outcome.{Outcome}
 use Rattle.krl_messages.specs.declared.outcome.Outcome.TheVariants as outcome
-use Rattle.krl_protocol.specs.Links.{In, Head, Write, Shared, Link, Passes, next, idle, takes_head, refuses}
+use Rattle.krl_protocol.specs.Links.{Head, Write, Shared, Link, Passes, next, idle, takes_head, refuses}
 use Rattle.krl_protocol.specs.Worlds.{Logged}
 use Rattle.krl_protocol.proofs.Steps.{put, put_changed, heard_kept, link_steps}
 use Rattle.krl_protocol.proofs.Points.{no_none}
@@ -12,6 +12,7 @@ use Rattle.krl_durable.specs.declared.record.Record.{Record}
 use Rattle.krl_durable.specs.Index.{Index}
 use Rattle.krl_durable.specs.Registers.{Durable, Register, record_of, with_record}
 use Rattle.krl_messages.specs.Writes.{op_key}
+use Rattle.krl_messages.specs.Members.{In}
 use Rattle.krl_durable.specs.Writes.{noted, index_after, applied_by, applied}
 use Rattle.krl_table.specs.Rows.{Rows}
 use Rattle.krl_table.specs.Points.{range_at, key_at}

@@ -13,7 +13,7 @@ use Rattle.krl_messages.specs.declared.to_client.ToClientBody.TheVariants as tol
 use Rattle.krl_messages.specs.declared.to_client.PushBody.{PushBody}
 use Rattle.krl_messages.specs.declared.to_client.PushBody.TheVariants as push
 use Rattle.krl_messages.specs.Writes.{op_key}
-use Rattle.krl_protocol.specs.Links.{In}
+use Rattle.krl_messages.specs.Members.{In}
 use Rattle.krl_durable.specs.Index.{slot_of}
 use Rattle.krl_durable.specs.Registers.{Durable, record_of}
 use Rattle.krl_table.specs.Calls.{dropped}

@@ -10,11 +10,11 @@ use Rattle.krl_messages.specs.declared.to_client.ToClient.{ToClient}
 use Rattle.krl_messages.specs.declared.to_client.PushBody.{PushBody}
 use Rattle.krl_messages.specs.declared.to_client.PushBody.TheVariants as push
 use Rattle.krl_queue.specs.declared.waiter.Waiter.{Waiter}
-use Rattle.krl_protocol.specs.Links.{In}
 use Rattle.krl_protocol.proofs.Points.{no_none}
 use Rattle.krl_protocol.proofs.Worlds.{eq_cases}
 use Rattle.krl_durable.specs.Index.{slot_of, span_of, slots}
 use Rattle.krl_messages.specs.Writes.{op_key}
+use Rattle.krl_messages.specs.Members.{In}
 use Rattle.krl_table.specs.Rows.{most_clients, mode_at, front_of}
 use Rattle.krl_table.specs.Calls.{wanted, dropped}
 use Rattle.krl_table.specs.Grants.{taken, granted}

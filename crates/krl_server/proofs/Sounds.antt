@@ -8,12 +8,12 @@ use Rattle.krl_messages.specs.declared.outcome.Outcome.TheVariants as outcome
 use Rattle.krl_messages.specs.declared.to_server.ToServer.{ToServer}
 use Rattle.krl_messages.specs.declared.to_client.PushBody.TheVariants as push
 use Rattle.krl_queue.specs.declared.waiter.Waiter.{Waiter}
-use Rattle.krl_protocol.specs.Links.{In}
 use Rattle.krl_protocol.proofs.Worlds.{eq_cases}
 use Rattle.krl_durable.specs.declared.record.Record.{Record}
 use Rattle.krl_durable.specs.Index.{slot_of}
 use Rattle.krl_durable.specs.Registers.{record_of, left_by}
 use Rattle.krl_messages.specs.Writes.{op_key}
+use Rattle.krl_messages.specs.Members.{In}
 use Rattle.krl_table.specs.Rows.{Row, Rows, most_clients, mode_at}
 use Rattle.krl_table.specs.Calls.{with_queue, queue_with, cleared}
 use Rattle.krl_server.specs.Servers.{Server}

@@ -6,8 +6,8 @@ use Rattle.std.specs.Prelude.{nat_lt, is_some, IfSome, if◌then◌else◌}
 use Rattle.krl_modes.specs.declared.point.TheConstants.{END}
 use Rattle.krl_messages.specs.declared.to_client.ToClient.{ToClient}
 use Rattle.krl_messages.specs.declared.to_client.PushBody.TheVariants as push
+use Rattle.krl_messages.specs.Members.{In}
 use Rattle.krl_queue.specs.declared.waiter.Waiter.{Waiter}
-use Rattle.krl_protocol.specs.Links.{In}
 use Rattle.krl_durable.specs.Index.{Index}
 use Rattle.krl_table.specs.declared.reply.Reply.{Reply}
 use Rattle.krl_table.specs.declared.reply.Reply.TheVariants as reply

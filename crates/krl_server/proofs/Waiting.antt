@@ -4,8 +4,9 @@ use Rattle.std.specs.Prelude.{if◌then◌else◌, is_some, not}
 use Rattle.krl_messages.specs.declared.to_client.ToClientBody.TheVariants as told
 use Rattle.krl_modes.specs.declared.mode.Mode.TheVariants as mode
 use Rattle.krl_modes.specs.Modes.{at_most}
+use Rattle.krl_messages.specs.Members.{In}
 use Rattle.krl_queue.specs.declared.waiter.Waiter.{Waiter}
-use Rattle.krl_protocol.specs.Links.{In, Head, Link, Passes}
+use Rattle.krl_protocol.specs.Links.{Head, Link, Passes}
 use Rattle.krl_protocol.specs.Worlds.{Logged}
 use Rattle.krl_protocol.proofs.Worlds.{eq_cases}
 use Rattle.krl_protocol.proofs.Steps.{put, put_changed}

@@ -14,13 +14,13 @@ use Rattle.krl_messages.specs.declared.to_server.ToServer.{ToServer}
 use Rattle.krl_messages.specs.declared.to_client.ToClient.{ToClient}
 use Rattle.krl_messages.specs.declared.to_client.PushBody.{PushBody}
 use Rattle.krl_messages.specs.declared.to_client.PushBody.TheVariants as push
-use Rattle.krl_protocol.specs.Links.{In}
 use Rattle.krl_protocol.proofs.Points.{no_none}
 use Rattle.krl_protocol.proofs.Worlds.{eq_cases}
 use Rattle.krl_durable.specs.declared.record.Record.{Record}
 use Rattle.krl_durable.specs.Index.{Index, slot_of}
 use Rattle.krl_durable.specs.Registers.{Register, Durable, record_of, with_record, new_record, left_by, missing_order}
 use Rattle.krl_messages.specs.Writes.{op_key}
+use Rattle.krl_messages.specs.Members.{In}
 use Rattle.krl_durable.specs.Writes.{most_entries, judge, judged_insert, noted, index_after, applied_by}
 use Rattle.krl_table.specs.Rows.{Rows, most_clients}
 use Rattle.krl_table.specs.Calls.{dropped}

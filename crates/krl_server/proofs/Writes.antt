@@ -11,7 +11,7 @@ use Rattle.krl_messages.specs.declared.write_op.WriteOp.TheVariants as write
 use Rattle.krl_messages.specs.declared.to_server.ToServer.{ToServer}
 use Rattle.krl_messages.specs.declared.outcome.Outcome.TheVariants as outcome
 use Rattle.krl_queue.specs.declared.waiter.Waiter.{Waiter}
-use Rattle.krl_protocol.specs.Links.{In, Head, Write, Shared, Link, Passes}
+use Rattle.krl_protocol.specs.Links.{Head, Write, Shared, Link, Passes}
 use Rattle.krl_protocol.specs.Tables as machine
 use Rattle.krl_protocol.specs.Worlds.{Logged, Changed, Applies, Step, applies, wrote_by, none, more}
 use Rattle.krl_protocol.proofs.Refines as refines
@@ -23,6 +23,7 @@ use Rattle.krl_durable.specs.declared.record.Record.{Record}
 use Rattle.krl_durable.specs.Index.{Index}
 use Rattle.krl_durable.specs.Registers.{record_of, with_record}
 use Rattle.krl_messages.specs.Writes.{op_key}
+use Rattle.krl_messages.specs.Members.{In}
 use Rattle.krl_durable.specs.Writes.{noted, written, judged_insert, judged_change}
 use Rattle.krl_table.specs.Rows.{Rows, most_clients, mode_at, column}
 use Rattle.krl_table.specs.Points.{range_at, key_at}

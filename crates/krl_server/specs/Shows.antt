@@ -28,9 +28,10 @@ use Rattle.krl_messages.specs.declared.to_client.ToClientBody.{ToClientBody}
 use Rattle.krl_messages.specs.declared.to_client.ToClientBody.TheVariants as told
 use Rattle.krl_messages.specs.declared.to_client.PushBody.{PushBody}
 use Rattle.krl_messages.specs.declared.to_client.PushBody.TheVariants as push
+use Rattle.krl_messages.specs.Members.{In}
 use Rattle.krl_queue.specs.declared.waiter.Waiter.{Waiter}
 use Rattle.krl_protocol.specs.Links as links
-use Rattle.krl_protocol.specs.Links.{In, Op, Insert, Put, Delete, Head, Shared, Link}
+use Rattle.krl_protocol.specs.Links.{Op, Insert, Put, Delete, Head, Shared, Link}
 use Rattle.krl_protocol.specs.Holdings.{said_by}
 use Rattle.krl_protocol.specs.Worlds.{Logged, World}
 use Rattle.krl_durable.specs.declared.record.Record.{Record}

@@ -5,11 +5,12 @@ use Rattle.std.proofs.lemmas.Bool.Decides.{nat_tests}
 use Rattle.std.proofs.lemmas.List.Sums.{sum_by-cons, sum_by-append}
 use Rattle.std.specs.Prelude.{nat_le, nat_lt, if◌then◌else◌}
 use Rattle.std.specs.List.{filter}
+use Rattle.krl_messages.specs.Members.{In}
 use Rattle.krl_queue.specs.declared.waiter.Waiter.{Waiter}
 use Rattle.krl_queue.specs.Waiting.{first_of, up_to, beyond}
 use Rattle.krl_table.specs.Rows.{Row}
 use Rattle.krl_table.specs.Calls.{queue_with}
-use Rattle.krl_table.specs.Kept.{In, times}
+use Rattle.krl_table.specs.Kept.{times}
 use Rattle.krl_table.proofs.Means.{eq_cases}
 
 -- one or none

@@ -5,13 +5,14 @@ use Rattle.std.specs.Prelude.{is_some, nat_lt, if◌then◌else◌}
 use Rattle.std.specs.FinMap.{get}
 use Rattle.krl_modes.specs.declared.point.TheConstants.{END}
 use Rattle.krl_modes.specs.Modes.{needs_entry}
+use Rattle.krl_messages.specs.Members.{In}
 use Rattle.krl_queue.specs.declared.waiter.Waiter.{Waiter}
 use Rattle.krl_durable.specs.Index.{Index, IsSlotOf}
 use Rattle.krl_table.specs.declared.reply.Reply.TheVariants as reply
 use Rattle.krl_table.specs.Rows.{Row, row_fits, front_of}
 use Rattle.krl_table.specs.Calls.{wanted}
 use Rattle.krl_table.specs.Replies.{asks_absent, lacks_entry, can_have, first_reply, first_reply_on, row_reply}
-use Rattle.krl_table.specs.Kept.{Kept, rows_of, IsOver, In}
+use Rattle.krl_table.specs.Kept.{Kept, rows_of, IsOver}
 use Rattle.krl_table.proofs.Means.{eq_cases}
 use Rattle.krl_table.proofs.Slots.{none_false, next_of}
 

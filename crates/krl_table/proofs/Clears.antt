@@ -11,13 +11,14 @@ use Rattle.krl_modes.specs.declared.mode.Mode.{Mode}
 use Rattle.krl_modes.specs.declared.mode.Mode.TheVariants as mode
 use Rattle.krl_modes.specs.Modes.{meet}
 use Rattle.krl_modes.specs.Spans.{Bounds, within}
+use Rattle.krl_messages.specs.Members.{In}
 use Rattle.krl_queue.specs.declared.waiter.Waiter.{Waiter}
 use Rattle.krl_queue.specs.Waiting.{without_first}
 use Rattle.krl_durable.specs.Index.{Index, low_of, span_of, is_slot, IsSlotOf}
 use Rattle.krl_table.specs.declared.row.SlotRow.{SlotRow}
 use Rattle.krl_table.specs.Rows.{Row, blank_row, set_mode, mode_at}
 use Rattle.krl_table.specs.Calls.{with_mode, unqueue, cleared, lowered}
-use Rattle.krl_table.specs.Kept.{Kept, row_there, rows_of, cleared_row, lowered_between, IsAll, IsOver, IsSound, AreBeside, AreListed, In, times}
+use Rattle.krl_table.specs.Kept.{Kept, row_there, rows_of, cleared_row, lowered_between, IsAll, IsOver, IsSound, AreBeside, AreListed, times}
 use Rattle.krl_table.proofs.Means.{eq_cases}
 use Rattle.krl_table.proofs.Alone.{alone_here, times_fewer}
 use Rattle.krl_table.proofs.Besides.{cleared_beside, lowered_beside}

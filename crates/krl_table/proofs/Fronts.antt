@@ -2,13 +2,14 @@
 use Rattle.std.proofs.Common.{◌≡◌, ◌≢◌, ℕ, suc, ◌+◌, ◌≤◌, ◌<◌, Bool, true, false, List, [], ◌∷◌, Option, Some, None, IsSome, IfSome, ◌⊎◌, inl, inr, set, refl, sym, ap, subst, ◌∙◌, ⊎_elim, arith}
 use Rattle.std.proofs.Common.{nat_eq, eq-eqb, ne_eqb}
 use Rattle.krl_modes.specs.declared.point.TheConstants.{END}
+use Rattle.krl_messages.specs.Members.{In}
 use Rattle.krl_queue.specs.declared.waiter.Waiter.{Waiter}
 use Rattle.krl_queue.specs.Waiting.{first_of}
 use Rattle.krl_durable.specs.Index.{Index, slot_of, is_slot}
 use Rattle.krl_table.specs.Rows.{Row, front_of}
 use Rattle.krl_table.specs.Calls.{with_queue, queue_with, grant_first, behind_first, wanted}
 use Rattle.krl_table.specs.Replies.{can_have}
-use Rattle.krl_table.specs.Kept.{Kept, rows_of, IsSet, IsOver, IsSound, AreBeside, AreListed, In, times, unlisted}
+use Rattle.krl_table.specs.Kept.{Kept, rows_of, IsSet, IsOver, IsSound, AreBeside, AreListed, times, unlisted}
 use Rattle.krl_table.proofs.Means.{eq_cases}
 use Rattle.krl_table.proofs.Below.{clients_are}
 use Rattle.krl_table.proofs.Alone.{one, times_more, times_with, none_times, in_times}

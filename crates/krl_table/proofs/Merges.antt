@@ -13,13 +13,14 @@ use Rattle.krl_modes.specs.declared.mode.Mode.{Mode}
 use Rattle.krl_modes.specs.Parts.{ranges_compatible, keys_compatible, is_range_X, is_key_X}
 use Rattle.krl_modes.specs.Modes.{range_of, key_of, compatible}
 use Rattle.krl_messages.specs.Values.{Value}
+use Rattle.krl_messages.specs.Members.{In}
 use Rattle.krl_queue.specs.declared.waiter.Waiter.{Waiter}
 use Rattle.krl_durable.specs.Index.{Index, slot_of, is_slot, IsSlotOf}
 use Rattle.krl_table.specs.declared.row.SlotRow.{SlotRow}
 use Rattle.krl_table.specs.Rows.{Row, blank_row, mode_at}
 use Rattle.krl_table.specs.Calls.{with_queue, merged, merge_into}
 use Rattle.krl_table.specs.Points.{key_off_slot, range_at, key_at, MayDelete}
-use Rattle.krl_table.specs.Kept.{Kept, row_there, rows_of, AreSet, IsOver, IsSound, AreBeside, AreListed, In, times}
+use Rattle.krl_table.specs.Kept.{Kept, row_there, rows_of, AreSet, IsOver, IsSound, AreBeside, AreListed, times}
 use Rattle.krl_table.proofs.Means.{eq_cases, both_rows, by_two, remove_at, remove_past}
 use Rattle.krl_table.proofs.Alone.{AreAlone, alone_moved, times_both}
 use Rattle.krl_table.proofs.Stands.{in_both, in_left, in_right}

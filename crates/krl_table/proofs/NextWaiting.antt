@@ -6,10 +6,11 @@ use Rattle.std.specs.List.{AllByRecursion}
 use Rattle.std.proofs.Math.Nat.{min-le_left, min-le_right, min-eq_left, min-eq_right}
 use Rattle.std.proofs.lemmas.Bool.{cases_lt}
 use Rattle.std.specs.Prelude.{nat_lt, if◌then◌else◌}
+use Rattle.krl_messages.specs.Members.{In}
 use Rattle.krl_queue.specs.declared.waiter.Waiter.{Waiter}
 use Rattle.krl_table.specs.Waiters.{IsNextWaiting, AreWaiting}
 use Rattle.krl_durable.specs.Index.{Index, is_slot, IsSlotOf}
-use Rattle.krl_table.specs.Kept.{Kept, rows_of, IsOver, IsSound, In}
+use Rattle.krl_table.specs.Kept.{Kept, rows_of, IsOver, IsSound}
 use Rattle.krl_table.specs.Kept.{waiter_in, AreListed, AllWaitBelow, IsLeastPoint, lesser_point, lesser}
 use Rattle.krl_table.proofs.Means.{eq_cases}
 use Rattle.krl_table.proofs.Slots.{next_of, slot_same, slot_twice}

@@ -2,10 +2,11 @@
 use Rattle.std.proofs.Common.{◌≡◌, ◌≤◌, ℕ, List, Option, None, IsSome, length, refl, sym, ap, subst, arith}
 use Rattle.std.specs.FinMap.{get}
 use Rattle.krl_modes.specs.declared.point.TheConstants.{END}
+use Rattle.krl_messages.specs.Members.{In}
 use Rattle.krl_queue.specs.declared.waiter.Waiter.{Waiter}
 use Rattle.krl_durable.specs.Index.{Index}
 use Rattle.krl_table.specs.Rows.{Row, blank_row}
-use Rattle.krl_table.specs.Kept.{Kept, row_there, rows_of, IsOver, IsSound, AreBeside, AreListed, In, times, waiter_in}
+use Rattle.krl_table.specs.Kept.{Kept, row_there, rows_of, IsOver, IsSound, AreBeside, AreListed, times, waiter_in}
 use Rattle.krl_table.proofs.Sounds.{some_none}
 
 module _ (t : Kept) (none : (n : ℕ) → get t n ≡ None) where

@@ -21,13 +21,14 @@ use Rattle.krl_modes.specs.Spans.{Bounds, meets}
 use Rattle.krl_messages.specs.declared.range_pieces.RangePiece.{RangePiece}
 use Rattle.krl_messages.specs.declared.key_pieces.KeyPiece.{KeyPiece}
 use Rattle.krl_messages.specs.declared.pieces.Pieces.{Pieces}
+use Rattle.krl_messages.specs.Members.{In}
 use Rattle.krl_durable.specs.Index.{Index, low_of, slots, is_slot, IsSlotOf}
 use Rattle.krl_table.specs.declared.row.SlotRow.{SlotRow}
 use Rattle.krl_table.specs.Rows.{Row, Rows, blank_row, fits, mode_at, set_mode, all_below, most_clients, row_fits}
 use Rattle.krl_table.specs.Calls.{with_mode}
 use Rattle.krl_table.specs.Reports.{reported_range, reported_key, rebuilt, conflicts, adopted}
 use Rattle.krl_table.specs.Reported.{RangesOff, KeysOff, BeginsSpan, NothingFrom, IsNextReported}
-use Rattle.krl_table.specs.Kept.{Kept, row_of, row_there, rows_of, IsSet, IsAll, IsOver, IsSound, AreBeside, In, times, lowered_between}
+use Rattle.krl_table.specs.Kept.{Kept, row_of, row_there, rows_of, IsSet, IsAll, IsOver, IsSound, AreBeside, times, lowered_between}
 use Rattle.krl_table.proofs.Means.{eq_cases}
 use Rattle.krl_table.proofs.Below.{clients_are}
 use Rattle.krl_table.proofs.Besides.{set_beside, fits_beside}

@@ -8,13 +8,14 @@ use Rattle.std.specs.FinMap.{get}
 use Rattle.krl_modes.specs.declared.point.TheConstants.{END}
 use Rattle.krl_modes.specs.declared.mode.Mode.{Mode}
 use Rattle.krl_modes.specs.declared.mode.Mode.TheVariants as mode
+use Rattle.krl_messages.specs.Members.{In}
 use Rattle.krl_queue.specs.declared.waiter.Waiter.{Waiter}
 use Rattle.krl_queue.specs.Waiting.{first_of}
 use Rattle.krl_durable.specs.Index.{Index, slot_of, is_slot}
 use Rattle.krl_table.specs.declared.row.SlotRow.{SlotRow}
 use Rattle.krl_table.specs.Rows.{Row, blank_row, mode_at, set_mode}
 use Rattle.krl_table.specs.Sound.{IsPlaced, IsTable}
-use Rattle.krl_table.specs.Kept.{Kept, row_there, rows_of, IsSet, IsOver, IsSound, AreBeside, AreListed, In, times, waiter_in}
+use Rattle.krl_table.specs.Kept.{Kept, row_there, rows_of, IsSet, IsOver, IsSound, AreBeside, AreListed, times, waiter_in}
 use Rattle.krl_table.proofs.Means.{eq_cases}
 use Rattle.krl_table.proofs.Below.{clients_are}
 use Rattle.krl_table.proofs.Alone.{AreAlone, alone_here, times_none, in_times}

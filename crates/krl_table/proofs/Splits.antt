@@ -11,6 +11,7 @@ use Rattle.krl_modes.specs.declared.part.KeyPart.TheVariants as key
 use Rattle.krl_modes.specs.Parts.{lets_insert}
 use Rattle.krl_modes.specs.Modes.{range_of, key_of, compatible, at_or_above}
 use Rattle.krl_messages.specs.Values.{Value}
+use Rattle.krl_messages.specs.Members.{In}
 use Rattle.krl_queue.specs.declared.waiter.Waiter.{Waiter}
 use Rattle.krl_queue.specs.Waiting.{up_to, beyond}
 use Rattle.krl_durable.specs.Index.{Index, slot_of, is_slot, IsSlotOf}
@@ -18,7 +19,7 @@ use Rattle.krl_table.specs.declared.row.SlotRow.{SlotRow}
 use Rattle.krl_table.specs.Rows.{Row, blank_row, mode_at}
 use Rattle.krl_table.specs.Calls.{with_queue, split_modes, mode_beside, split, split_at}
 use Rattle.krl_table.specs.Points.{key_off_slot, range_at, key_at}
-use Rattle.krl_table.specs.Kept.{Kept, row_there, rows_of, AreSet, IsOver, IsSound, AreBeside, AreListed, In, times}
+use Rattle.krl_table.specs.Kept.{Kept, row_there, rows_of, AreSet, IsOver, IsSound, AreBeside, AreListed, times}
 use Rattle.krl_table.proofs.Means.{eq_cases, both_rows, by_two, insert_at, insert_past}
 use Rattle.krl_table.proofs.Alone.{AreAlone, alone_moved, times_parted}
 use Rattle.krl_table.proofs.Besides.{split_beside}

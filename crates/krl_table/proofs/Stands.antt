@@ -6,11 +6,11 @@ use Rattle.std.specs.Prelude.{if◌then◌else◌}
 use Rattle.std.specs.List.{AllByRecursion, filter}
 use Rattle.krl_modes.specs.declared.mode.Mode.TheVariants as mode
 use Rattle.krl_modes.specs.Modes.{at_most}
+use Rattle.krl_messages.specs.Members.{In}
 use Rattle.krl_queue.specs.declared.waiter.Waiter.{Waiter}
 use Rattle.krl_queue.specs.Waiting.{first_of}
 use Rattle.krl_table.specs.Rows.{Row}
 use Rattle.krl_table.specs.Calls.{unqueue, queue_with}
-use Rattle.krl_table.specs.Kept.{In}
 
 pub in_filter : (f : Waiter → Bool) (us : List Waiter) (u : Waiter) → In u (filter f us) → In u us × (f u ≡ true)
 in_filter f [] u h = absurd h

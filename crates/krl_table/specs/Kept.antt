@@ -1,11 +1,12 @@
 -- The rows as they are kept, and what they mean.
-use Rattle.std.specs.Prelude.{◌≡◌, ◌≢◌, ◌⊎◌, ◌+◌, Bool, true, ◌&&◌, nat_le, nat_lt, nat_eq, if◌then◌else◌, set, [], ◌∷◌, ℕ, suc, ◌≤◌, ◌<◌, min, List, Option, Some, None, length, IsSome, slice_index_or, count_by, not}
+use Rattle.std.specs.Prelude.{◌≡◌, ◌≢◌, ◌⊎◌, ◌+◌, Bool, true, ◌&&◌, nat_le, nat_lt, nat_eq, if◌then◌else◌, set, ℕ, suc, ◌≤◌, ◌<◌, min, List, Option, Some, None, length, IsSome, slice_index_or, count_by, not}
 use Rattle.std.specs.Ordering.{nat_cmp}
 use Rattle.std.specs.FinMap as map
 use Rattle.krl_modes.specs.declared.point.TheConstants.{END}
 use Rattle.krl_modes.specs.declared.mode.Mode.{Mode}
 use Rattle.krl_modes.specs.declared.mode.Mode.TheVariants as mode
 use Rattle.krl_modes.specs.Modes.{compatible, meet, needs_entry}
+use Rattle.krl_messages.specs.Members.{In}
 use Rattle.krl_queue.specs.declared.waiter.Waiter.{Waiter}
 use Rattle.krl_queue.specs.Waiting.{without_first}
 use Rattle.krl_store.specs.Stores.{Stored}
@@ -39,11 +40,6 @@ row_there (Some r) = row_of r
 -- what the kept rows mean
 abbrev pub rows_of : Kept → Rows
 rows_of t n = row_there (map.get t n)
-
--- x stands in the list
-abbrev pub In : Waiter → List Waiter → Type 0
-In u [] = ⊥
-In u (v ∷ vs) = (u ≡ v) ⊎ In u vs
 
 -- no key lies at END or above; each kept row stands at a slot of the index, and each waiter in the queue of the slot of
 -- its point

@@ -6,9 +6,10 @@ use Rattle.krl_modes.specs.declared.part.KeyPart.{KeyPart}
 use Rattle.std.specs.List.{AllByRecursion}
 use Rattle.krl_messages.specs.Values.{Value}
 use Rattle.krl_messages.specs.declared.pieces.Pieces.{Pieces}
+use Rattle.krl_messages.specs.Members.{In}
 use Rattle.krl_protocol.specs.Modes.{RangeAtMost, KeyAtMost}
 use Rattle.krl_protocol.specs.Links as links
-use Rattle.krl_protocol.specs.Links.{In, Link, takes_report}
+use Rattle.krl_protocol.specs.Links.{Link, takes_report}
 use Rattle.krl_protocol.specs.Tables as tables
 use Rattle.krl_protocol.specs.Worlds as machine
 use Rattle.krl_protocol.specs.Worlds.{Logged, MayTake, Reachable, stepped, at_link}

@@ -24,8 +24,9 @@ use Rattle.krl_messages.specs.declared.to_client.ToClientBody.{ToClientBody}
 use Rattle.krl_messages.specs.declared.to_client.ToClientBody.TheVariants as told
 use Rattle.krl_messages.specs.declared.to_client.PushBody.{PushBody}
 use Rattle.krl_messages.specs.declared.to_client.PushBody.TheVariants as push
+use Rattle.krl_messages.specs.Members.{In}
 use Rattle.krl_protocol.specs.Links as links
-use Rattle.krl_protocol.specs.Links.{In, Head, Link}
+use Rattle.krl_protocol.specs.Links.{Head, Link}
 use Rattle.krl_table.specs.Reports.{reported_key}
 use Rattle.krl_server.specs.Shows as server
 use Rattle.krl_server.specs.Shows.{report_of, push_of, IsWhole, RequestStands, Stands, IsTold, WasSent}

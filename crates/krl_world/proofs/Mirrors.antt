@@ -7,9 +7,10 @@ use Rattle.krl_messages.specs.declared.write_op.WriteOp.{WriteOp}
 use Rattle.krl_messages.specs.declared.write_op.WriteOp.TheVariants as write
 use Rattle.krl_modes.specs.declared.part.RangePart.{RangePart}
 use Rattle.krl_modes.specs.declared.part.KeyPart.{KeyPart}
+use Rattle.krl_messages.specs.Members.{In}
 use Rattle.krl_durable.specs.declared.record.Record.{Record}
 use Rattle.krl_protocol.specs.Links as links
-use Rattle.krl_protocol.specs.Links.{In, Op, Shared, Link}
+use Rattle.krl_protocol.specs.Links.{Op, Shared, Link}
 use Rattle.krl_protocol.specs.Worlds as machine
 use Rattle.krl_protocol.specs.Worlds.{Logged, Steps}
 use Rattle.krl_protocol.proofs.Worlds.{eq_cases}

@@ -7,8 +7,9 @@ use Rattle.std.specs.Map.{keys_of}
 use Rattle.krl_modes.specs.declared.point.TheConstants.{END}
 use Rattle.krl_messages.specs.Values.{Value}
 use Rattle.krl_messages.specs.declared.outcome.Outcome.{Outcome}
+use Rattle.krl_messages.specs.Members.{In}
 use Rattle.krl_protocol.specs.Links as links
-use Rattle.krl_protocol.specs.Links.{In, Shared, Link, Notice, LinkStep, LinkSteps, starts, crashes, leaves, registers, sees_off, idle, next}
+use Rattle.krl_protocol.specs.Links.{Shared, Link, Notice, LinkStep, LinkSteps, starts, crashes, leaves, registers, sees_off, idle, next}
 use Rattle.krl_protocol.specs.Worlds as machine
 use Rattle.krl_protocol.specs.Worlds.{Logged, Changed, IsMissing, Step, crash, start, finish, Steps, none, more, Reachable, begun, blank_link}
 use Rattle.krl_protocol.proofs.Steps.{steps_reachable, steps_on, link_steps}

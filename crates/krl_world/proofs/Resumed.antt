@@ -22,7 +22,7 @@ use Rattle.krl_messages.specs.declared.to_client.ToClient.{ToClient}
 use Rattle.krl_messages.specs.declared.to_client.ToClientBody.TheVariants as heard
 use Rattle.krl_messages.specs.declared.to_client.PushBody.{PushBody}
 use Rattle.krl_messages.specs.declared.to_client.PushBody.TheVariants as push
-use Rattle.krl_protocol.specs.Links.{In}
+use Rattle.krl_messages.specs.Members.{In}
 use Rattle.krl_durable.specs.Index.{Index, is_slot}
 use Rattle.krl_durable.specs.Writes.{most_entries}
 use Rattle.krl_table.specs.Rows.{most_clients}

@@ -8,8 +8,9 @@ use Rattle.krl_messages.specs.declared.outcome.Outcome.{Outcome}
 use Rattle.krl_messages.specs.declared.outcome.Outcome.TheVariants as outcome
 use Rattle.krl_messages.specs.declared.write_op.WriteOp.{WriteOp}
 use Rattle.krl_messages.specs.declared.write_op.WriteOp.TheVariants as write
+use Rattle.krl_messages.specs.Members.{In}
 use Rattle.krl_durable.specs.Registers.{Durable}
-use Rattle.krl_protocol.specs.Links.{In, Link}
+use Rattle.krl_protocol.specs.Links.{Link}
 use Rattle.krl_protocol.specs.Worlds as machine
 use Rattle.krl_protocol.specs.Worlds.{Logged, Steps, Reachable, none, more}
 use Rattle.krl_server.specs.Servers.{Server, is_gathering}

@@ -5,7 +5,8 @@ use Rattle.krl_modes.specs.declared.point.TheConstants.{END}
 use Rattle.krl_messages.specs.Values.{Value}
 use Rattle.krl_messages.specs.declared.to_server.ToServer.{ToServer}
 use Rattle.krl_messages.specs.declared.to_client.ToClient.{ToClient}
-use Rattle.krl_protocol.specs.Links.{In, Link}
+use Rattle.krl_messages.specs.Members.{In}
+use Rattle.krl_protocol.specs.Links.{Link}
 use Rattle.krl_protocol.specs.Worlds.{Logged, Reachable, none}
 use Rattle.krl_server.specs.Steps.{can_start}
 use Rattle.krl_client.specs.Clients.{Client, begun}

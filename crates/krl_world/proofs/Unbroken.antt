@@ -3,7 +3,7 @@ use Rattle.std.proofs.Common.{◌≡◌, ◌≢◌, ℕ, ◌∙◌, Bool, true, 
 use Rattle.krl_durable.specs.Registers.{Durable}
 use Rattle.krl_messages.specs.declared.to_server.ToServer.{ToServer}
 use Rattle.krl_messages.specs.declared.to_client.ToClient.{ToClient}
-use Rattle.krl_protocol.specs.Links.{In}
+use Rattle.krl_messages.specs.Members.{In}
 use Rattle.krl_server.specs.Servers.{Server, is_gathering, unlist}
 use Rattle.krl_server.specs.Cases.{Case, Ignored, Registers, Leaves, Tells, Alarms, Rebuilds, Repeats, Hears, Lowers, Waits, Judges, AnswersAgain, case_of}
 use Rattle.krl_server.specs.Effects.{Done, heard, writes, effect}

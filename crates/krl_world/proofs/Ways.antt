@@ -2,7 +2,7 @@
 use Rattle.std.proofs.Common.{◌≡◌, ℕ, ◌∙◌, Option, Some, None, List, refl, sym, ap}
 use Rattle.krl_messages.specs.declared.to_server.ToServer.{ToServer}
 use Rattle.krl_messages.specs.declared.to_client.ToClient.{ToClient}
-use Rattle.krl_protocol.specs.Links.{In}
+use Rattle.krl_messages.specs.Members.{In}
 use Rattle.krl_durable.specs.Registers.{Durable}
 use Rattle.krl_server.specs.Servers.{Server}
 use Rattle.krl_server.specs.Steps.{ServerStep, start}

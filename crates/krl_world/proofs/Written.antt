@@ -9,8 +9,9 @@ use Rattle.krl_messages.specs.declared.outcome.Outcome.{Outcome}
 use Rattle.krl_messages.specs.declared.outcome.Outcome.TheVariants as outcome
 use Rattle.krl_messages.specs.declared.write_op.WriteOp.{WriteOp}
 use Rattle.krl_messages.specs.declared.write_op.WriteOp.TheVariants as write
+use Rattle.krl_messages.specs.Members.{In}
 use Rattle.krl_protocol.specs.Links as links
-use Rattle.krl_protocol.specs.Links.{In, Op, Link}
+use Rattle.krl_protocol.specs.Links.{Op, Link}
 use Rattle.krl_protocol.specs.Worlds as machine
 use Rattle.krl_protocol.specs.Worlds.{Logged, entry_after}
 use Rattle.krl_durable.specs.Index.{Index}

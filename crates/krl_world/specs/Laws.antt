@@ -2,8 +2,8 @@
 use Rattle.std.specs.Prelude.{◌≡◌, ℕ, ◌≤◌, true, false, List, None, Result}
 use Rattle.krl_modes.specs.declared.part.RangePart.TheVariants as range
 use Rattle.krl_modes.specs.declared.part.KeyPart.TheVariants as key
+use Rattle.krl_messages.specs.Members.{In}
 use Rattle.krl_durable.specs.Registers.{Durable}
-use Rattle.krl_protocol.specs.Links.{In}
 use Rattle.krl_steps.specs.declared.step.Step.{Step}
 use Rattle.krl_steps.specs.declared.step.Step.TheVariants as step
 use Rattle.krl_steps.specs.declared.answer.Answer.{Answer}
