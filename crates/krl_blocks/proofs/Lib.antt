@@ -12,3 +12,4 @@ pub mod Shelving
 pub mod Storing
 pub mod Changing
 mod Guesses
+pub mod Crosses

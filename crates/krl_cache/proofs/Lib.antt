@@ -23,3 +23,4 @@ pub mod Rooms
 pub mod Beside
 pub mod Merges
 pub mod Plans
+pub mod Crosses

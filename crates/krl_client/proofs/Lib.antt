@@ -3,3 +3,4 @@ mod Cases
 mod Tests
 mod Always
 pub mod Keeping
+pub mod Crosses

@@ -10,3 +10,4 @@ pub mod Judged
 pub mod SlotLaws
 pub mod Registered
 pub mod Again
+pub mod Crosses

@@ -6,7 +6,4 @@ pub mod RowsLemmas
 pub mod Commanding
 pub mod Acting
 pub mod KeptLemmas
-pub mod SentMessages
-pub mod SentClient
-pub mod SentServer
-pub mod SentEndpoint
+pub mod Crosses

@@ -1,2 +1,3 @@
 pub mod Paddings
 pub mod Placing
+pub mod Crosses

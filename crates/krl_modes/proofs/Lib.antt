@@ -3,3 +3,4 @@ pub mod Weights
 pub mod PartLaws
 pub mod ModeLaws
 pub mod SpanLaws
+pub mod Crosses

@@ -12,7 +12,6 @@ pub mod Nodes
 pub mod Opens
 pub mod Scans
 pub mod RunRows
-pub mod SentParts
 pub mod Sent
 pub mod SentClient
 pub mod SentServer

@@ -9,11 +9,11 @@ use Rattle.std.specs.contracts.alloc.Global as global
 use Rattle.std.proofs.Crossing as heap
 use Rattle.std.proofs.Crossing.{Vec-send, Deque-send}
 use Rattle.std.specs.contracts.impls.GlobalAllocator.TheImpl as allocator
+use Rattle.krl_messages.proofs.Crosses.{to_server_field, to_server_sent, to_client_field, to_client_sent}
 use Rattle.krl_world.specs.contracts.message.Message as message
 use Rattle.krl_messages.specs.contracts.to_server.ToServer as to_server
 use Rattle.krl_messages.specs.contracts.to_client.ToClient as to_client
 use Rattle.krl_nodes.specs.contracts.inbox.Inbox as inbox
-use Rattle.krl_nodes.proofs.SentParts.{to_server_sent, to_client_sent, message_sent}
 use Rattle.krl_nodes.specs.contracts.rule.OnePost as rule
 use Rattle.krl_nodes.specs.contracts.rule.Opening as opening
 use Rattle.krl_nodes.specs.contracts.rule.OnePostTableRulePostViewSnapshotOpening.TheImpl as kept
@@ -22,6 +22,9 @@ use Rattle.krl_nodes.specs.contracts.post.Chair as chair
 use Rattle.krl_nodes.specs.contracts.post.Post as post
 use Rattle.krl_nodes.specs.contracts.view.View as view
 use Rattle.atomic_table.specs.contracts.shared.Seat as ticket
+
+message_sent : IsSend message.the_row
+message_sent = let a = to_server_field in let b = to_client_field in search sendable depth 24 fits 4000
 
 chair_sent : IsSend chair.the_row
 chair_sent = search sendable depth 12

@@ -60,3 +60,4 @@ pub mod Nudged
 pub mod Listed
 pub mod Nears
 pub mod Waits
+pub mod Crosses

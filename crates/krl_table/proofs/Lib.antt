@@ -24,3 +24,4 @@ pub mod AtOnce
 pub mod Counted
 pub mod Within
 pub mod Holds
+pub mod Crosses

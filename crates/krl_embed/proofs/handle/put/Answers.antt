@@ -1,6 +1,6 @@
 use denote.Param.Send.{sendable}
 use Rattle.std.proofs.Crossing.{Box-send}
-use Rattle.krl_embed.proofs.SentEndpoint.{endpoint_sent}
+use Rattle.krl_embed.proofs.Crosses.{endpoint_sent}
 use Rattle.krl_embed.proofs.handle.put.Goals as goal
 
 pub crosses-requires-send-T : goal.crosses-requires-send-T

@@ -1,8 +1,8 @@
--- Letters may go to other threads.
+-- Messages and values may go to another thread.
 use denote.Param.Send.{IsSend, sendable}
 use Rattle.std.proofs.Crossing.{Vec-send}
-use Rattle.krl_modes.specs.contracts.span.Span as span
-use Rattle.krl_modes.specs.contracts.mode.Mode as mode
+use Rattle.krl_modes.proofs.Crosses.{mode_sent, span_sent}
+use Rattle.krl_messages.specs.contracts.value.Value as value
 use Rattle.krl_messages.specs.contracts.range_pieces.RangePiece as range_piece
 use Rattle.krl_messages.specs.contracts.key_pieces.KeyPiece as key_piece
 use Rattle.krl_messages.specs.contracts.items.Items as items
@@ -17,13 +17,9 @@ use Rattle.krl_messages.specs.contracts.to_server.ToServerBody as to_server_body
 use Rattle.krl_messages.specs.contracts.to_client.PushBody as push_body
 use Rattle.krl_messages.specs.contracts.to_client.ToClientBody as to_client_body
 use Rattle.krl_messages.specs.contracts.to_client.ToClient as to_client
-use Rattle.krl_world.specs.contracts.message.Message as message
 
-pub span_sent : IsSend (span.the_field).row
-span_sent = search sendable depth 24 fits 4000
-
-pub mode_sent : IsSend (mode.the_field).row
-mode_sent = search sendable depth 30
+pub value_sent : IsSend value.the_row
+value_sent = search sendable depth 24 fits 4000
 
 pub write_op_sent : IsSend (write_op.the_field).row
 write_op_sent = search sendable depth 24 fits 4000
@@ -47,19 +43,20 @@ pieces_sent : IsSend (pieces.the_field).row
 pieces_sent = let a = ranges_sent in let b = keys_sent in search sendable depth 24 fits 4000
 
 request_body_sent : IsSend (request_body.the_field).row
-request_body_sent = let a = mode_sent in let b = write_op_sent in let c = span_sent in search sendable depth 24 fits 4000
+request_body_sent =
+    let a = mode_sent in let b = write_op_sent in let c = span_sent in search sendable depth 24 fits 4000
 
 request_sent : IsSend (request.the_field).row
 request_sent = let a = request_body_sent in search sendable depth 24 fits 4000
 
-body_sent : IsSend (to_server_body.the_field).row
-body_sent = let a = pieces_sent in let b = request_sent in search sendable depth 24 fits 4000
+to_server_body_sent : IsSend (to_server_body.the_field).row
+to_server_body_sent = let a = pieces_sent in let b = request_sent in search sendable depth 24 fits 4000
 
-to_server_field : IsSend (to_server.the_field).row
-to_server_field = let a = body_sent in search sendable depth 24 fits 4000
+pub to_server_field : IsSend (to_server.the_field).row
+to_server_field = let a = to_server_body_sent in search sendable depth 24 fits 4000
 
 pub to_server_sent : IsSend to_server.the_row
-to_server_sent = let a = body_sent in search sendable depth 24 fits 4000
+to_server_sent = let a = to_server_body_sent in search sendable depth 24 fits 4000
 
 holding_sent : IsSend (holding.the_field).row
 holding_sent = let a = span_sent in let b = mode_sent in search sendable depth 24 fits 4000
@@ -68,13 +65,11 @@ pub push_body_sent : IsSend (push_body.the_field).row
 push_body_sent = let a = holding_sent in let b = outcome_sent in search sendable depth 24 fits 4000
 
 to_client_body_sent : IsSend (to_client_body.the_field).row
-to_client_body_sent = let a = push_body_sent in let b = span_sent in let c = mode_sent in search sendable depth 24 fits 4000
+to_client_body_sent =
+    let a = push_body_sent in let b = span_sent in let c = mode_sent in search sendable depth 24 fits 4000
 
-to_client_field : IsSend (to_client.the_field).row
+pub to_client_field : IsSend (to_client.the_field).row
 to_client_field = let a = to_client_body_sent in search sendable depth 24 fits 4000
 
 pub to_client_sent : IsSend to_client.the_row
 to_client_sent = let a = to_client_body_sent in search sendable depth 24 fits 4000
-
-pub message_sent : IsSend message.the_row
-message_sent = let a = to_server_field in let b = to_client_field in search sendable depth 24 fits 4000

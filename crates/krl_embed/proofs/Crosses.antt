@@ -1,14 +1,14 @@
 -- What a handle keeps may go to another thread.
 use denote.Param.Send.{IsSend, sendable}
 use Rattle.std.proofs.Crossing.{Vec-send}
+use Rattle.krl_messages.proofs.Crosses.{to_server_sent}
+use Rattle.krl_client.proofs.Crosses.{client_sent}
+use Rattle.krl_server.proofs.Crosses.{server_sent}
 use Rattle.krl_messages.specs.contracts.items.Items as items
 use Rattle.krl_messages.specs.contracts.to_server.ToServer as to_server
 use Rattle.krl_embed.specs.contracts.frames.Frames as frames
 use Rattle.krl_embed.specs.contracts.endpoint.Role as role
 use Rattle.krl_embed.specs.contracts.endpoint.Endpoint as endpoint
-use Rattle.krl_embed.proofs.SentMessages.{to_server_sent}
-use Rattle.krl_embed.proofs.SentClient.{client_sent}
-use Rattle.krl_embed.proofs.SentServer.{server_sent}
 
 bye_sent : IsSend (items.the_row to_server.the_row)
 bye_sent = let a = to_server_sent in search (sendable, Vec-send) depth 16

@@ -4,26 +4,15 @@ use denote.Struct.Declared.{shape}
 use denote.Builtin.{u64}
 use denote.Param.Send.{IsSend, struct_send, recorded_send, view_send, sendable}
 use Rattle.std.specs.contracts.alloc.Global as global
-use Rattle.std.proofs.MapsCrossing.{BTreeMap-send}
 use Rattle.arrayvec.specs.contracts.cells.Cells as cells
 use Rattle.arrayvec.specs.contracts.array_vec.ArrayVec as array_vec
-use Rattle.krl_embed.proofs.SentMessages.{mode_sent, write_op_sent, span_sent}
-use Rattle.krl_modes.specs.contracts.part.RangePart as range_part
-use Rattle.krl_cache.specs.contracts.entry.Entry as entry
-use Rattle.krl_cache.specs.contracts.cache.Cache as cache
+use Rattle.krl_modes.proofs.Crosses.{mode_sent, span_sent}
+use Rattle.krl_messages.proofs.Crosses.{write_op_sent}
+use Rattle.krl_cache.proofs.Crosses.{cache_sent}
 use Rattle.krl_client.specs.contracts.asked.Asked as asked
 use Rattle.krl_client.specs.contracts.written.Written as written
 use Rattle.krl_client.specs.contracts.pins.Pins as pins
 use Rattle.krl_client.specs.contracts.client.Client as client
-
-range_part_sent : IsSend (range_part.the_field).row
-range_part_sent = search sendable depth 20
-
-entry_sent : IsSend (entry.the_field).row
-entry_sent = search sendable depth 24 fits 4000
-
-cache_sent : IsSend (cache.the_field).row
-cache_sent = let a = range_part_sent in let b = entry_sent in search (sendable, BTreeMap-send) depth 24 fits 4000
 
 asked_sent : IsSend (asked.the_field).row
 asked_sent = let a = mode_sent in search sendable depth 24 fits 4000
@@ -49,12 +38,11 @@ pins_sent = view_send _ _ _ _ _ pins_inside
 pub global_sent : IsSend (global.the_field).row
 global_sent = search sendable depth 20
 
-pub number_sent : IsSend u64
-number_sent = search sendable
-
 client_inside : IsSend client.TheInside.the_row
-client_inside = recorded_send _ _ (client.TheInside.the_type).to (client.TheInside.the_type).to_one (struct_send (shape client.TheInside.the_type)
-    (global_sent, (number_sent, (number_sent, (number_sent, (number_sent, (number_sent, (asked_sent, (number_sent, (written_sent, (cache_sent, (pins_sent, tt))))))))))))
+client_inside = let n : IsSend u64 = search sendable in
+    recorded_send _ _ (client.TheInside.the_type).to (client.TheInside.the_type).to_one
+        (struct_send (shape client.TheInside.the_type)
+            (global_sent, (n, (n, (n, (n, (n, (asked_sent, (n, (written_sent, (cache_sent, (pins_sent, tt))))))))))))
 
 pub client_sent : IsSend (client.the_field).row
 client_sent = view_send _ _ _ _ _ client_inside
