@@ -28,7 +28,6 @@ pub mod Rebuilt
 pub mod Sounds
 pub mod Walk
 pub mod Whole
-pub mod Alone
 pub mod Tabled
 pub mod TableKept
 pub mod TableWritten

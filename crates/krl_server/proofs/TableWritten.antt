@@ -31,7 +31,8 @@ use Rattle.krl_server.proofs.Placed.{two_rows, ArePlaced, put_placed, split_from
 use Rattle.krl_server.proofs.Writes.{insert_may, change_may}
 use Rattle.krl_server.proofs.Follows.{not_truth}
 use Rattle.krl_server.proofs.Tests.{none_some, some_of}
-use Rattle.krl_server.proofs.Alone.{times, times_both, times_parted, AreAlone, alone_moved}
+use Rattle.krl_table.specs.Kept.{times}
+use Rattle.krl_table.proofs.Alone.{times_both, times_parted, AreAlone, alone_moved}
 use Rattle.krl_server.proofs.Tabled.{IsKept, AreBeside, turned}
 use Rattle.krl_server.proofs.TableKept.{slot_there}
 
