@@ -1,5 +1,5 @@
 -- The slot of a point is the least at or above it; the span of a slot begins behind the slot before it.
-use Rattle.std.proofs.Common.{◌≡◌, ◌≢◌, ℕ, suc, ◌≤◌, ◌<◌, Bool, true, false, List, [], ◌∷◌, Option, Some, None, ◌↔◌, refl, sym, ap, subst, ◌∙◌, ⊎_elim, arith, ◌||◌}
+use Rattle.std.proofs.Common.{◌≡◌, ◌≢◌, ℕ, suc, ◌≤◌, ◌<◌, Bool, true, false, T, List, [], ◌∷◌, Option, Some, None, ◌↔◌, refl, sym, ap, subst, ◌∙◌, ⊎_elim, arith, ◌||◌}
 use Rattle.std.proofs.Common.{nat_eq, ltb-true, ltb-false, ne_eqb}
 use Rattle.std.proofs.lemmas.Bool.{cases_lt}
 use Rattle.std.proofs.lemmas.Bool.Decides.{nat_tests}
@@ -14,7 +14,7 @@ use Rattle.krl_durable.specs.Index.{Index, first_or_end, after_keys, slot_of, lo
 use Rattle.krl_durable.specs.Kept.{AreBelowEnd}
 use Rattle.krl_durable.proofs.Slots.{Above, Rises, rises, find_here}
 
-no_none : {X : Type 0} (x : X) → None ≡ Some x → ⊥
+pub no_none : {X : Type 0} (x : X) → None ≡ Some x → ⊥
 no_none x e = absurd (cc)
 
 -- each key of the list is at or above k
@@ -22,7 +22,7 @@ abbrev pub From : ℕ → List (ℕ × Value) → Type 0
 From k [] = Unit {0}
 From k (e ∷ es) = (k ≤ e.0) × From k es
 
-from_above : (k : ℕ) (es : List (ℕ × Value)) → Above k es → From (suc k) es
+pub from_above : (k : ℕ) (es : List (ℕ × Value)) → Above k es → From (suc k) es
 from_above k [] h = tt
 from_above k (e ∷ es) h = (omega (arith, h.0), from_above k es h.1)
 
@@ -30,14 +30,14 @@ from_less : (j k : ℕ) (es : List (ℕ × Value)) → j ≤ k → From k es →
 from_less j k [] le h = tt
 from_less j k (e ∷ es) le h = (omega (arith, le, h.0), from_less j k es le h.1)
 
-from_zero : (es : List (ℕ × Value)) → From 0 es
+pub from_zero : (es : List (ℕ × Value)) → From 0 es
 from_zero [] = tt
 from_zero (e ∷ es) = (omega arith, from_zero es)
 
 apart : (q k : ℕ) → q ≢ k → eq_by_cmp nat_cmp q k ≡ false
 apart q k ne = grind (arith, nat_tests)
 
-find_past : (q : ℕ) (e : ℕ × Value) (es : List (ℕ × Value)) → q ≢ e.0 → find nat_cmp q (e ∷ es) ≡ find nat_cmp q es
+pub find_past : (q : ℕ) (e : ℕ × Value) (es : List (ℕ × Value)) → q ≢ e.0 → find nat_cmp q (e ∷ es) ≡ find nat_cmp q es
 find_past q e es ne = rw (apart q e.0 ne) refl
 
 find_below : (q k : ℕ) (es : List (ℕ × Value)) → From k es → q < k → find nat_cmp q es ≡ None
@@ -45,23 +45,23 @@ find_below q k [] h lt = refl
 find_below q k (e ∷ es) h lt = find_past q e es (λ f. omega (arith, f, h.0, lt)) ∙ find_below q k es h.1 lt
 
 -- no key from END on
-find_far : (k : ℕ) (es : List (ℕ × Value)) → AreBelowEnd es → END ≤ k → find nat_cmp k es ≡ None
+pub find_far : (k : ℕ) (es : List (ℕ × Value)) → AreBelowEnd es → END ≤ k → find nat_cmp k es ≡ None
 find_far k [] h far = refl
 find_far k (e ∷ es) h far = find_past k e es (λ f. omega (arith, f, far, ltb-true e.0 END h.0)) ∙ find_far k es h.1 far
 
 -- the first key at or above p, or END
-record IsFirst (es : List (ℕ × Value)) (p n : ℕ) : Type 0 where
+pub record IsFirst (es : List (ℕ × Value)) (p n : ℕ) : Type 0 where
   pub at : n ≢ END → find nat_cmp n es ≢ None
   pub low : p ≤ n
   pub high : n ≤ END
   pub gap : (k : ℕ) → p ≤ k → k < n → find nat_cmp k es ≡ None
 
-first_is : (es : List (ℕ × Value)) (p : ℕ) → Rises es → AreBelowEnd es → p ≤ END → IsFirst es p (first_or_end (filter (λ e. nat_le p e.0) es))
-first_is [] p h below le = record { at = λ ne. absurd (ne refl); low = le; high = omega arith; gap = λ k a b. refl }
-first_is (e ∷ es) p h below le = by_test (nat_le p e.0) refl (first_is es p h.1 below.1 le)
+pub first_is : (es : List (ℕ × Value)) (p : ℕ) → Rises es → ((k : ℕ) → END ≤ k → find nat_cmp k es ≡ None) → p ≤ END → IsFirst es p (first_or_end (filter (λ e. nat_le p e.0) es))
+first_is [] p h near le = record { at = λ ne. absurd (ne refl); low = le; high = omega arith; gap = λ k a b. refl }
+first_is (e ∷ es) p h near le = by_test (nat_le p e.0) refl (first_is es p h.1 (λ k a. sym (find_past k e es (λ f. omega (arith, f, a, under))) ∙ near k a) le)
   where
     under : e.0 < END
-    under = ltb-true e.0 END below.0
+    under = ⊎_elim (λ (a : e.0 < END). a) (λ (a : END ≤ e.0). absurd (no_none e.1 (sym (near e.0 a) ∙ find_here e es))) (cases_lt e.0 END)
 
     by_test : (b : Bool) → nat_le p e.0 ≡ b → IsFirst es p (first_or_end (filter (λ e. nat_le p e.0) es)) → IsFirst (e ∷ es) p (first_or_end (if b then e ∷ filter (λ e. nat_le p e.0) es else filter (λ e. nat_le p e.0) es))
     by_test true t ih = record {
@@ -78,7 +78,7 @@ first_is (e ∷ es) p h below le = by_test (nat_le p e.0) refl (first_is es p h.
     }
 
 -- where low is below all keys: q lies from the span's first point on where no key from q on is below n
-low_is : (es : List (ℕ × Value)) (n low q : ℕ) → Rises es → From low es → (after_keys low (filter (λ e. nat_lt e.0 n) es) ≤ q) ↔ ((low ≤ q) × ((k : ℕ) → q ≤ k → k < n → find nat_cmp k es ≡ None))
+pub low_is : (es : List (ℕ × Value)) (n low q : ℕ) → Rises es → From low es → (after_keys low (filter (λ e. nat_lt e.0 n) es) ≤ q) ↔ ((low ≤ q) × ((k : ℕ) → q ≤ k → k < n → find nat_cmp k es ≡ None))
 low_is [] n low q h from = (λ le. (le, λ k a b. refl), λ x. x.0)
 low_is (e ∷ es) n low q h from = by_test (nat_lt e.0 n) refl (low_is es n (suc e.0) q h.1 (from_above e.0 es h.0)) (low_is es n low q h.1 (from_less low (suc e.0) es (omega (arith, from.0)) (from_above e.0 es h.0)))
   where
@@ -94,7 +94,17 @@ low_is (e ∷ es) n low q h from = by_test (nat_lt e.0 n) refl (low_is es n (suc
       λ x. ih.1 (x.0, λ k b c. sym (find_past k e es (λ f. omega (arith, f, c, far))) ∙ x.1 k b c),
     )
 
-end_test : (n : ℕ) → n ≢ END → nat_eq n END ≡ false
+is_true : (b : Bool) → T b → b ≡ true
+is_true true h = refl
+is_true false h = absurd h
+
+pub keys_of_map_rise : (m : Index) → Rises (map.entries m)
+keys_of_map_rise m = rises (map.entries m) (is_true (is_sorted nat_cmp (map.entries m)) (map.entries_sorted m))
+
+pub near_end : (m : Index) → AreBelowEnd (map.entries m) → (n : ℕ) → END ≤ n → map.get m n ≡ None
+near_end m h n le = map.get-entries m n ∙ find_far n (map.entries m) h le
+
+pub end_test : (n : ℕ) → n ≢ END → nat_eq n END ≡ false
 end_test n ne = ne_eqb n END ne
 
 -- neither END nor a key
@@ -121,7 +131,7 @@ no_key m k e = sym (map.get-entries m k) ∙ one (nat_eq k END) (map.get m k) e
 
 slot_laws : (m : Index) (p : ℕ) → AreBelowEnd (map.entries m) → is_sorted nat_cmp (map.entries m) ≡ true → p ≤ END → IsSlotOf m p (slot_of m p)
 slot_laws m p below sorted le =
-    let x = first_is (map.entries m) p (rises (map.entries m) sorted) below le in
+    let x = first_is (map.entries m) p (rises (map.entries m) sorted) (λ k far. find_far k (map.entries m) below far) le in
     record {
       slot = slot_there m (slot_of m p) x.at;
       above = x.low;

@@ -20,7 +20,8 @@ use Rattle.krl_table.specs.Rows.{Rows, most_clients}
 use Rattle.krl_table.specs.Sound.{IsPlaced, IsTable}
 use Rattle.krl_server.specs.Ends.{waiting_on}
 use Rattle.krl_server.specs.Within.{AreApart}
-use Rattle.krl_server.proofs.Slots.{From, Rises, rises, find_here, find_past}
+use Rattle.krl_durable.proofs.Slots.{Rises, find_here}
+use Rattle.krl_durable.proofs.SlotLaws.{From, from_above, find_past, keys_of_map_rise}
 
 -- Slots stand once in their list
 
@@ -38,10 +39,12 @@ above_all k (x ∷ es) j h le (inr at) = above_all k es j h.1 le at
 
 apart : (es : List (ℕ × Value)) → Rises es → AllByRecursion (λ e. e.0 < END) es → AreApart (map (λ e. e.0) es ++ END ∷ [])
 apart [] h under = ((λ at. at), tt)
-apart (e ∷ es) h under = ((λ at. let le = above_all (suc e.0) es e.0 h.0 (let u = under.0 in omega (arith, u)) at in omega (arith, le)), apart es h.1 under.1)
+apart (e ∷ es) h under = ((λ at. let le = above_all (suc e.0) es e.0 (from_above e.0 es h.0) (let u = under.0 in omega (arith, u)) at in omega (arith, le)), apart es h.1 under.1)
 
 pub slots_apart : (m : Index) → ((q : ℕ) → END ≤ q → map.get m q ≡ None) → AreApart (slots m)
-slots_apart m near = apart (map.entries m) (rises (map.entries m) (map.entries_sorted m)) (keys_under (map.entries m) (rises (map.entries m) (map.entries_sorted m)) (λ k a. sym (map.get-entries m k) ∙ near k a))
+slots_apart m near =
+    let rising = keys_of_map_rise m in
+    apart (map.entries m) rising (keys_under (map.entries m) rising (λ k a. sym (map.get-entries m k) ∙ near k a))
 
 -- Waiters, by client
 

@@ -12,7 +12,6 @@ use Rattle.krl_modes.specs.declared.point.TheConstants.{END}
 use Rattle.krl_modes.specs.Modes.{needs_entry}
 use Rattle.krl_messages.specs.Values.{Value}
 use Rattle.krl_queue.specs.declared.waiter.Waiter.{Waiter}
-use Rattle.krl_protocol.specs.Links.{Phase, IsSlot}
 use Rattle.krl_protocol.proofs.Worlds.{eq_cases}
 use Rattle.krl_durable.specs.Index.{Index, first_or_end, slot_of, low_of, is_slot}
 use Rattle.krl_table.specs.Rows.{Rows, mode_at, set_row}
@@ -23,7 +22,9 @@ use Rattle.krl_messages.specs.Several.{IsBefore, Ascend, most_holdings}
 use Rattle.krl_durable.specs.Registers.{Durable}
 use Rattle.krl_server.specs.Servers.{Server}
 use Rattle.krl_server.specs.Effects.{holding, holdings}
-use Rattle.krl_server.proofs.Slots.{find_here, find_past, is_slot_true, span_here}
+use Rattle.krl_durable.proofs.Slots.{find_here}
+use Rattle.krl_durable.proofs.SlotLaws.{find_past}
+use Rattle.krl_server.proofs.Slots.{is_slot_true, span_here}
 use Rattle.krl_server.specs.Shows.{IsWhole}
 use Rattle.krl_server.proofs.Meaning.{low_below, row_here, row_other, mode_other, row_modes}
 use Rattle.krl_server.proofs.Tests.{and_true, if_case}

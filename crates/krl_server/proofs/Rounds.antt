@@ -28,7 +28,8 @@ use Rattle.krl_server.specs.Answering.{Turn, can_push, is_answerable, turn_at, t
 use Rattle.krl_server.specs.Ends.{waiting}
 use Rattle.krl_server.specs.Shows.{IsSound}
 use Rattle.krl_server.specs.Doing.{turn_here, HasTurned}
-use Rattle.krl_server.proofs.Slots.{Rises, rises}
+use Rattle.krl_durable.proofs.Slots.{Rises}
+use Rattle.krl_durable.proofs.SlotLaws.{from_above, keys_of_map_rise}
 use Rattle.krl_server.proofs.Meaning.{row_other, line_here, line_other}
 use Rattle.krl_server.proofs.Tests.{if_both}
 use Rattle.krl_server.proofs.Counted.{above_all, keys_under}
@@ -63,10 +64,12 @@ Ascends (n ∷ ns) = ((k : ℕ) → In k ns → n < k) × Ascends ns
 
 keys_ascend : (es : List (ℕ × Value)) → Rises es → AllByRecursion (λ e. e.0 < END) es → Ascends (map (λ e. e.0) es ++ END ∷ [])
 keys_ascend [] h under = ((λ k at. absurd at), tt)
-keys_ascend (e ∷ es) h under = ((λ k at. let le = above_all (suc e.0) es k h.0 (let u = under.0 in omega (arith, u)) at in omega (arith, le)), keys_ascend es h.1 under.1)
+keys_ascend (e ∷ es) h under = ((λ k at. let le = above_all (suc e.0) es k (from_above e.0 es h.0) (let u = under.0 in omega (arith, u)) at in omega (arith, le)), keys_ascend es h.1 under.1)
 
 pub slots_ascend : (m : Index) → ((q : ℕ) → END ≤ q → fin.get m q ≡ None) → Ascends (slots m)
-slots_ascend m near = keys_ascend (fin.entries m) (rises (fin.entries m) (fin.entries_sorted m)) (keys_under (fin.entries m) (rises (fin.entries m) (fin.entries_sorted m)) (λ k a. sym (fin.get-entries m k) ∙ near k a))
+slots_ascend m near =
+    let rising = keys_of_map_rise m in
+    keys_ascend (fin.entries m) rising (keys_under (fin.entries m) rising (λ k a. sym (fin.get-entries m k) ∙ near k a))
 
 -- Who is next
 

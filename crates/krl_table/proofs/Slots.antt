@@ -1,117 +1,16 @@
 -- The slots of an index: the least at or above a point, and the first point of a slot's span.
-use Rattle.std.proofs.Common.{◌≡◌, ◌≢◌, ℕ, zero, suc, ◌≤◌, ◌<◌, Bool, true, false, T, List, [], ◌∷◌, Option, Some, None, ◌↔◌, refl, sym, ap, subst, ◌∙◌, ⊎_elim, arith, ◌&&◌, ◌||◌}
-use Rattle.std.proofs.Common.{nat_eq, eqb-true, eq-eqb, ne_eqb, ltb-true, ltb-false}
+use Rattle.std.proofs.Common.{◌≡◌, ◌≢◌, ℕ, suc, ◌≤◌, ◌<◌, Bool, true, false, Option, Some, None, refl, sym, ◌∙◌, ⊎_elim, arith, ◌||◌}
+use Rattle.std.proofs.Common.{nat_eq}
 use Rattle.std.proofs.lemmas.Bool.{cases_lt, eqb-false}
-use Rattle.std.proofs.lemmas.Bool.Decides.{nat_tests}
-use Rattle.std.specs.Prelude.{nat_lt, nat_le, is_some, IsSome, if◌then◌else◌}
-use Rattle.std.specs.List.{filter}
-use Rattle.std.specs.Ordering.{nat_cmp, is_lt, eq_by_cmp}
+use Rattle.std.specs.Prelude.{is_some, IsSome}
+use Rattle.std.specs.Ordering.{nat_cmp}
 use Rattle.std.specs.FinMap as map
-use Rattle.std.specs.FinMap.Entries.{find, is_sorted, below_all}
+use Rattle.std.specs.FinMap.Entries.{find}
 use Rattle.krl_modes.specs.declared.point.TheConstants.{END}
 use Rattle.krl_messages.specs.Values.{Value}
-use Rattle.krl_durable.specs.Index.{Index, first_or_end, after_keys, slot_of, low_of, is_slot, IsSlotOf}
-
-pub no_none : {X : Type 0} (x : X) → None ≡ Some x → ⊥
-no_none x e = absurd (cc)
-
--- each key of the list is at or above k
-abbrev pub From : ℕ → List (ℕ × Value) → Type 0
-From k [] = Unit {0}
-From k (e ∷ es) = (k ≤ e.0) × From k es
-
--- the keys strictly rise
-abbrev pub Rises : List (ℕ × Value) → Type 0
-Rises [] = Unit {0}
-Rises (e ∷ es) = From (suc e.0) es × Rises es
-
-and_first : (a b : Bool) → T (a && b) → T a
-and_first true b h = tt
-and_first false b h = h
-
-and_second : (a b : Bool) → T (a && b) → T b
-and_second true b h = h
-and_second false b h = absurd h
-
-less : (k j : ℕ) → T (is_lt (nat_cmp k j)) → suc k ≤ j
-less k j h = grind (arith, nat_tests)
-
-from_below : (k : ℕ) (es : List (ℕ × Value)) → T (below_all nat_cmp k es) → From (suc k) es
-from_below k [] h = tt
-from_below k (e ∷ es) h = (less k e.0 (and_first (is_lt (nat_cmp k e.0)) (below_all nat_cmp k es) h), from_below k es (and_second (is_lt (nat_cmp k e.0)) (below_all nat_cmp k es) h))
-
-pub rises : (es : List (ℕ × Value)) → T (is_sorted nat_cmp es) → Rises es
-rises [] h = tt
-rises (e ∷ es) h = (from_below e.0 es (and_first (below_all nat_cmp e.0 es) (is_sorted nat_cmp es) h), rises es (and_second (below_all nat_cmp e.0 es) (is_sorted nat_cmp es) h))
-
-from_less : (j k : ℕ) (es : List (ℕ × Value)) → j ≤ k → From k es → From j es
-from_less j k [] le h = tt
-from_less j k (e ∷ es) le h = (omega (arith, h.0), from_less j k es le h.1)
-
-apart : (q k : ℕ) → q ≢ k → eq_by_cmp nat_cmp q k ≡ false
-apart q k ne = grind (arith, nat_tests)
-
-pub find_here : (e : ℕ × Value) (es : List (ℕ × Value)) → find nat_cmp e.0 (e ∷ es) ≡ Some e.1
-find_here e es = let same : eq_by_cmp nat_cmp e.0 e.0 ≡ true = grind (arith, nat_tests) in rw same refl
-
-pub find_past : (q : ℕ) (e : ℕ × Value) (es : List (ℕ × Value)) → q ≢ e.0 → find nat_cmp q (e ∷ es) ≡ find nat_cmp q es
-find_past q e es ne = rw (apart q e.0 ne) refl
-
-find_below : (q k : ℕ) (es : List (ℕ × Value)) → From k es → q < k → find nat_cmp q es ≡ None
-find_below q k [] h lt = refl
-find_below q k (e ∷ es) h lt = find_past q e es (λ f. omega (arith, f, h.0)) ∙ find_below q k es h.1 lt
-
--- the first key at or above p, or END
-record IsFirst (es : List (ℕ × Value)) (p n : ℕ) : Type 0 where
-  pub at : n ≢ END → find nat_cmp n es ≢ None
-  pub low : p ≤ n
-  pub high : n ≤ END
-  pub gap : (k : ℕ) → p ≤ k → k < n → find nat_cmp k es ≡ None
-
-first_is : (es : List (ℕ × Value)) (p : ℕ) → Rises es → ((k : ℕ) → END ≤ k → find nat_cmp k es ≡ None) → p ≤ END → IsFirst es p (first_or_end (filter (λ e. nat_le p e.0) es))
-first_is [] p h near le = record { at = λ ne. absurd (ne refl); low = le; high = omega arith; gap = λ k a b. refl }
-first_is (e ∷ es) p h near le = by_test (nat_le p e.0) refl (first_is es p h.1 (λ k a. sym (find_past k e es (λ f. omega (arith, f, a, under))) ∙ near k a) le)
-  where
-    under : e.0 < END
-    under = ⊎_elim (λ (a : e.0 < END). a) (λ (a : END ≤ e.0). absurd (no_none e.1 (sym (near e.0 a) ∙ find_here e es))) (cases_lt e.0 END)
-
-    by_test : (b : Bool) → nat_le p e.0 ≡ b → IsFirst es p (first_or_end (filter (λ e. nat_le p e.0) es)) → IsFirst (e ∷ es) p (first_or_end (if b then e ∷ filter (λ e. nat_le p e.0) es else filter (λ e. nat_le p e.0) es))
-    by_test true t ih = record {
-      at = λ ne none. no_none e.1 (sym none ∙ find_here e es);
-      low = grind (arith, nat_tests);
-      high = omega (arith, under);
-      gap = λ k a b. find_past k e es (λ f. omega (arith, f, b)) ∙ find_below k (suc e.0) es h.0 (omega (arith, b));
-    }
-    by_test false t ih = let past : e.0 < p = grind (arith, nat_tests) in record {
-      at = λ ne none. ih.at ne (sym (find_past _ e es (λ f. omega (arith, f, ih.low, past))) ∙ none);
-      low = ih.low;
-      high = ih.high;
-      gap = λ k a b. find_past k e es (λ f. omega (arith, f, a, past)) ∙ ih.gap k a b;
-    }
-
--- the first point of the span of n, where low is below all keys: q lies from it on where no key from q on is below n
-low_is : (es : List (ℕ × Value)) (n low q : ℕ) → Rises es → From low es → (after_keys low (filter (λ e. nat_lt e.0 n) es) ≤ q) ↔ ((low ≤ q) × ((k : ℕ) → q ≤ k → k < n → find nat_cmp k es ≡ None))
-low_is [] n low q h from = (λ le. (le, λ k a b. refl), λ x. x.0)
-low_is (e ∷ es) n low q h from = by_test (nat_lt e.0 n) refl (low_is es n (suc e.0) q h.1 h.0) (low_is es n low q h.1 (from_less low (suc e.0) es (omega (arith, from.0)) h.0))
-  where
-    by_test : (b : Bool) → nat_lt e.0 n ≡ b → ((after_keys (suc e.0) (filter (λ e. nat_lt e.0 n) es) ≤ q) ↔ ((suc e.0 ≤ q) × ((k : ℕ) → q ≤ k → k < n → find nat_cmp k es ≡ None))) → ((after_keys low (filter (λ e. nat_lt e.0 n) es) ≤ q) ↔ ((low ≤ q) × ((k : ℕ) → q ≤ k → k < n → find nat_cmp k es ≡ None))) → (after_keys low (if b then e ∷ filter (λ e. nat_lt e.0 n) es else filter (λ e. nat_lt e.0 n) es) ≤ q) ↔ ((low ≤ q) × ((k : ℕ) → q ≤ k → k < n → find nat_cmp k (e ∷ es) ≡ None))
-    by_test true t ih other = (
-      λ le. let x = ih.0 le in (omega (arith, x.0, from.0), λ k a b. find_past k e es (λ f. omega (arith, f, a, x.0)) ∙ x.1 k a b),
-      λ x. ⊎_elim
-          (λ (a : e.0 < q). ih.1 (a, λ k b c. sym (find_past k e es (λ f. omega (arith, f, a, b))) ∙ x.1 k b c))
-          (λ (a : q ≤ e.0). absurd (no_none e.1 (sym (x.1 e.0 a (ltb-true e.0 n t)) ∙ find_here e es))) (cases_lt e.0 q),
-    )
-    by_test false t other ih = let far = ltb-false e.0 n t in (
-      λ le. let x = ih.0 le in (x.0, λ k a b. find_past k e es (λ f. omega (arith, f, b, far)) ∙ x.1 k a b),
-      λ x. ih.1 (x.0, λ k b c. sym (find_past k e es (λ f. omega (arith, f, c, far))) ∙ x.1 k b c),
-    )
-
-from_zero : (es : List (ℕ × Value)) → From 0 es
-from_zero [] = tt
-from_zero (e ∷ es) = (omega arith, from_zero es)
-
-end_test : (n : ℕ) → n ≢ END → nat_eq n END ≡ false
-end_test n ne = Rattle.std.proofs.Common.ne_eqb n END ne
+use Rattle.krl_durable.specs.Index.{Index, slot_of, low_of, is_slot, IsSlotOf}
+use Rattle.krl_durable.proofs.Slots.{Rises}
+use Rattle.krl_durable.proofs.SlotLaws.{from_zero, first_is, low_is, keys_of_map_rise, end_test}
 
 pub some_true : {X : Type 0} (o : Option X) → IsSome o → is_some o ≡ true
 some_true None h = absurd (cc)
@@ -157,7 +56,7 @@ module _ (m : Index) where
       (cases_lt i j)
 
   rising : Rises (map.entries m)
-  rising = rises (map.entries m) (map.entries_sorted m)
+  rising = keys_of_map_rise m
 
   -- the first point of a span lies in it
   pub low_under : (n : ℕ) → low_of m n ≤ n
