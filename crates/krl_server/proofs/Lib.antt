@@ -57,6 +57,5 @@ pub mod Stepped
 pub mod Started
 pub mod Nudged
 pub mod Listed
-pub mod Nears
 pub mod Waits
 pub mod Crosses

@@ -1,5 +1,5 @@
 -- Some pieces describe what each client of a reachable world believes.
-use Rattle.std.proofs.Common.{◌≡◌, ◌≢◌, ℕ, ◌<◌, ◌∙◌, Bool, true, false, Option, Some, None, List, [], refl, sym, subst, eqb-true}
+use Rattle.std.proofs.Common.{◌≡◌, ℕ, ◌<◌, ◌∙◌, Bool, true, false, Option, Some, None, List, [], refl, sym, subst}
 use Rattle.std.specs.Prelude.{nat_eq}
 use Rattle.krl_modes.specs.declared.point.TheConstants.{END}
 use Rattle.krl_modes.specs.declared.part.RangePart.{RangePart}
@@ -14,6 +14,7 @@ use Rattle.krl_protocol.specs.Links.{Link}
 use Rattle.krl_protocol.specs.Worlds as machine
 use Rattle.krl_protocol.specs.Worlds.{Logged}
 use Rattle.krl_protocol.proofs.Modes.{ranges_by_table, keys_by_table}
+use Rattle.krl_durable.proofs.SlotLaws.{end_test}
 use Rattle.krl_cache.specs.Beliefs.{Belief, IsBelief}
 use Rattle.krl_cache.specs.Kept.{Describes}
 use Rattle.krl_cache.proofs.Described.{beliefs_are_described}
@@ -52,17 +53,10 @@ unfolding some_value
 value_none true k e = refl
 value_none false k e = subst (λ x. some_value false x ≡ None) (sym e) refl
 
-not_end : (p : ℕ) → p ≢ END → nat_eq p END ≡ false
-not_end p ne = by_test (nat_eq p END) refl
-  where
-    by_test : (t : Bool) → nat_eq p END ≡ t → t ≡ false
-    by_test true e = absurd (ne (eqb-true p END e))
-    by_test false e = refl
-
 valued_is : (b : Belief) → IsWithin b → IsBelief (valued b)
 unfolding some_value
 valued_is b h = record {
-  valued = λ p ne r. value_there (nat_eq p END) (b.key_at p) (not_end p ne) r;
+  valued = λ p ne r. value_there (nat_eq p END) (b.key_at p) (end_test p ne) r;
   no_entry = λ p e. value_none (nat_eq p END) (b.key_at p) e;
   at_end = refl;
   past = h;

@@ -1,4 +1,4 @@
-use Rattle.krl_server.proofs.Nears.{near_end}
+use Rattle.krl_durable.proofs.SlotLaws.{near_end}
 use Rattle.krl_server.proofs.server.table_and_missing.Goals as goal
 
 pub returns-clause-slots : goal.returns-clause-slots

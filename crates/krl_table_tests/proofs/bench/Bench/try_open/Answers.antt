@@ -1,4 +1,4 @@
-use Rattle.krl_table_tests.proofs.Applied.{near_end}
+use Rattle.krl_durable.proofs.SlotLaws.{near_end}
 use Rattle.krl_table_tests.proofs.bench.Bench.try_open.Goals as goal
 
 pub invariant_of-result : goal.invariant_of-result
