@@ -1,18 +1,12 @@
 -- One block with one entry more, less, or another.
-use Rattle.std.proofs.Common.{get_or, cond, ◌≡◌, ◌≢◌, ℕ, zero, suc, ◌-◌, ◌≤◌, ◌<◌, Bool, true, false, List, [], ◌∷◌, ◌++◌, length, take, drop, Option, Some, None, refl, sym, ap, subst, ◌∙◌, arith, slice_set}
+use Rattle.std.proofs.Common.{get_or, ◌≡◌, ◌≢◌, ℕ, zero, suc, ◌-◌, ◌≤◌, ◌<◌, true, false, List, [], ◌∷◌, ◌++◌, length, take, drop, Option, Some, None, refl, sym, ap, subst, ◌∙◌, arith, slice_set}
 use Rattle.std.proofs.lemmas.Option.{slice_get_read}
-use Rattle.std.proofs.lemmas.List.{take-append-drop}
-use Rattle.std.proofs.lemmas.Bool.Decides.{nat_tests}
+use Rattle.std.proofs.lemmas.List.{take-append-drop, drop_all}
+use Rattle.std.proofs.lemmas.Bool.{ltb-true, ltb-false}
 use Rattle.std.specs.Prelude.{nat_lt}
 use Rattle.std.specs.List.{slice_get}
 use Rattle.krl_blocks.specs.Laid.{KeysAbove, KeysRise, AreBelow, AreFrom, NoKey, IsInserted, IsRemoved, IsChanged, HasEntry, last_key}
 use Rattle.krl_blocks.proofs.Places.{all_join}
-
-pub was_below : (n p : ℕ) → nat_lt n p ≡ true → n < p
-was_below n p h = grind (arith, nat_tests)
-
-pub was_from : (n p : ℕ) → nat_lt n p ≡ false → p ≤ n
-was_from n p h = grind (arith, nat_tests)
 
 pub put_is : {V : Type 0} (es ds fs : List (ℕ × V)) (i k : ℕ) (v : V) → ds ≡ es → AreBelow k (take i ds) → AreFrom k (drop i ds) → fs ≡ take i es ++ (k, v) ∷ drop i es → IsInserted es fs k v
 put_is {V = V} es ds fs i k v e f g h = record {
@@ -25,11 +19,11 @@ put_is {V = V} es ds fs i k v e f g h = record {
 }
 
 pub was_within : {X : Type 0} (i : ℕ) (xs : List X) → true ≡ nat_lt i (length xs) → i < length xs
-was_within i xs e = was_below i (length xs) (sym e)
+was_within i xs e = ltb-true i (length xs) (sym e)
 
 pub below_none : {V : Type 0} (k : ℕ) (es : List (ℕ × V)) → AreBelow k es → NoKey k es
 below_none k [] h = tt
-below_none k (e ∷ es) h = (λ f. omega (arith, f, was_below e.0 k h.0), below_none k es h.1)
+below_none k (e ∷ es) h = (λ f. omega (arith, f, ltb-true e.0 k h.0), below_none k es h.1)
 
 pub above_none : {V : Type 0} (k j : ℕ) (es : List (ℕ × V)) → k ≤ j → KeysAbove j es → NoKey k es
 above_none k j [] le h = tt
@@ -56,12 +50,6 @@ drop_there [] i e h = absurd (let bad : Some e ≡ None = h in cc)
 drop_there {X = X} (x ∷ es) zero e h = let same : x ≡ e = cc in ap (λ (z : X). z ∷ es) same
 drop_there (x ∷ es) (suc i) e h = drop_there es i e h
 
-drop_past : {X : Type 0} (es : List X) (i : ℕ) → length es ≤ i → drop i es ≡ []
-drop_past [] zero h = refl
-drop_past [] (suc i) h = refl
-drop_past (x ∷ es) zero h = absurd (omega (arith, h))
-drop_past (x ∷ es) (suc i) h = drop_past es i (omega (arith, h))
-
 module _ {V : Type 0} (es ds : List (ℕ × V)) (i k : ℕ) (e : ds ≡ es) (f : AreBelow k (take i ds)) (g : AreFrom k (drop i ds)) where
   low : AreBelow k (take i es)
   low = subst (λ (zs : List (ℕ × V)). AreBelow k (take i zs)) e f
@@ -71,7 +59,7 @@ module _ {V : Type 0} (es ds : List (ℕ × V)) (i k : ℕ) (e : ds ≡ es) (f :
 
   module _ (x : ℕ × V) (gs : List (ℕ × V)) (j : gs ≡ es) (lt : true ≡ nat_lt i (length gs)) (is : x ≡ get_or gs i x) where
     pub there : Some x ≡ slice_get es i
-    there = sym (slice_get_read gs (length gs) i x refl (was_below i (length gs) (sym lt)) is) ∙ ap (λ (zs : List (ℕ × V)). slice_get zs i) j
+    there = sym (slice_get_read gs (length gs) i x refl (ltb-true i (length gs) (sym lt)) is) ∙ ap (λ (zs : List (ℕ × V)). slice_get zs i) j
 
     pub taken_is : (fs : List (ℕ × V)) (v : V) → x.0 ≡ k → v ≡ x.1 → fs ≡ take i es ++ drop (suc i) es → IsRemoved es fs k v
     taken_is fs v same value new =
@@ -105,11 +93,11 @@ module _ {V : Type 0} (es ds : List (ℕ × V)) (i k : ℕ) (e : ds ≡ es) (f :
         let rising = subst KeysRise at (rise_behind es i (subst KeysRise e rise)) in
         subst (NoKey k) (take-append-drop i es)
         (all_join (λ z. z.0 ≢ k) (take i es) (drop i es) (below_none k (take i es) low)
-        (subst (NoKey k) (sym at) (ne, above_none k x.0 (drop (suc i) es) (was_from x.0 k front.0) rising.0)))
+        (subst (NoKey k) (sym at) (ne, above_none k x.0 (drop (suc i) es) (ltb-false x.0 k front.0) rising.0)))
 
   pub no_key_behind : (gs : List (ℕ × V)) → gs ≡ es → false ≡ nat_lt i (length gs) → NoKey k es
   no_key_behind gs j far =
-      let none = drop_past es i (subst (λ (zs : List (ℕ × V)). length zs ≤ i) j (was_from i (length gs) (sym far))) in
+      let none = drop_all i es (subst (λ (zs : List (ℕ × V)). length zs ≤ i) j (ltb-false i (length gs) (sym far))) in
       subst (NoKey k) (take-append-drop i es)
       (all_join (λ z. z.0 ≢ k) (take i es) (drop i es) (below_none k (take i es) low) (subst (NoKey k) (sym none) tt))
 
@@ -132,6 +120,3 @@ same_at {V = V} xs ys b x y lt e f g =
     let one = slice_get_read xs (length xs) b x refl lt f in
     let two = slice_get_read xs (length xs) b y refl lt (g ∙ ap (λ (zs : List (List (ℕ × V))). get_or zs b y) e) in
     let both : Some y ≡ Some x = sym two ∙ one in cc
-
-pub chosen : {X : Type 0} (b : Bool) (x y : X) → b ≡ true → cond b x y ≡ x
-chosen b x y h = rw h refl

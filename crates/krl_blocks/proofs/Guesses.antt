@@ -1,16 +1,10 @@
 -- A guess of how many of a list that rises lie below a point: a look at the last of these, and at the one behind it.
-use Rattle.std.proofs.Common.{◌≡◌, ℕ, zero, suc, ◌-◌, ◌≤◌, ◌<◌, true, false, List, [], ◌∷◌, length, take, drop, Some, None, refl, sym, ap, ◌∙◌, arith}
-use Rattle.std.proofs.lemmas.Bool.Decides.{nat_tests}
+use Rattle.std.proofs.Common.{◌≡◌, ℕ, zero, suc, ◌-◌, ◌≤◌, ◌<◌, true, false, List, [], ◌∷◌, length, take, drop, Some, None, ap, ◌∙◌, arith}
+use Rattle.std.proofs.lemmas.Bool.{ltb-true, leb-true}
 use Rattle.std.specs.Prelude.{nat_lt, nat_le}
 use Rattle.std.specs.List.{AllByRecursion, slice_get}
 use Rattle.krl_blocks.specs.Laid.{Above, Rises, KeysAbove, KeysRise, AreBelow, AreFrom}
 use Rattle.krl_blocks.proofs.Places.{is_below, is_from}
-
-test_below : (n p : ℕ) → nat_lt n p ≡ true → n < p
-test_below n p h = grind (arith, nat_tests)
-
-test_from : (p n : ℕ) → nat_le p n ≡ true → p ≤ n
-test_from p n h = grind (arith, nat_tests)
 
 -- Numbers
 
@@ -41,7 +35,7 @@ up_to_last k (n ∷ ns) l p h e lt =
 -- where the last lies below the point, all do
 pub below_by_last : (ns : List ℕ) (l p : ℕ) → Rises ns → Some l ≡ slice_get ns (length ns - 1) → nat_lt l p ≡ true → AllByRecursion (λ t. nat_lt t p ≡ true) ns
 below_by_last [] l p h e t = tt
-below_by_last (n ∷ ns) l p h e t = (up_to_last n ns l p h (e ∙ ap (slice_get (n ∷ ns)) (let less : length (n ∷ ns) - 1 ≡ length ns = omega arith in less)) (test_below l p t)).0
+below_by_last (n ∷ ns) l p h e t = (up_to_last n ns l p h (e ∙ ap (slice_get (n ∷ ns)) (let less : length (n ∷ ns) - 1 ≡ length ns = omega arith in less)) (ltb-true l p t)).0
 
 pub below_by_none : (ns : List ℕ) (p : ℕ) → None ≡ slice_get ns (length ns - 1) → AllByRecursion (λ t. nat_lt t p ≡ true) ns
 below_by_none [] p e = tt
@@ -58,7 +52,7 @@ above_from k (n ∷ ns) p h le = let up = h.0 in (is_from n p (omega (arith, up,
 -- where the first does not lie below the point, none does
 pub from_by_first : (ns : List ℕ) (f p : ℕ) → Rises ns → Some f ≡ slice_get ns 0 → nat_le p f ≡ true → AllByRecursion (λ t. nat_lt t p ≡ false) ns
 from_by_first [] f p h e t = tt
-from_by_first (n ∷ ns) f p h e t = let same : f ≡ n = cc in let le = test_from p f t in (is_from n p (omega (arith, same, le)), above_from n ns p h.0 (omega (arith, same, le)))
+from_by_first (n ∷ ns) f p h e t = let same : f ≡ n = cc in let le = leb-true p f t in (is_from n p (omega (arith, same, le)), above_from n ns p h.0 (omega (arith, same, le)))
 
 pub from_by_none : (ns : List ℕ) (p : ℕ) → None ≡ slice_get ns 0 → AllByRecursion (λ t. nat_lt t p ≡ false) ns
 from_by_none [] p e = tt
@@ -93,7 +87,7 @@ module _ {V : Type 0} where
 
   pub keys_below_by_last : (es : List (ℕ × V)) (l : ℕ × V) (p : ℕ) → KeysRise es → Some l ≡ slice_get es (length es - 1) → nat_lt l.0 p ≡ true → AreBelow p es
   keys_below_by_last [] l p h e t = tt
-  keys_below_by_last (z ∷ es) l p h e t = (keys_to_last z es l p h (e ∙ ap (slice_get (z ∷ es)) (let less : length (z ∷ es) - 1 ≡ length es = omega arith in less)) (test_below l.0 p t)).0
+  keys_below_by_last (z ∷ es) l p h e t = (keys_to_last z es l p h (e ∙ ap (slice_get (z ∷ es)) (let less : length (z ∷ es) - 1 ≡ length es = omega arith in less)) (ltb-true l.0 p t)).0
 
   pub keys_below_by_none : (es : List (ℕ × V)) (p : ℕ) → None ≡ slice_get es (length es - 1) → AreBelow p es
   keys_below_by_none [] p e = tt
@@ -110,7 +104,7 @@ module _ {V : Type 0} where
   pub keys_from_by_first : (es : List (ℕ × V)) (f : ℕ × V) (p : ℕ) → KeysRise es → Some f ≡ slice_get es 0 → nat_le p f.0 ≡ true → AreFrom p es
   keys_from_by_first [] f p h e t = tt
   keys_from_by_first (z ∷ es) f p h e t =
-      let same : f ≡ z = cc in let key = ap (λ (y : ℕ × V). y.0) same in let le = test_from p f.0 t in
+      let same : f ≡ z = cc in let key = ap (λ (y : ℕ × V). y.0) same in let le = leb-true p f.0 t in
       (is_from z.0 p (omega (arith, key, le)), keys_above_from z.0 es p h.0 (omega (arith, key, le)))
 
   pub keys_from_by_none : (es : List (ℕ × V)) (p : ℕ) → None ≡ slice_get es 0 → AreFrom p es

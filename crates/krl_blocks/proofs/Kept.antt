@@ -1,9 +1,9 @@
 -- What is kept after a change.
 use Rattle.std.proofs.Common.{◌≡◌, ℕ, zero, suc, ◌+◌, ◌-◌, ◌*◌, ◌≤◌, ◌<◌, true, false, List, [], ◌∷◌, ◌++◌, length, take, drop, Option, Some, None, IfSome, MatchOption, refl, sym, ap, subst, ◌∙◌, arith, slice_set}
-use Rattle.std.proofs.lemmas.Bool.Decides.{nat_tests}
 use Rattle.std.proofs.lemmas.Option.{slice_get_past}
 use Rattle.std.proofs.lemmas.List.{length-append, length-set}
 use Rattle.std.proofs.Math.Logic.{⊎_elim}
+use Rattle.std.proofs.lemmas.Bool.{leb-true}
 use Rattle.std.specs.List.{AllByRecursion, slice_get, insert, remove}
 use Rattle.std.specs.Global.{Vec}
 use Rattle.std.specs.Prelude.{vec_capacity, nat_lt, nat_le}
@@ -13,9 +13,6 @@ use Rattle.krl_blocks.proofs.Places.{all_join}
 use Rattle.krl_blocks.proofs.Around.{all_set, all_remove, all_insert, all_at, remove_set, set_reads}
 use Rattle.krl_blocks.proofs.Thick.{IsFilled, LeftIsThick, thick_set, thick_more, thick_halved, nearly, nearly_gone, nearly_none, merged_here, merged_before}
 use Rattle.krl_blocks.proofs.Laying.{laid_filled, laid_lengths, gone_laid, merged_laid, topped_laid, last_length_is, same_laid, same_flat, changed_laid, changed_flat, removed_flat, put_laid, put_flat, push_laid, push_flat, absent}
-
-was_few : (n m : ℕ) → nat_le n m ≡ true → n ≤ m
-was_few n m h = grind (arith, nat_tests)
 
 pub one_more : {X : Type 0} (xs : List X) (x : X) → length (xs ++ x ∷ []) ≡ suc (length xs)
 one_more [] x = refl
@@ -100,7 +97,7 @@ module _ {V : Type 0} where
   pub thin_few : (xs : List (List (ℕ × V))) (j : ℕ) → is_thin xs j ≡ true → AreFew xs j
   thin_few [] j e = tt
   thin_few (x ∷ []) j e = tt
-  thin_few (x ∷ y ∷ xs) zero e = let le = was_few (length x + length y) 32 e in omega (arith, le)
+  thin_few (x ∷ y ∷ xs) zero e = let le = leb-true (length x + length y) 32 e in omega (arith, le)
   thin_few (x ∷ y ∷ xs) (suc j) e = thin_few (y ∷ xs) j e
 
   pub last_full : (n b : ℕ) (xs : List (List (ℕ × V))) (x : List (ℕ × V)) → suc b ≡ length xs → Some x ≡ slice_get xs b → last_length n xs ≡ length x
@@ -158,7 +155,7 @@ module _ {V : Type 0} where
     merge_kept j h o e =
         let k = h.nearly in
         let p = o.lower in let q = o.upper in
-        let few : length p + length q ≤ 32 = was_few (length p + length q) 32 (sym (thin_is s.blocks j p q o.first o.second) ∙ h.thin) in
+        let few : length p + length q ≤ 32 = leb-true (length p + length q) 32 (sym (thin_is s.blocks j p q o.first o.second) ∙ h.thin) in
         let len : length (p ++ q) ≡ length p + length q = length_join p q in
         let filled = laid_filled 0 ts.items s.blocks k.laid in
         let thick : AreThick 64 (slice_set (remove s.blocks (suc j)) j (p ++ q)) = ⊎_elim

@@ -2,11 +2,12 @@
 use Rattle.std.proofs.Common.{◌≡◌, ◌≢◌, ℕ, zero, suc, ◌≤◌, ◌<◌, true, false, List, [], ◌∷◌, ◌++◌, length, take, drop, Some, None, IfSome, refl, sym, ap, subst, ◌∙◌, arith, slice_set}
 use Rattle.std.proofs.lemmas.Option.{slice_get_past}
 use Rattle.std.proofs.lemmas.List.{append-nil, append_assoc}
+use Rattle.std.proofs.lemmas.Bool.{ltb-true, ltb-false}
 use Rattle.std.specs.Prelude.{nat_lt}
 use Rattle.std.specs.List.{AllByRecursion, slice_get, insert, remove}
 use Rattle.krl_blocks.specs.Laid.{flat, KeysRise, EndsAfter, EndsAt, IsLaid, AreBelow, AreFrom, NoKey, IsInserted, IsRemoved, IsChanged, IsHalved, last_key, last_length}
 use Rattle.krl_blocks.proofs.Places.{IsAt, all_join, at_block, past_blocks, ends_top, ends_rise, after_last, laid_less, flat_join}
-use Rattle.krl_blocks.proofs.Edits.{was_below, was_from, cut_there, below_none, set_is}
+use Rattle.krl_blocks.proofs.Edits.{cut_there, below_none, set_is}
 use Rattle.krl_blocks.proofs.Around.{all_take, flat_set}
 use Rattle.krl_blocks.proofs.Thick.{IsFilled}
 
@@ -37,13 +38,13 @@ laid_filled low (t ∷ ts) (x ∷ xs) h = (filled_ends low x t h.0, laid_filled 
 
 after_put : {V : Type 0} (j k : ℕ) (v : V) (t : ℕ) (f g : List (ℕ × V)) → EndsAfter j (f ++ g) t → j < k → k ≤ t → AreBelow k f → AreFrom k g → NoKey k g → EndsAfter j (f ++ (k, v) ∷ g) t
 after_put j k v t [] [] h lt le b a n = absurd (omega (arith, h, lt, le))
-after_put j k v t [] (e ∷ g) h lt le b a n = (lt, ((let ne = n.0 in let from = was_from e.0 k a.0 in omega (arith, ne, from)), h.1))
-after_put j k v t (e ∷ f) g h lt le b a n = (h.0, after_put e.0 k v t f g h.1 (was_below e.0 k b.0) le b.1 a n)
+after_put j k v t [] (e ∷ g) h lt le b a n = (lt, ((let ne = n.0 in let from = ltb-false e.0 k a.0 in omega (arith, ne, from)), h.1))
+after_put j k v t (e ∷ f) g h lt le b a n = (h.0, after_put e.0 k v t f g h.1 (ltb-true e.0 k b.0) le b.1 a n)
 
 ends_put : {V : Type 0} (low k : ℕ) (v : V) (t : ℕ) (f g : List (ℕ × V)) → EndsAt low (f ++ g) t → low ≤ k → k ≤ t → AreBelow k f → AreFrom k g → NoKey k g → EndsAt low (f ++ (k, v) ∷ g) t
 ends_put low k v t [] [] h ge le b a n = absurd h
-ends_put low k v t [] (e ∷ g) h ge le b a n = (ge, ((let ne = n.0 in let from = was_from e.0 k a.0 in omega (arith, ne, from)), h.1))
-ends_put low k v t (e ∷ f) g h ge le b a n = (h.0, after_put e.0 k v t f g h.1 (was_below e.0 k b.0) le b.1 a n)
+ends_put low k v t [] (e ∷ g) h ge le b a n = (ge, ((let ne = n.0 in let from = ltb-false e.0 k a.0 in omega (arith, ne, from)), h.1))
+ends_put low k v t (e ∷ f) g h ge le b a n = (h.0, after_put e.0 k v t f g h.1 (ltb-true e.0 k b.0) le b.1 a n)
 
 -- another block in its place, with the same bounds
 laid_set : {V : Type 0} (low : ℕ) (ts : List ℕ) (xs : List (List (ℕ × V))) (b : ℕ) (x y : List (ℕ × V)) → IsLaid low ts xs → Some x ≡ slice_get xs b → ((l t : ℕ) → EndsAt l x t → Some t ≡ slice_get ts b → EndsAt l y t) → IsLaid low ts (slice_set xs b y)
@@ -67,7 +68,7 @@ laid_more {V = V} low k v b [] [] y h f e le is = (subst (λ (es : List (ℕ × 
 laid_more low k v b [] (x ∷ xs) y h f e le is = absurd h
 laid_more low k v b (t ∷ ts) [] y h f e le is = absurd h
 laid_more low k v zero (t ∷ ts) (x ∷ xs) y h f e le is = absurd (let bad : None ≡ Some x = e in cc)
-laid_more low k v (suc b) (t ∷ ts) (x ∷ xs) y h f e le is = (h.0, laid_more (suc t) k v b ts xs y h.1 f.1 e (let lt = was_below t k f.0 in omega (arith, lt)) is)
+laid_more low k v (suc b) (t ∷ ts) (x ∷ xs) y h f e le is = (h.0, laid_more (suc t) k v b ts xs y h.1 f.1 e (let lt = ltb-true t k f.0 in omega (arith, lt)) is)
 
 after_longer : {V : Type 0} (j k : ℕ) (v : V) (t : ℕ) (es : List (ℕ × V)) → EndsAfter j es t → t < k → EndsAfter j (es ++ (k, v) ∷ []) k
 after_longer j k v t [] h lt = (omega (arith, h, lt), refl)
@@ -83,7 +84,7 @@ laid_longer low k v b [] (z ∷ xs) x y h f last at is = absurd h
 laid_longer {V = V} low k v zero (t ∷ []) (z ∷ []) x y h f last at is =
     let same : x ≡ z = cc in
     let items : y ≡ z ++ (k, v) ∷ [] = is ∙ ap (λ (w : List (ℕ × V)). w ++ (k, v) ∷ []) same in (
-      (subst (λ (es : List (ℕ × V)). EndsAt low es k) (sym items) (ends_longer low k v t z h.0 (was_below t k f.0)), tt),
+      (subst (λ (es : List (ℕ × V)). EndsAt low es k) (sym items) (ends_longer low k v t z h.0 (ltb-true t k f.0)), tt),
       append-nil y ∙ items ∙ ap (λ (es : List (ℕ × V)). es ++ (k, v) ∷ []) (sym (append-nil z)),
     )
 laid_longer low k v zero (t ∷ u ∷ ts) (z ∷ []) x y h f last at is = absurd h.1
@@ -314,7 +315,7 @@ merged_laid low (t ∷ ts) (x ∷ xs) (suc j) p q z h f g is = (h.0, merged_laid
 
 past_none : {V : Type 0} (k : ℕ) (es : List (ℕ × V)) → AreFrom (suc k) es → NoKey k es
 past_none k [] h = tt
-past_none k (e ∷ es) h = (λ f. omega (arith, f, was_from e.0 (suc k) h.0), past_none k es h.1)
+past_none k (e ∷ es) h = (λ f. omega (arith, f, ltb-false e.0 (suc k) h.0), past_none k es h.1)
 
 module _ {V : Type 0} (k : ℕ) (ts : List ℕ) (xs : List (List (ℕ × V))) (b : ℕ) (laid : IsLaid 0 ts xs) (below : AllByRecursion (λ t. nat_lt t k ≡ true) (take b ts)) where
   pub absent : AllByRecursion (λ t. nat_lt t k ≡ false) (drop b ts) → (x : List (ℕ × V)) → Some x ≡ slice_get xs b → NoKey k x → NoKey k (flat xs)

@@ -3,6 +3,7 @@ use Rattle.std.proofs.Common.{◌≡◌, ℕ, zero, suc, ◌-◌, ◌≤◌, ◌
 use Rattle.std.proofs.lemmas.Option.{slice_get_past}
 use Rattle.std.proofs.lemmas.List.{take-append-drop, append-nil, append_assoc}
 use Rattle.std.proofs.lemmas.Bool.Decides.{nat_tests}
+use Rattle.std.proofs.lemmas.Bool.{ltb-true, ltb-false}
 use Rattle.std.specs.Prelude.{nat_lt, slice_index_or}
 use Rattle.std.specs.List.{AllByRecursion, AllWithin, slice_get}
 use Rattle.std.specs.List.Sorted.{IsPartitionedBy}
@@ -113,12 +114,6 @@ is_below n p h = grind (arith, nat_tests)
 pub is_from : (n p : ℕ) → p ≤ n → nat_lt n p ≡ false
 is_from n p h = grind (arith, nat_tests)
 
-was_below : (n p : ℕ) → nat_lt n p ≡ true → n < p
-was_below n p h = grind (arith, nat_tests)
-
-was_from : (n p : ℕ) → nat_lt n p ≡ false → p ≤ n
-was_from n p h = grind (arith, nat_tests)
-
 after_below : {V : Type 0} (p k : ℕ) (es : List (ℕ × V)) (t : ℕ) → EndsAfter k es t → t < p → AreBelow p es
 after_below p k [] t h lt = tt
 after_below p k (e ∷ es) t h lt = (is_below e.0 p (omega (arith, after_top e.0 es t h.1, lt)), after_below p e.0 es t h.1 lt)
@@ -208,19 +203,19 @@ at_block {V = V} p o low (t ∷ ts) (y ∷ ys) zero x le h f g e =
       rest_is = refl;
       whole = refl;
       below = tt;
-      from = laid_from p (suc t) ts ys h.1 (omega (arith, was_from t p g.0));
+      from = laid_from p (suc t) ts ys h.1 (omega (arith, ltb-false t p g.0));
       last = refl;
       low = low;
       top = t;
       ends = h.0;
       start = le;
-      far = was_from t p g.0;
-      past = laid_from (suc p) (suc t) ts ys h.1 (omega (arith, was_from t p g.0));
+      far = ltb-false t p g.0;
+      past = laid_from (suc p) (suc t) ts ys h.1 (omega (arith, ltb-false t p g.0));
       top_is = refl;
       again = λ us zs k. (laid_on low t us zs ts ys k h.1, flat_join zs ys);
     })
 at_block {V = V} p o low (t ∷ ts) (y ∷ ys) (suc b) x le h f g e =
-    let lt = was_below t p f.0 in
+    let lt = ltb-true t p f.0 in
     let ih = at_block p (Some t) (suc t) ts ys b x (omega (arith, lt)) h.1 f.1 g e in
     record {
       front = y ++ ih.front;
@@ -255,7 +250,7 @@ past_blocks p o low (t ∷ ts) (y ∷ ys) zero h f e = absurd (let bad : None �
 past_blocks p o low (t ∷ ts) (y ∷ ys) (suc b) h f e =
     let ih = past_blocks p (Some t) (suc t) ts ys b h.1 f.1 e in
     record {
-      below = all_join (λ e. nat_lt e.0 p ≡ true) y (flat ys) (ends_below p low y t h.0 (was_below t p f.0)) ih.below;
+      below = all_join (λ e. nat_lt e.0 p ≡ true) y (flat ys) (ends_below p low y t h.0 (ltb-true t p f.0)) ih.below;
       last = ih.last ∙ sym (last_join o y (flat ys) ∙ ap (λ (u : Option ℕ). last_key u (flat ys)) (ends_last o low y t h.0));
     }
 
@@ -290,11 +285,11 @@ none_read {V = V} (n ∷ ns) h = absurd (slice_past n ns (h ∙ ap (slice_get (n
 
 after_not_below : {V : Type 0} (p k : ℕ) (es : List (ℕ × V)) (t : ℕ) → EndsAfter k es t → p ≤ t → k < p → AreBelow p es → ⊥
 after_not_below p k [] t h le lt b = omega (arith, h, le, lt)
-after_not_below p k (e ∷ es) t h le lt b = after_not_below p e.0 es t h.1 le (was_below e.0 p b.0) b.1
+after_not_below p k (e ∷ es) t h le lt b = after_not_below p e.0 es t h.1 le (ltb-true e.0 p b.0) b.1
 
 ends_not_below : {V : Type 0} (p low : ℕ) (es : List (ℕ × V)) (t : ℕ) → EndsAt low es t → p ≤ t → AreBelow p es → ⊥
 ends_not_below p low [] t h le b = h
-ends_not_below p low (e ∷ es) t h le b = after_not_below p e.0 es t h.1 le (was_below e.0 p b.0) b.1
+ends_not_below p low (e ∷ es) t h le b = after_not_below p e.0 es t h.1 le (ltb-true e.0 p b.0) b.1
 
 module _ {V : Type 0} (p : ℕ) (ts : List ℕ) (xs : List (List (ℕ × V))) (b : ℕ) (x : List (ℕ × V)) (at : IsAt p None 0 ts xs b x) (i : ℕ) (f : AreBelow p (take i x)) (g : AreFrom p (drop i x)) where
   whole_cut : flat xs ≡ (at.front ++ take i x) ++ (drop i x ++ at.rest)

@@ -3,9 +3,10 @@ use Rattle.std.proofs.Common.{◌≡◌, ◌≢◌, ℕ, zero, suc, ◌+◌, ◌
 use Rattle.std.specs.Prelude.{nat_lt}
 use Rattle.std.specs.List.{AllByRecursion, slice_get}
 use Rattle.std.proofs.lemmas.List.{append-nil}
+use Rattle.std.proofs.lemmas.Bool.{ltb-false}
 use Rattle.krl_blocks.specs.Laid.{flat, EndsAfter, EndsAt, IsLaid, KeysAbove, KeysRise, NoKey, AreBelow, AreFrom, IsFound, IsInserted}
 use Rattle.krl_blocks.proofs.Places.{flat_join, all_join, keys_after_less, is_below}
-use Rattle.krl_blocks.proofs.Edits.{below_none, above_none, was_from}
+use Rattle.krl_blocks.proofs.Edits.{below_none, above_none}
 
 module _ {V : Type 0} where
   after_joined : (k : ℕ) (es fs : List (ℕ × V)) (t : ℕ) → EndsAfter k es t → KeysAbove t fs → KeysRise fs → KeysAbove k (es ++ fs) × KeysRise (es ++ fs)
@@ -56,7 +57,7 @@ module _ {V : Type 0} where
             let here : run ++ f.rest ≡ z ∷ (zs ++ f.rest) = ap (λ (ys : List (ℕ × V)). ys ++ f.rest) is in
             let up : KeysRise (z ∷ (zs ++ f.rest)) = subst KeysRise here (back_rises f.front (run ++ f.rest) (subst KeysRise f.whole rise)) in
             let from = (subst (λ (ys : List (ℕ × V)). AllByRecursion (λ e. nat_lt e.0 k ≡ false) ys) here f.from).0 in
-            none_behind (subst (NoKey k) (sym here) (subst (λ (y : ℕ × V). y.0 ≢ k) same ne, above_none k z.0 (zs ++ f.rest) (was_from z.0 k from) up.0))
+            none_behind (subst (NoKey k) (sym here) (subst (λ (y : ℕ × V). y.0 ≢ k) same ne, above_none k z.0 (zs ++ f.rest) (ltb-false z.0 k from) up.0))
 
 -- Entries put in one after the other, in key order
 

@@ -2,6 +2,7 @@
 use Rattle.std.proofs.Common.{◌≡◌, ◌≢◌, inl, inr, ℕ, suc, ◌-◌, ◌≤◌, ◌<◌, Bool, true, false, cond, List, [], ◌∷◌, Option, None, IsSome, refl, sym, ap, subst, ◌∙◌, arith}
 use Rattle.std.specs.Prelude.{nat_eq}
 use Rattle.std.proofs.lemmas.Bool.Decides.{nat_tests, eqb_tells}
+use Rattle.std.proofs.lemmas.Bool.{or_parts}
 use Rattle.krl_modes.specs.declared.point.TheConstants.{TOP}
 use Rattle.krl_modes.specs.declared.part.RangePart.{RangePart}
 use Rattle.krl_modes.specs.declared.part.KeyPart.{KeyPart}
@@ -15,7 +16,6 @@ use Rattle.krl_cache.specs.Beliefs.{is_span, is_last}
 use Rattle.krl_cache.specs.Lists.{lies_in, own_entry}
 use Rattle.krl_cache.specs.Several.{parts_after, entries_after, is_slot_of}
 use Rattle.krl_cache.specs.Joined.{AreJoined, AreHeld, HoldsAll}
-use Rattle.krl_cache.proofs.Truths.{or_false}
 use Rattle.krl_cache.proofs.Rooms.{AreSpans, AreFrom, from_first, outside_entry}
 
 -- Their spans
@@ -69,7 +69,7 @@ held_none d = record { held = tt; entries = λ q e. refl; stay = λ q x. x }
 held_more : (h : Holding) (rest : List Holding) (d e n : ℕ → Option Entry) → h.span.lo < h.span.hi → ((q : ℕ) → q ≢ h.span.hi - 1 → e q ≡ d q) → (IsSome (d (h.span.hi - 1)) → IsSome (e (h.span.hi - 1))) → (reads_key (key_of h.mode) ≡ true → IsSome (e (h.span.hi - 1))) → HoldsAll rest e n → HoldsAll (h ∷ rest) d n
 held_more h rest d e n lt others here held r = record {
   held = (λ x. r.stay (h.span.hi - 1) (held x), r.held);
-  entries = λ q x. let y = or_false (is_last h.span q) (is_slot_of rest q) x in r.entries q y.1 ∙ others q (λ z. no_last (is_last h.span q) y.0 (at_last h.span.hi q lt z));
+  entries = λ q x. let y = or_parts (is_last h.span q) (is_slot_of rest q) x in r.entries q y.1 ∙ others q (λ z. no_last (is_last h.span q) y.0 (at_last h.span.hi q lt z));
   stay = λ q x. r.stay q (elim (eqb_tells q (h.span.hi - 1)) [
     | inl a ↦ subst (λ (i : ℕ). IsSome (e i)) (sym a.1) (here (subst (λ (i : ℕ). IsSome (d i)) a.1 x))
     | inr a ↦ subst IsSome (sym (others q a.1)) x

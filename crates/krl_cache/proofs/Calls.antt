@@ -1,6 +1,6 @@
 -- Calls leave a belief.
 use Rattle.std.proofs.Common.{◌≡◌, ◌≢◌, ℕ, suc, ◌≤◌, ◌<◌, Bool, true, false, ◌&&◌, not, List, [], ◌∷◌, Option, Some, None, is_some, refl, sym, subst, arith, nat_lt, nat_le, if◌then◌else◌, leb-true, eqb-true}
-use Rattle.std.proofs.lemmas.Bool.{eqb-false}
+use Rattle.std.proofs.lemmas.Bool.{eqb-false, and_parts}
 use Rattle.std.proofs.lemmas.Bool.Decides.{nat_tests}
 use Rattle.krl_modes.specs.declared.point.TheConstants.{END, TOP}
 use Rattle.krl_modes.specs.declared.part.RangePart.{RangePart}
@@ -17,7 +17,7 @@ use Rattle.std.specs.List.{AllByRecursion}
 use Rattle.krl_messages.specs.Holdings.{has_its_value, same, ends_at_end}
 use Rattle.krl_messages.specs.Several.{have_values}
 use Rattle.krl_cache.specs.Beliefs.{Belief, IsBelief, is_span, is_last, adopt, adopt_all, lower, CallsKeepBelief}
-use Rattle.krl_cache.proofs.Truths.{and_true, none_left, some_left, inside_span}
+use Rattle.krl_cache.proofs.Truths.{none_left, some_left, inside_span}
 
 -- Points of the last slot
 
@@ -84,7 +84,7 @@ adopt_at_end h b true false rule i e = refl
 adopt_at_end h b false u rule i e = i.at_end
 
 adopt_past : (h : Holding) (b : Belief) (p : ℕ) (t : Bool) → is_span h.span ≡ true → IsBelief b → contains h.span p ≡ t → END < p → ((if t then range_of h.mode else b.range_at p) ≡ range.N) × ((if t then (if is_last h.span p then key_of h.mode else key.N) else b.key_at p) ≡ key.N)
-adopt_past h b p true s i e n = let a = inside_span h.span p e in let x = a.1 in let y = leb-true h.span.hi TOP (and_true (nat_lt h.span.lo h.span.hi) (nat_le h.span.hi TOP) s).1 in let c = past_end in absurd (omega arith)
+adopt_past h b p true s i e n = let a = inside_span h.span p e in let x = a.1 in let y = leb-true h.span.hi TOP (and_parts (nat_lt h.span.lo h.span.hi) (nat_le h.span.hi TOP) s).1 in let c = past_end in absurd (omega arith)
 adopt_past h b p false s i e n = i.past p n
 
 -- Lowering
@@ -149,7 +149,7 @@ lowered_belief s keep old new e i = subst (λ (b : Belief). IsBelief b) (sym e) 
 -- several holdings, one after another
 pub adopted_all : (hs : List Holding) (b : Belief) → AllByRecursion (λ h. is_span h.span ≡ true) hs → have_values hs ≡ true → IsBelief b → IsBelief (adopt_all hs b)
 adopted_all [] b spans rules i = i
-adopted_all (h ∷ hs) b spans rules i = let x = and_true (has_its_value h) (have_values hs) rules in adopted_all hs (adopt h b) spans.1 x.1 (calls_keep_belief.adopt h b spans.0 x.0 i)
+adopted_all (h ∷ hs) b spans rules i = let x = and_parts (has_its_value h) (have_values hs) rules in adopted_all hs (adopt h b) spans.1 x.1 (calls_keep_belief.adopt h b spans.0 x.0 i)
 
 pub several_belief : (hs : List Holding) (old new : Belief) → AllByRecursion (λ h. is_span h.span ≡ true) hs → have_values hs ≡ true → new ≡ adopt_all hs old → IsBelief old → IsBelief new
 several_belief hs old new spans rules e i = subst (λ (b : Belief). IsBelief b) (sym e) (adopted_all hs old spans rules i)

@@ -1,5 +1,5 @@
 -- Entries in the order of their points, picked, and what is made of them.
-use Rattle.std.proofs.Common.{◌≡◌, ℕ, suc, ◌≤◌, ◌<◌, Bool, true, false, cond, max, List, [], ◌∷◌, map, Option, None, Some, refl, sym, ap, subst, ◌∙◌, arith, ◌&&◌}
+use Rattle.std.proofs.Common.{◌≡◌, ℕ, suc, ◌≤◌, ◌<◌, Bool, true, false, cond, max, List, [], ◌∷◌, map, Option, None, Some, refl, sym, ap, subst, ◌∙◌, arith}
 use Rattle.std.specs.Prelude.{nat_eq}
 use Rattle.std.specs.List.{filter_map, cons_option}
 use Rattle.std.specs.Option.{option_and_then}
@@ -7,6 +7,7 @@ use Rattle.std.specs.Ordering.{nat_cmp, eq_by_cmp, is_lt}
 use Rattle.std.specs.FinMap.{find, is_sorted}
 use Rattle.std.specs.FinMap.Entries.{below_all}
 use Rattle.std.proofs.lemmas.Bool.Decides.{nat_tests}
+use Rattle.std.proofs.lemmas.Bool.{and_from}
 use Rattle.krl_modes.specs.declared.point.TheConstants.{END}
 use Rattle.krl_modes.specs.declared.part.KeyPart.{KeyPart}
 use Rattle.krl_cache.specs.declared.entry.Entry.{Entry}
@@ -87,22 +88,18 @@ rise-pick {A} {B} lo hi f a b from (e ∷ es) h l m =
 
 -- What is made of them
 
-both : (a b : Bool) → a ≡ true → b ≡ true → (a && b) ≡ true
-both true b p q = q
-both false b p q = p
-
 less : (k j : ℕ) → k < j → is_lt (nat_cmp k j) ≡ true
 less k j l = grind (arith, nat_tests)
 
 below : {A : Type 0} (k a b : ℕ) (es : List (ℕ × A)) → k < a → RiseWithin a b es → below_all nat_cmp k es ≡ true
 below k a b [] l h = refl
 below k a b (e ∷ es) l h =
-    both (is_lt (nat_cmp k e.0)) (below_all nat_cmp k es) (less k e.0 (omega (arith, l, h.0))) (below k (suc e.0) b es (omega (arith, l, h.0)) h.1)
+    and_from (is_lt (nat_cmp k e.0)) (below_all nat_cmp k es) (less k e.0 (omega (arith, l, h.0))) (below k (suc e.0) b es (omega (arith, l, h.0)) h.1)
 
 pub rise_sorted : {A : Type 0} (a b : ℕ) (es : List (ℕ × A)) → RiseWithin a b es → is_sorted nat_cmp es ≡ true
 rise_sorted a b [] h = refl
 rise_sorted a b (e ∷ es) h =
-    both (below_all nat_cmp e.0 es) (is_sorted nat_cmp es) (below e.0 (suc e.0) b es (omega arith) h.1) (rise_sorted (suc e.0) b es h.1)
+    and_from (below_all nat_cmp e.0 es) (is_sorted nat_cmp es) (below e.0 (suc e.0) b es (omega arith) h.1) (rise_sorted (suc e.0) b es h.1)
 
 part_in : (b : Bool) (e : Entry) (o : Option Entry) (r : KeyPart) → r ≡ part_of o → cond b e.part r ≡ part_of (cond b (Some e) o)
 part_in true e o r h = refl

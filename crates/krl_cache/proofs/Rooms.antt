@@ -4,6 +4,7 @@ use Rattle.std.specs.Prelude.{nat_eq, nat_lt, nat_le, if◌then◌else◌}
 use Rattle.std.specs.List.{AllByRecursion}
 use Rattle.std.specs.BTreeMap.{BTreeMap}
 use Rattle.std.proofs.lemmas.Bool.Decides.{nat_tests, eqb_tells}
+use Rattle.std.proofs.lemmas.Bool.{and_parts, or_parts, ltb-true, leb-true}
 use Rattle.krl_modes.specs.declared.point.TheConstants.{TOP}
 use Rattle.krl_modes.specs.declared.part.RangePart.{RangePart}
 use Rattle.krl_modes.specs.declared.part.KeyPart.{KeyPart}
@@ -18,7 +19,6 @@ use Rattle.krl_cache.specs.Beliefs.{is_span, is_last, adopt_all}
 use Rattle.krl_cache.specs.Lists.{belief_by, lies_in, own_entry}
 use Rattle.krl_cache.specs.Maps.{at, part_at, Maps, AreMapsKept, AreStartsMerged, BeginsAnew, EndsAlike, KeepsParts, HasEnds, IsUndone, CanUndo}
 use Rattle.krl_cache.specs.Several.{parts_after, entries_after, is_slot_of, is_end_of, AreMergedBetween, CanUndoBoth, AreReady, HasRoom}
-use Rattle.krl_cache.proofs.Truths.{and_true, or_false}
 use Rattle.krl_cache.proofs.Effects.{adopts}
 use Rattle.krl_cache.proofs.Starts.{IsMarked, part_marked}
 use Rattle.krl_cache.proofs.Marks.{some_of, restored}
@@ -29,21 +29,15 @@ use Rattle.krl_cache.proofs.Merges.{anew_still, anew_kept, anew_filled}
 abbrev pub AreSpans : List Holding → Type 0
 AreSpans hs = AllByRecursion (λ h. is_span h.span ≡ true) hs
 
-below_of : (a b : ℕ) → nat_lt a b ≡ true → a < b
-below_of a b e = grind (arith, nat_tests)
-
-most_of : (a b : ℕ) → nat_le a b ≡ true → a ≤ b
-most_of a b e = grind (arith, nat_tests)
-
 pub span_is : (s : Bounds) → is_span s ≡ true → (s.lo < s.hi) × (s.hi ≤ TOP)
-span_is s e = let x = and_true (nat_lt s.lo s.hi) (nat_le s.hi TOP) e in (below_of s.lo s.hi x.0, most_of s.hi TOP x.1)
+span_is s e = let x = and_parts (nat_lt s.lo s.hi) (nat_le s.hi TOP) e in (ltb-true s.lo s.hi x.0, leb-true s.hi TOP x.1)
 
 -- What is believed
 
 pub several_believed : (hs : List Holding) (old : ℕ → RangePart) (was : ℕ → Option Entry) → have_values hs ≡ true → belief_by (λ p. parts_after hs p (old p)) (λ p. entries_after hs p (was p)) ≡ adopt_all hs (belief_by old was)
 several_believed [] old was rules = refl
 several_believed (h ∷ hs) old was rules =
-    let x = and_true (has_its_value h) (have_values hs) rules in
+    let x = and_parts (has_its_value h) (have_values hs) rules in
     several_believed hs (λ p. if contains h.span p then range_of h.mode else old p) (λ p. if contains h.span p then (if is_last h.span p then own_entry h else None) else was p) x.1
     ∙ ap (adopt_all hs) (adopts h old (λ p. if contains h.span p then range_of h.mode else old p) was (λ p. if contains h.span p then (if is_last h.span p then own_entry h else None) else was p) x.0 (λ p. refl) (λ p. refl))
 
@@ -158,8 +152,8 @@ apart a b e = grind (arith, nat_tests)
 -- a point that is no end is none of the first span
 no_end : (h : Holding) (rest : List Holding) (q : ℕ) → is_end_of (h ∷ rest) q ≡ false → (q ≢ h.span.lo) × (q ≢ h.span.hi) × (is_end_of rest q ≡ false)
 no_end h rest q e =
-    let x = or_false (nat_eq q h.span.lo || nat_eq q h.span.hi) (is_end_of rest q) e in
-    let y = or_false (nat_eq q h.span.lo) (nat_eq q h.span.hi) x.0 in
+    let x = or_parts (nat_eq q h.span.lo || nat_eq q h.span.hi) (is_end_of rest q) e in
+    let y = or_parts (nat_eq q h.span.lo) (nat_eq q h.span.hi) x.0 in
     (apart q h.span.lo y.0, apart q h.span.hi y.1, x.1)
 
 pub filling_begins : (hs : List Holding) (f : ℕ → Option RangePart) (d : ℕ → Option Entry) → AreReady hs f d → Ascend hs → AreSpans hs → IsFilling hs f d hs f d
@@ -229,7 +223,7 @@ pub room_more : (h : Holding) (rest : List Holding) (f g k : ℕ → Option Rang
 room_more h rest f g k d e n lt top others here held marks r = record {
   ready = ((some_stays (g h.span.lo) (k h.span.lo) _ (r.starts h.span.lo) (subst IsSome (sym marks.low) refl), some_stays (g h.span.hi) (k h.span.hi) _ (r.starts h.span.hi) (subst IsSome (sym marks.high) refl), λ x. r.stay (h.span.hi - 1) (held x)), r.ready);
   starts = λ q. after q (r.starts q);
-  entries = λ q x. let y = or_false (is_last h.span q) (is_slot_of rest q) x in r.entries q y.1 ∙ others q (λ z. no_last (is_last h.span q) y.0 (at_last h.span.hi q lt z));
+  entries = λ q x. let y = or_parts (is_last h.span q) (is_slot_of rest q) x in r.entries q y.1 ∙ others q (λ z. no_last (is_last h.span q) y.0 (at_last h.span.hi q lt z));
   stay = λ q x. r.stay q (elim (eqb_tells q (h.span.hi - 1)) [
     | inl a ↦ subst (λ (i : ℕ). IsSome (e i)) (sym a.1) (here (subst (λ (i : ℕ). IsSome (d i)) a.1 x))
     | inr a ↦ subst IsSome (sym (others q a.1)) x
@@ -238,11 +232,6 @@ room_more h rest f g k d e n lt top others here held marks r = record {
   others = λ q e. let y = no_end h rest q e in r.others q y.2 ∙ marks.others q y.0 y.1;
 }
   where
-    or_false : (a b : Bool) → (a || b) ≡ false → (a ≡ false) × (b ≡ false)
-    or_false false false x = (refl, refl)
-    or_false false true x = absurd (let bad : true ≡ false = x in cc)
-    or_false true b x = absurd (let bad : true ≡ false = x in cc)
-
     no_last : (b : Bool) → b ≡ false → b ≡ true → ⊥
     no_last b x y = absurd (let bad : false ≡ true = sym x ∙ y in cc)
 

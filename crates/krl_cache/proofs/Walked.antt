@@ -2,13 +2,13 @@
 use Rattle.std.proofs.Common.{◌≡◌, ℕ, ◌+◌, ◌≤◌, ◌<◌, inl, inr, Bool, true, false, ◌&&◌, ◌||◌, List, [], ◌∷◌, Option, None, Some, refl, sym, ap, subst, ◌∙◌, arith}
 use Rattle.std.specs.Prelude.{nat_eq}
 use Rattle.std.proofs.lemmas.Bool.Decides.{leb_tells, eqb_tells}
+use Rattle.std.proofs.lemmas.Bool.{and_parts, or_parts, or_from, or_left, or_right}
 use Rattle.krl_modes.specs.declared.part.RangePart.{RangePart}
 use Rattle.krl_modes.specs.Parts.{reads_key, reads_gap}
 use Rattle.krl_cache.specs.declared.entry.Entry.{Entry}
 use Rattle.krl_cache.specs.Lists.{part_of}
 use Rattle.krl_cache.specs.Maps.{IsFree, IsFirst, AreNext}
 use Rattle.krl_cache.specs.Walks.{StandsFrom, TakesBelow, is_known, AreKnown, Walks}
-use Rattle.krl_cache.proofs.Truths.{or_false}
 use Rattle.krl_cache.proofs.Rests.{next_later}
 use Rattle.krl_cache.proofs.Scans.{next_head}
 
@@ -20,18 +20,6 @@ pub record Comes (part : RangePart) (lo hi : ℕ) (old : List (ℕ × Entry)) (p
 -- each point from p to the entry is known
 abbrev pub knows : RangePart → ℕ → ℕ × Entry → Bool
 knows part p e = reads_gap part || (nat_eq p e.0 && reads_key e.1.part)
-
-or_left : (a b : Bool) → a ≡ true → (a || b) ≡ true
-or_left true b h = refl
-or_left false b h = absurd (let bad : false ≡ true = h in cc)
-
-or_right : (a b : Bool) → b ≡ true → (a || b) ≡ true
-or_right true b h = refl
-or_right false b h = h
-
-neither : (a b : Bool) → a ≡ false → b ≡ false → (a || b) ≡ false
-neither true b h k = absurd (let bad : true ≡ false = h in cc)
-neither false b h k = k
 
 pub comes_first : (part : RangePart) (lo hi : ℕ) (old : List (ℕ × Entry)) → lo ≤ hi → Comes part lo hi old lo old
 comes_first part lo hi old l = record { below = l; walked = λ f end e h. (omega arith, (λ q a b. absurd (omega (arith, a, b))), h) }
@@ -54,14 +42,10 @@ one_more part f lo p e known here same reads q a b =
       | inr l ↦ known q a (omega (arith, l.1, same))
     ]
 
-both : (a b : Bool) → (a && b) ≡ true → (a ≡ true) × (b ≡ true)
-both true b h = (refl, h)
-both false b h = absurd (let bad : false ≡ true = h in cc)
-
 knows_on : (part : RangePart) (f : ℕ → Option Entry) (lo p : ℕ) (e : ℕ × Entry) (r : Bool) → reads_gap part ≡ r → (r || (nat_eq p e.0 && reads_key e.1.part)) ≡ true → AreKnown part f lo p → f e.0 ≡ Some e.1 → AreKnown part f lo (e.0 + 1)
 knows_on part f lo p e true r t known here = gap_read part f lo (e.0 + 1) r
 knows_on part f lo p e false r t known here =
-    let h = both (nat_eq p e.0) (reads_key e.1.part) t in
+    let h = and_parts (nat_eq p e.0) (reads_key e.1.part) t in
     elim (eqb_tells p e.0) [
       | inl i ↦ one_more part f lo p e known here i.1 h.1
       | inr i ↦ absurd (let bad : true ≡ false = sym h.0 ∙ i.0 in cc)
@@ -81,7 +65,7 @@ unknown_here part f p end e first r t =
     elim (eqb_tells p e.0) [
       | inl i ↦
           let unread : reads_key e.1.part ≡ false = subst (λ (b : Bool). (b && reads_key e.1.part) ≡ false) i.0 t in
-          subst (λ (n : ℕ). is_known part (f n) ≡ false) (sym i.1) (ap (λ (o : Option Entry). is_known part o) first.here ∙ neither (reads_key e.1.part) (reads_gap part) unread r)
+          subst (λ (n : ℕ). is_known part (f n) ≡ false) (sym i.1) (ap (λ (o : Option Entry). is_known part o) first.here ∙ or_from (reads_key e.1.part) (reads_gap part) unread r)
       | inr i ↦ ap (λ (o : Option Entry). is_known part o) (first.free p (omega arith) (omega (arith, first.from, i.1))) ∙ r
     ]
 
@@ -90,7 +74,7 @@ pub stops : (part : RangePart) (lo hi p : ℕ) (old now next : List (ℕ × Entr
 stops part lo hi p old now next e c takes k f end l h =
     let w = c.walked f end l h in
     let first = next_head f p end now next e w.2 takes.1 in
-    let no = or_false (reads_gap part) (nat_eq p e.0 && reads_key e.1.part) k in
+    let no = or_parts (reads_gap part) (nat_eq p e.0 && reads_key e.1.part) k in
     record {
       from = w.0;
       below = omega (arith, first.0.from, takes.0);

@@ -1,6 +1,7 @@
 -- What a client does with each message, by what its tests say.
-use Rattle.std.proofs.Common.{◌≡◌, ◌≢◌, ℕ, suc, ◌<◌, ◌≤◌, Bool, true, false, ◌&&◌, List, [], ◌∷◌, ◌++◌, refl, sym, ap, ◌∙◌, subst, arith, nat_eq, nat_lt, nat_le, eq-eqb, lt-ltb, le-ltb, leb-true, eqb-true}
+use Rattle.std.proofs.Common.{◌≡◌, ◌≢◌, ℕ, suc, ◌<◌, ◌≤◌, true, false, ◌&&◌, List, [], ◌∷◌, ◌++◌, refl, sym, ap, ◌∙◌, subst, arith, nat_eq, nat_lt, nat_le, eq-eqb, lt-ltb, le-ltb, leb-true, eqb-true}
 use Rattle.std.proofs.lemmas.Bool.Decides.{nat_tests}
+use Rattle.std.proofs.lemmas.Bool.{and_parts}
 use Rattle.krl_modes.specs.declared.point.TheConstants.{END}
 use Rattle.krl_modes.specs.declared.mode.Mode.{Mode}
 use Rattle.krl_modes.specs.Spans.{Bounds, contains}
@@ -19,9 +20,6 @@ use Rattle.krl_client.specs.Fields.{judged_where, Follows, IsTick, IsOpening}
 
 pub differ : (a b : ℕ) → a ≢ b → nat_eq a b ≡ false
 differ a b ne = grind (arith, nat_tests)
-
-never : {A : Type 0} → false ≡ true → A
-never h = absurd (let bad : false ≡ true = h in cc)
 
 -- Follows, where no pieces are told: some describe the belief
 
@@ -63,13 +61,9 @@ push_again k epoch number what e f n s = rw (eq-eqb epoch k.epoch e, f, n, eq-eq
 pub push_other : (k : Client) (epoch number : ℕ) (what : PushBody) → epoch ≡ k.epoch → fits what ≡ true → (nat_eq number (suc k.seen) && nat_le number END) ≡ false → number ≢ k.seen → case_of_body k (told.Push epoch number what) ≡ Ignores
 push_other k epoch number what e f n s = rw (eq-eqb epoch k.epoch e, f, n, differ number k.seen s)
 
-and_true : (a b : Bool) → (a && b) ≡ true → (a ≡ true) × (b ≡ true)
-and_true true b h = (refl, h)
-and_true false b h = never h
-
 pub next_fits : (number seen : ℕ) → (nat_eq number (suc seen) && nat_le number END) ≡ true → suc seen ≤ END
 next_fits number seen h =
-    let parts = and_true (nat_eq number (suc seen)) (nat_le number END) h in
+    let parts = and_parts (nat_eq number (suc seen)) (nat_le number END) h in
     let e = eqb-true number (suc seen) parts.0 in
     let l = leb-true number END parts.1 in subst (λ (n : ℕ). n ≤ END) e l
 

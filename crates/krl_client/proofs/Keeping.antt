@@ -1,6 +1,7 @@
 -- Each call leaves a client.
 use Rattle.std.proofs.Common.{◌≡◌, ℕ, zero, suc, ◌+◌, ◌≤◌, ◌<◌, inl, inr, Bool, true, false, ◌&&◌, ◌||◌, not, Option, Some, None, is_some, refl, sym, subst, arith, nat_eq, nat_lt, nat_le, leb-false, ltb-false, if◌then◌else◌}
 use Rattle.std.proofs.lemmas.Bool.Decides.{eqb_tells}
+use Rattle.std.proofs.lemmas.Bool.{and_parts}
 use Rattle.krl_modes.specs.declared.point.TheConstants.{END}
 use Rattle.krl_modes.specs.declared.mode.Mode.{Mode}
 use Rattle.krl_modes.specs.declared.mode.Mode.TheVariants as mode
@@ -21,7 +22,7 @@ use Rattle.krl_client.specs.Clients.{Client, Asked, NotAsked, Granted, NoEntry, 
 use Rattle.krl_client.specs.Commands.{start_refusal, lock_refusal, locked, write_refusal, wrote, holds_for, lowered, pin_refusal, pinned, unpinned}
 use Rattle.krl_client.specs.Messages.{Case, Ignores, AcksAgain, Adopts, Accepts, Lowers, case_of, case_of_body, after, fits, dropped, joined, judged_as, accepted}
 use Rattle.krl_client.specs.Keeps.{IsPin, IsClient, LiesOnSpan, BringsSpan, ClientKeeps}
-use Rattle.krl_client.proofs.Tests.{and_true, passed}
+use Rattle.krl_client.proofs.Tests.{passed}
 use Rattle.krl_client.proofs.Cases.{next_fits}
 
 pub start_keeps : (c incarnation : ℕ) → start_refusal c incarnation ≡ None → IsClient (begun c incarnation)
@@ -251,7 +252,7 @@ body_keeps k (told.Epoch epoch) s = keeps_either k (nat_lt k.epoch epoch) (Adopt
 body_keeps k (told.Push epoch number what) s =
     keeps_either k (nat_eq epoch k.epoch && fits what) _ Ignores
     (λ t. keeps_either k (nat_eq number (suc k.seen) && nat_le number END) (Accepts what) _
-    (λ u i. accept_keeps k what (next_fits number k.seen u) (accepts_belief k what (and_true (nat_eq epoch k.epoch) (fits what) t).1 s i.belief) i)
+    (λ u i. accept_keeps k what (next_fits number k.seen u) (accepts_belief k what (and_parts (nat_eq epoch k.epoch) (fits what) t).1 s i.belief) i)
     (keeps_either k (nat_eq number k.seen) AcksAgain Ignores (λ w i. i) (λ i. i)))
     (λ i. i)
 body_keeps k (told.Callback epoch s keep) b =

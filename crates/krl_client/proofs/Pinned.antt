@@ -1,7 +1,8 @@
 -- Pins: the least free id, the span that meets one, and a pin that is set.
-use Rattle.std.proofs.Common.{◌≡◌, ◌≢◌, ℕ, zero, suc, ◌<◌, ◌≤◌, ◌+◌, inl, inr, Bool, true, false, ◌||◌, Option, None, Some, is_some, List, [], ◌∷◌, ◌++◌, length, get_or, set, refl, sym, ap, ◌∙◌, arith, get_or-set_same, get_or-set_other}
+use Rattle.std.proofs.Common.{◌≡◌, ◌≢◌, ℕ, zero, suc, ◌<◌, ◌≤◌, ◌+◌, inl, inr, true, false, Option, None, Some, is_some, List, [], ◌∷◌, ◌++◌, length, get_or, set, refl, sym, ap, ◌∙◌, arith, get_or-set_same, get_or-set_other}
 use Rattle.std.proofs.Math.Seq.{get_or-append_seam}
 use Rattle.std.proofs.lemmas.Bool.Decides.{eqb_tells}
+use Rattle.std.proofs.lemmas.Bool.{or_from, or_left, or_right}
 use Rattle.krl_modes.specs.Spans.{Bounds}
 use Rattle.krl_client.specs.Clients.{if_taken, free_from, pin_meets, meets_one, with_pin}
 use Rattle.krl_client.specs.Fields.{pins_of}
@@ -22,21 +23,9 @@ free_more pins i n j m p q h = rw (p, q) (taken (pins i) i (free_from pins (suc 
 pub free_here : (pins : ℕ → Option Bounds) (i n m : ℕ) → n ≡ suc m → is_some (pins i) ≡ false → free_from pins i n ≡ Some i
 free_here pins i n m q h = rw q (untaken (pins i) i (free_from pins (suc i) m) h)
 
-or_false : (a b : Bool) → a ≡ false → b ≡ false → (a || b) ≡ false
-or_false true b p q = p
-or_false false b p q = q
-
-or_left : (a b : Bool) → a ≡ true → (a || b) ≡ true
-or_left true b p = refl
-or_left false b p = absurd (let bad : false ≡ true = p in cc)
-
-or_right : (a b : Bool) → b ≡ true → (a || b) ≡ true
-or_right true b p = refl
-or_right false b p = p
-
 -- a span that meets none of the first i pins, nor the next
 pub meets_more : (pins : ℕ → Option Bounds) (i j : ℕ) (s : Bounds) → j ≡ suc i → meets_one pins i s ≡ false → pin_meets s (pins i) ≡ false → meets_one pins j s ≡ false
-meets_more pins i j s p h k = rw p (or_false (pin_meets s (pins i)) (meets_one pins i s) k h)
+meets_more pins i j s p h k = rw p (or_from (pin_meets s (pins i)) (meets_one pins i s) k h)
 
 pub meets_found : (pins : ℕ → Option Bounds) (n i : ℕ) (s : Bounds) → i < n → pin_meets s (pins i) ≡ true → meets_one pins n s ≡ true
 meets_found pins zero i s lt h = absurd (omega arith)

@@ -1,6 +1,6 @@
 -- Each message that a client takes is some steps of its link.
 use Rattle.std.proofs.Common.{◌≡◌, ◌≢◌, ℕ, suc, ◌≤◌, ◌<◌, Bool, true, false, ◌&&◌, ◌||◌, not, Option, Some, None, is_some, unwrap_or, List, [], ◌∷◌, ◌⊎◌, inl, inr, refl, sym, ap, subst, ◌∙◌, ⊎_elim, arith, nat_eq, nat_lt, nat_le, if◌then◌else◌, ltb-true, eqb-true}
-use Rattle.std.proofs.lemmas.Bool.{eqb-false}
+use Rattle.std.proofs.lemmas.Bool.{eqb-false, and_parts, or_parts, not-true}
 use Rattle.krl_modes.specs.declared.point.TheConstants.{END}
 use Rattle.krl_modes.specs.declared.part.KeyPart.{KeyPart}
 use Rattle.krl_modes.specs.declared.part.KeyPart.TheVariants as key
@@ -27,7 +27,6 @@ use Rattle.krl_messages.specs.Several.{have_values}
 use Rattle.krl_messages.specs.Members.{In}
 use Rattle.krl_cache.specs.Beliefs.{Belief, is_last, adopt, adopt_all}
 use Rattle.krl_cache.specs.Kept.{Describes}
-use Rattle.krl_cache.proofs.Truths.{and_true, or_false, not_is_true}
 use Rattle.krl_cache.proofs.Calls.{same_of, last_not_end, none_at_end}
 use Rattle.krl_client.specs.Clients.{Client, Asked, Granted, NoEntry, Written, Unwritten, Outstanding, Judged, outstanding, is_writing_in, meets_pin}
 use Rattle.krl_client.specs.Messages.{asked_after, says_ack, says_report, joined, accepted, judged_as, fits, Case, Ignores, AcksAgain, Adopts, Accepts, Lowers, case_of, case_of_body, after, sends}
@@ -65,7 +64,7 @@ AllFit hs = AllByRecursion (λ h. has_its_value h ≡ true) hs
 
 each_fits : (hs : List Holding) → have_values hs ≡ true → AllFit hs
 each_fits [] e = tt
-each_fits (h ∷ hs) e = let x = and_true (has_its_value h) (have_values hs) e in (x.0, each_fits hs x.1)
+each_fits (h ∷ hs) e = let x = and_parts (has_its_value h) (have_values hs) e in (x.0, each_fits hs x.1)
 
 one_first : (o : Option Said) (h : Holding) (q : ℕ) (x : Said) → unwrap_or o (unwrap_or (or_by None h q) x) ≡ unwrap_or (or_by o h q) x
 one_first None h q x = refl
@@ -213,8 +212,8 @@ body_shows s l c g k ps inc (told.Epoch epoch) d h e at = makes_either s l c g k
     (λ t. adopts_shows s l c g k ps inc epoch d h at e (ltb-true k.epoch epoch t))
     (λ f. rests s l c g (Some k) h)
 body_shows s l c g k ps inc (told.Push epoch number what) d h e at = makes_either s l c g k ps (nat_eq epoch k.epoch && fits what) _ Ignores
-    (λ t. let own = and_true (nat_eq epoch k.epoch) (fits what) t in makes_either s l c g k ps (nat_eq number (suc k.seen) && nat_le number END) (Accepts what) _
-    (λ u. let n = eqb-true number (suc k.seen) (and_true (nat_eq number (suc k.seen)) (nat_le number END) u).0 in
+    (λ t. let own = and_parts (nat_eq epoch k.epoch) (fits what) t in makes_either s l c g k ps (nat_eq number (suc k.seen) && nat_le number END) (Accepts what) _
+    (λ u. let n = eqb-true number (suc k.seen) (and_parts (nat_eq number (suc k.seen)) (nat_le number END) u).0 in
     let o = eqb-true epoch k.epoch own.0 in
     accept_shows s l c g k at.0 what h own.1 (record { sent = at.1; inc = cc (at.2, e); epoch = cc (at.3, o); number = cc (at.4, n) }) at.6)
     (λ u. makes_either s l c g k ps (nat_eq number k.seen) AcksAgain Ignores
@@ -222,13 +221,13 @@ body_shows s l c g k ps inc (told.Push epoch number what) d h e at = makes_eithe
     (λ w. rests s l c g (Some k) h)))
     (λ f. rests s l c g (Some k) h)
 body_shows s l c g k ps inc (told.Callback epoch span keep) d h e at = makes_either s l c g k ps (nat_eq epoch k.epoch && not (is_writing_in k span || meets_pin k span)) (Lowers span keep) Ignores
-    (λ t. let x = and_true (nat_eq epoch k.epoch) (not (is_writing_in k span || meets_pin k span)) t in
-    lowers_show s l c g k span keep h (own_epoch c k l epoch h.1 at.0 x.0) at.1 (or_false (is_writing_in k span) (meets_pin k span) (not_is_true _ x.1)).0)
+    (λ t. let x = and_parts (nat_eq epoch k.epoch) (not (is_writing_in k span || meets_pin k span)) t in
+    lowers_show s l c g k span keep h (own_epoch c k l epoch h.1 at.0 x.0) at.1 (or_parts (is_writing_in k span) (meets_pin k span) (not-true _ x.1)).0)
     (λ f. rests s l c g (Some k) h)
 
 pub receives_show : (s : Shared) (l : Link) (c g : ℕ) (k : Client) (ps : Pieces) (m : ToClient) → Describes ps k.belief → ShowsSeat c g (Some k) l → (m.client ≡ c → IsTo l m.incarnation m.body) → Makes s l c g k ps (case_of k m)
 receives_show s l c g k ps m d h at = makes_either s l c g k ps (nat_eq m.client k.number && nat_eq m.incarnation k.incarnation) (case_of_body k m.body) Ignores
-    (λ t. let x = and_true (nat_eq m.client k.number) (nat_eq m.incarnation k.incarnation) t in
+    (λ t. let x = and_parts (nat_eq m.client k.number) (nat_eq m.incarnation k.incarnation) t in
     let n = eqb-true m.client k.number x.0 in
     body_shows s l c g k ps m.incarnation m.body d h (eqb-true m.incarnation k.incarnation x.1) (at (cc (n, h.1.number))))
     (λ f. rests s l c g (Some k) h)

@@ -1,5 +1,6 @@
 -- Starts, crashes and commands are steps of the client's link.
 use Rattle.std.proofs.Common.{◌≡◌, ℕ, suc, ◌≤◌, ◌<◌, ◌-◌, Bool, true, false, ◌&&◌, Option, Some, None, [], ◌∷◌, ◌⊎◌, inl, inr, refl, sym, subst, ◌∙◌, ⊎_elim, arith, nat_lt, nat_le, not, if◌then◌else◌, ltb-true}
+use Rattle.std.proofs.lemmas.Bool.{and_parts, not-false}
 use Rattle.krl_modes.specs.declared.point.TheConstants.{END, TOP}
 use Rattle.krl_modes.specs.declared.part.KeyPart.{KeyPart}
 use Rattle.krl_modes.specs.declared.part.KeyPart.TheVariants as key
@@ -19,12 +20,11 @@ use Rattle.krl_protocol.proofs.Modes.{mode_parts}
 use Rattle.krl_modes.specs.Parts.{reads_key}
 use Rattle.krl_cache.specs.Beliefs.{lower, is_span}
 use Rattle.krl_client.specs.declared.refused.CommandRefused.TheVariants as refused
-use Rattle.krl_cache.proofs.Truths.{and_true, not_is_false, none_left, outside_span}
+use Rattle.krl_cache.proofs.Truths.{none_left, outside_span}
 use Rattle.krl_cache.proofs.Calls.{either_none}
 use Rattle.krl_messages.specs.Writes.{op_key as key_of_op}
 use Rattle.krl_client.specs.Clients.{Client, begun, Asked, Waiting, outstanding, has_joined, is_in, is_writing_in}
 use Rattle.krl_modes.specs.Parts.{is_key_X, is_range_X}
-use Rattle.krl_messages.specs.Members.{In}
 use Rattle.krl_client.specs.Commands.{holds_for, lock_refusal, write_refusal, forget_refusal, locked, wrote, lowered, forgot, says_lock, says_write, says_release, says_bye}
 use Rattle.krl_client.specs.Ticks.{says_hello}
 use Rattle.krl_client_machine.specs.Shows.{op_of, op_shown, Grows, server_part, IsFrom, ShowsClient, ShowsSeat, Leads}
@@ -86,15 +86,15 @@ more_heads l = record { hellos = λ x i. i; byes = λ x i. i; heads = λ x i. in
 
 pub locks_show : (s : Shared) (l : Link) (c g : ℕ) (k : Client) (point hi : ℕ) (mode : Mode) → ShowsSeat c g (Some k) l → lock_refusal k point hi ≡ None → Leads s l c g (Some (locked k point hi mode)) (says_lock (locked k point hi mode) point hi mode ∷ [])
 locks_show s l c g k point hi mode h e = let p = passed (nat_lt END point) refused.BadPoint _ e in let r = passed (not (is_span (record { lo = point; hi = hi }))) refused.BadSpan _ p.1 in let q = passed (not (has_joined k)) refused.NotJoined _ r.1 in
-    took s l _ c g _ _ h.1.number refl (speaks h.1.up (joined_epoch c k l h.1 (not_is_false _ q.0))) (more_heads l) (h.0, other_parts c k l.client (suc k.req) (Waiting point hi mode) k.pins h.1) (inl (sym (head_is c k l h.1)), tt)
+    took s l _ c g _ _ h.1.number refl (speaks h.1.up (joined_epoch c k l h.1 (not-false _ q.0))) (more_heads l) (h.0, other_parts c k l.client (suc k.req) (Waiting point hi mode) k.pins h.1) (inl (sym (head_is c k l h.1)), tt)
 
 -- Writes
 
 may_issue : (c : ℕ) (k : Client) (l : Link) (change : WriteOp) → ShowsClient c k l.client → holds_for k.belief change ≡ true → MayIssue l (op_of change)
 may_issue c k l (op.Insert n v) h e = tt
 may_issue c k l (op.Put n v) h e = tt
-may_issue c k l (op.Delete n) h e = let x = and_true (is_key_X (k.belief.key_at n) && is_range_X (k.belief.range_at n)) _ e in
-    let y = and_true (is_key_X (k.belief.key_at n)) (is_range_X (k.belief.range_at n)) x.0 in
+may_issue c k l (op.Delete n) h e = let x = and_parts (is_key_X (k.belief.key_at n) && is_range_X (k.belief.range_at n)) _ e in
+    let y = and_parts (is_key_X (k.belief.key_at n)) (is_range_X (k.belief.range_at n)) x.0 in
     let z = it_is_x (k.belief.range_at n) y.1 in cc (h.range n)
 
 -- the reasons that a write isn't refused for
@@ -105,7 +105,7 @@ record MayWrite (k : Client) (change : WriteOp) : Type 0 where
 
 may_write : (k : Client) (change : WriteOp) → write_refusal k change ≡ None → MayWrite k change
 may_write k change e = let p1 = passed _ _ _ e in let p2 = passed _ _ _ p1.1 in let p3 = passed _ _ _ p2.1 in let p4 = passed _ _ _ p3.1 in
-    record { joined = not_is_false _ p2.0; free = none_left (outstanding k.written) p3.0; holds = not_is_false _ p4.0 }
+    record { joined = not-false _ p2.0; free = none_left (outstanding k.written) p3.0; holds = not-false _ p4.0 }
 
 -- no write is outstanding in the machine's client either
 nothing_out : (k : Client) (out : Option Op) → out ≡ op_shown (outstanding k.written) → outstanding k.written ≡ None → out ≡ None
@@ -180,4 +180,4 @@ lowers_show s l c g k span keep h old some free = took s l _ c g _ _ h.1.number 
 
 pub forgets_show : (s : Shared) (l : Link) (c g : ℕ) (k : Client) (span : Bounds) → ShowsSeat c g (Some k) l → forget_refusal k span ≡ None → Leads s l c g (Some (forgot k span)) (says_release k span mode.N ∷ [])
 forgets_show s l c g k span h e = let p1 = passed _ _ _ e in let p2 = passed _ _ _ p1.1 in let p3 = passed _ _ _ p2.1 in
-    lowers_show s l c g k span mode.N h (joined_epoch c k l h.1 (not_is_false _ p2.0)) (ltb-true span.lo span.hi (and_true (nat_lt span.lo span.hi) (nat_le span.hi TOP) (not_is_false _ p1.0)).0) p3.0
+    lowers_show s l c g k span mode.N h (joined_epoch c k l h.1 (not-false _ p2.0)) (ltb-true span.lo span.hi (and_parts (nat_lt span.lo span.hi) (nat_le span.hi TOP) (not-false _ p1.0)).0) p3.0

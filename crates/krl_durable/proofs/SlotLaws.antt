@@ -3,6 +3,7 @@ use Rattle.std.proofs.Common.{◌≡◌, ◌≢◌, ℕ, suc, ◌≤◌, ◌<◌
 use Rattle.std.proofs.Common.{nat_eq, ltb-true, ltb-false, ne_eqb}
 use Rattle.std.proofs.lemmas.Bool.{cases_lt}
 use Rattle.std.proofs.lemmas.Bool.Decides.{nat_tests}
+use Rattle.std.proofs.lemmas.Option.{none-some}
 use Rattle.std.specs.Prelude.{nat_lt, nat_le, is_some, if◌then◌else◌}
 use Rattle.std.specs.List.{filter}
 use Rattle.std.specs.Ordering.{nat_cmp, eq_by_cmp}
@@ -13,9 +14,6 @@ use Rattle.krl_messages.specs.Values.{Value}
 use Rattle.krl_durable.specs.Index.{Index, first_or_end, after_keys, slot_of, low_of, is_slot, IsSlotOf, IsSpanOf}
 use Rattle.krl_durable.specs.Kept.{AreBelowEnd}
 use Rattle.krl_durable.proofs.Slots.{Above, Rises, rises, find_here}
-
-pub no_none : {X : Type 0} (x : X) → None ≡ Some x → ⊥
-no_none x e = absurd (cc)
 
 -- each key of the list is at or above k
 abbrev pub From : ℕ → List (ℕ × Value) → Type 0
@@ -61,11 +59,11 @@ first_is [] p h near le = record { at = λ ne. absurd (ne refl); low = le; high 
 first_is (e ∷ es) p h near le = by_test (nat_le p e.0) refl (first_is es p h.1 (λ k a. sym (find_past k e es (λ f. omega (arith, f, a, under))) ∙ near k a) le)
   where
     under : e.0 < END
-    under = ⊎_elim (λ (a : e.0 < END). a) (λ (a : END ≤ e.0). absurd (no_none e.1 (sym (near e.0 a) ∙ find_here e es))) (cases_lt e.0 END)
+    under = ⊎_elim (λ (a : e.0 < END). a) (λ (a : END ≤ e.0). absurd (none-some e.1 (sym (near e.0 a) ∙ find_here e es))) (cases_lt e.0 END)
 
     by_test : (b : Bool) → nat_le p e.0 ≡ b → IsFirst es p (first_or_end (filter (λ e. nat_le p e.0) es)) → IsFirst (e ∷ es) p (first_or_end (if b then e ∷ filter (λ e. nat_le p e.0) es else filter (λ e. nat_le p e.0) es))
     by_test true t ih = record {
-      at = λ ne none. no_none e.1 (sym none ∙ find_here e es);
+      at = λ ne none. none-some e.1 (sym none ∙ find_here e es);
       low = grind (arith, nat_tests);
       high = omega (arith, under);
       gap = λ k a b. find_past k e es (λ f. omega (arith, f, b)) ∙ find_below k (suc e.0) es (from_above e.0 es h.0) (omega (arith, b));
@@ -87,7 +85,7 @@ low_is (e ∷ es) n low q h from = by_test (nat_lt e.0 n) refl (low_is es n (suc
       λ le. let x = ih.0 le in (omega (arith, x.0, from.0), λ k a b. find_past k e es (λ f. omega (arith, f, a, x.0)) ∙ x.1 k a b),
       λ x. ⊎_elim
           (λ (a : e.0 < q). ih.1 (a, λ k b c. sym (find_past k e es (λ f. omega (arith, f, a, b))) ∙ x.1 k b c))
-          (λ (a : q ≤ e.0). absurd (no_none e.1 (sym (x.1 e.0 a (ltb-true e.0 n t)) ∙ find_here e es))) (cases_lt e.0 q),
+          (λ (a : q ≤ e.0). absurd (none-some e.1 (sym (x.1 e.0 a (ltb-true e.0 n t)) ∙ find_here e es))) (cases_lt e.0 q),
     )
     by_test false t other ih = let far = ltb-false e.0 n t in (
       λ le. let x = ih.0 le in (x.0, λ k a b. find_past k e es (λ f. omega (arith, f, b, far)) ∙ x.1 k a b),

@@ -11,6 +11,7 @@ use Rattle.krl_blocks.specs.Laid.{flat}
 use Rattle.krl_blocks.proofs.Places.{flat_join}
 use Rattle.krl_blocks.proofs.Readings.{flat_next}
 use Rattle.std.proofs.lemmas.Bool.Decides.{nat_tests}
+use Rattle.std.proofs.lemmas.Bool.{and_parts, not-false}
 use Rattle.krl_durable.specs.Index.{Index}
 use Rattle.std.specs.List.{filter}
 use Rattle.rand_pcg.specs.Lcg.{Lcg}
@@ -50,14 +51,10 @@ together w h p c d l =
 sound_at : (w : State) → IsCompatible w → (n p : ℕ) → is_sound_at w n p ≡ true
 sound_at w h n p = all_of_below n (λ (c : ℕ). all_below c (go_together w p c)) (λ c lt. all_of_below c (go_together w p c) (λ d l. together w h p c d l))
 
-not_false : (b : Bool) → not b ≡ false → b ≡ true
-not_false true e = refl
-not_false false e = absurd (let bad : true ≡ false = e in cc)
-
 pub sound_points : (w : State) (n m : ℕ) (r : Option ℕ) (b : Bool) → r ≡ first_unsound w n (numbers_below m) → is_some r ≡ not b → IsCompatible w → b ≡ true
 sound_points w n m r b e is h =
     let none : first_unsound w n (numbers_below m) ≡ None = none_unsound m (λ (p : ℕ). not (is_sound_at w n p)) (λ p. rw (sound_at w h n p) refl) in
-    not_false b (sym is ∙ ap is_some (e ∙ none))
+    not-false b (sym is ∙ ap is_some (e ∙ none))
 
 -- a world in which nothing has happened
 fresh_compatible : (entries : List (ℕ × Value)) → IsCompatible (fresh entries)
@@ -129,21 +126,13 @@ drop_at es i d l = drop-cons es i d l ∙ ap (λ (k : ℕ). get_or es i d ∷ dr
 abbrev pub same_row : ℕ × Value → ℕ × Value → Bool
 same_row r e = nat_eq r.0 e.0 && (pointwise nat_eq (padded r.1) (padded e.1) && nat_eq (length r.1) (length e.1))
 
-both_true : (a b : Bool) → (a && b) ≡ true → (a ≡ true) × (b ≡ true)
-both_true true b e = (refl, e)
-both_true false b e = absurd (let bad : false ≡ true = e in cc)
-
-not_true : (b : Bool) → not b ≡ true → b ≡ false
-not_true true e = absurd (let bad : false ≡ true = e in cc)
-not_true false e = refl
-
 from_padded : (xs : List ℕ) → take (length xs) (padded xs) ≡ xs
 from_padded xs = take-append_seam xs (replicate (32 - length xs) 0)
 
 rows_equal : (r e : ℕ × Value) → same_row r e ≡ true → r ≡ e
 rows_equal r e is =
-    let key = both_true (nat_eq r.0 e.0) (pointwise nat_eq (padded r.1) (padded e.1) && nat_eq (length r.1) (length e.1)) is in
-    let rest = both_true (pointwise nat_eq (padded r.1) (padded e.1)) (nat_eq (length r.1) (length e.1)) key.1 in
+    let key = and_parts (nat_eq r.0 e.0) (pointwise nat_eq (padded r.1) (padded e.1) && nat_eq (length r.1) (length e.1)) is in
+    let rest = and_parts (pointwise nat_eq (padded r.1) (padded e.1)) (nat_eq (length r.1) (length e.1)) key.1 in
     let bytes = same_text (padded r.1) (padded e.1) (sym rest.0) in
     let same : r.1 ≡ e.1 =
     sym (from_padded r.1) ∙ ap (λ (n : ℕ). take n (padded r.1)) (eqb-true (length r.1) (length e.1) rest.1) ∙ ap (λ (xs : List ℕ). take (length e.1) xs) bytes ∙ from_padded e.1 in

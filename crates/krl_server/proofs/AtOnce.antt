@@ -1,8 +1,8 @@
 -- A grant at once, while nobody waits on the slot: it is what a place in the queue and a turn would give.
 use Rattle.std.proofs.Common.{◌≡◌, ◌≢◌, ℕ, suc, ◌*◌, ◌≤◌, ◌<◌, Bool, true, false, not, ◌&&◌, ◌||◌, nat_eq, Option, Some, None, List, [], ◌∷◌, ◌++◌, length, refl, sym, ap, subst, ◌∙◌, arith}
-use Rattle.std.proofs.lemmas.Bool.{lt-ltb}
+use Rattle.std.proofs.lemmas.Bool.{lt-ltb, and_parts}
 use Rattle.std.proofs.Math.Path.{fun_ext}
-use Rattle.std.specs.Prelude.{nat_lt, is_some, set, if◌then◌else◌}
+use Rattle.std.specs.Prelude.{is_some, set, if◌then◌else◌}
 use Rattle.krl_modes.specs.declared.point.TheConstants.{END}
 use Rattle.krl_modes.specs.declared.mode.Mode.{Mode}
 use Rattle.krl_modes.specs.declared.mode.Mode.TheVariants as mode
@@ -37,7 +37,6 @@ use Rattle.krl_server.specs.Steps.{Acts, Ends, serves, kind_of, ServerStep}
 use Rattle.krl_server.specs.Shows.{IsSound}
 use Rattle.krl_server.specs.Outboxes.{as_list}
 use Rattle.krl_server.specs.Doing.{turn_here, HasTurned, IsServer, waiting_clients}
-use Rattle.krl_server.proofs.Tests.{and_true}
 use Rattle.krl_server.proofs.Meaning.{row_here, row_other, line_here, line_other}
 use Rattle.krl_server.proofs.Means.{lines_set, set_twice}
 use Rattle.krl_server.proofs.Grants.{slot_always}
@@ -82,7 +81,7 @@ module _ (m : Index) (rows : Rows) (u : Waiter) where
 
   -- a grant at once is told only where nobody waits
   pub free_here : true ≡ is_granted_at_once m rows u → (rows (slot_of m u.point)).queue ≡ []
-  free_here e = by_queue (rows (slot_of m u.point)).queue (and_true (nobody_waits (rows (slot_of m u.point)).queue) (can_have rows (slot_of m u.point) u && not (asks_absent m u)) (sym e)).0
+  free_here e = by_queue (rows (slot_of m u.point)).queue (and_parts (nobody_waits (rows (slot_of m u.point)).queue) (can_have rows (slot_of m u.point) u && not (asks_absent m u)) (sym e)).0
     where
       by_queue : (us : List Waiter) → nobody_waits us ≡ true → us ≡ []
       by_queue [] f = refl
@@ -91,8 +90,8 @@ module _ (m : Index) (rows : Rows) (u : Waiter) where
   pub reply_here : (rows (slot_of m u.point)).queue ≡ [] → true ≡ is_granted_at_once m rows u → first_reply m (enqueued m rows u) (slot_of m u.point) (enqueued m rows u (slot_of m u.point)).queue ≡ Some reply.Grant
   reply_here none e =
       let n = slot_of m u.point in
-      let a = and_true (nobody_waits (rows n).queue) (can_have rows n u && not (asks_absent m u)) (sym e) in
-      let b = and_true (can_have rows n u) (not (asks_absent m u)) a.1 in
+      let a = and_parts (nobody_waits (rows n).queue) (can_have rows n u && not (asks_absent m u)) (sym e) in
+      let b = and_parts (can_have rows n u) (not (asks_absent m u)) a.1 in
       ap (λ q. first_reply m (enqueued m rows u) n q) (queue_here none)
       ∙ ap (λ x. if x then Some reply.Absent else (if can_have (enqueued m rows u) n u then Some reply.Grant else None)) (not_true (asks_absent m u) (sym b.1))
       ∙ ap (λ x. if x then Some reply.Grant else None) (can_here ∙ b.0)

@@ -1,7 +1,7 @@
 -- What holds of the server and the message in each case: so anything is proved of the case that a message meets.
 use Rattle.std.proofs.Common.{◌≡◌, ℕ, suc, ◌≤◌, ◌<◌, true, false, not, ◌&&◌, ◌||◌, Option, Some, None, refl, sym, subst, arith}
 use Rattle.std.proofs.Common.{nat_eq, eqb-true, ltb-true, ltb-false}
-use Rattle.std.proofs.lemmas.Bool.{eqb-false}
+use Rattle.std.proofs.lemmas.Bool.{eqb-false, and_parts, or_parts, not-true, not-false}
 use Rattle.std.specs.Prelude.{nat_lt, nat_le}
 use Rattle.krl_modes.specs.declared.point.TheConstants.{END, TOP}
 use Rattle.krl_modes.specs.declared.mode.Mode.{Mode}
@@ -23,7 +23,7 @@ use Rattle.krl_table.specs.Rows.{most_clients, waits}
 use Rattle.krl_table.specs.Reports.{conflicts}
 use Rattle.krl_server.specs.Servers.{Server, is_gathering, lists, incarnation_or_0}
 use Rattle.krl_server.specs.Cases.{Case, Ignored, Registers, Leaves, Tells, Alarms, Rebuilds, Repeats, Hears, Lowers, Waits, Judges, AnswersAgain, judged, case_of_last, is_bad_write, case_of_write, is_reach, case_of_request, case_of_late, case_of_seen, case_of_report, case_of_body, case_of_newer, case_of_record, is_strange, case_of}
-use Rattle.krl_server.proofs.Tests.{and_true, or_false, not_true, not_false, if_case}
+use Rattle.krl_server.proofs.Tests.{if_case}
 
 -- the message is the registered incarnation's, which has not left
 pub record IsFrom (s : Server) (m : ToServer) (r : Record) : Type 0 where
@@ -84,9 +84,9 @@ module _ (s : Server) (m : ToServer) (P : Case → Type 0) (each : EachSaid s m 
       of_write : (number : ℕ) (op : WriteOp) → IsAsked s m r request (asked.Write number op) → P (case_of_write s m.client r number op)
       of_write number op a = if_case P (is_bad_write number op) Hears _ (λ bad. each.hears r request (asked.Write number op) a)
           (λ fine.
-          let x = or_false (not (nat_lt (op_key op) END)) (nat_eq number 0 || nat_lt END number) fine in
-          let y = or_false (nat_eq number 0) (nat_lt END number) x.1 in
-          let under = ltb-true (op_key op) END (not_false (nat_lt (op_key op) END) x.0) in
+          let x = or_parts (not (nat_lt (op_key op) END)) (nat_eq number 0 || nat_lt END number) fine in
+          let y = or_parts (nat_eq number 0) (nat_lt END number) x.1 in
+          let under = ltb-true (op_key op) END (not-false (nat_lt (op_key op) END) x.0) in
           let ne = eqb-false number 0 y.0 in
           if_case P (nat_eq number (suc r.last)) _ _
           (λ new. each.judges r request number op (judged s m.client op) a under (ltb-false END number y.1) (eqb-true number (suc r.last) new) refl)
@@ -95,10 +95,10 @@ module _ (s : Server) (m : ToServer) (P : Case → Type 0) (each : EachSaid s m 
       of_request : (b : RequestBody) → IsAsked s m r request b → P (case_of_request s m.client r b)
       of_request (asked.Lock req point hi g) a = if_case P (nat_eq req (suc (s.lines m.client).asked) && (not (waits s.durable.index s.rows m.client) && is_reach point hi)) (Waits req point hi g) Hears
           (λ yes.
-          let x = and_true (nat_eq req (suc (s.lines m.client).asked)) (not (waits s.durable.index s.rows m.client) && is_reach point hi) yes in
-          let y = and_true (not (waits s.durable.index s.rows m.client)) (is_reach point hi) x.1 in
-          let z = and_true (not (nat_lt END point)) (nat_lt point hi && nat_le hi TOP) y.1 in
-          each.waits r request req point hi g a (eqb-true req (suc (s.lines m.client).asked) x.0) (not_true (waits s.durable.index s.rows m.client) y.0) (ltb-false END point (not_true (nat_lt END point) z.0)))
+          let x = and_parts (nat_eq req (suc (s.lines m.client).asked)) (not (waits s.durable.index s.rows m.client) && is_reach point hi) yes in
+          let y = and_parts (not (waits s.durable.index s.rows m.client)) (is_reach point hi) x.1 in
+          let z = and_parts (not (nat_lt END point)) (nat_lt point hi && nat_le hi TOP) y.1 in
+          each.waits r request req point hi g a (eqb-true req (suc (s.lines m.client).asked) x.0) (not-true (waits s.durable.index s.rows m.client) y.0) (ltb-false END point (not-true (nat_lt END point) z.0)))
           (λ no. each.hears r request (asked.Lock req point hi g) a)
       of_request (asked.Write number op) a = of_write number op a
       of_request (asked.Release span keep) a = each.lowers r request span keep a
@@ -126,7 +126,7 @@ module _ (s : Server) (m : ToServer) (P : Case → Type 0) (each : EachSaid s m 
   of_record lt some (Some r) e = if_case P (nat_lt r.incarnation m.incarnation) _ _
       (λ newer. of_newer lt (subst (λ o. incarnation_or_0 o < m.incarnation) (sym e) (ltb-true r.incarnation m.incarnation newer)) m.body refl)
       (λ not_newer. if_case P (nat_lt m.incarnation r.incarnation || r.left) Ignored _ (λ out. each.ignored)
-      (λ fine. let x = or_false (nat_lt m.incarnation r.incarnation) r.left fine in
+      (λ fine. let x = or_parts (nat_lt m.incarnation r.incarnation) r.left fine in
       let up = ltb-false r.incarnation m.incarnation not_newer in let down = ltb-false m.incarnation r.incarnation x.0 in
       of_body r (record { client = lt; known = e; same = omega (arith, up, down); here = x.1 }) m.body refl))
 
@@ -134,9 +134,9 @@ module _ (s : Server) (m : ToServer) (P : Case → Type 0) (each : EachSaid s m 
   pub by_said : P (case_of s m)
   by_said = if_case P (is_strange m) Ignored _ (λ strange. each.ignored)
       (λ fine.
-      let x = or_false (not (nat_lt m.client most_clients)) (nat_eq m.incarnation 0 || nat_lt END m.incarnation) fine in
-      let y = or_false (nat_eq m.incarnation 0) (nat_lt END m.incarnation) x.1 in
-      of_record (ltb-true m.client most_clients (not_false (nat_lt m.client most_clients) x.0)) (let ne = eqb-false m.incarnation 0 y.0 in omega (arith, ne)) (record_of s.durable.register m.client) refl)
+      let x = or_parts (not (nat_lt m.client most_clients)) (nat_eq m.incarnation 0 || nat_lt END m.incarnation) fine in
+      let y = or_parts (nat_eq m.incarnation 0) (nat_lt END m.incarnation) x.1 in
+      of_record (ltb-true m.client most_clients (not-false (nat_lt m.client most_clients) x.0)) (let ne = eqb-false m.incarnation 0 y.0 in omega (arith, ne)) (record_of s.durable.register m.client) refl)
 
 -- the same for what does not ask what the message says
 pub record EachCase (s : Server) (m : ToServer) (P : Case → Type 0) : Type 0 where

@@ -2,6 +2,7 @@
 use Rattle.std.proofs.Common.{◌≡◌, ◌≢◌, ℕ, ◌<◌, Bool, true, false, not, Option, Some, List, [], ◌∷◌, inl, inr, refl, sym, ap, subst, ◌∙◌, arith}
 use Rattle.std.proofs.Common.{nat_eq}
 use Rattle.std.proofs.lemmas.Bool.{eqb-false}
+use Rattle.std.proofs.lemmas.Option.{none-some}
 use Rattle.std.specs.Prelude.{if◌then◌else◌}
 use Rattle.krl_modes.specs.declared.mode.Mode.TheVariants as mode
 use Rattle.krl_messages.specs.Members.{In}
@@ -9,7 +10,6 @@ use Rattle.krl_queue.specs.declared.waiter.Waiter.{Waiter}
 use Rattle.krl_protocol.specs.Links.{Notice, Link, next, idle, registers, sees_off, no_range, no_key}
 use Rattle.krl_protocol.specs.Worlds.{Logged}
 use Rattle.krl_protocol.proofs.Steps.{put, put_changed}
-use Rattle.krl_protocol.proofs.Points.{no_none}
 use Rattle.krl_durable.specs.declared.record.Record.{Record}
 use Rattle.krl_durable.specs.Registers.{record_of, with_record, new_record, left_by}
 use Rattle.krl_table.specs.Rows.{mode_at}
@@ -63,11 +63,11 @@ registers_follow s of log cleared' c inc this others at lt h =
     (at_put (λ d y. LinkIs (view_of t.durable (machine_phase s.missing)) (record_of t.durable.register d) (lists t.missing d) (t.lines d) (range_at m t.rows d) (key_at m t.rows d) y) of c l
     (subst (λ y. LinkIs (view s) (record_of t.durable.register c) (lists t.missing c) y (range_at m t.rows c) (key_at m t.rows c) l) (sym (line_here s.lines c blank_line))
     (record {
-      known = subst (λ o. IsRecord o l) (sym (record_here s.durable.register c x)) (record { reg = refl; left = refl; done = λ n. refl; applied = λ o n e. absurd (no_none o e) });
+      known = subst (λ o. IsRecord o l) (sym (record_here s.durable.register c x)) (record { reg = refl; left = refl; done = λ n. refl; applied = λ o n e. absurd (none-some o e) });
       missing = sym (unlist_here s.missing c);
       pushed = refl;
       acked = refl;
-      unheard = λ body e. absurd (no_none body e);
+      unheard = λ body e. absurd (none-some body e);
       range = λ p q. sym (blank_range m t.rows c none_held q);
       key = λ p q. sym (blank_key m t.rows c none_held q);
       new_range = λ p q. sym (blank_range m t.rows c none_held q);

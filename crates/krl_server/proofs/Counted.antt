@@ -3,6 +3,7 @@ use Rattle.std.proofs.Common.{◌≡◌, ℕ, zero, suc, ◌+◌, ◌≤◌, ◌
 use Rattle.std.proofs.Common.{nat_eq, eq-eqb, ne_eqb, eqb-true}
 use Rattle.std.proofs.lemmas.Bool.{cases_lt, eqb-false}
 use Rattle.std.proofs.lemmas.List.Recursion.{is_count_by}
+use Rattle.std.proofs.lemmas.Option.{none-some}
 use Rattle.std.specs.Prelude.{is_some}
 use Rattle.std.specs.List.{AllByRecursion}
 use Rattle.std.specs.Ordering.{nat_cmp}
@@ -14,7 +15,6 @@ use Rattle.krl_messages.specs.Members.{In}
 use Rattle.krl_queue.specs.declared.waiter.Waiter.{Waiter}
 use Rattle.krl_queue.specs.Waiting.{first_of}
 use Rattle.krl_protocol.proofs.Worlds.{eq_cases}
-use Rattle.krl_protocol.proofs.Points.{no_none}
 use Rattle.krl_durable.specs.Index.{Index, slots}
 use Rattle.krl_table.specs.Rows.{Rows, most_clients}
 use Rattle.krl_table.specs.Sound.{IsPlaced, IsTable}
@@ -28,7 +28,7 @@ use Rattle.krl_durable.proofs.SlotLaws.{From, from_above, find_past, keys_of_map
 pub keys_under : (es : List (ℕ × Value)) → Rises es → ((k : ℕ) → END ≤ k → find nat_cmp k es ≡ None) → AllByRecursion (λ e. e.0 < END) es
 keys_under [] h near = tt
 keys_under (e ∷ es) h near =
-    let under : e.0 < END = ⊎_elim (λ (a : e.0 < END). a) (λ (a : END ≤ e.0). absurd (no_none e.1 (sym (near e.0 a) ∙ find_here e es))) (cases_lt e.0 END) in
+    let under : e.0 < END = ⊎_elim (λ (a : e.0 < END). a) (λ (a : END ≤ e.0). absurd (none-some e.1 (sym (near e.0 a) ∙ find_here e es))) (cases_lt e.0 END) in
     (under, keys_under es h.1 (λ k a. sym (find_past k e es (λ f. omega (arith, f, under, a))) ∙ near k a))
 
 pub above_all : (k : ℕ) (es : List (ℕ × Value)) (j : ℕ) → From k es → k ≤ END → In j (map (λ e. e.0) es ++ END ∷ []) → k ≤ j

@@ -1,6 +1,6 @@
 -- What holds of the message in the case that was found, and what performing it comes to.
 use Rattle.std.proofs.Common.{◌≡◌, ℕ, ◌≤◌, ◌<◌, Bool, true, false, not, ◌||◌, nat_eq, ltb-false, Option, Some, None, List, refl, sym, ap, subst, ◌∙◌, arith}
-use Rattle.std.proofs.lemmas.Bool.{eqb-false}
+use Rattle.std.proofs.lemmas.Bool.{eqb-false, or_parts}
 use Rattle.std.specs.Prelude.{nat_lt, is_some, IsSome, IsSomeAnd, if◌then◌else◌}
 use Rattle.krl_modes.specs.declared.point.TheConstants.{END}
 use Rattle.krl_messages.specs.declared.to_client.ToClient.{ToClient}
@@ -25,7 +25,7 @@ use Rattle.krl_server.specs.Effects.{heard, writes, answers, effect}
 use Rattle.krl_server.specs.States.{meant, case_of_pieces}
 use Rattle.krl_table.specs.Waiters.{WaitsNowhere}
 use Rattle.krl_server.specs.Doing.{IsPerformed}
-use Rattle.krl_server.proofs.Tests.{or_false, if_case}
+use Rattle.krl_server.proofs.Tests.{if_case}
 use Rattle.krl_server.proofs.Cased.{by_said}
 use Rattle.krl_server.proofs.Numbers.{sixty_four}
 use Rattle.krl_server.proofs.Tabled.{slots_have, any_in}
@@ -98,8 +98,8 @@ module _ (s : Server) (m : ToServer) where
   all_facts = if_case (λ k. CaseFacts s m k) (is_strange m) Ignored (case_of_record s m (record_of s.durable.register m.client))
       (λ strange. tt)
       (λ fine.
-      let x = or_false (not (nat_lt m.client most_clients)) (nat_eq m.incarnation 0 || nat_lt END m.incarnation) fine in
-      let y = or_false (nat_eq m.incarnation 0) (nat_lt END m.incarnation) x.1 in
+      let x = or_parts (not (nat_lt m.client most_clients)) (nat_eq m.incarnation 0 || nat_lt END m.incarnation) fine in
+      let y = or_parts (nat_eq m.incarnation 0) (nat_lt END m.incarnation) x.1 in
       subst (CaseFacts s m) (ap (λ b. if b then Ignored else case_of_record s m (record_of s.durable.register m.client)) fine)
       (facts_said (let ne = eqb-false m.incarnation 0 y.0 in omega (arith, ne)) (ltb-false END m.incarnation y.1)))
 

@@ -1,7 +1,7 @@
 -- What a grant takes, and what each raise of it leaves as it was.
 use Rattle.std.proofs.Common.{◌≡◌, ◌≢◌, ℕ, zero, suc, ◌≤◌, ◌<◌, Bool, true, false, not, ◌&&◌, ◌||◌, None, List, [], ◌∷◌, ◌++◌, take, length, refl, sym, ap, subst, ◌∙◌, ⊎_elim, arith}
 use Rattle.std.proofs.Common.{nat_eq, eq-eqb, ltb-true}
-use Rattle.std.proofs.lemmas.Bool.{cases_lt}
+use Rattle.std.proofs.lemmas.Bool.{cases_lt, and_parts}
 use Rattle.std.proofs.lemmas.Bool.Decides.{nat_tests}
 use Rattle.std.specs.Prelude.{nat_lt, nat_le, is_some, if◌then◌else◌}
 use Rattle.std.specs.List.{filter, AllByRecursion}
@@ -27,7 +27,7 @@ use Rattle.krl_durable.proofs.SlotLaws.{find_past}
 use Rattle.krl_server.proofs.Slots.{is_slot_true, span_here}
 use Rattle.krl_server.specs.Shows.{IsWhole}
 use Rattle.krl_server.proofs.Meaning.{low_below, row_here, row_other, mode_other, row_modes}
-use Rattle.krl_server.proofs.Tests.{and_true, if_case}
+use Rattle.krl_server.proofs.Tests.{if_case}
 
 -- The next slot
 
@@ -102,12 +102,12 @@ module _ (m : Index) (u : Waiter) where
   -- the grant goes on to the next slot
   pub on_to : (rows : Rows) (n : ℕ) → goes_on m rows n u ≡ true → (n < slot_of m (suc n)) × (is_slot m (slot_of m (suc n)) ≡ true) × (can_have rows (slot_of m (suc n)) u ≡ true)
   on_to rows n e =
-      let x = and_true (nat_lt n END) (nat_lt (suc n) u.hi && can_take rows (slot_of m (suc n)) u) e in
-      let y = and_true (nat_lt (suc n) u.hi) (can_take rows (slot_of m (suc n)) u) x.1 in
-      let z = and_true (nobody_waits (rows (slot_of m (suc n))).queue) (can_have rows (slot_of m (suc n)) u && not (needs_entry u.mode && nat_eq (slot_of m (suc n)) END)) y.1 in
+      let x = and_parts (nat_lt n END) (nat_lt (suc n) u.hi && can_take rows (slot_of m (suc n)) u) e in
+      let y = and_parts (nat_lt (suc n) u.hi) (can_take rows (slot_of m (suc n)) u) x.1 in
+      let z = and_parts (nobody_waits (rows (slot_of m (suc n))).queue) (can_have rows (slot_of m (suc n)) u && not (needs_entry u.mode && nat_eq (slot_of m (suc n)) END)) y.1 in
       let lt = ltb-true n END x.0 in
       let from = from_point (fin.entries m) (suc n) (omega (arith, lt)) in
-      (omega (arith, from), slot_always m (suc n), (and_true (can_have rows (slot_of m (suc n)) u) (not (needs_entry u.mode && nat_eq (slot_of m (suc n)) END)) z.1).0)
+      (omega (arith, from), slot_always m (suc n), (and_parts (can_have rows (slot_of m (suc n)) u) (not (needs_entry u.mode && nat_eq (slot_of m (suc n)) END)) z.1).0)
 
   -- what each raise keeps, the grant keeps as it goes on
   pub along : (P : Rows → Type 0) (low : ℕ) → ((rows : Rows) (n : ℕ) → low < n → is_slot m n ≡ true → can_have rows n u ≡ true → P rows → P (raised rows n u)) → (k n : ℕ) (rows : Rows) → low ≤ n → P rows → P (raised_on rows (taken_after m rows n u k) u)
@@ -157,9 +157,9 @@ granted_below m rows n k lt = by_queue (rows n).queue refl
 module _ (m : Index) (u : Waiter) (k : ℕ) (v : Waiter) (vs : List Waiter) where
   free_next : (rows : Rows) (n : ℕ) → goes_on m rows n u ≡ true → nobody_waits (rows (slot_of m (suc n))).queue ≡ true
   free_next rows n e =
-      let x = and_true (nat_lt n END) (nat_lt (suc n) u.hi && can_take rows (slot_of m (suc n)) u) e in
-      let y = and_true (nat_lt (suc n) u.hi) (can_take rows (slot_of m (suc n)) u) x.1 in
-      (and_true (nobody_waits (rows (slot_of m (suc n))).queue) (can_have rows (slot_of m (suc n)) u && not (needs_entry u.mode && nat_eq (slot_of m (suc n)) END)) y.1).0
+      let x = and_parts (nat_lt n END) (nat_lt (suc n) u.hi && can_take rows (slot_of m (suc n)) u) e in
+      let y = and_parts (nat_lt (suc n) u.hi) (can_take rows (slot_of m (suc n)) u) x.1 in
+      (and_parts (nobody_waits (rows (slot_of m (suc n))).queue) (can_have rows (slot_of m (suc n)) u && not (needs_entry u.mode && nat_eq (slot_of m (suc n)) END)) y.1).0
 
   not_next : (rows : Rows) (n : ℕ) → goes_on m rows n u ≡ true → (rows k).queue ≡ v ∷ vs → k ≢ slot_of m (suc n)
   not_next rows n e queue f =

@@ -1,6 +1,7 @@
 -- Each step of a server keeps its table and its register in order, and leaves nobody who could be answered.
 use Rattle.std.proofs.Common.{◌≡◌, ℕ, suc, ◌<◌, true, not, Some, None, List, [], ◌∷◌, refl, sym, ap, subst, ◌∙◌, arith}
 use Rattle.std.proofs.Common.{nat_eq, ne_eqb}
+use Rattle.std.proofs.lemmas.Bool.{and_parts}
 use Rattle.std.specs.Prelude.{nat_lt, is_some}
 use Rattle.krl_modes.specs.declared.point.TheConstants.{END}
 use Rattle.krl_messages.specs.declared.write_op.WriteOp.{WriteOp}
@@ -31,7 +32,7 @@ use Rattle.krl_server.specs.Shows.{IsSound}
 use Rattle.krl_server.specs.Keeps.{ServerKeeps}
 use Rattle.krl_server.proofs.Meaning.{record_here, record_other}
 use Rattle.krl_server.proofs.Follows.{not_truth, some_same}
-use Rattle.krl_server.proofs.Tests.{and_true, or_true, if_case}
+use Rattle.krl_server.proofs.Tests.{or_true, if_case}
 use Rattle.krl_server.proofs.Turns.{turn_is, turn_sound}
 use Rattle.krl_server.proofs.Served.{answering_sound}
 use Rattle.krl_server.proofs.Sounds.{effect_sound}
@@ -135,7 +136,7 @@ turn_kept s t e k = let x = turn_is s t e in
     (λ f. pushes_kept (effects.with_rows s (dropped s.rows t.slot)) t.waiter.client (push.Absent t.waiter.req t.waiter.point) (dropped_kept s.durable.index s.rows t.slot t.waiter (behind_first (s.rows t.slot).queue) k x.first))
     (λ f. let u = effects.with_rows s (granted s.durable.index s.rows t.slot) in
     pushes_kept u t.waiter.client (push.Grant t.waiter.req (effects.holdings u t.waiter.client (taken s.durable.index s.rows t.slot)))
-    (granted_kept s.durable.index s.rows t.slot t.waiter (behind_first (s.rows t.slot).queue) k x.first (or_true (asks_absent s.durable.index t.waiter) (can_have s.rows t.slot t.waiter) (and_true (can_push (s.lines t.waiter.client)) _ x.answerable).1 f)))
+    (granted_kept s.durable.index s.rows t.slot t.waiter (behind_first (s.rows t.slot).queue) k x.first (or_true (asks_absent s.durable.index t.waiter) (can_have s.rows t.slot t.waiter) (and_parts (can_push (s.lines t.waiter.client)) _ x.answerable).1 f)))
 
 pub answered_kept : (s t : Server) (outs : List ToClient) → Answered s t outs → ServerKept s → ServerKept t
 answered_kept s t outs (stops s' e) k = k

@@ -1,6 +1,8 @@
 -- A release that is obeyed.
 use Rattle.std.proofs.Common.{◌≡◌, ◌≢◌, ℕ, suc, ◌≤◌, ◌<◌, Bool, true, false, None, List, ◌&&◌, ◌⊎◌, inl, inr, refl, sym, ap, subst, ◌∙◌, arith}
 use Rattle.std.proofs.lemmas.Bool.Decides.{nat_tests}
+use Rattle.std.proofs.lemmas.Bool.{and_parts}
+use Rattle.std.proofs.lemmas.Option.{none-some}
 use Rattle.std.specs.Prelude.{nat_le, if◌then◌else◌}
 use Rattle.krl_modes.specs.declared.mode.Mode.{Mode}
 use Rattle.krl_modes.specs.Modes.{range_of, key_of, meet}
@@ -13,7 +15,6 @@ use Rattle.krl_protocol.specs.Tables as machine
 use Rattle.krl_protocol.specs.Worlds.{Logged}
 use Rattle.krl_protocol.proofs.Tables.{slot_near, table_row, release_lowers}
 use Rattle.krl_protocol.proofs.Steps.{put, put_changed, heard_kept, link_steps}
-use Rattle.krl_protocol.proofs.Points.{no_none}
 use Rattle.krl_durable.specs.Index.{Index, span_of, is_slot}
 use Rattle.krl_durable.specs.Registers.{record_of}
 use Rattle.krl_table.specs.Rows.{Row, Rows, most_clients, mode_at, column}
@@ -27,7 +28,6 @@ use Rattle.krl_server.proofs.Slots.{span_here}
 use Rattle.krl_server.proofs.Meaning.{range_is, key_is, same_range, same_key, mode_here, mode_other, line_here}
 use Rattle.krl_server.proofs.Follows.{Goes, relink, put_client, put_shows, line_rest, not_truth, not_two, not_gathering, record_kept}
 use Rattle.krl_server.proofs.Judged.{row_shows}
-use Rattle.krl_server.proofs.Tests.{and_true}
 
 module _ (m : Index) (rows : Rows) (c : ℕ) (span : Bounds) (keep : Mode) where
   -- each row is lowered, or as it was
@@ -56,7 +56,7 @@ lowered_sound s c span keep lt i = let m = s.durable.index in record {
 
 -- the points of a span that lies within another
 span_within : (m : Index) (n : ℕ) (span : Bounds) → within (span_of m n) span ≡ true → (span.lo ≤ (span_of m n).lo) × (suc n ≤ span.hi)
-span_within m n span e = let x = and_true (nat_le span.lo (span_of m n).lo) (nat_le (span_of m n).hi span.hi) e in
+span_within m n span e = let x = and_parts (nat_le span.lo (span_of m n).lo) (nat_le (span_of m n).hi span.hi) e in
     (at_most span.lo (span_of m n).lo x.0, at_most (span_of m n).hi span.hi x.1)
   where
     at_most : (a b : ℕ) → nat_le a b ≡ true → a ≤ b
@@ -98,7 +98,7 @@ lowers_follow s of log cleared c a span keep lt i at head ok h =
             missing = k.missing;
             pushed = k.pushed;
             acked = refl;
-            unheard = λ body e. absurd (no_none body e);
+            unheard = λ body e. absurd (none-some body e);
             range = λ p q. sym (range_is m s.durable.epoch (view s).phase i.near rows c q);
             key = λ p q. sym (key_is m s.durable.epoch (view s).phase i.near rows c q);
             new_range = λ p q. absurd (not_two (view s).phase ok.serving p);

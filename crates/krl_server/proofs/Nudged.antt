@@ -10,7 +10,6 @@ use Rattle.krl_messages.specs.declared.to_client.ToClient.{ToClient}
 use Rattle.krl_messages.specs.Members.{In}
 use Rattle.krl_queue.specs.declared.waiter.Waiter.{Waiter}
 use Rattle.krl_queue.specs.Waiting.{first_of}
-use Rattle.krl_protocol.proofs.Points.{no_none}
 use Rattle.krl_durable.specs.Index.{Index, slot_of, slots}
 use Rattle.krl_table.specs.Rows.{Rows, front_of, waiter_at, waiter_of}
 use Rattle.krl_table.specs.Sound.{IsPlaced, IsTable}
@@ -20,6 +19,7 @@ use Rattle.krl_server.specs.Within.{AreApart}
 use Rattle.krl_table.specs.Waiters.{WaitsNowhere}
 use Rattle.std.specs.Prelude.{nat_lt, not, Result, Ok, Err, IfOk}
 use Rattle.std.proofs.lemmas.Bool.{ltb-true}
+use Rattle.std.proofs.lemmas.Option.{none-some}
 use Rattle.krl_durable.specs.declared.record.Record.{Record}
 use Rattle.krl_durable.specs.Registers.{Register, record_of}
 use Rattle.krl_server.specs.Servers.{is_gathering}
@@ -37,7 +37,7 @@ other_first s c n [] e = refl
 other_first s c n (u ∷ us) e = by_eq (nat_eq u.client c) e
   where
     by_eq : (b : Bool) → (if b then Some u else first_of c us) ≡ None → (if b then callbacks_for s n u else []) ≡ []
-    by_eq true f = absurd (no_none u (sym f))
+    by_eq true f = absurd (none-some u (sym f))
     by_eq false f = refl
 
 pub none_nudged : (s : Server) (c : ℕ) (ns : List ℕ) → WaitsNowhere s.rows c → callbacks_of_among c s ns ≡ []
@@ -59,7 +59,7 @@ only_at s c n (k ∷ ks) apart (inr at) h =
 
 -- where the client's waiter stands
 stands : (rows : Rows) (c : ℕ) (w : Waiter) (ns : List ℕ) → waiter_at rows c (find (λ n. is_some (first_of c (rows n).queue)) ns) ≡ Some w → (n : ℕ) × In n ns × (first_of c (rows n).queue ≡ Some w)
-stands rows c w [] e = absurd (no_none w e)
+stands rows c w [] e = absurd (none-some w e)
 stands rows c w (n ∷ ns) e = by_test (is_some (first_of c (rows n).queue)) e (stands rows c w ns)
   where
     by_test : (b : Bool) → waiter_at rows c (if b then Some n else find (λ n. is_some (first_of c (rows n).queue)) ns) ≡ Some w → (waiter_at rows c (find (λ n. is_some (first_of c (rows n).queue)) ns) ≡ Some w → (k : ℕ) × In k ns × (first_of c (rows k).queue ≡ Some w)) → (k : ℕ) × In k (n ∷ ns) × (first_of c (rows k).queue ≡ Some w)
@@ -67,7 +67,7 @@ stands rows c w (n ∷ ns) e = by_test (is_some (first_of c (rows n).queue)) e (
     by_test false f ih = let x = ih f in (x.0, inr x.1, x.2)
 
 placed_first : (m : Index) (n c : ℕ) (us : List Waiter) (w : Waiter) → AllByRecursion (IsPlaced m n) us → first_of c us ≡ Some w → IsPlaced m n w
-placed_first m n c [] w h e = absurd (no_none w e)
+placed_first m n c [] w h e = absurd (none-some w e)
 placed_first m n c (u ∷ us) w h e = by_eq (nat_eq u.client c) e (placed_first m n c us w h.1)
   where
     by_eq : (b : Bool) → (if b then Some u else first_of c us) ≡ Some w → (first_of c us ≡ Some w → IsPlaced m n w) → IsPlaced m n w

@@ -1,5 +1,6 @@
 -- Acknowledging, telling the epoch, repeating a push, and the next push to a client.
 use Rattle.std.proofs.Common.{◌≡◌, ℕ, suc, ◌≤◌, Bool, true, false, not, Option, Some, None, List, [], ◌∷◌, ◌⊎◌, inl, refl, sym, ap, subst, ◌∙◌}
+use Rattle.std.proofs.lemmas.Option.{none-some}
 use Rattle.std.specs.Prelude.{nat_lt, is_some}
 use Rattle.krl_modes.specs.declared.point.TheConstants.{END}
 use Rattle.krl_messages.specs.declared.to_client.ToClientBody.TheVariants as told
@@ -10,15 +11,14 @@ use Rattle.krl_protocol.specs.Links as links
 use Rattle.krl_protocol.specs.Links.{Head, Notice, Shared, Link, Passes, MaySay, AnswersLast, next, idle, notifies, takes_head}
 use Rattle.krl_protocol.specs.Worlds.{Logged, Steps, none}
 use Rattle.krl_protocol.proofs.Steps.{put, put_changed, heard_kept, link_steps}
-use Rattle.krl_protocol.proofs.Points.{no_none}
 use Rattle.krl_durable.specs.declared.record.Record.{Record}
 use Rattle.krl_durable.specs.Registers.{record_of}
 use Rattle.krl_server.specs.declared.line.Line.{Line}
 use Rattle.krl_server.specs.Servers.{Server, is_gathering}
 use Rattle.krl_server.specs.Effects.{Done, silent, epoch_to, push_to, with_line, heard, pushes}
-use Rattle.krl_server.specs.Shows.{push_of, IsTold, IsRecord, LinkIs, LinkShows, IsHeardOf, Shows, machine_phase, view, world_of, IsSound}
+use Rattle.krl_server.specs.Shows.{push_of, IsTold, IsRecord, LinkShows, IsHeardOf, Shows, view, world_of, IsSound}
 use Rattle.krl_server.proofs.Tests.{if_both, if_case}
-use Rattle.krl_server.proofs.Follows.{Goes, bound_same, put_shows, by_link, one_out, one_sent, up_phase, not_gathering, not_truth, reg_is, record_kept, line_rest, at_line, some_same, stays}
+use Rattle.krl_server.proofs.Follows.{Goes, bound_same, put_shows, by_link, one_out, one_sent, up_phase, not_gathering, not_truth, reg_is, record_kept, line_rest, at_line, some_same}
 
 -- a link in which more is noted, by messages that the server's part does not name, is shown alike
 noticed : (s : Server) (c : ℕ) (l : Link) (ns : List Notice) → LinkShows s c l → LinkShows s c (record l { notices = ns })
@@ -63,7 +63,7 @@ hears_shows s of c h =
     let k = h.link c in
     put_shows s (heard s c) of c (record (of c) { acked = true })
     (at_line s c (record (s.lines c) { unheard = None }) (record (of c) { acked = true })
-    (record { known = record_kept (record_of s.durable.register c) (of c) (record (of c) { acked = true }) refl refl refl refl k.known; missing = k.missing; pushed = k.pushed; acked = refl; unheard = λ body e. absurd (no_none body e); range = k.range; key = k.key; new_range = k.new_range; new_key = k.new_key }))
+    (record { known = record_kept (record_of s.durable.register c) (of c) (record (of c) { acked = true }) refl refl refl refl k.known; missing = k.missing; pushed = k.pushed; acked = refl; unheard = λ body e. absurd (none-some body e); range = k.range; key = k.key; new_range = k.new_range; new_key = k.new_key }))
     (λ d ne x. line_rest s c (record (s.lines c) { unheard = None }) d (of d) ne x)
     h
     (λ n u at. heard_kept (view s) of (put of c (record (of c) { acked = true })) c (record (of c) { acked = true }) (put_changed of c (record (of c) { acked = true })) (λ x. x) u.client (h.heard n u at))

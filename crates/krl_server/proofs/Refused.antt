@@ -1,5 +1,6 @@
 -- A new write that is not Applied; and the record of a client after any new write.
 use Rattle.std.proofs.Common.{◌≡◌, ◌≢◌, ℕ, suc, ◌<◌, Bool, true, false, Some, None, List, refl, sym, ap, subst, ◌∙◌, arith}
+use Rattle.std.proofs.lemmas.Option.{none-some}
 use Rattle.krl_modes.specs.declared.point.TheConstants.{END}
 use Rattle.krl_messages.specs.declared.write_op.WriteOp.{WriteOp}
 use Rattle.krl_messages.specs.declared.outcome.Outcome.{Outcome}
@@ -7,7 +8,6 @@ use Rattle.krl_messages.specs.declared.outcome.Outcome.TheVariants as outcome
 use Rattle.krl_protocol.specs.Links.{Head, Write, Shared, Link, Passes, next, idle, takes_head, refuses}
 use Rattle.krl_protocol.specs.Worlds.{Logged}
 use Rattle.krl_protocol.proofs.Steps.{put, put_changed, heard_kept, link_steps}
-use Rattle.krl_protocol.proofs.Points.{no_none}
 use Rattle.krl_durable.specs.declared.record.Record.{Record}
 use Rattle.krl_durable.specs.Index.{Index}
 use Rattle.krl_durable.specs.Registers.{Durable, Register, record_of, with_record}
@@ -83,7 +83,7 @@ refused s of log cleared c a number op o r known not i at head ok num under h =
     (subst (λ x. In w x.writes) (sym ch.here) at) (subst (λ x. In a x.heads) (sym ch.here) head) (ok.inc ∙ sym (ap (λ x. x.reg) ch.here)) ok.epoch (ap (λ x. x.left) ch.here ∙ ok.here) (next_one ∙ sym (ap (λ x. x.done) ch.here)) (omega (arith, num)) (not ∙ sym (ap (λ x. x.applied) ch.here)) under
     (put_shows s t of c l
     (subst (λ y. LinkIs (view s) (record_of (with_record s.durable.register c (noted r o)) c) (lists s.missing c) y (range_at s.durable.index s.rows c) (key_at s.durable.index s.rows c) l) (sym (line_here s.lines c line))
-    (record { known = noted_known s.durable.register c o r (of c) l old refl refl refl (sym not); missing = k.missing; pushed = k.pushed; acked = refl; unheard = λ body e. absurd (no_none body e); range = k.range; key = k.key; new_range = k.new_range; new_key = k.new_key }))
+    (record { known = noted_known s.durable.register c o r (of c) l old refl refl refl (sym not); missing = k.missing; pushed = k.pushed; acked = refl; unheard = λ body e. absurd (none-some body e); range = k.range; key = k.key; new_range = k.new_range; new_key = k.new_key }))
     (λ d ne x. noted_rest (view s) s.durable.register c (noted r o) d (lists s.missing d) (set_line s.lines c line d) (range_at s.durable.index s.rows d) (key_at s.durable.index s.rows d) (of d) ne (line_rest s c line d (of d) ne x))
     h
     (λ n u v. heard_kept (view s) of (put of c l) c l ch (λ z. z) u.client (h.heard n u v)))))

@@ -3,6 +3,7 @@ use Rattle.std.proofs.Common.{◌≡◌, ◌≢◌, ℕ, suc, ◌≤◌, ◌<◌
 use Rattle.std.proofs.Common.{nat_eq}
 use Rattle.std.proofs.lemmas.Bool.{cases_lt}
 use Rattle.std.proofs.lemmas.List.{append-nil}
+use Rattle.std.proofs.lemmas.Option.{none-some}
 use Rattle.std.specs.Prelude.{nat_lt, is_some, if◌then◌else◌}
 use Rattle.std.specs.List.{AllByRecursion}
 use Rattle.std.specs.FinMap as fin
@@ -14,7 +15,6 @@ use Rattle.krl_messages.specs.declared.to_client.PushBody.TheVariants as push
 use Rattle.krl_messages.specs.Members.{In}
 use Rattle.krl_queue.specs.declared.waiter.Waiter.{Waiter}
 use Rattle.krl_protocol.proofs.Worlds.{eq_cases}
-use Rattle.krl_protocol.proofs.Points.{no_none}
 use Rattle.krl_durable.specs.Index.{Index, slots, is_slot}
 use Rattle.krl_table.specs.Rows.{Row, all_below, most_clients}
 use Rattle.krl_table.specs.Calls.{wanted, with_queue, behind_first, dropped}
@@ -86,12 +86,12 @@ at_none s n (u ∷ us) later e = by_test (is_answerable s n u) e
     by_test false e = refl
 
 at_some : (s : Server) (n : ℕ) (us : List Waiter) (later : Option Turn) (t : Turn) → turn_at s n us None ≡ Some t → turn_at s n us later ≡ Some t
-at_some s n [] later t e = absurd (no_none t e)
+at_some s n [] later t e = absurd (none-some t e)
 at_some s n (u ∷ us) later t e = by_test (is_answerable s n u) e
   where
     by_test : (b : Bool) → (if b then Some (let x : Turn = record { slot = n; waiter = u } in x) else None) ≡ Some t → (if b then Some (let x : Turn = record { slot = n; waiter = u } in x) else later) ≡ Some t
     by_test true e = e
-    by_test false e = absurd (no_none t e)
+    by_test false e = absurd (none-some t e)
 
 among_first : (s : Server) (n : ℕ) (t : Turn) (ns : List ℕ) → Ascends ns → In n ns → NoneBelow s n → turn_here s n ≡ Some t → turn_among s ns ≡ Some t
 among_first s n t [] up at none e = absurd at
@@ -198,12 +198,12 @@ none_after s t none k lt = still_none s (take_turn s t).server k (turn_durable s
 -- One round of the walk
 
 turn_slot : (s : Server) (n : ℕ) (us : List Waiter) (t : Turn) → turn_at s n us None ≡ Some t → t.slot ≡ n
-turn_slot s n [] t e = absurd (no_none t e)
+turn_slot s n [] t e = absurd (none-some t e)
 turn_slot s n (u ∷ us) t e = by_test (is_answerable s n u) e
   where
     by_test : (b : Bool) → (if b then Some (let x : Turn = record { slot = n; waiter = u } in x) else None) ≡ Some t → t.slot ≡ n
     by_test true f = let x : Turn = record { slot = n; waiter = u } in ap (λ y. y.slot) (sym (some_same x t f))
-    by_test false f = absurd (no_none t f)
+    by_test false f = absurd (none-some t f)
 
 -- what holds after the turn at the next slot where somebody waits
 pub record IsRound (s u : Server) (n : ℕ) (o : ToClient) : Type 0 where

@@ -1,7 +1,8 @@
 -- What a step changes and sends.
 use Rattle.std.proofs.Common.{◌≡◌, ◌≢◌, ℕ, zero, suc, ◌+◌, ◌≤◌, ◌<◌, Bool, true, false, not, ◌||◌, ◌↔◌, Some, List, [], ◌∷◌, ◌++◌, inl, inr, refl, sym, ap, subst, ◌∙◌, ⊎_elim, arith}
 use Rattle.std.proofs.Common.{nat_eq, ne_eqb}
-use Rattle.std.proofs.lemmas.Bool.{eqb-false}
+use Rattle.std.proofs.lemmas.Bool.{eqb-false, and_parts, or_parts}
+use Rattle.std.proofs.lemmas.Option.{none-some}
 use Rattle.std.specs.Prelude.{nat_lt, is_some, if◌then◌else◌}
 use Rattle.krl_modes.specs.declared.point.TheConstants.{END}
 use Rattle.krl_modes.specs.Modes.{compatible, cap}
@@ -10,7 +11,6 @@ use Rattle.krl_messages.specs.declared.to_client.ToClient.{ToClient}
 use Rattle.krl_messages.specs.declared.to_client.PushBody.{PushBody}
 use Rattle.krl_messages.specs.declared.to_client.PushBody.TheVariants as push
 use Rattle.krl_queue.specs.declared.waiter.Waiter.{Waiter}
-use Rattle.krl_protocol.proofs.Points.{no_none}
 use Rattle.krl_protocol.proofs.Worlds.{eq_cases}
 use Rattle.krl_durable.specs.Index.{slot_of, span_of, slots}
 use Rattle.krl_messages.specs.Writes.{op_key}
@@ -32,7 +32,7 @@ use Rattle.krl_server.proofs.Follows.{in_both, some_same}
 use Rattle.krl_server.proofs.Turns.{turn_is}
 use Rattle.krl_server.proofs.Ends.{pushes_durable}
 use Rattle.krl_server.proofs.Kept.{ends_durable}
-use Rattle.krl_server.proofs.Tests.{and_true, or_false, if_both}
+use Rattle.krl_server.proofs.Tests.{if_both}
 
 effect_durable : (s : Server) (m : ToServer) (k : Case) → changes_durable k ≡ false → (effect s m k).server.durable ≡ s.durable
 effect_durable s m Ignored e = refl
@@ -84,7 +84,7 @@ module _ (s : Server) (n : ℕ) (u : Waiter) where
 
 -- what the machine's words say of one slot
 blocked : (s : Server) (n : ℕ) (u : Waiter) (d : ℕ) → is_beside s n u d ≡ false → (d ≢ u.client) × (compatible (wanted (s.rows n) u) (mode_at s.rows n d) ≡ false)
-blocked s n u d e = let x = or_false (nat_eq d u.client) (compatible (wanted (s.rows n) u) (mode_at s.rows n d)) e in (eqb-false d u.client x.0, x.1)
+blocked s n u d e = let x = or_parts (nat_eq d u.client) (compatible (wanted (s.rows n) u) (mode_at s.rows n d)) e in (eqb-false d u.client x.0, x.1)
 
 not_beside : (s : Server) (n : ℕ) (u : Waiter) (d : ℕ) → d ≢ u.client → compatible (wanted (s.rows n) u) (mode_at s.rows n d) ≡ false → is_beside s n u d ≡ false
 not_beside s n u d ne e = ap (λ b. b || compatible (wanted (s.rows n) u) (mode_at s.rows n d)) (ne_eqb d u.client ne) ∙ e
@@ -98,7 +98,7 @@ at_is s n (u ∷ us) o at = by_absent (asks_absent s.durable.index u) refl at
     by_absent false e h = let x = from_is s n u 0 most_clients o h in (u, x.0, refl, e, omega (arith, x.2), x.3, x.4)
 
 at_has : (s : Server) (n : ℕ) (us : List Waiter) (u : Waiter) (d : ℕ) → front_of us ≡ Some u → asks_absent s.durable.index u ≡ false → d < most_clients → is_beside s n u d ≡ false → In (call s n u d) (callbacks_at s n us)
-at_has s n [] u d e asks lt f = absurd (no_none u e)
+at_has s n [] u d e asks lt f = absurd (none-some u e)
 at_has s n (v ∷ us) u d e asks lt f = subst (λ w. In (call s n u d) (callbacks_for s n w)) (sym (some_same v u e))
     (subst (λ b. In (call s n u d) (if b then [] else callbacks_from s n u 0 most_clients)) (sym asks) (from_has s n u 0 most_clients d (omega arith) (omega (arith, lt)) f))
 
@@ -141,7 +141,7 @@ answer_is : (s : Server) (t : Turn) → next_turn s ≡ Some t → IsNextPush s 
 answer_is s t e =
     let x = turn_is s t e in
     let c = t.waiter.client in
-    let lt = (and_true (not (is_some (s.lines c).unheard)) (nat_lt (s.lines c).pushed END) (and_true (can_push (s.lines c)) (asks_absent s.durable.index t.waiter || can_have s.rows t.slot t.waiter) x.answerable).0).1 in
+    let lt = (and_parts (not (is_some (s.lines c).unheard)) (nat_lt (s.lines c).pushed END) (and_parts (can_push (s.lines c)) (asks_absent s.durable.index t.waiter || can_have s.rows t.slot t.waiter) x.answerable).0).1 in
     if_both (λ (d : Done). IsPush s c d) (asks_absent s.durable.index t.waiter) (tells_absent s t) (grants s t)
     (one_push (with_rows s (dropped s.rows t.slot)) c (push.Absent t.waiter.req t.waiter.point) lt)
     (let g = with_rows s (granted s.durable.index s.rows t.slot) in one_push g c (push.Grant t.waiter.req (holdings g c (taken s.durable.index s.rows t.slot))) lt)

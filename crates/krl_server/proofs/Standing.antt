@@ -1,6 +1,8 @@
 -- Each push that a step sends is the last one to its client, and not acknowledged yet.
 use Rattle.std.proofs.Common.{◌≡◌, ◌≢◌, ℕ, suc, not, ◌||◌, Some, None, List, [], ◌∷◌, ◌++◌, inl, inr, refl, sym, ap, subst, ◌∙◌, ⊎_elim, append_assoc}
 use Rattle.std.proofs.lemmas.List.{append-nil}
+use Rattle.std.proofs.lemmas.Bool.{and_parts}
+use Rattle.std.proofs.lemmas.Option.{none-some}
 use Rattle.std.specs.Prelude.{nat_lt, is_some}
 use Rattle.krl_modes.specs.declared.point.TheConstants.{END}
 use Rattle.krl_messages.specs.declared.to_server.ToServer.{ToServer}
@@ -10,7 +12,6 @@ use Rattle.krl_messages.specs.declared.to_client.PushBody.{PushBody}
 use Rattle.krl_messages.specs.declared.to_client.PushBody.TheVariants as push
 use Rattle.krl_messages.specs.Writes.{op_key}
 use Rattle.krl_messages.specs.Members.{In}
-use Rattle.krl_protocol.proofs.Points.{no_none}
 use Rattle.krl_durable.specs.Index.{slot_of}
 use Rattle.krl_table.specs.Calls.{dropped}
 use Rattle.krl_table.specs.Grants.{granted}
@@ -19,12 +20,12 @@ use Rattle.krl_server.specs.declared.line.Line.{Line}
 use Rattle.krl_server.specs.Servers.{Server}
 use Rattle.krl_server.specs.Cases.{case_of}
 use Rattle.krl_server.specs.Effects as effects
-use Rattle.krl_server.specs.Effects.{Done, holding, heard, push_to, pushes, effect}
+use Rattle.krl_server.specs.Effects.{Done, holding, heard, pushes, effect}
 use Rattle.krl_server.specs.Callbacks.{callbacks}
 use Rattle.krl_server.specs.Answering.{can_push, Turn, next_turn, take_turn, tells_absent, grants, Answered, stops, goes_on}
 use Rattle.krl_server.specs.Steps.{Kind, Idle, Quiet, Acts, kind_of, calls_of, Ends, at_once, gathers, serves, ServerStep}
 use Rattle.krl_server.specs.Says.{PushesStand}
-use Rattle.krl_server.proofs.Tests.{if_both, and_true, none_of}
+use Rattle.krl_server.proofs.Tests.{if_both, none_of}
 use Rattle.krl_server.proofs.Follows.{in_both}
 use Rattle.krl_server.proofs.Meaning.{line_here, line_other}
 use Rattle.krl_server.proofs.Turns.{turn_is}
@@ -83,14 +84,14 @@ turned_stands s t = if_both (λ (x : Done). PushesStand x.server x.outs) (asks_a
 all_heard : (s : Server) (t : Turn) → next_turn s ≡ Some t → (s.lines t.waiter.client).unheard ≡ None
 all_heard s t e =
     let line = s.lines t.waiter.client in
-    let can = (and_true (can_push line) (asks_absent s.durable.index t.waiter || can_have s.rows t.slot t.waiter) (turn_is s t e).answerable).0 in
-    none_of line.unheard (and_true (not (is_some line.unheard)) (nat_lt line.pushed END) can).0
+    let can = (and_parts (can_push line) (asks_absent s.durable.index t.waiter || can_have s.rows t.slot t.waiter) (turn_is s t e).answerable).0 in
+    none_of line.unheard (and_parts (not (is_some line.unheard)) (nat_lt line.pushed END) can).0
 
 -- so an answer leaves the pushes that stand
 still_stand : (s : Server) (t : Turn) (outs : List ToClient) → next_turn s ≡ Some t → PushesStand s outs → PushesStand (take_turn s t).server outs
 still_stand s t outs next h o e number body at is =
     let x = h o e number body at is in
-    let ne : o.client ≢ t.waiter.client = λ f. no_none body (sym (ap (λ d. (s.lines d).unheard) f ∙ all_heard s t next) ∙ x.1) in
+    let ne : o.client ≢ t.waiter.client = λ f. none-some body (sym (ap (λ d. (s.lines d).unheard) f ∙ all_heard s t next) ∙ x.1) in
     let same = others_turned s t o.client ne in
     (ap (λ y. y.pushed) same ∙ x.0, ap (λ y. y.unheard) same ∙ x.1)
 

@@ -1,7 +1,6 @@
 -- The turn of a slot's first waiter, as the code takes it.
-use Rattle.std.proofs.Common.{◌≡◌, ◌≢◌, ℕ, suc, ◌≤◌, ◌<◌, Bool, true, false, not, ◌&&◌, ◌||◌, Option, Some, None, List, [], ◌∷◌, refl, sym, ap, subst, ◌∙◌, arith}
-use Rattle.std.proofs.Common.{nat_eq}
-use Rattle.std.proofs.lemmas.Bool.{ltb-true}
+use Rattle.std.proofs.Common.{◌≡◌, ℕ, suc, ◌<◌, Bool, true, false, not, ◌&&◌, ◌||◌, Option, Some, None, List, [], ◌∷◌, refl, sym, ap, subst, ◌∙◌}
+use Rattle.std.proofs.lemmas.Bool.{ltb-true, and_parts}
 use Rattle.std.specs.Prelude.{nat_lt, is_some, IfSome, if◌then◌else◌}
 use Rattle.krl_modes.specs.declared.point.TheConstants.{END}
 use Rattle.krl_messages.specs.declared.to_client.ToClient.{ToClient}
@@ -20,7 +19,6 @@ use Rattle.krl_server.specs.Effects.{with_rows, holdings, push_to}
 use Rattle.krl_server.specs.Answering.{Turn, can_push, is_answerable, turn_at, tells_absent, grants}
 use Rattle.krl_server.specs.Outboxes.{as_list}
 use Rattle.krl_server.specs.Doing.{turn_here, HasTurned}
-use Rattle.krl_server.proofs.Tests.{and_true}
 use Rattle.krl_server.proofs.Means.{pushes_next}
 
 -- the first of a list
@@ -100,7 +98,7 @@ module _ (s : Server) (n : ℕ) (u : Waiter) (first : front_of (s.rows n).queue 
 
   module _ (acked : Bool) (is : acked ≡ can_push (s.lines u.client)) where
     pushable : acked ≡ true → (s.lines u.client).pushed < END
-    pushable e = ltb-true (s.lines u.client).pushed END (and_true (not (is_some (s.lines u.client).unheard)) (nat_lt (s.lines u.client).pushed END) (sym is ∙ e)).1
+    pushable e = ltb-true (s.lines u.client).pushed END (and_parts (not (is_some (s.lines u.client).unheard)) (nat_lt (s.lines u.client).pushed END) (sym is ∙ e)).1
 
     pub turned_grant : (t : Server) (o : Option ToClient) → Some reply.Grant ≡ answerable s.durable.index s.rows n acked → t ≡ (grants s (record { slot = n; waiter = u })).server → as_list o ≡ (grants s (record { slot = n; waiter = u })).outs → (x : ToClient) × (o ≡ Some x) × HasTurned s t n x
     turned_grant t o a server outs =

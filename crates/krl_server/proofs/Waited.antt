@@ -1,7 +1,7 @@
 -- Who waits, by client.
 use Rattle.std.proofs.Common.{◌≡◌, ℕ, zero, suc, ◌+◌, ◌<◌, Bool, true, false, not, ◌||◌, Some, List, [], ◌∷◌, refl, ap, ◌∙◌, subst, find, arith}
 use Rattle.std.proofs.Common.{nat_eq}
-use Rattle.std.proofs.lemmas.Bool.{ltb-true}
+use Rattle.std.proofs.lemmas.Bool.{ltb-true, or_parts, not-false}
 use Rattle.std.specs.Prelude.{is_some, nat_lt, if◌then◌else◌}
 use Rattle.std.specs.List.{list_any}
 use Rattle.krl_modes.specs.declared.point.TheConstants.{END}
@@ -11,7 +11,6 @@ use Rattle.krl_durable.specs.Index.{Index, slots}
 use Rattle.krl_table.specs.Rows.{Rows, most_clients, waiter_at, waiter_of, waits}
 use Rattle.krl_server.specs.Cases.{is_strange}
 use Rattle.krl_server.specs.Doing.{count_below}
-use Rattle.krl_server.proofs.Tests.{or_false, not_false}
 use Rattle.krl_server.proofs.Numbers.{sixty_four}
 
 -- who waits has a waiter
@@ -38,5 +37,5 @@ none_count m rows (suc k) none = let ih = none_count m rows k none in ap (λ b. 
 -- the number of a client
 pub not_strange : (m : ToServer) → is_strange m ≡ false → m.client < 64
 not_strange m e =
-    let x = or_false (not (nat_lt m.client most_clients)) (nat_eq m.incarnation 0 || nat_lt END m.incarnation) e in
-    subst (λ k. m.client < k) sixty_four (ltb-true m.client most_clients (not_false (nat_lt m.client most_clients) x.0))
+    let x = or_parts (not (nat_lt m.client most_clients)) (nat_eq m.incarnation 0 || nat_lt END m.incarnation) e in
+    subst (λ k. m.client < k) sixty_four (ltb-true m.client most_clients (not-false (nat_lt m.client most_clients) x.0))

@@ -1,7 +1,8 @@
 -- Numbers stay within END, and lists within their bounds.
 use Rattle.std.proofs.Common.{◌≡◌, ◌≢◌, ℕ, suc, ◌+◌, ◌-◌, ◌≤◌, ◌<◌, Bool, true, false, not, cond, ◌||◌, Some, None, List, [], ◌∷◌, length, ◌⊎◌, inl, inr, refl, sym, ap, subst, ◌∙◌, ⊎_elim, arith}
 use Rattle.std.proofs.Common.{nat_eq, eq-eqb, eqb-true, ltb-true, ltb-false}
-use Rattle.std.proofs.lemmas.Bool.{eqb-false}
+use Rattle.std.proofs.lemmas.Bool.{eqb-false, or_parts, not-false}
+use Rattle.std.proofs.lemmas.Option.{none-some}
 use Rattle.std.specs.Prelude.{nat_lt, is_some, if◌then◌else◌}
 use Rattle.std.specs.Cmp.{nat_cmp_total}
 use Rattle.std.specs.FinMap as map
@@ -14,7 +15,6 @@ use Rattle.krl_messages.specs.declared.to_server.ToServer.{ToServer}
 use Rattle.krl_messages.specs.declared.to_client.ToClient.{ToClient}
 use Rattle.krl_messages.specs.declared.to_client.PushBody.{PushBody}
 use Rattle.krl_messages.specs.declared.to_client.PushBody.TheVariants as push
-use Rattle.krl_protocol.proofs.Points.{no_none}
 use Rattle.krl_protocol.proofs.Worlds.{eq_cases}
 use Rattle.krl_durable.specs.declared.record.Record.{Record}
 use Rattle.krl_durable.specs.Index.{Index, slot_of}
@@ -41,7 +41,7 @@ use Rattle.krl_server.proofs.Gathering.{unlist_here, unlist_other}
 use Rattle.krl_server.proofs.Writes.{change_may}
 use Rattle.krl_server.proofs.Cased.{by_case}
 use Rattle.krl_server.proofs.Counted.{few_apart}
-use Rattle.krl_server.proofs.Tests.{if_both, if_case, or_false, not_false}
+use Rattle.krl_server.proofs.Tests.{if_both, if_case}
 
 -- Registers
 
@@ -74,7 +74,7 @@ with_within : (d : Durable) (c : ℕ) (x : Record) → IsEntry c x → IsDurable
 with_within d c x here w = record { epoch = w.epoch; entries = w.entries; once = with_apart d.register c x w.once; known = with_each IsEntry d.register c x here w.known }
 
 pub known_in : (es : Register) (c : ℕ) (r : Record) → record_of es c ≡ Some r → In c (clients_of es)
-known_in [] c r e = absurd (no_none r e)
+known_in [] c r e = absurd (none-some r e)
 known_in (x ∷ es) c r e = by_eq (nat_eq c x.0) refl e (known_in es c r)
   where
     by_eq : (b : Bool) → nat_eq c x.0 ≡ b → (if b then Some x.1 else record_of es c) ≡ Some r → (record_of es c ≡ Some r → In c (clients_of es)) → In c (x.0 ∷ clients_of es)
@@ -167,7 +167,7 @@ one_less false n = omega arith
 
 written_few : (m : Index) (op : WriteOp) (may : Bool) → judge m op may ≡ outcome.Applied → length (map.entries m) ≤ most_entries → length (map.entries (index_after m op outcome.Applied)) ≤ most_entries
 written_few m (write.Insert k v) may e le =
-    let room = ltb-true (length (map.entries m)) most_entries (not_false (nat_lt (length (map.entries m)) most_entries) (insert_room (is_some (map.get m k)) may (not (nat_lt (length (map.entries m)) most_entries)) e)) in
+    let room = ltb-true (length (map.entries m)) most_entries (not-false (nat_lt (length (map.entries m)) most_entries) (insert_room (is_some (map.get m k)) may (not (nat_lt (length (map.entries m)) most_entries)) e)) in
     let is = map.len-insert nat_cmp_total m k v in
     let more = one_more (map.contains_key m k) (map.len m) in
     omega (arith, room, is, more, map.len-entries m, map.len-entries (map.insert m k v))
@@ -277,8 +277,8 @@ module _ (s : Server) (m : ToServer) (w : IsWithin s) where
       by_strange : (b : Bool) → is_strange m ≡ b → IsWithin (effect s m (case_of s m)).server
       by_strange true e = subst (λ k. IsWithin (effect s m k).server) (sym (ap (λ b. if b then Ignored else case_of_record s m (record_of s.durable.register m.client)) e)) w
       by_strange false e =
-          let x = or_false (not (nat_lt m.client most_clients)) (nat_eq m.incarnation 0 || nat_lt END m.incarnation) e in
-          let y = or_false (nat_eq m.incarnation 0) (nat_lt END m.incarnation) x.1 in
+          let x = or_parts (not (nat_lt m.client most_clients)) (nat_eq m.incarnation 0 || nat_lt END m.incarnation) e in
+          let y = or_parts (nat_eq m.incarnation 0) (nat_lt END m.incarnation) x.1 in
           of_known (let ne = eqb-false m.incarnation 0 y.0 in omega (arith, ne)) (ltb-false END m.incarnation y.1)
 
 ends_within : (done : Done) (kind : Kind) (t : Server) (outs : List ToClient) → Ends done kind t outs → IsWithin done.server → IsWithin t

@@ -1,5 +1,7 @@
 -- A new write that is Applied, and its answer.
 use Rattle.std.proofs.Common.{◌≡◌, ℕ, suc, ◌≤◌, ◌<◌, Bool, true, false, Option, Some, None, List, ◌∷◌, refl, sym, ap, subst, ◌∙◌, arith}
+use Rattle.std.proofs.lemmas.Bool.{and_parts}
+use Rattle.std.proofs.lemmas.Option.{none-some}
 use Rattle.std.specs.Prelude.{is_some}
 use Rattle.std.specs.FinMap as map
 use Rattle.krl_modes.specs.declared.point.TheConstants.{END}
@@ -18,7 +20,6 @@ use Rattle.krl_protocol.proofs.Refines as refines
 use Rattle.krl_protocol.proofs.Steps.{steps_on, world_steps, put, put_changed, changed_twice, heard_kept}
 use Rattle.krl_protocol.proofs.Worlds.{WorldInv}
 use Rattle.krl_protocol.proofs.Written.{Written}
-use Rattle.krl_protocol.proofs.Points.{no_none}
 use Rattle.krl_durable.specs.declared.record.Record.{Record}
 use Rattle.krl_durable.specs.Index.{Index}
 use Rattle.krl_durable.specs.Registers.{record_of, with_record}
@@ -36,7 +37,7 @@ use Rattle.krl_server.proofs.Meaning.{range_is, key_is, line_here}
 use Rattle.krl_server.proofs.Follows.{Goes, steps_then, not_gathering, put_client, put_shows, line_rest, not_two}
 use Rattle.krl_server.proofs.Pushes.{pushes_serve, pushes_sound, hears_steps, hears_shows, heard_sound}
 use Rattle.krl_server.proofs.Judged.{answers_on, row_shows}
-use Rattle.krl_server.proofs.Tests.{and_true, none_some, some_of}
+use Rattle.krl_server.proofs.Tests.{none_some, some_of}
 use Rattle.krl_server.proofs.Refused.{applied_is, noted_known, noted_rest}
 use Rattle.krl_server.proofs.Splits.{get_other, insert_shown, put_shown}
 use Rattle.krl_server.proofs.Merges.{gone_other, delete_shown}
@@ -87,7 +88,7 @@ written_goes s of log cleared c a number op r index rows known at head ok num un
       missing = k.missing;
       pushed = k.pushed;
       acked = refl;
-      unheard = λ body e. absurd (no_none body e);
+      unheard = λ body e. absurd (none-some body e);
       range = λ p q. ap (λ y. y.top_range q) (sym ch1.here) ∙ x.own q ∙ sym (sees c q);
       key = λ p q. sym (holds c q);
       new_range = λ p. absurd (not_two (view s).phase ok.serving p);
@@ -182,7 +183,7 @@ is_written s of log c a op i inv head ok under e h = by_op op under e
     by_op (write.Put k v) under e = let x = change_may (is_some (map.get s.durable.index k)) _ e in let p = some_of (map.get s.durable.index k) x.0 in
         put_shown s.durable.index s.durable.epoch (view s).phase i.near (put of c (heard_link (of c))) log s.rows shows later c k v p.0 under p.1 x.1
     by_op (write.Delete k) under e = let x = change_may (is_some (map.get s.durable.index k)) _ e in let p = some_of (map.get s.durable.index k) x.0 in
-        let y = and_true _ _ x.1 in let z = and_true _ _ y.0 in
+        let y = and_parts _ _ x.1 in let z = and_parts _ _ y.0 in
         delete_shown s.durable.index s.durable.epoch (view s).phase i.near (put of c (heard_link (of c))) log s.rows shows later c k p.0 under p.1 z.0 z.1 y.1
 
 pub writes_follow : (s : Server) (of : ℕ → Link) (log : List Logged) (cleared : ℕ → Bool) (m : ToServer) (a : Head) (number : ℕ) (op : WriteOp) (r : Record) → IsSound s → WorldInv (world_of s of log) → record_of s.durable.register m.client ≡ Some r → m.incarnation ≡ r.incarnation → m.client < most_clients → In (let w : Write = record { head = a; number = number; op = op_of op } in w) (of m.client).writes → In a (of m.client).heads → Passes (view s) (of m.client) a → number ≡ suc r.last → op_key op < END → judged s m.client op ≡ outcome.Applied → Shows s of → Goes s of log cleared (effect s m (Judges number op outcome.Applied)) (logged m (Judges number op outcome.Applied) log)

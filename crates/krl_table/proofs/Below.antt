@@ -1,5 +1,5 @@
 -- What holds of each number below another.
-use Rattle.std.proofs.Common.{◌≡◌, ℕ, zero, suc, ◌+◌, ◌<◌, Bool, true, false, ◌&&◌, ◌||◌, refl, sym, ap, subst, ◌∙◌, arith}
+use Rattle.std.proofs.Common.{◌≡◌, ℕ, zero, suc, ◌+◌, ◌<◌, Bool, true, false, ◌&&◌, refl, sym, ap, subst, ◌∙◌, arith}
 use Rattle.krl_table.specs.Rows.{all_below, most_clients}
 use Rattle.krl_table.proofs.Means.{eq_cases}
 
@@ -25,7 +25,3 @@ all_clients f n e h = subst (λ k. true ≡ all_below k f) (e ∙ sym clients_ar
 
 pub not_all_clients : (f : ℕ → Bool) (n : ℕ) → n < 64 → f n ≡ false → false ≡ all_below most_clients f
 not_all_clients f n lt e = sym (below_false f most_clients n (subst (λ k. n < k) (sym clients_are) lt) e)
-
-pub or_no : (a b : Bool) → a ≡ false → b ≡ false → (a || b) ≡ false
-or_no true b e f = e
-or_no false b e f = f

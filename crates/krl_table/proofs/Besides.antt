@@ -1,7 +1,7 @@
 -- Modes that are not in each other's way.
-use Rattle.std.proofs.Common.{◌≡◌, ◌≢◌, ℕ, zero, suc, ◌≤◌, ◌<◌, Bool, true, false, ◌&&◌, ◌||◌, refl, sym, ap, subst, ◌∙◌, ⊎_elim, arith}
+use Rattle.std.proofs.Common.{◌≡◌, ◌≢◌, ℕ, zero, suc, ◌≤◌, ◌<◌, Bool, true, false, ◌||◌, refl, sym, ap, subst, ◌∙◌, ⊎_elim, arith}
 use Rattle.std.proofs.Common.{nat_eq, eq-eqb, ne_eqb}
-use Rattle.std.proofs.lemmas.Bool.{cases_lt}
+use Rattle.std.proofs.lemmas.Bool.{cases_lt, and_parts}
 use Rattle.std.specs.Prelude.{if◌then◌else◌}
 use Rattle.krl_modes.specs.declared.part.RangePart.{RangePart}
 use Rattle.krl_modes.specs.declared.part.KeyPart.TheVariants as key
@@ -16,18 +16,13 @@ use Rattle.krl_table.specs.Calls.{mode_beside, split_modes}
 use Rattle.krl_table.specs.Kept.{AreBeside}
 use Rattle.krl_table.proofs.Means.{eq_cases}
 
-pub and_true : (a b : Bool) → (a && b) ≡ true → (a ≡ true) × (b ≡ true)
-and_true true true e = (refl, refl)
-and_true true false e = absurd (cc)
-and_true false b e = absurd (cc)
-
 or_true : (a b : Bool) → (a || b) ≡ true → a ≡ false → b ≡ true
 or_true true b e f = absurd (cc)
 or_true false b e f = e
 
 pub all_below_at : (n : ℕ) (f : ℕ → Bool) (d : ℕ) → all_below n f ≡ true → d < n → f d ≡ true
 all_below_at zero f d e lt = absurd (omega (arith, lt))
-all_below_at (suc n) f d e lt = let x = and_true (f n) (all_below n f) e in
+all_below_at (suc n) f d e lt = let x = and_parts (f n) (all_below n f) e in
     eq_cases d n (λ g. ap f g ∙ x.0) (λ ne. all_below_at n f d x.1 (omega (arith, lt, ne)))
 
 pub none_beside : (g : Mode) → compatible g mode.N ≡ true

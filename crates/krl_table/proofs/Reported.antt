@@ -1,10 +1,11 @@
 -- What is reported of a slot, piece after piece; and what a report makes of the rows, slot after slot.
 use Rattle.std.proofs.Common.{◌≡◌, ◌≢◌, ℕ, zero, suc, ◌+◌, ◌≤◌, ◌<◌, Bool, true, false, not, ◌&&◌, List, [], ◌∷◌, Option, Some, None, IsSome, ◌⊎◌, ◌||◌, inl, inr, drop, slice_index_or, length, refl, sym, ap, subst, ◌∙◌, ⊎_elim, arith}
-use Rattle.std.proofs.Math.Seq.{drop-cons, drop-nil}
+use Rattle.std.proofs.Math.Seq.{drop-cons}
 use Rattle.std.proofs.lemmas.Bool.{cases_lt}
 use Rattle.std.proofs.Common.{eq-eqb, ne_eqb}
 use Rattle.std.proofs.lemmas.Bool.Decides.{nat_tests}
 use Rattle.std.proofs.Math.Path.{fun_ext}
+use Rattle.std.proofs.lemmas.List.{drop_all}
 use Rattle.std.specs.Prelude.{nat_eq, nat_lt, if◌then◌else◌}
 use Rattle.std.specs.List.{list_all}
 use Rattle.std.specs.FinMap.{get}
@@ -33,7 +34,7 @@ use Rattle.krl_table.proofs.Means.{eq_cases}
 use Rattle.krl_table.proofs.Below.{clients_are}
 use Rattle.krl_table.proofs.Besides.{set_beside, fits_beside}
 use Rattle.krl_table.proofs.Rooms.{Lists, slots_have, slots_are}
-use Rattle.krl_table.proofs.Slots.{next_of, low_past, slot_end, slot_twice}
+use Rattle.krl_table.proofs.Slots.{low_past, slot_end, slot_twice}
 use Rattle.krl_table.proofs.Sounds.{NoStrangers, set_strangers, set_over}
 use Rattle.krl_table.proofs.Walk.{lower_keeps, lower_past, lower_here}
 
@@ -64,11 +65,6 @@ from_item xs i x lt e = let one : suc i ≡ i + 1 = omega arith in drop-cons xs 
 pub from_place : {X : Type 0} (xs : List X) (i : ℕ) (d : X) → i < length xs → drop i xs ≡ slice_index_or xs i d ∷ drop (i + 1) xs
 from_place xs i d lt = let one : suc i ≡ i + 1 = omega arith in drop-cons xs i d lt ∙ ap (λ j. slice_index_or xs i d ∷ drop j xs) one
 
-pub drop_all : {X : Type 0} (xs : List X) (i : ℕ) → length xs ≤ i → drop i xs ≡ []
-drop_all [] i le = drop-nil i
-drop_all (x ∷ xs) zero le = absurd (omega (arith, le))
-drop_all (x ∷ xs) (suc i) le = drop_all xs i (omega (arith, le))
-
 pub range_begins : (xs : List RangePiece) (span : Bounds) → range_join range.N (reported_range xs span) ≡ reported_range xs span
 range_begins xs span = range_left (reported_range xs span)
 
@@ -81,7 +77,7 @@ range_goes xs i d span part lt e = by_test (meets d.span span) ∙ ap (λ ys. ra
     by_test false = ap (λ p. range_join p (reported_range (drop (i + 1) xs) span)) (range_right part)
 
 pub range_ends : (xs : List RangePiece) (i : ℕ) (span : Bounds) (part : RangePart) → length xs ≤ i → range_join part (reported_range (drop i xs) span) ≡ part
-range_ends xs i span part le = ap (λ ys. range_join part (reported_range ys span)) (drop_all xs i le) ∙ range_right part
+range_ends xs i span part le = ap (λ ys. range_join part (reported_range ys span)) (drop_all i xs le) ∙ range_right part
 
 pub key_begins : (xs : List KeyPiece) (p : ℕ) → key_join key.N (reported_key xs p) ≡ reported_key xs p
 key_begins xs p = key_left (reported_key xs p)
@@ -95,7 +91,7 @@ key_goes xs i d p part lt = by_test (nat_eq (slice_index_or xs i d).point p) ∙
     by_test false = ap (λ x. key_join x (reported_key (drop (i + 1) xs) p)) (key_right part)
 
 pub key_ends : (xs : List KeyPiece) (i : ℕ) (p : ℕ) (part : KeyPart) → length xs ≤ i → key_join part (reported_key (drop i xs) p) ≡ part
-key_ends xs i p part le = ap (λ ys. key_join part (reported_key ys p)) (drop_all xs i le) ∙ key_right part
+key_ends xs i p part le = ap (λ ys. key_join part (reported_key ys p)) (drop_all i xs le) ∙ key_right part
 
 -- What lies before the next piece
 
@@ -107,7 +103,7 @@ pub ranges_go : (xs : List RangePiece) (i : ℕ) (x : RangePiece) (at next v new
 ranges_go xs i x at next v new lt e a b off ih r le h = ih r (omega (arith, le, a)) (subst (λ ys. RangesOff ys at r) (sym (from_item xs i x lt e)) (off r (omega (arith, le, b)), h))
 
 pub ranges_end : (xs : List RangePiece) (i at next : ℕ) → length xs ≤ i → ((r : ℕ) → r ≤ next → RangesOff (drop i xs) at r → RangesOff xs at r) → RangesOff xs at next
-ranges_end xs i at next le h = h next (omega arith) (subst (λ ys. RangesOff ys at next) (sym (drop_all xs i le)) tt)
+ranges_end xs i at next le h = h next (omega arith) (subst (λ ys. RangesOff ys at next) (sym (drop_all i xs le)) tt)
 
 pub keys_begin : (xs : List KeyPiece) (at next : ℕ) → (r : ℕ) → r ≤ next → KeysOff (drop 0 xs) at r → KeysOff xs at r
 keys_begin xs at next r le h = h
@@ -117,7 +113,7 @@ pub keys_go : (xs : List KeyPiece) (i : ℕ) (d : KeyPiece) (at next v new : ℕ
 keys_go xs i d at next v new lt a b off ih r le h = ih r (omega (arith, le, a)) (subst (λ ys. KeysOff ys at r) (sym (from_place xs i d lt)) (off r (omega (arith, le, b)), h))
 
 pub keys_end : (xs : List KeyPiece) (i at next : ℕ) → length xs ≤ i → ((r : ℕ) → r ≤ next → KeysOff (drop i xs) at r → KeysOff xs at r) → KeysOff xs at next
-keys_end xs i at next le h = h next (omega arith) (subst (λ ys. KeysOff ys at next) (sym (drop_all xs i le)) tt)
+keys_end xs i at next le h = h next (omega arith) (subst (λ ys. KeysOff ys at next) (sym (drop_all i xs le)) tt)
 
 -- a nearer end
 pub ranges_nearer : (xs : List RangePiece) (at p q : ℕ) → q ≤ p → RangesOff xs at p → RangesOff xs at q

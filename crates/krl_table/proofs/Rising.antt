@@ -2,6 +2,7 @@
 use Rattle.std.proofs.Common.{◌≡◌, ℕ, zero, suc, ◌+◌, ◌≤◌, ◌<◌, Bool, true, false, ◌&&◌, List, [], ◌∷◌, None, inl, inr, drop, slice_index_or, length, refl, sym, ap, subst, ◌∙◌, arith}
 use Rattle.std.proofs.Common.{ne_eqb}
 use Rattle.std.proofs.lemmas.Bool.Decides.{nat_tests}
+use Rattle.std.proofs.lemmas.List.{drop_all}
 use Rattle.std.specs.Prelude.{nat_lt, if◌then◌else◌}
 use Rattle.std.specs.FinMap.{get}
 use Rattle.krl_modes.specs.declared.point.TheConstants.{END}
@@ -18,7 +19,7 @@ use Rattle.krl_messages.specs.declared.pieces.Pieces.{Pieces}
 use Rattle.krl_durable.specs.Index.{Index, span_of}
 use Rattle.krl_table.specs.Reports.{reported_range, reported_key}
 use Rattle.krl_table.specs.Reported.{RangesOff, KeysOff, RangesRise, KeysRise, SameRanges, SameKeys, ReportsSame, BeginsSpan, IsNextReported, NothingFrom}
-use Rattle.krl_table.proofs.Reported.{range_right, key_right, from_item, from_place, drop_all, low_from}
+use Rattle.krl_table.proofs.Reported.{range_right, key_right, from_item, from_place, low_from}
 
 -- Ranges
 
@@ -79,7 +80,7 @@ pub ranges_look : (xs : List RangePiece) (i : ℕ) (x : RangePiece) (low next : 
 ranges_look xs i x low next lt e is le ih h = ih (subst (RangesRise low) (sym (from_item xs i x lt e)) (omega (arith, le, is), subst (λ n. RangesRise n (drop (i + 1) xs)) is h))
 
 pub ranges_looked : (xs : List RangePiece) (i low : ℕ) → length xs ≤ i → (RangesRise low (drop i xs) → RangesRise 0 xs) → RangesRise 0 xs
-ranges_looked xs i low le h = h (subst (RangesRise low) (sym (drop_all xs i le)) tt)
+ranges_looked xs i low le h = h (subst (RangesRise low) (sym (drop_all i xs le)) tt)
 
 -- Keys
 
@@ -126,7 +127,7 @@ pub keys_look : (xs : List KeyPiece) (i : ℕ) (d : KeyPiece) (low : ℕ) → i 
 keys_look xs i d low lt le ih h = ih (subst (KeysRise low) (sym (from_place xs i d lt)) (le, h))
 
 pub keys_looked : (xs : List KeyPiece) (i low : ℕ) → length xs ≤ i → (KeysRise low (drop i xs) → KeysRise 0 xs) → KeysRise 0 xs
-keys_looked xs i low le h = h (subst (KeysRise low) (sym (drop_all xs i le)) tt)
+keys_looked xs i low le h = h (subst (KeysRise low) (sym (drop_all i xs le)) tt)
 
 -- Reports
 

@@ -1,7 +1,7 @@
 -- A slot is parted in two.
 use Rattle.std.proofs.Common.{◌≡◌, ◌≢◌, ℕ, ◌≤◌, ◌<◌, Bool, true, false, ◌||◌, List, Option, Some, None, IsSome, ◌⊎◌, inl, inr, refl, sym, ap, subst, ◌∙◌, ⊎_elim, arith}
 use Rattle.std.proofs.Common.{nat_eq, ne_eqb, ltb-true, ltb-false}
-use Rattle.std.proofs.lemmas.Bool.{cases_lt}
+use Rattle.std.proofs.lemmas.Bool.{cases_lt, leb-true}
 use Rattle.std.proofs.lemmas.Bool.Decides.{nat_tests}
 use Rattle.std.specs.Prelude.{is_some, nat_le, nat_lt, if◌then◌else◌}
 use Rattle.std.specs.FinMap.{get, insert}
@@ -27,9 +27,6 @@ use Rattle.krl_table.proofs.Stands.{in_filter, filter_in}
 use Rattle.krl_table.proofs.Slots.{no_slot, next_of, slot_is, slot_end, slot_twice}
 use Rattle.krl_table.proofs.Parts.{same_range, other_key, writer_key}
 use Rattle.krl_table.proofs.Sounds.{NoStrangers, listed_moved}
-
-up_to_is : (p k : ℕ) → nat_le p k ≡ true → p ≤ k
-up_to_is p k e = grind (arith, nat_tests)
 
 beyond_is : (p k : ℕ) → nat_lt k p ≡ true → k < p
 beyond_is p k e = grind (arith, nat_tests)
@@ -171,7 +168,7 @@ module _ (m : Index) (k s : ℕ) (v : Value) (near : (n : ℕ) → END ≤ n →
         is_placed : (n : ℕ) (w : Waiter) → In w (rows_of u n).queue → slot_of more w.point ≡ n
         is_placed n w = eq_cases n k
             (λ e x. let f = in_filter (λ w. nat_le w.point k) (rows_of t s).queue w (subst (λ (r : Row). In w r.queue) (ap (rows_of u) e ∙ set.first) x) in
-            slot_is more more_near w.point k (over.points s w f.0) (slot_new w.point (up_to_is w.point k f.1) (its_slot s w f.0)) ∙ sym e)
+            slot_is more more_near w.point k (over.points s w f.0) (slot_new w.point (leb-true w.point k f.1) (its_slot s w f.0)) ∙ sym e)
             (λ nk. eq_cases n s
             (λ e x. let f = in_filter (λ w. nat_lt k w.point) (rows_of t s).queue w (subst (λ (r : Row). In w r.queue) (ap (rows_of u) e ∙ set.second) x) in
             slot_is more more_near w.point s (over.points s w f.0) (slot_beyond w.point (beyond_is w.point k f.1) (its_slot s w f.0)) ∙ sym e)

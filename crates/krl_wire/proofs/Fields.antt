@@ -2,7 +2,7 @@
 use Rattle.std.proofs.Common.{◌≡◌, ℕ, zero, suc, ◌+◌, ◌^◌, ◌<◌, ◌≤◌, Bool, true, false, cond, ltb, eqb, List, [], ◌∷◌, ◌++◌, length, get_or, take, drop, Option, Some, None, Result, Ok, Err, refl, sym, ap, subst, ◌∙◌, append_assoc, arith, inl, inr}
 use Rattle.std.specs.Prelude.{IfSome, ◌⊎◌, nat_lt, nat_le, ◌&&◌}
 use Rattle.std.specs.Int.{Width, w32, w64, byte_len, from_le_bytes, to_le_bytes}
-use Rattle.std.proofs.lemmas.Bool.{cases_lt, eqb-true, ltb-false, le-ltb, lt-ltb, ltb-true, le-leb, leb-true}
+use Rattle.std.proofs.lemmas.Bool.{cases_lt, eqb-true, ltb-false, le-ltb, lt-ltb, ltb-true, le-leb, leb-true, and_parts}
 use Rattle.std.proofs.lemmas.List.{take_at, drop_at, take-append-drop, length-append, length-take, length-take-le, get_or-drop, get_or-take, get_or_past}
 use Rattle.std.proofs.lemmas.Nat.{le_bytes_4, le_bytes_8, from_le_bytes-to_le_bytes_4, from_le_bytes-to_le_bytes_8}
 use Rattle.krl_modes.specs.Spans.{Bounds}
@@ -58,10 +58,6 @@ done x = Ok x
 
 pub ok_is : {A : Type 0} (x y : A) → done x ≡ done y → x ≡ y
 ok_is x y e = cc
-
-pub both_true : (a b : Bool) → (a && b) ≡ true → (a ≡ true) × (b ≡ true)
-both_true true b e = (refl, e)
-both_true false b e = absurd cc
 
 -- what a reader took from the front
 pub record Takes (bytes text rest : List ℕ) : Type 0 where
@@ -168,7 +164,7 @@ span_takes bytes x fits e =
     (Err fault.Span)) x a.2 in
     let made : Bounds × List ℕ = (record { lo = a.0.0; hi = b.0.0 }, b.0.1) in
     let g = held (nat_lt a.0.0 b.0.0 && nat_le b.0.0 TOP) fault.Span (Ok made) x b.2 in
-    let t = both_true (nat_lt a.0.0 b.0.0) (nat_le b.0.0 TOP) g.0 in
+    let t = and_parts (nat_lt a.0.0 b.0.0) (nat_le b.0.0 TOP) g.0 in
     let t1 = number_codec.takes bytes a.0 fits a.1 in
     let t2 = number_codec.takes a.0.1 b.0 t1.0.rest_fits b.1 in
     subst (λ (y : Bounds × List ℕ). Takes bytes (span y.0) y.1 × FitsSpan y.0) (ok_is made x g.1)

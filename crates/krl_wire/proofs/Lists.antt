@@ -5,7 +5,7 @@ use Rattle.std.specs.Int.{w32}
 use Rattle.std.specs.List.{flat_map, AllByRecursion}
 use Rattle.std.proofs.Math.Nat.{suc-mul}
 use Rattle.std.proofs.lemmas.Nat.{le-div}
-use Rattle.std.proofs.lemmas.Bool.{ltb-false, le-ltb, leb-true, le-leb}
+use Rattle.std.proofs.lemmas.Bool.{ltb-false, le-ltb, leb-true, le-leb, and_parts}
 use Rattle.std.proofs.lemmas.List.Concat.{flat_map-cons}
 use Rattle.krl_modes.specs.Spans.{Bounds}
 use Rattle.krl_modes.specs.declared.mode.Mode.{Mode}
@@ -22,7 +22,7 @@ use Rattle.krl_wire.specs.declared.fault.Fault.TheVariants as fault
 use Rattle.krl_wire.specs.Spelling.{count, holding, holdings, list, range_piece, key_piece, pieces}
 use Rattle.krl_wire.specs.Fitting.{FitsHolding, FitsHoldings, FitsRange, FitsKey, FitsList, FitsPieces}
 use Rattle.krl_wire.specs.Reading.{◌>>=◌, byte_at, number_at, holding_at, holding_from, holdings_from, holdings_at, range_piece_at, key_piece_at, count_at, items_at, list_at, pieces_at}
-use Rattle.krl_wire.proofs.Fields.{IsBytes, IsBytes-rest, bind_ok, passed, held, ok_is, both_true, Takes, Takes-then, IsCodec, number_codec, small_codec, span_codec, optional_codec}
+use Rattle.krl_wire.proofs.Fields.{IsBytes, IsBytes-rest, bind_ok, passed, held, ok_is, Takes, Takes-then, IsCodec, number_codec, small_codec, span_codec, optional_codec}
 use Rattle.krl_wire.proofs.Rows.{two_take, two_again, three_take, three_again}
 use Rattle.krl_wire.proofs.Tables.{mode_codec, range_codec, key_codec}
 
@@ -125,7 +125,7 @@ unfolding holdings_at byte_at
 holdings_takes [] x fits e = absurd cc
 holdings_takes (n ∷ bytes) x fits e =
     let g = held (nat_le 1 n && nat_le n 8) fault.Count (holdings_from n 0 bytes) x e in
-    let b = both_true (nat_le 1 n) (nat_le n 8) g.0 in
+    let b = and_parts (nat_le 1 n) (nat_le n 8) g.0 in
     let low : 1 ≤ n = leb-true _ _ b.0 in
     let high : n ≤ 8 = leb-true _ _ b.1 in
     let t = several_take n 0 bytes x (IsBytes-rest n bytes fits) g.1 in (

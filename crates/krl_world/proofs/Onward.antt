@@ -1,6 +1,7 @@
 -- Each step that is not refused can be taken.
 use Rattle.std.proofs.Common.{◌≡◌, ℕ, zero, suc, ◌+◌, ◌-◌, ◌≤◌, ◌<◌, Bool, true, false, cond, Option, Some, None, List, [], ◌∷◌, ◌⊎◌, inl, inr, refl, sym, subst, arith, is_some, nat_lt, nat_le, ltb-true}
 use Rattle.std.proofs.lemmas.Bool.Decides.{eqb_tells}
+use Rattle.std.proofs.lemmas.Bool.{and_parts, not-false}
 use Rattle.std.specs.Prelude.{not}
 use Rattle.krl_modes.specs.declared.point.TheConstants.{END, TOP}
 use Rattle.krl_messages.specs.Values.{Value}
@@ -15,7 +16,6 @@ use Rattle.krl_server.specs.Follows.{ServerFollows}
 use Rattle.krl_server.proofs.Ends.{step_ends}
 use Rattle.krl_cache.specs.Beliefs.{Belief, is_span, is_covered, CoversAll, AreRows}
 use Rattle.krl_cache.specs.Kept.{Describes}
-use Rattle.krl_cache.proofs.Truths.{and_true, not_is_false}
 use Rattle.krl_client.specs.Clients.{Client, outstanding, is_in, is_writing_in, free_pin, begun}
 use Rattle.krl_client.specs.Commands.{is_pending, finds_rows, misses, locked, says_lock, wrote, says_write, says_release, forgot, pinned, unpinned, says_bye}
 use Rattle.krl_client.specs.Messages as receiver
@@ -105,7 +105,7 @@ scan_on k lo hi rows is are = by_test (is_writing_in k (span lo hi)) refl
   where
     by_test : (t : Bool) → is_writing_in k (span lo hi) ≡ t → (answer : Answer) × ScanAnswers k (span lo hi) answer
     by_test true e = pending k lo hi (outstanding k.written) refl e
-    by_test false e = looked k lo hi rows (ltb-true lo hi (and_true (nat_lt lo hi) (nat_le hi TOP) is).0) e (are e) (look k.belief lo (hi - lo))
+    by_test false e = looked k lo hi rows (ltb-true lo hi (and_parts (nat_lt lo hi) (nat_le hi TOP) is).0) e (are e) (look k.belief lo (hi - lo))
 
 -- Commands
 
@@ -121,7 +121,7 @@ obeys_on : (w : State) (c : ℕ) (k : Client) (what : Command) → client_of w c
 obeys_on w c k (command.Lock point hi m) up h e = (told.Done, with_client w c (Some (locked k point hi m)) (says_lock (locked k point hi m) point hi m ∷ []), (refl, refl))
 obeys_on w c k (command.Write op) up h e = (told.Done, with_client w c (Some (wrote k op)) (says_write (wrote k op) op ∷ []), (refl, refl))
 obeys_on w c k (command.Scan lo hi) up h e =
-    let is = not_is_false _ (passed _ _ _ e).0 in
+    let is = not-false _ (passed _ _ _ e).0 in
     let x = scan_on k lo hi (index.range (index_of w) lo hi) is (h c lo hi k up is) in
     (x.0, w, (x.1, refl))
 obeys_on w c k (command.Forget lo hi) up h e = (told.Done, with_client w c (Some (forgot k (span lo hi))) (says_release k (span lo hi) mode.N ∷ []), (refl, refl))

@@ -1,25 +1,23 @@
 -- The machine comes to a world that shows any opening: each client that was registered started up to its incarnation, was
 -- registered with it and left, and the server crashed and started up to the epoch. It wrote nothing.
-use Rattle.std.proofs.Common.{◌≡◌, ◌≢◌, ℕ, zero, suc, ◌≤◌, ◌<◌, ◌∙◌, Bool, true, false, cond, Option, Some, None, List, [], ◌∷◌, ◌⊎◌, inl, inr, refl, sym, ap, subst, arith, nat_eq, if◌then◌else◌, eq-eqb, ne_eqb, eqb-true}
+use Rattle.std.proofs.Common.{◌≡◌, ◌≢◌, ℕ, zero, suc, ◌≤◌, ◌∙◌, Bool, true, false, Option, Some, None, List, [], ◌∷◌, ◌⊎◌, inl, inr, refl, sym, ap, subst, arith, nat_eq, if◌then◌else◌, eq-eqb, ne_eqb, eqb-true}
 use Rattle.std.specs.List.{AllByRecursion, IsDistinct}
 use Rattle.std.proofs.lemmas.Map.Keys.{IsDistinct-head, IsDistinct-tail}
+use Rattle.std.proofs.lemmas.Option.{none-some}
 use Rattle.std.specs.Map.{keys_of}
 use Rattle.krl_modes.specs.declared.point.TheConstants.{END}
 use Rattle.krl_messages.specs.Values.{Value}
-use Rattle.krl_messages.specs.declared.outcome.Outcome.{Outcome}
-use Rattle.krl_messages.specs.Members.{In}
 use Rattle.krl_protocol.specs.Links as links
-use Rattle.krl_protocol.specs.Links.{Shared, Link, Notice, LinkStep, LinkSteps, starts, crashes, leaves, registers, sees_off, idle, next}
+use Rattle.krl_protocol.specs.Links.{Shared, Link, Notice, LinkSteps, starts, crashes, leaves, registers, sees_off, idle, next}
 use Rattle.krl_protocol.specs.Worlds as machine
-use Rattle.krl_protocol.specs.Worlds.{Logged, Changed, IsMissing, Step, crash, start, finish, Steps, none, more, Reachable, begun, blank_link}
+use Rattle.krl_protocol.specs.Worlds.{Changed, crash, start, finish, Steps, none, more, Reachable, begun, blank_link}
 use Rattle.krl_protocol.proofs.Steps.{steps_reachable, steps_on, link_steps}
 use Rattle.krl_durable.specs.declared.record.Record.{Record}
-use Rattle.krl_durable.specs.Registers.{Register, record_of, missing_order, HasIncarnations, IsIncarnation}
+use Rattle.krl_durable.specs.Registers.{Register, record_of, missing_order, HasIncarnations}
 use Rattle.krl_server.specs.Servers.{incarnation_or_0}
-use Rattle.krl_server.specs.Shows.{is_applied, IsRecord}
+use Rattle.krl_server.specs.Shows.{IsRecord}
 use Rattle.krl_server.specs.Follows.{IsIdle}
 use Rattle.krl_server.proofs.Follows.{not_truth, some_same}
-use Rattle.krl_protocol.proofs.Points.{no_none}
 
 -- One link
 
@@ -100,7 +98,7 @@ known_later : (x : ℕ × Record) (xs : Register) (c : ℕ) (r : Record) → rec
 known_later x xs c r n e = by_test (nat_eq c x.0) refl
   where
     by_test : (b : Bool) → nat_eq c x.0 ≡ b → (if b then Some x.1 else record_of xs c) ≡ Some r
-    by_test true i = let j : record_of xs c ≡ None = subst (λ y. record_of xs y ≡ None) (sym (eqb-true c x.0 i)) n in absurd (no_none r (sym j ∙ e))
+    by_test true i = let j : record_of xs c ≡ None = subst (λ y. record_of xs y ≡ None) (sym (eqb-true c x.0 i)) n in absurd (none-some r (sym j ∙ e))
     by_test false i = e
 
 positive : (n : ℕ) → 1 ≤ n → (m : ℕ) × (n ≡ suc m)
@@ -134,7 +132,7 @@ opening_reached index e es once h = steps_reachable index END (world_at index 1 
 -- What it shows
 
 pub left_all : (es : Register) → missing_order es ≡ [] → (c : ℕ) (r : Record) → record_of es c ≡ Some r → r.left ≡ true
-left_all [] h c r e = absurd (no_none r e)
+left_all [] h c r e = absurd (none-some r e)
 left_all (x ∷ xs) h c r e = by_left x.1.left refl h (nat_eq c x.0) e (λ k. left_all xs k c r)
   where
     by_left : (b : Bool) → x.1.left ≡ b → (if b then missing_order xs else x.0 ∷ missing_order xs) ≡ [] → (a : Bool) → (if a then Some x.1 else record_of xs c) ≡ Some r → (missing_order xs ≡ [] → record_of xs c ≡ Some r → r.left ≡ true) → r.left ≡ true

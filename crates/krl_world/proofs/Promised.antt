@@ -1,6 +1,6 @@
 -- What the machine promises of compatibility and scans holds in each world that shows in it.
 use Rattle.std.proofs.Common.{◌≡◌, ◌≢◌, ℕ, ◌≤◌, ◌<◌, ◌∙◌, Bool, true, false, ◌||◌, ◌&&◌, cond, Option, Some, None, List, ◌⊎◌, inl, inr, refl, sym, ap, subst, ⊎_elim, arith, T, nat_eq, leb-true, eqb-true}
-use Rattle.std.proofs.lemmas.Bool.{eqb-false}
+use Rattle.std.proofs.lemmas.Bool.{eqb-false, and_parts, not-false}
 use Rattle.std.specs.Prelude.{if◌then◌else◌, nat_lt, nat_le, Result, Ok, Err}
 use Rattle.std.specs.Ordering.{nat_cmp}
 use Rattle.std.specs.declared.cmp.Ordering.TheVariants.{Equal}
@@ -17,12 +17,12 @@ use Rattle.krl_messages.specs.Values.{Value}
 use Rattle.krl_protocol.specs.Modes.{rank, reads}
 use Rattle.krl_protocol.specs.Links.{Op, op_key, Link}
 use Rattle.krl_protocol.specs.Worlds as machine
-use Rattle.krl_protocol.specs.Worlds.{Logged, row_of}
+use Rattle.krl_protocol.specs.Worlds.{Logged}
 use Rattle.krl_protocol.proofs.Modes.{ranges_agree_by_table, keys_agree_by_table}
 use Rattle.krl_durable.specs.Index as index
 use Rattle.krl_durable.specs.Index.{Index}
 use Rattle.krl_cache.specs.Beliefs.{Belief, is_covered, is_span, CoversAll, AreRows}
-use Rattle.krl_cache.proofs.Truths.{and_true, not_is_false, inside_span}
+use Rattle.krl_cache.proofs.Truths.{inside_span}
 use Rattle.krl_cache.proofs.Calls.{past_end}
 use Rattle.krl_cache.proofs.OneScan.{rows_are_determined}
 use Rattle.krl_modes.specs.Parts.{reads_key, reads_gap}
@@ -150,8 +150,8 @@ scan_rows : (w : State) (of : ℕ → Link) (log : List Logged) (c lo hi : ℕ) 
 scan_rows w of log c lo hi k rows _ m scan up ok (is_pending change o i) e = absurd (cc)
 scan_rows w of log c lo hi k rows _ m scan up ok (misses p f h) e = absurd (cc)
 scan_rows w of log c lo hi k rows _ m scan up ok (finds_rows found f h) e =
-    let is : is_span (span lo hi) ≡ true = not_is_false _ (passed _ _ _ ok).0 in
-    let top : hi ≤ TOP = leb-true hi TOP (and_true (nat_lt lo hi) (nat_le hi TOP) is).1 in
+    let is : is_span (span lo hi) ≡ true = not-false _ (passed _ _ _ ok).0 in
+    let top : hi ≤ TOP = leb-true hi TOP (and_parts (nat_lt lo hi) (nat_le hi TOP) is).1 in
     let seat : ShowsSeat c (w.seats c).greatest (Some k) (of c) = subst (λ x. ShowsSeat c (w.seats c).greatest x (of c)) up (m.seats c) in
     let r : rows ≡ found = cc in
     r ∙ rows_are_determined (index_believed (index_of w)) (span lo hi) found (index.range (index_of w) lo hi)
@@ -161,7 +161,7 @@ scan_rows w of log c lo hi k rows _ m scan up ok (finds_rows found f h) e =
 -- a span that a client knows has the rows of the index
 pub rows_of_scan : (w : State) (of : ℕ → Link) (log : List Logged) (c lo hi : ℕ) (k : Client) → Mirrors w of log → machine.ScanIsIndex (machine_of w.server of log) → client_of w c ≡ Some k → is_span (span lo hi) ≡ true → is_writing_in k (span lo hi) ≡ false → CoversAll k.belief (span lo hi) → AreRows k.belief (span lo hi) (index.range (index_of w) lo hi)
 rows_of_scan w of log c lo hi k m scan up is free covers =
-    let top : hi ≤ TOP = leb-true hi TOP (and_true (nat_lt lo hi) (nat_le hi TOP) is).1 in
+    let top : hi ≤ TOP = leb-true hi TOP (and_parts (nat_lt lo hi) (nat_le hi TOP) is).1 in
     let seat : ShowsSeat c (w.seats c).greatest (Some k) (of c) = subst (λ x. ShowsSeat c (w.seats c).greatest x (of c)) up (m.seats c) in
     rows_agree (index_believed (index_of w)) k.belief (span lo hi) (index.range (index_of w) lo hi)
     (λ p at. sym (value_is w of log c k (span lo hi) p (nat_eq p END) m scan seat.1 free (covers p at) at top refl))

@@ -3,6 +3,7 @@ use Rattle.std.proofs.Common.{◌≡◌, ℕ, suc, ◌<◌, ◌≤◌, ◌∙◌
 use Rattle.std.specs.Prelude.{Ok}
 use Rattle.std.proofs.lemmas.Bool.Decides.{nat_tests}
 use Rattle.std.proofs.lemmas.List.{nil_from_length}
+use Rattle.std.proofs.lemmas.Option.{none-some}
 use Rattle.std.specs.Ordering.{nat_cmp, eq_by_cmp}
 use Rattle.std.specs.Cmp.{nat_cmp_total}
 use Rattle.std.specs.FinMap as map
@@ -16,7 +17,6 @@ use Rattle.krl_messages.specs.declared.pieces.Pieces.{Pieces}
 use Rattle.krl_durable.specs.Index.{Index}
 use Rattle.krl_durable.specs.Kept.{AreBelowEnd, IsKept}
 use Rattle.krl_messages.specs.Values.{Value}
-use Rattle.krl_protocol.proofs.Points.{no_none}
 use Rattle.std.specs.List.{IsDistinct}
 use Rattle.krl_durable.specs.Writes.{most_entries}
 use Rattle.krl_modes.specs.Parts.{reads_key, reads_gap}
@@ -128,9 +128,9 @@ kept = record {
   epoch = omega arith;
   clients = tt;
   once = tt;
-  outcomes = λ c r e. absurd (no_none r e);
-  lasts = λ c r e. absurd (no_none r e);
-  incarnations = λ c r e. absurd (no_none r e);
+  outcomes = λ c r e. absurd (none-some r e);
+  lasts = λ c r e. absurd (none-some r e);
+  incarnations = λ c r e. absurd (none-some r e);
 }
 
 pub opens : CanOpen (unused two)

@@ -1,7 +1,7 @@
 use Rattle.std.proofs.Common.{◌≡◌, ◌+◌, ◌-◌, ◌++◌, replicate, inr, is_ok, sym, ap, ◌∙◌, arith}
 use Rattle.std.proofs.lemmas.List.{nil_from_length, take_all}
+use Rattle.std.proofs.lemmas.Bool.{cond-true}
 use Rattle.std.specs.Prelude.{vec_len}
-use Rattle.krl_blocks.proofs.Edits.{chosen}
 use Rattle.krl_blocks.proofs.shelf.free_place.Goals as goal
 
 pub returns-in-None-clause-free : goal.returns-in-None-clause-free
@@ -15,7 +15,7 @@ returns-in-None-clause-free g c =
       spare,
       left,
       c.requires.next spare,
-      c.resize.ensures.items ∙ chosen _ _ _ (ap is_ok c.unwrap.ensures)
+      c.resize.ensures.items ∙ cond-true _ _ _ (ap is_ok c.unwrap.ensures)
           ∙ ap (λ xs. xs ++ replicate (c.len.result + 64 - vec_len c.args.cells.now) c.args.entry) (take_all (c.len.result + 64) c.args.cells.now.items (omega (arith, c.len.ensures, long)))
           ∙ ap (λ k. c.args.cells.now.items ++ replicate k c.args.entry) count,
     )

@@ -1,9 +1,10 @@
 use Rattle.std.proofs.Common.{◌≡◌, ◌++◌, ◌+◌, ◌-◌, ◌*◌, ◌≤◌, suc, Some, length, take, drop, slice_set, refl, sym, ap, subst, ◌∙◌, arith, add-one, is_ok}
 use Rattle.std.proofs.lemmas.List.{length-set}
 use Rattle.std.proofs.lemmas.List.Edits.{length-remove}
+use Rattle.std.proofs.lemmas.Bool.{cond-true}
 use Rattle.std.specs.List.{slice_get, remove}
 use Rattle.krl_blocks.specs.Shelves.{entries_at, places}
-use Rattle.krl_blocks.proofs.Edits.{chosen, read_at}
+use Rattle.krl_blocks.proofs.Edits.{read_at}
 use Rattle.krl_blocks.proofs.Around.{all_set, all_remove}
 use Rattle.krl_blocks.proofs.Kept.{few_at, before_reads}
 use Rattle.krl_blocks.proofs.Shelving.{AreSmall, places_set}
@@ -133,7 +134,7 @@ invariant_of-self g c =
     (ap (λ ss. places (slice_set ss c.args.b (record { place = c.index-lower.result.now.place; len = c.index-lower.result.now.len + c.remove-upper.result.len }))) (rm ∙ ap (remove c.self.inside.order.items) (add-one c.args.b)) ∙ places_set (remove c.self.inside.order.items (suc c.args.b)) c.args.b c.index-lower.result.now (record { place = c.index-lower.result.now.place; len = c.index-lower.result.now.len + c.remove-upper.result.len }) left_there refl ∙ ap (λ j. places (remove c.self.inside.order.items j)) (sym (add-one c.args.b)))
     (all_set (λ v. v.len ≤ 64) c.remove-upper.new.self.items c.args.b (record { place = c.index-lower.result.now.place; len = c.index-lower.result.now.len + c.remove-upper.result.len }) (subst AreSmall (sym rm) (all_remove (λ v. v.len ≤ 64) c.self.inside.order.items (c.args.b + 1) c.self.invariant.small)) (omega (arith, u.fits, u.small, u.long, u.cells, u.bytes, l.fits, l.small, l.long, few)))
     (length-set c.remove-upper.new.self.items c.args.b (record { place = c.index-lower.result.now.place; len = c.index-lower.result.now.len + c.remove-upper.result.len }) ∙ ap length rm)
-    (c.push.ensures.items ∙ chosen _ _ _ (ap is_ok c.unwrap.ensures)) (sym c.copy_within.new.self.ok.0 ∙ c.copy_within.ensures.len ∙ c.self.inside.cells.ok.0)
+    (c.push.ensures.items ∙ cond-true _ _ _ (ap is_ok c.unwrap.ensures)) (sym c.copy_within.new.self.ok.0 ∙ c.copy_within.ensures.len ∙ c.self.inside.cells.ok.0)
 
 pub returns-clause-joined : goal.returns-clause-joined
 returns-clause-joined g c =

@@ -1,7 +1,8 @@
 use Rattle.std.proofs.Common.{◌≤◌, length, refl, sym, ap, subst, ◌∙◌, arith, is_ok}
+use Rattle.std.proofs.lemmas.Bool.{cond-true}
 use Rattle.std.specs.List.{remove}
 use Rattle.krl_blocks.specs.Shelves.{Shelved, places, shown}
-use Rattle.krl_blocks.proofs.Edits.{chosen, read_at}
+use Rattle.krl_blocks.proofs.Edits.{read_at}
 use Rattle.krl_blocks.proofs.Around.{all_remove}
 use Rattle.krl_blocks.proofs.Shelving.{AreSmall, shown_remove}
 use Rattle.krl_blocks.proofs.Changing.{count_is}
@@ -19,7 +20,7 @@ invariant_of-self g c =
     stored_gone c.self.inside.order c.self.inside.spare c.self.inside.cells c.self.inside.most c.self.invariant c.remove-spot.new.self c.push.new.self c.self.inside.cells (omega (arith, c.remove-spot.ensures.capacity)) c.push.ensures.capacity (omega arith) c.args.b c.remove-spot.result
     (read_at c.self.inside.order.items c.self.inside.order.items c.args.b c.remove-spot.result (omega (arith, n, long, c.requires)) refl c.remove-spot.ensures.value) (omega (arith, n, long, c.requires))
     (ap places c.remove-spot.ensures.items) (subst AreSmall (sym c.remove-spot.ensures.items) (all_remove (λ v. v.len ≤ 64) c.self.inside.order.items c.args.b c.self.invariant.small)) (ap length c.remove-spot.ensures.items)
-    (c.push.ensures.items ∙ chosen _ _ _ (ap is_ok c.unwrap.ensures)) refl
+    (c.push.ensures.items ∙ cond-true _ _ _ (ap is_ok c.unwrap.ensures)) refl
 
 pub returns-clause-blocks : goal.returns-clause-blocks
 returns-clause-blocks g c =

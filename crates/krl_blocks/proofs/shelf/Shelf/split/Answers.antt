@@ -1,8 +1,8 @@
 use Rattle.std.proofs.Common.{◌+◌, ◌-◌, ◌*◌, ◌≤◌, length, slice_set, refl, sym, ap, ◌∙◌, arith, add-one, is_ok}
 use Rattle.std.proofs.lemmas.List.{length-set}
+use Rattle.std.proofs.lemmas.Bool.{cond-true}
 use Rattle.std.specs.List.{insert}
 use Rattle.krl_blocks.specs.Shelves.{entries_at}
-use Rattle.krl_blocks.proofs.Edits.{chosen}
 use Rattle.krl_blocks.proofs.Around.{all_set}
 use Rattle.krl_blocks.proofs.Kept.{at_some}
 use Rattle.krl_blocks.proofs.Shelving.{places_set}
@@ -97,7 +97,7 @@ invariant_of-self g c =
     stored_new c.self.inside.order c.self.inside.spare c.self.inside.cells c.self.inside.most c.self.invariant c.insert.new.self c.free_place-place.new.spare c.copy_within.new.self c.insert.ensures.capacity (omega (arith, c.free_place-place.ensures.spares)) (omega (arith, c.free_place-place.ensures.cells, c.copy_within.ensures.capacity))
     (slice_set c.self.inside.order.items c.args.b (record { place = c.index-spot.result.now.place; len = c.args.i })) c.free_place-place.new.cells.items (c.args.b + 1) c.free_place-place.result (record { place = c.free_place-place.result; len = c.index-spot.result.now.len - c.args.i }) h (places_set c.self.inside.order.items c.args.b c.index-spot.result.now (record { place = c.index-spot.result.now.place; len = c.args.i }) f.there refl) (all_set (λ u. u.len ≤ 64) c.self.inside.order.items c.args.b (record { place = c.index-spot.result.now.place; len = c.args.i }) c.self.invariant.small (omega (arith, f.fits, f.small, f.long, f.cells, f.bytes, p))) (length-set c.self.inside.order.items c.args.b (record { place = c.index-spot.result.now.place; len = c.args.i }))
     (let m = length-set c.self.inside.order.items c.args.b (record { place = c.index-spot.result.now.place; len = c.args.i }) in omega (arith, m, f.order)) refl (omega (arith, f.small))
-    (c.insert.ensures.items ∙ chosen _ _ _ (ap is_ok c.unwrap.ensures)) (sym c.copy_within.new.self.ok.0 ∙ c.copy_within.ensures.len ∙ c.free_place-place.new.cells.ok.0)
+    (c.insert.ensures.items ∙ cond-true _ _ _ (ap is_ok c.unwrap.ensures)) (sym c.copy_within.new.self.ok.0 ∙ c.copy_within.ensures.len ∙ c.free_place-place.new.cells.ok.0)
 
 pub returns-clause-split : goal.returns-clause-split
 returns-clause-split g c =
@@ -107,4 +107,4 @@ returns-clause-split g c =
     let h = freed c.self.inside.order c.self.inside.spare c.self.inside.cells c.self.inside.most c.self.invariant c.free_place-place.new.spare.items c.free_place-place.new.cells.items c.free_place-place.result c.index-entry.result.now (omega (arith, n, most, long, c.requires.room)) c.free_place-place.ensures.free in
     split_one c.self.inside.order c.self.inside.spare c.self.inside.cells c.self.inside.most c.args.self.now c.self.view_is _ _ _
     (split_shown c.self.inside.order c.self.inside.spare c.self.inside.cells c.self.inside.most c.self.invariant c.args.b c.index-spot.result.now f.there c.free_place-place.new.spare.items c.free_place-place.new.cells.items c.copy_within.new.self.items c.free_place-place.result c.args.i (64 * c.index-spot.result.now.place + c.index-spot.result.now.len - (64 * c.index-spot.result.now.place + c.args.i)) (64 * c.index-spot.result.now.place + c.args.i) c.insert.new.self.items (record { place = c.index-spot.result.now.place; len = c.args.i }) (record { place = c.free_place-place.result; len = c.index-spot.result.now.len - c.args.i }) h refl
-    (omega (arith, f.fits, f.small, f.long, f.cells, f.bytes, p)) c.copy_within.ensures.items (c.insert.ensures.items ∙ chosen _ _ _ (ap is_ok c.unwrap.ensures) ∙ ap (λ n. insert (slice_set c.self.inside.order.items c.args.b (record { place = c.index-spot.result.now.place; len = c.args.i })) n (record { place = c.free_place-place.result; len = c.index-spot.result.now.len - c.args.i })) (add-one c.args.b)) refl refl refl (omega (arith, f.fits, f.small, f.long, f.cells, f.bytes, p)))
+    (omega (arith, f.fits, f.small, f.long, f.cells, f.bytes, p)) c.copy_within.ensures.items (c.insert.ensures.items ∙ cond-true _ _ _ (ap is_ok c.unwrap.ensures) ∙ ap (λ n. insert (slice_set c.self.inside.order.items c.args.b (record { place = c.index-spot.result.now.place; len = c.args.i })) n (record { place = c.free_place-place.result; len = c.index-spot.result.now.len - c.args.i })) (add-one c.args.b)) refl refl refl (omega (arith, f.fits, f.small, f.long, f.cells, f.bytes, p)))
