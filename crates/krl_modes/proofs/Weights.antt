@@ -1,34 +1,12 @@
 -- The parts as small numbers: what the tables say is then linear arithmetic, which `omega` proves.
-use Rattle.std.proofs.Common.{◌≡◌, ℕ, ◌+◌, ◌≤◌, min, max, ◌↔◌, arith}
+use Rattle.std.proofs.Common.{◌≡◌, ◌+◌, ◌≤◌, min, max, ◌↔◌, arith}
 use Rattle.std.specs.Prelude.{IsTrue}
 use Rattle.krl_modes.specs.declared.part.RangePart.{RangePart}
-use Rattle.krl_modes.specs.declared.part.RangePart.TheVariants as range
 use Rattle.krl_modes.specs.declared.part.KeyPart.{KeyPart}
-use Rattle.krl_modes.specs.declared.part.KeyPart.TheVariants as key
 use Rattle.krl_modes.specs.declared.mode.Mode.{Mode}
 use Rattle.krl_modes.specs.Parts.{range_at_most, key_at_most, ranges_compatible, keys_compatible, range_join, range_meet, key_join, key_meet}
 use Rattle.krl_modes.specs.Modes.{range_of, key_of}
-
--- 1 where the holder may rely on what lies in the gap
-abbrev pub reads : RangePart → ℕ
-reads range.N = 0
-reads range.S = 1
-reads range.I = 0
-reads range.X = 1
-
--- 1 where the holder may insert into the gap
-abbrev pub inserts : RangePart → ℕ
-inserts range.N = 0
-inserts range.S = 0
-inserts range.I = 1
-inserts range.X = 1
-
--- a key part's place in the order
-abbrev pub rank : KeyPart → ℕ
-rank key.N = 0
-rank key.S = 1
-rank key.U = 2
-rank key.X = 3
+use Rattle.krl_modes.specs.Weights.{reads, inserts, rank}
 
 pub reads_bound : (a : RangePart) → reads a ≤ 1
 reads_bound a = grind arith

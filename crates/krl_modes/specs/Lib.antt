@@ -3,3 +3,4 @@ pub mod Modes
 pub mod Orders
 pub mod Laws
 pub mod Spans
+pub mod Weights

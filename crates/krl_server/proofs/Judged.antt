@@ -11,9 +11,9 @@ use Rattle.krl_messages.specs.declared.write_op.WriteOp.TheVariants as write
 use Rattle.krl_messages.specs.declared.outcome.Outcome.{Outcome}
 use Rattle.krl_messages.specs.declared.to_client.PushBody.TheVariants as push
 use Rattle.krl_messages.specs.Values.{Value}
-use Rattle.krl_protocol.specs.Modes.{rank}
+use Rattle.krl_modes.specs.Weights.{rank}
 use Rattle.krl_protocol.specs.Links as links
-use Rattle.krl_protocol.specs.Links.{Head, Write, Shared, Link, Passes, IsSlot, MaySay}
+use Rattle.krl_protocol.specs.Links.{Head, Write, Link, Passes, IsSlot, MaySay}
 use Rattle.krl_protocol.specs.Worlds.{Logged}
 use Rattle.krl_protocol.proofs.Refines as refines
 use Rattle.krl_protocol.specs.Holdings.{said_at, said_by}

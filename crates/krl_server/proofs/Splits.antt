@@ -12,7 +12,7 @@ use Rattle.krl_modes.specs.declared.part.KeyPart.{KeyPart}
 use Rattle.krl_modes.specs.declared.part.KeyPart.TheVariants as key
 use Rattle.krl_modes.specs.Modes.{range_of, key_of, at_or_above}
 use Rattle.krl_messages.specs.Values.{Value}
-use Rattle.krl_protocol.specs.Modes.{reads, inserts}
+use Rattle.krl_modes.specs.Weights.{reads, inserts}
 use Rattle.krl_protocol.specs.Links.{Phase, Insert, Put, Link}
 use Rattle.krl_protocol.specs.Worlds.{Logged}
 use Rattle.krl_protocol.proofs.Worlds.{WorldInv}

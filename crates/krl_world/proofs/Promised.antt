@@ -14,7 +14,7 @@ use Rattle.krl_modes.specs.declared.part.KeyPart.TheVariants as key
 use Rattle.krl_modes.specs.Parts.{ranges_compatible, keys_compatible}
 use Rattle.krl_modes.specs.Spans.{Bounds, IsPointOf, contains}
 use Rattle.krl_messages.specs.Values.{Value}
-use Rattle.krl_protocol.specs.Modes.{rank, reads}
+use Rattle.krl_modes.specs.Weights.{rank, reads}
 use Rattle.krl_protocol.specs.Links.{Op, op_key, Link}
 use Rattle.krl_protocol.specs.Worlds as machine
 use Rattle.krl_protocol.specs.Worlds.{Logged}
