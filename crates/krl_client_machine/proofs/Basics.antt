@@ -1,5 +1,5 @@
 -- Messages that stand in a link stay; what a refusal that isn't due says; points of a span.
-use Rattle.std.proofs.Common.{◌≡◌, ℕ, ◌≤◌, ◌<◌, ◌-◌, Bool, true, false, Option, Some, None, List, [], ◌∷◌, ◌++◌, ◌⊎◌, inl, inr, refl, ⊎_elim, arith, if◌then◌else◌}
+use Rattle.std.proofs.Common.{◌≡◌, ℕ, ◌≤◌, ◌<◌, ◌-◌, Bool, true, false, Option, Some, None, ◌⊎◌, inl, inr, refl, arith, if◌then◌else◌}
 use Rattle.krl_modes.specs.declared.part.RangePart.{RangePart}
 use Rattle.krl_modes.specs.declared.part.RangePart.TheVariants as range
 use Rattle.krl_modes.specs.declared.part.KeyPart.{KeyPart}
@@ -17,13 +17,7 @@ use Rattle.krl_protocol.specs.Links.{Link, Head, Lowered, untouched, lowered}
 use Rattle.krl_cache.proofs.Truths.{inside_span, outside_span}
 use Rattle.krl_client.specs.declared.refused.CommandRefused.{CommandRefused}
 use Rattle.krl_modes.specs.Parts.{is_range_X}
-use Rattle.krl_messages.specs.Members.{In}
 use Rattle.krl_client_machine.specs.Shows.{Grows, IsAsked, IsFrom, IsTo}
-
-pub in_append : {A : Type 0} (x : A) (xs bs : List A) → In x (xs ++ bs) → In x xs ⊎ In x bs
-in_append x [] bs h = inr h
-in_append x (a ∷ xs) bs (inl e) = inl (inl e)
-in_append x (a ∷ xs) bs (inr h) = ⊎_elim (λ (i : In x xs). inl (inr i)) (λ (i : In x bs). inr i) (in_append x xs bs h)
 
 pub grows_not : (l : Link) → Grows l l
 grows_not l = record { hellos = λ x h. h; byes = λ x h. h; heads = λ x h. h; releases = λ x h. h; writes = λ x h. h; reports = λ x h. h; notices = λ x h. h; pushes = λ x h. h }

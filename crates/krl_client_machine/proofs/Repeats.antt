@@ -4,6 +4,7 @@ use Rattle.krl_messages.specs.declared.write_op.WriteOp.{WriteOp}
 use Rattle.krl_messages.specs.declared.pieces.Pieces.{Pieces}
 use Rattle.krl_messages.specs.declared.to_server.ToServer.{ToServer}
 use Rattle.krl_messages.specs.Members.{In}
+use Rattle.krl_messages.proofs.Members.{in_both}
 use Rattle.krl_protocol.specs.Links.{Link, Shared, LinkSteps, idle, next, head_of, hellos_again, reports_again, speaks, writes_again}
 use Rattle.krl_cache.specs.Beliefs.{Belief}
 use Rattle.krl_cache.specs.Kept.{Describes}
@@ -11,7 +12,7 @@ use Rattle.krl_client.specs.Clients.{Client, Asked, NotAsked, Granted, NoEntry, 
 use Rattle.krl_client.specs.Messages.{says_report, says_ack}
 use Rattle.krl_client.specs.Ticks.{lock_again, write_again, says_hello, tick}
 use Rattle.krl_client_machine.specs.Shows.{op_of, op_shown, IsFrom, ShowsSeat, Leads}
-use Rattle.krl_client_machine.proofs.Basics.{grows_on, from_stays, in_append}
+use Rattle.krl_client_machine.proofs.Basics.{grows_on, from_stays}
 use Rattle.krl_client_machine.proofs.Steps.{rests, took, head_is, joined_epoch, more_heads}
 
 steps_on : (s : Shared) (l m n : Link) → LinkSteps s l m → LinkSteps s m n → LinkSteps s l n
@@ -25,9 +26,9 @@ goes_on s l c g k ms ns a f = let b = f a.link a.seat in record {
   steps = steps_on s l a.link b.link a.steps b.steps;
   grows = grows_on l a.link b.link a.grows b.grows;
   seat = b.seat;
-  told = λ m i. ⊎_elim (λ (x : In m ms). from_stays a.link b.link b.grows m.incarnation m.body (a.told m x)) (λ (y : In m ns). b.told m y) (in_append m ms ns i);
+  told = λ m i. ⊎_elim (λ (x : In m ms). from_stays a.link b.link b.grows m.incarnation m.body (a.told m x)) (λ (y : In m ns). b.told m y) (in_both ms ns m i);
   same = cc (a.same, b.same);
-  mine = λ m i. ⊎_elim (λ (x : In m ms). a.mine m x) (λ (y : In m ns). b.mine m y) (in_append m ms ns i);
+  mine = λ m i. ⊎_elim (λ (x : In m ms). a.mine m x) (λ (y : In m ns). b.mine m y) (in_both ms ns m i);
 }
 
 goes_either : (s : Shared) (l : Link) (c g : ℕ) (k : Option Client) (b : Bool) (xs ys : List ToServer) → (b ≡ true → Leads s l c g k xs) → (b ≡ false → Leads s l c g k ys) → Leads s l c g k (if b then xs else ys)

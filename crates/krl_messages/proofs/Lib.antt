@@ -1,3 +1,4 @@
 pub mod Paddings
 pub mod Placing
 pub mod Crosses
+pub mod Members

@@ -1,5 +1,5 @@
 -- The machine follows a change of the server; and how to put such changes together.
-use Rattle.std.proofs.Common.{◌≡◌, ◌≢◌, ℕ, Bool, true, false, not, Option, Some, None, List, [], ◌∷◌, ◌++◌, ◌⊎◌, inl, inr, refl, sym, ap, subst, ◌∙◌, ⊎_elim}
+use Rattle.std.proofs.Common.{◌≡◌, ◌≢◌, ℕ, Bool, true, false, not, Option, Some, None, List, [], ◌∷◌, inl, inr, refl, sym, ap, subst, ◌∙◌}
 use Rattle.krl_modes.specs.declared.part.RangePart.{RangePart}
 use Rattle.krl_modes.specs.declared.part.KeyPart.{KeyPart}
 use Rattle.krl_messages.specs.declared.to_client.ToClient.{ToClient}
@@ -82,11 +82,6 @@ one_out l c o e h x (inr f) = absurd f
 pub one_sent : (of : ℕ → Link) (o : ToClient) → WasSent (of o.client) o.incarnation o.body → (x : ToClient) → In x (o ∷ []) → WasSent (of x.client) x.incarnation x.body
 one_sent of o h x (inl f) = subst (λ y. WasSent (of y.client) y.incarnation y.body) (sym f) h
 one_sent of o h x (inr f) = absurd f
-
-pub in_both : {A : Type 0} (xs ys : List A) (z : A) → In z (xs ++ ys) → In z xs ⊎ In z ys
-in_both [] ys z h = inr h
-in_both (x ∷ xs) ys z (inl e) = inl (inl e)
-in_both (x ∷ xs) ys z (inr h) = ⊎_elim (λ (a : In z xs). inl (inr a)) (λ (a : In z ys). inr a) (in_both xs ys z h)
 
 -- Phases
 

@@ -14,6 +14,7 @@ use Rattle.krl_messages.specs.declared.to_client.PushBody.{PushBody}
 use Rattle.krl_messages.specs.declared.to_client.PushBody.TheVariants as push
 use Rattle.krl_messages.specs.Writes.{op_key}
 use Rattle.krl_messages.specs.Members.{In}
+use Rattle.krl_messages.proofs.Members.{in_both, in_right}
 use Rattle.krl_durable.specs.Index.{slot_of}
 use Rattle.krl_durable.specs.Registers.{Durable, record_of}
 use Rattle.krl_table.specs.Calls.{dropped}
@@ -31,13 +32,13 @@ use Rattle.krl_server.specs.Steps.{Kind, Idle, Quiet, Acts, kind_of, calls_of, E
 use Rattle.krl_server.specs.Says.{changes_durable, is_new_write, may_change, may_change_durable, is_callback, IsCallback, HasCallbacks, is_answer, answered_write, IsAnswered, AnswersWrite}
 use Rattle.krl_server.specs.Doing.{HasStepped}
 use Rattle.krl_server.proofs.Tests.{if_both}
-use Rattle.krl_server.proofs.Follows.{in_both, not_truth}
+use Rattle.krl_server.proofs.Follows.{not_truth}
 use Rattle.krl_server.proofs.Meaning.{line_here}
 use Rattle.krl_server.proofs.Served.{answered_up}
 use Rattle.krl_server.proofs.Ends.{pushes_durable}
 use Rattle.krl_server.proofs.Kept.{ends_durable}
 use Rattle.krl_server.proofs.Cased.{by_said}
-use Rattle.krl_server.proofs.Says.{all_said, into_right}
+use Rattle.krl_server.proofs.Says.{all_said}
 
 -- What survives
 
@@ -143,7 +144,7 @@ the_calls done kind t outs (serves t' answers acted begun rest) own acts up o = 
       (λ (z : In o (calls_of kind t)). (all_said.callbacks t o).0 (subst (λ k. In o (calls_of k t)) acts z))
       (in_both answers (calls_of kind t) o y))
       (in_both done.outs (answers ++ calls_of kind t) o x.0)),
-  (λ x. (into_right done.outs (answers ++ calls_of kind t) o (into_right answers (calls_of kind t) o (subst (λ k. In o (calls_of k t)) (sym acts) ((all_said.callbacks t o).1 x))), called t o x)),
+  (λ x. (in_right done.outs (answers ++ calls_of kind t) o (in_right answers (calls_of kind t) o (subst (λ k. In o (calls_of k t)) (sym acts) ((all_said.callbacks t o).1 x))), called t o x)),
 )
 
 pub calls_said : (s t : Server) (m : ToServer) (outs : List ToClient) → ServerStep s m t outs → HasCallbacks s m t outs

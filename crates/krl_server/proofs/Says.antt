@@ -1,5 +1,5 @@
 -- What a step changes and sends.
-use Rattle.std.proofs.Common.{◌≡◌, ◌≢◌, ℕ, zero, suc, ◌+◌, ◌≤◌, ◌<◌, Bool, true, false, not, ◌||◌, ◌↔◌, Some, List, [], ◌∷◌, ◌++◌, inl, inr, refl, sym, ap, subst, ◌∙◌, ⊎_elim, arith}
+use Rattle.std.proofs.Common.{◌≡◌, ◌≢◌, ℕ, zero, suc, ◌+◌, ◌≤◌, ◌<◌, Bool, true, false, not, ◌||◌, ◌↔◌, Some, List, [], ◌∷◌, inl, inr, refl, sym, ap, subst, ◌∙◌, ⊎_elim, arith}
 use Rattle.std.proofs.Common.{nat_eq, ne_eqb}
 use Rattle.std.proofs.lemmas.Bool.{eqb-false, and_parts, or_parts}
 use Rattle.std.proofs.lemmas.Option.{none-some}
@@ -15,6 +15,7 @@ use Rattle.krl_protocol.proofs.Worlds.{eq_cases}
 use Rattle.krl_durable.specs.Index.{slot_of, span_of, slots}
 use Rattle.krl_messages.specs.Writes.{op_key}
 use Rattle.krl_messages.specs.Members.{In}
+use Rattle.krl_messages.proofs.Members.{in_both, in_left, in_right}
 use Rattle.krl_table.specs.Rows.{most_clients, mode_at, front_of}
 use Rattle.krl_table.specs.Calls.{wanted, dropped}
 use Rattle.krl_table.specs.Grants.{taken, granted}
@@ -28,7 +29,7 @@ use Rattle.krl_server.specs.Callbacks.{is_beside, callbacks_from, callbacks_for,
 use Rattle.krl_server.specs.Says.{changes_durable, IsCallback, IsNextPush, ServerSays}
 use Rattle.krl_server.specs.Steps.{kind_of}
 use Rattle.krl_server.proofs.Meaning.{line_here}
-use Rattle.krl_server.proofs.Follows.{in_both, some_same}
+use Rattle.krl_server.proofs.Follows.{some_same}
 use Rattle.krl_server.proofs.Turns.{turn_is}
 use Rattle.krl_server.proofs.Ends.{pushes_durable}
 use Rattle.krl_server.proofs.Kept.{ends_durable}
@@ -49,15 +50,6 @@ effect_durable s m (Judges number op o) e = absurd (cc)
 effect_durable s m (AnswersAgain number op o) e = let t = heard s m.client in pushes_durable t m.client (push.Answer number o (holding t (slot_of t.durable.index (op_key op)) m.client))
 
 -- Callbacks
-
-pub into_left : {A : Type 0} (xs ys : List A) (z : A) → In z xs → In z (xs ++ ys)
-into_left [] ys z at = absurd at
-into_left (x ∷ xs) ys z (inl e) = inl e
-into_left (x ∷ xs) ys z (inr at) = inr (into_left xs ys z at)
-
-pub into_right : {A : Type 0} (xs ys : List A) (z : A) → In z ys → In z (xs ++ ys)
-into_right [] ys z at = at
-into_right (x ∷ xs) ys z at = inr (into_right xs ys z at)
 
 module _ (s : Server) (n : ℕ) (u : Waiter) where
   abbrev call : ℕ → ToClient
@@ -111,8 +103,8 @@ among_is s (n ∷ ns) o at = ⊎_elim
 
 among_has : (s : Server) (ns : List ℕ) (n : ℕ) (o : ToClient) → In n ns → In o (callbacks_at s n (s.rows n).queue) → In o (callbacks_among s ns)
 among_has s [] n o at h = absurd at
-among_has s (k ∷ ns) n o (inl e) h = into_left (callbacks_at s k (s.rows k).queue) (callbacks_among s ns) o (subst (λ x. In o (callbacks_at s x (s.rows x).queue)) e h)
-among_has s (k ∷ ns) n o (inr at) h = into_right (callbacks_at s k (s.rows k).queue) (callbacks_among s ns) o (among_has s ns n o at h)
+among_has s (k ∷ ns) n o (inl e) h = in_left (callbacks_at s k (s.rows k).queue) (callbacks_among s ns) o (subst (λ x. In o (callbacks_at s x (s.rows x).queue)) e h)
+among_has s (k ∷ ns) n o (inr at) h = in_right (callbacks_at s k (s.rows k).queue) (callbacks_among s ns) o (among_has s ns n o at h)
 
 callbacks_are : (s : Server) (o : ToClient) → In o (callbacks s) ↔ IsCallback s o
 callbacks_are s o = (

@@ -12,6 +12,7 @@ use Rattle.krl_messages.specs.declared.to_client.PushBody.{PushBody}
 use Rattle.krl_messages.specs.declared.to_client.PushBody.TheVariants as push
 use Rattle.krl_messages.specs.Writes.{op_key}
 use Rattle.krl_messages.specs.Members.{In}
+use Rattle.krl_messages.proofs.Members.{in_both}
 use Rattle.krl_durable.specs.Index.{slot_of}
 use Rattle.krl_table.specs.Calls.{dropped}
 use Rattle.krl_table.specs.Grants.{granted}
@@ -26,7 +27,6 @@ use Rattle.krl_server.specs.Answering.{can_push, Turn, next_turn, take_turn, tel
 use Rattle.krl_server.specs.Steps.{Kind, Idle, Quiet, Acts, kind_of, calls_of, Ends, at_once, gathers, serves, ServerStep}
 use Rattle.krl_server.specs.Says.{PushesStand}
 use Rattle.krl_server.proofs.Tests.{if_both, none_of}
-use Rattle.krl_server.proofs.Follows.{in_both}
 use Rattle.krl_server.proofs.Meaning.{line_here, line_other}
 use Rattle.krl_server.proofs.Turns.{turn_is}
 use Rattle.krl_server.proofs.Cased.{by_said}

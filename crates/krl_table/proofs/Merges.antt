@@ -14,6 +14,7 @@ use Rattle.krl_modes.specs.Parts.{ranges_compatible, keys_compatible, is_range_X
 use Rattle.krl_modes.specs.Modes.{range_of, key_of, compatible}
 use Rattle.krl_messages.specs.Values.{Value}
 use Rattle.krl_messages.specs.Members.{In}
+use Rattle.krl_messages.proofs.Members.{in_both, in_left, in_right}
 use Rattle.krl_queue.specs.declared.waiter.Waiter.{Waiter}
 use Rattle.krl_durable.specs.Index.{Index, slot_of, is_slot, IsSlotOf}
 use Rattle.krl_table.specs.declared.row.SlotRow.{SlotRow}
@@ -23,7 +24,6 @@ use Rattle.krl_table.specs.Points.{key_off_slot, range_at, key_at, MayDelete}
 use Rattle.krl_table.specs.Kept.{Kept, row_there, rows_of, AreSet, IsOver, IsSound, AreBeside, AreListed, times}
 use Rattle.krl_table.proofs.Means.{eq_cases, both_rows, by_two, remove_at, remove_past}
 use Rattle.krl_table.proofs.Alone.{AreAlone, alone_moved, times_both}
-use Rattle.krl_table.proofs.Stands.{in_both, in_left, in_right}
 use Rattle.krl_table.proofs.Slots.{next_of, slot_is, slot_self, slot_end}
 use Rattle.krl_table.proofs.Sounds.{NoStrangers, listed_moved}
 

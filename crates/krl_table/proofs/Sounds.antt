@@ -9,6 +9,7 @@ use Rattle.krl_modes.specs.declared.point.TheConstants.{END}
 use Rattle.krl_modes.specs.declared.mode.Mode.{Mode}
 use Rattle.krl_modes.specs.declared.mode.Mode.TheVariants as mode
 use Rattle.krl_messages.specs.Members.{In}
+use Rattle.krl_messages.proofs.Members.{in_to_all}
 use Rattle.krl_queue.specs.declared.waiter.Waiter.{Waiter}
 use Rattle.krl_queue.specs.Waiting.{first_of}
 use Rattle.krl_durable.specs.Index.{Index, slot_of, is_slot}
@@ -19,7 +20,7 @@ use Rattle.krl_table.specs.Kept.{Kept, row_there, rows_of, IsSet, IsOver, IsSoun
 use Rattle.krl_table.proofs.Means.{eq_cases}
 use Rattle.krl_table.proofs.Below.{clients_are}
 use Rattle.krl_table.proofs.Alone.{AreAlone, alone_here, times_none, in_times}
-use Rattle.krl_table.proofs.Stands.{first_in, in_to_all}
+use Rattle.krl_table.proofs.Stands.{first_in}
 
 pub some_same : {X : Type 0} {x y : X} → Some x ≡ Some y → x ≡ y
 some_same e = cc

@@ -3,10 +3,11 @@ use Rattle.std.proofs.Common.{◌≡◌, ◌≢◌, ℕ, Bool, true, false, not,
 use Rattle.std.proofs.Common.{nat_eq, eqb-true, eq-eqb, ne_eqb}
 use Rattle.std.proofs.lemmas.Bool.{eqb-false}
 use Rattle.std.specs.Prelude.{if◌then◌else◌}
-use Rattle.std.specs.List.{AllByRecursion, filter}
+use Rattle.std.specs.List.{filter}
 use Rattle.krl_modes.specs.declared.mode.Mode.TheVariants as mode
 use Rattle.krl_modes.specs.Modes.{at_most}
 use Rattle.krl_messages.specs.Members.{In}
+use Rattle.krl_messages.proofs.Members.{in_both, in_left, in_right}
 use Rattle.krl_queue.specs.declared.waiter.Waiter.{Waiter}
 use Rattle.krl_queue.specs.Waiting.{first_of}
 use Rattle.krl_table.specs.Rows.{Row}
@@ -34,20 +35,6 @@ filter_in f (v ∷ vs) u (inr g) e = by_test (f v) (filter_in f vs u g e)
     by_test : (b : Bool) → In u (filter f vs) → In u (cond b (v ∷ filter f vs) (filter f vs))
     by_test true h = inr h
     by_test false h = h
-
-pub in_both : (us vs : List Waiter) (u : Waiter) → In u (us ++ vs) → In u us ⊎ In u vs
-in_both [] vs u h = inr h
-in_both (w ∷ us) vs u (inl e) = inl (inl e)
-in_both (w ∷ us) vs u (inr h) = ⊎_elim (λ (a : In u us). inl (inr a)) (λ (a : In u vs). inr a) (in_both us vs u h)
-
-pub in_left : (us vs : List Waiter) (u : Waiter) → In u us → In u (us ++ vs)
-in_left [] vs u h = absurd h
-in_left (w ∷ us) vs u (inl e) = inl e
-in_left (w ∷ us) vs u (inr h) = inr (in_left us vs u h)
-
-pub in_right : (us vs : List Waiter) (u : Waiter) → In u vs → In u (us ++ vs)
-in_right [] vs u h = h
-in_right (w ∷ us) vs u h = inr (in_right us vs u h)
 
 -- a queue with one waiter more
 pub in_queue_with : (row : Row) (u v : Waiter) → In v (queue_with row u) → (v ≡ u) ⊎ In v row.queue
@@ -96,7 +83,3 @@ none_in c (v ∷ vs) e u at = by_test (nat_eq v.client c) refl (λ h. none_in c 
 pub first_none : (c : ℕ) (us : List Waiter) → ((u : Waiter) → In u us → u.client ≢ c) → first_of c us ≡ None
 first_none c [] h = refl
 first_none c (v ∷ vs) h = ap (λ b. cond b (Some v) (first_of c vs)) (ne_eqb v.client c (h v (inl refl))) ∙ first_none c vs (λ u at. h u (inr at))
-
-pub in_to_all : (P : Waiter → Type 0) (us : List Waiter) → ((u : Waiter) → In u us → P u) → AllByRecursion P us
-in_to_all P [] h = tt
-in_to_all P (v ∷ vs) h = (h v (inl refl), in_to_all P vs (λ u at. h u (inr at)))

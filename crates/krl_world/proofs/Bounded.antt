@@ -17,12 +17,13 @@ use Rattle.krl_protocol.specs.Modes.{RangeAtMost, KeyAtMost}
 use Rattle.krl_protocol.specs.Links as links
 use Rattle.krl_protocol.specs.Links.{Link}
 use Rattle.krl_protocol.specs.Worlds as machine
-use Rattle.krl_protocol.specs.Worlds.{Logged, MayTake}
+use Rattle.krl_protocol.specs.Worlds.{Logged}
 use Rattle.krl_protocol.proofs.Modes.{ranges_by_table, keys_by_table}
 use Rattle.std.specs.List.{AllByRecursion}
 use Rattle.std.proofs.lemmas.Bool.Decides.{nat_tests}
 use Rattle.krl_messages.specs.Several.{IsBefore, Ascend}
 use Rattle.krl_messages.specs.Members.{In}
+use Rattle.krl_messages.proofs.Members.{in_to_all}
 use Rattle.krl_protocol.specs.Holdings.{said_at, or_by, said_by}
 use Rattle.krl_protocol.proofs.Holdings.{says_here}
 use Rattle.krl_server.specs.Shows.{push_of, push_with, IsWhole, IsTold, Stands, WasSent}
@@ -89,12 +90,8 @@ holding_within w of log b c k answers applied hs h have r s at says = record {
     live : links.IsLive (of c) (push_with k.incarnation k.epoch (suc k.seen) answers applied hs)
     live = record { up = s.up; inc = sym s.inc; epoch = sym s.epoch; number = ap suc (sym s.seen) }
 
-each_within : (P : Holding → Type 0) (hs : List Holding) → ((h : Holding) → In h hs → P h) → AllByRecursion P hs
-each_within P [] f = tt
-each_within P (h ∷ hs) f = (f h (inl refl), each_within P hs (λ k at. f k (inr at)))
-
 push_within : (w : State) (of : ℕ → Link) (log : List Logged) (b : Bound) (c : ℕ) (k : Client) (body : PushBody) → HaveBound of b → machine.Restarts (machine_of w.server of log) → ShowsClient c k (of c).client → In (push_of k.incarnation k.epoch (suc k.seen) body) (of c).pushes → IsTold body → IsPushWithin b c body
-push_within w of log b c k (push.Grant req hs) have r s at told = each_within (IsHoldingWithin b c) hs (λ h i. holding_within w of log b c k 0 false hs h have r s at (says_each hs h i told.0 told.1))
+push_within w of log b c k (push.Grant req hs) have r s at told = in_to_all (IsHoldingWithin b c) hs (λ h i. holding_within w of log b c k 0 false hs h have r s at (says_each hs h i told.0 told.1))
 push_within w of log b c k (push.Absent req point) have r s at told = tt
 push_within w of log b c k (push.Answer number o h) have r s at told = holding_within w of log b c k number _ (h ∷ []) h have r s at (λ q x y. says_here h q x y)
 

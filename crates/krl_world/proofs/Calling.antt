@@ -19,6 +19,7 @@ use Rattle.krl_durable.specs.Index.{slot_of, span_of, slots}
 use Rattle.krl_durable.specs.Registers.{record_of}
 use Rattle.krl_messages.specs.Writes.{op_key}
 use Rattle.krl_messages.specs.Members.{In}
+use Rattle.krl_messages.proofs.Members.{in_both}
 use Rattle.krl_table.specs.Rows.{most_clients}
 use Rattle.krl_table.specs.Calls.{wanted, dropped}
 use Rattle.krl_table.specs.Grants.{taken, granted}
@@ -29,7 +30,6 @@ use Rattle.krl_server.specs.Effects.{Done, callback_to, with_rows, holding, hold
 use Rattle.krl_server.specs.Answering.{Turn, tells_absent, grants, take_turn, Answered, stops, goes_on}
 use Rattle.krl_server.specs.Callbacks.{is_beside, callbacks_from, callbacks_for, callbacks_at, callbacks_among, callbacks_of, callbacks_of_among}
 use Rattle.krl_server.specs.Steps.{Kind, Idle, Quiet, Acts, kind_of, calls_of, Ends, at_once, gathers, serves, ServerStep, nudge_served, nudge_known, nudge}
-use Rattle.krl_client_machine.proofs.Basics.{in_append}
 
 -- the epoch of a callback, else 0
 abbrev pub epoch_called : ToClientBody → ℕ
@@ -49,7 +49,7 @@ one_call n x h o (inl e) = subst (λ (y : ToClient). epoch_called y.body ≤ n) 
 one_call n x h o (inr i) = absurd i
 
 both_called : (n : ℕ) (xs ys : List ToClient) → AreCalled n xs → AreCalled n ys → AreCalled n (xs ++ ys)
-both_called n xs ys a b o i = ⊎_elim (λ (x : In o xs). a o x) (λ (y : In o ys). b o y) (in_append o xs ys i)
+both_called n xs ys a b o i = ⊎_elim (λ (x : In o xs). a o x) (λ (y : In o ys). b o y) (in_both xs ys o i)
 
 -- Effects and answers call nobody back
 

@@ -8,6 +8,7 @@ use Rattle.krl_messages.specs.declared.write_op.WriteOp.TheVariants as write
 use Rattle.krl_modes.specs.declared.part.RangePart.{RangePart}
 use Rattle.krl_modes.specs.declared.part.KeyPart.{KeyPart}
 use Rattle.krl_messages.specs.Members.{In}
+use Rattle.krl_messages.proofs.Members.{in_both}
 use Rattle.krl_durable.specs.declared.record.Record.{Record}
 use Rattle.krl_protocol.specs.Links as links
 use Rattle.krl_protocol.specs.Links.{Op, Shared, Link}
@@ -19,7 +20,7 @@ use Rattle.krl_server.specs.declared.line.Line.{Line}
 use Rattle.krl_server.specs.Steps.{start}
 use Rattle.krl_server.specs.Shows.{Stands, WasSent, IsRecord, LinkIs, Shows, view, view_of, DurableShows, IsSound}
 use Rattle.krl_client_machine.specs.Shows.{Grows, server_part, ShowsSeat, Leads}
-use Rattle.krl_client_machine.proofs.Basics.{in_append, grows_not}
+use Rattle.krl_client_machine.proofs.Basics.{grows_not}
 use Rattle.krl_world.specs.declared.message.Message.TheVariants as message
 use Rattle.krl_steps.specs.declared.applied_write.AppliedWrite.{AppliedWrite}
 use Rattle.krl_world.specs.States.{ServerNode, Up, Down, Seat, State, durable_of, is_serving, from_clients, from_server, seated}
@@ -133,10 +134,10 @@ seat_goes w of log c x ms h g = record {
   mirrors = record {
     seats = λ d. seat_by d (nat_eq d c) refl;
     from = λ m i. ⊎_elim (λ (a : In (message.ToServer m) w.sent). stands_stays (of m.client) (to m.client) (grows m.client) m.incarnation m.body (h.from m a))
-        (λ (b : In (message.ToServer m) (from_clients ms)). told_by m (in_from_clients m ms b)) (in_append (message.ToServer m) w.sent (from_clients ms) i);
+        (λ (b : In (message.ToServer m) (from_clients ms)). told_by m (in_from_clients m ms b)) (in_both w.sent (from_clients ms) (message.ToServer m) i);
     to = λ m i. ⊎_elim (λ (a : In (message.ToClient m) w.sent). sent_stays (of m.client) (to m.client) (grows m.client) m.incarnation m.body (h.to m a))
-        (λ (b : In (message.ToClient m) (from_clients ms)). absurd (not_from_clients m ms b)) (in_append (message.ToClient m) w.sent (from_clients ms) i);
-    called = λ m i. ⊎_elim (λ (a : In (message.ToClient m) w.sent). h.called m a) (λ (b : In (message.ToClient m) (from_clients ms)). absurd (not_from_clients m ms b)) (in_append (message.ToClient m) w.sent (from_clients ms) i);
+        (λ (b : In (message.ToClient m) (from_clients ms)). absurd (not_from_clients m ms b)) (in_both w.sent (from_clients ms) (message.ToClient m) i);
+    called = λ m i. ⊎_elim (λ (a : In (message.ToClient m) w.sent). h.called m a) (λ (b : In (message.ToClient m) (from_clients ms)). absurd (not_from_clients m ms b)) (in_both w.sent (from_clients ms) (message.ToClient m) i);
     server = server_stays w.server of to same grows h.server;
     writes = h.writes;
   };

@@ -9,17 +9,17 @@ use Rattle.krl_messages.specs.declared.outcome.Outcome.TheVariants as outcome
 use Rattle.krl_messages.specs.declared.write_op.WriteOp.{WriteOp}
 use Rattle.krl_messages.specs.declared.write_op.WriteOp.TheVariants as write
 use Rattle.krl_messages.specs.Members.{In}
+use Rattle.krl_messages.proofs.Members.{in_both}
 use Rattle.krl_durable.specs.Registers.{Durable}
 use Rattle.krl_protocol.specs.Links.{Link}
 use Rattle.krl_protocol.specs.Worlds as machine
-use Rattle.krl_protocol.specs.Worlds.{Logged, Steps, Reachable, none, more}
+use Rattle.krl_protocol.specs.Worlds.{Logged, Steps, Reachable}
 use Rattle.krl_server.specs.Servers.{Server, is_gathering}
 use Rattle.krl_server.specs.Cases.{Case, Ignored, Registers, Leaves, Tells, Alarms, Rebuilds, Repeats, Hears, Lowers, Waits, Judges, AnswersAgain, case_of}
 use Rattle.krl_server.specs.Steps.{ServerStep, nudge, start, can_start}
 use Rattle.krl_server.specs.Shows.{op_of, WasSent, logged}
 use Rattle.krl_client.specs.Clients.{Client}
 use Rattle.krl_client_machine.specs.Shows.{Grows, ShowsClient, ShowsSeat}
-use Rattle.krl_client_machine.proofs.Basics.{in_append}
 use Rattle.krl_world.specs.declared.message.Message.TheVariants as message
 use Rattle.krl_steps.specs.declared.applied_write.AppliedWrite.{AppliedWrite}
 use Rattle.krl_world.specs.States.{ServerNode, Up, Down, State, durable_of, is_serving, from_server, served}
@@ -78,11 +78,11 @@ pub mirrors_on : (w : State) (n : ServerNode) (of to : ℕ → Link) (log log' :
 mirrors_on w n of to log log' a b outs writes h ea eb steps sent clients shows e old new called = record {
   seats = λ c. seat_stays c (w.seats c).greatest (w.seats c).client (of c) (to c) (clients c) (h.seats c);
   from = λ m i. ⊎_elim (λ (x : In (message.ToServer m) w.sent). stands_stays (of m.client) (to m.client) (grows m.client) m.incarnation m.body (h.from m x))
-      (λ (y : In (message.ToServer m) (from_server outs)). absurd (not_from_server m outs y)) (in_append (message.ToServer m) w.sent (from_server outs) i);
+      (λ (y : In (message.ToServer m) (from_server outs)). absurd (not_from_server m outs y)) (in_both w.sent (from_server outs) (message.ToServer m) i);
   to = λ m i. ⊎_elim (λ (x : In (message.ToClient m) w.sent). sent_stays (of m.client) (to m.client) (grows m.client) m.incarnation m.body (h.to m x))
-      (λ (y : In (message.ToClient m) (from_server outs)). sent m (in_from_server m outs y)) (in_append (message.ToClient m) w.sent (from_server outs) i);
+      (λ (y : In (message.ToClient m) (from_server outs)). sent m (in_from_server m outs y)) (in_both w.sent (from_server outs) (message.ToClient m) i);
   called = λ m i. ⊎_elim (λ (x : In (message.ToClient m) w.sent). let y = h.called m x in let z = epoch_rises a b steps in omega arith)
-      (λ (y : In (message.ToClient m) (from_server outs)). called m (in_from_server m outs y)) (in_append (message.ToClient m) w.sent (from_server outs) i);
+      (λ (y : In (message.ToClient m) (from_server outs)). called m (in_from_server m outs y)) (in_both w.sent (from_server outs) (message.ToClient m) i);
   server = shows;
   writes = ap (λ ws. ws ++ writes) h.writes ∙ e;
 }

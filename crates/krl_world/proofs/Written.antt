@@ -10,6 +10,7 @@ use Rattle.krl_messages.specs.declared.outcome.Outcome.TheVariants as outcome
 use Rattle.krl_messages.specs.declared.write_op.WriteOp.{WriteOp}
 use Rattle.krl_messages.specs.declared.write_op.WriteOp.TheVariants as write
 use Rattle.krl_messages.specs.Members.{In}
+use Rattle.krl_messages.proofs.Members.{in_both}
 use Rattle.krl_protocol.specs.Links as links
 use Rattle.krl_protocol.specs.Links.{Op, Link}
 use Rattle.krl_protocol.specs.Worlds as machine
@@ -17,7 +18,6 @@ use Rattle.krl_protocol.specs.Worlds.{Logged, entry_after}
 use Rattle.krl_durable.specs.Index.{Index}
 use Rattle.krl_durable.specs.Writes.{written}
 use Rattle.krl_server.specs.Shows.{op_of, is_applied}
-use Rattle.krl_client_machine.proofs.Basics.{in_append}
 use Rattle.krl_steps.specs.declared.applied_write.AppliedWrite.{AppliedWrite}
 use Rattle.krl_world.specs.States.{State, index_of}
 use Rattle.krl_world.specs.Promises.{IsListed, IsOnce, fold, IsDue, AreDue, WritesOnce}
@@ -46,7 +46,7 @@ of_log [] x h = absurd h
 of_log (e ∷ es) x h = ⊎_elim
     (λ (i : In x (oldest_first es)). let r = of_log es x i in record { entry = r.entry; at = inr r.at; same = r.same })
     (λ (i : In x (as_applied e ∷ [])). ⊎_elim (λ (s : x ≡ as_applied e). record { entry = e; at = inl refl; same = s }) (λ (n : ⊥). absurd n) i)
-    (in_append x (oldest_first es) (as_applied e ∷ []) h)
+    (in_both (oldest_first es) (as_applied e ∷ []) x h)
 
 to_log : (es : List Logged) (e : Logged) → In e es → In (as_applied e) (oldest_first es)
 to_log [] e h = absurd h
@@ -65,7 +65,7 @@ is_listed w of log c inc number m l = let r = of_log log l.0 (subst (λ xs. In l
 once_snoc : (xs : List AppliedWrite) (y : AppliedWrite) → IsOnce xs → ((x : AppliedWrite) → In x xs → x.client ≡ y.client → x.incarnation ≡ y.incarnation → x.number ≡ y.number → ⊥) → IsOnce (xs ++ (y ∷ []))
 once_snoc [] y h n = ((λ l. absurd l.1), tt)
 once_snoc (x ∷ xs) y h n = (
-  (λ l. ⊎_elim (λ (i : In l.0 xs). h.0 (l.0, i, l.2, l.3, l.4)) (λ (i : In l.0 (y ∷ [])). ⊎_elim (λ (s : l.0 ≡ y). let f = l.2 in let g = l.3 in let k = l.4 in n x (inl refl) (cc) (cc) (cc)) (λ (z : ⊥). absurd z) i) (in_append l.0 xs (y ∷ []) l.1)),
+  (λ l. ⊎_elim (λ (i : In l.0 xs). h.0 (l.0, i, l.2, l.3, l.4)) (λ (i : In l.0 (y ∷ [])). ⊎_elim (λ (s : l.0 ≡ y). let f = l.2 in let g = l.3 in let k = l.4 in n x (inl refl) (cc) (cc) (cc)) (λ (z : ⊥). absurd z) i) (in_both xs (y ∷ []) l.0 l.1)),
   once_snoc xs y h.1 (λ z i. n z (inr i)),
 )
 
