@@ -1,8 +1,8 @@
 -- Each step of a server keeps its table and its register in order, and leaves nobody who could be answered.
 use Rattle.std.proofs.Common.{◌≡◌, ℕ, suc, ◌<◌, true, not, Some, None, List, [], ◌∷◌, refl, sym, ap, subst, ◌∙◌, arith}
-use Rattle.std.proofs.Common.{nat_eq, ne_eqb}
+use Rattle.std.proofs.Common.{ne_eqb}
 use Rattle.std.proofs.lemmas.Bool.{and_parts}
-use Rattle.std.specs.Prelude.{nat_lt, is_some}
+use Rattle.std.specs.Prelude.{nat_lt}
 use Rattle.krl_modes.specs.declared.point.TheConstants.{END}
 use Rattle.krl_messages.specs.declared.write_op.WriteOp.{WriteOp}
 use Rattle.krl_messages.specs.declared.outcome.Outcome.{Outcome}
@@ -17,6 +17,7 @@ use Rattle.krl_durable.specs.Index.{slot_of, slots}
 use Rattle.krl_durable.specs.Registers.{Durable, Register, record_of, with_record, new_record, left_by, HasOutcomes}
 use Rattle.krl_messages.specs.Writes.{op_key}
 use Rattle.krl_durable.specs.Writes.{noted, applied_by}
+use Rattle.krl_durable.specs.Kept.{HasOutcome}
 use Rattle.krl_table.specs.Rows.{blank_rows, most_clients}
 use Rattle.krl_table.specs.Calls.{cleared, dropped, behind_first}
 use Rattle.krl_table.specs.Grants.{taken, granted}
@@ -44,10 +45,6 @@ use Rattle.krl_server.proofs.TableKept.{lowered_kept, adopted_kept, cleared_kept
 use Rattle.krl_server.proofs.TableWritten.{written_kept}
 
 -- Registers
-
--- a record in which there is an outcome exactly where a write was judged
-abbrev pub HasOutcome : Record → Type 0
-HasOutcome r = is_some r.outcome ≡ not (nat_eq r.last 0)
 
 with_outcome : (es : Register) (c : ℕ) (x : Record) → HasOutcome x → HasOutcomes es → HasOutcomes (with_record es c x)
 with_outcome es c x here h d r e = eq_cases d c
