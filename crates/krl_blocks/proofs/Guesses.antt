@@ -1,10 +1,9 @@
 -- A guess of how many of a list that rises lie below a point: a look at the last of these, and at the one behind it.
 use Rattle.std.proofs.Common.{◌≡◌, ℕ, zero, suc, ◌-◌, ◌≤◌, ◌<◌, true, false, List, [], ◌∷◌, length, take, drop, Some, None, ap, ◌∙◌, arith}
-use Rattle.std.proofs.lemmas.Bool.{ltb-true, leb-true}
+use Rattle.std.proofs.lemmas.Bool.{ltb-true, leb-true, lt-ltb, le-ltb}
 use Rattle.std.specs.Prelude.{nat_lt, nat_le}
 use Rattle.std.specs.List.{AllByRecursion, slice_get}
 use Rattle.krl_blocks.specs.Laid.{Above, Rises, KeysAbove, KeysRise, AreBelow, AreFrom}
-use Rattle.krl_blocks.proofs.Places.{is_below, is_from}
 
 -- Numbers
 
@@ -27,10 +26,10 @@ dropped_rise (n ∷ ns) zero h = h
 dropped_rise (n ∷ ns) (suc i) h = dropped_rise ns i h.1
 
 up_to_last : (k : ℕ) (ns : List ℕ) (l p : ℕ) → Rises (k ∷ ns) → Some l ≡ slice_get (k ∷ ns) (length ns) → l < p → AllByRecursion (λ t. nat_lt t p ≡ true) (k ∷ ns) × (k ≤ l)
-up_to_last k [] l p h e lt = let same : l ≡ k = cc in ((is_below k p (omega (arith, same, lt)), tt), omega (arith, same))
+up_to_last k [] l p h e lt = let same : l ≡ k = cc in ((lt-ltb k p (omega (arith, same, lt)), tt), omega (arith, same))
 up_to_last k (n ∷ ns) l p h e lt =
     let r = up_to_last n ns l p h.1 e lt in let up = h.0.0 in let le = r.1 in
-    ((is_below k p (omega (arith, up, le, lt)), r.0), omega (arith, up, le))
+    ((lt-ltb k p (omega (arith, up, le, lt)), r.0), omega (arith, up, le))
 
 -- where the last lies below the point, all do
 pub below_by_last : (ns : List ℕ) (l p : ℕ) → Rises ns → Some l ≡ slice_get ns (length ns - 1) → nat_lt l p ≡ true → AllByRecursion (λ t. nat_lt t p ≡ true) ns
@@ -47,12 +46,12 @@ below_by_none (n ∷ ns) p e = absurd (last_there n ns (e ∙ ap (slice_get (n �
 
 above_from : (k : ℕ) (ns : List ℕ) (p : ℕ) → Above k ns → p ≤ k → AllByRecursion (λ t. nat_lt t p ≡ false) ns
 above_from k [] p h le = tt
-above_from k (n ∷ ns) p h le = let up = h.0 in (is_from n p (omega (arith, up, le)), above_from k ns p h.1 le)
+above_from k (n ∷ ns) p h le = let up = h.0 in (le-ltb n p (omega (arith, up, le)), above_from k ns p h.1 le)
 
 -- where the first does not lie below the point, none does
 pub from_by_first : (ns : List ℕ) (f p : ℕ) → Rises ns → Some f ≡ slice_get ns 0 → nat_le p f ≡ true → AllByRecursion (λ t. nat_lt t p ≡ false) ns
 from_by_first [] f p h e t = tt
-from_by_first (n ∷ ns) f p h e t = let same : f ≡ n = cc in let le = leb-true p f t in (is_from n p (omega (arith, same, le)), above_from n ns p h.0 (omega (arith, same, le)))
+from_by_first (n ∷ ns) f p h e t = let same : f ≡ n = cc in let le = leb-true p f t in (le-ltb n p (omega (arith, same, le)), above_from n ns p h.0 (omega (arith, same, le)))
 
 pub from_by_none : (ns : List ℕ) (p : ℕ) → None ≡ slice_get ns 0 → AllByRecursion (λ t. nat_lt t p ≡ false) ns
 from_by_none [] p e = tt
@@ -80,10 +79,10 @@ module _ {V : Type 0} where
   dropped_keys_rise (e ∷ es) (suc i) h = dropped_keys_rise es i h.1
 
   keys_to_last : (z : ℕ × V) (es : List (ℕ × V)) (l : ℕ × V) (p : ℕ) → KeysRise (z ∷ es) → Some l ≡ slice_get (z ∷ es) (length es) → l.0 < p → AreBelow p (z ∷ es) × (z.0 ≤ l.0)
-  keys_to_last z [] l p h e lt = let same : l ≡ z = cc in let key = ap (λ (y : ℕ × V). y.0) same in ((is_below z.0 p (omega (arith, key, lt)), tt), omega (arith, key))
+  keys_to_last z [] l p h e lt = let same : l ≡ z = cc in let key = ap (λ (y : ℕ × V). y.0) same in ((lt-ltb z.0 p (omega (arith, key, lt)), tt), omega (arith, key))
   keys_to_last z (x ∷ es) l p h e lt =
       let r = keys_to_last x es l p h.1 e lt in let up = h.0.0 in let le = r.1 in
-      ((is_below z.0 p (omega (arith, up, le, lt)), r.0), omega (arith, up, le))
+      ((lt-ltb z.0 p (omega (arith, up, le, lt)), r.0), omega (arith, up, le))
 
   pub keys_below_by_last : (es : List (ℕ × V)) (l : ℕ × V) (p : ℕ) → KeysRise es → Some l ≡ slice_get es (length es - 1) → nat_lt l.0 p ≡ true → AreBelow p es
   keys_below_by_last [] l p h e t = tt
@@ -99,13 +98,13 @@ module _ {V : Type 0} where
 
   keys_above_from : (k : ℕ) (es : List (ℕ × V)) (p : ℕ) → KeysAbove k es → p ≤ k → AreFrom p es
   keys_above_from k [] p h le = tt
-  keys_above_from k (e ∷ es) p h le = let up = h.0 in (is_from e.0 p (omega (arith, up, le)), keys_above_from k es p h.1 le)
+  keys_above_from k (e ∷ es) p h le = let up = h.0 in (le-ltb e.0 p (omega (arith, up, le)), keys_above_from k es p h.1 le)
 
   pub keys_from_by_first : (es : List (ℕ × V)) (f : ℕ × V) (p : ℕ) → KeysRise es → Some f ≡ slice_get es 0 → nat_le p f.0 ≡ true → AreFrom p es
   keys_from_by_first [] f p h e t = tt
   keys_from_by_first (z ∷ es) f p h e t =
       let same : f ≡ z = cc in let key = ap (λ (y : ℕ × V). y.0) same in let le = leb-true p f.0 t in
-      (is_from z.0 p (omega (arith, key, le)), keys_above_from z.0 es p h.0 (omega (arith, key, le)))
+      (le-ltb z.0 p (omega (arith, key, le)), keys_above_from z.0 es p h.0 (omega (arith, key, le)))
 
   pub keys_from_by_none : (es : List (ℕ × V)) (p : ℕ) → None ≡ slice_get es 0 → AreFrom p es
   keys_from_by_none [] p e = tt

@@ -3,7 +3,7 @@ use Rattle.std.proofs.Common.{◌≡◌, ℕ, zero, suc, ◌-◌, ◌≤◌, ◌
 use Rattle.std.proofs.lemmas.Option.{slice_get_past}
 use Rattle.std.proofs.lemmas.List.{take-append-drop, append-nil, append_assoc}
 use Rattle.std.proofs.lemmas.Bool.Decides.{nat_tests}
-use Rattle.std.proofs.lemmas.Bool.{ltb-true, ltb-false}
+use Rattle.std.proofs.lemmas.Bool.{ltb-true, ltb-false, lt-ltb, le-ltb}
 use Rattle.std.specs.Prelude.{nat_lt, slice_index_or}
 use Rattle.std.specs.List.{AllByRecursion, AllWithin, slice_get}
 use Rattle.std.specs.List.Sorted.{IsPartitionedBy}
@@ -108,27 +108,21 @@ laid_less {V = V} j k (t ∷ ts) (x ∷ xs) le h = (ends_less x h.0, h.1)
     ends_less [] g = absurd g
     ends_less (e ∷ es) g = (omega (arith, le, g.0), g.1)
 
-pub is_below : (n p : ℕ) → n < p → nat_lt n p ≡ true
-is_below n p h = grind (arith, nat_tests)
-
-pub is_from : (n p : ℕ) → p ≤ n → nat_lt n p ≡ false
-is_from n p h = grind (arith, nat_tests)
-
 after_below : {V : Type 0} (p k : ℕ) (es : List (ℕ × V)) (t : ℕ) → EndsAfter k es t → t < p → AreBelow p es
 after_below p k [] t h lt = tt
-after_below p k (e ∷ es) t h lt = (is_below e.0 p (omega (arith, after_top e.0 es t h.1, lt)), after_below p e.0 es t h.1 lt)
+after_below p k (e ∷ es) t h lt = (lt-ltb e.0 p (omega (arith, after_top e.0 es t h.1, lt)), after_below p e.0 es t h.1 lt)
 
 ends_below : {V : Type 0} (p low : ℕ) (es : List (ℕ × V)) (t : ℕ) → EndsAt low es t → t < p → AreBelow p es
 ends_below p low [] t h lt = absurd h
-ends_below p low (e ∷ es) t h lt = (is_below e.0 p (omega (arith, after_top e.0 es t h.1, lt)), after_below p e.0 es t h.1 lt)
+ends_below p low (e ∷ es) t h lt = (lt-ltb e.0 p (omega (arith, after_top e.0 es t h.1, lt)), after_below p e.0 es t h.1 lt)
 
 above_from : {V : Type 0} (p k : ℕ) (es : List (ℕ × V)) → p ≤ k → KeysAbove k es → AreFrom p es
 above_from p k [] le h = tt
-above_from p k (e ∷ es) le h = (is_from e.0 p (omega (arith, le, h.0)), above_from p k es le h.1)
+above_from p k (e ∷ es) le h = (le-ltb e.0 p (omega (arith, le, h.0)), above_from p k es le h.1)
 
 ends_from : {V : Type 0} (p low : ℕ) (es : List (ℕ × V)) (t : ℕ) → EndsAt low es t → p ≤ low → AreFrom p es
 ends_from p low [] t h le = absurd h
-ends_from p low (e ∷ es) t h le = (is_from e.0 p (omega (arith, le, h.0)), above_from p e.0 es (omega (arith, le, h.0)) (after_above e.0 es t h.1))
+ends_from p low (e ∷ es) t h le = (le-ltb e.0 p (omega (arith, le, h.0)), above_from p e.0 es (omega (arith, le, h.0)) (after_above e.0 es t h.1))
 
 pub all_join : {X : Type 0} (P : X → Type 0) (xs ys : List X) → AllByRecursion P xs → AllByRecursion P ys → AllByRecursion P (xs ++ ys)
 all_join P [] ys a b = b

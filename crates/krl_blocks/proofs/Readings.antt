@@ -3,9 +3,9 @@ use Rattle.std.proofs.Common.{◌≡◌, ◌≢◌, ℕ, zero, suc, ◌+◌, ◌
 use Rattle.std.specs.Prelude.{nat_lt}
 use Rattle.std.specs.List.{AllByRecursion, slice_get}
 use Rattle.std.proofs.lemmas.List.{append-nil}
-use Rattle.std.proofs.lemmas.Bool.{ltb-false}
+use Rattle.std.proofs.lemmas.Bool.{ltb-false, lt-ltb}
 use Rattle.krl_blocks.specs.Laid.{flat, EndsAfter, EndsAt, IsLaid, KeysAbove, KeysRise, NoKey, AreBelow, AreFrom, IsFound, IsInserted}
-use Rattle.krl_blocks.proofs.Places.{flat_join, all_join, keys_after_less, is_below}
+use Rattle.krl_blocks.proofs.Places.{flat_join, all_join, keys_after_less}
 use Rattle.krl_blocks.proofs.Edits.{below_none, above_none}
 
 module _ {V : Type 0} where
@@ -75,7 +75,7 @@ module _ {V : Type 0} where
   pub rise_below : (es : List (ℕ × V)) (i : ℕ) (e : ℕ × V) → KeysRise es → Some e ≡ slice_get es i → AreBelow e.0 (take i es)
   rise_below [] i e h at = absurd (let bad : Some e ≡ None = at in cc)
   rise_below (z ∷ es) zero e h at = tt
-  rise_below (z ∷ es) (suc i) e h at = (is_below z.0 e.0 (key_above z.0 es i e h.0 at), rise_below es i e h.1 at)
+  rise_below (z ∷ es) (suc i) e h at = (lt-ltb z.0 e.0 (key_above z.0 es i e h.0 at), rise_below es i e h.1 at)
 
   below_and_from : (k : ℕ) (f g : List (ℕ × V)) → AreBelow k (f ++ g) → AreFrom k g → g ≡ []
   below_and_from k [] [] h a = refl

@@ -1,7 +1,7 @@
 -- What a client does with each message, by what its tests say.
 use Rattle.std.proofs.Common.{◌≡◌, ◌≢◌, ℕ, suc, ◌<◌, ◌≤◌, true, false, ◌&&◌, List, [], ◌∷◌, ◌++◌, refl, sym, ap, ◌∙◌, subst, arith, nat_eq, nat_lt, nat_le, eq-eqb, lt-ltb, le-ltb, leb-true, eqb-true}
 use Rattle.std.proofs.lemmas.Bool.Decides.{nat_tests}
-use Rattle.std.proofs.lemmas.Bool.{and_parts}
+use Rattle.std.proofs.lemmas.Bool.{and_parts, ne_eqb}
 use Rattle.krl_modes.specs.declared.point.TheConstants.{END}
 use Rattle.krl_modes.specs.declared.mode.Mode.{Mode}
 use Rattle.krl_modes.specs.Spans.{Bounds, contains}
@@ -17,9 +17,6 @@ use Rattle.krl_client.specs.Clients.{Client, Written, Unwritten, Outstanding, Ju
 use Rattle.krl_client.specs.Messages.{Case, Ignores, AcksAgain, Adopts, Accepts, Lowers, case_of, case_of_body, after, sends, fits, judged_as, says_ack}
 use Rattle.krl_client.specs.Ticks.{says_hello, lock_again, write_again}
 use Rattle.krl_client.specs.Fields.{judged_where, Follows, IsTick, IsOpening}
-
-pub differ : (a b : ℕ) → a ≢ b → nat_eq a b ≡ false
-differ a b ne = grind (arith, nat_tests)
 
 -- Follows, where no pieces are told: some describe the belief
 
@@ -47,7 +44,7 @@ pub epoch_later : (k : Client) (epoch : ℕ) → k.epoch < epoch → case_of_bod
 epoch_later k epoch h = rw (lt-ltb k.epoch epoch h)
 
 pub push_elsewhere : (k : Client) (epoch number : ℕ) (what : PushBody) → epoch ≢ k.epoch → case_of_body k (told.Push epoch number what) ≡ Ignores
-push_elsewhere k epoch number what ne = rw (differ epoch k.epoch ne)
+push_elsewhere k epoch number what ne = rw (ne_eqb epoch k.epoch ne)
 
 pub push_unfit : (k : Client) (epoch number : ℕ) (what : PushBody) → epoch ≡ k.epoch → fits what ≡ false → case_of_body k (told.Push epoch number what) ≡ Ignores
 push_unfit k epoch number what e f = rw (eq-eqb epoch k.epoch e, f)
@@ -59,7 +56,7 @@ pub push_again : (k : Client) (epoch number : ℕ) (what : PushBody) → epoch �
 push_again k epoch number what e f n s = rw (eq-eqb epoch k.epoch e, f, n, eq-eqb number k.seen s)
 
 pub push_other : (k : Client) (epoch number : ℕ) (what : PushBody) → epoch ≡ k.epoch → fits what ≡ true → (nat_eq number (suc k.seen) && nat_le number END) ≡ false → number ≢ k.seen → case_of_body k (told.Push epoch number what) ≡ Ignores
-push_other k epoch number what e f n s = rw (eq-eqb epoch k.epoch e, f, n, differ number k.seen s)
+push_other k epoch number what e f n s = rw (eq-eqb epoch k.epoch e, f, n, ne_eqb number k.seen s)
 
 pub next_fits : (number seen : ℕ) → (nat_eq number (suc seen) && nat_le number END) ≡ true → suc seen ≤ END
 next_fits number seen h =
@@ -68,7 +65,7 @@ next_fits number seen h =
     let l = leb-true number END parts.1 in subst (λ (n : ℕ). n ≤ END) e l
 
 pub callback_elsewhere : (k : Client) (epoch : ℕ) (s : Bounds) (keep : Mode) → epoch ≢ k.epoch → case_of_body k (told.Callback epoch s keep) ≡ Ignores
-callback_elsewhere k epoch s keep ne = rw (differ epoch k.epoch ne)
+callback_elsewhere k epoch s keep ne = rw (ne_eqb epoch k.epoch ne)
 
 pub callback_written : (k : Client) (epoch : ℕ) (s : Bounds) (keep : Mode) → epoch ≡ k.epoch → is_writing_in k s ≡ true → case_of_body k (told.Callback epoch s keep) ≡ Ignores
 callback_written k epoch s keep e w = rw (eq-eqb epoch k.epoch e, w)
@@ -80,10 +77,10 @@ pub callback_lowers : (k : Client) (epoch : ℕ) (s : Bounds) (keep : Mode) → 
 callback_lowers k epoch s keep e w p = rw (eq-eqb epoch k.epoch e, w, p)
 
 pub other_client : (k : Client) (m : ToClient) → m.client ≢ k.number → case_of k m ≡ Ignores
-other_client k m ne = rw (differ m.client k.number ne)
+other_client k m ne = rw (ne_eqb m.client k.number ne)
 
 pub other_incarnation : (k : Client) (m : ToClient) → m.client ≡ k.number → m.incarnation ≢ k.incarnation → case_of k m ≡ Ignores
-other_incarnation k m e ne = rw (eq-eqb m.client k.number e, differ m.incarnation k.incarnation ne)
+other_incarnation k m e ne = rw (eq-eqb m.client k.number e, ne_eqb m.incarnation k.incarnation ne)
 
 pub own : (k : Client) (m : ToClient) → m.client ≡ k.number → m.incarnation ≡ k.incarnation → case_of k m ≡ case_of_body k m.body
 own k m e f = rw (eq-eqb m.client k.number e, eq-eqb m.incarnation k.incarnation f)

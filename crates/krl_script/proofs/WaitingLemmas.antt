@@ -4,6 +4,7 @@ use Rattle.std.proofs.lemmas.Bool.Decides.{eqb_tells}
 use Rattle.std.specs.Prelude.{filter, nat_eq, slice_get, slice_set}
 use Rattle.std.proofs.Math.ListN.{length-set}
 use Rattle.std.proofs.lemmas.List.{take_more}
+use Rattle.std.proofs.lemmas.Bool.{ne_eqb}
 use Rattle.krl_script.specs.Waiting.{Waits, waiting_after, numbers, sent_to, without}
 
 same_waits : (m n : ℕ) (xs ys : List ℕ) → m ≡ n → xs ≡ ys → ◌≡◌ {A = Waits} (record { sent = m; waiting = xs }) (record { sent = n; waiting = ys })
@@ -41,9 +42,6 @@ count_passed past i flags b l at e =
 abbrev without_number : ℕ → List ℕ → List ℕ
 without_number m xs = filter (λ k. not (nat_eq k m)) xs
 
-differs : (k m : ℕ) → k ≢ m → nat_eq k m ≡ false
-differs k m ne = elim (eqb_tells k m) [ inl e ↦ absurd (ne e.1) | inr e ↦ e.0 ]
-
 same : (k m : ℕ) → k ≡ m → nat_eq k m ≡ true
 same k m is = elim (eqb_tells k m) [ inl e ↦ e.0 | inr e ↦ absurd (e.1 is) ]
 
@@ -52,7 +50,7 @@ pub not_among : (m n : ℕ) (flags : List Bool) → (m ≤ n) ⊎ (n + length fl
 not_among m n [] h = refl
 not_among m n (true ∷ flags) h = not_among m (suc n) flags (elim h [ inl l ↦ inl (omega (arith, l)) | inr l ↦ inr (omega (arith, l)) ])
 not_among m n (false ∷ flags) h =
-    let ne : nat_eq (suc n) m ≡ false = differs (suc n) m (λ e. elim h [ inl l ↦ absurd (omega (arith, l, e)) | inr l ↦ absurd (omega (arith, l, e)) ]) in
+    let ne : nat_eq (suc n) m ≡ false = ne_eqb (suc n) m (λ e. elim h [ inl l ↦ absurd (omega (arith, l, e)) | inr l ↦ absurd (omega (arith, l, e)) ]) in
     rw ne (ap (λ (xs : List ℕ). suc n ∷ xs) (not_among m (suc n) flags (elim h [ inl l ↦ inl (omega (arith, l)) | inr l ↦ inr (omega (arith, l)) ])))
 
 -- once the flag at a place is set, its message is no longer among them
@@ -67,7 +65,7 @@ one_past n (suc at) (true ∷ flags) l =
     more ∙ ap (λ (m : ℕ). without_number m (waiting_after (suc n) flags)) (omega arith)
 one_past n (suc at) (false ∷ flags) l =
     let more = one_past (suc n) at flags (omega (arith, l)) in
-    let ne : nat_eq (suc n) (n + suc at + 1) ≡ false = differs (suc n) (n + suc at + 1) (λ e. absurd (omega (arith, e))) in
+    let ne : nat_eq (suc n) (n + suc at + 1) ≡ false = ne_eqb (suc n) (n + suc at + 1) (λ e. absurd (omega (arith, e))) in
     rw ne (ap (λ (xs : List ℕ). suc n ∷ xs) (more ∙ ap (λ (m : ℕ). without_number m (waiting_after (suc n) flags)) (omega arith)))
 
 -- a message more is counted

@@ -142,6 +142,3 @@ relink s o b line r r' k k' l er ek h = record {
   new_range = λ p q. h.new_range p q ∙ er q;
   new_key = λ p q. h.new_key p q ∙ ek q;
 }
-
-pub some_same : {A : Type 0} (a b : A) → Some a ≡ Some b → a ≡ b
-some_same a b e = cc

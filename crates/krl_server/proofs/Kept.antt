@@ -2,6 +2,7 @@
 use Rattle.std.proofs.Common.{◌≡◌, ℕ, suc, ◌<◌, true, not, Some, None, List, [], ◌∷◌, refl, sym, ap, subst, ◌∙◌, arith}
 use Rattle.std.proofs.Common.{ne_eqb}
 use Rattle.std.proofs.lemmas.Bool.{and_parts}
+use Rattle.std.proofs.lemmas.Option.{same_Some}
 use Rattle.std.specs.Prelude.{nat_lt}
 use Rattle.krl_modes.specs.declared.point.TheConstants.{END}
 use Rattle.krl_messages.specs.declared.write_op.WriteOp.{WriteOp}
@@ -32,7 +33,7 @@ use Rattle.krl_server.specs.Steps.{Kind, Idle, kind_of, Ends, at_once, gathers, 
 use Rattle.krl_server.specs.Shows.{IsSound}
 use Rattle.krl_server.specs.Keeps.{ServerKeeps}
 use Rattle.krl_server.proofs.Meaning.{record_here, record_other}
-use Rattle.krl_server.proofs.Follows.{not_truth, some_same}
+use Rattle.krl_server.proofs.Follows.{not_truth}
 use Rattle.krl_server.proofs.Tests.{or_true, if_case}
 use Rattle.krl_server.proofs.Turns.{turn_is, turn_sound}
 use Rattle.krl_server.proofs.Served.{answering_sound}
@@ -48,7 +49,7 @@ use Rattle.krl_server.proofs.TableWritten.{written_kept}
 
 with_outcome : (es : Register) (c : ℕ) (x : Record) → HasOutcome x → HasOutcomes es → HasOutcomes (with_record es c x)
 with_outcome es c x here h d r e = eq_cases d c
-    (λ f. subst HasOutcome (some_same x r (sym (record_here es c x) ∙ ap (record_of (with_record es c x)) (sym f) ∙ e)) here)
+    (λ f. subst HasOutcome (same_Some x r (sym (record_here es c x) ∙ ap (record_of (with_record es c x)) (sym f) ∙ e)) here)
     (λ ne. h d r (sym (record_other es c d x ne) ∙ e))
 
 effect_of_write : (es : Register) (c : ℕ) (o : Outcome) (r : Record) → HasOutcomes es → HasOutcomes (with_record es c (noted r o))

@@ -1,6 +1,6 @@
 -- Acknowledging, telling the epoch, repeating a push, and the next push to a client.
 use Rattle.std.proofs.Common.{◌≡◌, ℕ, suc, ◌≤◌, Bool, true, false, not, Option, Some, None, List, [], ◌∷◌, ◌⊎◌, inl, refl, sym, ap, subst, ◌∙◌}
-use Rattle.std.proofs.lemmas.Option.{none-some}
+use Rattle.std.proofs.lemmas.Option.{none-some, same_Some}
 use Rattle.std.specs.Prelude.{nat_lt, is_some}
 use Rattle.krl_modes.specs.declared.point.TheConstants.{END}
 use Rattle.krl_messages.specs.declared.to_client.ToClientBody.TheVariants as told
@@ -18,7 +18,7 @@ use Rattle.krl_server.specs.Servers.{Server, is_gathering}
 use Rattle.krl_server.specs.Effects.{Done, silent, epoch_to, push_to, with_line, heard, pushes}
 use Rattle.krl_server.specs.Shows.{push_of, IsTold, IsRecord, LinkShows, IsHeardOf, Shows, view, world_of, IsSound}
 use Rattle.krl_server.proofs.Tests.{if_both, if_case}
-use Rattle.krl_server.proofs.Follows.{Goes, bound_same, put_shows, by_link, one_out, one_sent, up_phase, not_gathering, not_truth, reg_is, record_kept, line_rest, at_line, some_same}
+use Rattle.krl_server.proofs.Follows.{Goes, bound_same, put_shows, by_link, one_out, one_sent, up_phase, not_gathering, not_truth, reg_is, record_kept, line_rest, at_line}
 
 -- a link in which more is noted, by messages that the server's part does not name, is shown alike
 noticed : (s : Server) (c : ℕ) (l : Link) (ns : List Notice) → LinkShows s c l → LinkShows s c (record l { notices = ns })
@@ -117,7 +117,7 @@ pushes_on s of log cleared c body serving begun is_told able free fit h = if_cas
       missing = k.missing;
       pushed = ap (λ x. suc x) k.pushed;
       acked = refl;
-      unheard = λ other e. subst (λ x. Rattle.krl_server.specs.Shows.WasSent l l.reg (told.Push s.durable.epoch (suc (s.lines c).pushed) x)) (some_same body other e) (inl refl, begun, is_told);
+      unheard = λ other e. subst (λ x. Rattle.krl_server.specs.Shows.WasSent l l.reg (told.Push s.durable.epoch (suc (s.lines c).pushed) x)) (same_Some body other e) (inl refl, begun, is_told);
       range = k.range;
       key = k.key;
       new_range = k.new_range;

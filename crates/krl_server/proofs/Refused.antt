@@ -1,6 +1,6 @@
 -- A new write that is not Applied; and the record of a client after any new write.
 use Rattle.std.proofs.Common.{◌≡◌, ◌≢◌, ℕ, suc, ◌<◌, Bool, true, false, Some, None, List, refl, sym, ap, subst, ◌∙◌, arith}
-use Rattle.std.proofs.lemmas.Option.{none-some}
+use Rattle.std.proofs.lemmas.Option.{none-some, same_Some}
 use Rattle.krl_modes.specs.declared.point.TheConstants.{END}
 use Rattle.krl_messages.specs.declared.write_op.WriteOp.{WriteOp}
 use Rattle.krl_messages.specs.declared.outcome.Outcome.{Outcome}
@@ -21,7 +21,7 @@ use Rattle.krl_server.specs.Servers.{Server, lists, set_line}
 use Rattle.krl_server.specs.Effects.{heard, rows_after, writes, answers}
 use Rattle.krl_server.specs.Shows.{op_of, is_applied, IsRecord, LinkIs, Shows, view, IsSound}
 use Rattle.krl_server.proofs.Meaning.{line_here, record_here, record_other}
-use Rattle.krl_server.proofs.Follows.{Goes, steps_then, not_gathering, put_client, put_shows, line_rest, some_same}
+use Rattle.krl_server.proofs.Follows.{Goes, steps_then, not_gathering, put_client, put_shows, line_rest}
 use Rattle.krl_server.proofs.Pushes.{pushes_serve}
 use Rattle.krl_server.proofs.Judged.{answers_on}
 
@@ -33,7 +33,7 @@ applied_is d c op o r e = ap (applied_by d c op o) e
 pub noted_known : (es : Register) (c : ℕ) (o : Outcome) (r : Record) (l m : Link) → IsRecord (Some r) l → m.reg ≡ l.reg → m.left ≡ l.left → m.done ≡ suc l.done → m.applied ≡ is_applied o → IsRecord (record_of (with_record es c (noted r o)) c) m
 noted_known es c o r l m k reg left done applied =
     subst (λ x. IsRecord x m) (sym (record_here es c (noted r o)))
-    (record { reg = reg ∙ k.reg; left = left ∙ k.left; done = λ n. done ∙ ap (λ x. suc x) (k.done n); applied = λ p n e. applied ∙ ap is_applied (some_same o p e) })
+    (record { reg = reg ∙ k.reg; left = left ∙ k.left; done = λ n. done ∙ ap (λ x. suc x) (k.done n); applied = λ p n e. applied ∙ ap is_applied (same_Some o p e) })
 
 -- the records of the others
 pub noted_rest : (s : Shared) (es : Register) (c : ℕ) (x : Record) (d : ℕ) (b : Bool) (line : Line) (r : ℕ → Rattle.krl_modes.specs.declared.part.RangePart.RangePart) (k : ℕ → Rattle.krl_modes.specs.declared.part.KeyPart.KeyPart) (l : Link) → d ≢ c → LinkIs s (record_of es d) b line r k l → LinkIs s (record_of (with_record es c x) d) b line r k l

@@ -3,7 +3,7 @@ use Rattle.std.proofs.Common.{◌≡◌, ◌≢◌, ℕ, suc, ◌≤◌, ◌<◌
 use Rattle.std.proofs.Common.{nat_eq}
 use Rattle.std.proofs.lemmas.Bool.{cases_lt}
 use Rattle.std.proofs.lemmas.List.{append-nil}
-use Rattle.std.proofs.lemmas.Option.{none-some}
+use Rattle.std.proofs.lemmas.Option.{none-some, same_Some}
 use Rattle.std.specs.Prelude.{nat_lt, is_some, if◌then◌else◌}
 use Rattle.std.specs.List.{AllByRecursion}
 use Rattle.std.specs.FinMap as fin
@@ -35,7 +35,6 @@ use Rattle.krl_server.proofs.Tests.{if_both}
 use Rattle.krl_server.proofs.Counted.{above_all, keys_under}
 use Rattle.krl_server.proofs.Tabled.{slots_have}
 use Rattle.krl_server.proofs.Ends.{pushes_rows, turn_durable, turn_less}
-use Rattle.krl_server.proofs.Follows.{some_same}
 use Rattle.krl_server.proofs.Grants.{granted_below, granted_beside}
 use Rattle.krl_server.proofs.Turns.{turn_sound}
 use Rattle.krl_server.proofs.Kept.{turn_table}
@@ -202,7 +201,7 @@ turn_slot s n [] t e = absurd (none-some t e)
 turn_slot s n (u ∷ us) t e = by_test (is_answerable s n u) e
   where
     by_test : (b : Bool) → (if b then Some (let x : Turn = record { slot = n; waiter = u } in x) else None) ≡ Some t → t.slot ≡ n
-    by_test true f = let x : Turn = record { slot = n; waiter = u } in ap (λ y. y.slot) (sym (some_same x t f))
+    by_test true f = let x : Turn = record { slot = n; waiter = u } in ap (λ y. y.slot) (sym (same_Some x t f))
     by_test false f = absurd (none-some t f)
 
 -- what holds after the turn at the next slot where somebody waits

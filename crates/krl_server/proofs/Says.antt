@@ -2,7 +2,7 @@
 use Rattle.std.proofs.Common.{◌≡◌, ◌≢◌, ℕ, zero, suc, ◌+◌, ◌≤◌, ◌<◌, Bool, true, false, not, ◌||◌, ◌↔◌, Some, List, [], ◌∷◌, inl, inr, refl, sym, ap, subst, ◌∙◌, ⊎_elim, arith}
 use Rattle.std.proofs.Common.{nat_eq, ne_eqb}
 use Rattle.std.proofs.lemmas.Bool.{eqb-false, and_parts, or_parts}
-use Rattle.std.proofs.lemmas.Option.{none-some}
+use Rattle.std.proofs.lemmas.Option.{none-some, same_Some}
 use Rattle.std.specs.Prelude.{nat_lt, is_some, if◌then◌else◌}
 use Rattle.krl_modes.specs.declared.point.TheConstants.{END}
 use Rattle.krl_modes.specs.Modes.{compatible, cap}
@@ -29,7 +29,6 @@ use Rattle.krl_server.specs.Callbacks.{is_beside, callbacks_from, callbacks_for,
 use Rattle.krl_server.specs.Says.{changes_durable, IsCallback, IsNextPush, ServerSays}
 use Rattle.krl_server.specs.Steps.{kind_of}
 use Rattle.krl_server.proofs.Meaning.{line_here}
-use Rattle.krl_server.proofs.Follows.{some_same}
 use Rattle.krl_server.proofs.Turns.{turn_is}
 use Rattle.krl_server.proofs.Ends.{pushes_durable}
 use Rattle.krl_server.proofs.Kept.{ends_durable}
@@ -91,7 +90,7 @@ at_is s n (u ∷ us) o at = by_absent (asks_absent s.durable.index u) refl at
 
 at_has : (s : Server) (n : ℕ) (us : List Waiter) (u : Waiter) (d : ℕ) → front_of us ≡ Some u → asks_absent s.durable.index u ≡ false → d < most_clients → is_beside s n u d ≡ false → In (call s n u d) (callbacks_at s n us)
 at_has s n [] u d e asks lt f = absurd (none-some u e)
-at_has s n (v ∷ us) u d e asks lt f = subst (λ w. In (call s n u d) (callbacks_for s n w)) (sym (some_same v u e))
+at_has s n (v ∷ us) u d e asks lt f = subst (λ w. In (call s n u d) (callbacks_for s n w)) (sym (same_Some v u e))
     (subst (λ b. In (call s n u d) (if b then [] else callbacks_from s n u 0 most_clients)) (sym asks) (from_has s n u 0 most_clients d (omega arith) (omega (arith, lt)) f))
 
 among_is : (s : Server) (ns : List ℕ) (o : ToClient) → In o (callbacks_among s ns) → (n : ℕ) × In n ns × In o (callbacks_at s n (s.rows n).queue)

@@ -2,7 +2,7 @@
 use Rattle.std.proofs.Common.{◌≡◌, ◌≢◌, ℕ, suc, ◌+◌, ◌-◌, ◌≤◌, ◌<◌, Bool, true, false, not, cond, ◌||◌, Some, None, List, [], ◌∷◌, length, ◌⊎◌, inl, inr, refl, sym, ap, subst, ◌∙◌, ⊎_elim, arith}
 use Rattle.std.proofs.Common.{nat_eq, eq-eqb, eqb-true, ltb-true, ltb-false}
 use Rattle.std.proofs.lemmas.Bool.{eqb-false, or_parts, not-false}
-use Rattle.std.proofs.lemmas.Option.{none-some}
+use Rattle.std.proofs.lemmas.Option.{none-some, same_Some}
 use Rattle.std.specs.Prelude.{nat_lt, is_some, if◌then◌else◌}
 use Rattle.std.specs.Cmp.{nat_cmp_total}
 use Rattle.std.specs.FinMap as map
@@ -36,7 +36,7 @@ use Rattle.krl_server.specs.Steps.{Ends, Kind, at_once, gathers, serves, start, 
 use Rattle.krl_server.specs.Within.{AreApart, clients_of, IsEntry, IsDurableWithin, IsWithin, ServerWithin}
 use Rattle.krl_server.proofs.Here.{step_here}
 use Rattle.krl_server.proofs.Meaning.{line_here, line_other, record_here, record_other}
-use Rattle.krl_server.proofs.Follows.{some_same, not_truth}
+use Rattle.krl_server.proofs.Follows.{not_truth}
 use Rattle.krl_server.proofs.Gathering.{unlist_here, unlist_other}
 use Rattle.krl_server.proofs.Writes.{change_may}
 use Rattle.krl_server.proofs.Cased.{by_case}
@@ -67,7 +67,7 @@ with_apart (e ∷ es) c x h = by_eq (nat_eq c e.0) refl (with_apart es c x h.1)
 -- what holds of each record holds with one more of which it holds
 with_each : (Q : ℕ → Record → Type 0) (es : Register) (c : ℕ) (x : Record) → Q c x → ((d : ℕ) (r : Record) → record_of es d ≡ Some r → Q d r) → (d : ℕ) (r : Record) → record_of (with_record es c x) d ≡ Some r → Q d r
 with_each Q es c x here h d r e = eq_cases d c
-    (λ f. subst (λ y. Q y r) (sym f) (subst (Q c) (some_same x r (sym (record_here es c x) ∙ ap (record_of (with_record es c x)) (sym f) ∙ e)) here))
+    (λ f. subst (λ y. Q y r) (sym f) (subst (Q c) (same_Some x r (sym (record_here es c x) ∙ ap (record_of (with_record es c x)) (sym f) ∙ e)) here))
     (λ ne. h d r (sym (record_other es c d x ne) ∙ e))
 
 with_within : (d : Durable) (c : ℕ) (x : Record) → IsEntry c x → IsDurableWithin d → IsDurableWithin (record d { register = with_record d.register c x })

@@ -3,7 +3,7 @@
 use Rattle.std.proofs.Common.{◌≡◌, ◌≢◌, ℕ, zero, suc, ◌≤◌, ◌∙◌, Bool, true, false, Option, Some, None, List, [], ◌∷◌, ◌⊎◌, inl, inr, refl, sym, ap, subst, arith, nat_eq, if◌then◌else◌, eq-eqb, ne_eqb, eqb-true}
 use Rattle.std.specs.List.{AllByRecursion, IsDistinct}
 use Rattle.std.proofs.lemmas.Map.Keys.{IsDistinct-head, IsDistinct-tail}
-use Rattle.std.proofs.lemmas.Option.{none-some}
+use Rattle.std.proofs.lemmas.Option.{none-some, same_Some}
 use Rattle.std.specs.Map.{keys_of}
 use Rattle.krl_modes.specs.declared.point.TheConstants.{END}
 use Rattle.krl_messages.specs.Values.{Value}
@@ -17,7 +17,7 @@ use Rattle.krl_durable.specs.Registers.{Register, record_of, missing_order, HasI
 use Rattle.krl_server.specs.Servers.{incarnation_or_0}
 use Rattle.krl_server.specs.Shows.{IsRecord}
 use Rattle.krl_server.specs.Follows.{IsIdle}
-use Rattle.krl_server.proofs.Follows.{not_truth, some_same}
+use Rattle.krl_server.proofs.Follows.{not_truth}
 
 -- One link
 
@@ -136,7 +136,7 @@ left_all [] h c r e = absurd (none-some r e)
 left_all (x ∷ xs) h c r e = by_left x.1.left refl h (nat_eq c x.0) e (λ k. left_all xs k c r)
   where
     by_left : (b : Bool) → x.1.left ≡ b → (if b then missing_order xs else x.0 ∷ missing_order xs) ≡ [] → (a : Bool) → (if a then Some x.1 else record_of xs c) ≡ Some r → (missing_order xs ≡ [] → record_of xs c ≡ Some r → r.left ≡ true) → r.left ≡ true
-    by_left true f h true e later = sym (ap (λ (y : Record). y.left) (some_same x.1 r e)) ∙ f
+    by_left true f h true e later = sym (ap (λ (y : Record). y.left) (same_Some x.1 r e)) ∙ f
     by_left true f h false e later = later h e
     by_left false f h a e later = absurd (cc)
 

@@ -1,9 +1,10 @@
 use Rattle.std.proofs.Common.{get_or, ◌≡◌, ◌≤◌, ◌<◌, ℕ, suc, drop, false, length, Some, sym, ap, subst, ◌∙◌, arith, add-one}
 use Rattle.std.proofs.lemmas.List.Edits.{get_or-insert_at}
+use Rattle.std.proofs.lemmas.Bool.{le-ltb}
 use Rattle.std.specs.Prelude.{nat_lt}
 use Rattle.std.specs.List.{AllByRecursion, slice_get}
 use Rattle.krl_blocks.specs.Laid.{Rises}
-use Rattle.krl_blocks.proofs.Places.{is_from, laid_rise}
+use Rattle.krl_blocks.proofs.Places.{laid_rise}
 use Rattle.krl_blocks.proofs.Kept.{some_at, some_none, full_at, reads_lower, reads_upper, drop_to}
 use Rattle.krl_blocks.proofs.Laying.{laid_lengths}
 use Rattle.krl_blocks.proofs.layout.Layout.make_room.Goals as goal
@@ -47,4 +48,4 @@ returns-else-index-key-clause-rest g c =
     let from = subst (λ ns. AllByRecursion (λ t. nat_lt t c.args.key ≡ false) (drop b ns)) c.deref.ensures.value c.count_tops-b.ensures.rest in
     let read : c.index.result.now ≡ p.top = c.index.ensures ∙ ap (λ ns. get_or ns b c.index.result.now) p.tops ∙ get_or-insert_at ts b p.top c.index.result.now le in
     subst (λ ns. AllByRecursion (λ t. nat_lt t c.args.key ≡ false) (drop b ns)) (sym p.tops)
-    (drop_to (λ t. nat_lt t c.args.key ≡ false) ts b p.top le from (is_from p.top c.args.key (omega (arith, read, c.if-index-key.false))))
+    (drop_to (λ t. nat_lt t c.args.key ≡ false) ts b p.top le from (le-ltb p.top c.args.key (omega (arith, read, c.if-index-key.false))))
