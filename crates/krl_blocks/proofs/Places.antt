@@ -23,7 +23,7 @@ rise (n ∷ ns) zero (suc j) d h le l = omega (arith, above_at n ns j d h.0 (ome
 rise (n ∷ ns) (suc i) zero d h le l = absurd (omega (arith, le))
 rise (n ∷ ns) (suc i) (suc j) d h le l = rise ns i j d h.1 (omega (arith, le)) (omega (arith, l))
 
-below_before : (a b p : ℕ) → a ≤ b → nat_lt b p ≡ true → nat_lt a p ≡ true
+pub below_before : (a b p : ℕ) → a ≤ b → nat_lt b p ≡ true → nat_lt a p ≡ true
 below_before a b p le h = grind (arith, nat_tests)
 
 pub tops_partitioned : (ns : List ℕ) (p : ℕ) → Rises ns → IsPartitionedBy (λ t. nat_lt t p) ns

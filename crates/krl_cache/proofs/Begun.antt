@@ -1,5 +1,5 @@
 -- The pairs of a map in a span, where a walk over them begins.
-use Rattle.std.proofs.Common.{◌≡◌, ℕ, suc, ◌+◌, ◌≤◌, ◌<◌, Bool, true, false, cond, length, take, drop, List, [], ◌∷◌, ◌++◌, append-nil, refl, sym, ap, subst, ◌∙◌, arith}
+use Rattle.std.proofs.Common.{◌≡◌, ℕ, suc, ◌+◌, ◌≤◌, Bool, true, false, cond, length, take, drop, List, [], ◌∷◌, ◌++◌, append-nil, refl, sym, ap, subst, ◌∙◌, arith}
 use Rattle.std.specs.declared.cmp.Ordering.{Ordering}
 use Rattle.std.specs.declared.cmp.Ordering.TheVariants.{Less, Equal, Greater}
 use Rattle.std.specs.List.{filter}
@@ -10,10 +10,10 @@ use Rattle.std.specs.BTreeMap.Range.{entries_between}
 use Rattle.std.specs.declared.ops.Bound.TheVariants.{Included, Excluded}
 use Rattle.std_collections.specs.Btree.Order.{by, until, past}
 use Rattle.std.proofs.lemmas.List.{take-append-drop}
-use Rattle.std.proofs.lemmas.Bool.Decides.{nat_tests}
 use Rattle.krl_cache.specs.Lists.{lies_in, RiseWithin}
 use Rattle.krl_cache.specs.Sifts.{AreOut, Rise, Stands}
 use Rattle.krl_cache.proofs.Rests.{rise_of, between}
+use Rattle.krl_cache.proofs.Windows.{inside_window}
 
 pub rise_less : {V : Type 0} (lo more : ℕ) (es : List (ℕ × V)) → lo ≤ more → Rise more es → Rise lo es
 rise_less lo more [] l h = tt
@@ -100,13 +100,10 @@ rise_tail : {V : Type 0} (lo : ℕ) (a c : List (ℕ × V)) → Rise lo (a ++ c)
 rise_tail lo [] c h = h
 rise_tail lo (e ∷ a) c h = rise_less lo (suc e.0) c (omega (arith, h.0)) (rise_tail (suc e.0) a c h.1)
 
-ends_of : (lo hi q : ℕ) → lies_in lo hi q ≡ true → (lo ≤ q) × (q < hi)
-ends_of lo hi q h = (grind (arith, nat_tests), grind (arith, nat_tests))
-
 in_row : {V : Type 0} (lo hi from low : ℕ) (xs b : List (ℕ × V)) → low ≤ hi → ((q : ℕ) → from ≤ q → lo ≤ q → low ≤ q) → Rise from (xs ++ b) → AreIn lo hi xs → RiseWithin low hi xs
 in_row lo hi from low [] b l up h a = l
 in_row lo hi from low (e ∷ xs) b l up h a =
-    let ends = ends_of lo hi e.0 a.0 in
+    let ends = inside_window lo hi e.0 a.0 in
     (up e.0 h.0 ends.0, in_row lo hi (suc e.0) (suc e.0) xs b (omega (arith, ends.1)) (λ q x y. x) h.1 a.1)
 
 counted : {V : Type 0} (lo hi : ℕ) (es xs : List (ℕ × V)) → xs ≡ filter (λ (e : ℕ × V). lies_in lo hi e.0) es → few lo hi es ≡ length xs

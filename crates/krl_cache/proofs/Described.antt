@@ -15,7 +15,7 @@ use Rattle.krl_cache.specs.Beliefs.{Belief, IsBelief}
 use Rattle.krl_cache.specs.Kept.{range_said, key_said, AreInOrder, DiffersFromNext, AreMerged, AreAscending, Describes, BeliefsAreDescribed}
 use Rattle.krl_messages.specs.declared.pieces.Pieces.{Pieces}
 use Rattle.krl_cache.proofs.Calls.{past_end}
-use Rattle.krl_cache.proofs.Pieces.{outside_before}
+use Rattle.krl_cache.proofs.Windows.{before_window}
 
 abbrev key_before : Bool → ℕ → KeyPart → List KeyPiece → List KeyPiece
 key_before true p part ks = record { point = p; part = part } ∷ ks
@@ -66,7 +66,7 @@ in_order_lower a b (x ∷ xs) l h = (omega (arith, l, h.0), h.1, h.2, h.3)
 in_order_before : (lo q : ℕ) (xs : List RangePiece) → AreInOrder lo xs → q < lo → range_said xs q ≡ range.N
 in_order_before lo q [] h l = refl
 in_order_before lo q (x ∷ xs) h l =
-    let out : contains x.span q ≡ false = outside_before x.span.lo x.span.hi q (omega (arith, h.0, l)) in
+    let out : contains x.span q ≡ false = before_window x.span.lo x.span.hi q (omega (arith, h.0, l)) in
     rw out (in_order_before x.span.hi q xs h.3 (omega (arith, h.0, h.1, l)))
 
 -- a piece at one point, where another part follows

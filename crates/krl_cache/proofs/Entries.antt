@@ -13,6 +13,7 @@ use Rattle.krl_modes.specs.declared.part.KeyPart.{KeyPart}
 use Rattle.krl_cache.specs.declared.entry.Entry.{Entry}
 use Rattle.krl_cache.specs.Kept.{key_said, AreAscending}
 use Rattle.krl_cache.specs.Lists.{part_of, lies_in, pick, tagged, key_piece, RiseWithin, AreRead}
+use Rattle.krl_cache.proofs.Windows.{inside_window}
 
 pub rise_le : {A : Type 0} (a b : ℕ) (es : List (ℕ × A)) → RiseWithin a b es → a ≤ b
 rise_le a b [] h = h
@@ -67,9 +68,6 @@ find-pick {A} {B} lo hi f a b (e ∷ es) p h =
           (picked_here p (lies_in lo hi p) (f e.1) (filter_map (pick lo hi f) es) none)
       | false ↦ λ t. picked_elsewhere p e.0 (lies_in lo hi e.0) (f e.1) (filter_map (pick lo hi f) es) t ∙ rest
     ] refl
-
-inside_window : (lo hi k : ℕ) → lies_in lo hi k ≡ true → (lo ≤ k) × (k < hi)
-inside_window lo hi k h = (grind (arith, nat_tests), grind (arith, nat_tests))
 
 pub rise-pick : {A B : Type 0} (lo hi : ℕ) (f : A → Option B) (a b from : ℕ) (es : List (ℕ × A)) → RiseWithin a b es → from ≤ hi → from ≤ max a lo → RiseWithin from hi (filter_map (pick lo hi f) es)
 rise-pick lo hi f a b from [] h l m = l

@@ -24,3 +24,4 @@ pub mod Beside
 pub mod Merges
 pub mod Plans
 pub mod Crosses
+pub mod Windows

@@ -33,6 +33,7 @@ use Rattle.krl_cache.proofs.Rests.{rise_of, at_before, between}
 use Rattle.krl_cache.proofs.Pieces.{stand_in_order}
 use Rattle.krl_cache.proofs.Entries.{keys_say, keys_ascend}
 use Rattle.krl_cache.proofs.Listed.{rows_are}
+use Rattle.krl_cache.proofs.Windows.{past_window}
 
 -- New
 
@@ -68,9 +69,6 @@ read_low : (keep : KeyPart) (o : Option Entry) (e : Entry) → option_and_then (
 read_low keep None e h = absurd (let bad : None ≡ Some e = h in cc)
 read_low keep (Some x) e h = read_entry (key_meet x.part keep) x.value e h
 
-past_span : (lo hi top : ℕ) → hi ≤ top → lies_in lo hi top ≡ false
-past_span lo hi top l = grind (arith, nat_tests)
-
 in_span : (lo hi q : ℕ) → lies_in lo hi q ≡ true → q < hi
 in_span lo hi q h = grind (arith, nat_tests)
 
@@ -79,7 +77,7 @@ pub still_kept : (s : Bounds) (old new : Maps) (m : ℕ → RangePart) (mid : �
 still_kept s old new m mid kept top parts ends merged entries read = record {
   past = record {
     starts = λ q l. ends q l (kept.past.starts q l);
-    part = parts TOP ∙ ap (λ (b : Bool). cond b (m TOP) (part_at (at old.starts) TOP)) (past_span s.lo s.hi TOP top) ∙ kept.past.part;
+    part = parts TOP ∙ ap (λ (b : Bool). cond b (m TOP) (part_at (at old.starts) TOP)) (past_window s.lo s.hi TOP top) ∙ kept.past.part;
   };
   merged = merged kept.merged;
   entries = λ q e h.

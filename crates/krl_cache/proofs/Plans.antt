@@ -15,10 +15,11 @@ use Rattle.krl_cache.specs.declared.back.Back.{Back}
 use Rattle.krl_cache.specs.Backs.{back_of, part_last, AreBefore, TakesFrom, Skips}
 use Rattle.krl_cache.specs.Plans.{IsBegun, part_taken, opened, open_at, placed, opens, closes, IsPlan, CanShut}
 use Rattle.krl_cache.proofs.Starts.{part_is, part_first, part_next}
-use Rattle.krl_cache.proofs.Spans.{inside, in_window, past_window, before_window}
+use Rattle.krl_cache.proofs.Spans.{inside}
 use Rattle.krl_cache.proofs.Marks.{undone}
 use Rattle.krl_cache.proofs.Backs.{taken, out, last_holds}
 use Rattle.krl_cache.proofs.Merges.{anew_none, anew_here, anew_span}
+use Rattle.krl_cache.proofs.Windows.{in_window, past_window, before_window}
 
 -- What is placed
 

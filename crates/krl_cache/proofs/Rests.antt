@@ -13,6 +13,7 @@ use Rattle.std.proofs.lemmas.Bool.Decides.{nat_tests, leb_tells}
 use Rattle.krl_cache.specs.Lists.{lies_in}
 use Rattle.krl_cache.specs.Maps.{at, IsFree, AreNext}
 use Rattle.krl_cache.specs.Sifts.{Rise}
+use Rattle.krl_cache.proofs.Windows.{inside_window}
 
 above : {V : Type 0} (k : ℕ) (es : List (ℕ × V)) → AllByRecursion (λ y. nat_cmp k y ≡ Less) (keys_of es) → IsStrictlySortedBy nat_cmp (keys_of es) → Rise (suc k) es
 unfolding IsStrictlySortedBy
@@ -64,9 +65,6 @@ next_later {V} f lo later hi (e ∷ es) l free h =
 same_test : (lo hi q : ℕ) → (is_le (nat_cmp lo q) && not (is_le (nat_cmp hi q))) ≡ lies_in lo hi q
 same_test lo hi q = grind (arith, nat_tests)
 
-inside : (lo hi q : ℕ) → lies_in lo hi q ≡ true → (lo ≤ q) × (q < hi)
-inside lo hi q h = (grind (arith, nat_tests), grind (arith, nat_tests))
-
 outside : (lo hi q : ℕ) → lies_in lo hi q ≡ false → lo ≤ q → q < hi → ⊥
 outside lo hi q h a b = let is : lies_in lo hi q ≡ true = grind (arith, nat_tests) in let bad : true ≡ false = sym is ∙ h in cc
 
@@ -81,7 +79,7 @@ chosen_are_next {V} lo hi from (e ∷ es) h =
     ] in
     elim (lies_in lo hi e.0) as (λ (t : Bool). lies_in lo hi e.0 ≡ t → AreNext (at (e ∷ es)) lo hi (cond t (e ∷ others) others)) [
       | true ↦ λ t.
-          let i = inside lo hi e.0 t in (
+          let i = inside_window lo hi e.0 t in (
             record {
               from = i.0;
               below = i.1;

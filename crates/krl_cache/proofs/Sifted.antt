@@ -47,7 +47,7 @@ at_front : {V : Type 0} (m b : List (ℕ × V)) (q : ℕ) → at b q ≡ None �
 at_front [] b q h = h
 at_front {V} (e ∷ m) b q h = ap (λ (o : Option V). cond (is_at (nat_cmp q) e.0) (Some e.1) o) (at_front m b q h)
 
-within_less : {V : Type 0} (low more hi : ℕ) (es : List (ℕ × V)) → low ≤ more → RiseWithin more hi es → RiseWithin low hi es
+pub within_less : {V : Type 0} (low more hi : ℕ) (es : List (ℕ × V)) → low ≤ more → RiseWithin more hi es → RiseWithin low hi es
 within_less low more hi [] l h = omega (arith, l, h)
 within_less low more hi (e ∷ es) l h = (omega (arith, l, h.0), h.1)
 

@@ -11,7 +11,8 @@ use Rattle.krl_messages.specs.declared.range_pieces.RangePiece.{RangePiece}
 use Rattle.krl_cache.specs.Kept.{range_said}
 use Rattle.krl_cache.specs.Lists.{lies_in, StandWithin}
 use Rattle.krl_cache_laws.specs.Lists.{clip}
-use Rattle.krl_cache.proofs.Pieces.{outside_after, said-append, said_after, stand-append}
+use Rattle.krl_cache.proofs.Pieces.{said-append, said_after, stand-append}
+use Rattle.krl_cache.proofs.Windows.{inside_window, past_window, in_window}
 
 -- A window
 
@@ -104,14 +105,8 @@ found_from a b (y ∷ xs) p x h e =
           (omega (arith, h.0, h.1, rest.0), rest.1)
     ] refl e
 
-reaches : (lo hi p : ℕ) → lies_in lo hi p ≡ true → (lo ≤ p) × (p < hi)
-reaches lo hi p h = (grind (arith, nat_tests), grind (arith, nat_tests))
-
-lies : (lo hi p : ℕ) → lo ≤ p → p < hi → lies_in lo hi p ≡ true
-lies lo hi p l u = grind (arith, nat_tests)
-
 pub found_over : (a b : ℕ) (xs : List RangePiece) (p : ℕ) (x : RangePiece) → StandWithin a b xs → find (λ y. contains y.span p) xs ≡ Some x → (x.span.lo ≤ p) × (p < x.span.hi)
-found_over a b xs p x h e = reaches x.span.lo x.span.hi p (found_from a b xs p x h e).1
+found_over a b xs p x h e = inside_window x.span.lo x.span.hi p (found_from a b xs p x h e).1
 
 -- the piece that is found over p holds from p to its end
 pub found_said : (a b : ℕ) (xs : List RangePiece) (p q : ℕ) (x : RangePiece) → StandWithin a b xs → find (λ y. contains y.span p) xs ≡ Some x → p ≤ q → q < x.span.hi → range_said xs q ≡ x.part
@@ -121,12 +116,12 @@ found_said a b (y ∷ xs) p q x h e l u =
       | true ↦ λ t s.
           let same : y ≡ x = cc in
           let over : q < y.span.hi = subst (λ (z : RangePiece). q < z.span.hi) (sym same) u in
-          let here : lies_in y.span.lo y.span.hi q ≡ true = lies y.span.lo y.span.hi q (omega (arith, (reaches y.span.lo y.span.hi p t).0)) over in
+          let here : lies_in y.span.lo y.span.hi q ≡ true = in_window y.span.lo y.span.hi q (omega (arith, (inside_window y.span.lo y.span.hi p t).0)) over in
           rw here (ap (λ (z : RangePiece). z.part) same)
       | false ↦ λ t s.
           let rest = found_from y.span.hi b xs p x h.2 s in
-          let at = reaches x.span.lo x.span.hi p rest.1 in
-          rw (outside_after y.span.lo y.span.hi q (omega (arith, rest.0, at.0, l))) (found_said y.span.hi b xs p q x h.2 s l u)
+          let at = inside_window x.span.lo x.span.hi p rest.1 in
+          rw (past_window y.span.lo y.span.hi q (omega (arith, rest.0, at.0, l))) (found_said y.span.hi b xs p q x h.2 s l u)
     ] refl e
 
 pub found_none : (xs : List RangePiece) (p : ℕ) → find (λ y. contains y.span p) xs ≡ None → range_said xs p ≡ range.N

@@ -9,16 +9,12 @@ use Rattle.krl_messages.specs.declared.range_pieces.RangePiece.{RangePiece}
 use Rattle.krl_cache.specs.Kept.{range_said, DiffersFromNext, AreMerged}
 use Rattle.krl_cache.specs.Lists.{lies_in, StandWithin}
 use Rattle.krl_cache_laws.specs.Lists.{GoesOn, IsBoth, AddsBehind}
-use Rattle.krl_cache.proofs.Pieces.{said_before}
+use Rattle.krl_cache.proofs.Pieces.{said_before, stand_lower}
 
 -- A piece that says N
 
-lower : (a m b : ℕ) (xs : List RangePiece) → a ≤ m → StandWithin m b xs → StandWithin a b xs
-lower a m b [] l h = omega (arith, l, h)
-lower a m b (x ∷ xs) l h = (omega (arith, l, h.0), h.1, h.2)
-
 stand_without : (a b : ℕ) (xs : List RangePiece) (x : RangePiece) (ys : List RangePiece) → StandWithin a b (xs ++ x ∷ ys) → StandWithin a b (xs ++ ys)
-stand_without a b [] x ys h = lower a x.span.hi b ys (omega (arith, h.0, h.1)) h.2
+stand_without a b [] x ys h = stand_lower a x.span.hi b ys (omega (arith, h.0, h.1)) h.2
 stand_without a b (z ∷ zs) x ys h = (h.0, h.1, stand_without z.span.hi b zs x ys h.2)
 
 inside : (x : RangePiece) (p : ℕ) → contains x.span p ≡ true → p < x.span.hi

@@ -16,13 +16,10 @@ use Rattle.krl_cache.specs.Beliefs.{is_last}
 use Rattle.krl_cache_laws.proofs.Clipped.{twice}
 use Rattle.krl_cache.specs.Lists.{lies_in, pick, tagged, entry_of, entry_lowered, RiseWithin, AreRead}
 use Rattle.krl_cache.proofs.Entries.{find-pick, find_before, nothing_in, rise-pick, rise_le, same_test}
-
-rise_lower : {A : Type 0} (a m b : ℕ) (es : List (ℕ × A)) → a ≤ m → RiseWithin m b es → RiseWithin a b es
-rise_lower a m b [] l h = omega (arith, l, h)
-rise_lower a m b (e ∷ es) l h = (omega (arith, l, h.0), h.1)
+use Rattle.krl_cache.proofs.Sifted.{within_less}
 
 pub rise-append : {A : Type 0} (a m b : ℕ) (xs ys : List (ℕ × A)) → RiseWithin a m xs → RiseWithin m b ys → RiseWithin a b (xs ++ ys)
-rise-append a m b [] ys h k = rise_lower a m b ys h k
+rise-append a m b [] ys h k = within_less a m b ys h k
 rise-append a m b (x ∷ xs) ys h k = (h.0, rise-append (suc x.0) m b xs ys h.1 k)
 
 apart_after : (p k : ℕ) → k < p → eq_by_cmp nat_cmp p k ≡ false
