@@ -12,10 +12,7 @@ use Rattle.krl_blocks.proofs.Edits.{read_at}
 use Rattle.krl_blocks.proofs.Apart.{first_apart, remove_apart}
 use Rattle.krl_blocks.proofs.Shelving.{AreSameBut, over, place_at, places_remove, shown_at, shown_length, shown_more, shown_insert, shown_remove, shown_spot, shown_but, shown_set, same_over, same_set, same_then, small_at, cells_put, cells_taken, cells_set, cells_copied, cells_joined}
 use Rattle.krl_blocks.proofs.Storing.{IsFreed, spot_within}
-
-front_all : {X : Type 0} (P : X → Type 0) (xs ys : List X) → AllByRecursion P (xs ++ ys) → AllByRecursion P xs
-front_all P [] ys h = tt
-front_all P (x ∷ xs) ys h = (h.0, front_all P xs ys h.1)
+use Rattle.krl_blocks.proofs.Places.{front_all}
 
 -- a spot with another length, by the cells of its place
 entries_from : {X : Type 0} (ws : List X) (s t : Spot) (n : ℕ) → t.place ≡ s.place → t.len ≡ n → entries_at ws t ≡ take n (drop (64 * s.place) ws)

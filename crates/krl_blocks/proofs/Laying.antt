@@ -6,7 +6,7 @@ use Rattle.std.proofs.lemmas.Bool.{ltb-true, ltb-false}
 use Rattle.std.specs.Prelude.{nat_lt}
 use Rattle.std.specs.List.{AllByRecursion, slice_get, insert, remove}
 use Rattle.krl_blocks.specs.Laid.{flat, KeysRise, EndsAfter, EndsAt, IsLaid, AreBelow, AreFrom, NoKey, IsInserted, IsRemoved, IsChanged, IsHalved, last_key, last_length}
-use Rattle.krl_blocks.proofs.Places.{IsAt, all_join, at_block, past_blocks, ends_top, ends_rise, after_last, laid_less, flat_join}
+use Rattle.krl_blocks.proofs.Places.{IsAt, all_join, at_block, past_blocks, ends_top, ends_rise, after_last, laid_less, flat_join, front_all}
 use Rattle.krl_blocks.proofs.Edits.{cut_there, below_none, set_is}
 use Rattle.krl_blocks.proofs.Around.{all_take, flat_set}
 use Rattle.krl_blocks.proofs.Thick.{IsFilled}
@@ -52,10 +52,6 @@ laid_set low ts [] b x y h e f = h
 laid_set low [] (z ∷ xs) b x y h e f = absurd h
 laid_set low (t ∷ ts) (z ∷ xs) zero x y h e f = let same : x ≡ z = cc in (f low t (subst (λ (w : List (ℕ × _)). EndsAt low w t) (sym same) h.0) refl, h.1)
 laid_set low (t ∷ ts) (z ∷ xs) (suc b) x y h e f = (h.0, laid_set (suc t) ts xs b x y h.1 e f)
-
-first_part : {X : Type 0} (P : X → Type 0) (xs ys : List X) → AllByRecursion P (xs ++ ys) → AllByRecursion P xs
-first_part P [] ys h = tt
-first_part P (x ∷ xs) ys h = (h.0, first_part P xs ys h.1)
 
 second_part : {X : Type 0} (P : X → Type 0) (xs ys : List X) → AllByRecursion P (xs ++ ys) → AllByRecursion P ys
 second_part P [] ys h = h
@@ -119,7 +115,7 @@ module _ {V : Type 0} (k : ℕ) (v : V) (ts : List ℕ) (xs : List (List (ℕ ×
       none_there : NoKey k i.back
       none_there =
           second_part (λ z. z.0 ≢ k) i.front i.back (subst (NoKey k) i.old
-          (first_part (λ z. z.0 ≢ k) x at.rest (second_part (λ z. z.0 ≢ k) at.front (x ++ at.rest) (subst (NoKey k) whole new))))
+          (front_all (λ z. z.0 ≢ k) x at.rest (second_part (λ z. z.0 ≢ k) at.front (x ++ at.rest) (subst (NoKey k) whole new))))
 
       pub put_laid : IsLaid 0 ts (slice_set xs b y)
       put_laid =

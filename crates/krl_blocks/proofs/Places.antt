@@ -124,6 +124,10 @@ ends_from : {V : Type 0} (p low : ℕ) (es : List (ℕ × V)) (t : ℕ) → Ends
 ends_from p low [] t h le = absurd h
 ends_from p low (e ∷ es) t h le = (le-ltb e.0 p (omega (arith, le, h.0)), above_from p e.0 es (omega (arith, le, h.0)) (after_above e.0 es t h.1))
 
+pub front_all : {X : Type 0} (P : X → Type 0) (xs ys : List X) → AllByRecursion P (xs ++ ys) → AllByRecursion P xs
+front_all P [] ys h = tt
+front_all P (x ∷ xs) ys h = (h.0, front_all P xs ys h.1)
+
 pub all_join : {X : Type 0} (P : X → Type 0) (xs ys : List X) → AllByRecursion P xs → AllByRecursion P ys → AllByRecursion P (xs ++ ys)
 all_join P [] ys a b = b
 all_join P (x ∷ xs) ys a b = (a.0, all_join P xs ys a.1 b)

@@ -11,6 +11,7 @@ use Rattle.krl_blocks.specs.Shelves.{IsStored, shown, places, AreApart, IsFree}
 use Rattle.krl_blocks.proofs.Around.{all_set, all_insert}
 use Rattle.krl_blocks.proofs.Apart.{all_last, all_but_last, all_inserted, all_removed, all_read, last_apart, more_apart, insert_apart, remove_apart}
 use Rattle.krl_blocks.proofs.Shelving.{AreSmall, place_at, places_insert, places_remove, places_set, shown_longer}
+use Rattle.krl_blocks.proofs.Places.{front_all}
 
 -- the place is no block's and not spare, and it has its cells
 pub record IsFreed {X : Type 0} (spots : List Spot) (left : List ℕ) (cells more : List X) (place m : ℕ) : Type 0 where
@@ -22,10 +23,6 @@ pub record IsFreed {X : Type 0} (spots : List Spot) (left : List ℕ) (cells mor
   pub all : 64 * (length spots + suc (length left)) ≡ length more
   pub few : length spots + suc (length left) ≤ m
   pub same : shown spots more ≡ shown spots cells
-
-front_all : {X : Type 0} (P : X → Type 0) (xs ys : List X) → AllByRecursion P (xs ++ ys) → AllByRecursion P xs
-front_all P [] ys h = tt
-front_all P (x ∷ xs) ys h = (h.0, front_all P xs ys h.1)
 
 below_other : (ps : List ℕ) (place n : ℕ) → 64 * place ≡ n → AllByRecursion (λ p. 64 * p + 64 ≤ n) ps → AllByRecursion (λ q. q ≢ place) ps
 below_other [] place n is h = tt

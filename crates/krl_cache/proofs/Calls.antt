@@ -11,13 +11,14 @@ use Rattle.krl_modes.specs.declared.mode.Mode.{Mode}
 use Rattle.krl_modes.specs.Parts.{range_meet, key_meet, reads_key}
 use Rattle.krl_modes.specs.Modes.{range_of, key_of}
 use Rattle.krl_modes.specs.Spans.{Bounds, contains}
+use Rattle.krl_modes.proofs.SpanLaws.{inside_span}
 use Rattle.krl_messages.specs.Values.{Value}
 use Rattle.krl_messages.specs.declared.holding.Holding.{Holding}
 use Rattle.std.specs.List.{AllByRecursion}
 use Rattle.krl_messages.specs.Holdings.{has_its_value, same, ends_at_end}
 use Rattle.krl_messages.specs.Several.{have_values}
 use Rattle.krl_cache.specs.Beliefs.{Belief, IsBelief, is_span, is_last, adopt, adopt_all, lower, CallsKeepBelief}
-use Rattle.krl_cache.proofs.Truths.{none_left, some_left, inside_span}
+use Rattle.krl_cache.proofs.Truths.{none_left, some_left}
 
 -- Points of the last slot
 

@@ -1,10 +1,9 @@
 -- What a client does with each message, by what its tests say.
-use Rattle.std.proofs.Common.{◌≡◌, ◌≢◌, ℕ, suc, ◌<◌, ◌≤◌, true, false, ◌&&◌, List, [], ◌∷◌, ◌++◌, refl, sym, ap, ◌∙◌, subst, arith, nat_eq, nat_lt, nat_le, eq-eqb, lt-ltb, le-ltb, leb-true, eqb-true}
-use Rattle.std.proofs.lemmas.Bool.Decides.{nat_tests}
+use Rattle.std.proofs.Common.{◌≡◌, ◌≢◌, ℕ, suc, ◌<◌, ◌≤◌, true, false, ◌&&◌, List, [], ◌∷◌, ◌++◌, refl, sym, ap, ◌∙◌, subst, nat_eq, nat_le, eq-eqb, lt-ltb, le-ltb, leb-true, eqb-true}
 use Rattle.std.proofs.lemmas.Bool.{and_parts, ne_eqb}
 use Rattle.krl_modes.specs.declared.point.TheConstants.{END}
 use Rattle.krl_modes.specs.declared.mode.Mode.{Mode}
-use Rattle.krl_modes.specs.Spans.{Bounds, contains}
+use Rattle.krl_modes.specs.Spans.{Bounds}
 use Rattle.krl_messages.specs.declared.outcome.Outcome.{Outcome}
 use Rattle.krl_messages.specs.declared.pieces.Pieces.{Pieces}
 use Rattle.krl_messages.specs.declared.to_server.ToServer.{ToServer}
@@ -101,9 +100,6 @@ pub opens_with_ack : (k : Client) (m : ToServer) → IsBelief k.belief → nat_e
 opens_with_ack k m i h l = let some = beliefs_are_described k.belief i in record { pieces = some.0; described = some.1; message = rw h l }
 
 -- A key in a span
-
-pub inside : (s : Bounds) (p : ℕ) → s.lo ≤ p → p < s.hi → contains s p ≡ true
-inside s p h k = let a : nat_le s.lo p ≡ true = grind (arith, nat_tests) in let b : nat_lt p s.hi ≡ true = grind (arith, nat_tests) in rw (a, b)
 
 -- An answer
 

@@ -1,6 +1,6 @@
 mod Pinned
 mod Cases
 mod Tests
-mod Always
+pub mod Always
 pub mod Keeping
 pub mod Crosses

@@ -1,7 +1,6 @@
 -- Messages that stand in a link stay; what a refusal that isn't due says; points of a span.
 use Rattle.std.proofs.Common.{◌≡◌, ℕ, ◌≤◌, ◌<◌, ◌-◌, Bool, true, false, Option, Some, None, ◌⊎◌, inl, inr, refl, arith, if◌then◌else◌}
 use Rattle.krl_modes.specs.declared.part.RangePart.{RangePart}
-use Rattle.krl_modes.specs.declared.part.RangePart.TheVariants as range
 use Rattle.krl_modes.specs.declared.part.KeyPart.{KeyPart}
 use Rattle.krl_modes.specs.declared.mode.Mode.{Mode}
 use Rattle.krl_modes.specs.Parts.{range_meet, key_meet}
@@ -14,9 +13,9 @@ use Rattle.krl_messages.specs.declared.to_server.RequestBody.TheVariants as requ
 use Rattle.krl_messages.specs.declared.to_client.ToClientBody.{ToClientBody}
 use Rattle.krl_messages.specs.declared.to_client.ToClientBody.TheVariants as told
 use Rattle.krl_protocol.specs.Links.{Link, Head, Lowered, untouched, lowered}
-use Rattle.krl_cache.proofs.Truths.{inside_span, outside_span}
+use Rattle.krl_cache.proofs.Truths.{outside_span}
 use Rattle.krl_client.specs.declared.refused.CommandRefused.{CommandRefused}
-use Rattle.krl_modes.specs.Parts.{is_range_X}
+use Rattle.krl_modes.proofs.SpanLaws.{inside_span}
 use Rattle.krl_client_machine.specs.Shows.{Grows, IsAsked, IsFrom, IsTo}
 
 pub grows_not : (l : Link) → Grows l l
@@ -46,12 +45,6 @@ to_stays l m g inc (told.Callback epoch s keep) h = h
 pub passed : (b : Bool) (x : CommandRefused) (rest : Option CommandRefused) → (if b then Some x else rest) ≡ None → (b ≡ false) × (rest ≡ None)
 passed true x rest e = absurd (cc)
 passed false x rest e = (refl, e)
-
-pub it_is_x : (r : RangePart) → is_range_X r ≡ true → r ≡ range.X
-it_is_x range.N e = absurd (cc)
-it_is_x range.S e = absurd (cc)
-it_is_x range.I e = absurd (cc)
-it_is_x range.X e = refl
 
 pub before_last : (lo hi q : ℕ) → lo < hi → (q < lo) ⊎ (hi ≤ q) → (q < lo) ⊎ (hi - 1 < q)
 before_last lo hi q some (inl h) = inl h

@@ -25,10 +25,11 @@ use Rattle.krl_cache.proofs.Calls.{either_none}
 use Rattle.krl_messages.specs.Writes.{op_key as key_of_op}
 use Rattle.krl_client.specs.Clients.{Client, begun, Asked, Waiting, outstanding, has_joined, is_in, is_writing_in}
 use Rattle.krl_modes.specs.Parts.{is_key_X, is_range_X}
+use Rattle.krl_modes.proofs.PartLaws.{range_is_X}
 use Rattle.krl_client.specs.Commands.{holds_for, lock_refusal, write_refusal, forget_refusal, locked, wrote, lowered, forgot, says_lock, says_write, says_release, says_bye}
 use Rattle.krl_client.specs.Ticks.{says_hello}
 use Rattle.krl_client_machine.specs.Shows.{op_of, op_shown, Grows, server_part, IsFrom, ShowsClient, ShowsSeat, Leads}
-use Rattle.krl_client_machine.proofs.Basics.{grows_not, passed, it_is_x, lowered_at, before_last}
+use Rattle.krl_client_machine.proofs.Basics.{grows_not, passed, lowered_at, before_last}
 
 -- nothing is sent, and no step is taken
 pub rests : (s : Shared) (l : Link) (c g : ℕ) (k : Option Client) → ShowsSeat c g k l → Leads s l c g k []
@@ -95,7 +96,7 @@ may_issue c k l (op.Insert n v) h e = tt
 may_issue c k l (op.Put n v) h e = tt
 may_issue c k l (op.Delete n) h e = let x = and_parts (is_key_X (k.belief.key_at n) && is_range_X (k.belief.range_at n)) _ e in
     let y = and_parts (is_key_X (k.belief.key_at n)) (is_range_X (k.belief.range_at n)) x.0 in
-    let z = it_is_x (k.belief.range_at n) y.1 in cc (h.range n)
+    let z = range_is_X (k.belief.range_at n) y.1 in cc (h.range n)
 
 -- the reasons that a write isn't refused for
 record MayWrite (k : Client) (change : WriteOp) : Type 0 where

@@ -11,10 +11,11 @@ use Rattle.std.specs.FinMap.Entries.{find, put, is_sorted}
 use Rattle.krl_modes.specs.declared.point.TheConstants.{END}
 use Rattle.krl_messages.specs.Values.{Value}
 use Rattle.krl_blocks.specs.Entries.{AreBelow, AreFrom, NoKey, KeysAbove, KeysRise, HasEntry, IsFound, IsInserted, IsRemoved, IsChanged, last_key}
+use Rattle.krl_blocks.proofs.Places.{front_all}
 use Rattle.krl_durable.specs.Index.{after_keys, low_of, behind, slot_of}
 use Rattle.krl_durable.specs.Kept.{AreBelowEnd, IsEntries}
 use Rattle.krl_durable.specs.Writes.{most_entries}
-use Rattle.krl_durable.proofs.Slots.{Above, Rises, CutAt, rises, cut_at, entries_kept, front_of, cut_below, none_behind, head_some, head_none, slot_value, find_behind, find_here, not_above}
+use Rattle.krl_durable.proofs.Slots.{Above, Rises, CutAt, rises, cut_at, entries_kept, cut_below, none_behind, head_some, head_none, slot_value, find_behind, find_here, not_above}
 use Rattle.krl_durable.proofs.Edits.{Cut, inserted, put_cut, put_here, removed, drop_one}
 use Rattle.krl_durable.proofs.Cuts.{slot_at, end_at, low_at, after_below}
 use Rattle.krl_durable.proofs.Kept.{kept_as, same_entries_seen}
@@ -101,7 +102,7 @@ module _ (p : ℕ) (es : List (ℕ × Value)) (m : map.FinMap nat_cmp Value) (be
   none_found h = none_of_run run f.rest f.some h ∙ ap (λ (xs : List (ℕ × Value)). slice_get xs 0) (sym its_back)
 
   pub before_end : IfSome before (λ k. k < END)
-  before_end = subst (λ (o : Option ℕ). IfSome o (λ k. k < END)) (sym f.last) (last_below f.front None (front_of (λ e. nat_lt e.0 END ≡ true) f.front (run ++ f.rest) (subst AreBelowEnd f.whole ends)) tt)
+  before_end = subst (λ (o : Option ℕ). IfSome o (λ k. k < END)) (sym f.last) (last_below f.front None (front_all (λ e. nat_lt e.0 END ≡ true) f.front (run ++ f.rest) (subst AreBelowEnd f.whole ends)) tt)
 
   pub behind_found : behind before ≡ after_keys 0 (take (length f.front) es)
   behind_found = ap behind f.last ∙ behind_last None f.front ∙ ap (after_keys 0) (sym its_front)
@@ -150,7 +151,7 @@ module _ (p : ℕ) (es : List (ℕ × Value)) (m : map.FinMap nat_cmp Value) (be
     end_found = end_at p (length f.front) es m cut_found (none_found h)
 
     front_ends : AreBelowEnd (take (length f.front) es)
-    front_ends = front_of (λ e. nat_lt e.0 END ≡ true) (take (length f.front) es) (drop (length f.front) es) (subst AreBelowEnd (sym (take-append-drop (length f.front) es)) ends)
+    front_ends = front_all (λ e. nat_lt e.0 END ≡ true) (take (length f.front) es) (drop (length f.front) es) (subst AreBelowEnd (sym (take-append-drop (length f.front) es)) ends)
 
     pub end_low : behind before ≡ low_of m END
     end_low =

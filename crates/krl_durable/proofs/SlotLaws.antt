@@ -1,5 +1,5 @@
 -- The slot of a point is the least at or above it; the span of a slot begins behind the slot before it.
-use Rattle.std.proofs.Common.{◌≡◌, ◌≢◌, ℕ, suc, ◌≤◌, ◌<◌, Bool, true, false, T, List, [], ◌∷◌, Option, Some, None, ◌↔◌, refl, sym, ap, subst, ◌∙◌, ⊎_elim, arith, ◌||◌}
+use Rattle.std.proofs.Common.{◌≡◌, ◌≢◌, ℕ, suc, ◌≤◌, ◌<◌, Bool, true, false, List, [], ◌∷◌, Option, Some, None, ◌↔◌, refl, sym, ap, subst, ◌∙◌, ⊎_elim, arith, ◌||◌}
 use Rattle.std.proofs.Common.{nat_eq, ltb-true, ltb-false, ne_eqb}
 use Rattle.std.proofs.lemmas.Bool.{cases_lt}
 use Rattle.std.proofs.lemmas.Bool.Decides.{nat_tests}
@@ -13,7 +13,7 @@ use Rattle.krl_modes.specs.declared.point.TheConstants.{END}
 use Rattle.krl_messages.specs.Values.{Value}
 use Rattle.krl_durable.specs.Index.{Index, first_or_end, after_keys, slot_of, low_of, is_slot, IsSlotOf, IsSpanOf}
 use Rattle.krl_durable.specs.Kept.{AreBelowEnd}
-use Rattle.krl_durable.proofs.Slots.{Above, Rises, rises, find_here}
+use Rattle.krl_durable.proofs.Slots.{Above, Rises, is_true, rises, find_here}
 
 -- each key of the list is at or above k
 abbrev pub From : ℕ → List (ℕ × Value) → Type 0
@@ -91,10 +91,6 @@ low_is (e ∷ es) n low q h from = by_test (nat_lt e.0 n) refl (low_is es n (suc
       λ le. let x = ih.0 le in (x.0, λ k a b. find_past k e es (λ f. omega (arith, f, b, far)) ∙ x.1 k a b),
       λ x. ih.1 (x.0, λ k b c. sym (find_past k e es (λ f. omega (arith, f, c, far))) ∙ x.1 k b c),
     )
-
-is_true : (b : Bool) → T b → b ≡ true
-is_true true h = refl
-is_true false h = absurd h
 
 pub keys_of_map_rise : (m : Index) → Rises (map.entries m)
 keys_of_map_rise m = rises (map.entries m) (is_true (is_sorted nat_cmp (map.entries m)) (map.entries_sorted m))

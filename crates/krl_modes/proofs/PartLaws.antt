@@ -1,10 +1,11 @@
 -- The laws of the parts.
-use Rattle.std.proofs.Common.{◌≡◌, arith}
+use Rattle.std.proofs.Common.{◌≡◌, true, refl, arith}
 use Rattle.std.specs.Prelude.{IsTrue}
 use Rattle.krl_modes.specs.declared.part.RangePart.{RangePart}
+use Rattle.krl_modes.specs.declared.part.RangePart.TheVariants as range
 use Rattle.krl_modes.specs.declared.part.KeyPart.{KeyPart}
 use Rattle.krl_modes.specs.Orders.{IsPartialOrder, IsLeastUpperBound, IsGreatestLowerBound, IsCompatibility}
-use Rattle.krl_modes.specs.Parts.{range_at_most, key_at_most, ranges_compatible, keys_compatible, range_join, range_meet, key_join, key_meet}
+use Rattle.krl_modes.specs.Parts.{range_at_most, key_at_most, ranges_compatible, keys_compatible, range_join, range_meet, key_join, key_meet, is_range_X}
 
 range_at_most-reflexive : (a : RangePart) → IsTrue (range_at_most a a)
 range_at_most-reflexive a = grind arith
@@ -85,3 +86,9 @@ key_meet_bound a b =
     let first : IsTrue (key_at_most (key_meet a b) a) = grind arith in
     let second : IsTrue (key_at_most (key_meet a b) b) = grind arith in
     record { below_first = first; below_second = second; greatest = key_meet-greatest a b }
+
+pub range_is_X : (a : RangePart) → is_range_X a ≡ true → a ≡ range.X
+range_is_X range.N e = absurd (cc)
+range_is_X range.S e = absurd (cc)
+range_is_X range.I e = absurd (cc)
+range_is_X range.X e = refl

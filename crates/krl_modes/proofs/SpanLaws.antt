@@ -1,8 +1,14 @@
--- Spans meet where they have a common point.
-use Rattle.std.proofs.Common.{◌<◌, ◌↔◌, nat_lt, max, arith}
+-- The points of a span; spans meet where they have a common point.
+use Rattle.std.proofs.Common.{◌≡◌, ℕ, ◌≤◌, ◌<◌, ◌↔◌, true, nat_lt, nat_le, max, arith}
 use Rattle.std.specs.Prelude.{IsTrue}
-use Rattle.std.proofs.lemmas.Bool.{and_parts, and_from, ltb-true, lt-ltb}
-use Rattle.krl_modes.specs.Spans.{Bounds, meets, ShareAPoint}
+use Rattle.std.proofs.lemmas.Bool.{and_parts, and_from, ltb-true, lt-ltb, leb-true, le-leb}
+use Rattle.krl_modes.specs.Spans.{Bounds, contains, meets, ShareAPoint}
+
+pub inside_span : (s : Bounds) (p : ℕ) → contains s p ≡ true → (s.lo ≤ p) × (p < s.hi)
+inside_span s p e = let h = and_parts (nat_le s.lo p) (nat_lt p s.hi) e in (leb-true s.lo p h.0, ltb-true p s.hi h.1)
+
+pub in_span : (s : Bounds) (p : ℕ) → s.lo ≤ p → p < s.hi → contains s p ≡ true
+in_span s p a b = and_from (nat_le s.lo p) (nat_lt p s.hi) (le-leb s.lo p a) (lt-ltb p s.hi b)
 
 pub meets-points : (s t : Bounds) → s.lo < s.hi → t.lo < t.hi → IsTrue (meets s t) ↔ ShareAPoint s t
 meets-points s t a b = (

@@ -10,8 +10,9 @@ use Rattle.krl_modes.specs.declared.part.RangePart.TheVariants as range
 use Rattle.krl_modes.specs.declared.part.KeyPart.{KeyPart}
 use Rattle.krl_modes.specs.declared.part.KeyPart.TheVariants as key
 use Rattle.krl_modes.specs.declared.mode.Mode.{Mode}
-use Rattle.krl_modes.specs.Parts.{ranges_compatible, keys_compatible, is_range_X, is_key_X}
+use Rattle.krl_modes.specs.Parts.{ranges_compatible, keys_compatible, is_key_X}
 use Rattle.krl_modes.specs.Modes.{range_of, key_of, compatible}
+use Rattle.krl_modes.proofs.PartLaws.{range_is_X}
 use Rattle.krl_messages.specs.Values.{Value}
 use Rattle.krl_messages.specs.Members.{In}
 use Rattle.krl_messages.proofs.Members.{in_both, in_left, in_right}
@@ -50,9 +51,6 @@ beside_key_X key.X e = absurd (cc)
 key_X : (k : KeyPart) → is_key_X k ≡ true → k ≡ key.X
 key_X k e = grind arith
 
-range_X : (r : RangePart) → is_range_X r ≡ true → r ≡ range.X
-range_X r e = grind arith
-
 alone_range : (a b : Mode) → range_of a ≡ range.X → compatible a b ≡ true → range_of b ≡ range.N
 alone_range a b e h = beside_X (range_of b) (ap (λ r. ranges_compatible r (range_of b)) (sym e) ∙ and_first _ _ h)
 
@@ -65,10 +63,10 @@ module _ (t : Kept) (k s c : ℕ) (may : MayDelete (rows_of t) k s c) where
   its_entry = key_X _ (and_first _ _ (and_first _ _ may))
 
   pub its_gap : range_of (mode_at (rows_of t) k c) ≡ range.X
-  its_gap = range_X _ (and_second _ _ (and_first _ _ may))
+  its_gap = range_is_X _ (and_second _ _ (and_first _ _ may))
 
   pub its_next : range_of (mode_at (rows_of t) s c) ≡ range.X
-  its_next = range_X _ (and_second _ _ may)
+  its_next = range_is_X _ (and_second _ _ may)
 
 -- the slot k goes, and s is the next
 module _ (m : Index) (k s : ℕ) (near : (n : ℕ) → END ≤ n → get m n ≡ None) (far : k < END) (here : is_slot m k ≡ true) (at : IsSlotOf m (suc k) s) where

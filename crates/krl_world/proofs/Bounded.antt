@@ -4,6 +4,7 @@ use Rattle.krl_modes.specs.declared.part.RangePart.{RangePart}
 use Rattle.krl_modes.specs.declared.part.KeyPart.{KeyPart}
 use Rattle.krl_modes.specs.declared.part.KeyPart.TheVariants as key
 use Rattle.krl_modes.specs.Modes.{key_of}
+use Rattle.krl_modes.proofs.SpanLaws.{inside_span}
 use Rattle.krl_messages.specs.declared.holding.Holding.{Holding}
 use Rattle.krl_messages.specs.declared.to_server.ToServer.{ToServer}
 use Rattle.krl_messages.specs.declared.to_server.ToServerBody.{ToServerBody}
@@ -27,7 +28,6 @@ use Rattle.krl_messages.proofs.Members.{in_to_all}
 use Rattle.krl_protocol.specs.Holdings.{said_at, or_by, said_by}
 use Rattle.krl_protocol.proofs.Holdings.{says_here}
 use Rattle.krl_server.specs.Shows.{push_of, push_with, IsWhole, IsTold, Stands, WasSent}
-use Rattle.krl_cache.proofs.Truths.{inside_span}
 use Rattle.krl_client.specs.Clients.{Client}
 use Rattle.krl_client_machine.specs.Shows.{ShowsClient, ShowsSeat}
 use Rattle.krl_world.specs.declared.message.Message.TheVariants as message

@@ -1,16 +1,10 @@
 -- No message has a client send more than three.
-use Rattle.std.proofs.Common.{◌≡◌, ◌≤◌, List, length, subst, sym, arith}
+use Rattle.std.proofs.Common.{◌≡◌, ◌≤◌, List, length, subst, sym}
 use Rattle.krl_messages.specs.declared.to_server.ToServer.{ToServer}
 use Rattle.krl_messages.specs.declared.pieces.Pieces.{Pieces}
 use Rattle.krl_client.specs.Clients.{Client}
-use Rattle.krl_client.specs.Messages.{Case, Ignores, AcksAgain, Adopts, Accepts, Lowers, sends}
-
-few_sent : (ps : Pieces) (k : Client) (x : Case) → length (sends ps k x) ≤ 3
-few_sent ps k Ignores = omega arith
-few_sent ps k AcksAgain = omega arith
-few_sent ps k (Adopts epoch) = omega arith
-few_sent ps k (Accepts what) = omega arith
-few_sent ps k (Lowers s keep) = omega arith
+use Rattle.krl_client.specs.Messages.{Case, sends}
+use Rattle.krl_client.proofs.Always.{few_sent}
 
 pub few_said : (ps : Pieces) (k : Client) (x : Case) (list : List ToServer) → list ≡ sends ps k x → length list ≤ 3
 few_said ps k x list e = subst (λ (l : List ToServer). length l ≤ 3) (sym e) (few_sent ps k x)

@@ -9,6 +9,7 @@ use Rattle.krl_modes.specs.declared.part.KeyPart.{KeyPart}
 use Rattle.krl_modes.specs.declared.part.KeyPart.TheVariants as key
 use Rattle.krl_modes.specs.Parts.{range_join, key_join}
 use Rattle.krl_modes.specs.Spans.{contains}
+use Rattle.krl_modes.proofs.SpanLaws.{inside_span}
 use Rattle.krl_messages.specs.declared.range_pieces.RangePiece.{RangePiece}
 use Rattle.krl_messages.specs.declared.key_pieces.KeyPiece.{KeyPiece}
 use Rattle.krl_messages.specs.declared.pieces.Pieces.{Pieces}
@@ -32,7 +33,6 @@ use Rattle.krl_server.specs.Shows as server
 use Rattle.krl_server.specs.Shows.{report_of, push_of, IsWhole, RequestStands, Stands, IsTold, WasSent}
 use Rattle.krl_cache.specs.Kept as cache
 use Rattle.krl_cache.specs.Kept.{AreInOrder, AreAscending, Describes}
-use Rattle.krl_cache.proofs.Truths.{inside_span}
 use Rattle.krl_client_machine.specs.Shows as client
 use Rattle.krl_client_machine.specs.Shows.{Grows, Tells, IsAsked, IsFrom, IsTo}
 

@@ -1,5 +1,5 @@
 -- What the machine promises of compatibility and scans holds in each world that shows in it.
-use Rattle.std.proofs.Common.{◌≡◌, ◌≢◌, ℕ, ◌≤◌, ◌<◌, ◌∙◌, Bool, true, false, ◌||◌, ◌&&◌, cond, Option, Some, None, List, ◌⊎◌, inl, inr, refl, sym, ap, subst, ⊎_elim, arith, T, nat_eq, leb-true, eqb-true}
+use Rattle.std.proofs.Common.{◌≡◌, ◌≢◌, ℕ, ◌≤◌, ◌<◌, ◌∙◌, Bool, true, false, ◌||◌, ◌&&◌, cond, Option, Some, None, List, ◌⊎◌, inl, inr, refl, sym, ap, subst, ⊎_elim, arith, nat_eq, leb-true, eqb-true}
 use Rattle.std.proofs.lemmas.Bool.{eqb-false, and_parts, not-false}
 use Rattle.std.specs.Prelude.{if◌then◌else◌, nat_lt, nat_le, Result, Ok, Err}
 use Rattle.std.specs.Ordering.{nat_cmp}
@@ -21,11 +21,12 @@ use Rattle.krl_protocol.specs.Worlds.{Logged}
 use Rattle.krl_protocol.proofs.Modes.{ranges_agree_by_table, keys_agree_by_table}
 use Rattle.krl_durable.specs.Index as index
 use Rattle.krl_durable.specs.Index.{Index}
+use Rattle.krl_durable.proofs.Slots.{is_true}
 use Rattle.krl_cache.specs.Beliefs.{Belief, is_covered, is_span, CoversAll, AreRows}
-use Rattle.krl_cache.proofs.Truths.{inside_span}
 use Rattle.krl_cache.proofs.Calls.{past_end}
 use Rattle.krl_cache.proofs.OneScan.{rows_are_determined}
 use Rattle.krl_modes.specs.Parts.{reads_key, reads_gap}
+use Rattle.krl_modes.proofs.SpanLaws.{inside_span}
 use Rattle.krl_client.specs.declared.scan_answer.ScanAnswer.{ScanAnswer}
 use Rattle.krl_client.specs.declared.scan_answer.ScanAnswer.TheVariants as scanned
 use Rattle.krl_client.specs.Clients.{Client, is_writing_in}
@@ -100,17 +101,13 @@ compatible_world w of log h ok c d p ne = agree (client_of w c) (client_of w d) 
 abbrev index_believed : Index → Belief
 index_believed m = record { range_at = λ p. range.N; key_at = λ p. key.N; value_at = map.get m }
 
-to_true : (b : Bool) → T b → b ≡ true
-to_true true h = refl
-to_true false h = absurd h
-
 alike : (p : ℕ → Bool) (q x : ℕ) → nat_cmp q x ≡ Equal → p x ≡ p q
 alike p q x e = ap p (sym (map.nat_cmp-IsAntisymmetric q x e))
 
 -- a range of the index is the rows of its span
 range_rows : (m : Index) (lo hi : ℕ) → AreRows (index_believed m) (span lo hi) (index.range m lo hi)
 range_rows m lo hi = record {
-  sorted = to_true _ (is_sorted-where_key nat_cmp (λ k. nat_le lo k && nat_lt k hi) (map.entries m) (map.entries_sorted m));
+  sorted = is_true _ (is_sorted-where_key nat_cmp (λ k. nat_le lo k && nat_lt k hi) (map.entries m) (map.entries_sorted m));
   at = λ p. find-where_key nat_cmp (λ k. nat_le lo k && nat_lt k hi) p (alike (λ k. nat_le lo k && nat_lt k hi) p) (map.entries m) ∙ ap (λ o. cond (nat_le lo p && nat_lt p hi) o None) (sym (map.get-entries m p));
 }
 
