@@ -13,6 +13,7 @@ use Rattle.krl_messages.specs.Members.{In}
 use Rattle.krl_durable.specs.Index.{slot_of, is_slot}
 use Rattle.krl_table.specs.Rows.{Row, most_clients}
 use Rattle.krl_table.specs.Calls.{with_mode, with_queue, queue_with}
+use Rattle.krl_table.proofs.Stands.{in_unqueue, in_queue_with}
 use Rattle.krl_server.specs.Servers.{Server}
 use Rattle.krl_server.specs.Cases.{Case, Ignored, Registers, Leaves, Tells, Alarms, Rebuilds, Repeats, Hears, Lowers, Waits, Judges, AnswersAgain, case_of, judged}
 use Rattle.krl_server.specs.Effects.{heard, writes, rows_after, holding, effect}
@@ -20,10 +21,8 @@ use Rattle.krl_server.specs.Shows.{IsSound}
 use Rattle.krl_server.proofs.Tests.{if_both}
 use Rattle.krl_server.proofs.Cased.{by_case}
 use Rattle.krl_server.proofs.Turns.{in_row}
-use Rattle.krl_server.proofs.Waiting.{in_queue_with}
 use Rattle.krl_server.proofs.Writes.{lasts}
 use Rattle.krl_server.proofs.Ends.{pushes_rows}
-use Rattle.krl_server.proofs.Comings.{in_unqueue}
 
 -- the case takes a lock request
 abbrev pub asks : Case → Bool

@@ -1,12 +1,8 @@
 -- Hello of a new incarnation, and Bye.
-use Rattle.std.proofs.Common.{◌≡◌, ◌≢◌, ℕ, ◌<◌, Bool, true, false, not, Option, Some, List, [], ◌∷◌, inl, inr, refl, sym, ap, subst, ◌∙◌, arith}
-use Rattle.std.proofs.Common.{nat_eq}
-use Rattle.std.proofs.lemmas.Bool.{eqb-false}
+use Rattle.std.proofs.Common.{◌≡◌, ◌≢◌, ℕ, ◌<◌, Bool, true, false, Option, Some, List, [], ◌∷◌, inl, refl, sym, ap, subst, ◌∙◌, arith}
 use Rattle.std.proofs.lemmas.Option.{none-some}
-use Rattle.std.specs.Prelude.{if◌then◌else◌}
 use Rattle.krl_modes.specs.declared.mode.Mode.TheVariants as mode
 use Rattle.krl_messages.specs.Members.{In}
-use Rattle.krl_queue.specs.declared.waiter.Waiter.{Waiter}
 use Rattle.krl_protocol.specs.Links.{Notice, Link, next, idle, registers, sees_off, no_range, no_key}
 use Rattle.krl_protocol.specs.Worlds.{Logged}
 use Rattle.krl_protocol.proofs.Steps.{put, put_changed}
@@ -14,7 +10,8 @@ use Rattle.krl_durable.specs.declared.record.Record.{Record}
 use Rattle.krl_durable.specs.Registers.{record_of, with_record, new_record, left_by}
 use Rattle.krl_table.specs.Rows.{mode_at}
 use Rattle.krl_table.specs.Points.{range_at, key_at}
-use Rattle.krl_table.specs.Calls.{unqueue, cleared}
+use Rattle.krl_table.specs.Calls.{cleared}
+use Rattle.krl_table.proofs.Stands.{in_unqueue}
 use Rattle.krl_server.specs.declared.line.Line.{Line}
 use Rattle.krl_server.specs.Servers.{Server, blank_line, lists, unlist, incarnation_or_0}
 use Rattle.krl_server.specs.Effects as effects
@@ -24,16 +21,6 @@ use Rattle.krl_server.specs.Follows.{BoundStays}
 use Rattle.krl_server.proofs.Meaning.{same_range, same_key, blank_range, blank_key, mode_here, mode_other, line_here, line_other, record_here, record_other}
 use Rattle.krl_server.proofs.Follows.{Goes, at_put, put_bound, one_out, up_phase, reg_is, not_truth}
 use Rattle.krl_server.proofs.Gathering.{regroup, unlist_here, unlist_other}
-
--- who waits after the waiters of c are taken away
-pub in_unqueue : (us : List Waiter) (c : ℕ) (u : Waiter) → In u (unqueue c us) → In u us × (u.client ≢ c)
-in_unqueue [] c u h = absurd h
-in_unqueue (v ∷ vs) c u h = by_eq (nat_eq c v.client) refl (in_unqueue vs c u) h
-  where
-    by_eq : (b : Bool) → nat_eq c v.client ≡ b → (In u (unqueue c vs) → In u vs × (u.client ≢ c)) → In u (if not b then v ∷ unqueue c vs else unqueue c vs) → In u (v ∷ vs) × (u.client ≢ c)
-    by_eq true e ih k = let x = ih k in (inr x.0, x.1)
-    by_eq false e ih (inl f) = (inl f, λ g. eqb-false c v.client e (sym g ∙ ap (λ y. y.client) f))
-    by_eq false e ih (inr k) = let x = ih k in (inr x.0, x.1)
 
 -- what is shown of the others when c's modes become N
 pub cleared_rest : (s : Server) (c : ℕ) (o : Option Record) (b b' : Bool) (line line' : Line) (d : ℕ) (l : Link) → d ≢ c → b' ≡ b → line' ≡ line → LinkIs (view s) o b line (range_at s.durable.index s.rows d) (key_at s.durable.index s.rows d) l → LinkIs (view s) o b' line' (range_at s.durable.index (cleared s.rows c) d) (key_at s.durable.index (cleared s.rows c) d) l

@@ -18,6 +18,7 @@ use Rattle.krl_table.specs.Rows.{Rows, mode_at, set_row}
 use Rattle.krl_table.specs.Calls.{with_mode, wanted, grant_first, granted_first, raised, raised_on}
 use Rattle.krl_table.specs.Replies.{can_have}
 use Rattle.krl_table.specs.Grants.{nobody_waits, can_take, goes_on, taken_after, taken_by, taken, granted_by, granted, most_more}
+use Rattle.krl_table.proofs.Slots.{low_under}
 use Rattle.krl_messages.specs.Several.{IsBefore, Ascend, most_holdings}
 use Rattle.krl_durable.specs.Registers.{Durable}
 use Rattle.krl_server.specs.Servers.{Server}
@@ -26,7 +27,7 @@ use Rattle.krl_durable.proofs.Slots.{find_here}
 use Rattle.krl_durable.proofs.SlotLaws.{find_past}
 use Rattle.krl_server.proofs.Slots.{is_slot_true, span_here}
 use Rattle.krl_server.specs.Shows.{IsWhole}
-use Rattle.krl_server.proofs.Meaning.{low_below, row_here, row_other, mode_other, row_modes}
+use Rattle.krl_server.proofs.Meaning.{row_here, row_other, mode_other, row_modes}
 use Rattle.krl_server.proofs.Tests.{if_case}
 
 -- The next slot
@@ -202,7 +203,7 @@ slots_ascend s near c n (k ∷ ks) here h = (span_behind s.durable.index near n 
 
 pub holdings_whole : (s : Server) (c : ℕ) (ns : List ℕ) → AllByRecursion (λ h. IsWhole h.span) (holdings s c ns)
 holdings_whole s c [] = tt
-holdings_whole s c (n ∷ ns) = (let le = low_below s.durable.index n in omega (arith, le), holdings_whole s c ns)
+holdings_whole s c (n ∷ ns) = (let le = low_under s.durable.index n in omega (arith, le), holdings_whole s c ns)
 
 -- the first of some slots
 pub ascend_take : (s : Server) (c k : ℕ) (ns : List ℕ) → Ascend (holdings s c ns) → Ascend (holdings s c (take k ns))

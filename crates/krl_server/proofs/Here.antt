@@ -15,6 +15,7 @@ use Rattle.krl_table.specs.Rows.{Row, Rows, set_row}
 use Rattle.krl_table.specs.Calls.{with_queue, grant_first, behind_first, dropped, cleared}
 use Rattle.krl_table.specs.Grants.{granted}
 use Rattle.krl_table.specs.Replies.{asks_absent}
+use Rattle.krl_table.proofs.Stands.{in_unqueue}
 use Rattle.krl_server.specs.Servers.{Server}
 use Rattle.krl_server.specs.Cases.{Case, Rebuilds, Lowers, Waits, Judges, AnswersAgain, case_of}
 use Rattle.krl_server.specs.Effects as effects
@@ -29,7 +30,6 @@ use Rattle.krl_server.proofs.Cased.{IsFrom, by_case}
 use Rattle.krl_server.proofs.Grants.{granted_queue}
 use Rattle.krl_server.proofs.Turns.{in_row}
 use Rattle.krl_server.proofs.Ends.{pushes_rows, pushes_durable, turn_durable}
-use Rattle.krl_server.proofs.Comings.{in_unqueue}
 use Rattle.krl_server.proofs.Came.{asks, Came, all_came}
 
 -- Registers

@@ -24,6 +24,7 @@ use Rattle.krl_table.specs.Calls.{cleared, dropped, behind_first}
 use Rattle.krl_table.specs.Grants.{taken, granted}
 use Rattle.krl_table.specs.Replies.{asks_absent, can_have}
 use Rattle.krl_table.specs.Sound.{IsTable}
+use Rattle.krl_table.proofs.Besides.{or_true}
 use Rattle.krl_server.specs.Servers.{Server, is_gathering}
 use Rattle.krl_server.specs.Cases.{Case, Ignored, Registers, Leaves, Tells, Alarms, Rebuilds, Repeats, Hears, Lowers, Waits, Judges, AnswersAgain, judged, case_of}
 use Rattle.krl_server.specs.Effects as effects
@@ -34,7 +35,7 @@ use Rattle.krl_server.specs.Shows.{IsSound}
 use Rattle.krl_server.specs.Keeps.{ServerKeeps}
 use Rattle.krl_server.proofs.Meaning.{record_here, record_other}
 use Rattle.krl_server.proofs.Follows.{not_truth}
-use Rattle.krl_server.proofs.Tests.{or_true, if_case}
+use Rattle.krl_server.proofs.Tests.{if_case}
 use Rattle.krl_server.proofs.Turns.{turn_is, turn_sound}
 use Rattle.krl_server.proofs.Served.{answering_sound}
 use Rattle.krl_server.proofs.Sounds.{effect_sound}

@@ -1,8 +1,7 @@
 -- What the table gives at each point is what the machine reads from a column of it; and look-ups after a change.
-use Rattle.std.proofs.Common.{◌≡◌, ◌≢◌, ℕ, suc, ◌≤◌, Bool, true, false, List, [], ◌∷◌, Some, None, refl, sym, ap, subst, ◌∙◌, arith}
-use Rattle.std.proofs.Common.{nat_eq, eq-eqb, ne_eqb, eqb-true, ltb-true}
+use Rattle.std.proofs.Common.{◌≡◌, ◌≢◌, ℕ, ◌≤◌, Bool, true, false, [], ◌∷◌, Some, None, refl, sym, ap, subst, ◌∙◌}
+use Rattle.std.proofs.Common.{nat_eq, eq-eqb, ne_eqb, eqb-true}
 use Rattle.std.specs.Prelude.{nat_lt, if◌then◌else◌}
-use Rattle.std.specs.List.{filter}
 use Rattle.std.specs.FinMap as map
 use Rattle.krl_modes.specs.declared.point.TheConstants.{END}
 use Rattle.krl_modes.specs.declared.part.RangePart.{RangePart}
@@ -11,14 +10,13 @@ use Rattle.krl_modes.specs.declared.part.KeyPart.TheVariants as key
 use Rattle.krl_modes.specs.declared.mode.Mode.{Mode}
 use Rattle.krl_modes.specs.declared.mode.Mode.TheVariants as mode
 use Rattle.krl_modes.specs.Modes.{range_of, key_of}
-use Rattle.krl_messages.specs.Values.{Value}
 use Rattle.krl_protocol.specs.Modes.{off_slot}
 use Rattle.krl_protocol.specs.Links.{Phase}
 use Rattle.krl_protocol.specs.Tables as machine
 use Rattle.krl_protocol.proofs.Worlds.{eq_cases}
 use Rattle.krl_protocol.proofs.Tables.{range_by_slots, key_by_slots}
 use Rattle.krl_durable.specs.declared.record.Record.{Record}
-use Rattle.krl_durable.specs.Index.{Index, after_keys, slot_of, low_of, is_slot}
+use Rattle.krl_durable.specs.Index.{Index, slot_of, is_slot}
 use Rattle.krl_durable.specs.Registers.{Register, record_of, with_record}
 use Rattle.krl_table.specs.Rows.{Row, Rows, mode_at, column, set_row, set_mode}
 use Rattle.krl_table.specs.Points.{key_off_slot, range_at, key_at}
@@ -70,18 +68,6 @@ module _ (m : Index) (rows : Rows) (c : ℕ) (none : (n : ℕ) → mode_at rows 
       by_slot : (b : Bool) → (if b then key.N else key.N) ≡ key.N
       by_slot true = refl
       by_slot false = refl
-
--- the first point of a span is none after its slot
-after_below : (es : List (ℕ × Value)) (low n : ℕ) → low ≤ n → after_keys low (filter (λ e. nat_lt e.0 n) es) ≤ n
-after_below [] low n le = le
-after_below (e ∷ es) low n le = by_test (nat_lt e.0 n) refl (λ h. after_below es (suc e.0) n h) (after_below es low n le)
-  where
-    by_test : (b : Bool) → nat_lt e.0 n ≡ b → (suc e.0 ≤ n → after_keys (suc e.0) (filter (λ e. nat_lt e.0 n) es) ≤ n) → after_keys low (filter (λ e. nat_lt e.0 n) es) ≤ n → after_keys low (if b then e ∷ filter (λ e. nat_lt e.0 n) es else filter (λ e. nat_lt e.0 n) es) ≤ n
-    by_test true t f g = f (ltb-true e.0 n t)
-    by_test false t f g = g
-
-pub low_below : (m : Index) (n : ℕ) → low_of m n ≤ n
-low_below m n = after_below (map.entries m) 0 n (omega arith)
 
 -- Look-ups
 

@@ -16,6 +16,7 @@ use Rattle.krl_messages.specs.Writes.{op_key}
 use Rattle.krl_messages.specs.Members.{In}
 use Rattle.krl_table.specs.Rows.{Row, Rows, most_clients, mode_at}
 use Rattle.krl_table.specs.Calls.{with_queue, queue_with, cleared}
+use Rattle.krl_table.proofs.Stands.{in_unqueue, in_queue_with}
 use Rattle.krl_server.specs.Servers.{Server}
 use Rattle.krl_server.specs.Cases.{Judges, judged, case_of}
 use Rattle.krl_server.specs.Effects as effects
@@ -25,9 +26,7 @@ use Rattle.krl_server.proofs.Meaning.{row_modes, mode_here, mode_other}
 use Rattle.krl_server.proofs.Pushes.{heard_sound, pushes_sound}
 use Rattle.krl_server.proofs.Refused.{with_noted, refusal_is}
 use Rattle.krl_server.proofs.Turns.{in_row}
-use Rattle.krl_server.proofs.Waiting.{in_queue_with}
 use Rattle.krl_server.proofs.Lowers.{lowered_sound}
-use Rattle.krl_server.proofs.Comings.{in_unqueue}
 use Rattle.krl_server.proofs.Rebuilt.{adopts_sound}
 use Rattle.krl_server.proofs.Writes.{writes_sound}
 use Rattle.krl_server.proofs.Cased.{IsFrom, by_case}

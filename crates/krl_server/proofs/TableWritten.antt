@@ -1,14 +1,10 @@
 -- A write that is Applied keeps what holds of every table.
-use Rattle.std.proofs.Common.{◌≡◌, ◌≢◌, ℕ, suc, ◌+◌, ◌≤◌, ◌<◌, Bool, true, false, ◌||◌, Some, None, ◌++◌, refl, sym, ap, subst, ◌∙◌, arith}
-use Rattle.std.proofs.Common.{nat_eq, eq-eqb, ne_eqb}
-use Rattle.std.specs.Prelude.{is_some, if◌then◌else◌}
+use Rattle.std.proofs.Common.{◌≡◌, ◌≢◌, ℕ, suc, ◌+◌, ◌≤◌, ◌<◌, Bool, true, false, ◌||◌, Some, None, ◌++◌, refl, sym, ap, ◌∙◌, arith}
+use Rattle.std.proofs.Common.{nat_eq, ne_eqb}
+use Rattle.std.specs.Prelude.{is_some}
 use Rattle.std.specs.FinMap as map
 use Rattle.krl_modes.specs.declared.point.TheConstants.{END}
-use Rattle.krl_modes.specs.declared.part.RangePart.{RangePart}
-use Rattle.krl_modes.specs.declared.part.KeyPart.TheVariants as key
-use Rattle.krl_modes.specs.declared.mode.Mode.{Mode}
-use Rattle.krl_modes.specs.Modes.{range_of, compatible, at_or_above}
-use Rattle.krl_modes.proofs.Tables.{implies, implies_use, by_table_2}
+use Rattle.krl_modes.specs.Modes.{range_of}
 use Rattle.krl_messages.specs.Values.{Value}
 use Rattle.krl_messages.specs.declared.write_op.WriteOp.{WriteOp}
 use Rattle.krl_messages.specs.declared.write_op.WriteOp.TheVariants as write
@@ -21,7 +17,7 @@ use Rattle.krl_messages.specs.Writes.{op_key}
 use Rattle.krl_durable.specs.Writes.{held, judge, written}
 use Rattle.krl_modes.specs.Parts.{lets_insert}
 use Rattle.krl_table.specs.Rows.{Row, Rows, blank_row, most_clients, mode_at, column, set_row}
-use Rattle.krl_table.specs.Calls.{with_queue, mode_beside, split_modes, split, merged}
+use Rattle.krl_table.specs.Calls.{with_queue, split_modes, split, merged}
 use Rattle.krl_server.specs.Effects.{rows_written}
 use Rattle.krl_server.proofs.Slots.{slot_here}
 use Rattle.krl_server.proofs.Meaning.{row_here, row_other}
@@ -31,35 +27,11 @@ use Rattle.krl_server.proofs.Placed.{two_rows, ArePlaced, put_placed, split_from
 use Rattle.krl_server.proofs.Writes.{insert_may, change_may}
 use Rattle.krl_server.proofs.Follows.{not_truth}
 use Rattle.krl_server.proofs.Tests.{none_some, some_of}
-use Rattle.krl_table.specs.Kept.{times}
+use Rattle.krl_table.specs.Kept.{times, AreBeside}
 use Rattle.krl_table.proofs.Alone.{times_both, times_parted, AreAlone, alone_moved}
-use Rattle.krl_server.proofs.Tabled.{IsKept, AreBeside, turned}
+use Rattle.krl_table.proofs.Besides.{split_beside}
+use Rattle.krl_server.proofs.Tabled.{IsKept}
 use Rattle.krl_server.proofs.TableKept.{slot_there}
-
--- The modes on a new slot
-
-writer_beside : (a b : Mode) → lets_insert (range_of a) ≡ true → compatible a b ≡ true → compatible (at_or_above (range_of a) key.X) (mode_beside (range_of b)) ≡ true
-writer_beside a b may e =
-    implies_use (compatible a b) (compatible (at_or_above (range_of a) key.X) (mode_beside (range_of b)))
-    (implies_use (lets_insert (range_of a)) (implies (compatible a b) (compatible (at_or_above (range_of a) key.X) (mode_beside (range_of b))))
-    (by_table_2 (λ a b. implies (lets_insert (range_of a)) (implies (compatible a b) (compatible (at_or_above (range_of a) key.X) (mode_beside (range_of b))))) refl a b) may) e
-
-others_beside : (a b : RangePart) → compatible (mode_beside a) (mode_beside b) ≡ true
-others_beside a b = grind arith
-
-split_beside : (modes : ℕ → Mode) (c : ℕ) → lets_insert (range_of (modes c)) ≡ true → AreBeside modes → AreBeside (split_modes modes c)
-split_beside modes c may h d e ne = eq_cases d c
-    (λ f. let ec : e ≢ c = λ k. ne (f ∙ sym k) in
-    subst (λ x. compatible x (split_modes modes c e) ≡ true) (sym (writer d f)) (subst (λ x. compatible (at_or_above (range_of (modes c)) key.X) x ≡ true) (sym (other e ec)) (writer_beside (modes c) (modes e) may (h c e (λ k. ec (sym k))))))
-    (λ dc. subst (λ x. compatible x (split_modes modes c e) ≡ true) (sym (other d dc)) (eq_cases e c
-    (λ f. subst (λ x. compatible (mode_beside (range_of (modes d))) x ≡ true) (sym (writer e f)) (turned (at_or_above (range_of (modes c)) key.X) (mode_beside (range_of (modes d))) (writer_beside (modes c) (modes d) may (h c d (λ k. dc (sym k))))))
-    (λ ec. subst (λ x. compatible (mode_beside (range_of (modes d))) x ≡ true) (sym (other e ec)) (others_beside (range_of (modes d)) (range_of (modes e))))))
-  where
-    writer : (x : ℕ) → x ≡ c → split_modes modes c x ≡ at_or_above (range_of (modes c)) key.X
-    writer x f = ap (λ b. if b then at_or_above (range_of (modes c)) key.X else mode_beside (range_of (modes x))) (eq-eqb x c f)
-
-    other : (x : ℕ) → x ≢ c → split_modes modes c x ≡ mode_beside (range_of (modes x))
-    other x f = ap (λ b. if b then at_or_above (range_of (modes c)) key.X else mode_beside (range_of (modes x))) (ne_eqb x c f)
 
 -- Two rows that are others
 

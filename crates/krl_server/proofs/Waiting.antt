@@ -1,9 +1,7 @@
 -- A lock request that is taken.
-use Rattle.std.proofs.Common.{◌≡◌, ℕ, Bool, true, false, List, [], ◌∷◌, ◌++◌, ◌⊎◌, inl, inr, refl, sym, ap, subst, ◌∙◌, ⊎_elim}
-use Rattle.std.specs.Prelude.{if◌then◌else◌, is_some, not}
+use Rattle.std.proofs.Common.{◌≡◌, ℕ, Bool, true, List, ◌⊎◌, refl, sym, ap, subst, ◌∙◌, ⊎_elim}
+use Rattle.std.specs.Prelude.{is_some, not}
 use Rattle.krl_messages.specs.declared.to_client.ToClientBody.TheVariants as told
-use Rattle.krl_modes.specs.declared.mode.Mode.TheVariants as mode
-use Rattle.krl_modes.specs.Modes.{at_most}
 use Rattle.krl_messages.specs.Members.{In}
 use Rattle.krl_queue.specs.declared.waiter.Waiter.{Waiter}
 use Rattle.krl_protocol.specs.Links.{Head, Link, Passes}
@@ -15,6 +13,7 @@ use Rattle.krl_durable.specs.Registers.{record_of}
 use Rattle.krl_table.specs.Rows.{Row, set_row}
 use Rattle.krl_table.specs.Points.{range_at, key_at}
 use Rattle.krl_table.specs.Calls.{with_queue, queue_with}
+use Rattle.krl_table.proofs.Stands.{in_queue_with}
 use Rattle.krl_server.specs.declared.line.Line.{Line}
 use Rattle.krl_server.specs.Servers.{Server, is_gathering, lists, set_line}
 use Rattle.krl_server.specs.Effects.{silent, heard, queues}
@@ -23,20 +22,6 @@ use Rattle.krl_server.proofs.Meaning.{same_range, same_key, row_modes, line_here
 use Rattle.krl_server.proofs.Follows.{Goes, relink, put_client, not_truth, not_gathering}
 use Rattle.krl_server.proofs.Pushes.{hears_steps, hears_shows}
 use Rattle.krl_server.proofs.Turns.{in_row}
-
-in_end : (us : List Waiter) (u v : Waiter) → In v (us ++ (u ∷ [])) → (v ≡ u) ⊎ In v us
-in_end [] u v (inl e) = inl e
-in_end [] u v (inr e) = absurd e
-in_end (w ∷ us) u v (inl e) = inr (inl e)
-in_end (w ∷ us) u v (inr h) = ⊎_elim (λ (e : v ≡ u). inl e) (λ (x : In v us). inr (inr x)) (in_end us u v h)
-
--- who waits in a queue with one waiter more
-pub in_queue_with : (row : Row) (u v : Waiter) → In v (queue_with row u) → (v ≡ u) ⊎ In v row.queue
-in_queue_with row u v = by_held (at_most (row.modes u.client) mode.N)
-  where
-    by_held : (b : Bool) → In v (if b then row.queue ++ (u ∷ []) else u ∷ row.queue) → (v ≡ u) ⊎ In v row.queue
-    by_held true h = in_end row.queue u v h
-    by_held false h = h
 
 -- a link shows no request numbers
 other_line : (s : Server) (d : ℕ) (l : Link) (y : Line) → y.pushed ≡ (s.lines d).pushed → y.unheard ≡ (s.lines d).unheard → LinkShows s d l → LinkIs (view s) (record_of s.durable.register d) (lists s.missing d) y (range_at s.durable.index s.rows d) (key_at s.durable.index s.rows d) l

@@ -16,7 +16,7 @@ use Rattle.krl_table.specs.Calls.{mode_beside, split_modes}
 use Rattle.krl_table.specs.Kept.{AreBeside}
 use Rattle.krl_table.proofs.Means.{eq_cases}
 
-or_true : (a b : Bool) → (a || b) ≡ true → a ≡ false → b ≡ true
+pub or_true : (a b : Bool) → (a || b) ≡ true → a ≡ false → b ≡ true
 or_true true b e f = absurd (cc)
 or_true false b e f = e
 
@@ -57,7 +57,7 @@ fits_beside row c g strangers e d ne = ⊎_elim
     (cases_lt d most_clients)
 
 -- a lower mode stands beside what the mode stood beside
-meet_beside : (a b keep : Mode) → compatible a b ≡ true → compatible (meet a keep) b ≡ true
+pub meet_beside : (a b keep : Mode) → compatible a b ≡ true → compatible (meet a keep) b ≡ true
 meet_beside a b keep e = implies_use (compatible a b) (compatible (meet a keep) b) (by_table_3 (λ a b keep. implies (compatible a b) (compatible (meet a keep) b)) refl a b keep) e
 
 pub lowered_beside : (modes : ℕ → Mode) (c : ℕ) (keep : Mode) → AreBeside modes → AreBeside (set_mode modes c (meet (modes c) keep))
