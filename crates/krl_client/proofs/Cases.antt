@@ -12,7 +12,7 @@ use Rattle.krl_messages.specs.declared.to_client.ToClientBody.TheVariants as tol
 use Rattle.krl_messages.specs.declared.to_client.PushBody.{PushBody}
 use Rattle.krl_cache.specs.Beliefs.{IsBelief}
 use Rattle.krl_cache.proofs.Described.{beliefs_are_described}
-use Rattle.krl_client.specs.Clients.{Client, Written, Unwritten, Outstanding, Judged, is_writing_in, meets_pin, has_joined, outstanding}
+use Rattle.krl_client.specs.Clients.{Client, LastWrite, Unwritten, Outstanding, Judged, is_writing_in, meets_pin, has_joined, outstanding}
 use Rattle.krl_client.specs.Messages.{Case, Ignores, AcksAgain, Adopts, Accepts, Lowers, case_of, case_of_body, after, sends, fits, judged_as, says_ack}
 use Rattle.krl_client.specs.Ticks.{says_hello, lock_again, write_again}
 use Rattle.krl_client.specs.Fields.{judged_where, Follows, IsTick, IsOpening}
@@ -103,7 +103,7 @@ opens_with_ack k m i h l = let some = beliefs_are_described k.belief i in record
 
 -- An answer
 
-pub judged_is : (k : Client) (number : ℕ) (outcome : Outcome) (w : Written) → judged_where (nat_eq number k.writes) outcome w ≡ judged_as k number outcome w
+pub judged_is : (k : Client) (number : ℕ) (outcome : Outcome) (w : LastWrite) → judged_where (nat_eq number k.writes) outcome w ≡ judged_as k number outcome w
 judged_is k number outcome Unwritten = refl
 judged_is k number outcome (Outstanding change) = refl
 judged_is k number outcome (Judged old) = refl

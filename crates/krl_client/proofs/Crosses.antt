@@ -9,8 +9,8 @@ use Rattle.arrayvec.specs.contracts.array_vec.ArrayVec as array_vec
 use Rattle.krl_modes.proofs.Crosses.{mode_sent, span_sent}
 use Rattle.krl_messages.proofs.Crosses.{write_op_sent}
 use Rattle.krl_cache.proofs.Crosses.{cache_sent}
-use Rattle.krl_client.specs.contracts.asked.Asked as asked
-use Rattle.krl_client.specs.contracts.written.Written as written
+use Rattle.krl_client.specs.contracts.lock_request.LockRequest as asked
+use Rattle.krl_client.specs.contracts.last_write.LastWrite as written
 use Rattle.krl_client.specs.contracts.pins.Pins as pins
 use Rattle.krl_client.specs.contracts.client.Client as client
 
@@ -41,8 +41,8 @@ global_sent = search sendable depth 20
 client_inside : IsSend client.TheInside.the_row
 client_inside = let n : IsSend u64 = search sendable in
     recorded_send _ _ (client.TheInside.the_type).to (client.TheInside.the_type).to_one
-        (struct_send (shape client.TheInside.the_type)
-            (global_sent, (n, (n, (n, (n, (n, (asked_sent, (n, (written_sent, (cache_sent, (pins_sent, tt))))))))))))
+    (struct_send (shape client.TheInside.the_type)
+    (global_sent, (n, (n, (n, (n, (n, (asked_sent, (n, (written_sent, (cache_sent, (pins_sent, tt))))))))))))
 
 pub client_sent : IsSend (client.the_field).row
 client_sent = view_send _ _ _ _ _ client_inside

@@ -18,7 +18,7 @@ use Rattle.krl_cache.specs.Beliefs.{IsBelief, is_span}
 use Rattle.krl_cache.proofs.Calls.{calls_keep_belief, adopted_all}
 use Rattle.krl_client.specs.declared.refused.CommandRefused.TheVariants as refused
 use Rattle.krl_client.specs.declared.refused.StartRefused.TheVariants as start
-use Rattle.krl_client.specs.Clients.{Client, Asked, NotAsked, Granted, NoEntry, Dropped, Waiting, Written, Unwritten, Outstanding, Judged, outstanding, has_joined, is_waiting, is_writing_in, meets_pin, if_taken, free_from, free_pin, with_pin, begun}
+use Rattle.krl_client.specs.Clients.{Client, LockRequest, NotAsked, Granted, NoEntry, Dropped, Waiting, LastWrite, Unwritten, Outstanding, Judged, outstanding, has_joined, is_waiting, is_writing_in, meets_pin, if_taken, free_from, free_pin, with_pin, begun}
 use Rattle.krl_client.specs.Commands.{start_refusal, lock_refusal, locked, write_refusal, wrote, holds_for, lowered, pin_refusal, pinned, unpinned}
 use Rattle.krl_client.specs.Messages.{Case, Ignores, AcksAgain, Adopts, Accepts, Lowers, case_of, case_of_body, after, fits, dropped, joined, judged_as, accepted}
 use Rattle.krl_client.specs.Keeps.{IsPin, IsClient, LiesOnSpan, BringsSpan, ClientKeeps}
@@ -165,7 +165,7 @@ spanned k s e = yes (is_span s) (passed (not (is_span s)) refused.BadSpan _ e).0
 
 -- Messages
 
-none_waits : (a : Asked) (point hi : ℕ) (mode : Mode) → dropped a ≡ Waiting point hi mode → ⊥
+none_waits : (a : LockRequest) (point hi : ℕ) (mode : Mode) → dropped a ≡ Waiting point hi mode → ⊥
 none_waits NotAsked point hi mode e = cc
 none_waits (Waiting p j m) point hi mode e = cc
 none_waits Granted point hi mode e = cc
@@ -186,7 +186,7 @@ join_keeps k epoch i = record {
 }
 
 -- what waits after a reply waited before
-still_waits : (t : Bool) (now reply : Asked) (point hi : ℕ) (mode : Mode) → (reply ≡ Waiting point hi mode → ⊥) → (if t then reply else now) ≡ Waiting point hi mode → now ≡ Waiting point hi mode
+still_waits : (t : Bool) (now reply : LockRequest) (point hi : ℕ) (mode : Mode) → (reply ≡ Waiting point hi mode → ⊥) → (if t then reply else now) ≡ Waiting point hi mode → now ≡ Waiting point hi mode
 still_waits true now reply point hi mode other e = absurd (other e)
 still_waits false now reply point hi mode other e = e
 
@@ -195,7 +195,7 @@ still_one true outcome old change e = absurd (let bad : ◌≡◌ {A = Option Wr
 still_one false outcome old change e = e
 
 -- what is outstanding after an answer was so before
-still_out : (k : Client) (number : ℕ) (outcome : Outcome) (w : Written) (change : WriteOp) → outstanding (judged_as k number outcome w) ≡ Some change → outstanding w ≡ Some change
+still_out : (k : Client) (number : ℕ) (outcome : Outcome) (w : LastWrite) (change : WriteOp) → outstanding (judged_as k number outcome w) ≡ Some change → outstanding w ≡ Some change
 still_out k number outcome Unwritten change e = e
 still_out k number outcome (Outstanding old) change e = still_one (nat_eq number k.writes) outcome old change e
 still_out k number outcome (Judged old) change e = e

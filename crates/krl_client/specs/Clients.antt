@@ -19,15 +19,15 @@ use Rattle.krl_client.specs.declared.status.WriteStatus.{WriteStatus}
 use Rattle.krl_client.specs.declared.status.WriteStatus.TheVariants as write
 
 -- the last lock request of this incarnation
-pub data Asked : Type 0 where
-  NotAsked Granted NoEntry Dropped : Asked
-  Waiting : (point hi : ℕ) (mode : Mode) → Asked
+pub data LockRequest : Type 0 where
+  NotAsked Granted NoEntry Dropped : LockRequest
+  Waiting : (point hi : ℕ) (mode : Mode) → LockRequest
 
 -- its last write
-pub data Written : Type 0 where
-  Unwritten : Written
-  Outstanding : (change : WriteOp) → Written
-  Judged : (outcome : Outcome) → Written
+pub data LastWrite : Type 0 where
+  Unwritten : LastWrite
+  Outstanding : (change : WriteOp) → LastWrite
+  Judged : (outcome : Outcome) → LastWrite
 
 pub record Client : Type 0 where
   pub number : ℕ
@@ -35,9 +35,9 @@ pub record Client : Type 0 where
   pub epoch : ℕ  -- 0 before it has joined
   pub seen : ℕ  -- the number of the last push that it accepted in this epoch
   pub req : ℕ  -- the number of its last lock request in this epoch
-  pub asked : Asked
+  pub asked : LockRequest
   pub writes : ℕ  -- the number of its last write
-  pub written : Written
+  pub written : LastWrite
   pub belief : Belief
   pub pins : ℕ → Option Bounds  -- 0 to 7
 
@@ -65,14 +65,14 @@ has_joined k = nat_lt 0 k.epoch
 
 -- Its requests and writes
 
-abbrev pub is_waiting : Asked → Bool
+abbrev pub is_waiting : LockRequest → Bool
 is_waiting NotAsked = false
 is_waiting Granted = false
 is_waiting NoEntry = false
 is_waiting Dropped = false
 is_waiting (Waiting point hi mode) = true
 
-abbrev pub outstanding : Written → Option WriteOp
+abbrev pub outstanding : LastWrite → Option WriteOp
 outstanding Unwritten = None
 outstanding (Outstanding change) = Some change
 outstanding (Judged outcome) = None
@@ -125,14 +125,14 @@ with_pin pins i s j = if nat_eq j i then s else pins j
 abbrev pub held : Client → ℕ → RangePart × KeyPart
 held k p = (k.belief.range_at p, k.belief.key_at p)
 
-abbrev pub lock_status : Asked → LockStatus
+abbrev pub lock_status : LockRequest → LockStatus
 lock_status NotAsked = lock.NotAsked
 lock_status (Waiting point hi mode) = lock.Waiting
 lock_status Granted = lock.Granted
 lock_status NoEntry = lock.Absent
 lock_status Dropped = lock.Dropped
 
-abbrev pub write_status : ℕ → Written → WriteStatus
+abbrev pub write_status : ℕ → LastWrite → WriteStatus
 write_status n Unwritten = write.NotWritten
 write_status n (Outstanding change) = write.Waiting n
 write_status n (Judged outcome) = write.Judged n outcome

@@ -7,30 +7,30 @@ use Rattle.krl_messages.specs.declared.to_server.ToServer.{ToServer}
 use Rattle.krl_messages.specs.declared.to_server.ToServerBody.TheVariants as body
 use Rattle.krl_cache.specs.Maps.{Maps, maps_believe}
 use Rattle.krl_cache.specs.Kept.{Describes}
-use Rattle.krl_client.specs.declared.asked.Asked as kept_asked
-use Rattle.krl_client.specs.declared.asked.Asked.TheVariants as asked
-use Rattle.krl_client.specs.declared.written.Written as kept_written
-use Rattle.krl_client.specs.declared.written.Written.TheVariants as written
+use Rattle.krl_client.specs.declared.lock_request.LockRequest as kept_asked
+use Rattle.krl_client.specs.declared.lock_request.LockRequest.TheVariants as asked
+use Rattle.krl_client.specs.declared.last_write.LastWrite as kept_written
+use Rattle.krl_client.specs.declared.last_write.LastWrite.TheVariants as written
 use Rattle.krl_client.specs.declared.refused.CommandRefused.{CommandRefused}
 use Rattle.krl_client.specs.declared.refused.CommandRefused.TheVariants.{OutOfMemory}
-use Rattle.krl_client.specs.Clients.{Client, Asked, NotAsked, Waiting, Granted, NoEntry, Dropped, Written, Unwritten, Outstanding, Judged, from}
+use Rattle.krl_client.specs.Clients.{Client, LockRequest, NotAsked, Waiting, Granted, NoEntry, Dropped, LastWrite, Unwritten, Outstanding, Judged, from}
 use Rattle.krl_client.specs.Messages.{Case, after, sends, says_report, says_ack}
 use Rattle.krl_client.specs.Ticks.{tick}
 
-abbrev pub asked_of : kept_asked.Asked → Asked
+abbrev pub asked_of : kept_asked.LockRequest → LockRequest
 asked_of asked.NotAsked = NotAsked
 asked_of (asked.Waiting point hi mode) = Waiting point hi mode
 asked_of asked.Granted = Granted
 asked_of asked.Absent = NoEntry
 asked_of asked.Dropped = Dropped
 
-abbrev pub written_of : kept_written.Written → Written
+abbrev pub written_of : kept_written.LastWrite → LastWrite
 written_of written.Unwritten = Unwritten
 written_of (written.Outstanding change) = Outstanding change
 written_of (written.Judged outcome) = Judged outcome
 
 -- the last write after an answer, which may be to an older one
-abbrev pub judged_where : Bool → Outcome → Written → Written
+abbrev pub judged_where : Bool → Outcome → LastWrite → LastWrite
 judged_where is_to_it outcome Unwritten = Unwritten
 judged_where is_to_it outcome (Outstanding change) =
     if is_to_it then Judged outcome else Outstanding change
@@ -47,9 +47,9 @@ pub record Fields : Type 0 where
   pub epoch : ℕ
   pub seen : ℕ
   pub req : ℕ
-  pub asked : kept_asked.Asked
+  pub asked : kept_asked.LockRequest
   pub writes : ℕ
-  pub written : kept_written.Written
+  pub written : kept_written.LastWrite
   pub cache : Maps
   pub pins : List (Option Bounds)
 

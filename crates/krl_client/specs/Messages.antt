@@ -16,7 +16,7 @@ use Rattle.krl_messages.specs.declared.to_client.PushBody.TheVariants as push
 use Rattle.krl_messages.specs.Holdings.{has_its_value}
 use Rattle.krl_messages.specs.Several.{have_values}
 use Rattle.krl_cache.specs.Beliefs.{adopt, adopt_all}
-use Rattle.krl_client.specs.Clients.{Client, Asked, NotAsked, Granted, NoEntry, Dropped, Waiting, Written, Unwritten, Outstanding, Judged, is_waiting, is_writing_in, meets_pin, from, requests}
+use Rattle.krl_client.specs.Clients.{Client, LockRequest, NotAsked, Granted, NoEntry, Dropped, Waiting, LastWrite, Unwritten, Outstanding, Judged, is_waiting, is_writing_in, meets_pin, from, requests}
 use Rattle.krl_client.specs.Commands.{lowered, says_release}
 
 pub data Case : Type 0 where
@@ -56,11 +56,11 @@ case_of k m =
 -- What a push makes of the client
 
 -- the waiting request after a reply to the request of that number
-abbrev pub asked_after : Client → ℕ → Asked → Asked → Asked
+abbrev pub asked_after : Client → ℕ → LockRequest → LockRequest → LockRequest
 asked_after k req now reply = if is_waiting now && nat_eq req k.req then reply else now
 
 -- the last write after an answer to the write of that number
-abbrev pub judged_as : Client → ℕ → Outcome → Written → Written
+abbrev pub judged_as : Client → ℕ → Outcome → LastWrite → LastWrite
 judged_as k number outcome Unwritten = Unwritten
 judged_as k number outcome (Outstanding change) =
     if nat_eq number k.writes then Judged outcome else Outstanding change
@@ -85,7 +85,7 @@ accepted k (push.Answer number outcome h) = record k {
 -- What an epoch makes of it
 
 -- a waiting request is dropped
-abbrev pub dropped : Asked → Asked
+abbrev pub dropped : LockRequest → LockRequest
 dropped NotAsked = NotAsked
 dropped Granted = Granted
 dropped NoEntry = NoEntry

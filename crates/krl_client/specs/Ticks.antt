@@ -4,12 +4,12 @@ use Rattle.krl_messages.specs.declared.write_op.WriteOp.{WriteOp}
 use Rattle.krl_messages.specs.declared.pieces.Pieces.{Pieces}
 use Rattle.krl_messages.specs.declared.to_server.ToServer.{ToServer}
 use Rattle.krl_messages.specs.declared.to_server.ToServerBody.TheVariants as body
-use Rattle.krl_client.specs.Clients.{Client, Asked, NotAsked, Granted, NoEntry, Dropped, Waiting, outstanding, has_joined, from}
+use Rattle.krl_client.specs.Clients.{Client, LockRequest, NotAsked, Granted, NoEntry, Dropped, Waiting, outstanding, has_joined, from}
 use Rattle.krl_client.specs.Commands.{says_lock, says_write}
 use Rattle.krl_client.specs.Messages.{says_report, says_ack}
 
 -- the waiting lock request
-abbrev pub lock_again : Client → Asked → List ToServer
+abbrev pub lock_again : Client → LockRequest → List ToServer
 lock_again k NotAsked = []
 lock_again k Granted = []
 lock_again k NoEntry = []

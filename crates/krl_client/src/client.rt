@@ -5,10 +5,10 @@ ghost use Rattle.krl_client.specs.Commands as commands;
 ghost use Rattle.krl_client.specs.Ticks as ticks;
 ghost use Rattle.krl_client.specs.Fields.{meaning};
 
-use crate::asked::Asked;
+use crate::last_write::LastWrite;
+use crate::lock_request::LockRequest;
 use crate::pins::Pins;
 use crate::refused::StartRefused;
-use crate::written::Written;
 use krl_cache::Cache;
 use krl_messages::{ToServer, ToServerBody};
 use krl_modes::END;
@@ -28,10 +28,10 @@ pub struct Client {
     pub(crate) seen: u64,
     /// The number of its last lock request in this epoch.
     pub(crate) req: u64,
-    pub(crate) asked: Asked,
+    pub(crate) asked: LockRequest,
     /// The number of its last write.
     pub(crate) writes: u64,
-    pub(crate) written: Written,
+    pub(crate) written: LastWrite,
     pub(crate) cache: Cache,
     pub(crate) pins: Pins,
 }
@@ -100,9 +100,9 @@ impl Client {
             epoch: 0,
             seen: 0,
             req: 0,
-            asked: Asked::NotAsked,
+            asked: LockRequest::NotAsked,
             writes: 0,
-            written: Written::Unwritten,
+            written: LastWrite::Unwritten,
             cache: Cache::new(alloc),
             pins: Pins::new(),
         };

@@ -7,20 +7,20 @@
 //! project's own.
 #![tactic(auto)]
 
-mod asked;
 mod client;
 mod commands;
-mod hears;
+mod last_write;
 pub mod laws;
+mod lock_request;
 mod pins;
+mod receive;
 mod refusals;
 mod refused;
+mod requests;
 mod scan_answer;
-mod sends;
-mod shows;
 mod status;
 mod ticks;
-mod written;
+mod view;
 
 pub use client::Client;
 pub use refused::{CommandRefused, StartRefused};

@@ -6,9 +6,9 @@ ghost use Rattle.krl_client.specs.Messages as messages;
 ghost use Rattle.krl_client.specs.Ticks as ticks;
 ghost use Rattle.krl_client.specs.Fields.{meaning, IsReport, IsOpening, IsTick, as_list};
 
-use crate::asked::Asked;
 use crate::client::Client;
-use crate::shows::one;
+use crate::lock_request::LockRequest;
+use crate::view::one;
 use krl_cache::Belief;
 use krl_messages::{RequestBody, ToServer, ToServerBody};
 use std::alloc::AllocError;
@@ -37,7 +37,7 @@ impl Client {
         ensures { as_list result ≡ ticks.lock_again (meaning self.now) (meaning self.now).asked }
     {
         match self.asked {
-            Asked::Waiting { point, hi, mode } => {
+            LockRequest::Waiting { point, hi, mode } => {
                 let req = self.req;
                 Some(self.requests(RequestBody::Lock {
                     req,
@@ -46,7 +46,10 @@ impl Client {
                     mode,
                 }))
             }
-            Asked::NotAsked | Asked::Granted | Asked::Absent | Asked::Dropped => None,
+            LockRequest::NotAsked
+            | LockRequest::Granted
+            | LockRequest::Absent
+            | LockRequest::Dropped => None,
         }
     }
 

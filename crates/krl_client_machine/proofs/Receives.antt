@@ -28,7 +28,7 @@ use Rattle.krl_messages.specs.Members.{In}
 use Rattle.krl_cache.specs.Beliefs.{Belief, is_last, adopt, adopt_all}
 use Rattle.krl_cache.specs.Kept.{Describes}
 use Rattle.krl_cache.proofs.Calls.{same_of, last_not_end, none_at_end}
-use Rattle.krl_client.specs.Clients.{Client, Asked, Granted, NoEntry, Written, Unwritten, Outstanding, Judged, outstanding, is_writing_in, meets_pin}
+use Rattle.krl_client.specs.Clients.{Client, LockRequest, Granted, NoEntry, LastWrite, Unwritten, Outstanding, Judged, outstanding, is_writing_in, meets_pin}
 use Rattle.krl_client.specs.Messages.{asked_after, says_ack, says_report, joined, accepted, judged_as, fits, Case, Ignores, AcksAgain, Adopts, Accepts, Lowers, case_of, case_of_body, after, sends}
 use Rattle.krl_client_machine.specs.Shows.{op_shown, Says, Tells, IsTo, ShowsClient, ShowsSeat, Leads}
 use Rattle.krl_client_machine.proofs.Steps.{rests, took, lowers_show}
@@ -108,7 +108,7 @@ end_adopted (h ∷ hs) b rules e = end_adopted hs (adopt h b) rules.1 (by_test (
     by_test true false f = refl
     by_test false u f = e
 
-holdings_show : (c : ℕ) (k : Client) (l : Link) (p : Links.Push) (hs : List Holding) (asked : Asked) (w : Written) (out : Option Op) → ShowsClient c k l.client → Says hs p → AllFit hs → out ≡ op_shown (outstanding w) → (1 ≤ k.writes) ⊎ (outstanding w ≡ None) → ShowsClient c (record k { seen = suc k.seen; asked = asked; written = w; belief = adopt_all hs k.belief }) (record l.client { seen = suc l.seen; range = λ q. (adopted l p q).range; key = λ q. (adopted l p q).key; value = λ q. (adopted l p q).value; out = out })
+holdings_show : (c : ℕ) (k : Client) (l : Link) (p : Links.Push) (hs : List Holding) (asked : LockRequest) (w : LastWrite) (out : Option Op) → ShowsClient c k l.client → Says hs p → AllFit hs → out ≡ op_shown (outstanding w) → (1 ≤ k.writes) ⊎ (outstanding w ≡ None) → ShowsClient c (record k { seen = suc k.seen; asked = asked; written = w; belief = adopt_all hs k.belief }) (record l.client { seen = suc l.seen; range = λ q. (adopted l p q).range; key = λ q. (adopted l p q).key; value = λ q. (adopted l p q).value; out = out })
 holdings_show c k l p hs asked w out x says rules o n = record {
   number = x.number;
   up = x.up;
@@ -135,7 +135,7 @@ grant_out l p true e z (inl n) = let f = eqb-true p.answers l.issued e in absurd
 grant_out l p true e z (inr n) = inl (eqb-true p.answers l.issued e, n)
 grant_out l p false e z n = inr (eqb-false p.answers l.issued e, refl)
 
-judged_out : (k : Client) (number : ℕ) (o : Outcome) (w : Written) (b : Bool) → nat_eq number k.writes ≡ b → outstanding (judged_as k number o w) ≡ (if b then None else outstanding w)
+judged_out : (k : Client) (number : ℕ) (o : Outcome) (w : LastWrite) (b : Bool) → nat_eq number k.writes ≡ b → outstanding (judged_as k number o w) ≡ (if b then None else outstanding w)
 judged_out k number o Unwritten true e = refl
 judged_out k number o Unwritten false e = refl
 judged_out k number o (Outstanding change) true e = rw e refl
@@ -165,7 +165,7 @@ issued_or_none : (c : ℕ) (k : Client) (l : Link) → ShowsClient c k l.client 
 issued_or_none c k l x = ⊎_elim (λ (n : 1 ≤ k.writes). let i = x.issued in inl (omega arith)) (λ (n : outstanding k.written ≡ None). inr (none_out (outstanding k.written) l.out x.out n)) x.numbered
 
 -- a push of these holdings is taken
-takes_push : (s : Shared) (l : Link) (c g : ℕ) (k : Client) (p : Links.Push) (hs : List Holding) (asked : Asked) (w : Written) (out : Option Op) → ShowsSeat c g (Some k) l → IsDue k l p → Says hs p → AllFit hs → OutAfter l p out → out ≡ op_shown (outstanding w) → (1 ≤ k.writes) ⊎ (outstanding w ≡ None) → let m = record k { seen = suc k.seen; asked = asked; written = w; belief = adopt_all hs k.belief } in Leads s l c g (Some m) (says_ack m ∷ [])
+takes_push : (s : Shared) (l : Link) (c g : ℕ) (k : Client) (p : Links.Push) (hs : List Holding) (asked : LockRequest) (w : LastWrite) (out : Option Op) → ShowsSeat c g (Some k) l → IsDue k l p → Says hs p → AllFit hs → OutAfter l p out → out ≡ op_shown (outstanding w) → (1 ≤ k.writes) ⊎ (outstanding w ≡ None) → let m = record k { seen = suc k.seen; asked = asked; written = w; belief = adopt_all hs k.belief } in Leads s l c g (Some m) (says_ack m ∷ [])
 takes_push s l c g k p hs asked w out x d says rules after o n = took s l _ c g _ _ x.1.number refl
     (accepts p out d.sent (record { up = x.1.up; inc = cc (d.inc, x.1.inc); epoch = cc (d.epoch, x.1.epoch); number = cc (d.number, x.1.seen) }) after)
     (record { hellos = λ y i. i; byes = λ y i. i; heads = λ y i. inr i; releases = λ y i. i; writes = λ y i. i; reports = λ y i. i; notices = λ y i. i; pushes = λ y i. i })
@@ -182,7 +182,7 @@ accept_shows s l c g k p (push.Answer number o h) x rule d tells = takes_push s 
     (sym (judged k.written (nat_eq number k.writes) refl))
     (subst (λ z. (1 ≤ k.writes) ⊎ (z ≡ None)) (sym (judged_out k number o k.written (nat_eq number k.writes) refl)) (numbered_after k number (nat_eq number k.writes) x.1.numbered))
   where
-    judged : (w : Written) (b : Bool) → nat_eq number k.writes ≡ b → op_shown (outstanding (judged_as k number o w)) ≡ op_shown (if b then None else outstanding w)
+    judged : (w : LastWrite) (b : Bool) → nat_eq number k.writes ≡ b → op_shown (outstanding (judged_as k number o w)) ≡ op_shown (if b then None else outstanding w)
     judged w b e = subst (λ z. op_shown z ≡ op_shown (if b then None else outstanding w)) (sym (judged_out k number o w b e)) refl
 
 -- Epochs

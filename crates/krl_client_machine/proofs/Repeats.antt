@@ -8,7 +8,7 @@ use Rattle.krl_messages.proofs.Members.{in_both}
 use Rattle.krl_protocol.specs.Links.{Link, Shared, LinkSteps, idle, next, head_of, hellos_again, reports_again, speaks, writes_again}
 use Rattle.krl_cache.specs.Beliefs.{Belief}
 use Rattle.krl_cache.specs.Kept.{Describes}
-use Rattle.krl_client.specs.Clients.{Client, Asked, NotAsked, Granted, NoEntry, Dropped, Waiting, outstanding, has_joined}
+use Rattle.krl_client.specs.Clients.{Client, LockRequest, NotAsked, Granted, NoEntry, Dropped, Waiting, outstanding, has_joined}
 use Rattle.krl_client.specs.Messages.{says_report, says_ack}
 use Rattle.krl_client.specs.Ticks.{lock_again, write_again, says_hello, tick}
 use Rattle.krl_client_machine.specs.Shows.{op_of, op_shown, IsFrom, ShowsSeat, Leads}
@@ -54,7 +54,7 @@ first_shows : (s : Shared) (l : Link) (c g : ℕ) (k : Client) (ps : Pieces) (b 
 first_shows s l c g k ps true d h old = report_shows s l c g k ps d h old
 first_shows s l c g k ps false d h old = ack_shows s l c g k h old
 
-lock_again_shows : (s : Shared) (l : Link) (c g : ℕ) (k : Client) (a : Asked) → ShowsSeat c g (Some k) l → 1 ≤ l.epoch → Leads s l c g (Some k) (lock_again k a)
+lock_again_shows : (s : Shared) (l : Link) (c g : ℕ) (k : Client) (a : LockRequest) → ShowsSeat c g (Some k) l → 1 ≤ l.epoch → Leads s l c g (Some k) (lock_again k a)
 lock_again_shows s l c g k NotAsked h old = rests s l c g (Some k) h
 lock_again_shows s l c g k Granted h old = rests s l c g (Some k) h
 lock_again_shows s l c g k NoEntry h old = rests s l c g (Some k) h

@@ -23,7 +23,7 @@ use Rattle.krl_client.specs.declared.refused.CommandRefused.TheVariants as refus
 use Rattle.krl_cache.proofs.Truths.{none_left, outside_span}
 use Rattle.krl_cache.proofs.Calls.{either_none}
 use Rattle.krl_messages.specs.Writes.{op_key as key_of_op}
-use Rattle.krl_client.specs.Clients.{Client, begun, Asked, Waiting, outstanding, has_joined, is_in, is_writing_in}
+use Rattle.krl_client.specs.Clients.{Client, begun, LockRequest, Waiting, outstanding, has_joined, is_in, is_writing_in}
 use Rattle.krl_modes.specs.Parts.{is_key_X, is_range_X}
 use Rattle.krl_modes.proofs.PartLaws.{range_is_X}
 use Rattle.krl_client.specs.Commands.{holds_for, lock_refusal, write_refusal, forget_refusal, locked, wrote, lowered, forgot, says_lock, says_write, says_release, says_bye}
@@ -48,7 +48,7 @@ took s l m c g k x own part step grows h f = record {
 }
 
 -- what the machine doesn't keep
-pub other_parts : (c : ℕ) (k : Client) (a : Links.Client) (req : ℕ) (asked : Asked) (pins : ℕ → Option Bounds) → ShowsClient c k a → ShowsClient c (record k { req = req; asked = asked; pins = pins }) a
+pub other_parts : (c : ℕ) (k : Client) (a : Links.Client) (req : ℕ) (asked : LockRequest) (pins : ℕ → Option Bounds) → ShowsClient c k a → ShowsClient c (record k { req = req; asked = asked; pins = pins }) a
 other_parts c k a req asked pins h = record { number = h.number; up = h.up; inc = h.inc; epoch = h.epoch; seen = h.seen; issued = h.issued; out = h.out; numbered = h.numbered; range = h.range; key = h.key; value = h.value; at_end = h.at_end }
 
 -- the numbers that a message bears

@@ -51,7 +51,7 @@ hashing_sent = search sendable depth 20
 register_inside : IsSend register.TheInside.the_row
 register_inside = recorded_send _ _ (register.TheInside.the_type).to (register.TheInside.the_type).to_one
     (struct_send (shape register.TheInside.the_type)
-        (map_sent _ _ _ fold.the_row _ _ _ _ number_sent record_sent hashing_sent, tt))
+    (map_sent _ _ _ fold.the_row _ _ _ _ number_sent record_sent hashing_sent, tt))
 
 register_sent : IsSend (register.the_field).row
 register_sent = view_send _ _ _ _ _ register_inside

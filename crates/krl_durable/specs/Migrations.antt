@@ -38,6 +38,6 @@ migrated d = record {
 }
 
 -- why it stays as it is: a client is registered and has not left, and this is the first one; or memory was not there
-abbrev pub MigratesNot : DurableV1 → NotMigrated → Type 0
-MigratesNot d refused.OutOfMemory = Unit {0}
-MigratesNot d (refused.StillRegistered c) = slice_get (missing_order d.register) 0 ≡ Some c
+abbrev pub CannotMigrate : DurableV1 → NotMigrated → Type 0
+CannotMigrate d refused.OutOfMemory = Unit {0}
+CannotMigrate d (refused.StillRegistered c) = slice_get (missing_order d.register) 0 ≡ Some c

@@ -13,7 +13,7 @@ ghost use Rattle.krl_durable.specs.Registers.{record_of, missing_order, register
 ghost use Rattle.krl_durable.specs.Registers.{IsIncarnation};
 ghost use Rattle.krl_durable.specs.Kept.{IsKept, IsRow};
 ghost use Rattle.krl_durable.specs.Openings.{AreGood, Refuses, MakesAgain, of_parts, fresh};
-ghost use Rattle.krl_durable.specs.Migrations.{migrated_entries, migrated, MigratesNot};
+ghost use Rattle.krl_durable.specs.Migrations.{migrated_entries, migrated, CannotMigrate};
 ghost use Rattle.krl_messages.specs.Writes.{op_key};
 ghost use Rattle.krl_durable.specs.Writes.{most_entries, judge, applied};
 
@@ -135,7 +135,7 @@ impl Durable {
     pub fn migrate(alloc: Global, old: &DurableV1) -> Result<Durable, NotMigrated>
         ensures { MatchResult result
             (λ d. (missing_order old.now.register ≡ []) × (d ≡ migrated old.now))
-            (MigratesNot old.now) }
+            (CannotMigrate old.now) }
     {
         let missing = old.missing_order(alloc)?;
         if let Some(client) = missing.first() {

@@ -10,7 +10,7 @@ ghost use Rattle.krl_durable.specs.Openings.{AreGood, Refuses};
 ghost use Rattle.krl_durable.specs.Migrations.{of_numbers};
 ghost use Rattle.krl_durable.specs.Writes.{most_entries};
 
-use crate::keyed::ordered;
+use crate::entry_map::ordered;
 use crate::record::Record;
 use crate::refused::Refused;
 use crate::register::Register;

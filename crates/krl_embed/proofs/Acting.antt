@@ -10,7 +10,7 @@ use Rattle.krl_server.specs.States.{meaning}
 use Rattle.krl_server.specs.Servers.{Server}
 use Rattle.krl_server.specs.Effects.{Done, effect}
 use Rattle.krl_server.specs.Cases.{Case, Alarms, case_of, is_alarm}
-use Rattle.krl_server.specs.Steps.{Kind, Idle, Ends, at_once, gathers, serves, kind_of}
+use Rattle.krl_server.specs.Steps.{Kind, Idle, Ends, at_once, recovers, serves, kind_of}
 use Rattle.krl_server.specs.Doing.{HasStepped}
 use Rattle.krl_embed.specs.declared.code.Code.TheVariants as code
 use Rattle.krl_embed.specs.declared.server_calls.Stepped.{Stepped}
@@ -22,7 +22,7 @@ use Rattle.krl_embed.specs.Servers.{Acts, HearsRead}
 idle_ends : (done : Done) (kind : Kind) (t : Server) (outs : List ToClient) → kind ≡ Idle → Ends done kind t outs
     → (t ≡ done.server) × (outs ≡ done.outs)
 idle_ends done kind t outs idle (at_once e) = (refl, refl)
-idle_ends done kind t outs idle (gathers g) = (refl, refl)
+idle_ends done kind t outs idle (recovers g) = (refl, refl)
 idle_ends done kind t outs idle (serves u answers acts g a) = absurd (acts idle)
 
 alarm_ends : (s : Server) (m : ToServer) (x : Case) (t : Server) (outs : List ToClient) → is_alarm x ≡ true

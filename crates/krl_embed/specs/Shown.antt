@@ -64,7 +64,7 @@ abbrev pub HoldsNothing : Code → Held → Type 0
 HoldsNothing c r = IsCode c r.reply × (r.range ≡ 0) × (r.key ≡ 0)
 
 abbrev pub phase_number : Phase → ℕ
-phase_number phase.Gathering = 0
+phase_number phase.Recovering = 0
 phase_number phase.Serving = 1
 
 abbrev pub IsServerState : State → ServerState → Type 0

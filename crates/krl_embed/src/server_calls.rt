@@ -149,7 +149,7 @@ pub(crate) fn status(endpoint: &Endpoint) -> ServerState
             reply: Reply::of(Code::Done),
             epoch: server.durable().epoch(),
             phase: match server.phase() {
-                Phase::Gathering => 0,
+                Phase::Recovering => 0,
                 Phase::Serving => 1,
             },
         },

@@ -17,7 +17,7 @@ place_sent = let a = client_sent in search sendable depth 24 fits 4000
 node_inside : IsSend node.TheInside.the_row
 node_inside = let n : IsSend u64 = search sendable in
     recorded_send _ _ (node.TheInside.the_type).to (node.TheInside.the_type).to_one
-        (struct_send (shape node.TheInside.the_type) (global_sent, (n, (place_sent, (seat_sent, tt)))))
+    (struct_send (shape node.TheInside.the_type) (global_sent, (n, (place_sent, (seat_sent, tt)))))
 
 pub node_sent : IsSend (node.the_field).row
 node_sent = view_send _ _ _ _ _ node_inside

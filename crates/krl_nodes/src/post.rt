@@ -23,8 +23,10 @@ use crate::sorting::sort_all;
 use krl_client::Client;
 use krl_messages::{Items, ToClient, ToServer, Value};
 use krl_server::Server;
-use krl_world::sending::{MOST_OF_A_SERVER, send_to_clients};
-use krl_world::{Answer, Command, Message, Refused, Seat, ServerNode as Desk, clients, serving};
+use krl_world::network::{MOST_OF_A_SERVER, send_to_clients};
+use krl_world::{
+    Answer, Command, Message, Refused, Seat, ServerNode as Desk, client_steps, server_steps,
+};
 use std::alloc::{AllocError, Global};
 use std::marker::Model;
 use std::snapshot::Snapshot;
@@ -144,7 +146,7 @@ fn read(seat: &mut Seat, messages: &mut Vec<Message>, letter: &ToClient) -> Resu
     let Some(client) = &mut seat.client else {
         return Ok(());
     };
-    clients::read(client, messages, letter)
+    client_steps::read(client, messages, letter)
 }
 
 // The server reads the letter that is picked, if there is one.
@@ -340,7 +342,7 @@ impl Post {
             (steps.nudge (server_states.meaning server.now) client)) }
         ensures err { OnErr result (self.new ≡ self.old) }
     {
-        serving::nudge(alloc, server, &mut self.unsorted, client)
+        server_steps::nudge(alloc, server, &mut self.unsorted, client)
     }
 
     /// The client at the seat, where one runs, obeys the command.
@@ -352,7 +354,7 @@ impl Post {
         ensures { (p : Pick) (c : ℕ) → ClientActs p (client_order.Command what) c self.old
             (seat_of seat.old) self.new (seat_of seat.new) (did_of result) }
     {
-        clients::obey(seat, &mut self.unsorted, what)
+        client_steps::obey(seat, &mut self.unsorted, what)
     }
 
     /// The client says again what is not answered.
@@ -364,7 +366,7 @@ impl Post {
         ensures ok { OnOk result (HasTicked (client_fields.meaning client.now) self.old self.new) }
         ensures err { OnErr result (self.new ≡ self.old) }
     {
-        clients::tick(client, &mut self.unsorted)
+        client_steps::tick(client, &mut self.unsorted)
     }
 
     /// A client of this number starts at its seat, with the next incarnation.
@@ -381,6 +383,6 @@ impl Post {
         ensures { (p : Pick) → ClientActs p client_order.Start number self.old (seat_of seat.old)
             self.new (seat_of seat.new) (did_of (done_if result)) }
     {
-        clients::start(alloc, seat, &mut self.unsorted, number)
+        client_steps::start(alloc, seat, &mut self.unsorted, number)
     }
 }

@@ -2,7 +2,7 @@
 ghost use Rattle.std.specs.Prelude.{◌≡◌, ◌≢◌, ◌<◌, true, false, None, [], replicate, nat_lt};
 ghost use Rattle.std.specs.Prelude.{if◌then◌else◌, MatchResult, MatchBool};
 ghost use Rattle.krl_world.specs.States.{fresh, durable_of};
-ghost use Rattle.krl_world.specs.Steps.{CanBegin, BeginsNot};
+ghost use Rattle.krl_world.specs.Steps.{CanBegin, CannotBegin};
 ghost use Rattle.krl_world.specs.Fields.{node_of};
 ghost use Rattle.krl_nodes.specs.Shown.{shown};
 ghost use Rattle.krl_nodes.specs.Steps.{blank_of, joined_view, with_chair, IsLive, IsBlank};
@@ -36,7 +36,7 @@ impl Office {
     pub fn open(alloc: Global, entries: Vec<(u64, Value)>) -> Result<(Office, ServerNode), Refused>
         ensures { MatchResult result
             (λ r. CanBegin entries.items × IsOpened r.0 entries.items r.1)
-            (BeginsNot entries.items) }
+            (CannotBegin entries.items) }
     {
         let durable = Durable::new(alloc, entries.as_slice())?;
         durable.epoch();

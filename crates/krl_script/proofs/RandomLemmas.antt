@@ -34,7 +34,7 @@ use Rattle.krl_script.specs.declared.random.RandomRun.{RandomRun}
 use Rattle.krl_script.specs.declared.random.Pace.{Pace}
 use Rattle.krl_script.specs.declared.random.Pace.TheVariants as pace
 use Rattle.krl_script.specs.Waiting.{Waits, sent_to}
-use Rattle.krl_script.specs.Soundness.{go_together, all_below, is_sound_at, first_unsound, numbers_below}
+use Rattle.krl_script.specs.Soundness.{are_compatible, all_below, is_sound_at, first_unsound, numbers_below}
 use Rattle.krl_script.specs.RandomRuns.{RandomStage, stage_of, first_entries, first_of, is_down, sight_of, waits_since, TakesDrawn, GoesOn, late, most_hurried, Hurries, GoesAt, RunsRandomly, EndsRandomRun}
 use Rattle.krl_script.proofs.Interpreting.{sent_is}
 use Rattle.krl_script.proofs.SoundnessLemmas.{all_of_below, none_unsound}
@@ -42,14 +42,14 @@ use Rattle.krl_script.proofs.SoundnessLemmas.{all_of_below, none_unsound}
 -- A sound world
 
 -- two clients of a compatible world
-together : (w : State) → IsCompatible w → (p c d : ℕ) → d < c → go_together w p c d ≡ true
+together : (w : State) → IsCompatible w → (p c d : ℕ) → d < c → are_compatible w p c d ≡ true
 together w h p c d l =
     let apart : c ≢ d = λ e. absurd (let here : d < d = subst (λ (n : ℕ). d < n) e l in omega (arith, here)) in
     let both = h c d p apart in
     rw (both.0, both.1) refl
 
 sound_at : (w : State) → IsCompatible w → (n p : ℕ) → is_sound_at w n p ≡ true
-sound_at w h n p = all_of_below n (λ (c : ℕ). all_below c (go_together w p c)) (λ c lt. all_of_below c (go_together w p c) (λ d l. together w h p c d l))
+sound_at w h n p = all_of_below n (λ (c : ℕ). all_below c (are_compatible w p c)) (λ c lt. all_of_below c (are_compatible w p c) (λ d l. together w h p c d l))
 
 pub sound_points : (w : State) (n m : ℕ) (r : Option ℕ) (b : Bool) → r ≡ first_unsound w n (numbers_below m) → is_some r ≡ not b → IsCompatible w → b ≡ true
 sound_points w n m r b e is h =

@@ -29,7 +29,7 @@ use Rattle.krl_world.specs.States.{State, ServerNode, Up, Down, client_of}
 use Rattle.krl_durable.specs.Writes.{most_entries}
 use Rattle.krl_durable.specs.Openings.{key_of_entry, stands_before, IsGood, AreGood}
 use Rattle.krl_durable.specs.declared.refused.Refused.TheVariants as index
-use Rattle.krl_world.specs.Steps.{CanBegin, BeginsNot, span, named, of_client, if_runs, command_refusal, server_down, message_at, refusal_of, Arrives, ServerReads, ClientReads, Delivers, TakesMemory, Does, Steps}
+use Rattle.krl_world.specs.Steps.{CanBegin, CannotBegin, span, named, of_client, if_runs, command_refusal, server_down, message_at, refusal_of, Arrives, ServerReads, ClientReads, Delivers, TakesMemory, Does, Steps}
 use Rattle.krl_steps.specs.Refusals.{refused_by_client}
 
 -- one is no more than the other, or it is more
@@ -205,7 +205,7 @@ good_or_not es (suc n) =
           ]
     ]
 
-pub can_begin_or_not : (entries : List (ℕ × Value)) → CanBegin entries ⊎ ((r : Refused) × BeginsNot entries r × (r ≢ refused.OutOfMemory))
+pub can_begin_or_not : (entries : List (ℕ × Value)) → CanBegin entries ⊎ ((r : Refused) × CannotBegin entries r × (r ≢ refused.OutOfMemory))
 can_begin_or_not entries =
     elim (le_or_lt (length entries) most_entries) [
       | inr l ↦ inr (refused.Full, (index.Full, l, refl), λ e. absurd (let bad : refused.Full ≡ refused.OutOfMemory = e in cc))

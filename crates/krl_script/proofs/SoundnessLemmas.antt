@@ -9,7 +9,7 @@ use Rattle.krl_modes.specs.declared.part.KeyPart.{KeyPart}
 use Rattle.krl_modes.specs.declared.part.RangePart.TheVariants as range
 use Rattle.krl_modes.specs.declared.part.KeyPart.TheVariants as key
 use Rattle.krl_world.specs.States.{State, range_held, key_held}
-use Rattle.krl_script.specs.Soundness.{go_together, all_below, numbers_below}
+use Rattle.krl_script.specs.Soundness.{are_compatible, all_below, numbers_below}
 
 pub all_none : (f : ℕ → Bool) → all_below 0 f ≡ true
 unfolding all_below
@@ -42,14 +42,14 @@ all_of_below zero f each = refl
 all_of_below (suc n) f each = rw (all_of_below n f (λ k l. each k (omega (arith, l))), each n (omega arith)) refl
 
 -- N goes beside everything
-pub nothing_goes : (w : State) (n c p : ℕ) (held : RangePart × KeyPart) → held ≡ (range_held w c p, key_held w c p) → held.0 ≡ range.N → held.1 ≡ key.N → all_below n (go_together w p c) ≡ true
+pub nothing_goes : (w : State) (n c p : ℕ) (held : RangePart × KeyPart) → held ≡ (range_held w c p, key_held w c p) → held.0 ≡ range.N → held.1 ≡ key.N → all_below n (are_compatible w p c) ≡ true
 nothing_goes w n c p held is no_range no_key =
     let no_range' : range_held w c p ≡ range.N = sym (ap (λ (h : RangePart × KeyPart). h.0) is) ∙ no_range in
     let no_key' : key_held w c p ≡ key.N = sym (ap (λ (h : RangePart × KeyPart). h.1) is) ∙ no_key in
-    all_of_below n (go_together w p c) (λ d l. rw (no_range', no_key') refl)
+    all_of_below n (are_compatible w p c) (λ d l. rw (no_range', no_key') refl)
 
 -- what the parts say, which were read
-pub goes_by : (w : State) (c d p : ℕ) (held : RangePart × KeyPart) (b : Bool) → held ≡ (range_held w c p, key_held w c p) → b ≡ ranges_compatible held.0 (range_held w d p) && keys_compatible held.1 (key_held w d p) → b ≡ go_together w p c d
+pub goes_by : (w : State) (c d p : ℕ) (held : RangePart × KeyPart) (b : Bool) → held ≡ (range_held w c p, key_held w c p) → b ≡ ranges_compatible held.0 (range_held w d p) && keys_compatible held.1 (key_held w d p) → b ≡ are_compatible w p c d
 goes_by w c d p held b is e = e ∙ ap (λ (h : RangePart × KeyPart). ranges_compatible h.0 (range_held w d p) && keys_compatible h.1 (key_held w d p)) is
 
 pub none_first : (f : ℕ → Bool) → find f (numbers_below 0) ≡ None

@@ -6,8 +6,8 @@ use Rattle.krl_modes.specs.Parts.{ranges_compatible, keys_compatible}
 use Rattle.krl_world.specs.States.{State, range_held, key_held}
 
 -- two clients hold compatible parts at the point
-abbrev pub go_together : State → ℕ → ℕ → ℕ → Bool
-go_together w p c d =
+abbrev pub are_compatible : State → ℕ → ℕ → ℕ → Bool
+are_compatible w p c d =
     ranges_compatible (range_held w c p) (range_held w d p)
     && keys_compatible (key_held w c p) (key_held w d p)
 
@@ -18,7 +18,7 @@ all_below (suc n) f = all_below n f && f n
 
 -- each two of the first n clients hold compatible parts at the point
 abbrev pub is_sound_at : State → ℕ → ℕ → Bool
-is_sound_at w n p = all_below n (λ c. all_below c (go_together w p c))
+is_sound_at w n p = all_below n (λ c. all_below c (are_compatible w p c))
 
 -- the numbers below n, the least first
 unfoldable pub numbers_below : ℕ → List ℕ

@@ -4,7 +4,7 @@ use Rattle.std.specs.Str.Lines.{lines}
 use Rattle.std.specs.Int.{w64, to_be_bytes}
 use Rattle.krl_messages.specs.Values.{Value}
 use Rattle.krl_world.specs.States.{State, fresh, sent_count}
-use Rattle.krl_world.specs.Steps.{CanBegin, BeginsNot, Steps}
+use Rattle.krl_world.specs.Steps.{CanBegin, CannotBegin, Steps}
 use Rattle.krl_steps.specs.declared.step.Step.{Step}
 use Rattle.krl_steps.specs.declared.step.Step.TheVariants as step
 use Rattle.krl_steps.specs.declared.answer.Answer.{Answer}
@@ -112,7 +112,7 @@ pub record Begins (s : Stage) (entries : List (ℕ × Value)) (out : List ℕ) (
 
 -- the entries are refused, and the world has none
 pub record BeginsEmpty (s : Stage) (entries : List (ℕ × Value)) (r : Refused) (out : List ℕ) (s' : Stage) : Type 0 where
-  pub due : BeginsNot entries r
+  pub due : CannotBegin entries r
   pub has_memory : r ≢ refused.OutOfMemory
   pub prints : out ≡ refused_line r
   pub leaves : s' ≡ record s { begun = true; world = fresh [] }

@@ -2,7 +2,7 @@
 ghost use Rattle.std.specs.Prelude.{◌≡◌, ◌≢◌, [], true, slice_get, MatchResult, IfOk, IfErr};
 ghost use Rattle.krl_world.specs.States.{fresh};
 ghost use Rattle.krl_world.specs.Fields as world;
-ghost use Rattle.krl_world.specs.Steps.{CanBegin, BeginsNot};
+ghost use Rattle.krl_world.specs.Steps.{CanBegin, CannotBegin};
 ghost use Rattle.krl_text.specs.Words.{Gives, Fails, line_request};
 ghost use Rattle.krl_script.specs.Transcripts.{first_stage, counted, Acts, Delivers, DeliversThis, Settles, Tries, filled, Seeds, Obeys, ObeysLine};
 ghost use Rattle.krl_script.specs.Waiting.{none_waiting};
@@ -85,7 +85,7 @@ fn make_world(
 ) -> Result<Result<World, Refused>, AllocError>
     ensures { IfOk result (λ outcome. MatchResult outcome
         (λ w. CanBegin entries.items × (world.meaning w ≡ fresh entries.items))
-        (λ r. BeginsNot entries.items r × (r ≢ Refused.OutOfMemory))) }
+        (λ r. CannotBegin entries.items r × (r ≢ Refused.OutOfMemory))) }
 {
     match World::new(alloc, entries) {
         Ok(world) => Ok(Ok(world)),

@@ -3,7 +3,8 @@ ghost use Rattle.std.specs.Prelude.{◌≡◌, ◌&&◌};
 ghost use Rattle.krl_modes.specs.Parts.{ranges_compatible, keys_compatible};
 ghost use Rattle.krl_world.specs.States.{range_held, key_held};
 ghost use Rattle.krl_world.specs.Fields.{meaning};
-ghost use Rattle.krl_script.specs.Soundness.{go_together, all_below, is_sound_at, numbers_below, first_unsound, unsound_point};
+ghost use Rattle.krl_script.specs.Soundness.{are_compatible, all_below, is_sound_at, numbers_below};
+ghost use Rattle.krl_script.specs.Soundness.{first_unsound, unsound_point};
 
 use krl_modes::{END, KeyPart, RangePart};
 use krl_world::World;
@@ -14,8 +15,8 @@ const CLIENTS: u64 = 64;
 // It looks at the points below this one, and at the last two.
 const POINTS: u64 = 64;
 
-// Whether the client holds at the point what goes beside these parts.
-fn goes_beside(world: &World, range: RangePart, key: KeyPart, client: u64, point: u64) -> bool
+// Whether what the client holds at the point is compatible with these parts.
+fn is_compatible(world: &World, range: RangePart, key: KeyPart, client: u64, point: u64) -> bool
     ensures { result ≡ ranges_compatible range (range_held (meaning world.now) client point)
         && keys_compatible key (key_held (meaning world.now) client point) }
 {
@@ -23,17 +24,18 @@ fn goes_beside(world: &World, range: RangePart, key: KeyPart, client: u64, point
     range.compatible(other_range) && key.compatible(other_key)
 }
 
-// Whether what the client holds at the point goes beside what each client before it holds there.
-fn goes_beside_lower(world: &World, client: u64, point: u64) -> bool
-    ensures { result ≡ all_below client (go_together (meaning world.now) point client) }
+// Whether what the client holds at the point is compatible with what each client before it holds
+// there.
+fn is_compatible_below(world: &World, client: u64, point: u64) -> bool
+    ensures { result ≡ all_below client (are_compatible (meaning world.now) point client) }
 {
     let (range, key) = world.held(client, point);
-    // N goes beside everything.
+    // N is compatible with everything.
     if range == RangePart::N && key == KeyPart::N {
         return true;
     }
     'others: for other in 0..client {
-        if !goes_beside(world, range, key, other, point) {
+        if !is_compatible(world, range, key, other, point) {
             return false;
         }
     }
@@ -45,7 +47,7 @@ pub fn is_sound_at(world: &World, clients: u64, point: u64) -> bool
     ensures { result ≡ is_sound_at (meaning world.now) clients point }
 {
     'clients: for client in 0..clients {
-        if !goes_beside_lower(world, client, point) {
+        if !is_compatible_below(world, client, point) {
             return false;
         }
     }

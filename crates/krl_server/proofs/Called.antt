@@ -15,7 +15,7 @@ use Rattle.krl_table.specs.Calls.{wanted}
 use Rattle.krl_table.specs.Replies.{asks_absent}
 use Rattle.krl_server.specs.Servers.{Server}
 use Rattle.krl_server.specs.Effects.{callback_to}
-use Rattle.krl_server.specs.Callbacks.{is_beside, callbacks_from, callbacks_for, callbacks_at, callbacks_among, callbacks}
+use Rattle.krl_server.specs.Callbacks.{is_compatible, callbacks_from, callbacks_for, callbacks_at, callbacks_among, callbacks}
 use Rattle.krl_server.specs.Outboxes.{Sent, Sends}
 use Rattle.krl_server.specs.Doing.{callback_if}
 use Rattle.std.specs.FinMap as fin
@@ -33,15 +33,15 @@ callback_is s n u d w held span more is wants holds spans =
     is
     ∙ ap (λ x. if nat_eq d u.client || compatible x held then [] else callback_to s d span (cap x) ∷ []) wants
     ∙ ap (λ x. if nat_eq d u.client || compatible (wanted (s.rows n) u) x then [] else callback_to s d span (cap (wanted (s.rows n) u)) ∷ []) holds
-    ∙ ap (λ x. if is_beside s n u d then [] else callback_to s d x (cap (wanted (s.rows n) u)) ∷ []) spans
+    ∙ ap (λ x. if is_compatible s n u d then [] else callback_to s d x (cap (wanted (s.rows n) u)) ∷ []) spans
 
 -- one client after another
 pub from_one : (s : Server) (n : ℕ) (u : Waiter) (d k : ℕ) → callbacks_from s n u d (suc k) ≡ callback_if s n u d ++ callbacks_from s n u (suc d) k
-from_one s n u d k = by_beside (is_beside s n u d)
+from_one s n u d k = by_compatible (is_compatible s n u d)
   where
-    by_beside : (b : Bool) → (if b then callbacks_from s n u (suc d) k else callback_to s d (span_of s.durable.index n) (cap (wanted (s.rows n) u)) ∷ callbacks_from s n u (suc d) k) ≡ (if b then [] else callback_to s d (span_of s.durable.index n) (cap (wanted (s.rows n) u)) ∷ []) ++ callbacks_from s n u (suc d) k
-    by_beside true = refl
-    by_beside false = refl
+    by_compatible : (b : Bool) → (if b then callbacks_from s n u (suc d) k else callback_to s d (span_of s.durable.index n) (cap (wanted (s.rows n) u)) ∷ callbacks_from s n u (suc d) k) ≡ (if b then [] else callback_to s d (span_of s.durable.index n) (cap (wanted (s.rows n) u)) ∷ []) ++ callbacks_from s n u (suc d) k
+    by_compatible true = refl
+    by_compatible false = refl
 
 -- what was sent to the clients below d, and what is left
 pub record IsCalled (s : Server) (n : ℕ) (u : Waiter) (d : ℕ) (old new : Sent) : Type 0 where

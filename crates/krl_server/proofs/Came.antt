@@ -15,8 +15,8 @@ use Rattle.krl_table.specs.Rows.{Row, most_clients}
 use Rattle.krl_table.specs.Calls.{with_mode, with_queue, queue_with}
 use Rattle.krl_table.proofs.Stands.{in_unqueue, in_queue_with}
 use Rattle.krl_server.specs.Servers.{Server}
-use Rattle.krl_server.specs.Cases.{Case, Ignored, Registers, Leaves, Tells, Alarms, Rebuilds, Repeats, Hears, Lowers, Waits, Judges, AnswersAgain, case_of, judged}
-use Rattle.krl_server.specs.Effects.{heard, writes, rows_after, holding, effect}
+use Rattle.krl_server.specs.Cases.{Case, Ignored, Registers, Leaves, Tells, Alarms, Rebuilds, Repeats, Acknowledges, Lowers, Waits, Judges, AnswersAgain, case_of, judged}
+use Rattle.krl_server.specs.Effects.{acknowledged, writes, rows_after, holding, effect}
 use Rattle.krl_server.specs.Shows.{IsSound}
 use Rattle.krl_server.proofs.Tests.{if_both}
 use Rattle.krl_server.proofs.Cased.{by_case}
@@ -33,7 +33,7 @@ asks Tells = false
 asks Alarms = false
 asks (Rebuilds pieces) = false
 asks (Repeats body) = false
-asks Hears = false
+asks Acknowledges = false
 asks (Lowers span keep) = false
 asks (Waits req point hi g) = true
 asks (Judges number op o) = false
@@ -56,7 +56,7 @@ module _ (s : Server) (m : ToServer) (sound : IsSound s) where
   came_written op outcome.Full own under e n u at = (n, at)
 
   pub all_came : Came s m (case_of s m)
-  all_came = let t = heard s m.client in by_case s m (Came s m)
+  all_came = let t = acknowledged s m.client in by_case s m (Came s m)
       (record {
         ignored = λ n u at. inl (n, at);
         registers = λ near newer body n u at. inl (n, (in_unqueue (s.rows n).queue m.client u at).0);
@@ -64,8 +64,8 @@ module _ (s : Server) (m : ToServer) (sound : IsSound s) where
         tells = λ n u at. inl (n, at);
         alarms = λ n u at. inl (n, at);
         rebuilds = λ r epoch pieces from now missing fine n u at. inl (n, subst (In u) (kept_queue (is_slot s.durable.index n) (s.rows n) (with_mode (s.rows n) m.client (Rattle.krl_table.specs.Reports.rebuilt s.durable.index pieces n)) refl) at);
-        repeats = λ r body served unheard n u at. inl (n, at);
-        hears = λ r served n u at. inl (n, at);
+        repeats = λ r body served unacked n u at. inl (n, at);
+        acknowledges = λ r served n u at. inl (n, at);
         lowers = λ r span keep served n u at. inl (n, subst (In u) (if_both (λ (x : Row). x.queue ≡ (s.rows n).queue) _ _ _ refl refl) at);
         waits = λ r req point hi g served new free near n u at. ⊎_elim
             (λ (x : (n ≡ slot_of s.durable.index point) × In u (queue_with (s.rows (slot_of s.durable.index point)) (let w : Waiter = record { client = m.client; req = req; point = point; hi = hi; mode = g } in w))). ⊎_elim

@@ -21,8 +21,8 @@ use Rattle.krl_durable.specs.Registers.{record_of}
 use Rattle.krl_messages.specs.Writes.{op_key}
 use Rattle.krl_table.specs.Rows.{most_clients, waits}
 use Rattle.krl_table.specs.Reports.{conflicts}
-use Rattle.krl_server.specs.Servers.{Server, is_gathering, lists, incarnation_or_0}
-use Rattle.krl_server.specs.Cases.{Case, Ignored, Registers, Leaves, Tells, Alarms, Rebuilds, Repeats, Hears, Lowers, Waits, Judges, AnswersAgain, judged, case_of_last, is_bad_write, case_of_write, is_reach, case_of_request, case_of_late, case_of_seen, case_of_report, case_of_body, case_of_newer, case_of_record, is_strange, case_of}
+use Rattle.krl_server.specs.Servers.{Server, is_recovering, lists, incarnation_or_0}
+use Rattle.krl_server.specs.Cases.{Case, Ignored, Registers, Leaves, Tells, Alarms, Rebuilds, Repeats, Acknowledges, Lowers, Waits, Judges, AnswersAgain, judged, case_of_last, is_bad_write, case_of_write, is_reach, case_of_request, case_of_late, case_of_seen, case_of_report, case_of_body, case_of_newer, case_of_record, is_malformed, case_of}
 use Rattle.krl_server.proofs.Tests.{if_case}
 
 -- the message is the registered incarnation's, which has not left
@@ -35,14 +35,14 @@ pub record IsFrom (s : Server) (m : ToServer) (r : Record) : Type 0 where
 -- it is one of the requests of a serving epoch
 pub record IsServed (s : Server) (m : ToServer) (r : Record) : Type 0 where
   pub from : IsFrom s m r
-  pub serves : is_gathering s.missing ≡ false
+  pub serves : is_recovering s.missing ≡ false
 
 -- and it asks this, with the last push seen
 pub record IsAsked (s : Server) (m : ToServer) (r : Record) (request : Request) (b : RequestBody) : Type 0 where
   pub served : IsServed s m r
   pub said : m.body ≡ said.Request request
   pub now : request.epoch ≡ s.durable.epoch
-  pub seen : request.seen ≡ (s.lines m.client).pushed
+  pub seen : request.seen ≡ (s.sessions m.client).last_push
   pub asked : request.body ≡ b
 
 -- what is to be proved in each case, by what the message says
@@ -53,10 +53,10 @@ pub record EachSaid (s : Server) (m : ToServer) (P : Case → Type 0) : Type 0 w
   pub tells : P Tells
   pub alarms : (r : Record) (epoch : ℕ) (pieces : Pieces) → IsFrom s m r → m.body ≡ said.Report epoch pieces → epoch ≡ s.durable.epoch → lists s.missing m.client ≡ true → conflicts s.durable.index s.rows m.client pieces ≡ true → P Alarms
   pub rebuilds : (r : Record) (epoch : ℕ) (pieces : Pieces) → IsFrom s m r → m.body ≡ said.Report epoch pieces → epoch ≡ s.durable.epoch → lists s.missing m.client ≡ true → conflicts s.durable.index s.rows m.client pieces ≡ false → P (Rebuilds pieces)
-  pub repeats : (r : Record) (body : PushBody) → IsServed s m r → (s.lines m.client).unheard ≡ Some body → P (Repeats body)
-  pub hears : (r : Record) (request : Request) (b : RequestBody) → IsAsked s m r request b → P Hears
+  pub repeats : (r : Record) (body : PushBody) → IsServed s m r → (s.sessions m.client).unacked ≡ Some body → P (Repeats body)
+  pub acknowledges : (r : Record) (request : Request) (b : RequestBody) → IsAsked s m r request b → P Acknowledges
   pub lowers : (r : Record) (request : Request) (span : Bounds) (keep : Mode) → IsAsked s m r request (asked.Release span keep) → P (Lowers span keep)
-  pub waits : (r : Record) (request : Request) (req point hi : ℕ) (g : Mode) → IsAsked s m r request (asked.Lock req point hi g) → req ≡ suc (s.lines m.client).asked → waits s.durable.index s.rows m.client ≡ false → point ≤ END → P (Waits req point hi g)
+  pub waits : (r : Record) (request : Request) (req point hi : ℕ) (g : Mode) → IsAsked s m r request (asked.Lock req point hi g) → req ≡ suc (s.sessions m.client).last_request → waits s.durable.index s.rows m.client ≡ false → point ≤ END → P (Waits req point hi g)
   pub judges : (r : Record) (request : Request) (number : ℕ) (op : WriteOp) (o : Outcome) → IsAsked s m r request (asked.Write number op) → op_key op < END → number ≤ END → number ≡ suc r.last → judged s m.client op ≡ o → P (Judges number op o)
   pub answers_again : (r : Record) (request : Request) (number : ℕ) (op : WriteOp) (o : Outcome) → IsAsked s m r request (asked.Write number op) → op_key op < END → 1 ≤ number → number ≡ r.last → r.outcome ≡ Some o → P (AnswersAgain number op o)
 
@@ -73,16 +73,16 @@ module _ (s : Server) (m : ToServer) (P : Case → Type 0) (each : EachSaid s m 
         (λ yes. if_case P (conflicts s.durable.index s.rows m.client pieces) Alarms (Rebuilds pieces) (λ bad. each.alarms r epoch pieces from is now yes bad) (λ fine. each.rebuilds r epoch pieces from is now yes fine))
         (λ no. each.ignored)
 
-    module _ (request : Request) (is : m.body ≡ said.Request request) (now : request.epoch ≡ s.durable.epoch) (serves : is_gathering s.missing ≡ false) where
+    module _ (request : Request) (is : m.body ≡ said.Request request) (now : request.epoch ≡ s.durable.epoch) (serves : is_recovering s.missing ≡ false) where
       served : IsServed s m r
       served = record { from = from; serves = serves }
 
       of_last : (number : ℕ) (op : WriteOp) (o : Option Outcome) → IsAsked s m r request (asked.Write number op) → op_key op < END → 1 ≤ number → number ≡ r.last → r.outcome ≡ o → P (case_of_last number op o)
-      of_last number op None a under some last e = each.hears r request (asked.Write number op) a
+      of_last number op None a under some last e = each.acknowledges r request (asked.Write number op) a
       of_last number op (Some o) a under some last e = each.answers_again r request number op o a under some last e
 
       of_write : (number : ℕ) (op : WriteOp) → IsAsked s m r request (asked.Write number op) → P (case_of_write s m.client r number op)
-      of_write number op a = if_case P (is_bad_write number op) Hears _ (λ bad. each.hears r request (asked.Write number op) a)
+      of_write number op a = if_case P (is_bad_write number op) Acknowledges _ (λ bad. each.acknowledges r request (asked.Write number op) a)
           (λ fine.
           let x = or_parts (not (nat_lt (op_key op) END)) (nat_eq number 0 || nat_lt END number) fine in
           let y = or_parts (nat_eq number 0) (nat_lt END number) x.1 in
@@ -90,35 +90,35 @@ module _ (s : Server) (m : ToServer) (P : Case → Type 0) (each : EachSaid s m 
           let ne = eqb-false number 0 y.0 in
           if_case P (nat_eq number (suc r.last)) _ _
           (λ new. each.judges r request number op (judged s m.client op) a under (ltb-false END number y.1) (eqb-true number (suc r.last) new) refl)
-          (λ old. if_case P (nat_eq number r.last) _ Hears (λ last. of_last number op r.outcome a under (omega (arith, ne)) (eqb-true number r.last last) refl) (λ other. each.hears r request (asked.Write number op) a)))
+          (λ old. if_case P (nat_eq number r.last) _ Acknowledges (λ last. of_last number op r.outcome a under (omega (arith, ne)) (eqb-true number r.last last) refl) (λ other. each.acknowledges r request (asked.Write number op) a)))
 
       of_request : (b : RequestBody) → IsAsked s m r request b → P (case_of_request s m.client r b)
-      of_request (asked.Lock req point hi g) a = if_case P (nat_eq req (suc (s.lines m.client).asked) && (not (waits s.durable.index s.rows m.client) && is_reach point hi)) (Waits req point hi g) Hears
+      of_request (asked.Lock req point hi g) a = if_case P (nat_eq req (suc (s.sessions m.client).last_request) && (not (waits s.durable.index s.rows m.client) && is_reach point hi)) (Waits req point hi g) Acknowledges
           (λ yes.
-          let x = and_parts (nat_eq req (suc (s.lines m.client).asked)) (not (waits s.durable.index s.rows m.client) && is_reach point hi) yes in
+          let x = and_parts (nat_eq req (suc (s.sessions m.client).last_request)) (not (waits s.durable.index s.rows m.client) && is_reach point hi) yes in
           let y = and_parts (not (waits s.durable.index s.rows m.client)) (is_reach point hi) x.1 in
           let z = and_parts (not (nat_lt END point)) (nat_lt point hi && nat_le hi TOP) y.1 in
-          each.waits r request req point hi g a (eqb-true req (suc (s.lines m.client).asked) x.0) (not-true (waits s.durable.index s.rows m.client) y.0) (ltb-false END point (not-true (nat_lt END point) z.0)))
-          (λ no. each.hears r request (asked.Lock req point hi g) a)
+          each.waits r request req point hi g a (eqb-true req (suc (s.sessions m.client).last_request) x.0) (not-true (waits s.durable.index s.rows m.client) y.0) (ltb-false END point (not-true (nat_lt END point) z.0)))
+          (λ no. each.acknowledges r request (asked.Lock req point hi g) a)
       of_request (asked.Write number op) a = of_write number op a
       of_request (asked.Release span keep) a = each.lowers r request span keep a
-      of_request asked.Ack a = each.hears r request asked.Ack a
+      of_request asked.Ack a = each.acknowledges r request asked.Ack a
 
-      of_late : (o : Option PushBody) → (s.lines m.client).unheard ≡ o → P (case_of_late request.seen (s.lines m.client).pushed o)
+      of_late : (o : Option PushBody) → (s.sessions m.client).unacked ≡ o → P (case_of_late request.seen (s.sessions m.client).last_push o)
       of_late None e = each.ignored
-      of_late (Some body) e = if_case P (nat_eq (suc request.seen) (s.lines m.client).pushed) (Repeats body) Ignored (λ yes. each.repeats r body served e) (λ no. each.ignored)
+      of_late (Some body) e = if_case P (nat_eq (suc request.seen) (s.sessions m.client).last_push) (Repeats body) Ignored (λ yes. each.repeats r body served e) (λ no. each.ignored)
 
       of_seen : P (case_of_seen s m.client r request)
-      of_seen = if_case P (nat_eq request.seen (s.lines m.client).pushed) _ _
-          (λ yes. of_request request.body (record { served = served; said = is; now = now; seen = eqb-true request.seen (s.lines m.client).pushed yes; asked = refl }))
-          (λ no. of_late (s.lines m.client).unheard refl)
+      of_seen = if_case P (nat_eq request.seen (s.sessions m.client).last_push) _ _
+          (λ yes. of_request request.body (record { served = served; said = is; now = now; seen = eqb-true request.seen (s.sessions m.client).last_push yes; asked = refl }))
+          (λ no. of_late (s.sessions m.client).unacked refl)
 
     of_body : (b : ToServerBody) → m.body ≡ b → P (case_of_body s m.client r b)
     of_body said.Hello is = each.tells
     of_body said.Bye is = each.leaves r from is
     of_body (said.Report epoch pieces) is = if_case P (nat_eq epoch s.durable.epoch) _ Tells (λ yes. of_report epoch pieces is (eqb-true epoch s.durable.epoch yes)) (λ no. each.tells)
     of_body (said.Request request) is = if_case P (nat_eq request.epoch s.durable.epoch) _ Tells
-        (λ yes. if_case P (is_gathering s.missing) Ignored _ (λ gathers. each.ignored) (λ serves. of_seen request is (eqb-true request.epoch s.durable.epoch yes) serves))
+        (λ yes. if_case P (is_recovering s.missing) Ignored _ (λ recovers. each.ignored) (λ serves. of_seen request is (eqb-true request.epoch s.durable.epoch yes) serves))
         (λ no. each.tells)
 
   of_record : m.client < most_clients → 1 ≤ m.incarnation → (o : Option Record) → record_of s.durable.register m.client ≡ o → P (case_of_record s m o)
@@ -132,7 +132,7 @@ module _ (s : Server) (m : ToServer) (P : Case → Type 0) (each : EachSaid s m 
 
   -- what holds in each case holds of the case that the message meets
   pub by_said : P (case_of s m)
-  by_said = if_case P (is_strange m) Ignored _ (λ strange. each.ignored)
+  by_said = if_case P (is_malformed m) Ignored _ (λ malformed. each.ignored)
       (λ fine.
       let x = or_parts (not (nat_lt m.client most_clients)) (nat_eq m.incarnation 0 || nat_lt END m.incarnation) fine in
       let y = or_parts (nat_eq m.incarnation 0) (nat_lt END m.incarnation) x.1 in
@@ -146,10 +146,10 @@ pub record EachCase (s : Server) (m : ToServer) (P : Case → Type 0) : Type 0 w
   pub tells : P Tells
   pub alarms : P Alarms
   pub rebuilds : (r : Record) (epoch : ℕ) (pieces : Pieces) → IsFrom s m r → epoch ≡ s.durable.epoch → lists s.missing m.client ≡ true → conflicts s.durable.index s.rows m.client pieces ≡ false → P (Rebuilds pieces)
-  pub repeats : (r : Record) (body : PushBody) → IsServed s m r → (s.lines m.client).unheard ≡ Some body → P (Repeats body)
-  pub hears : (r : Record) → IsServed s m r → P Hears
+  pub repeats : (r : Record) (body : PushBody) → IsServed s m r → (s.sessions m.client).unacked ≡ Some body → P (Repeats body)
+  pub acknowledges : (r : Record) → IsServed s m r → P Acknowledges
   pub lowers : (r : Record) (span : Bounds) (keep : Mode) → IsServed s m r → P (Lowers span keep)
-  pub waits : (r : Record) (req point hi : ℕ) (g : Mode) → IsServed s m r → req ≡ suc (s.lines m.client).asked → waits s.durable.index s.rows m.client ≡ false → point ≤ END → P (Waits req point hi g)
+  pub waits : (r : Record) (req point hi : ℕ) (g : Mode) → IsServed s m r → req ≡ suc (s.sessions m.client).last_request → waits s.durable.index s.rows m.client ≡ false → point ≤ END → P (Waits req point hi g)
   pub judges : (r : Record) (number : ℕ) (op : WriteOp) (o : Outcome) → IsServed s m r → op_key op < END → number ≤ END → number ≡ suc r.last → judged s m.client op ≡ o → P (Judges number op o)
   pub answers_again : (r : Record) (number : ℕ) (op : WriteOp) (o : Outcome) → IsServed s m r → op_key op < END → 1 ≤ number → number ≡ r.last → r.outcome ≡ Some o → P (AnswersAgain number op o)
 
@@ -163,7 +163,7 @@ by_case s m P each = by_said s m P
       alarms = λ r epoch pieces from is now missing bad. each.alarms;
       rebuilds = λ r epoch pieces from is now missing fine. each.rebuilds r epoch pieces from now missing fine;
       repeats = each.repeats;
-      hears = λ r request b a. each.hears r a.served;
+      acknowledges = λ r request b a. each.acknowledges r a.served;
       lowers = λ r request span keep a. each.lowers r span keep a.served;
       waits = λ r request req point hi g a new free near. each.waits r req point hi g a.served new free near;
       judges = λ r request number op o a under near new is. each.judges r number op o a.served under near new is;

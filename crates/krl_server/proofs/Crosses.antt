@@ -5,23 +5,23 @@ use Rattle.std.proofs.Crossing.{Vec-send}
 use Rattle.krl_messages.proofs.Crosses.{push_body_sent}
 use Rattle.krl_durable.proofs.Crosses.{durable_sent}
 use Rattle.krl_table.proofs.Crosses.{table_sent}
-use Rattle.krl_server.specs.contracts.line.Line as line
+use Rattle.krl_server.specs.contracts.session.Session as session
 use Rattle.krl_server.specs.contracts.missing.Missing as missing
 use Rattle.krl_server.specs.contracts.state.State as state
 use Rattle.krl_server.specs.contracts.server.Server as server
 
-line_sent : IsSend line.the_row
-line_sent = let a = push_body_sent in search sendable depth 24 fits 4000
+session_sent : IsSend session.the_row
+session_sent = let a = push_body_sent in search sendable depth 24 is_compatible_there 4000
 
 missing_inside : IsSend missing.TheInside.the_row
-missing_inside = search (sendable, Vec-send) depth 24 fits 4000
+missing_inside = search (sendable, Vec-send) depth 24 is_compatible_there 4000
 
 missing_sent : IsSend (missing.the_field).row
 missing_sent = view_send _ _ _ _ _ missing_inside
 
 state_sent : IsSend (state.the_field).row
 state_sent =
-    struct_send (shape state.the_type) (durable_sent, (table_sent, (array_send _ 64 line_sent, (missing_sent, tt))))
+    struct_send (shape state.the_type) (durable_sent, (table_sent, (array_send _ 64 session_sent, (missing_sent, tt))))
 
 server_inside : IsSend server.TheInside.the_row
 server_inside = recorded_send _ _ (server.TheInside.the_type).to (server.TheInside.the_type).to_one

@@ -20,8 +20,8 @@ use Rattle.krl_table.specs.Sound.{IsTable}
 use Rattle.krl_server.specs.declared.case.Case.{Case as Found}
 use Rattle.krl_server.specs.declared.case.After.TheVariants as after
 use Rattle.krl_server.specs.Servers.{Server}
-use Rattle.krl_server.specs.Cases.{Case, Ignored, Registers, Leaves, Tells, Alarms, Rebuilds, Repeats, Hears, Lowers, Waits, Judges, AnswersAgain, is_strange, case_of_record, case_of}
-use Rattle.krl_server.specs.Effects.{heard, writes, answers, effect}
+use Rattle.krl_server.specs.Cases.{Case, Ignored, Registers, Leaves, Tells, Alarms, Rebuilds, Repeats, Acknowledges, Lowers, Waits, Judges, AnswersAgain, is_malformed, case_of_record, case_of}
+use Rattle.krl_server.specs.Effects.{acknowledged, writes, answers, effect}
 use Rattle.krl_server.specs.States.{meant, case_of_pieces}
 use Rattle.krl_table.specs.Waiters.{WaitsNowhere}
 use Rattle.krl_server.specs.Doing.{IsPerformed}
@@ -60,7 +60,7 @@ CaseFacts s m Tells = Unit {0}
 CaseFacts s m Alarms = m.client < 64
 CaseFacts s m (Rebuilds pieces) = m.client < 64
 CaseFacts s m (Repeats body) = m.client < 64
-CaseFacts s m Hears = m.client < 64
+CaseFacts s m Acknowledges = m.client < 64
 CaseFacts s m (Lowers span keep) = m.client < 64
 CaseFacts s m (Waits req point hi g) = MayWait s m
 CaseFacts s m (Judges number op o) = MayWrite s m op
@@ -85,18 +85,18 @@ module _ (s : Server) (m : ToServer) where
         tells = tt;
         alarms = λ r epoch pieces from body now missing bad. low from.client;
         rebuilds = λ r epoch pieces from body now missing fine. low from.client;
-        repeats = λ r body served unheard. low served.from.client;
-        hears = λ r request b a. low a.served.from.client;
+        repeats = λ r body served unacked. low served.from.client;
+        acknowledges = λ r request b a. low a.served.from.client;
         lowers = λ r request span keep a. low a.served.from.client;
         waits = λ r request req point hi g a new free near. record { client = low a.served.from.client; free = free };
         judges = λ r request number op o a under near new is. record { client = low a.served.from.client; key = under; unspent = noted_at (record_of s.durable.register m.client) r a.served.from.known (omega (arith, near, new)) };
         answers_again = λ r request number op o a under some last is. record { client = low a.served.from.client; key = under };
       })
 
-  -- a strange message is ignored
+  -- a malformed message is ignored
   pub all_facts : CaseFacts s m (case_of s m)
-  all_facts = if_case (λ k. CaseFacts s m k) (is_strange m) Ignored (case_of_record s m (record_of s.durable.register m.client))
-      (λ strange. tt)
+  all_facts = if_case (λ k. CaseFacts s m k) (is_malformed m) Ignored (case_of_record s m (record_of s.durable.register m.client))
+      (λ malformed. tt)
       (λ fine.
       let x = or_parts (not (nat_lt m.client most_clients)) (nat_eq m.incarnation 0 || nat_lt END m.incarnation) fine in
       let y = or_parts (nat_eq m.incarnation 0) (nat_lt END m.incarnation) x.1 in
@@ -116,7 +116,7 @@ module _ (s : Server) (m : ToServer) where
       by_conflict false h = h
 
   -- a new write was done and answered
-  pub performed_write : (t : Server) (number : ℕ) (op : WriteOp) (o : Outcome) (outs : List ToClient) → Judges number op o ≡ case_of s m → t ≡ (answers (heard (writes s m.client op o) m.client) m.client number op o).server → outs ≡ (answers (heard (writes s m.client op o) m.client) m.client number op o).outs → IsPerformed s m t after.Calls outs
+  pub performed_write : (t : Server) (number : ℕ) (op : WriteOp) (o : Outcome) (outs : List ToClient) → Judges number op o ≡ case_of s m → t ≡ (answers (acknowledged (writes s m.client op o) m.client) m.client number op o).server → outs ≡ (answers (acknowledged (writes s m.client op o) m.client) m.client number op o).outs → IsPerformed s m t after.Calls outs
   performed_write t number op o outs e server sent = record {
     server = server ∙ ap (λ k. (effect s m k).server) e;
     outs_are = sent ∙ ap (λ k. (effect s m k).outs) e;
@@ -124,7 +124,7 @@ module _ (s : Server) (m : ToServer) where
   }
 
   -- the last write was answered again
-  pub performed_again : (t : Server) (number : ℕ) (op : WriteOp) (o : Outcome) (outs : List ToClient) → AnswersAgain number op o ≡ case_of s m → t ≡ (answers (heard s m.client) m.client number op o).server → outs ≡ (answers (heard s m.client) m.client number op o).outs → IsPerformed s m t after.Calls outs
+  pub performed_again : (t : Server) (number : ℕ) (op : WriteOp) (o : Outcome) (outs : List ToClient) → AnswersAgain number op o ≡ case_of s m → t ≡ (answers (acknowledged s m.client) m.client number op o).server → outs ≡ (answers (acknowledged s m.client) m.client number op o).outs → IsPerformed s m t after.Calls outs
   performed_again t number op o outs e server sent = record {
     server = server ∙ ap (λ k. (effect s m k).server) e;
     outs_are = sent ∙ ap (λ k. (effect s m k).outs) e;

@@ -4,12 +4,12 @@ use Rattle.std.proofs.lemmas.List.{append-nil}
 use Rattle.std.specs.Prelude.{if◌then◌else◌}
 use Rattle.krl_server.specs.declared.case.After.{After}
 use Rattle.krl_server.specs.Afters.{does_answer, does_call}
-use Rattle.krl_server.specs.Servers.{Server, is_gathering}
+use Rattle.krl_server.specs.Servers.{Server, is_recovering}
 use Rattle.krl_server.specs.Callbacks.{callbacks}
 use Rattle.krl_server.specs.Steps.{Acts}
 use Rattle.krl_server.specs.Shows.{IsSound}
 use Rattle.krl_server.specs.Outboxes.{Sent, Sends}
-use Rattle.krl_server.specs.Doing.{HasAnswered, calls_after, rests, gathered, served, HasFinished, HasRoom}
+use Rattle.krl_server.specs.Doing.{HasAnswered, calls_after, rests, still_recovering, served, HasFinished, HasRoom}
 use Rattle.krl_server.proofs.Boxes.{sends_more, sends_length}
 use Rattle.krl_server.proofs.Called.{same_box}
 use Rattle.krl_server.proofs.Ends.{answered_less}
@@ -18,10 +18,10 @@ use Rattle.krl_server.proofs.Numbers.{calls_few}
 pub finish_rests : (s : Server) (left : After) (box : Sent) (b : Bool) → b ≡ does_answer left → b ≡ false → HasFinished s left s box box
 finish_rests s left box b e f = record { outs = []; finished = rests (sym e ∙ f); sends = same_box box }
 
-pub finish_gathers : (s : Server) (left : After) (box : Sent) (b : Bool) → b ≡ is_gathering s.missing → b ≡ true → HasFinished s left s box box
-finish_gathers s left box b e f = record { outs = []; finished = gathered (sym e ∙ f); sends = same_box box }
+pub finish_recovers : (s : Server) (left : After) (box : Sent) (b : Bool) → b ≡ is_recovering s.missing → b ≡ true → HasFinished s left s box box
+finish_recovers s left box b e f = record { outs = []; finished = still_recovering (sym e ∙ f); sends = same_box box }
 
-module _ (s t : Server) (left : After) (box mid : Sent) (answers gathers : Bool) (is : answers ≡ does_answer left) (yes : answers ≡ true) (up : gathers ≡ is_gathering s.missing) (serves : gathers ≡ false) (h : HasAnswered s t box mid) where
+module _ (s t : Server) (left : After) (box mid : Sent) (answers recovers : Bool) (is : answers ≡ does_answer left) (yes : answers ≡ true) (up : recovers ≡ is_recovering s.missing) (serves : recovers ≡ false) (h : HasAnswered s t box mid) where
   pub finish_answers : (calls : Bool) → calls ≡ does_call left → calls ≡ false → HasFinished s left t box mid
   finish_answers calls e f = record {
     outs = h.outs ++ calls_after left t;

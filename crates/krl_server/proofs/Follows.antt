@@ -12,13 +12,13 @@ use Rattle.krl_protocol.proofs.Worlds.{eq_cases}
 use Rattle.krl_protocol.proofs.Steps.{steps_on, put, put_changed, link_steps}
 use Rattle.krl_durable.specs.declared.record.Record.{Record}
 use Rattle.krl_durable.specs.Registers.{record_of}
-use Rattle.krl_server.specs.declared.line.Line.{Line}
-use Rattle.krl_server.specs.Servers.{Server, is_gathering, lists, incarnation_or_0}
-use Rattle.krl_server.specs.Effects.{Done, silent, with_line}
+use Rattle.krl_server.specs.declared.session.Session.{Session}
+use Rattle.krl_server.specs.Servers.{Server, is_recovering, lists, incarnation_or_0}
+use Rattle.krl_server.specs.Effects.{Done, silent, with_session}
 use Rattle.krl_server.specs.Shows.{WasSent, IsRecord, LinkIs, LinkShows, IsHeardOf, Shows, machine_phase, view, world_of}
 use Rattle.krl_server.specs.Follows.{BoundStays}
 use Rattle.krl_table.specs.Points.{range_at, key_at}
-use Rattle.krl_server.proofs.Meaning.{line_here, line_other}
+use Rattle.krl_server.proofs.Meaning.{session_here, session_other}
 
 -- the machine goes on to a world that shows the server after it; the bounds of those for whom cleared is true become N
 pub record Goes (s : Server) (of : ℕ → Link) (log : List Logged) (cleared : ℕ → Bool) (done : Done) (log_after : List Logged) : Type 0 where
@@ -27,7 +27,7 @@ pub record Goes (s : Server) (of : ℕ → Link) (log : List Logged) (cleared : 
   pub shows : Shows done.server after
   pub sent : (o : ToClient) → In o done.outs → WasSent (after o.client) o.incarnation o.body
   pub clients : (c : ℕ) → (after c).client ≡ (of c).client
-  pub bound : is_gathering done.server.missing ≡ true → (c : ℕ) → BoundStays (cleared c) (of c) (after c)
+  pub bound : is_recovering done.server.missing ≡ true → (c : ℕ) → BoundStays (cleared c) (of c) (after c)
 
 pub bound_same : (b : Bool) (l : Link) → b ≡ false → BoundStays b l l
 bound_same b l e = subst (λ x. BoundStays x l l) (sym e) (record { range = λ p. refl; key = λ p. refl })
@@ -51,7 +51,7 @@ pub put_bound : (of : ℕ → Link) (c : ℕ) (l : Link) (cleared : ℕ → Bool
 put_bound of c l cleared here not = at_put (λ d x. BoundStays (cleared d) (of d) x) of c l here (λ d ne. bound_same (cleared d) (of d) (not d ne))
 
 -- the link of one client takes steps, and the server changes what concerns this client alone
-pub by_link : (s t : Server) (of : ℕ → Link) (log : List Logged) (cleared : ℕ → Bool) (c : ℕ) (l : Link) (outs : List ToClient) → view s ≡ view t → LinkSteps (view s) (of c) l → l.client ≡ (of c).client → (is_gathering t.missing ≡ true → BoundStays (cleared c) (of c) l) → (is_gathering t.missing ≡ true → (d : ℕ) → d ≢ c → cleared d ≡ false) → LinkShows t c l → ((d : ℕ) → d ≢ c → LinkShows s d (of d) → LinkShows t d (of d)) → Shows s of → ((n : ℕ) (u : Waiter) → In u (t.rows n).queue → IsHeardOf (view t) (put of c l u.client)) → ((o : ToClient) → In o outs → (o.client ≡ c) × WasSent l o.incarnation o.body) → Goes s of log cleared (record { server = t; outs = outs }) log
+pub by_link : (s t : Server) (of : ℕ → Link) (log : List Logged) (cleared : ℕ → Bool) (c : ℕ) (l : Link) (outs : List ToClient) → view s ≡ view t → LinkSteps (view s) (of c) l → l.client ≡ (of c).client → (is_recovering t.missing ≡ true → BoundStays (cleared c) (of c) l) → (is_recovering t.missing ≡ true → (d : ℕ) → d ≢ c → cleared d ≡ false) → LinkShows t c l → ((d : ℕ) → d ≢ c → LinkShows s d (of d) → LinkShows t d (of d)) → Shows s of → ((n : ℕ) (u : Waiter) → In u (t.rows n).queue → IsHeardOf (view t) (put of c l u.client)) → ((o : ToClient) → In o outs → (o.client ≡ c) × WasSent l o.incarnation o.body) → Goes s of log cleared (record { server = t; outs = outs }) log
 by_link s t of log cleared c l outs same steps client bound not here rest shows heard sent = record {
   after = put of c l;
   steps = subst (λ x. Steps (world_of s of log) (record { shared = x; links = put of c l; log = log })) same (link_steps (view s) log c (of c) l of (put of c l) refl steps (put_changed of c l));
@@ -62,14 +62,14 @@ by_link s t of log cleared c l outs same steps client bound not here rest shows 
 }
 
 -- some steps, and then what the machine follows from there
-pub steps_then : (s t : Server) (of mid : ℕ → Link) (log log' log'' : List Logged) (cleared : ℕ → Bool) (done : Done) → is_gathering done.server.missing ≡ false → ((c : ℕ) → (mid c).client ≡ (of c).client) → Steps (world_of s of log) (world_of t mid log') → Goes t mid log' cleared done log'' → Goes s of log cleared done log''
+pub steps_then : (s t : Server) (of mid : ℕ → Link) (log log' log'' : List Logged) (cleared : ℕ → Bool) (done : Done) → is_recovering done.server.missing ≡ false → ((c : ℕ) → (mid c).client ≡ (of c).client) → Steps (world_of s of log) (world_of t mid log') → Goes t mid log' cleared done log'' → Goes s of log cleared done log''
 steps_then s t of mid log log' log'' cleared done up client a f = record {
   after = f.after;
   steps = steps_on a f.steps;
   shows = f.shows;
   sent = f.sent;
   clients = λ c. f.clients c ∙ client c;
-  bound = λ g. absurd (not_both (is_gathering done.server.missing) up g);
+  bound = λ g. absurd (not_both (is_recovering done.server.missing) up g);
 }
   where
     not_both : (b : Bool) → b ≡ false → b ≡ true → ⊥
@@ -89,30 +89,30 @@ pub up_phase : (cs : List ℕ) → machine_phase cs ≢ links.Down
 up_phase [] e = absurd (cc)
 up_phase (c ∷ cs) e = absurd (cc)
 
-pub serving_phase : (cs : List ℕ) → is_gathering cs ≡ false → machine_phase cs ≡ links.Serving
+pub serving_phase : (cs : List ℕ) → is_recovering cs ≡ false → machine_phase cs ≡ links.Serving
 serving_phase [] e = refl
 serving_phase (c ∷ cs) e = absurd (cc)
 
-pub not_gathering : (cs : List ℕ) → machine_phase cs ≡ links.Serving → is_gathering cs ≡ false
-not_gathering [] e = refl
-not_gathering (c ∷ cs) e = absurd (cc)
+pub not_recovering : (cs : List ℕ) → machine_phase cs ≡ links.Serving → is_recovering cs ≡ false
+not_recovering [] e = refl
+not_recovering (c ∷ cs) e = absurd (cc)
 
-pub gathering_phase : (cs : List ℕ) → is_gathering cs ≡ true → machine_phase cs ≡ links.Gathering
-gathering_phase [] e = absurd (cc)
-gathering_phase (c ∷ cs) e = refl
+pub recovering_phase : (cs : List ℕ) → is_recovering cs ≡ true → machine_phase cs ≡ links.Recovering
+recovering_phase [] e = absurd (cc)
+recovering_phase (c ∷ cs) e = refl
 
--- who is missing is missing while the server gathers
-pub listed_phase : (ms : List ℕ) (c : ℕ) → lists ms c ≡ true → machine_phase ms ≡ links.Gathering
+-- who is missing is missing while the server recovers
+pub listed_phase : (ms : List ℕ) (c : ℕ) → lists ms c ≡ true → machine_phase ms ≡ links.Recovering
 listed_phase [] c e = absurd (cc)
 listed_phase (d ∷ ds) c e = refl
 
-pub not_two : (p : links.Phase) → p ≡ links.Serving → p ≡ links.Gathering → ⊥
+pub not_two : (p : links.Phase) → p ≡ links.Serving → p ≡ links.Recovering → ⊥
 not_two p e f = absurd (cc)
 
 pub not_truth : (b : Bool) → b ≡ false → b ≡ true → ⊥
 not_truth b e f = absurd (cc)
 
--- Records and lines
+-- Records and sessions
 
 pub reg_is : (k : Option Record) (l : Link) → IsRecord k l → l.reg ≡ incarnation_or_0 k
 reg_is None l h = h.reg
@@ -123,20 +123,20 @@ pub record_kept : (o : Option Record) (l m : Link) → m.reg ≡ l.reg → m.lef
 record_kept None l m a b c d h = record { reg = a ∙ h.reg; left = b ∙ h.left; done = c ∙ h.done }
 record_kept (Some r) l m a b c d h = record { reg = a ∙ h.reg; left = b ∙ h.left; done = λ n. c ∙ h.done n; applied = λ o n e. d ∙ h.applied o n e }
 
-pub line_rest : (s : Server) (c : ℕ) (x : Line) (d : ℕ) (l : Link) → d ≢ c → LinkShows s d l → LinkShows (with_line s c x) d l
-line_rest s c x d l ne h = subst (λ y. LinkIs (view s) (record_of s.durable.register d) (lists s.missing d) y (range_at s.durable.index s.rows d) (key_at s.durable.index s.rows d) l) (sym (line_other s.lines c d x ne)) h
+pub session_rest : (s : Server) (c : ℕ) (x : Session) (d : ℕ) (l : Link) → d ≢ c → LinkShows s d l → LinkShows (with_session s c x) d l
+session_rest s c x d l ne h = subst (λ y. LinkIs (view s) (record_of s.durable.register d) (lists s.missing d) y (range_at s.durable.index s.rows d) (key_at s.durable.index s.rows d) l) (sym (session_other s.sessions c d x ne)) h
 
-pub at_line : (s : Server) (c : ℕ) (x : Line) (l : Link) → LinkIs (view s) (record_of s.durable.register c) (lists s.missing c) x (range_at s.durable.index s.rows c) (key_at s.durable.index s.rows c) l → LinkShows (with_line s c x) c l
-at_line s c x l h = subst (λ y. LinkIs (view s) (record_of s.durable.register c) (lists s.missing c) y (range_at s.durable.index s.rows c) (key_at s.durable.index s.rows c) l) (sym (line_here s.lines c x)) h
+pub at_session : (s : Server) (c : ℕ) (x : Session) (l : Link) → LinkIs (view s) (record_of s.durable.register c) (lists s.missing c) x (range_at s.durable.index s.rows c) (key_at s.durable.index s.rows c) l → LinkShows (with_session s c x) c l
+at_session s c x l h = subst (λ y. LinkIs (view s) (record_of s.durable.register c) (lists s.missing c) y (range_at s.durable.index s.rows c) (key_at s.durable.index s.rows c) l) (sym (session_here s.sessions c x)) h
 
 -- what the table gives is shown by other functions that are the same at each point
-pub relink : (s : Shared) (o : Option Record) (b : Bool) (line : Line) (r r' : ℕ → RangePart) (k k' : ℕ → KeyPart) (l : Link) → ((q : ℕ) → r q ≡ r' q) → ((q : ℕ) → k q ≡ k' q) → LinkIs s o b line r k l → LinkIs s o b line r' k' l
-relink s o b line r r' k k' l er ek h = record {
+pub relink : (s : Shared) (o : Option Record) (b : Bool) (session : Session) (r r' : ℕ → RangePart) (k k' : ℕ → KeyPart) (l : Link) → ((q : ℕ) → r q ≡ r' q) → ((q : ℕ) → k q ≡ k' q) → LinkIs s o b session r k l → LinkIs s o b session r' k' l
+relink s o b session r r' k k' l er ek h = record {
   known = h.known;
   missing = h.missing;
-  pushed = h.pushed;
+  last_push = h.last_push;
   acked = h.acked;
-  unheard = h.unheard;
+  unacked = h.unacked;
   range = λ p q. h.range p q ∙ er q;
   key = λ p q. h.key p q ∙ ek q;
   new_range = λ p q. h.new_range p q ∙ er q;

@@ -16,7 +16,7 @@ use Rattle.krl_protocol.proofs.Worlds.{eq_cases}
 use Rattle.krl_durable.specs.Index.{Index, first_or_end, slot_of, low_of, is_slot}
 use Rattle.krl_table.specs.Rows.{Rows, mode_at, set_row}
 use Rattle.krl_table.specs.Calls.{with_mode, wanted, grant_first, granted_first, raised, raised_on}
-use Rattle.krl_table.specs.Replies.{can_have}
+use Rattle.krl_table.specs.Replies.{is_wanted_compatible}
 use Rattle.krl_table.specs.Grants.{nobody_waits, can_take, goes_on, taken_after, taken_by, taken, granted_by, granted, most_more}
 use Rattle.krl_table.proofs.Slots.{low_under}
 use Rattle.krl_messages.specs.Several.{IsBefore, Ascend, most_holdings}
@@ -101,17 +101,17 @@ AreSlotsAfter m low (n ∷ ns) = (low < n) × (is_slot m n ≡ true) × AreSlots
 
 module _ (m : Index) (u : Waiter) where
   -- the grant goes on to the next slot
-  pub on_to : (rows : Rows) (n : ℕ) → goes_on m rows n u ≡ true → (n < slot_of m (suc n)) × (is_slot m (slot_of m (suc n)) ≡ true) × (can_have rows (slot_of m (suc n)) u ≡ true)
+  pub on_to : (rows : Rows) (n : ℕ) → goes_on m rows n u ≡ true → (n < slot_of m (suc n)) × (is_slot m (slot_of m (suc n)) ≡ true) × (is_wanted_compatible rows (slot_of m (suc n)) u ≡ true)
   on_to rows n e =
       let x = and_parts (nat_lt n END) (nat_lt (suc n) u.hi && can_take rows (slot_of m (suc n)) u) e in
       let y = and_parts (nat_lt (suc n) u.hi) (can_take rows (slot_of m (suc n)) u) x.1 in
-      let z = and_parts (nobody_waits (rows (slot_of m (suc n))).queue) (can_have rows (slot_of m (suc n)) u && not (needs_entry u.mode && nat_eq (slot_of m (suc n)) END)) y.1 in
+      let z = and_parts (nobody_waits (rows (slot_of m (suc n))).queue) (is_wanted_compatible rows (slot_of m (suc n)) u && not (needs_entry u.mode && nat_eq (slot_of m (suc n)) END)) y.1 in
       let lt = ltb-true n END x.0 in
       let from = from_point (fin.entries m) (suc n) (omega (arith, lt)) in
-      (omega (arith, from), slot_always m (suc n), (and_parts (can_have rows (slot_of m (suc n)) u) (not (needs_entry u.mode && nat_eq (slot_of m (suc n)) END)) z.1).0)
+      (omega (arith, from), slot_always m (suc n), (and_parts (is_wanted_compatible rows (slot_of m (suc n)) u) (not (needs_entry u.mode && nat_eq (slot_of m (suc n)) END)) z.1).0)
 
   -- what each raise keeps, the grant keeps as it goes on
-  pub along : (P : Rows → Type 0) (low : ℕ) → ((rows : Rows) (n : ℕ) → low < n → is_slot m n ≡ true → can_have rows n u ≡ true → P rows → P (raised rows n u)) → (k n : ℕ) (rows : Rows) → low ≤ n → P rows → P (raised_on rows (taken_after m rows n u k) u)
+  pub along : (P : Rows → Type 0) (low : ℕ) → ((rows : Rows) (n : ℕ) → low < n → is_slot m n ≡ true → is_wanted_compatible rows n u ≡ true → P rows → P (raised rows n u)) → (k n : ℕ) (rows : Rows) → low ≤ n → P rows → P (raised_on rows (taken_after m rows n u k) u)
   along P low step zero n rows le p = p
   along P low step (suc k) n rows le p = if_case (λ ns. P (raised_on rows ns u)) (goes_on m rows n u) (slot_of m (suc n) ∷ taken_after m (raised rows (slot_of m (suc n)) u) (slot_of m (suc n)) u k) []
       (λ e. let x = on_to rows n e in let far : low < slot_of m (suc n) = (let lt = x.0 in omega (arith, lt, le)) in
@@ -151,7 +151,7 @@ granted_below m rows n k lt = by_queue (rows n).queue refl
     by_queue : (us : List Waiter) → (rows n).queue ≡ us → granted_by m rows n us k ≡ rows k
     by_queue [] e = refl
     by_queue (u ∷ us) e = along m u (λ r. r k ≡ rows k) n
-        (λ r j far slot fits same. row_other r j (with_mode (r j) u.client (wanted (r j) u)) k (λ f. omega (arith, f, far, lt)) ∙ same)
+        (λ r j far slot is_compatible_there same. row_other r j (with_mode (r j) u.client (wanted (r j) u)) k (λ f. omega (arith, f, far, lt)) ∙ same)
         most_more n (granted_first rows n) (omega arith) (row_other rows n (grant_first (rows n) (rows n).queue) k (λ f. omega (arith, f, lt)))
 
 -- a row at which somebody waits stays, beside the grant's own
@@ -160,30 +160,30 @@ module _ (m : Index) (u : Waiter) (k : ℕ) (v : Waiter) (vs : List Waiter) wher
   free_next rows n e =
       let x = and_parts (nat_lt n END) (nat_lt (suc n) u.hi && can_take rows (slot_of m (suc n)) u) e in
       let y = and_parts (nat_lt (suc n) u.hi) (can_take rows (slot_of m (suc n)) u) x.1 in
-      (and_parts (nobody_waits (rows (slot_of m (suc n))).queue) (can_have rows (slot_of m (suc n)) u && not (needs_entry u.mode && nat_eq (slot_of m (suc n)) END)) y.1).0
+      (and_parts (nobody_waits (rows (slot_of m (suc n))).queue) (is_wanted_compatible rows (slot_of m (suc n)) u && not (needs_entry u.mode && nat_eq (slot_of m (suc n)) END)) y.1).0
 
   not_next : (rows : Rows) (n : ℕ) → goes_on m rows n u ≡ true → (rows k).queue ≡ v ∷ vs → k ≢ slot_of m (suc n)
   not_next rows n e queue f =
       let taken : true ≡ false = sym (free_next rows n e) ∙ ap (λ j. nobody_waits (rows j).queue) (sym f) ∙ ap nobody_waits queue in
       absurd (cc)
 
-  raised_beside : (j n : ℕ) (rows : Rows) → (rows k).queue ≡ v ∷ vs → raised_on rows (taken_after m rows n u j) u k ≡ rows k
-  raised_beside zero n rows queue = refl
-  raised_beside (suc j) n rows queue = if_case (λ ns. raised_on rows ns u k ≡ rows k) (goes_on m rows n u) (slot_of m (suc n) ∷ taken_after m (raised rows (slot_of m (suc n)) u) (slot_of m (suc n)) u j) []
+  raised_compatible : (j n : ℕ) (rows : Rows) → (rows k).queue ≡ v ∷ vs → raised_on rows (taken_after m rows n u j) u k ≡ rows k
+  raised_compatible zero n rows queue = refl
+  raised_compatible (suc j) n rows queue = if_case (λ ns. raised_on rows ns u k ≡ rows k) (goes_on m rows n u) (slot_of m (suc n) ∷ taken_after m (raised rows (slot_of m (suc n)) u) (slot_of m (suc n)) u j) []
       (λ e. let next = slot_of m (suc n) in
-      raised_beside j next (raised rows next u) (raised_queue rows next u k ∙ queue)
+      raised_compatible j next (raised rows next u) (raised_queue rows next u k ∙ queue)
       ∙ row_other rows next (with_mode (rows next) u.client (wanted (rows next) u)) k (not_next rows n e queue))
       (λ e. refl)
 
-pub granted_beside : (m : Index) (rows : Rows) (n k : ℕ) (v : Waiter) (vs : List Waiter) → k ≢ n → (rows k).queue ≡ v ∷ vs → granted m rows n k ≡ rows k
-granted_beside m rows n k v vs ne queue = by_queue (rows n).queue refl
+pub granted_compatible : (m : Index) (rows : Rows) (n k : ℕ) (v : Waiter) (vs : List Waiter) → k ≢ n → (rows k).queue ≡ v ∷ vs → granted m rows n k ≡ rows k
+granted_compatible m rows n k v vs ne queue = by_queue (rows n).queue refl
   where
     first : granted_first rows n k ≡ rows k
     first = row_other rows n (grant_first (rows n) (rows n).queue) k ne
 
     by_queue : (us : List Waiter) → (rows n).queue ≡ us → granted_by m rows n us k ≡ rows k
     by_queue [] e = refl
-    by_queue (u ∷ us) e = raised_beside m u k v vs most_more n (granted_first rows n) (ap (λ r. r.queue) first ∙ queue) ∙ first
+    by_queue (u ∷ us) e = raised_compatible m u k v vs most_more n (granted_first rows n) (ap (λ r. r.queue) first ∙ queue) ∙ first
 
 -- What a push tells of the slots
 

@@ -24,12 +24,13 @@ use Rattle.krl_messages.specs.Writes.{op_key}
 use Rattle.krl_messages.specs.Members.{In}
 use Rattle.krl_table.specs.Rows.{column, mode_at}
 use Rattle.krl_server.specs.Servers.{Server}
-use Rattle.krl_server.specs.Effects.{shown, holding, holdings, heard, answers}
+use Rattle.krl_server.specs.Effects.{shown, holding, holdings, acknowledged, answers}
 use Rattle.krl_server.specs.Shows.{op_of, is_applied, LinkShows, Shows, view, IsSound}
 use Rattle.krl_server.proofs.Slots.{slot_here, slot_high, span_here}
-use Rattle.krl_server.proofs.Meaning.{range_is, key_is, line_here}
-use Rattle.krl_server.proofs.Follows.{Goes, steps_then, not_gathering, put_client}
-use Rattle.krl_server.proofs.Pushes.{pushes_on, pushes_serve, hears_steps, hears_shows, heard_sound}
+use Rattle.krl_server.proofs.Meaning.{range_is, key_is, session_here}
+use Rattle.krl_server.proofs.Follows.{Goes, steps_then, not_recovering, put_client}
+use Rattle.krl_server.proofs.Pushes.{pushes_on, pushes_serve, acknowledges_steps, acknowledges_shows}
+use Rattle.krl_server.proofs.Pushes.{acknowledged_sound}
 
 -- the row of a link is that of the client's column
 pub row_shows : (s : Server) (i : IsSound s) (c : ℕ) (l : Link) → LinkShows s c l → (view s).phase ≡ links.Serving → refines.Shows (view s) l (column s.rows c)
@@ -64,7 +65,7 @@ key_same (write.Put k v) = refl
 key_same (write.Delete k) = refl
 
 -- the server's answer to a write, where the durable record says so already
-pub answers_on : (s : Server) (of : ℕ → Link) (log : List Logged) (cleared : ℕ → Bool) (c : ℕ) (a : Head) (number : ℕ) (op : WriteOp) (o : Outcome) → IsSound s → (view s).phase ≡ links.Serving → (s.lines c).unheard ≡ None → In (let w : Write = record { head = a; number = number; op = op_of op } in w) (of c).writes → In a (of c).heads → a.inc ≡ (of c).reg → a.epoch ≡ s.durable.epoch → (of c).left ≡ false → number ≡ (of c).done → 1 ≤ number → is_applied o ≡ (of c).applied → op_key op < END → Shows s of → Goes s of log cleared (answers s c number op o) log
+pub answers_on : (s : Server) (of : ℕ → Link) (log : List Logged) (cleared : ℕ → Bool) (c : ℕ) (a : Head) (number : ℕ) (op : WriteOp) (o : Outcome) → IsSound s → (view s).phase ≡ links.Serving → (s.sessions c).unacked ≡ None → In (let w : Write = record { head = a; number = number; op = op_of op } in w) (of c).writes → In a (of c).heads → a.inc ≡ (of c).reg → a.epoch ≡ s.durable.epoch → (of c).left ≡ false → number ≡ (of c).done → 1 ≤ number → is_applied o ≡ (of c).applied → op_key op < END → Shows s of → Goes s of log cleared (answers s c number op o) log
 answers_on s of log cleared c a number op o i serving free at head inc epoch left last some applied under h =
     let n = slot_of s.durable.index (op_key op) in
     let w : Write = record { head = a; number = number; op = op_of op } in
@@ -79,11 +80,11 @@ answers_on s of log cleared c a number op o i serving free at head inc epoch lef
     })
     h
 
-pub answers_again : (s : Server) (of : ℕ → Link) (log : List Logged) (cleared : ℕ → Bool) (c : ℕ) (a : Head) (number : ℕ) (op : WriteOp) (o : Outcome) → IsSound s → In (let w : Write = record { head = a; number = number; op = op_of op } in w) (of c).writes → In a (of c).heads → Passes (view s) (of c) a → number ≡ (of c).done → 1 ≤ number → is_applied o ≡ (of c).applied → op_key op < END → Shows s of → Goes s of log cleared (answers (heard s c) c number op o) log
+pub answers_again : (s : Server) (of : ℕ → Link) (log : List Logged) (cleared : ℕ → Bool) (c : ℕ) (a : Head) (number : ℕ) (op : WriteOp) (o : Outcome) → IsSound s → In (let w : Write = record { head = a; number = number; op = op_of op } in w) (of c).writes → In a (of c).heads → Passes (view s) (of c) a → number ≡ (of c).done → 1 ≤ number → is_applied o ≡ (of c).applied → op_key op < END → Shows s of → Goes s of log cleared (answers (acknowledged s c) c number op o) log
 answers_again s of log cleared c a number op o i at head ok last some applied under h =
     let l : Link = record (of c) { acked = true } in
     let ch = put_changed of c l in
-    steps_then s (heard s c) of (put of c l) log log log cleared _ (pushes_serve (heard s c) c _ (not_gathering s.missing ok.serving)) (put_client of c l refl) (hears_steps s of log c a head ok)
-    (answers_on (heard s c) (put of c l) log cleared c a number op o (heard_sound s c i) ok.serving (ap (λ x. x.unheard) (line_here s.lines c (record (s.lines c) { unheard = None })))
+    steps_then s (acknowledged s c) of (put of c l) log log log cleared _ (pushes_serve (acknowledged s c) c _ (not_recovering s.missing ok.serving)) (put_client of c l refl) (acknowledges_steps s of log c a head ok)
+    (answers_on (acknowledged s c) (put of c l) log cleared c a number op o (acknowledged_sound s c i) ok.serving (ap (λ x. x.unacked) (session_here s.sessions c (record (s.sessions c) { unacked = None })))
     (subst (λ x. In (let w : Write = record { head = a; number = number; op = op_of op } in w) x.writes) (sym ch.here) at) (subst (λ x. In a x.heads) (sym ch.here) head) (ok.inc ∙ sym (ap (λ x. x.reg) ch.here)) ok.epoch (ap (λ x. x.left) ch.here ∙ ok.here) (last ∙ sym (ap (λ x. x.done) ch.here)) some (applied ∙ sym (ap (λ x. x.applied) ch.here)) under
-    (hears_shows s of c h))
+    (acknowledges_shows s of c h))

@@ -22,15 +22,15 @@ use Rattle.krl_durable.specs.Kept.{HasOutcome}
 use Rattle.krl_table.specs.Rows.{blank_rows, most_clients}
 use Rattle.krl_table.specs.Calls.{cleared, dropped, behind_first}
 use Rattle.krl_table.specs.Grants.{taken, granted}
-use Rattle.krl_table.specs.Replies.{asks_absent, can_have}
+use Rattle.krl_table.specs.Replies.{asks_absent, is_wanted_compatible}
 use Rattle.krl_table.specs.Sound.{IsTable}
 use Rattle.krl_table.proofs.Besides.{or_true}
-use Rattle.krl_server.specs.Servers.{Server, is_gathering}
-use Rattle.krl_server.specs.Cases.{Case, Ignored, Registers, Leaves, Tells, Alarms, Rebuilds, Repeats, Hears, Lowers, Waits, Judges, AnswersAgain, judged, case_of}
+use Rattle.krl_server.specs.Servers.{Server, is_recovering}
+use Rattle.krl_server.specs.Cases.{Case, Ignored, Registers, Leaves, Tells, Alarms, Rebuilds, Repeats, Acknowledges, Lowers, Waits, Judges, AnswersAgain, judged, case_of}
 use Rattle.krl_server.specs.Effects as effects
-use Rattle.krl_server.specs.Effects.{Done, heard, rows_after, pushes, effect}
-use Rattle.krl_server.specs.Answering.{Turn, turn_among, next_turn, take_turn, tells_absent, grants, can_push, Answered, stops, goes_on}
-use Rattle.krl_server.specs.Steps.{Kind, Idle, kind_of, Ends, at_once, gathers, serves, IsSettled, start}
+use Rattle.krl_server.specs.Effects.{Done, acknowledged, rows_after, pushes, effect}
+use Rattle.krl_server.specs.Answering.{Turn, turn_among, next_turn, answer_first, tells_absent, grants, can_push, Answered, stops, goes_on}
+use Rattle.krl_server.specs.Steps.{Kind, Idle, kind_of, Ends, at_once, recovers, serves, IsSettled, start}
 use Rattle.krl_server.specs.Shows.{IsSound}
 use Rattle.krl_server.specs.Keeps.{ServerKeeps}
 use Rattle.krl_server.proofs.Meaning.{record_here, record_other}
@@ -60,10 +60,10 @@ effect_of_write es c o r h = with_outcome es c (noted r o) (sym (ap not (ne_eqb 
 
 pub answered_durable : (s t : Server) (outs : List ToClient) → Answered s t outs → t.durable ≡ s.durable
 answered_durable s t outs (stops s' e) = refl
-answered_durable s t outs (goes_on s' t' turn later e rest) = answered_durable (take_turn s turn).server t later rest ∙ turn_durable s turn
+answered_durable s t outs (goes_on s' t' turn later e rest) = answered_durable (answer_first s turn).server t later rest ∙ turn_durable s turn
 
 pub effect_outcomes : (s : Server) (m : ToServer) → HasOutcomes s.durable.register → HasOutcomes (effect s m (case_of s m)).server.durable.register
-effect_outcomes s m h = let t = heard s m.client in
+effect_outcomes s m h = let t = acknowledged s m.client in
     by_case s m (λ x. HasOutcomes (effect s m x).server.durable.register)
     (record {
       ignored = h;
@@ -72,8 +72,8 @@ effect_outcomes s m h = let t = heard s m.client in
       tells = h;
       alarms = h;
       rebuilds = λ r epoch pieces from now missing fine. h;
-      repeats = λ r body served unheard. h;
-      hears = λ r served. h;
+      repeats = λ r body served unacked. h;
+      acknowledges = λ r served. h;
       lowers = λ r span keep served. h;
       waits = λ r req point hi g served new free near. h;
       judges = λ r number op o served under near new is. let u = effects.writes t m.client op o in
@@ -87,7 +87,7 @@ effect_outcomes s m h = let t = heard s m.client in
 
 ends_sound : (done : Done) (kind : Kind) (t : Server) (outs : List ToClient) → Ends done kind t outs → IsSound done.server → IsSound t
 ends_sound done kind t outs (at_once e) i = i
-ends_sound done kind t outs (gathers e) i = i
+ends_sound done kind t outs (recovers e) i = i
 ends_sound done kind t outs (serves t' answers a b c) i = answering_sound done.server t answers c i
 
 -- Tables
@@ -97,10 +97,10 @@ abbrev pub ServerKept : Server → Type 0
 ServerKept s = IsKept s.durable.index s.rows
 
 pushes_kept : (s : Server) (c : ℕ) (body : PushBody) → ServerKept s → ServerKept (pushes s c body).server
-pushes_kept s c body k = if_case (λ (x : Done). ServerKept x.server) (nat_lt (s.lines c).pushed END) _ _ (λ e. k) (λ e. k)
+pushes_kept s c body k = if_case (λ (x : Done). ServerKept x.server) (nat_lt (s.sessions c).last_push END) _ _ (λ e. k) (λ e. k)
 
 -- a new write, in the record r
-write_kept : (s : Server) (c : ℕ) (op : WriteOp) (o : Outcome) (r : Record) → IsSound s → c < most_clients → op_key op < END → record_of s.durable.register c ≡ Some r → judged s c op ≡ o → ServerKept s → ServerKept (effects.writes (heard s c) c op o)
+write_kept : (s : Server) (c : ℕ) (op : WriteOp) (o : Outcome) (r : Record) → IsSound s → c < most_clients → op_key op < END → record_of s.durable.register c ≡ Some r → judged s c op ≡ o → ServerKept s → ServerKept (effects.writes (acknowledged s c) c op o)
 write_kept s c op o r i lt under known is k = subst (λ x. IsKept (applied_by s.durable c op o x).index (rows_after s.durable.index s.rows c op o)) (sym known) (by_outcome o is)
   where
     by_outcome : (o : Outcome) → judged s c op ≡ o → IsKept (applied_by s.durable c op o (Some r)).index (rows_after s.durable.index s.rows c op o)
@@ -111,7 +111,7 @@ write_kept s c op o r i lt under known is k = subst (λ x. IsKept (applied_by s.
     by_outcome outcome.Full e = k
 
 pub effect_kept : (s : Server) (m : ToServer) → IsSound s → ServerKept s → ServerKept (effect s m (case_of s m)).server
-effect_kept s m i k = let t = heard s m.client in
+effect_kept s m i k = let t = acknowledged s m.client in
     by_case s m (λ x. ServerKept (effect s m x).server)
     (record {
       ignored = k;
@@ -120,8 +120,8 @@ effect_kept s m i k = let t = heard s m.client in
       tells = k;
       alarms = k;
       rebuilds = λ r epoch pieces from now missing fine. adopted_kept s.durable.index s.rows m.client pieces from.client fine k;
-      repeats = λ r body served unheard. k;
-      hears = λ r served. k;
+      repeats = λ r body served unacked. k;
+      acknowledges = λ r served. k;
       lowers = λ r span keep served. lowered_kept s.durable.index s.rows m.client span keep served.from.client k;
       waits = λ r req point hi g served new free near. enqueued_kept s.durable.index s.rows (record { client = m.client; req = req; point = point; hi = hi; mode = g }) i.near served.from.client near free k;
       judges = λ r number op o served under near new is. let u = effects.writes t m.client op o in
@@ -129,40 +129,40 @@ effect_kept s m i k = let t = heard s m.client in
       answers_again = λ r number op o served under some last is. pushes_kept t m.client (push.Answer number o (effects.holding t (slot_of t.durable.index (op_key op)) m.client)) k;
     })
 
-pub turn_kept : (s : Server) (t : Turn) → next_turn s ≡ Some t → ServerKept s → ServerKept (take_turn s t).server
+pub turn_kept : (s : Server) (t : Turn) → next_turn s ≡ Some t → ServerKept s → ServerKept (answer_first s t).server
 turn_kept s t e k = let x = turn_is s t e in
     if_case (λ (y : Done). ServerKept y.server) (asks_absent s.durable.index t.waiter) (tells_absent s t) (grants s t)
     (λ f. pushes_kept (effects.with_rows s (dropped s.rows t.slot)) t.waiter.client (push.Absent t.waiter.req t.waiter.point) (dropped_kept s.durable.index s.rows t.slot t.waiter (behind_first (s.rows t.slot).queue) k x.first))
     (λ f. let u = effects.with_rows s (granted s.durable.index s.rows t.slot) in
     pushes_kept u t.waiter.client (push.Grant t.waiter.req (effects.holdings u t.waiter.client (taken s.durable.index s.rows t.slot)))
-    (granted_kept s.durable.index s.rows t.slot t.waiter (behind_first (s.rows t.slot).queue) k x.first (or_true (asks_absent s.durable.index t.waiter) (can_have s.rows t.slot t.waiter) (and_parts (can_push (s.lines t.waiter.client)) _ x.answerable).1 f)))
+    (granted_kept s.durable.index s.rows t.slot t.waiter (behind_first (s.rows t.slot).queue) k x.first (or_true (asks_absent s.durable.index t.waiter) (is_wanted_compatible s.rows t.slot t.waiter) (and_parts (can_push (s.sessions t.waiter.client)) _ x.answerable).1 f)))
 
 pub answered_kept : (s t : Server) (outs : List ToClient) → Answered s t outs → ServerKept s → ServerKept t
 answered_kept s t outs (stops s' e) k = k
-answered_kept s t outs (goes_on s' t' turn later e rest) k = answered_kept (take_turn s turn).server t later rest (turn_kept s turn e k)
+answered_kept s t outs (goes_on s' t' turn later e rest) k = answered_kept (answer_first s turn).server t later rest (turn_kept s turn e k)
 
 ends_kept : (done : Done) (kind : Kind) (t : Server) (outs : List ToClient) → Ends done kind t outs → ServerKept done.server → ServerKept t
 ends_kept done kind t outs (at_once e) k = k
-ends_kept done kind t outs (gathers e) k = k
+ends_kept done kind t outs (recovers e) k = k
 ends_kept done kind t outs (serves t' answers a b c) k = answered_kept done.server t answers c k
 
 -- after the answers of a step the durable part is that after its effect
 pub ends_durable : (done : Done) (kind : Kind) (t : Server) (outs : List ToClient) → Ends done kind t outs → t.durable ≡ done.server.durable
 ends_durable done kind t outs (at_once e) = refl
-ends_durable done kind t outs (gathers e) = refl
+ends_durable done kind t outs (recovers e) = refl
 ends_durable done kind t outs (serves t' answers a b c) = answered_durable done.server t answers c
 
 pub effect_table : (s : Server) (m : ToServer) → IsSound s → IsTable s.durable.index s.rows → IsTable (effect s m (case_of s m)).server.durable.index (effect s m (case_of s m)).server.rows
 effect_table s m i h = let t = (effect s m (case_of s m)).server in table_of t.durable.index t.rows (effect_kept s m i (kept_of s.durable.index s.rows h))
 
-pub turn_table : (s : Server) (t : Turn) → next_turn s ≡ Some t → IsTable s.durable.index s.rows → IsTable (take_turn s t).server.durable.index (take_turn s t).server.rows
-turn_table s t e h = let u = (take_turn s t).server in table_of u.durable.index u.rows (turn_kept s t e (kept_of s.durable.index s.rows h))
+pub turn_table : (s : Server) (t : Turn) → next_turn s ≡ Some t → IsTable s.durable.index s.rows → IsTable (answer_first s t).server.durable.index (answer_first s t).server.rows
+turn_table s t e h = let u = (answer_first s t).server in table_of u.durable.index u.rows (turn_kept s t e (kept_of s.durable.index s.rows h))
 
 -- Nobody is left
 
 answered_settled : (s t : Server) (outs : List ToClient) → Answered s t outs → next_turn t ≡ None
 answered_settled s t outs (stops s' e) = e
-answered_settled s t outs (goes_on s' t' turn later e rest) = answered_settled (take_turn s turn).server t later rest
+answered_settled s t outs (goes_on s' t' turn later e rest) = answered_settled (answer_first s turn).server t later rest
 
 -- a case that has not acted leaves the server as it is
 idle_same : (s : Server) (m : ToServer) (k : Case) → kind_of k ≡ Idle → (effect s m k).server ≡ s
@@ -173,7 +173,7 @@ idle_same s m Tells e = refl
 idle_same s m Alarms e = refl
 idle_same s m (Rebuilds pieces) e = absurd (cc)
 idle_same s m (Repeats body) e = refl
-idle_same s m Hears e = absurd (cc)
+idle_same s m Acknowledges e = absurd (cc)
 idle_same s m (Lowers span keep) e = absurd (cc)
 idle_same s m (Waits req point hi g) e = absurd (cc)
 idle_same s m (Judges number op o) e = absurd (cc)
@@ -181,7 +181,7 @@ idle_same s m (AnswersAgain number op o) e = absurd (cc)
 
 ends_settled : (done : Done) (kind : Kind) (t : Server) (outs : List ToClient) → Ends done kind t outs → (kind ≡ Idle → IsSettled done.server) → IsSettled t
 ends_settled done kind t outs (at_once e) h = h e
-ends_settled done kind t outs (gathers e) h = λ up. absurd (not_truth (is_gathering done.server.missing) up e)
+ends_settled done kind t outs (recovers e) h = λ up. absurd (not_truth (is_recovering done.server.missing) up e)
 ends_settled done kind t outs (serves t' answers a b c) h = λ up. answered_settled done.server t answers c
 
 -- where nobody waits, nobody is answered

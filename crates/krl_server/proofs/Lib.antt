@@ -6,7 +6,7 @@ pub mod Follows
 pub mod Pushes
 pub mod Judged
 pub mod Refused
-pub mod Gathering
+pub mod Recovering
 pub mod Tests
 pub mod Grants
 pub mod Turns

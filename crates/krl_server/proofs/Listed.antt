@@ -6,7 +6,7 @@ use Rattle.krl_table.specs.Waiters.{AreWaiting}
 use Rattle.krl_server.specs.declared.state.State.{State}
 use Rattle.krl_server.specs.States.{meaning}
 use Rattle.krl_server.specs.Servers.{Server}
-use Rattle.krl_server.specs.Answering.{Turn, next_turn, take_turn}
+use Rattle.krl_server.specs.Answering.{Turn, next_turn, answer_first}
 use Rattle.krl_server.specs.Shows.{IsSound}
 use Rattle.krl_table.specs.Sound.{IsTable}
 use Rattle.krl_messages.specs.declared.to_client.ToClient.{ToClient}
@@ -20,7 +20,7 @@ listed st from [] h there = h
 listed st from (n ∷ ns) h there = (h.0.above, there.0, h.0.least, listed st (suc n) ns h.1 there.1)
 
 -- a turn brings nobody to a slot where nobody waited
-pub still_listed : (s : Server) (t : Turn) → next_turn s ≡ Some t → (from : ℕ) (ns : List ℕ) → HaveWaiters s from ns → HaveWaiters (take_turn s t).server from ns
+pub still_listed : (s : Server) (t : Turn) → next_turn s ≡ Some t → (from : ℕ) (ns : List ℕ) → HaveWaiters s from ns → HaveWaiters (answer_first s t).server from ns
 still_listed s t e from [] h = λ k le. turn_empties s t e k (h k le)
 still_listed s t e from (n ∷ ns) h =
     (h.0, ap (λ d. is_slot d.index n) (turn_durable s t) ∙ h.1, λ k a b. turn_empties s t e k (h.2 k a b), still_listed s t e (suc n) ns h.3)
@@ -40,7 +40,7 @@ module _ (s : Server) (ns : List ℕ) (i n : ℕ) (is : drop i ns ≡ n ∷ drop
   pub round_here : (u : Server) (o : ToClient) → IsSound s → IsTable s.durable.index s.rows → HasTurned s u n o → IsRound s u n o
   round_here u o sound table turned = round s u h.0 n o sound table h.1 here.1 here.2 turned
 
-  pub left_after_turn : (u : Server) (t : Turn) → next_turn s ≡ Some t → u ≡ (take_turn s t).server → NoneBelow u n → AreLeft u ns i
+  pub left_after_turn : (u : Server) (t : Turn) → next_turn s ≡ Some t → u ≡ (answer_first s t).server → NoneBelow u n → AreLeft u ns i
   left_after_turn u t e server none = subst (λ x. AreLeft x ns i) (sym server) (h.0, (λ k lt. subst (λ x. NoneBelow x n) server none k (omega (arith, lt, here.0))), still_listed s t e h.0 (drop i ns) h.2)
 
 pub none_left_at_all : (s : Server) (ns : List ℕ) (i : ℕ) → drop i ns ≡ [] → AreLeft s ns i → next_turn s ≡ None

@@ -20,13 +20,13 @@ use Rattle.krl_durable.specs.Registers.{record_of}
 use Rattle.krl_table.specs.Rows.{Row, Rows, most_clients, mode_at, column}
 use Rattle.krl_table.specs.Points.{range_at, key_at}
 use Rattle.krl_table.specs.Calls.{with_mode, lowered}
-use Rattle.krl_server.specs.declared.line.Line.{Line}
-use Rattle.krl_server.specs.Servers.{Server, is_gathering, lists, set_line}
-use Rattle.krl_server.specs.Effects.{silent, heard, lowers}
+use Rattle.krl_server.specs.declared.session.Session.{Session}
+use Rattle.krl_server.specs.Servers.{Server, is_recovering, lists, set_session}
+use Rattle.krl_server.specs.Effects.{silent, acknowledged, lowers}
 use Rattle.krl_server.specs.Shows.{last_of, LinkIs, Shows, view, IsSound}
 use Rattle.krl_server.proofs.Slots.{span_here}
-use Rattle.krl_server.proofs.Meaning.{range_is, key_is, same_range, same_key, mode_here, mode_other, line_here}
-use Rattle.krl_server.proofs.Follows.{Goes, relink, put_client, put_shows, line_rest, not_truth, not_two, not_gathering, record_kept}
+use Rattle.krl_server.proofs.Meaning.{range_is, key_is, same_range, same_key, mode_here, mode_other, session_here}
+use Rattle.krl_server.proofs.Follows.{Goes, relink, put_client, put_shows, session_rest, not_truth, not_two, not_recovering, record_kept}
 use Rattle.krl_server.proofs.Judged.{row_shows}
 
 module _ (m : Index) (rows : Rows) (c : ℕ) (span : Bounds) (keep : Mode) where
@@ -62,19 +62,19 @@ span_within m n span e = let x = and_parts (nat_le span.lo (span_of m n).lo) (na
     at_most : (a b : ℕ) → nat_le a b ≡ true → a ≤ b
     at_most a b e = grind (arith, nat_tests)
 
-pub lowers_follow : (s : Server) (of : ℕ → Link) (log : List Logged) (cleared : ℕ → Bool) (c : ℕ) (a : Head) (span : Bounds) (keep : Mode) → c < most_clients → IsSound s → In (let r : Release = record { head = a; lo = span.lo; last = last_of span; range = range_of keep; key = key_of keep } in r) (of c).releases → In a (of c).heads → Passes (view s) (of c) a → Shows s of → Goes s of log cleared (silent (lowers (heard s c) c span keep)) log
+pub lowers_follow : (s : Server) (of : ℕ → Link) (log : List Logged) (cleared : ℕ → Bool) (c : ℕ) (a : Head) (span : Bounds) (keep : Mode) → c < most_clients → IsSound s → In (let r : Release = record { head = a; lo = span.lo; last = last_of span; range = range_of keep; key = key_of keep } in r) (of c).releases → In a (of c).heads → Passes (view s) (of c) a → Shows s of → Goes s of log cleared (silent (lowers (acknowledged s c) c span keep)) log
 lowers_follow s of log cleared c a span keep lt i at head ok h =
     let r : Release = record { head = a; lo = span.lo; last = last_of span; range = range_of keep; key = key_of keep } in
     let m = s.durable.index in
     let rows = lowered m s.rows c span keep in
-    let t = lowers (heard s c) c span keep in
+    let t = lowers (acknowledged s c) c span keep in
     let k = h.link c in
     let old = column s.rows c in
     let new = column rows c in
     let l1 : Link = record (of c) { acked = true } in
     let l : Link = record l1 { top_range = machine.range_at (view s) new; top_key = machine.key_at (view s) new } in
     let ch = put_changed of c l in
-    let line : Line = record (s.lines c) { unheard = None } in
+    let session : Session = record (s.sessions c) { unacked = None } in
     let row = row_shows s i c (of c) k ok.serving in
     let passed : Passes (view s) l1 a = record { serving = ok.serving; here = ok.here; inc = ok.inc; epoch = ok.epoch; seen = ok.seen } in
     let low : (n : ℕ) → IsSlot (view s) n → SlotLowered (view s) r l1 (machine.range_at (view s) new) (machine.key_at (view s) new) n = λ n slot.
@@ -92,23 +92,23 @@ lowers_follow s of log cleared c a span keep lt i at head ok h =
       after = put of c l;
       steps = link_steps (view s) log c (of c) l of (put of c l) refl (next (takes_head a head ok) (next (takes_release r (machine.range_at (view s) new) (machine.key_at (view s) new) at passed refl low (table_row (view s) i.near new)) idle)) ch;
       shows = put_shows s t of c l
-          (subst (λ y. LinkIs (view s) (record_of s.durable.register c) (lists s.missing c) y (range_at m rows c) (key_at m rows c) l) (sym (line_here s.lines c line))
+          (subst (λ y. LinkIs (view s) (record_of s.durable.register c) (lists s.missing c) y (range_at m rows c) (key_at m rows c) l) (sym (session_here s.sessions c session))
           (record {
             known = record_kept (record_of s.durable.register c) (of c) l refl refl refl refl k.known;
             missing = k.missing;
-            pushed = k.pushed;
+            last_push = k.last_push;
             acked = refl;
-            unheard = λ body e. absurd (none-some body e);
+            unacked = λ body e. absurd (none-some body e);
             range = λ p q. sym (range_is m s.durable.epoch (view s).phase i.near rows c q);
             key = λ p q. sym (key_is m s.durable.epoch (view s).phase i.near rows c q);
             new_range = λ p q. absurd (not_two (view s).phase ok.serving p);
             new_key = λ p q. absurd (not_two (view s).phase ok.serving p);
           }))
-          (λ d ne x. relink (view s) (record_of s.durable.register d) (lists s.missing d) (set_line s.lines c line d) (range_at m s.rows d) (range_at m rows d) (key_at m s.rows d) (key_at m rows d) (of d)
+          (λ d ne x. relink (view s) (record_of s.durable.register d) (lists s.missing d) (set_session s.sessions c session d) (range_at m s.rows d) (range_at m rows d) (key_at m s.rows d) (key_at m rows d) (of d)
           (same_range m s.rows rows d (lowered_others m s.rows c span keep d ne)) (same_key m s.rows rows d (lowered_others m s.rows c span keep d ne))
-          (line_rest s c line d (of d) ne x))
+          (session_rest s c session d (of d) ne x))
           h (λ n u v. heard_kept (view s) of (put of c l) c l ch (λ z. z) u.client (h.heard n u (subst (In u) (lowered_queue m s.rows c span keep n) v)));
       sent = λ o x. absurd x;
       clients = put_client of c l refl;
-      bound = λ g. absurd (not_truth (is_gathering s.missing) (not_gathering s.missing ok.serving) g);
+      bound = λ g. absurd (not_truth (is_recovering s.missing) (not_recovering s.missing ok.serving) g);
     }

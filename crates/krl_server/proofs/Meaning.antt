@@ -20,8 +20,8 @@ use Rattle.krl_durable.specs.Index.{Index, slot_of, is_slot}
 use Rattle.krl_durable.specs.Registers.{Register, record_of, with_record}
 use Rattle.krl_table.specs.Rows.{Row, Rows, mode_at, column, set_row, set_mode}
 use Rattle.krl_table.specs.Points.{key_off_slot, range_at, key_at}
-use Rattle.krl_server.specs.declared.line.Line.{Line}
-use Rattle.krl_server.specs.Servers.{set_line}
+use Rattle.krl_server.specs.declared.session.Session.{Session}
+use Rattle.krl_server.specs.Servers.{set_session}
 use Rattle.krl_server.proofs.Slots.{seen_in, slot_here, is_slot_true, is_slot_false}
 
 -- Points
@@ -83,11 +83,11 @@ mode_here modes c g = ap (λ b. if b then g else modes c) (eq-eqb c c refl)
 pub mode_other : (modes : ℕ → Mode) (c d : ℕ) (g : Mode) → d ≢ c → set_mode modes c g d ≡ modes d
 mode_other modes c d g ne = ap (λ b. if b then g else modes d) (ne_eqb d c ne)
 
-pub line_here : (lines : ℕ → Line) (c : ℕ) (x : Line) → set_line lines c x c ≡ x
-line_here lines c x = ap (λ b. if b then x else lines c) (eq-eqb c c refl)
+pub session_here : (sessions : ℕ → Session) (c : ℕ) (x : Session) → set_session sessions c x c ≡ x
+session_here sessions c x = ap (λ b. if b then x else sessions c) (eq-eqb c c refl)
 
-pub line_other : (lines : ℕ → Line) (c d : ℕ) (x : Line) → d ≢ c → set_line lines c x d ≡ lines d
-line_other lines c d x ne = ap (λ b. if b then x else lines d) (ne_eqb d c ne)
+pub session_other : (sessions : ℕ → Session) (c d : ℕ) (x : Session) → d ≢ c → set_session sessions c x d ≡ sessions d
+session_other sessions c d x ne = ap (λ b. if b then x else sessions d) (ne_eqb d c ne)
 
 pub record_here : (es : Register) (c : ℕ) (x : Record) → record_of (with_record es c x) c ≡ Some x
 record_here [] c x = ap (λ b. if b then Some x else None) (eq-eqb c c refl)

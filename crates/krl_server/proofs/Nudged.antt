@@ -22,11 +22,11 @@ use Rattle.std.proofs.lemmas.Bool.{ltb-true}
 use Rattle.std.proofs.lemmas.Option.{none-some}
 use Rattle.krl_durable.specs.declared.record.Record.{Record}
 use Rattle.krl_durable.specs.Registers.{Register, record_of}
-use Rattle.krl_server.specs.Servers.{is_gathering}
+use Rattle.krl_server.specs.Servers.{is_recovering}
 use Rattle.krl_server.specs.Steps.{nudge, nudge_known, nudge_missing, nudge_served}
 use Rattle.krl_server.specs.Shows.{IsSound}
 use Rattle.krl_server.specs.Ends.{most_messages}
-use Rattle.krl_server.specs.Doing.{is_here, calls_at_first}
+use Rattle.krl_server.specs.Doing.{is_registered, calls_at_first}
 use Rattle.krl_server.proofs.Numbers.{nudge_few}
 use Rattle.krl_server.proofs.Counted.{slots_apart}
 use Rattle.krl_server.proofs.Turning.{front_is, front_none}
@@ -93,34 +93,34 @@ pub first_nobody : (s : Server) (n c : ℕ) → front_of (s.rows n).queue ≡ No
 first_nobody s n c e = sym (ap (callbacks_of c s n) (front_none (s.rows n).queue e))
 
 -- who is registered is a client
-pub known_low : (es : Register) (c : ℕ) → AllByRecursion (λ e. nat_lt e.0 64 ≡ true) es → is_here (record_of es c) ≡ true → c < 64
+pub known_low : (es : Register) (c : ℕ) → AllByRecursion (λ e. nat_lt e.0 64 ≡ true) es → is_registered (record_of es c) ≡ true → c < 64
 known_low [] c h e = absurd (cc)
 known_low (x ∷ es) c h e = by_eq (nat_eq c x.0) refl e (known_low es c h.1)
   where
-    by_eq : (b : Bool) → nat_eq c x.0 ≡ b → is_here (if b then Some x.1 else record_of es c) ≡ true → (is_here (record_of es c) ≡ true → c < 64) → c < 64
+    by_eq : (b : Bool) → nat_eq c x.0 ≡ b → is_registered (if b then Some x.1 else record_of es c) ≡ true → (is_registered (record_of es c) ≡ true → c < 64) → c < 64
     by_eq true f g ih = let is = eqb-true c x.0 f in let low = ltb-true x.0 64 h.0 in omega (arith, is, low)
     by_eq false f g ih = ih g
 
 -- a nudge, by whether the client is here
-pub nudge_away : (s : Server) (c : ℕ) (b : Bool) → b ≡ is_here (record_of s.durable.register c) → b ≡ false → [] ≡ nudge s c
+pub nudge_away : (s : Server) (c : ℕ) (b : Bool) → b ≡ is_registered (record_of s.durable.register c) → b ≡ false → [] ≡ nudge s c
 nudge_away s c b e f = by_record (record_of s.durable.register c) (sym e ∙ f)
   where
-    by_record : (o : Option Record) → is_here o ≡ false → [] ≡ nudge_known s c o
+    by_record : (o : Option Record) → is_registered o ≡ false → [] ≡ nudge_known s c o
     by_record None g = refl
     by_record (Some r) g = by_left r.left g
       where
-        by_left : (l : Bool) → not l ≡ false → [] ≡ (if l then [] else (if is_gathering s.missing then nudge_missing s c else nudge_served s c (s.lines c).unheard))
+        by_left : (l : Bool) → not l ≡ false → [] ≡ (if l then [] else (if is_recovering s.missing then nudge_missing s c else nudge_served s c (s.sessions c).unacked))
         by_left true g = refl
         by_left false g = absurd (cc)
 
-pub nudge_here : (s : Server) (c : ℕ) (b : Bool) → b ≡ is_here (record_of s.durable.register c) → b ≡ true → (if is_gathering s.missing then nudge_missing s c else nudge_served s c (s.lines c).unheard) ≡ nudge s c
+pub nudge_here : (s : Server) (c : ℕ) (b : Bool) → b ≡ is_registered (record_of s.durable.register c) → b ≡ true → (if is_recovering s.missing then nudge_missing s c else nudge_served s c (s.sessions c).unacked) ≡ nudge s c
 nudge_here s c b e f = by_record (record_of s.durable.register c) (sym e ∙ f)
   where
-    by_record : (o : Option Record) → is_here o ≡ true → (if is_gathering s.missing then nudge_missing s c else nudge_served s c (s.lines c).unheard) ≡ nudge_known s c o
+    by_record : (o : Option Record) → is_registered o ≡ true → (if is_recovering s.missing then nudge_missing s c else nudge_served s c (s.sessions c).unacked) ≡ nudge_known s c o
     by_record None g = absurd (cc)
     by_record (Some r) g = by_left r.left g
       where
-        by_left : (l : Bool) → not l ≡ true → (if is_gathering s.missing then nudge_missing s c else nudge_served s c (s.lines c).unheard) ≡ (if l then [] else (if is_gathering s.missing then nudge_missing s c else nudge_served s c (s.lines c).unheard))
+        by_left : (l : Bool) → not l ≡ true → (if is_recovering s.missing then nudge_missing s c else nudge_served s c (s.sessions c).unacked) ≡ (if l then [] else (if is_recovering s.missing then nudge_missing s c else nudge_served s c (s.sessions c).unacked))
         by_left true g = absurd (cc)
         by_left false g = refl
 

@@ -20,12 +20,12 @@ use Rattle.krl_table.specs.Rows.{most_clients, mode_at}
 use Rattle.krl_table.specs.Calls.{wanted}
 use Rattle.krl_table.specs.Replies.{asks_absent}
 use Rattle.krl_table.specs.Sound.{IsTable}
-use Rattle.krl_server.specs.Servers.{Server, is_gathering, lists}
-use Rattle.krl_server.specs.Cases.{Case, Ignored, Registers, Leaves, Tells, Alarms, Rebuilds, Repeats, Hears, Lowers, Waits, Judges, AnswersAgain, case_of}
-use Rattle.krl_server.specs.Effects.{callback_to, epoch_to, holding, heard, writes, answers, effect}
+use Rattle.krl_server.specs.Servers.{Server, is_recovering, lists}
+use Rattle.krl_server.specs.Cases.{Case, Ignored, Registers, Leaves, Tells, Alarms, Rebuilds, Repeats, Acknowledges, Lowers, Waits, Judges, AnswersAgain, case_of}
+use Rattle.krl_server.specs.Effects.{callback_to, epoch_to, holding, acknowledged, writes, answers, effect}
 use Rattle.krl_server.specs.Answering.{stops}
-use Rattle.krl_server.specs.Callbacks.{is_beside, callbacks_from, callbacks_for, callbacks_at, callbacks_among, callbacks_of, callbacks_of_among}
-use Rattle.krl_server.specs.Steps.{Kind, Idle, Quiet, Acts, kind_of, calls_of, at_once, gathers, serves, ServerStep, nudge_served, nudge_missing, nudge_known, nudge}
+use Rattle.krl_server.specs.Callbacks.{is_compatible, callbacks_from, callbacks_for, callbacks_at, callbacks_among, callbacks_of, callbacks_of_among}
+use Rattle.krl_server.specs.Steps.{Kind, Idle, Quiet, Acts, kind_of, calls_of, at_once, recovers, serves, ServerStep, nudge_served, nudge_missing, nudge_known, nudge}
 use Rattle.krl_server.specs.Shows.{IsSound}
 use Rattle.krl_server.specs.Ends.{waiting_on, waiting, most_messages, StepsEnd}
 use Rattle.krl_server.proofs.Served.{answering_sound}
@@ -46,11 +46,11 @@ many = refl
 
 from_few : (s : Server) (n : ℕ) (u : Waiter) (d k : ℕ) → length (callbacks_from s n u d k) ≤ k
 from_few s n u d zero = omega arith
-from_few s n u d (suc k) = by_beside (is_beside s n u d) (from_few s n u (suc d) k)
+from_few s n u d (suc k) = by_compatible (is_compatible s n u d) (from_few s n u (suc d) k)
   where
-    by_beside : (b : Bool) → length (callbacks_from s n u (suc d) k) ≤ k → length (if b then callbacks_from s n u (suc d) k else callback_to s d (span_of s.durable.index n) (cap (wanted (s.rows n) u)) ∷ callbacks_from s n u (suc d) k) ≤ suc k
-    by_beside true ih = omega (arith, ih)
-    by_beside false ih = omega (arith, ih)
+    by_compatible : (b : Bool) → length (callbacks_from s n u (suc d) k) ≤ k → length (if b then callbacks_from s n u (suc d) k else callback_to s d (span_of s.durable.index n) (cap (wanted (s.rows n) u)) ∷ callbacks_from s n u (suc d) k) ≤ suc k
+    by_compatible true ih = omega (arith, ih)
+    by_compatible false ih = omega (arith, ih)
 
 -- none goes to the waiter's own client
 from_others : (s : Server) (n : ℕ) (u : Waiter) (d k : ℕ) → d ≤ u.client → u.client < d + k → suc (length (callbacks_from s n u d k)) ≤ k
@@ -58,11 +58,11 @@ from_others s n u d zero low high = absurd (omega (arith, low, high))
 from_others s n u d (suc k) low high = eq_cases d u.client
     (λ e. let here : callbacks_from s n u d (suc k) ≡ callbacks_from s n u (suc d) k = ap (λ b. if b || compatible (wanted (s.rows n) u) (mode_at s.rows n d) then callbacks_from s n u (suc d) k else callback_to s d (span_of s.durable.index n) (cap (wanted (s.rows n) u)) ∷ callbacks_from s n u (suc d) k) (eq-eqb d u.client e) in
     subst (λ x. suc (length x) ≤ suc k) (sym here) (let le = from_few s n u (suc d) k in omega (arith, le)))
-    (λ ne. by_beside (is_beside s n u d) (from_others s n u (suc d) k (omega (arith, ne, low)) (omega (arith, high))))
+    (λ ne. by_compatible (is_compatible s n u d) (from_others s n u (suc d) k (omega (arith, ne, low)) (omega (arith, high))))
   where
-    by_beside : (b : Bool) → suc (length (callbacks_from s n u (suc d) k)) ≤ k → suc (length (if b then callbacks_from s n u (suc d) k else callback_to s d (span_of s.durable.index n) (cap (wanted (s.rows n) u)) ∷ callbacks_from s n u (suc d) k)) ≤ suc k
-    by_beside true ih = omega (arith, ih)
-    by_beside false ih = omega (arith, ih)
+    by_compatible : (b : Bool) → suc (length (callbacks_from s n u (suc d) k)) ≤ k → suc (length (if b then callbacks_from s n u (suc d) k else callback_to s d (span_of s.durable.index n) (cap (wanted (s.rows n) u)) ∷ callbacks_from s n u (suc d) k)) ≤ suc k
+    by_compatible true ih = omega (arith, ih)
+    by_compatible false ih = omega (arith, ih)
 
 pub for_few : (s : Server) (n : ℕ) (u : Waiter) → u.client < most_clients → length (callbacks_for s n u) ≤ 63
 for_few s n u lt = by_absent (asks_absent s.durable.index u)
@@ -115,18 +115,18 @@ effect_few s m Tells = omega arith
 effect_few s m Alarms = omega arith
 effect_few s m (Rebuilds pieces) = omega arith
 effect_few s m (Repeats body) = omega arith
-effect_few s m Hears = omega arith
+effect_few s m Acknowledges = omega arith
 effect_few s m (Lowers span keep) = omega arith
 effect_few s m (Waits req point hi g) = omega arith
-effect_few s m (Judges number op o) = answers_few (writes (heard s m.client) m.client op o) m.client number op o
-effect_few s m (AnswersAgain number op o) = answers_few (heard s m.client) m.client number op o
+effect_few s m (Judges number op o) = answers_few (writes (acknowledged s m.client) m.client op o) m.client number op o
+effect_few s m (AnswersAgain number op o) = answers_few (acknowledged s m.client) m.client number op o
 
 pub no_more_wait : (s : Server) → IsSound s → IsTable s.durable.index s.rows → waiting s ≤ 64
 no_more_wait s i table = let x = few_wait s.durable.index s.rows table (slots s.durable.index) (slots_apart s.durable.index i.near) in omega (arith, x, sixty_four)
 
 pub step_few : (s : Server) (m : ToServer) (t : Server) (outs : List ToClient) → IsSound (effect s m (case_of s m)).server → IsTable (effect s m (case_of s m)).server.durable.index (effect s m (case_of s m)).server.rows → ServerStep s m t outs → length outs ≤ most_messages
 step_few s m t outs i table (at_once e) = let x = effect_few s m (case_of s m) in omega (arith, x, many)
-step_few s m t outs i table (gathers e) = let x = effect_few s m (case_of s m) in omega (arith, x, many)
+step_few s m t outs i table (recovers e) = let x = effect_few s m (case_of s m) in omega (arith, x, many)
 step_few s m t outs i table (serves t' answers acts e rest) =
     let done = effect s m (case_of s m) in
     let kind = kind_of (case_of s m) in
@@ -147,13 +147,13 @@ nudge_few s c i table = known (record_of s.durable.register c)
     missing true = omega (arith, many)
     missing false = omega (arith, many)
 
-    gathers : (b : Bool) → length (if b then nudge_missing s c else nudge_served s c (s.lines c).unheard) ≤ most_messages
-    gathers true = missing (lists s.missing c)
-    gathers false = served (s.lines c).unheard
+    recovers : (b : Bool) → length (if b then nudge_missing s c else nudge_served s c (s.sessions c).unacked) ≤ most_messages
+    recovers true = missing (lists s.missing c)
+    recovers false = served (s.sessions c).unacked
 
-    left : (b : Bool) → length (if b then [] else (if is_gathering s.missing then nudge_missing s c else nudge_served s c (s.lines c).unheard)) ≤ most_messages
+    left : (b : Bool) → length (if b then [] else (if is_recovering s.missing then nudge_missing s c else nudge_served s c (s.sessions c).unacked)) ≤ most_messages
     left true = omega (arith, many)
-    left false = gathers (is_gathering s.missing)
+    left false = recovers (is_recovering s.missing)
 
     known : (o : Option Record) → length (nudge_known s c o) ≤ most_messages
     known None = omega (arith, many)

@@ -13,16 +13,16 @@ use Rattle.krl_protocol.specs.Worlds.{Logged, Steps, none}
 use Rattle.krl_protocol.proofs.Steps.{put, put_changed, heard_kept, link_steps}
 use Rattle.krl_durable.specs.declared.record.Record.{Record}
 use Rattle.krl_durable.specs.Registers.{record_of}
-use Rattle.krl_server.specs.declared.line.Line.{Line}
-use Rattle.krl_server.specs.Servers.{Server, is_gathering}
-use Rattle.krl_server.specs.Effects.{Done, silent, epoch_to, push_to, with_line, heard, pushes}
+use Rattle.krl_server.specs.declared.session.Session.{Session}
+use Rattle.krl_server.specs.Servers.{Server, is_recovering}
+use Rattle.krl_server.specs.Effects.{Done, silent, epoch_to, push_to, with_session, acknowledged, pushes}
 use Rattle.krl_server.specs.Shows.{push_of, IsTold, IsRecord, LinkShows, IsHeardOf, Shows, view, world_of, IsSound}
 use Rattle.krl_server.proofs.Tests.{if_both, if_case}
-use Rattle.krl_server.proofs.Follows.{Goes, bound_same, put_shows, by_link, one_out, one_sent, up_phase, not_gathering, not_truth, reg_is, record_kept, line_rest, at_line}
+use Rattle.krl_server.proofs.Follows.{Goes, bound_same, put_shows, by_link, one_out, one_sent, up_phase, not_recovering, not_truth, reg_is, record_kept, session_rest, at_session}
 
 -- a link in which more is noted, by messages that the server's part does not name, is shown alike
 noticed : (s : Server) (c : ℕ) (l : Link) (ns : List Notice) → LinkShows s c l → LinkShows s c (record l { notices = ns })
-noticed s c l ns k = record { known = known (record_of s.durable.register c) k.known; missing = k.missing; pushed = k.pushed; acked = k.acked; unheard = k.unheard; range = k.range; key = k.key; new_range = k.new_range; new_key = k.new_key }
+noticed s c l ns k = record { known = known (record_of s.durable.register c) k.known; missing = k.missing; last_push = k.last_push; acked = k.acked; unacked = k.unacked; range = k.range; key = k.key; new_range = k.new_range; new_key = k.new_key }
   where
     known : (o : Option Record) → IsRecord o l → IsRecord o (record l { notices = ns })
     known None x = x
@@ -43,43 +43,43 @@ tells s of log cleared c not h =
     (one_out l c (epoch_to s c) refl (inl (ap (λ x. let y : Notice = record { inc = x; epoch = s.durable.epoch } in y) (sym (reg_is (record_of s.durable.register c) (of c) k.known)))))
 
 -- the unacknowledged push is sent again: no step at all
-pub repeats : (s : Server) (of : ℕ → Link) (log : List Logged) (cleared : ℕ → Bool) (c : ℕ) (body : PushBody) → (s.lines c).unheard ≡ Some body → ((d : ℕ) → cleared d ≡ false) → Shows s of → Goes s of log cleared (record { server = s; outs = push_to s c (s.lines c).pushed body ∷ [] }) log
+pub repeats : (s : Server) (of : ℕ → Link) (log : List Logged) (cleared : ℕ → Bool) (c : ℕ) (body : PushBody) → (s.sessions c).unacked ≡ Some body → ((d : ℕ) → cleared d ≡ false) → Shows s of → Goes s of log cleared (record { server = s; outs = push_to s c (s.sessions c).last_push body ∷ [] }) log
 repeats s of log cleared c body e not h = record {
   after = of;
   steps = none;
   shows = h;
-  sent = one_sent of (push_to s c (s.lines c).pushed body) (subst (λ x. Rattle.krl_server.specs.Shows.WasSent (of c) x (told.Push s.durable.epoch (s.lines c).pushed body)) (reg_is (record_of s.durable.register c) (of c) (h.link c).known) ((h.link c).unheard body e));
+  sent = one_sent of (push_to s c (s.sessions c).last_push body) (subst (λ x. Rattle.krl_server.specs.Shows.WasSent (of c) x (told.Push s.durable.epoch (s.sessions c).last_push body)) (reg_is (record_of s.durable.register c) (of c) (h.link c).known) ((h.link c).unacked body e));
   clients = λ d. refl;
   bound = λ g d. bound_same (cleared d) (of d) (not d);
 }
 
 -- The last push is acknowledged
 
-pub hears_steps : (s : Server) (of : ℕ → Link) (log : List Logged) (c : ℕ) (a : Head) → In a (of c).heads → Passes (view s) (of c) a → Steps (world_of s of log) (world_of (heard s c) (put of c (record (of c) { acked = true })) log)
-hears_steps s of log c a at ok = link_steps (view s) log c (of c) (record (of c) { acked = true }) of (put of c (record (of c) { acked = true })) refl (next (takes_head a at ok) idle) (put_changed of c (record (of c) { acked = true }))
+pub acknowledges_steps : (s : Server) (of : ℕ → Link) (log : List Logged) (c : ℕ) (a : Head) → In a (of c).heads → Passes (view s) (of c) a → Steps (world_of s of log) (world_of (acknowledged s c) (put of c (record (of c) { acked = true })) log)
+acknowledges_steps s of log c a at ok = link_steps (view s) log c (of c) (record (of c) { acked = true }) of (put of c (record (of c) { acked = true })) refl (next (takes_head a at ok) idle) (put_changed of c (record (of c) { acked = true }))
 
-pub hears_shows : (s : Server) (of : ℕ → Link) (c : ℕ) → Shows s of → Shows (heard s c) (put of c (record (of c) { acked = true }))
-hears_shows s of c h =
+pub acknowledges_shows : (s : Server) (of : ℕ → Link) (c : ℕ) → Shows s of → Shows (acknowledged s c) (put of c (record (of c) { acked = true }))
+acknowledges_shows s of c h =
     let k = h.link c in
-    put_shows s (heard s c) of c (record (of c) { acked = true })
-    (at_line s c (record (s.lines c) { unheard = None }) (record (of c) { acked = true })
-    (record { known = record_kept (record_of s.durable.register c) (of c) (record (of c) { acked = true }) refl refl refl refl k.known; missing = k.missing; pushed = k.pushed; acked = refl; unheard = λ body e. absurd (none-some body e); range = k.range; key = k.key; new_range = k.new_range; new_key = k.new_key }))
-    (λ d ne x. line_rest s c (record (s.lines c) { unheard = None }) d (of d) ne x)
+    put_shows s (acknowledged s c) of c (record (of c) { acked = true })
+    (at_session s c (record (s.sessions c) { unacked = None }) (record (of c) { acked = true })
+    (record { known = record_kept (record_of s.durable.register c) (of c) (record (of c) { acked = true }) refl refl refl refl k.known; missing = k.missing; last_push = k.last_push; acked = refl; unacked = λ body e. absurd (none-some body e); range = k.range; key = k.key; new_range = k.new_range; new_key = k.new_key }))
+    (λ d ne x. session_rest s c (record (s.sessions c) { unacked = None }) d (of d) ne x)
     h
     (λ n u at. heard_kept (view s) of (put of c (record (of c) { acked = true })) c (record (of c) { acked = true }) (put_changed of c (record (of c) { acked = true })) (λ x. x) u.client (h.heard n u at))
 
-pub hears : (s : Server) (of : ℕ → Link) (log : List Logged) (cleared : ℕ → Bool) (c : ℕ) (a : Head) → In a (of c).heads → Passes (view s) (of c) a → Shows s of → Goes s of log cleared (silent (heard s c)) log
-hears s of log cleared c a at ok h = record {
+pub acknowledges : (s : Server) (of : ℕ → Link) (log : List Logged) (cleared : ℕ → Bool) (c : ℕ) (a : Head) → In a (of c).heads → Passes (view s) (of c) a → Shows s of → Goes s of log cleared (silent (acknowledged s c)) log
+acknowledges s of log cleared c a at ok h = record {
   after = put of c (record (of c) { acked = true });
-  steps = hears_steps s of log c a at ok;
-  shows = hears_shows s of c h;
+  steps = acknowledges_steps s of log c a at ok;
+  shows = acknowledges_shows s of c h;
   sent = λ o x. absurd x;
   clients = Rattle.krl_server.proofs.Follows.put_client of c (record (of c) { acked = true }) refl;
-  bound = λ g. absurd (not_truth (is_gathering s.missing) (not_gathering s.missing ok.serving) g);
+  bound = λ g. absurd (not_truth (is_recovering s.missing) (not_recovering s.missing ok.serving) g);
 }
 
-pub heard_sound : (s : Server) (c : ℕ) → IsSound s → IsSound (heard s c)
-heard_sound s c i = record { near = i.near; begun = i.begun; strangers = i.strangers; placed = i.placed; clients = i.clients }
+pub acknowledged_sound : (s : Server) (c : ℕ) → IsSound s → IsSound (acknowledged s c)
+acknowledged_sound s c i = record { near = i.near; begun = i.begun; strangers = i.strangers; placed = i.placed; clients = i.clients }
 
 -- The next push
 
@@ -103,40 +103,40 @@ pub record Fits (s : Shared) (l : Link) (p : links.Push) : Type 0 where
   pub says : (q : ℕ) (t : links.Said) → p.says q ≡ Some t → MaySay s l q t
   pub answer : (p.answers ≡ 0) ⊎ AnswersLast l p
 
-pub pushes_on : (s : Server) (of : ℕ → Link) (log : List Logged) (cleared : ℕ → Bool) (c : ℕ) (body : PushBody) → (view s).phase ≡ links.Serving → 1 ≤ s.durable.epoch → IsTold body → IsHeardOf (view s) (of c) → (s.lines c).unheard ≡ None → Fits (view s) (of c) (push_of (of c).reg s.durable.epoch (suc (s.lines c).pushed) body) → Shows s of → Goes s of log cleared (pushes s c body) log
-pushes_on s of log cleared c body serving begun is_told able free fit h = if_case (λ x. Goes s of log cleared x log) (nat_lt (s.lines c).pushed END) _ _ (λ lt.
+pub pushes_on : (s : Server) (of : ℕ → Link) (log : List Logged) (cleared : ℕ → Bool) (c : ℕ) (body : PushBody) → (view s).phase ≡ links.Serving → 1 ≤ s.durable.epoch → IsTold body → IsHeardOf (view s) (of c) → (s.sessions c).unacked ≡ None → Fits (view s) (of c) (push_of (of c).reg s.durable.epoch (suc (s.sessions c).last_push) body) → Shows s of → Goes s of log cleared (pushes s c body) log
+pushes_on s of log cleared c body serving begun is_told able free fit h = if_case (λ x. Goes s of log cleared x log) (nat_lt (s.sessions c).last_push END) _ _ (λ lt.
     let k = h.link c in
-    let p = push_of (of c).reg s.durable.epoch (suc (s.lines c).pushed) body in
-    let line : Line = record (s.lines c) { pushed = suc (s.lines c).pushed; unheard = Some body } in
-    let l : Link = record (of c) { pushed = suc (of c).pushed; acked = false; pushes = p ∷ (of c).pushes } in
-    by_link s (with_line s c line) of log cleared c l (push_to s c (suc (s.lines c).pushed) body ∷ []) refl
-    (next (links.pushes p able.0 able.1 able.2 able.3 serving able.4 (k.acked ∙ ap (λ x. not (is_some x)) free) (push_inc (of c).reg s.durable.epoch (suc (s.lines c).pushed) body) (push_epoch (of c).reg s.durable.epoch (suc (s.lines c).pushed) body) (push_number (of c).reg s.durable.epoch (suc (s.lines c).pushed) body ∙ ap (λ x. suc x) (sym k.pushed)) fit.says fit.answer) idle)
+    let p = push_of (of c).reg s.durable.epoch (suc (s.sessions c).last_push) body in
+    let session : Session = record (s.sessions c) { last_push = suc (s.sessions c).last_push; unacked = Some body } in
+    let l : Link = record (of c) { last_push = suc (of c).last_push; acked = false; pushes = p ∷ (of c).pushes } in
+    by_link s (with_session s c session) of log cleared c l (push_to s c (suc (s.sessions c).last_push) body ∷ []) refl
+    (next (links.pushes p able.0 able.1 able.2 able.3 serving able.4 (k.acked ∙ ap (λ x. not (is_some x)) free) (push_inc (of c).reg s.durable.epoch (suc (s.sessions c).last_push) body) (push_epoch (of c).reg s.durable.epoch (suc (s.sessions c).last_push) body) (push_number (of c).reg s.durable.epoch (suc (s.sessions c).last_push) body ∙ ap (λ x. suc x) (sym k.last_push)) fit.says fit.answer) idle)
     refl (λ g. absurd (serves g)) (λ g d ne. absurd (serves g))
-    (at_line s c line l (record {
+    (at_session s c session l (record {
       known = record_kept (record_of s.durable.register c) (of c) l refl refl refl refl k.known;
       missing = k.missing;
-      pushed = ap (λ x. suc x) k.pushed;
+      last_push = ap (λ x. suc x) k.last_push;
       acked = refl;
-      unheard = λ other e. subst (λ x. Rattle.krl_server.specs.Shows.WasSent l l.reg (told.Push s.durable.epoch (suc (s.lines c).pushed) x)) (same_Some body other e) (inl refl, begun, is_told);
+      unacked = λ other e. subst (λ x. Rattle.krl_server.specs.Shows.WasSent l l.reg (told.Push s.durable.epoch (suc (s.sessions c).last_push) x)) (same_Some body other e) (inl refl, begun, is_told);
       range = k.range;
       key = k.key;
       new_range = k.new_range;
       new_key = k.new_key;
     }))
-    (λ d ne x. line_rest s c line d (of d) ne x) h
+    (λ d ne x. session_rest s c session d (of d) ne x) h
     (λ n u at. heard_kept (view s) of (put of c l) c l (put_changed of c l) (λ x. x) u.client (h.heard n u at))
-    (one_out l c (push_to s c (suc (s.lines c).pushed) body) refl (inl (ap (λ x. push_of x s.durable.epoch (suc (s.lines c).pushed) body) (sym (reg_is (record_of s.durable.register c) (of c) k.known))), begun, is_told)))
+    (one_out l c (push_to s c (suc (s.sessions c).last_push) body) refl (inl (ap (λ x. push_of x s.durable.epoch (suc (s.sessions c).last_push) body) (sym (reg_is (record_of s.durable.register c) (of c) k.known))), begun, is_told)))
     (λ spent. record { after = of; steps = none; shows = h; sent = λ o at. absurd at; clients = λ d. refl; bound = λ g. absurd (serves g) })
   where
-    serves : is_gathering s.missing ≡ true → ⊥
-    serves g = not_truth (is_gathering s.missing) (not_gathering s.missing serving) g
+    serves : is_recovering s.missing ≡ true → ⊥
+    serves g = not_truth (is_recovering s.missing) (not_recovering s.missing serving) g
 
 pub pushes_sound : (s : Server) (c : ℕ) (body : PushBody) → IsSound s → IsSound (pushes s c body).server
-pushes_sound s c body i = if_both (λ (x : Done). IsSound x.server) (nat_lt (s.lines c).pushed END) _ _ (record { near = i.near; begun = i.begun; strangers = i.strangers; placed = i.placed; clients = i.clients }) i
+pushes_sound s c body i = if_both (λ (x : Done). IsSound x.server) (nat_lt (s.sessions c).last_push END) _ _ (record { near = i.near; begun = i.begun; strangers = i.strangers; placed = i.placed; clients = i.clients }) i
 
 -- a push leaves who is missing
 pub pushes_missing : (s : Server) (c : ℕ) (body : PushBody) → (pushes s c body).server.missing ≡ s.missing
-pushes_missing s c body = if_both (λ (x : Done). x.server.missing ≡ s.missing) (nat_lt (s.lines c).pushed END) _ _ refl refl
+pushes_missing s c body = if_both (λ (x : Done). x.server.missing ≡ s.missing) (nat_lt (s.sessions c).last_push END) _ _ refl refl
 
-pub pushes_serve : (s : Server) (c : ℕ) (body : PushBody) → is_gathering s.missing ≡ false → is_gathering (pushes s c body).server.missing ≡ false
-pushes_serve s c body e = ap is_gathering (pushes_missing s c body) ∙ e
+pub pushes_serve : (s : Server) (c : ℕ) (body : PushBody) → is_recovering s.missing ≡ false → is_recovering (pushes s c body).server.missing ≡ false
+pushes_serve s c body e = ap is_recovering (pushes_missing s c body) ∙ e

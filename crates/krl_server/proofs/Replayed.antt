@@ -15,7 +15,7 @@ use Rattle.krl_server.specs.declared.out.ServerOut.{ServerOut}
 use Rattle.krl_server.specs.Servers.{Server, incarnation_or_0}
 use Rattle.krl_server.specs.Cases.{Case, case_of}
 use Rattle.krl_server.specs.Effects as effects
-use Rattle.krl_server.specs.Effects.{holding, heard, effect}
+use Rattle.krl_server.specs.Effects.{holding, acknowledged, effect}
 use Rattle.krl_server.specs.Steps.{kind_of, ServerStep}
 use Rattle.krl_server.specs.Changes.{change_of}
 use Rattle.krl_server.specs.Doing.{HasStepped}
@@ -58,14 +58,14 @@ module _ (s : Server) (m : ToServer) where
     tells = refl;
     alarms = refl;
     rebuilds = λ r epoch pieces from now missing fine. refl;
-    repeats = λ r body served unheard. refl;
-    hears = λ r served. refl;
+    repeats = λ r body served unacked. refl;
+    acknowledges = λ r served. refl;
     lowers = λ r span keep served. refl;
     waits = λ r req point hi g served new free near. refl;
     judges = λ r number op o served under near new is.
-        answered_durable s m number op o (effects.writes (heard s m.client) m.client op o)
+        answered_durable s m number op o (effects.writes (acknowledged s m.client) m.client op o)
         ∙ judged_is s.durable m.client number op o r served.from.known new;
-    answers_again = λ r number op o served under some last is. answered_durable s m number op o (heard s m.client);
+    answers_again = λ r number op o served under some last is. answered_durable s m number op o (acknowledged s m.client);
   })
 
   -- Each change changes something
@@ -104,13 +104,13 @@ module _ (s : Server) (m : ToServer) where
     tells = λ same. refl;
     alarms = λ same. refl;
     rebuilds = λ r epoch pieces from now missing fine same. refl;
-    repeats = λ r body served unheard same. refl;
-    hears = λ r served same. refl;
+    repeats = λ r body served unacked same. refl;
+    acknowledges = λ r served same. refl;
     lowers = λ r span keep served same. refl;
     waits = λ r req point hi g served new free near same. refl;
     judges = λ r number op o served under near new is same.
         absurd (no_same_write number op o r served.from.known new
-        (sym (answered_durable s m number op o (effects.writes (heard s m.client) m.client op o) ∙ judged_is s.durable m.client number op o r served.from.known new) ∙ same));
+        (sym (answered_durable s m number op o (effects.writes (acknowledged s m.client) m.client op o) ∙ judged_is s.durable m.client number op o r served.from.known new) ∙ same));
     answers_again = λ r number op o served under some last is same. refl;
   })
 

@@ -19,23 +19,23 @@ use Rattle.krl_durable.specs.Index.{Index, slots, is_slot}
 use Rattle.krl_table.specs.Rows.{Row, all_below, most_clients}
 use Rattle.krl_table.specs.Calls.{wanted, with_queue, behind_first, dropped}
 use Rattle.krl_table.specs.Grants.{taken, granted}
-use Rattle.krl_table.specs.Replies.{asks_absent, can_have}
+use Rattle.krl_table.specs.Replies.{asks_absent, is_wanted_compatible}
 use Rattle.krl_table.specs.Sound.{IsTable}
-use Rattle.krl_server.specs.declared.line.Line.{Line}
-use Rattle.krl_server.specs.Servers.{Server, set_line}
-use Rattle.krl_server.specs.Effects.{Done, with_line, with_rows, push_to, pushes, silent, holdings}
-use Rattle.krl_server.specs.Answering.{Turn, can_push, is_answerable, turn_at, turn_among, next_turn, tells_absent, grants, take_turn, Answered, goes_on, stops}
+use Rattle.krl_server.specs.declared.session.Session.{Session}
+use Rattle.krl_server.specs.Servers.{Server, set_session}
+use Rattle.krl_server.specs.Effects.{Done, with_session, with_rows, push_to, pushes, silent, holdings}
+use Rattle.krl_server.specs.Answering.{Turn, can_push, is_answerable, turn_at, turn_among, next_turn, tells_absent, grants, answer_first, Answered, goes_on, stops}
 use Rattle.krl_server.specs.Ends.{waiting}
 use Rattle.krl_server.specs.Shows.{IsSound}
 use Rattle.krl_server.specs.Doing.{turn_here, HasTurned}
 use Rattle.krl_durable.proofs.Slots.{Rises}
 use Rattle.krl_durable.proofs.SlotLaws.{from_above, keys_of_map_rise}
-use Rattle.krl_server.proofs.Meaning.{row_other, line_here, line_other}
+use Rattle.krl_server.proofs.Meaning.{row_other, session_here, session_other}
 use Rattle.krl_server.proofs.Tests.{if_both}
 use Rattle.krl_server.proofs.Counted.{above_all, keys_under}
 use Rattle.krl_server.proofs.Tabled.{slots_have}
 use Rattle.krl_server.proofs.Ends.{pushes_rows, turn_durable, turn_less}
-use Rattle.krl_server.proofs.Grants.{granted_below, granted_beside}
+use Rattle.krl_server.proofs.Grants.{granted_below, granted_compatible}
 use Rattle.krl_server.proofs.Turns.{turn_sound}
 use Rattle.krl_server.proofs.Kept.{turn_table}
 
@@ -48,7 +48,7 @@ HasBegun s t outs = (u : Server) (later : List ToClient) → Answered t u later 
 pub begun : (s : Server) → HasBegun s s []
 begun s u later h = h
 
-pub one_more : (s t : Server) (turn : Turn) (outs more : List ToClient) → HasBegun s t outs → next_turn t ≡ Some turn → (take_turn t turn).outs ≡ more → HasBegun s (take_turn t turn).server (outs ++ more)
+pub one_more : (s t : Server) (turn : Turn) (outs more : List ToClient) → HasBegun s t outs → next_turn t ≡ Some turn → (answer_first t turn).outs ≡ more → HasBegun s (answer_first t turn).server (outs ++ more)
 one_more s t turn outs more h e is u later rest = subst (Answered s u) (sym (append_assoc outs more later)) (h u (more ++ later) (subst (λ x. Answered t u (x ++ later)) is (goes_on t u turn later e rest)))
 
 pub all_told : (s t : Server) (outs : List ToClient) → HasBegun s t outs → next_turn t ≡ None → Answered s t outs
@@ -141,44 +141,44 @@ none_at_all s from none gap = none_among s (slots s.durable.index) (λ n. ⊎_el
 
 -- An answer makes nobody answerable at a lower slot
 
-no_push : (l : Line) (body : PushBody) → l.unheard ≡ Some body → can_push l ≡ true → ⊥
-no_push l body e f = let x = ap (λ o. not (is_some o) && nat_lt l.pushed END) e in let y : false ≡ true = sym x ∙ f in absurd (cc)
+no_push : (l : Session) (body : PushBody) → l.unacked ≡ Some body → can_push l ≡ true → ⊥
+no_push l body e f = let x = ap (λ o. not (is_some o) && nat_lt l.last_push END) e in let y : false ≡ true = sym x ∙ f in absurd (cc)
 
-pushes_can : (s : Server) (c : ℕ) (body : PushBody) (d : ℕ) → can_push ((pushes s c body).server.lines d) ≡ true → can_push (s.lines d) ≡ true
-pushes_can s c body d = if_both (λ (x : Done). can_push (x.server.lines d) ≡ true → can_push (s.lines d) ≡ true) (nat_lt (s.lines c).pushed END)
-    (record { server = with_line s c (record (s.lines c) { pushed = suc (s.lines c).pushed; unheard = Some body }); outs = push_to s c (suc (s.lines c).pushed) body ∷ [] }) (silent s)
+pushes_can : (s : Server) (c : ℕ) (body : PushBody) (d : ℕ) → can_push ((pushes s c body).server.sessions d) ≡ true → can_push (s.sessions d) ≡ true
+pushes_can s c body d = if_both (λ (x : Done). can_push (x.server.sessions d) ≡ true → can_push (s.sessions d) ≡ true) (nat_lt (s.sessions c).last_push END)
+    (record { server = with_session s c (record (s.sessions c) { last_push = suc (s.sessions c).last_push; unacked = Some body }); outs = push_to s c (suc (s.sessions c).last_push) body ∷ [] }) (silent s)
     (λ f. eq_cases d c
-    (λ e. absurd (no_push (set_line s.lines c (record (s.lines c) { pushed = suc (s.lines c).pushed; unheard = Some body }) d) body
-    (ap (λ l. l.unheard) (ap (set_line s.lines c (record (s.lines c) { pushed = suc (s.lines c).pushed; unheard = Some body })) e ∙ line_here s.lines c (record (s.lines c) { pushed = suc (s.lines c).pushed; unheard = Some body }))) f))
-    (λ ne. sym (ap can_push (line_other s.lines c d (record (s.lines c) { pushed = suc (s.lines c).pushed; unheard = Some body }) ne)) ∙ f))
+    (λ e. absurd (no_push (set_session s.sessions c (record (s.sessions c) { last_push = suc (s.sessions c).last_push; unacked = Some body }) d) body
+    (ap (λ l. l.unacked) (ap (set_session s.sessions c (record (s.sessions c) { last_push = suc (s.sessions c).last_push; unacked = Some body })) e ∙ session_here s.sessions c (record (s.sessions c) { last_push = suc (s.sessions c).last_push; unacked = Some body }))) f))
+    (λ ne. sym (ap can_push (session_other s.sessions c d (record (s.sessions c) { last_push = suc (s.sessions c).last_push; unacked = Some body }) ne)) ∙ f))
     (λ f. f)
 
-pub turn_can : (s : Server) (t : Turn) (d : ℕ) → can_push ((take_turn s t).server.lines d) ≡ true → can_push (s.lines d) ≡ true
-turn_can s t d = if_both (λ (x : Done). can_push (x.server.lines d) ≡ true → can_push (s.lines d) ≡ true) (asks_absent s.durable.index t.waiter) (tells_absent s t) (grants s t)
+pub turn_can : (s : Server) (t : Turn) (d : ℕ) → can_push ((answer_first s t).server.sessions d) ≡ true → can_push (s.sessions d) ≡ true
+turn_can s t d = if_both (λ (x : Done). can_push (x.server.sessions d) ≡ true → can_push (s.sessions d) ≡ true) (asks_absent s.durable.index t.waiter) (tells_absent s t) (grants s t)
     (pushes_can (with_rows s (dropped s.rows t.slot)) t.waiter.client (push.Absent t.waiter.req t.waiter.point) d)
     (pushes_can (with_rows s (granted s.durable.index s.rows t.slot)) t.waiter.client (push.Grant t.waiter.req (holdings (with_rows s (granted s.durable.index s.rows t.slot)) t.waiter.client (taken s.durable.index s.rows t.slot))) d)
 
-turn_row : (s : Server) (t : Turn) (k : ℕ) → k < t.slot → (take_turn s t).server.rows k ≡ s.rows k
+turn_row : (s : Server) (t : Turn) (k : ℕ) → k < t.slot → (answer_first s t).server.rows k ≡ s.rows k
 turn_row s t k lt = if_both (λ (x : Done). x.server.rows k ≡ s.rows k) (asks_absent s.durable.index t.waiter) (tells_absent s t) (grants s t)
     (ap (λ r. r k) (pushes_rows (with_rows s (dropped s.rows t.slot)) t.waiter.client (push.Absent t.waiter.req t.waiter.point)) ∙ row_other s.rows t.slot (with_queue (s.rows t.slot) (behind_first (s.rows t.slot).queue)) k (λ e. omega (arith, e, lt)))
     (ap (λ r. r k) (pushes_rows (with_rows s (granted s.durable.index s.rows t.slot)) t.waiter.client (push.Grant t.waiter.req (holdings (with_rows s (granted s.durable.index s.rows t.slot)) t.waiter.client (taken s.durable.index s.rows t.slot)))) ∙ granted_below s.durable.index s.rows t.slot k lt)
 
 -- nor does it change a row at which somebody waits, beside its own
-pub turn_row_beside : (s : Server) (t : Turn) (k : ℕ) (v : Waiter) (vs : List Waiter) → k ≢ t.slot → (s.rows k).queue ≡ v ∷ vs → (take_turn s t).server.rows k ≡ s.rows k
+pub turn_row_beside : (s : Server) (t : Turn) (k : ℕ) (v : Waiter) (vs : List Waiter) → k ≢ t.slot → (s.rows k).queue ≡ v ∷ vs → (answer_first s t).server.rows k ≡ s.rows k
 turn_row_beside s t k v vs ne queue = if_both (λ (x : Done). x.server.rows k ≡ s.rows k) (asks_absent s.durable.index t.waiter) (tells_absent s t) (grants s t)
     (ap (λ r. r k) (pushes_rows (with_rows s (dropped s.rows t.slot)) t.waiter.client (push.Absent t.waiter.req t.waiter.point)) ∙ row_other s.rows t.slot (with_queue (s.rows t.slot) (behind_first (s.rows t.slot).queue)) k ne)
-    (ap (λ r. r k) (pushes_rows (with_rows s (granted s.durable.index s.rows t.slot)) t.waiter.client (push.Grant t.waiter.req (holdings (with_rows s (granted s.durable.index s.rows t.slot)) t.waiter.client (taken s.durable.index s.rows t.slot)))) ∙ granted_beside s.durable.index s.rows t.slot k v vs ne queue)
+    (ap (λ r. r k) (pushes_rows (with_rows s (granted s.durable.index s.rows t.slot)) t.waiter.client (push.Grant t.waiter.req (holdings (with_rows s (granted s.durable.index s.rows t.slot)) t.waiter.client (taken s.durable.index s.rows t.slot)))) ∙ granted_compatible s.durable.index s.rows t.slot k v vs ne queue)
 
-module _ (s u : Server) (k : ℕ) (index : u.durable ≡ s.durable) (row : u.rows k ≡ s.rows k) (can : (v : Waiter) → In v (s.rows k).queue → can_push (u.lines v.client) ≡ true → can_push (s.lines v.client) ≡ true) where
-  same_has : (v : Waiter) → (asks_absent u.durable.index v || can_have u.rows k v) ≡ (asks_absent s.durable.index v || can_have s.rows k v)
-  same_has v = ap (λ d. asks_absent d.index v || can_have u.rows k v) index ∙ ap (λ (r : Row). asks_absent s.durable.index v || all_below most_clients (λ d. nat_eq d v.client || Rattle.krl_modes.specs.Modes.compatible (wanted r v) (r.modes d))) row
+module _ (s u : Server) (k : ℕ) (index : u.durable ≡ s.durable) (row : u.rows k ≡ s.rows k) (can : (v : Waiter) → In v (s.rows k).queue → can_push (u.sessions v.client) ≡ true → can_push (s.sessions v.client) ≡ true) where
+  same_has : (v : Waiter) → (asks_absent u.durable.index v || is_wanted_compatible u.rows k v) ≡ (asks_absent s.durable.index v || is_wanted_compatible s.rows k v)
+  same_has v = ap (λ d. asks_absent d.index v || is_wanted_compatible u.rows k v) index ∙ ap (λ (r : Row). asks_absent s.durable.index v || all_below most_clients (λ d. nat_eq d v.client || Rattle.krl_modes.specs.Modes.compatible (wanted r v) (r.modes d))) row
 
   fewer : (a b x y : Bool) → (a ≡ true → b ≡ true) → x ≡ y → (b && y) ≡ false → (a && x) ≡ false
   fewer false b x y f e g = refl
   fewer true b x y f e g = e ∙ sym (ap (λ t. t && y) (f refl)) ∙ g
 
   not_yet : (v : Waiter) → In v (s.rows k).queue → is_answerable s k v ≡ false → is_answerable u k v ≡ false
-  not_yet v at e = fewer (can_push (u.lines v.client)) (can_push (s.lines v.client)) _ _ (can v at) (same_has v) e
+  not_yet v at e = fewer (can_push (u.sessions v.client)) (can_push (s.sessions v.client)) _ _ (can v at) (same_has v) e
 
   by_queue : (us : List Waiter) → ((v : Waiter) → In v us → In v (s.rows k).queue) → turn_at s k us None ≡ None → turn_at u k us None ≡ None
   by_queue [] all e = refl
@@ -191,8 +191,8 @@ module _ (s u : Server) (k : ℕ) (index : u.durable ≡ s.durable) (row : u.row
   pub still_none : turn_here s k ≡ None → turn_here u k ≡ None
   still_none e = ap (λ r. turn_at u k r.queue None) row ∙ by_queue (s.rows k).queue (λ v at. at) e
 
-pub none_after : (s : Server) (t : Turn) → NoneBelow s t.slot → NoneBelow (take_turn s t).server t.slot
-none_after s t none k lt = still_none s (take_turn s t).server k (turn_durable s t) (turn_row s t k lt) (λ v at. turn_can s t v.client) (none k lt)
+pub none_after : (s : Server) (t : Turn) → NoneBelow s t.slot → NoneBelow (answer_first s t).server t.slot
+none_after s t none k lt = still_none s (answer_first s t).server k (turn_durable s t) (turn_row s t k lt) (λ v at. turn_can s t v.client) (none k lt)
 
 -- One round of the walk
 
@@ -208,8 +208,8 @@ turn_slot s n (u ∷ us) t e = by_test (is_answerable s n u) e
 pub record IsRound (s u : Server) (n : ℕ) (o : ToClient) : Type 0 where
   pub turn : Turn
   pub next : next_turn s ≡ Some turn
-  pub outs : (take_turn s turn).outs ≡ o ∷ []
-  pub is : u ≡ (take_turn s turn).server
+  pub outs : (answer_first s turn).outs ≡ o ∷ []
+  pub is : u ≡ (answer_first s turn).server
   pub sound : IsSound u
   pub table : IsTable u.durable.index u.rows
   pub none : NoneBelow u n
@@ -221,7 +221,7 @@ round s u from n o sound table none there gap h =
     let below = none_up_to s from n none gap in
     let next = next_is s n h.turn sound.near there below h.here in
     let slot = turn_slot s n (s.rows n).queue h.turn h.here in
-    let v = (take_turn s h.turn).server in
+    let v = (answer_first s h.turn).server in
     record {
       turn = h.turn;
       next = next;

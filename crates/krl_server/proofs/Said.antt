@@ -22,18 +22,18 @@ use Rattle.krl_table.specs.Grants.{taken, granted}
 use Rattle.krl_table.specs.Replies.{asks_absent}
 use Rattle.krl_server.specs.declared.state.State.{State}
 use Rattle.krl_server.specs.declared.out.ServerOut.{ServerOut}
-use Rattle.krl_server.specs.Servers.{Server, is_gathering, incarnation_or_0}
+use Rattle.krl_server.specs.Servers.{Server, is_recovering, incarnation_or_0}
 use Rattle.krl_server.specs.States.{meaning}
-use Rattle.krl_server.specs.Cases.{Case, Ignored, Registers, Leaves, Tells, Alarms, Rebuilds, Repeats, Hears, Lowers, Waits, Judges, AnswersAgain, case_of}
+use Rattle.krl_server.specs.Cases.{Case, Ignored, Registers, Leaves, Tells, Alarms, Rebuilds, Repeats, Acknowledges, Lowers, Waits, Judges, AnswersAgain, case_of}
 use Rattle.krl_server.specs.Effects as effects
-use Rattle.krl_server.specs.Effects.{Done, holding, holdings, heard, push_to, pushes, effect}
-use Rattle.krl_server.specs.Answering.{Turn, take_turn, tells_absent, grants, Answered, stops, goes_on}
-use Rattle.krl_server.specs.Steps.{Kind, Idle, Quiet, Acts, kind_of, calls_of, Ends, at_once, gathers, serves, ServerStep}
+use Rattle.krl_server.specs.Effects.{Done, holding, holdings, acknowledged, push_to, pushes, effect}
+use Rattle.krl_server.specs.Answering.{Turn, answer_first, tells_absent, grants, Answered, stops, goes_on}
+use Rattle.krl_server.specs.Steps.{Kind, Idle, Quiet, Acts, kind_of, calls_of, Ends, at_once, recovers, serves, ServerStep}
 use Rattle.krl_server.specs.Says.{changes_durable, is_new_write, may_change, may_change_durable, is_callback, IsCallback, HasCallbacks, is_answer, answered_write, IsAnswered, AnswersWrite}
 use Rattle.krl_server.specs.Doing.{HasStepped}
 use Rattle.krl_server.proofs.Tests.{if_both}
 use Rattle.krl_server.proofs.Follows.{not_truth}
-use Rattle.krl_server.proofs.Meaning.{line_here}
+use Rattle.krl_server.proofs.Meaning.{session_here}
 use Rattle.krl_server.proofs.Served.{answered_up}
 use Rattle.krl_server.proofs.Ends.{pushes_durable}
 use Rattle.krl_server.proofs.Kept.{ends_durable}
@@ -51,8 +51,8 @@ changes_said s m = by_said s m (λ k. may_change_durable s m ≡ false → chang
       tells = λ no. refl;
       alarms = λ r epoch pieces from said now missing bad no. refl;
       rebuilds = λ r epoch pieces from said now missing fine no. refl;
-      repeats = λ r body served unheard no. refl;
-      hears = λ r request b a no. refl;
+      repeats = λ r body served unacked no. refl;
+      acknowledges = λ r request b a no. refl;
       lowers = λ r request span keep a no. refl;
       waits = λ r request req point hi g a new free near no. refl;
       judges = λ r request number op o a under near new is no. absurd (not_truth (may_change_durable s m) no
@@ -82,10 +82,10 @@ module _ (f : ToClientBody → Bool) where
   both_are xs ys h k o at = ⊎_elim (λ (x : In o xs). h o x) (λ (y : In o ys). k o y) (in_both xs ys o at)
 
   none_pushed : (s : Server) (c : ℕ) (body : PushBody) → ((epoch number : ℕ) → f (told.Push epoch number body) ≡ false) → NoneIs f (pushes s c body).outs
-  none_pushed s c body h = if_both (λ (x : Done). NoneIs f x.outs) (nat_lt (s.lines c).pushed END) _ _ (one_is _ (h s.durable.epoch (suc (s.lines c).pushed))) (λ o at. absurd at)
+  none_pushed s c body h = if_both (λ (x : Done). NoneIs f x.outs) (nat_lt (s.sessions c).last_push END) _ _ (one_is _ (h s.durable.epoch (suc (s.sessions c).last_push))) (λ o at. absurd at)
 
   module _ (grant : (epoch number req : ℕ) (hs : List Holding) → f (told.Push epoch number (push.Grant req hs)) ≡ false) (absent : (epoch number req point : ℕ) → f (told.Push epoch number (push.Absent req point)) ≡ false) where
-    none_turned : (s : Server) (t : Turn) → NoneIs f (take_turn s t).outs
+    none_turned : (s : Server) (t : Turn) → NoneIs f (answer_first s t).outs
     none_turned s t = if_both (λ (x : Done). NoneIs f x.outs) (asks_absent s.durable.index t.waiter) (tells_absent s t) (grants s t)
         (none_pushed (effects.with_rows s (dropped s.rows t.slot)) t.waiter.client (push.Absent t.waiter.req t.waiter.point) (λ epoch number. absent epoch number t.waiter.req t.waiter.point))
         (let g = effects.with_rows s (granted s.durable.index s.rows t.slot) in
@@ -93,7 +93,7 @@ module _ (f : ToClientBody → Bool) where
 
     none_answered : (s t : Server) (outs : List ToClient) → Answered s t outs → NoneIs f outs
     none_answered s t outs (stops s' e) = λ o at. absurd at
-    none_answered s t outs (goes_on s' t' turn later e rest) = both_are (take_turn s turn).outs later (none_turned s turn) (none_answered (take_turn s turn).server t later rest)
+    none_answered s t outs (goes_on s' t' turn later e rest) = both_are (answer_first s turn).outs later (none_turned s turn) (none_answered (answer_first s turn).server t later rest)
 
 no_calls_answered : (s t : Server) (outs : List ToClient) → Answered s t outs → NoneIs is_callback outs
 no_calls_answered = none_answered is_callback (λ epoch number req h. refl) (λ epoch number req point. refl)
@@ -112,30 +112,30 @@ no_own_calls s m Tells = one_is is_callback _ refl
 no_own_calls s m Alarms = λ o at. absurd at
 no_own_calls s m (Rebuilds pieces) = λ o at. absurd at
 no_own_calls s m (Repeats body) = one_is is_callback _ refl
-no_own_calls s m Hears = λ o at. absurd at
+no_own_calls s m Acknowledges = λ o at. absurd at
 no_own_calls s m (Lowers span keep) = λ o at. absurd at
 no_own_calls s m (Waits req point hi g) = λ o at. absurd at
-no_own_calls s m (Judges number op o) = let t = effects.writes (heard s m.client) m.client op o in none_pushed is_callback t m.client (push.Answer number o (holding t (slot_of t.durable.index (op_key op)) m.client)) (λ epoch number. refl)
-no_own_calls s m (AnswersAgain number op o) = let t = heard s m.client in none_pushed is_callback t m.client (push.Answer number o (holding t (slot_of t.durable.index (op_key op)) m.client)) (λ epoch number. refl)
+no_own_calls s m (Judges number op o) = let t = effects.writes (acknowledged s m.client) m.client op o in none_pushed is_callback t m.client (push.Answer number o (holding t (slot_of t.durable.index (op_key op)) m.client)) (λ epoch number. refl)
+no_own_calls s m (AnswersAgain number op o) = let t = acknowledged s m.client in none_pushed is_callback t m.client (push.Answer number o (holding t (slot_of t.durable.index (op_key op)) m.client)) (λ epoch number. refl)
 
 called : (t : Server) (o : ToClient) → IsCallback t o → is_callback o.body ≡ true
 called t o x = ap (λ (y : ToClient). is_callback y.body) x.4
 
-no_calls_of : (k : Kind) (t : Server) → (k ≢ Acts) ⊎ (is_gathering t.missing ≡ true) → is_gathering t.missing ≡ false → NoneIs is_callback (calls_of k t)
+no_calls_of : (k : Kind) (t : Server) → (k ≢ Acts) ⊎ (is_recovering t.missing ≡ true) → is_recovering t.missing ≡ false → NoneIs is_callback (calls_of k t)
 no_calls_of Idle t why up = λ o at. absurd at
 no_calls_of Quiet t why up = λ o at. absurd at
-no_calls_of Acts t why up = absurd (⊎_elim (λ (ne : Acts ≢ Acts). ne refl) (λ (g : is_gathering t.missing ≡ true). not_truth (is_gathering t.missing) up g) why)
+no_calls_of Acts t why up = absurd (⊎_elim (λ (ne : Acts ≢ Acts). ne refl) (λ (g : is_recovering t.missing ≡ true). not_truth (is_recovering t.missing) up g) why)
 
-no_calls : (done : Done) (kind : Kind) (t : Server) (outs : List ToClient) → Ends done kind t outs → NoneIs is_callback done.outs → (kind ≢ Acts) ⊎ (is_gathering t.missing ≡ true) → NoneIs is_callback outs
+no_calls : (done : Done) (kind : Kind) (t : Server) (outs : List ToClient) → Ends done kind t outs → NoneIs is_callback done.outs → (kind ≢ Acts) ⊎ (is_recovering t.missing ≡ true) → NoneIs is_callback outs
 no_calls done kind t outs (at_once e) own why = own
-no_calls done kind t outs (gathers g) own why = own
+no_calls done kind t outs (recovers g) own why = own
 no_calls done kind t outs (serves t' answers acted up rest) own why =
     both_are is_callback done.outs (answers ++ calls_of kind t) own
     (both_are is_callback answers (calls_of kind t) (no_calls_answered done.server t answers rest) (no_calls_of kind t why (answered_up done.server t answers rest up)))
 
-the_calls : (done : Done) (kind : Kind) (t : Server) (outs : List ToClient) → Ends done kind t outs → NoneIs is_callback done.outs → kind ≡ Acts → is_gathering t.missing ≡ false → (o : ToClient) → (In o outs × (is_callback o.body ≡ true)) ↔ IsCallback t o
+the_calls : (done : Done) (kind : Kind) (t : Server) (outs : List ToClient) → Ends done kind t outs → NoneIs is_callback done.outs → kind ≡ Acts → is_recovering t.missing ≡ false → (o : ToClient) → (In o outs × (is_callback o.body ≡ true)) ↔ IsCallback t o
 the_calls done kind t outs (at_once e) own acts up o = absurd (let bad : Idle ≡ Acts = sym e ∙ acts in cc)
-the_calls done kind t outs (gathers g) own acts up o = absurd (not_truth (is_gathering done.server.missing) up g)
+the_calls done kind t outs (recovers g) own acts up o = absurd (not_truth (is_recovering done.server.missing) up g)
 the_calls done kind t outs (serves t' answers acted begun rest) own acts up o = (
   (λ x. ⊎_elim
       (λ (y : In o done.outs). absurd (not_truth (is_callback o.body) (own o y) x.1))
@@ -171,7 +171,7 @@ no_answer_of Acts t = λ o at. let x = (all_said.callbacks t o).0 at in ap (λ (
 
 rest_of : (done : Done) (kind : Kind) (t : Server) (outs : List ToClient) → Ends done kind t outs → HasRest t done.outs outs
 rest_of done kind t outs (at_once e) = record { rest = []; all = sym (append-nil done.outs); none = λ o at. absurd at }
-rest_of done kind t outs (gathers g) = record { rest = []; all = sym (append-nil done.outs); none = λ o at. absurd at }
+rest_of done kind t outs (recovers g) = record { rest = []; all = sym (append-nil done.outs); none = λ o at. absurd at }
 rest_of done kind t outs (serves t' answers acted up rest) = record {
   rest = answers ++ calls_of kind t;
   all = refl;
@@ -183,13 +183,13 @@ abbrev pushed_by : Durable → ℕ → ℕ → PushBody → ToClient
 pushed_by d c number body = record { client = c; incarnation = incarnation_or_0 (record_of d.register c); body = told.Push d.epoch number body }
 
 -- the case answers the write by a push from the server x, where as many were made as in s
-module _ (s x : Server) (c : ℕ) (number : ℕ) (o : Outcome) (h : Holding) (same : (x.lines c).pushed ≡ (s.lines c).pushed) where
-  pushed_once : (s.lines c).pushed < END → (pushes x c (push.Answer number o h)).outs ≡ push_to x c (suc (s.lines c).pushed) (push.Answer number o h) ∷ []
+module _ (s x : Server) (c : ℕ) (number : ℕ) (o : Outcome) (h : Holding) (same : (x.sessions c).last_push ≡ (s.sessions c).last_push) where
+  pushed_once : (s.sessions c).last_push < END → (pushes x c (push.Answer number o h)).outs ≡ push_to x c (suc (s.sessions c).last_push) (push.Answer number o h) ∷ []
   pushed_once lt = subst (λ n. (pushes x c (push.Answer number o h)).outs ≡ push_to x c (suc n) (push.Answer number o h) ∷ []) same
-      (rw (lt-ltb (x.lines c).pushed END (subst (λ n. n < END) (sym same) lt)) refl)
+      (rw (lt-ltb (x.sessions c).last_push END (subst (λ n. n < END) (sym same) lt)) refl)
 
-  pushed_never : END ≤ (s.lines c).pushed → (pushes x c (push.Answer number o h)).outs ≡ []
-  pushed_never le = rw (le-ltb (x.lines c).pushed END (subst (λ n. END ≤ n) (sym same) le)) refl
+  pushed_never : END ≤ (s.sessions c).last_push → (pushes x c (push.Answer number o h)).outs ≡ []
+  pushed_never le = rw (le-ltb (x.sessions c).last_push END (subst (λ n. END ≤ n) (sym same) le)) refl
 
   answered_so : (kind : Kind) (t : Server) (outs : List ToClient) → Ends (pushes x c (push.Answer number o h)) kind t outs → IsAnswered s c t outs (number, o)
   answered_so kind t outs ends =
@@ -199,14 +199,14 @@ module _ (s x : Server) (c : ℕ) (number : ℕ) (o : Outcome) (h : Holding) (sa
         once = λ lt. record {
           holding = h;
           others = r.rest;
-          first = r.all ∙ ap (λ l. l ++ r.rest) (pushed_once lt) ∙ ap (λ d. pushed_by d c (suc (s.lines c).pushed) a ∷ r.rest) (sym (ends_durable (pushes x c a) kind t outs ends ∙ pushes_durable x c a));
+          first = r.all ∙ ap (λ l. l ++ r.rest) (pushed_once lt) ∙ ap (λ d. pushed_by d c (suc (s.sessions c).last_push) a ∷ r.rest) (sym (ends_durable (pushes x c a) kind t outs ends ∙ pushes_durable x c a));
           no_other = r.none;
         };
         spent = λ le. subst (NoneIs is_answer) (sym (r.all ∙ ap (λ l. l ++ r.rest) (pushed_never le))) r.none;
       }
 
-heard_pushed : (s : Server) (c : ℕ) → ((heard s c).lines c).pushed ≡ (s.lines c).pushed
-heard_pushed s c = ap (λ y. y.pushed) (line_here s.lines c (record (s.lines c) { unheard = None }))
+acknowledged_pushed : (s : Server) (c : ℕ) → ((acknowledged s c).sessions c).last_push ≡ (s.sessions c).last_push
+acknowledged_pushed s c = ap (λ y. y.last_push) (session_here s.sessions c (record (s.sessions c) { unacked = None }))
 
 answers_of : (s t : Server) (m : ToServer) (outs : List ToClient) (k : Case) → Ends (effect s m k) (kind_of k) t outs → IfSome (answered_write k) (IsAnswered s m.client t outs)
 answers_of s t m outs Ignored ends = tt
@@ -216,15 +216,15 @@ answers_of s t m outs Tells ends = tt
 answers_of s t m outs Alarms ends = tt
 answers_of s t m outs (Rebuilds pieces) ends = tt
 answers_of s t m outs (Repeats body) ends = tt
-answers_of s t m outs Hears ends = tt
+answers_of s t m outs Acknowledges ends = tt
 answers_of s t m outs (Lowers span keep) ends = tt
 answers_of s t m outs (Waits req point hi g) ends = tt
 answers_of s t m outs (Judges number op o) ends =
-    let x = effects.writes (heard s m.client) m.client op o in
-    answered_so s x m.client number o (holding x (slot_of x.durable.index (op_key op)) m.client) (heard_pushed s m.client) Acts t outs ends
+    let x = effects.writes (acknowledged s m.client) m.client op o in
+    answered_so s x m.client number o (holding x (slot_of x.durable.index (op_key op)) m.client) (acknowledged_pushed s m.client) Acts t outs ends
 answers_of s t m outs (AnswersAgain number op o) ends =
-    let x = heard s m.client in
-    answered_so s x m.client number o (holding x (slot_of x.durable.index (op_key op)) m.client) (heard_pushed s m.client) Acts t outs ends
+    let x = acknowledged s m.client in
+    answered_so s x m.client number o (holding x (slot_of x.durable.index (op_key op)) m.client) (acknowledged_pushed s m.client) Acts t outs ends
 
 pub answers_said : (s t : Server) (m : ToServer) (outs : List ToClient) → ServerStep s m t outs → AnswersWrite s m t outs
 answers_said s t m outs step = answers_of s t m outs (case_of s m) step

@@ -20,10 +20,10 @@ use Rattle.krl_table.proofs.Stands.{in_unqueue, in_queue_with}
 use Rattle.krl_server.specs.Servers.{Server}
 use Rattle.krl_server.specs.Cases.{Judges, judged, case_of}
 use Rattle.krl_server.specs.Effects as effects
-use Rattle.krl_server.specs.Effects.{effect, heard, queues, departs}
+use Rattle.krl_server.specs.Effects.{effect, acknowledged, queues, departs}
 use Rattle.krl_server.specs.Shows.{is_applied, IsSound}
 use Rattle.krl_server.proofs.Meaning.{row_modes, mode_here, mode_other}
-use Rattle.krl_server.proofs.Pushes.{heard_sound, pushes_sound}
+use Rattle.krl_server.proofs.Pushes.{acknowledged_sound, pushes_sound}
 use Rattle.krl_server.proofs.Refused.{with_noted, refusal_is}
 use Rattle.krl_server.proofs.Turns.{in_row}
 use Rattle.krl_server.proofs.Lowers.{lowered_sound}
@@ -86,10 +86,10 @@ queues_sound s u lt le i =
           (in_row s.rows n row m v at);
     }
 
-refused_sound : (s : Server) (c number : ℕ) (op : WriteOp) (o : Outcome) (r : Record) → record_of s.durable.register c ≡ Some r → is_applied o ≡ false → IsSound s → IsSound (effects.answers (effects.writes (heard s c) c op o) c number op o).server
+refused_sound : (s : Server) (c number : ℕ) (op : WriteOp) (o : Outcome) (r : Record) → record_of s.durable.register c ≡ Some r → is_applied o ≡ false → IsSound s → IsSound (effects.answers (effects.writes (acknowledged s c) c op o) c number op o).server
 refused_sound s c number op o r known not i =
-    let t = with_noted (heard s c) c o r in
-    subst (λ t. IsSound (effects.answers t c number op o).server) (refusal_is (heard s c) c op o r known not)
+    let t = with_noted (acknowledged s c) c o r in
+    subst (λ t. IsSound (effects.answers t c number op o).server) (refusal_is (acknowledged s c) c op o r known not)
     (pushes_sound t c (push.Answer number o (effects.holding t (slot_of t.durable.index (op_key op)) c)) (record { near = i.near; begun = i.begun; strangers = i.strangers; placed = i.placed; clients = i.clients }))
 
 judges_sound : (s : Server) (m : ToServer) (r : Record) (number : ℕ) (op : WriteOp) (o : Outcome) → IsFrom s m r → IsSound s → op_key op < END → judged s m.client op ≡ o → IsSound (effect s m (Judges number op o)).server
@@ -100,7 +100,7 @@ judges_sound s m r number op outcome.NotHeld from i under is = refused_sound s m
 judges_sound s m r number op outcome.Full from i under is = refused_sound s m.client number op outcome.Full r from.known refl i
 
 pub effect_sound : (s : Server) (m : ToServer) → IsSound s → IsSound (effect s m (case_of s m)).server
-effect_sound s m i = let t = heard s m.client in let j = heard_sound s m.client i in
+effect_sound s m i = let t = acknowledged s m.client in let j = acknowledged_sound s m.client i in
     by_case s m (λ k. IsSound (effect s m k).server)
     (record {
       ignored = i;
@@ -109,8 +109,8 @@ effect_sound s m i = let t = heard s m.client in let j = heard_sound s m.client 
       tells = i;
       alarms = i;
       rebuilds = λ r epoch pieces from now missing fine. adopts_sound s m.client pieces from.client i;
-      repeats = λ r body served unheard. i;
-      hears = λ r served. j;
+      repeats = λ r body served unacked. i;
+      acknowledges = λ r served. j;
       lowers = λ r span keep served. lowered_sound t m.client span keep served.from.client j;
       waits = λ r req point hi g served new free near. queues_sound t (record { client = m.client; req = req; point = point; hi = hi; mode = g }) served.from.client near j;
       judges = λ r number op o served under near new is. judges_sound s m r number op o served.from i under is;

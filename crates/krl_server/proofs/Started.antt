@@ -1,6 +1,6 @@
 -- A server that starts, and one that has taken a step.
 use Rattle.std.proofs.Math.ListN.{replicate}
-use Rattle.krl_server.specs.declared.line.Line.{Line}
+use Rattle.krl_server.specs.declared.session.Session.{Session}
 use Rattle.std.proofs.Common.{◌≡◌, ℕ, zero, suc, ◌≤◌, ◌<◌, List, length, refl, sym, ap, subst, ◌∙◌}
 use Rattle.std.proofs.Math.Path.{fun_ext}
 use Rattle.std.proofs.lemmas.Bool.{lt-ltb}
@@ -13,8 +13,8 @@ use Rattle.krl_table.specs.Rows.{blank_row}
 use Rattle.krl_table.specs.Kept.{rows_of, IsOver}
 use Rattle.krl_server.specs.declared.state.State.{State}
 use Rattle.krl_server.specs.declared.out.ServerOut.{ServerOut}
-use Rattle.krl_server.specs.Servers.{Server, blank_line}
-use Rattle.krl_server.specs.States.{meaning, lines_of, IsFormed}
+use Rattle.krl_server.specs.Servers.{Server, blank_session}
+use Rattle.krl_server.specs.States.{meaning, sessions_of, IsFormed}
 use Rattle.krl_server.specs.Steps.{ServerStep, start}
 use Rattle.krl_server.specs.Shows.{IsSound}
 use Rattle.krl_server.specs.Keeps.{IsOrdered}
@@ -23,18 +23,18 @@ use Rattle.std.specs.Prelude.{Result, Ok, Err, IfOk, OnOk, OnErr}
 use Rattle.krl_server.specs.Ends.{most_messages}
 use Rattle.krl_server.specs.Doing.{IsServer, IsStarted, HasStepped}
 use Rattle.krl_server.proofs.Numbers.{all_end}
-use Rattle.krl_server.specs.Within.{IsWithin, AreHere}
+use Rattle.krl_server.specs.Within.{IsWithin, AreRegistered}
 use Rattle.krl_server.proofs.Kept.{server_keeps}
 use Rattle.krl_server.proofs.Within.{all_within}
 use Rattle.krl_server.proofs.Known.{durable_within}
 
-module _ (d : Durable) (st : State) (lt : d.epoch < END) (durable : st.durable ≡ record d { epoch = suc d.epoch }) (rows : (n : ℕ) → rows_of st.table n ≡ blank_row) (over : IsOver d.index st.table) (full : length st.lines ≡ 64) (lines : (c : ℕ) → lines_of st.lines c ≡ blank_line) (missing : st.missing ≡ missing_order d.register) where
+module _ (d : Durable) (st : State) (lt : d.epoch < END) (durable : st.durable ≡ record d { epoch = suc d.epoch }) (rows : (n : ℕ) → rows_of st.table n ≡ blank_row) (over : IsOver d.index st.table) (full : length st.sessions ≡ 64) (sessions : (c : ℕ) → sessions_of st.sessions c ≡ blank_session) (missing : st.missing ≡ missing_order d.register) where
   means_start : meaning st ≡ start d
   means_start =
       ap (λ x. record (meaning st) { durable = x }) durable
       ∙ ap (λ r. record (meaning st) { durable = record d { epoch = suc d.epoch }; rows = r }) (fun_ext rows)
-      ∙ ap (λ l. let s : Server = record { durable = record d { epoch = suc d.epoch }; rows = λ n. blank_row; lines = l; missing = st.missing } in s) (fun_ext lines)
-      ∙ ap (λ m. let s : Server = record { durable = record d { epoch = suc d.epoch }; rows = λ n. blank_row; lines = λ c. blank_line; missing = m } in s) missing
+      ∙ ap (λ l. let s : Server = record { durable = record d { epoch = suc d.epoch }; rows = λ n. blank_row; sessions = l; missing = st.missing } in s) (fun_ext sessions)
+      ∙ ap (λ m. let s : Server = record { durable = record d { epoch = suc d.epoch }; rows = λ n. blank_row; sessions = λ c. blank_session; missing = m } in s) missing
 
   pub is_started : IsStarted d (meaning st)
   is_started = record { epoch = lt-ltb d.epoch END lt; server = means_start }
@@ -48,7 +48,7 @@ module _ (d : Durable) (st : State) (lt : d.epoch < END) (durable : st.durable �
         ordered = subst IsOrdered (sym means_start) x.0;
         settled = subst IsSettled (sym means_start) x.1;
         within = subst IsWithin (sym means_start) (all_within.start d (lt-ltb d.epoch END lt) (durable_within d kept));
-        here = subst AreHere (sym means_start) (all_within.here_start d);
+        here = subst AreRegistered (sym means_start) (all_within.registered_start d);
       }
 
 -- a step keeps it
@@ -59,7 +59,7 @@ server_after old new m outs i formed step = record {
   ordered = server_keeps.ordered_step (meaning old) (meaning new) m outs i.sound i.ordered step;
   settled = server_keeps.settled_step (meaning old) (meaning new) m outs i.settled step;
   within = all_within.step (meaning old) (meaning new) m outs i.within step;
-  here = all_within.here_step (meaning old) (meaning new) m outs i.sound i.here step;
+  here = all_within.registered_step (meaning old) (meaning new) m outs i.sound i.here step;
 }
 
 -- whatever comes of it
@@ -71,11 +71,11 @@ pub few_sent : {E : Type 0} (old new : State) (m : ToServer) (r : Result ServerO
 few_sent old new m (Ok out) i stepped = all_end.few (meaning old) (meaning new) m out.messages i.sound i.ordered.table stepped.step
 few_sent old new m (Err e) i stepped = tt
 
--- a blank line for each client
-blank_all : (n c : ℕ) → lines_of (replicate n blank_line) c ≡ blank_line
+-- a blank session for each client
+blank_all : (n c : ℕ) → sessions_of (replicate n blank_session) c ≡ blank_session
 blank_all zero c = refl
 blank_all (suc n) zero = refl
 blank_all (suc n) (suc c) = blank_all n c
 
-pub blank_each : (n : ℕ) (x : Line) → x ≡ blank_line → (c : ℕ) → lines_of (replicate n x) c ≡ blank_line
-blank_each n x e c = subst (λ y. lines_of (replicate n y) c ≡ blank_line) (sym e) (blank_all n c)
+pub blank_each : (n : ℕ) (x : Session) → x ≡ blank_session → (c : ℕ) → sessions_of (replicate n x) c ≡ blank_session
+blank_each n x e c = subst (λ y. sessions_of (replicate n y) c ≡ blank_session) (sym e) (blank_all n c)

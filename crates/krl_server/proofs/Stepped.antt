@@ -13,14 +13,14 @@ use Rattle.krl_server.specs.declared.case.Case.TheVariants as found
 use Rattle.krl_server.specs.declared.case.After.{After}
 use Rattle.krl_server.specs.Afters.{does_answer, does_call, does_alarm}
 use Rattle.krl_server.specs.Servers.{Server}
-use Rattle.krl_server.specs.Cases.{Case, Ignored, Registers, Leaves, Tells, Alarms, Rebuilds, Repeats, Hears, Lowers, Waits, Judges, AnswersAgain, case_of, is_alarm, judged}
-use Rattle.krl_server.specs.Effects.{Done, effect, heard, writes}
-use Rattle.krl_server.specs.Steps.{Kind, Idle, Quiet, Acts, kind_of, calls_of, Ends, at_once, gathers, serves}
+use Rattle.krl_server.specs.Cases.{Case, Ignored, Registers, Leaves, Tells, Alarms, Rebuilds, Repeats, Acknowledges, Lowers, Waits, Judges, AnswersAgain, case_of, is_alarm, judged}
+use Rattle.krl_server.specs.Effects.{Done, effect, acknowledged, writes}
+use Rattle.krl_server.specs.Steps.{Kind, Idle, Quiet, Acts, kind_of, calls_of, Ends, at_once, recovers, serves}
 use Rattle.krl_server.specs.States.{meant, case_of_pieces, after_of}
 use Rattle.krl_server.specs.Ends.{waiting}
 use Rattle.krl_server.specs.Shows.{IsSound}
 use Rattle.krl_server.specs.Outboxes.{Sent, Sends}
-use Rattle.krl_server.specs.Doing.{own_of, room_for, waiting_clients, calls_after, Finished, rests, gathered, served, HasRoom, alarm_of}
+use Rattle.krl_server.specs.Doing.{own_of, room_for, waiting_clients, calls_after, Finished, rests, still_recovering, served, HasRoom, alarm_of}
 use Rattle.krl_server.proofs.Numbers.{answers_few}
 use Rattle.krl_server.proofs.Boxes.{sends_length}
 use Rattle.krl_server.proofs.Came.{asks, all_came}
@@ -59,11 +59,11 @@ module _ (s : Server) (m : ToServer) where
   own_few found.Tells = omega arith
   own_few found.Reports = pieces_few m.body
   own_few (found.Repeats body) = omega arith
-  own_few found.Hears = omega arith
+  own_few found.Acknowledges = omega arith
   own_few (found.Lowers span keep) = omega arith
   own_few (found.Waits req point hi g) = omega arith
-  own_few (found.Writes number op) = answers_few (writes (heard s m.client) m.client op (judged s m.client op)) m.client number op (judged s m.client op)
-  own_few (found.AnswersAgain number op o) = answers_few (heard s m.client) m.client number op o
+  own_few (found.Writes number op) = answers_few (writes (acknowledged s m.client) m.client op (judged s m.client op)) m.client number op (judged s m.client op)
+  own_few (found.AnswersAgain number op o) = answers_few (acknowledged s m.client) m.client number op o
 
   pub own_room : (f : Found) (w : ℕ) → own_of f ≤ room_for w f
   own_room found.Ignored w = omega arith
@@ -72,7 +72,7 @@ module _ (s : Server) (m : ToServer) where
   own_room found.Tells w = omega arith
   own_room found.Reports w = omega arith
   own_room (found.Repeats body) w = omega arith
-  own_room found.Hears w = omega arith
+  own_room found.Acknowledges w = omega arith
   own_room (found.Lowers span keep) w = omega arith
   own_room (found.Waits req point hi g) w = omega arith
   own_room (found.Writes number op) w = omega arith
@@ -85,7 +85,7 @@ module _ (s : Server) (m : ToServer) where
   answers_room found.Tells w u few more e = absurd (cc)
   answers_room found.Reports w u few more e = let x = few (pieces_ask m.body) in omega (arith, x)
   answers_room (found.Repeats body) w u few more e = absurd (cc)
-  answers_room found.Hears w u few more e = let x = few refl in omega (arith, x)
+  answers_room found.Acknowledges w u few more e = let x = few refl in omega (arith, x)
   answers_room (found.Lowers span keep) w u few more e = let x = few refl in omega (arith, x)
   answers_room (found.Waits req point hi g) w u few more e = omega (arith, more)
   answers_room (found.Writes number op) w u few more e = let x = few refl in omega (arith, x)
@@ -98,7 +98,7 @@ module _ (s : Server) (m : ToServer) where
   calls_room found.Tells w u few more e = absurd (cc)
   calls_room found.Reports w u few more e = let x = few (pieces_ask m.body) in omega (arith, x)
   calls_room (found.Repeats body) w u few more e = absurd (cc)
-  calls_room found.Hears w u few more e = let x = few refl in omega (arith, x)
+  calls_room found.Acknowledges w u few more e = let x = few refl in omega (arith, x)
   calls_room (found.Lowers span keep) w u few more e = absurd (cc)
   calls_room (found.Waits req point hi g) w u few more e = omega (arith, more)
   calls_room (found.Writes number op) w u few more e = let x = few refl in omega (arith, x)
@@ -143,7 +143,7 @@ idle_of Tells e = refl
 idle_of Alarms e = refl
 idle_of (Rebuilds pieces) e = absurd (cc)
 idle_of (Repeats body) e = refl
-idle_of Hears e = absurd (cc)
+idle_of Acknowledges e = absurd (cc)
 idle_of (Lowers span keep) e = absurd (cc)
 idle_of (Waits req point hi g) e = absurd (cc)
 idle_of (Judges number op o) e = absurd (cc)
@@ -157,7 +157,7 @@ acts_of Tells e f = absurd (cc)
 acts_of Alarms e f = absurd (cc)
 acts_of (Rebuilds pieces) e f = absurd (cc)
 acts_of (Repeats body) e f = absurd (cc)
-acts_of Hears e f = absurd (cc)
+acts_of Acknowledges e f = absurd (cc)
 acts_of (Lowers span keep) e f = absurd (cc)
 acts_of (Waits req point hi g) e f = absurd (cc)
 acts_of (Judges number op o) e f = absurd (cc)
@@ -171,7 +171,7 @@ calls_are Tells t = refl
 calls_are Alarms t = refl
 calls_are (Rebuilds pieces) t = refl
 calls_are (Repeats body) t = refl
-calls_are Hears t = refl
+calls_are Acknowledges t = refl
 calls_are (Lowers span keep) t = refl
 calls_are (Waits req point hi g) t = refl
 calls_are (Judges number op o) t = refl
@@ -185,7 +185,7 @@ alarm_is Tells = refl
 alarm_is Alarms = refl
 alarm_is (Rebuilds pieces) = refl
 alarm_is (Repeats body) = refl
-alarm_is Hears = refl
+alarm_is Acknowledges = refl
 alarm_is (Lowers span keep) = refl
 alarm_is (Waits req point hi g) = refl
 alarm_is (Judges number op o) = refl
@@ -193,7 +193,7 @@ alarm_is (AnswersAgain number op o) = refl
 
 finished_ends : (k : Case) (done : Done) (t : Server) (outs : List ToClient) → Finished done.server (after_of k) t outs → Ends done (kind_of k) t (done.outs ++ outs)
 finished_ends k done t outs (rests e) = subst (Ends done (kind_of k) done.server) (sym (append-nil done.outs)) (at_once (idle_of k e))
-finished_ends k done t outs (gathered e) = subst (Ends done (kind_of k) done.server) (sym (append-nil done.outs)) (gathers e)
+finished_ends k done t outs (still_recovering e) = subst (Ends done (kind_of k) done.server) (sym (append-nil done.outs)) (recovers e)
 finished_ends k done t outs (served t' answers e f a) = subst (λ l. Ends done (kind_of k) t' (done.outs ++ (answers ++ l))) (sym (calls_are k t')) (serves t' answers (acts_of k e) f a)
 
 -- the message was taken

@@ -27,9 +27,9 @@ use Rattle.krl_server.proofs.Placed.{two_rows, ArePlaced, put_placed, split_from
 use Rattle.krl_server.proofs.Writes.{insert_may, change_may}
 use Rattle.krl_server.proofs.Follows.{not_truth}
 use Rattle.krl_server.proofs.Tests.{none_some, some_of}
-use Rattle.krl_table.specs.Kept.{times, AreBeside}
+use Rattle.krl_table.specs.Kept.{times, AreCompatible}
 use Rattle.krl_table.proofs.Alone.{times_both, times_parted, AreAlone, alone_moved}
-use Rattle.krl_table.proofs.Besides.{split_beside}
+use Rattle.krl_table.proofs.Besides.{split_compatible}
 use Rattle.krl_server.proofs.Tabled.{IsKept}
 use Rattle.krl_server.proofs.TableKept.{slot_there}
 
@@ -73,7 +73,7 @@ module _ (m : Index) (near : (q : ℕ) → END ≤ q → map.get m q ≡ None) (
         (λ ne f. absurd (not_truth (is_slot m j) (still j ne e) (ap (is_slot m) f ∙ there)))
         (λ ne no. kept.blank j (still j ne e));
     strangers = split_strangers m rows k c own kept.strangers;
-    beside = λ j. two_rows rows n k j at_n at_k (λ r. AreBeside r.modes) (λ f. split_beside (rows n).modes c may (kept.beside n)) (λ ne f. kept.beside n) (λ ne no. kept.beside j);
+    beside = λ j. two_rows rows n k j at_n at_k (λ r. AreCompatible r.modes) (λ f. split_compatible (rows n).modes c may (kept.beside n)) (λ ne f. kept.beside n) (λ ne no. kept.beside j);
     placed = λ j u at. let p = split_placed m 0 Serving near rows placed k v c lt absent near' j u at in let f = split_from m 0 Serving near rows placed k v c lt absent near' j u at in ((kept.placed f.0 u f.1).0, p.0, p.1);
     alone = moved_alone rows n k at_n at_k apart (λ c. let x = times_parted c k (rows n).queue in let y = ap (λ r. times c r.queue) (kept.blank k gone) in omega (arith, x, y)) kept.alone;
   }
@@ -112,7 +112,7 @@ module _ (m : Index) (near : (q : ℕ) → END ≤ q → map.get m q ≡ None) (
         (λ ne f. absurd (not_truth (is_slot m j) (still j ne e) (ap (is_slot m) f ∙ slot_there m near (suc k) (omega (arith, lt)))))
         (λ ne no. kept.blank j (still j ne e));
     strangers = merge_strangers m rows k kept.strangers;
-    beside = λ j. two_rows rows n k j at_n blank_row (λ r. AreBeside r.modes) (λ f c d ne. refl) (λ ne f. kept.beside n) (λ ne no. kept.beside j);
+    beside = λ j. two_rows rows n k j at_n blank_row (λ r. AreCompatible r.modes) (λ f c d ne. refl) (λ ne f. kept.beside n) (λ ne no. kept.beside j);
     placed = λ j u at. let p = merge_placed m 0 Serving near rows placed k w lt present near' j u at in let f = merge_from m 0 Serving near rows placed k w lt present near' j u at in ((kept.placed f.0 u f.1).0, p.0, p.1);
     alone = moved_alone rows n k at_n blank_row apart (λ c. let x = times_both c (rows k).queue (rows n).queue in omega (arith, x)) kept.alone;
   }

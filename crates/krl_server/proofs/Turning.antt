@@ -13,7 +13,7 @@ use Rattle.krl_table.specs.declared.reply.Reply.TheVariants as reply
 use Rattle.krl_table.specs.Rows.{Rows, front_of}
 use Rattle.krl_table.specs.Calls.{dropped, behind_first}
 use Rattle.krl_table.specs.Grants.{taken, granted}
-use Rattle.krl_table.specs.Replies.{asks_absent, can_have, reply_to, first_reply, answerable}
+use Rattle.krl_table.specs.Replies.{asks_absent, is_wanted_compatible, reply_to, first_reply, answerable}
 use Rattle.krl_server.specs.Servers.{Server}
 use Rattle.krl_server.specs.Effects.{with_rows, holdings, push_to}
 use Rattle.krl_server.specs.Answering.{Turn, can_push, is_answerable, turn_at, tells_absent, grants}
@@ -35,8 +35,8 @@ front_in us u e = subst (In u) (sym (front_is us u e)) (Rattle.std.proofs.Common
 
 -- what a reply says
 
-grant_says : (m : Index) (rows : Rows) (n : ℕ) (u : Waiter) → reply_to m rows n u ≡ Some reply.Grant → (asks_absent m u ≡ false) × (can_have rows n u ≡ true)
-grant_says m rows n u = by_tests (asks_absent m u) (can_have rows n u)
+grant_says : (m : Index) (rows : Rows) (n : ℕ) (u : Waiter) → reply_to m rows n u ≡ Some reply.Grant → (asks_absent m u ≡ false) × (is_wanted_compatible rows n u ≡ true)
+grant_says m rows n u = by_tests (asks_absent m u) (is_wanted_compatible rows n u)
   where
     by_tests : (a b : Bool) → (if a then Some reply.Absent else (if b then Some reply.Grant else None)) ≡ Some reply.Grant → (a ≡ false) × (b ≡ true)
     by_tests true b e = absurd (cc)
@@ -44,15 +44,15 @@ grant_says m rows n u = by_tests (asks_absent m u) (can_have rows n u)
     by_tests false false e = absurd (cc)
 
 absent_says : (m : Index) (rows : Rows) (n : ℕ) (u : Waiter) → reply_to m rows n u ≡ Some reply.Absent → asks_absent m u ≡ true
-absent_says m rows n u = by_tests (asks_absent m u) (can_have rows n u)
+absent_says m rows n u = by_tests (asks_absent m u) (is_wanted_compatible rows n u)
   where
     by_tests : (a b : Bool) → (if a then Some reply.Absent else (if b then Some reply.Grant else None)) ≡ Some reply.Absent → a ≡ true
     by_tests true b e = refl
     by_tests false true e = absurd (cc)
     by_tests false false e = absurd (cc)
 
-none_says : (m : Index) (rows : Rows) (n : ℕ) (u : Waiter) → reply_to m rows n u ≡ None → (asks_absent m u || can_have rows n u) ≡ false
-none_says m rows n u = by_tests (asks_absent m u) (can_have rows n u)
+none_says : (m : Index) (rows : Rows) (n : ℕ) (u : Waiter) → reply_to m rows n u ≡ None → (asks_absent m u || is_wanted_compatible rows n u) ≡ false
+none_says m rows n u = by_tests (asks_absent m u) (is_wanted_compatible rows n u)
   where
     by_tests : (a b : Bool) → (if a then Some reply.Absent else (if b then Some reply.Grant else None)) ≡ None → (a || b) ≡ false
     by_tests true b e = absurd (cc)
@@ -92,22 +92,22 @@ module _ (s : Server) (n : ℕ) (u : Waiter) (first : front_of (s.rows n).queue 
   answer : (acked : Bool) → answerable s.durable.index s.rows n acked ≡ (if acked then reply_to s.durable.index s.rows n u else None)
   answer acked = ap (λ q. if acked then first_reply s.durable.index s.rows n q else None) (front_is (s.rows n).queue u first)
 
-  pub not_answerable : (acked : Bool) → acked ≡ can_push (s.lines u.client) → None ≡ answerable s.durable.index s.rows n acked → turn_here s n ≡ None
+  pub not_answerable : (acked : Bool) → acked ≡ can_push (s.sessions u.client) → None ≡ answerable s.durable.index s.rows n acked → turn_here s n ≡ None
   not_answerable acked e a = here ∙ ap (λ b. if b then Some (let x : Turn = record { slot = n; waiter = u } in x) else None)
-      (ap (λ b. b && (asks_absent s.durable.index u || can_have s.rows n u)) (sym e) ∙ no_reply acked (reply_to s.durable.index s.rows n u) (asks_absent s.durable.index u || can_have s.rows n u) (none_says s.durable.index s.rows n u) (sym (a ∙ answer acked)))
+      (ap (λ b. b && (asks_absent s.durable.index u || is_wanted_compatible s.rows n u)) (sym e) ∙ no_reply acked (reply_to s.durable.index s.rows n u) (asks_absent s.durable.index u || is_wanted_compatible s.rows n u) (none_says s.durable.index s.rows n u) (sym (a ∙ answer acked)))
 
-  module _ (acked : Bool) (is : acked ≡ can_push (s.lines u.client)) where
-    pushable : acked ≡ true → (s.lines u.client).pushed < END
-    pushable e = ltb-true (s.lines u.client).pushed END (and_parts (not (is_some (s.lines u.client).unheard)) (nat_lt (s.lines u.client).pushed END) (sym is ∙ e)).1
+  module _ (acked : Bool) (is : acked ≡ can_push (s.sessions u.client)) where
+    pushable : acked ≡ true → (s.sessions u.client).last_push < END
+    pushable e = ltb-true (s.sessions u.client).last_push END (and_parts (not (is_some (s.sessions u.client).unacked)) (nat_lt (s.sessions u.client).last_push END) (sym is ∙ e)).1
 
     pub turned_grant : (t : Server) (o : Option ToClient) → Some reply.Grant ≡ answerable s.durable.index s.rows n acked → t ≡ (grants s (record { slot = n; waiter = u })).server → as_list o ≡ (grants s (record { slot = n; waiter = u })).outs → (x : ToClient) × (o ≡ Some x) × HasTurned s t n x
     turned_grant t o a server outs =
         let r = some_reply acked (reply_to s.durable.index s.rows n u) reply.Grant (sym (a ∙ answer acked)) in
         let g = grant_says s.durable.index s.rows n u r.1 in
         let body = push.Grant u.req (holdings (with_rows s (granted s.durable.index s.rows n)) u.client (taken s.durable.index s.rows n)) in
-        let x = push_to (with_rows s (granted s.durable.index s.rows n)) u.client (suc (s.lines u.client).pushed) body in
+        let x = push_to (with_rows s (granted s.durable.index s.rows n)) u.client (suc (s.sessions u.client).last_push) body in
         let next = pushes_next (with_rows s (granted s.durable.index s.rows n)) u.client body (pushable r.0) in
-        let here_is = yes (ap (λ b. b && (asks_absent s.durable.index u || can_have s.rows n u)) (sym is ∙ r.0) ∙ ap (λ b. b || can_have s.rows n u) g.0 ∙ g.1) in
+        let here_is = yes (ap (λ b. b && (asks_absent s.durable.index u || is_wanted_compatible s.rows n u)) (sym is ∙ r.0) ∙ ap (λ b. b || is_wanted_compatible s.rows n u) g.0 ∙ g.1) in
         let same = ap (λ b. if b then tells_absent s turn else grants s turn) g.0 in (
           x,
           sent_one o x (outs ∙ ap (λ d. d.outs) next),
@@ -124,9 +124,9 @@ module _ (s : Server) (n : ℕ) (u : Waiter) (first : front_of (s.rows n).queue 
         let r = some_reply acked (reply_to s.durable.index s.rows n u) reply.Absent (sym (a ∙ answer acked)) in
         let g = absent_says s.durable.index s.rows n u r.1 in
         let body = push.Absent u.req u.point in
-        let x = push_to (with_rows s (dropped s.rows n)) u.client (suc (s.lines u.client).pushed) body in
+        let x = push_to (with_rows s (dropped s.rows n)) u.client (suc (s.sessions u.client).last_push) body in
         let next = pushes_next (with_rows s (dropped s.rows n)) u.client body (pushable r.0) in
-        let here_is = yes (ap (λ b. b && (asks_absent s.durable.index u || can_have s.rows n u)) (sym is ∙ r.0) ∙ ap (λ b. b || can_have s.rows n u) g) in
+        let here_is = yes (ap (λ b. b && (asks_absent s.durable.index u || is_wanted_compatible s.rows n u)) (sym is ∙ r.0) ∙ ap (λ b. b || is_wanted_compatible s.rows n u) g) in
         let same = ap (λ b. if b then tells_absent s turn else grants s turn) g in (
           x,
           sent_one o x (outs ∙ ap (λ d. d.outs) next),

@@ -9,7 +9,7 @@ use Rattle.krl_messages.specs.declared.to_server.ToServer.{ToServer}
 use Rattle.krl_queue.specs.Waiting.{first_of}
 use Rattle.krl_durable.specs.Index.{Index, slots}
 use Rattle.krl_table.specs.Rows.{Rows, most_clients, waiter_at, waiter_of, waits}
-use Rattle.krl_server.specs.Cases.{is_strange}
+use Rattle.krl_server.specs.Cases.{is_malformed}
 use Rattle.krl_server.specs.Doing.{count_below}
 use Rattle.krl_server.proofs.Numbers.{sixty_four}
 
@@ -35,7 +35,7 @@ none_count m rows zero none = refl
 none_count m rows (suc k) none = let ih = none_count m rows k none in ap (λ b. (if b then 1 else 0) + count_below k (waits m rows)) (no_slot rows k none (slots m)) ∙ omega (arith, ih)
 
 -- the number of a client
-pub not_strange : (m : ToServer) → is_strange m ≡ false → m.client < 64
-not_strange m e =
+pub not_malformed : (m : ToServer) → is_malformed m ≡ false → m.client < 64
+not_malformed m e =
     let x = or_parts (not (nat_lt m.client most_clients)) (nat_eq m.incarnation 0 || nat_lt END m.incarnation) e in
     subst (λ k. m.client < k) sixty_four (ltb-true m.client most_clients (not-false (nat_lt m.client most_clients) x.0))

@@ -21,12 +21,12 @@ use Rattle.krl_durable.specs.declared.record.Record.{Record}
 use Rattle.krl_messages.specs.Writes.{op_key}
 use Rattle.krl_table.specs.Reports.{conflicts}
 use Rattle.krl_server.specs.Servers.{Server, lists}
-use Rattle.krl_server.specs.Cases.{Case, Ignored, Registers, Leaves, Tells, Rebuilds, Repeats, Hears, Lowers, Waits, Judges, AnswersAgain, judged, case_of, is_alarm}
+use Rattle.krl_server.specs.Cases.{Case, Ignored, Registers, Leaves, Tells, Rebuilds, Repeats, Acknowledges, Lowers, Waits, Judges, AnswersAgain, judged, case_of, is_alarm}
 use Rattle.krl_server.specs.Effects.{effect}
 use Rattle.krl_server.specs.Shows.{is_applied, head_of, RequestStands, Stands, IsRecord, Shows, view, world_of, logged, IsSound}
 use Rattle.krl_server.specs.Follows.{clears}
 use Rattle.krl_server.proofs.Follows.{Goes, stays, serving_phase, not_truth}
-use Rattle.krl_server.proofs.Pushes.{tells, repeats, hears}
+use Rattle.krl_server.proofs.Pushes.{tells, repeats, acknowledges}
 use Rattle.krl_server.proofs.Judged.{answers_again}
 use Rattle.krl_server.proofs.Refused.{refused}
 use Rattle.krl_server.proofs.Waiting.{waits_follow}
@@ -84,7 +84,7 @@ module _ (first : ℕ → Option Value) (s : Server) (of : ℕ → Link) (log : 
     asks = subst (RequestStands (of m.client) (head_of m.incarnation request)) a.asked stands.1
 
     passes : Passes (view s) (of m.client) (head_of m.incarnation request)
-    passes = let own = shown r a.served.from in record { serving = serving_phase s.missing a.served.serves; here = own.left ∙ a.served.from.here; inc = a.served.from.same ∙ sym own.reg; epoch = a.now; seen = a.seen ∙ sym (h.link m.client).pushed }
+    passes = let own = shown r a.served.from in record { serving = serving_phase s.missing a.served.serves; here = own.left ∙ a.served.from.here; inc = a.served.from.same ∙ sym own.reg; epoch = a.now; seen = a.seen ∙ sym (h.link m.client).last_push }
 
   on_judged : (r : Record) (request : Request) (number : ℕ) (op : WriteOp) (o : Outcome) → IsAsked s m r request (asked.Write number op) → op_key op < END → number ≡ suc r.last → judged s m.client op ≡ o → P (Judges number op o)
   on_judged r request number op o a under num is = by_outcome o is
@@ -109,8 +109,8 @@ module _ (first : ℕ → Option Value) (s : Server) (of : ℕ → Link) (log : 
         tells = (refl, tells s of log (cleared Tells) m.client nobody h);
         alarms = λ r epoch pieces from is now missing bad. absurd (no_alarm r from epoch pieces is now missing bad);
         rebuilds = λ r epoch pieces from is now missing fine. rebuilt r from epoch pieces is now missing;
-        repeats = λ r body served unheard. (refl, repeats s of log (cleared (Repeats body)) m.client body unheard nobody h);
-        hears = λ r request b a. (refl, hears s of log (cleared Hears) m.client (head_of m.incarnation request) (stands r request b a).0 (passes r request b a) h);
+        repeats = λ r body served unacked. (refl, repeats s of log (cleared (Repeats body)) m.client body unacked nobody h);
+        acknowledges = λ r request b a. (refl, acknowledges s of log (cleared Acknowledges) m.client (head_of m.incarnation request) (stands r request b a).0 (passes r request b a) h);
         lowers = λ r request span keep a. (refl, lowers_follow s of log (cleared (Lowers span keep)) m.client (head_of m.incarnation request) span keep a.served.from.client i (asks r request (asked.Release span keep) a).1 (stands r request (asked.Release span keep) a).0 (passes r request (asked.Release span keep) a) h);
         waits = λ r request req point hi g a new free near. (refl, waits_follow s of log (cleared (Waits req point hi g)) (record { client = m.client; req = req; point = point; hi = hi; mode = g }) (head_of m.incarnation request) (stands r request (asked.Lock req point hi g) a).0 (passes r request (asked.Lock req point hi g) a) h);
         judges = λ r request number op o a under near new is. on_judged r request number op o a under new is;

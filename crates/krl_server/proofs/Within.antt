@@ -26,18 +26,18 @@ use Rattle.krl_table.specs.Rows.{Rows, most_clients}
 use Rattle.krl_table.specs.Calls.{dropped}
 use Rattle.krl_table.specs.Grants.{granted}
 use Rattle.krl_table.specs.Replies.{asks_absent}
-use Rattle.krl_server.specs.declared.line.Line.{Line}
-use Rattle.krl_server.specs.Servers.{Server, is_gathering, lists, unlist, set_line, blank_line}
-use Rattle.krl_server.specs.Cases.{Ignored, judged, case_of, case_of_record, is_strange}
+use Rattle.krl_server.specs.declared.session.Session.{Session}
+use Rattle.krl_server.specs.Servers.{Server, is_recovering, lists, unlist, set_session, blank_session}
+use Rattle.krl_server.specs.Cases.{Ignored, judged, case_of, case_of_record, is_malformed}
 use Rattle.krl_server.specs.Effects as effects
-use Rattle.krl_server.specs.Effects.{Done, heard, pushes, effect}
-use Rattle.krl_server.specs.Answering.{Turn, take_turn, tells_absent, grants, Answered, stops, goes_on}
-use Rattle.krl_server.specs.Steps.{Ends, Kind, at_once, gathers, serves, start, can_start, kind_of}
+use Rattle.krl_server.specs.Effects.{Done, acknowledged, pushes, effect}
+use Rattle.krl_server.specs.Answering.{Turn, answer_first, tells_absent, grants, Answered, stops, goes_on}
+use Rattle.krl_server.specs.Steps.{Ends, Kind, at_once, recovers, serves, start, can_start, kind_of}
 use Rattle.krl_server.specs.Within.{AreApart, clients_of, IsEntry, IsDurableWithin, IsWithin, ServerWithin}
 use Rattle.krl_server.proofs.Here.{step_here}
-use Rattle.krl_server.proofs.Meaning.{line_here, line_other, record_here, record_other}
+use Rattle.krl_server.proofs.Meaning.{session_here, session_other, record_here, record_other}
 use Rattle.krl_server.proofs.Follows.{not_truth}
-use Rattle.krl_server.proofs.Gathering.{unlist_here, unlist_other}
+use Rattle.krl_server.proofs.Recovering.{unlist_here, unlist_other}
 use Rattle.krl_server.proofs.Writes.{change_may}
 use Rattle.krl_server.proofs.Cased.{by_case}
 use Rattle.krl_server.proofs.Counted.{few_apart}
@@ -188,31 +188,31 @@ after_few m op may outcome.Full e le = le
 
 -- Lines
 
-lines_within : (lines : ℕ → Line) (c : ℕ) (x : Line) → x.pushed ≤ END → ((d : ℕ) → (lines d).pushed ≤ END) → (d : ℕ) → (set_line lines c x d).pushed ≤ END
-lines_within lines c x le h d = eq_cases d c
-    (λ e. subst (λ y. (set_line lines c x y).pushed ≤ END) (sym e) (subst (λ y. y.pushed ≤ END) (sym (line_here lines c x)) le))
-    (λ ne. subst (λ y. y.pushed ≤ END) (sym (line_other lines c d x ne)) (h d))
+sessions_within : (sessions : ℕ → Session) (c : ℕ) (x : Session) → x.last_push ≤ END → ((d : ℕ) → (sessions d).last_push ≤ END) → (d : ℕ) → (set_session sessions c x d).last_push ≤ END
+sessions_within sessions c x le h d = eq_cases d c
+    (λ e. subst (λ y. (set_session sessions c x y).last_push ≤ END) (sym e) (subst (λ y. y.last_push ≤ END) (sym (session_here sessions c x)) le))
+    (λ ne. subst (λ y. y.last_push ≤ END) (sym (session_other sessions c d x ne)) (h d))
 
-heard_within : (s : Server) (c : ℕ) → IsWithin s → IsWithin (heard s c)
-heard_within s c w = record { durable = w.durable; pushed = lines_within s.lines c (record (s.lines c) { unheard = None }) (w.pushed c) w.pushed; missing = w.missing; missing_once = w.missing_once }
+acknowledged_within : (s : Server) (c : ℕ) → IsWithin s → IsWithin (acknowledged s c)
+acknowledged_within s c w = record { durable = w.durable; last_push = sessions_within s.sessions c (record (s.sessions c) { unacked = None }) (w.last_push c) w.last_push; missing = w.missing; missing_once = w.missing_once }
 
 pushes_within : (s : Server) (c : ℕ) (body : PushBody) → IsWithin s → IsWithin (pushes s c body).server
-pushes_within s c body w = if_case (λ (x : Done). IsWithin x.server) (nat_lt (s.lines c).pushed END) _ _
-    (λ lt. record { durable = w.durable; pushed = lines_within s.lines c (record (s.lines c) { pushed = suc (s.lines c).pushed; unheard = Some body }) (let x = ltb-true (s.lines c).pushed END lt in omega (arith, x)) w.pushed; missing = w.missing; missing_once = w.missing_once })
+pushes_within s c body w = if_case (λ (x : Done). IsWithin x.server) (nat_lt (s.sessions c).last_push END) _ _
+    (λ lt. record { durable = w.durable; last_push = sessions_within s.sessions c (record (s.sessions c) { last_push = suc (s.sessions c).last_push; unacked = Some body }) (let x = ltb-true (s.sessions c).last_push END lt in omega (arith, x)) w.last_push; missing = w.missing; missing_once = w.missing_once })
     (λ spent. w)
 
 -- rows are not asked about
 rows_within : (s : Server) (rows : Rows) → IsWithin s → IsWithin (record s { rows = rows })
-rows_within s rows w = record { durable = w.durable; pushed = w.pushed; missing = w.missing; missing_once = w.missing_once }
+rows_within s rows w = record { durable = w.durable; last_push = w.last_push; missing = w.missing; missing_once = w.missing_once }
 
-turn_within : (s : Server) (t : Turn) → IsWithin s → IsWithin (take_turn s t).server
+turn_within : (s : Server) (t : Turn) → IsWithin s → IsWithin (answer_first s t).server
 turn_within s t w = if_both (λ (x : Done). IsWithin x.server) (asks_absent s.durable.index t.waiter) (tells_absent s t) (grants s t)
     (pushes_within (effects.with_rows s (dropped s.rows t.slot)) t.waiter.client _ (rows_within s (dropped s.rows t.slot) w))
     (pushes_within (effects.with_rows s (granted s.durable.index s.rows t.slot)) t.waiter.client _ (rows_within s (granted s.durable.index s.rows t.slot) w))
 
 answered_within : (s t : Server) (outs : List ToClient) → Answered s t outs → IsWithin s → IsWithin t
 answered_within s t outs (stops s' e) w = w
-answered_within s t outs (goes_on s' t' turn later e rest) w = answered_within (take_turn s turn).server t later rest (turn_within s turn w)
+answered_within s t outs (goes_on s' t' turn later e rest) w = answered_within (answer_first s turn).server t later rest (turn_within s turn w)
 
 -- Effects
 
@@ -220,7 +220,7 @@ module _ (s : Server) (m : ToServer) (w : IsWithin s) where
   registers_within : m.client < most_clients → 1 ≤ m.incarnation → m.incarnation ≤ END → IsWithin (effects.registers s m.client m.incarnation)
   registers_within lt some high = record {
     durable = with_within s.durable m.client (new_record m.incarnation) (lt, some, high, omega arith) w.durable;
-    pushed = lines_within s.lines m.client blank_line (omega arith) w.pushed;
+    last_push = sessions_within s.sessions m.client blank_session (omega arith) w.last_push;
     missing = λ c e. let x = still_missing s.missing m.client c e in let y = w.missing c x.1 in (y.0, record_other s.durable.register m.client c (new_record m.incarnation) x.0 ∙ y.1, y.2);
     missing_once = unlisted_apart s.missing m.client w.missing_once;
   }
@@ -228,32 +228,32 @@ module _ (s : Server) (m : ToServer) (w : IsWithin s) where
   departs_within : (r : Record) → record_of s.durable.register m.client ≡ Some r → IsWithin (effects.departs s m.client)
   departs_within r e = subst (λ o. IsWithin (record (effects.departs s m.client) { durable = left_by s.durable m.client o })) (sym e) (record {
     durable = with_within s.durable m.client (record r { left = true }) (w.durable.known m.client r e) w.durable;
-    pushed = w.pushed;
+    last_push = w.last_push;
     missing = λ c f. let x = still_missing s.missing m.client c f in let y = w.missing c x.1 in (y.0, record_other s.durable.register m.client c (record r { left = true }) x.0 ∙ y.1, y.2);
     missing_once = unlisted_apart s.missing m.client w.missing_once;
   })
 
-  writes_within : (r : Record) (number : ℕ) (op : WriteOp) (o : Outcome) → record_of s.durable.register m.client ≡ Some r → is_gathering s.missing ≡ false → number ≤ END → number ≡ suc r.last → judged s m.client op ≡ o → IsWithin (effects.writes (heard s m.client) m.client op o)
+  writes_within : (r : Record) (number : ℕ) (op : WriteOp) (o : Outcome) → record_of s.durable.register m.client ≡ Some r → is_recovering s.missing ≡ false → number ≤ END → number ≡ suc r.last → judged s m.client op ≡ o → IsWithin (effects.writes (acknowledged s m.client) m.client op o)
   writes_within r number op o e up high new is =
       let x = w.durable.known m.client r e in
-      subst (λ y. IsWithin (record (effects.writes (heard s m.client) m.client op o) { durable = applied_by s.durable m.client op o y })) (sym e) (record {
+      subst (λ y. IsWithin (record (effects.writes (acknowledged s m.client) m.client op o) { durable = applied_by s.durable m.client op o y })) (sym e) (record {
         durable = record {
           epoch = w.durable.epoch;
           entries = after_few s.durable.index op _ o is w.durable.entries;
           once = with_apart s.durable.register m.client (noted r o) w.durable.once;
           known = with_each IsEntry s.durable.register m.client (noted r o) (x.0, x.1, x.2, omega (arith, high, new)) w.durable.known;
         };
-        pushed = lines_within s.lines m.client (record (s.lines m.client) { unheard = None }) (w.pushed m.client) w.pushed;
+        last_push = sessions_within s.sessions m.client (record (s.sessions m.client) { unacked = None }) (w.last_push m.client) w.last_push;
         missing = λ c f. absurd (nobody s.missing c up f);
         missing_once = w.missing_once;
       })
     where
-      nobody : (ms : List ℕ) (c : ℕ) → is_gathering ms ≡ false → lists ms c ≡ true → ⊥
+      nobody : (ms : List ℕ) (c : ℕ) → is_recovering ms ≡ false → lists ms c ≡ true → ⊥
       nobody [] c e f = absurd (cc)
       nobody (d ∷ ds) c e f = absurd (cc)
 
   of_known : 1 ≤ m.incarnation → m.incarnation ≤ END → IsWithin (effect s m (case_of s m)).server
-  of_known some high = let t = heard s m.client in let u = heard_within s m.client w in
+  of_known some high = let t = acknowledged s m.client in let u = acknowledged_within s m.client w in
       by_case s m (λ k. IsWithin (effect s m k).server)
       (record {
         ignored = w;
@@ -261,35 +261,35 @@ module _ (s : Server) (m : ToServer) (w : IsWithin s) where
         leaves = λ r from. departs_within r from.known;
         tells = w;
         alarms = w;
-        rebuilds = λ r epoch pieces from now missing fine. record { durable = w.durable; pushed = w.pushed; missing = λ c e. w.missing c (still_missing s.missing m.client c e).1; missing_once = unlisted_apart s.missing m.client w.missing_once };
-        repeats = λ r body served unheard. w;
-        hears = λ r served. u;
+        rebuilds = λ r epoch pieces from now missing fine. record { durable = w.durable; last_push = w.last_push; missing = λ c e. w.missing c (still_missing s.missing m.client c e).1; missing_once = unlisted_apart s.missing m.client w.missing_once };
+        repeats = λ r body served unacked. w;
+        acknowledges = λ r served. u;
         lowers = λ r span keep served. rows_within t _ u;
-        waits = λ r req point hi g served new free near. record { durable = w.durable; pushed = lines_within t.lines m.client (record (t.lines m.client) { asked = req }) (u.pushed m.client) u.pushed; missing = w.missing; missing_once = w.missing_once };
+        waits = λ r req point hi g served new free near. record { durable = w.durable; last_push = sessions_within t.sessions m.client (record (t.sessions m.client) { last_request = req }) (u.last_push m.client) u.last_push; missing = w.missing; missing_once = w.missing_once };
         judges = λ r number op o served under near new is. let x = effects.writes t m.client op o in
             pushes_within x m.client (push.Answer number o (effects.holding x (slot_of x.durable.index (op_key op)) m.client)) (writes_within r number op o served.from.known served.serves near new is);
         answers_again = λ r number op o served under some last is. pushes_within t m.client (push.Answer number o (effects.holding t (slot_of t.durable.index (op_key op)) m.client)) u;
       })
 
   effect_within : IsWithin (effect s m (case_of s m)).server
-  effect_within = by_strange (is_strange m) refl
+  effect_within = by_malformed (is_malformed m) refl
     where
-      by_strange : (b : Bool) → is_strange m ≡ b → IsWithin (effect s m (case_of s m)).server
-      by_strange true e = subst (λ k. IsWithin (effect s m k).server) (sym (ap (λ b. if b then Ignored else case_of_record s m (record_of s.durable.register m.client)) e)) w
-      by_strange false e =
+      by_malformed : (b : Bool) → is_malformed m ≡ b → IsWithin (effect s m (case_of s m)).server
+      by_malformed true e = subst (λ k. IsWithin (effect s m k).server) (sym (ap (λ b. if b then Ignored else case_of_record s m (record_of s.durable.register m.client)) e)) w
+      by_malformed false e =
           let x = or_parts (not (nat_lt m.client most_clients)) (nat_eq m.incarnation 0 || nat_lt END m.incarnation) e in
           let y = or_parts (nat_eq m.incarnation 0) (nat_lt END m.incarnation) x.1 in
           of_known (let ne = eqb-false m.incarnation 0 y.0 in omega (arith, ne)) (ltb-false END m.incarnation y.1)
 
 ends_within : (done : Done) (kind : Kind) (t : Server) (outs : List ToClient) → Ends done kind t outs → IsWithin done.server → IsWithin t
 ends_within done kind t outs (at_once e) w = w
-ends_within done kind t outs (gathers e) w = w
+ends_within done kind t outs (recovers e) w = w
 ends_within done kind t outs (serves t' answers a b c) w = answered_within done.server t answers c w
 
 start_within : (d : Durable) → can_start d ≡ true → IsDurableWithin d → IsWithin (start d)
 start_within d can w = record {
   durable = record { epoch = (let lt = ltb-true d.epoch END can in omega (arith, lt)); entries = w.entries; once = w.once; known = w.known };
-  pushed = λ c. omega arith;
+  last_push = λ c. omega arith;
   missing = λ c e. ordered_known d.register c w.once e;
   missing_once = ordered_apart d.register w.once;
 }
@@ -303,8 +303,8 @@ all_within = record {
   effect = effect_within;
   turn = turn_within;
   step = λ s t m outs w step. ends_within (effect s m (case_of s m)) (kind_of (case_of s m)) t outs step (effect_within s m w);
-  here_step = step_here;
-  here_start = λ d n u at. absurd at;
+  registered_step = step_here;
+  registered_start = λ d n u at. absurd at;
   start = start_within;
   few_known = λ d w. subst (λ n. n ≤ most_clients) (length_clients d.register) (few_apart most_clients (clients_of d.register) w.once (λ c at. let x = in_known d.register c at in (w.known c x.0 x.1).0));
   few_missing = λ s w. few_apart most_clients s.missing w.missing_once (λ c at. let x = w.missing c (listed s.missing c at) in (w.durable.known c x.0 x.1).0);

@@ -29,12 +29,12 @@ use Rattle.krl_table.specs.Points.{range_at, key_at}
 use Rattle.krl_table.specs.Calls.{lowered}
 use Rattle.krl_table.specs.Reports.{adopted}
 use Rattle.krl_table.specs.Rows.{Row, Rows, blank_row, most_clients, mode_at}
-use Rattle.krl_server.specs.declared.line.Line.{Line}
+use Rattle.krl_server.specs.declared.session.Session.{Session}
 use Rattle.krl_server.specs.Servers.{Server}
 use Rattle.krl_server.specs.Cases.{case_of, Judges, Ignored, Registers, Waits, Lowers, Rebuilds, AnswersAgain}
 use Rattle.krl_server.specs.Callbacks.{callbacks_from}
 use Rattle.krl_server.specs.Effects.{Done, effect}
-use Rattle.krl_server.specs.Answering.{Turn, next_turn, take_turn}
+use Rattle.krl_server.specs.Answering.{Turn, next_turn, answer_first}
 use Rattle.krl_server.specs.Steps.{crash, start}
 
 -- a value of one byte
@@ -47,8 +47,8 @@ asks c seen body = record { client = c; incarnation = 1; body = said.Request (re
 abbrev hello : ℕ → ToServer
 hello c = record { client = c; incarnation = 1; body = said.Hello }
 
-abbrev pushed : ℕ → ℕ → PushBody → ToClient
-pushed c number body = record { client = c; incarnation = 1; body = told.Push 1 number body }
+abbrev the_push : ℕ → ℕ → PushBody → ToClient
+the_push c number body = record { client = c; incarnation = 1; body = told.Push 1 number body }
 
 abbrev held : ℕ → ℕ → Mode → Option Value → Holding
 held lo hi g value = record { span = record { lo = lo; hi = hi }; mode = g; value = value }
@@ -57,11 +57,11 @@ abbrev two : List (ℕ × Value)
 two = (10, byte 1) ∷ (20, byte 2) ∷ []
 
 -- two clients of incarnation 1, which have acknowledged their last pushes
-abbrev server : Index → Rows → (ℕ → Line) → Server
-server m rows lines = record { durable = record { index = m; epoch = 1; register = (0, new_record 1) ∷ (1, new_record 1) ∷ [] }; rows = rows; lines = lines; missing = [] }
+abbrev server : Index → Rows → (ℕ → Session) → Server
+server m rows sessions = record { durable = record { index = m; epoch = 1; register = (0, new_record 1) ∷ (1, new_record 1) ∷ [] }; rows = rows; sessions = sessions; missing = [] }
 
-abbrev line : ℕ → ℕ → ℕ → Line
-line pushed asked c = record { pushed = pushed; unheard = None; asked = asked }
+abbrev session : ℕ → ℕ → ℕ → Session
+session last_push asked c = record { last_push = last_push; unacked = None; last_request = asked }
 
 abbrev waiter : ℕ → ℕ → ℕ → Mode → Waiter
 waiter c req point g = record { client = c; req = req; point = point; hi = suc point; mode = g }
@@ -104,11 +104,11 @@ row_1_turn : (m : Index) → map.entries m ≡ two → next_turn (gap_asked m) �
 unfolding most_clients
 row_1_turn m e = simp (e, map.get-entries)
 
-row_1_granted : (m : Index) → map.entries m ≡ two → (take_turn (gap_asked m) gap_turn).outs ≡ pushed 0 1 (push.Grant 1 (held 0 11 mode.RangeSS (Some (byte 1)) ∷ [])) ∷ []
+row_1_granted : (m : Index) → map.entries m ≡ two → (answer_first (gap_asked m) gap_turn).outs ≡ the_push 0 1 (push.Grant 1 (held 0 11 mode.RangeSS (Some (byte 1)) ∷ [])) ∷ []
 unfolding most_clients
 row_1_granted m e = simp (e, map.get-entries)
 
-row_1_ends : (m : Index) → map.entries m ≡ two → next_turn (take_turn (gap_asked m) gap_turn).server ≡ None
+row_1_ends : (m : Index) → map.entries m ≡ two → next_turn (answer_first (gap_asked m) gap_turn).server ≡ None
 unfolding most_clients
 row_1_ends m e = simp (e, map.get-entries)
 
@@ -118,7 +118,7 @@ abbrev insert_15 : ToServer
 insert_15 = asks 0 1 (asked.Write 1 (write.Insert 15 (byte 5)))
 
 abbrev shared_gap : Index → Server
-shared_gap m = server m (λ n. if nat_eq n 20 then row mode.RangeIN mode.RangeIN [] else blank_row) (line 1 1)
+shared_gap m = server m (λ n. if nat_eq n 20 then row mode.RangeIN mode.RangeIN [] else blank_row) (session 1 1)
 
 abbrev inserted : Index → Done
 inserted m = effect (shared_gap m) insert_15 (Judges 1 (write.Insert 15 (byte 5)) outcome.Applied)
@@ -127,7 +127,7 @@ row_5_case : (m : Index) → map.entries m ≡ two → case_of (shared_gap m) in
 unfolding most_clients most_entries
 row_5_case m e = simp (e, map.get-entries)
 
-row_5_answer : (m : Index) → map.entries m ≡ two → map.entries (map.insert m 15 (byte 5)) ≡ (10, byte 1) ∷ (15, byte 5) ∷ (20, byte 2) ∷ [] → (inserted m).outs ≡ pushed 0 2 (push.Answer 1 outcome.Applied (held 11 16 mode.RangeIX (Some (byte 5)))) ∷ []
+row_5_answer : (m : Index) → map.entries m ≡ two → map.entries (map.insert m 15 (byte 5)) ≡ (10, byte 1) ∷ (15, byte 5) ∷ (20, byte 2) ∷ [] → (inserted m).outs ≡ the_push 0 2 (push.Answer 1 outcome.Applied (held 11 16 mode.RangeIX (Some (byte 5)))) ∷ []
 row_5_answer m e f = simp (e, f, map.get-entries)
 
 row_5_modes : (m : Index) → map.entries m ≡ two → map (mode_at (inserted m).server.rows 15) (0 ∷ 1 ∷ 2 ∷ []) ++ map (mode_at (inserted m).server.rows 20) (0 ∷ 1 ∷ 2 ∷ []) ≡ mode.RangeIX ∷ mode.RangeIN ∷ mode.N ∷ mode.RangeIN ∷ mode.RangeIN ∷ mode.N ∷ []
@@ -139,7 +139,7 @@ row_5_points m f e = simp (e, f)
 -- An old Release is passed over. Who waits for an entry that another reads calls it back, and is granted it then
 
 abbrev read_gap : Index → Server
-read_gap m = server m (λ n. if nat_eq n 10 then row mode.RangeSS mode.N [] else blank_row) (λ c. if nat_eq c 0 then line 2 2 c else line 0 0 c)
+read_gap m = server m (λ n. if nat_eq n 10 then row mode.RangeSS mode.N [] else blank_row) (λ c. if nat_eq c 0 then session 2 2 c else session 0 0 c)
 
 abbrev below_11 : Bounds
 below_11 = record { lo = 0; hi = 11 }
@@ -159,7 +159,7 @@ row_8_queue : (m : Index) → map.entries m ≡ two → ((effect (read_gap m) lo
 row_8_queue m e = simp e
 
 abbrev entry_asked : Index → Server
-entry_asked m = server m (λ n. if nat_eq n 10 then row mode.RangeSS mode.N (waiter 1 1 10 mode.X ∷ []) else blank_row) (λ c. if nat_eq c 0 then line 2 2 c else line 0 1 c)
+entry_asked m = server m (λ n. if nat_eq n 10 then row mode.RangeSS mode.N (waiter 1 1 10 mode.X ∷ []) else blank_row) (λ c. if nat_eq c 0 then session 2 2 c else session 0 1 c)
 
 row_8_blocked : (m : Index) → map.entries m ≡ two → next_turn (entry_asked m) ≡ None
 unfolding most_clients
@@ -179,13 +179,13 @@ row_8_lowered : (m : Index) → map.entries m ≡ two → mode_at (effect (entry
 row_8_lowered m e = simp (map.get-entries, e, lowered, is_slot)
 
 abbrev released : Index → Server
-released m = server m (λ n. if nat_eq n 10 then row mode.N mode.N (waiter 1 1 10 mode.X ∷ []) else blank_row) (λ c. if nat_eq c 0 then line 2 2 c else line 0 1 c)
+released m = server m (λ n. if nat_eq n 10 then row mode.N mode.N (waiter 1 1 10 mode.X ∷ []) else blank_row) (λ c. if nat_eq c 0 then session 2 2 c else session 0 1 c)
 
 row_8_turn : (m : Index) → map.entries m ≡ two → next_turn (released m) ≡ Some (turn 10 (waiter 1 1 10 mode.X))
 unfolding most_clients
 row_8_turn m e = simp (e, map.get-entries)
 
-row_8_granted : (m : Index) → map.entries m ≡ two → (take_turn (released m) (turn 10 (waiter 1 1 10 mode.X))).outs ≡ pushed 1 1 (push.Grant 1 (held 0 11 mode.X (Some (byte 1)) ∷ [])) ∷ []
+row_8_granted : (m : Index) → map.entries m ≡ two → (answer_first (released m) (turn 10 (waiter 1 1 10 mode.X))).outs ≡ the_push 1 1 (push.Grant 1 (held 0 11 mode.X (Some (byte 1)) ∷ [])) ∷ []
 unfolding most_clients
 row_8_granted m e = simp (e, map.get-entries)
 
@@ -195,13 +195,13 @@ abbrev put_10 : ToServer
 put_10 = asks 0 2 (asked.Write 1 (write.Put 10 (byte 9)))
 
 abbrev all_read : Index → Server
-all_read m = server m (λ n. if nat_eq n 10 then row mode.RangeXX mode.N [] else (if nat_eq n 20 then row mode.RangeSS mode.N [] else blank_row)) (line 2 2)
+all_read m = server m (λ n. if nat_eq n 10 then row mode.RangeXX mode.N [] else (if nat_eq n 20 then row mode.RangeSS mode.N [] else blank_row)) (session 2 2)
 
 row_10_case : (m : Index) → map.entries m ≡ two → case_of (all_read m) put_10 ≡ Judges 1 (write.Put 10 (byte 9)) outcome.Applied
 unfolding most_clients
 row_10_case m e = simp (e, map.get-entries)
 
-row_10_answer : (m : Index) → map.entries (map.insert m 10 (byte 9)) ≡ (10, byte 9) ∷ (20, byte 2) ∷ [] → (effect (all_read m) put_10 (Judges 1 (write.Put 10 (byte 9)) outcome.Applied)).outs ≡ pushed 0 3 (push.Answer 1 outcome.Applied (held 0 11 mode.RangeXX (Some (byte 9)))) ∷ []
+row_10_answer : (m : Index) → map.entries (map.insert m 10 (byte 9)) ≡ (10, byte 9) ∷ (20, byte 2) ∷ [] → (effect (all_read m) put_10 (Judges 1 (write.Put 10 (byte 9)) outcome.Applied)).outs ≡ the_push 0 3 (push.Answer 1 outcome.Applied (held 0 11 mode.RangeXX (Some (byte 9)))) ∷ []
 row_10_answer m f = simp (f, map.get-entries)
 
 -- A delete, then a restart and a report; and the answer once more
@@ -210,7 +210,7 @@ abbrev delete_10 : ToServer
 delete_10 = asks 0 2 (asked.Write 1 (write.Delete 10))
 
 abbrev all_held : Index → Server
-all_held m = server m (λ n. if nat_eq n 10 then row mode.RangeXX mode.N [] else (if nat_eq n 20 then row mode.RangeXX mode.N [] else blank_row)) (line 2 2)
+all_held m = server m (λ n. if nat_eq n 10 then row mode.RangeXX mode.N [] else (if nat_eq n 20 then row mode.RangeXX mode.N [] else blank_row)) (session 2 2)
 
 abbrev deleted : Index → Done
 deleted m = effect (all_held m) delete_10 (Judges 1 (write.Delete 10) outcome.Applied)
@@ -219,7 +219,7 @@ row_12_case : (m : Index) → map.entries m ≡ two → case_of (all_held m) del
 unfolding most_clients
 row_12_case m e = simp (e, map.get-entries)
 
-row_12_answer : (m : Index) → map.entries m ≡ two → map.entries (map.remove m 10) ≡ (20, byte 2) ∷ [] → (deleted m).outs ≡ pushed 0 3 (push.Answer 1 outcome.Applied (held 0 21 mode.RangeXX (Some (byte 2)))) ∷ []
+row_12_answer : (m : Index) → map.entries m ≡ two → map.entries (map.remove m 10) ≡ (20, byte 2) ∷ [] → (deleted m).outs ≡ the_push 0 3 (push.Answer 1 outcome.Applied (held 0 21 mode.RangeXX (Some (byte 2)))) ∷ []
 row_12_answer m e f = simp (e, f, map.get-entries)
 
 abbrev restarted : Index → Server
@@ -263,7 +263,7 @@ row_12_again m = refl
 -- Two that read one entry ask for it alone: the later goes to the front, and calls the earlier back
 
 abbrev both_read : Index → Server
-both_read m = server m (λ n. if nat_eq n 10 then row mode.S mode.S [] else blank_row) (line 1 1)
+both_read m = server m (λ n. if nat_eq n 10 then row mode.S mode.S [] else blank_row) (session 1 1)
 
 abbrev converts : ℕ → Server → Server
 converts c s = (effect s (asks c 1 (asked.Lock 2 10 11 mode.X)) (Waits 2 10 11 mode.X)).server
@@ -272,7 +272,7 @@ row_18_queue : (m : Index) → map.entries m ≡ (10, byte 1) ∷ [] → ((conve
 row_18_queue m e = simp e
 
 abbrev converting : Index → Mode → Mode → List Waiter → Server
-converting m a b queue = server m (λ n. if nat_eq n 10 then row a b queue else blank_row) (line 1 2)
+converting m a b queue = server m (λ n. if nat_eq n 10 then row a b queue else blank_row) (session 1 2)
 
 row_18_callbacks : (m : Index) → map.entries m ≡ (10, byte 1) ∷ [] → callbacks_from (converting m mode.S mode.S []) 10 (waiter 1 2 10 mode.X) 0 3 ≡ called_back
 row_18_callbacks m e = simp e

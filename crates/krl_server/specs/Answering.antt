@@ -7,17 +7,18 @@ use Rattle.krl_queue.specs.declared.waiter.Waiter.{Waiter}
 use Rattle.krl_durable.specs.Index.{slots}
 use Rattle.krl_table.specs.Calls.{dropped}
 use Rattle.krl_table.specs.Grants.{taken, granted}
-use Rattle.krl_table.specs.Replies.{asks_absent, can_have}
-use Rattle.krl_server.specs.declared.line.Line.{Line}
+use Rattle.krl_table.specs.Replies.{asks_absent, is_wanted_compatible}
+use Rattle.krl_server.specs.declared.session.Session.{Session}
 use Rattle.krl_server.specs.Servers.{Server}
 use Rattle.krl_server.specs.Effects.{Done, with_rows, holdings, pushes}
 
 -- the last push is acknowledged, and there is a number for the next
-abbrev pub can_push : Line → Bool
-can_push line = not (is_some line.unheard) && nat_lt line.pushed END
+abbrev pub can_push : Session → Bool
+can_push session = not (is_some session.unacked) && nat_lt session.last_push END
 
 abbrev pub is_answerable : Server → ℕ → Waiter → Bool
-is_answerable s n u = can_push (s.lines u.client) && (asks_absent s.durable.index u || can_have s.rows n u)
+is_answerable s n u = can_push (s.sessions u.client)
+    && (asks_absent s.durable.index u || is_wanted_compatible s.rows n u)
 
 -- a slot and its first waiter
 pub record Turn : Type 0 where
@@ -50,11 +51,11 @@ grants s t =
     pushes g t.waiter.client
     (push.Grant t.waiter.req (holdings g t.waiter.client (taken s.durable.index s.rows t.slot)))
 
-abbrev pub take_turn : Server → Turn → Done
-take_turn s t = if asks_absent s.durable.index t.waiter then tells_absent s t else grants s t
+abbrev pub answer_first : Server → Turn → Done
+answer_first s t = if asks_absent s.durable.index t.waiter then tells_absent s t else grants s t
 
 -- one answer after another, until no first waiter is answerable
 pub data Answered : Server → Server → List ToClient → Type 0 where
   stops : (s : Server) → next_turn s ≡ None → Answered s s []
   goes_on : (s t : Server) (turn : Turn) (outs : List ToClient) → next_turn s ≡ Some turn →
-      Answered (take_turn s turn).server t outs → Answered s t ((take_turn s turn).outs ++ outs)
+      Answered (answer_first s turn).server t outs → Answered s t ((answer_first s turn).outs ++ outs)

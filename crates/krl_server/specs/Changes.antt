@@ -3,7 +3,7 @@ use Rattle.std.specs.Prelude.{Option, Some, None}
 use Rattle.krl_messages.specs.declared.to_server.ToServer.{ToServer}
 use Rattle.krl_durable.specs.declared.change.Change.{Change}
 use Rattle.krl_durable.specs.declared.change.Change.TheVariants as change
-use Rattle.krl_server.specs.Cases.{Case, Ignored, Registers, Leaves, Tells, Alarms, Rebuilds, Repeats, Hears, Lowers, Waits, Judges, AnswersAgain}
+use Rattle.krl_server.specs.Cases.{Case, Ignored, Registers, Leaves, Tells, Alarms, Rebuilds, Repeats, Acknowledges, Lowers, Waits, Judges, AnswersAgain}
 
 -- a Hello or Bye that is taken, or a new write, is a change; nothing else is
 abbrev pub change_of : ToServer → Case → Option Change
@@ -14,7 +14,7 @@ change_of m Tells = None
 change_of m Alarms = None
 change_of m (Rebuilds pieces) = None
 change_of m (Repeats body) = None
-change_of m Hears = None
+change_of m Acknowledges = None
 change_of m (Lowers span keep) = None
 change_of m (Waits req point hi g) = None
 change_of m (Judges number op o) = Some (change.Judged m.client number op o)

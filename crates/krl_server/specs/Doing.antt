@@ -18,7 +18,7 @@ use Rattle.krl_server.specs.declared.state.State.{State}
 use Rattle.krl_server.specs.declared.case.After.{After}
 use Rattle.krl_server.specs.Afters.{does_answer, does_call}
 use Rattle.krl_server.specs.Ends.{waiting}
-use Rattle.krl_server.specs.Servers.{Server, is_gathering}
+use Rattle.krl_server.specs.Servers.{Server, is_recovering}
 use Rattle.krl_server.specs.States.{meaning, IsFormed, after_of}
 use Rattle.krl_server.specs.Outboxes.{Sent, Sends}
 use Rattle.krl_server.specs.Cases.{case_of}
@@ -27,13 +27,13 @@ use Rattle.krl_durable.specs.Index.{span_of, is_slot}
 use Rattle.krl_table.specs.Calls.{wanted}
 use Rattle.krl_server.specs.Effects.{callback_to, effect}
 use Rattle.krl_server.specs.Changes.{change_of}
-use Rattle.krl_server.specs.Answering.{Turn, turn_at, take_turn, Answered}
+use Rattle.krl_server.specs.Answering.{Turn, turn_at, answer_first, Answered}
 use Rattle.krl_queue.specs.declared.waiter.Waiter.{Waiter}
-use Rattle.krl_server.specs.Callbacks.{is_beside, callbacks_for, callbacks_of, callbacks}
+use Rattle.krl_server.specs.Callbacks.{is_compatible, callbacks_for, callbacks_of, callbacks}
 use Rattle.krl_server.specs.Steps.{ServerStep, IsSettled, alarms, start, can_start}
 use Rattle.krl_server.specs.Shows.{IsSound}
 use Rattle.krl_server.specs.Keeps.{IsOrdered}
-use Rattle.krl_server.specs.Within.{IsWithin, AreHere}
+use Rattle.krl_server.specs.Within.{IsWithin, AreRegistered}
 
 -- the turn of the slot's first waiter, if it can be answered
 abbrev pub turn_here : Server → ℕ → Option Turn
@@ -43,13 +43,13 @@ turn_here s n = turn_at s n (s.rows n).queue None
 pub record HasTurned (s t : Server) (n : ℕ) (o : ToClient) : Type 0 where
   pub turn : Turn
   pub here : turn_here s n ≡ Some turn
-  pub server : t ≡ (take_turn s turn).server
-  pub out : (take_turn s turn).outs ≡ o ∷ []
+  pub server : t ≡ (answer_first s turn).server
+  pub out : (answer_first s turn).outs ≡ o ∷ []
 
 -- the client is registered and has not left
-abbrev pub is_here : Option Record → Bool
-is_here None = false
-is_here (Some r) = not r.left
+abbrev pub is_registered : Option Record → Bool
+is_registered None = false
+is_registered (Some r) = not r.left
 
 -- the callbacks for the slot's first waiter, if that is the client's
 abbrev pub calls_at_first : Server → ℕ → ℕ → List ToClient
@@ -64,7 +64,7 @@ pub record HasAnswered (s t : Server) (old new : Sent) : Type 0 where
 -- the callback to the client d for the waiter u of the slot n, if d blocks it
 abbrev pub callback_if : Server → ℕ → Waiter → ℕ → List ToClient
 callback_if s n u d =
-    if is_beside s n u d then [] else callback_to s d (span_of s.durable.index n) (cap (wanted (s.rows n) u)) ∷ []
+    if is_compatible s n u d then [] else callback_to s d (span_of s.durable.index n) (cap (wanted (s.rows n) u)) ∷ []
 
 -- f is what the table tells of the first waiter of slot n
 pub record IsFirst (s : Server) (n : ℕ) (f : FirstWaiter) : Type 0 where
@@ -103,8 +103,8 @@ calls_after left t = if does_call left then callbacks t else []
 -- what is left to be done makes t of the server s, and sends these
 pub data Finished (s : Server) (left : After) : Server → List ToClient → Type 0 where
   rests : does_answer left ≡ false → Finished s left s []
-  gathered : is_gathering s.missing ≡ true → Finished s left s []
-  served : (t : Server) (answers : List ToClient) → does_answer left ≡ true → is_gathering s.missing ≡ false →
+  still_recovering : is_recovering s.missing ≡ true → Finished s left s []
+  served : (t : Server) (answers : List ToClient) → does_answer left ≡ true → is_recovering s.missing ≡ false →
       Answered s t answers → Finished s left t (answers ++ calls_after left t)
 
 pub record HasFinished (s : Server) (left : After) (t : Server) (old new : Sent) : Type 0 where
@@ -144,7 +144,7 @@ own_of found.Leaves = 0
 own_of found.Tells = 1
 own_of found.Reports = 0
 own_of (found.Repeats body) = 1
-own_of found.Hears = 0
+own_of found.Acknowledges = 0
 own_of (found.Lowers span keep) = 0
 own_of (found.Waits req point hi g) = 0
 own_of (found.Writes number op) = 1
@@ -158,7 +158,7 @@ room_for n found.Leaves = 64 * n
 room_for n found.Tells = 1
 room_for n found.Reports = 64 * n
 room_for n (found.Repeats body) = 1
-room_for n found.Hears = 64 * n
+room_for n found.Acknowledges = 64 * n
 room_for n (found.Lowers span keep) = n
 room_for n (found.Waits req point hi g) = 64 * (n + 1)
 room_for n (found.Writes number op) = 1 + 64 * n
@@ -171,7 +171,7 @@ pub record IsServer (st : State) : Type 0 where
   pub ordered : IsOrdered (meaning st)
   pub settled : IsSettled (meaning st)
   pub within : IsWithin (meaning st)
-  pub here : AreHere (meaning st)
+  pub here : AreRegistered (meaning st)
 
 -- Starts
 

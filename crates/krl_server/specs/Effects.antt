@@ -28,9 +28,9 @@ use Rattle.krl_durable.specs.Writes.{applied}
 use Rattle.krl_table.specs.Rows.{Rows, mode_at}
 use Rattle.krl_table.specs.Calls.{lowered, cleared, enqueued, split, merged}
 use Rattle.krl_table.specs.Reports.{adopted}
-use Rattle.krl_server.specs.declared.line.Line.{Line}
-use Rattle.krl_server.specs.Servers.{Server, blank_line, unlist, set_line, incarnation_of}
-use Rattle.krl_server.specs.Cases.{Case, Ignored, Registers, Leaves, Tells, Alarms, Rebuilds, Repeats, Hears, Lowers, Waits, Judges, AnswersAgain}
+use Rattle.krl_server.specs.declared.session.Session.{Session}
+use Rattle.krl_server.specs.Servers.{Server, blank_session, unlist, set_session, incarnation_of}
+use Rattle.krl_server.specs.Cases.{Case, Ignored, Registers, Leaves, Tells, Alarms, Rebuilds, Repeats, Acknowledges, Lowers, Waits, Judges, AnswersAgain}
 
 pub record Done : Type 0 where
   pub server : Server
@@ -77,8 +77,8 @@ holdings s c (n ∷ ns) = holding s n c ∷ holdings s c ns
 
 -- Changes of the server
 
-abbrev pub with_line : Server → ℕ → Line → Server
-with_line s c line = record s { lines = set_line s.lines c line }
+abbrev pub with_session : Server → ℕ → Session → Server
+with_session s c session = record s { sessions = set_session s.sessions c session }
 
 abbrev pub with_rows : Server → Rows → Server
 with_rows s rows = record s { rows = rows }
@@ -88,7 +88,7 @@ abbrev pub registers : Server → ℕ → ℕ → Server
 registers s c incarnation = record s {
   durable = registered s.durable c incarnation;
   rows = cleared s.rows c;
-  lines = set_line s.lines c blank_line;
+  sessions = set_session s.sessions c blank_session;
   missing = unlist s.missing c;
 }
 
@@ -101,8 +101,8 @@ abbrev pub adopts : Server → ℕ → Pieces → Server
 adopts s c pieces = record s { rows = adopted s.durable.index s.rows c pieces; missing = unlist s.missing c }
 
 -- the last push counts as acknowledged
-abbrev pub heard : Server → ℕ → Server
-heard s c = with_line s c (record (s.lines c) { unheard = None })
+abbrev pub acknowledged : Server → ℕ → Server
+acknowledged s c = with_session s c (record (s.sessions c) { unacked = None })
 
 abbrev pub lowers : Server → ℕ → Bounds → Mode → Server
 lowers s c span keep = with_rows s (lowered s.durable.index s.rows c span keep)
@@ -111,7 +111,7 @@ lowers s c span keep = with_rows s (lowered s.durable.index s.rows c span keep)
 abbrev pub queues : Server → Waiter → Server
 queues s u = record s {
   rows = enqueued s.durable.index s.rows u;
-  lines = set_line s.lines u.client (record (s.lines u.client) { asked = u.req });
+  sessions = set_session s.sessions u.client (record (s.sessions u.client) { last_request = u.req });
 }
 
 -- what a write that is Applied makes of the rows
@@ -134,10 +134,13 @@ writes s c op o = record s { durable = applied s.durable c op o; rows = rows_aft
 -- the next push to the client. Where its number is spent none is made
 abbrev pub pushes : Server → ℕ → PushBody → Done
 pushes s c body =
-    if nat_lt (s.lines c).pushed END
+    if nat_lt (s.sessions c).last_push END
     then record {
-      server = with_line s c (record (s.lines c) { pushed = suc (s.lines c).pushed; unheard = Some body });
-      outs = push_to s c (suc (s.lines c).pushed) body ∷ [];
+      server = with_session s c (record (s.sessions c) {
+        last_push = suc (s.sessions c).last_push;
+        unacked = Some body;
+      });
+      outs = push_to s c (suc (s.sessions c).last_push) body ∷ [];
     }
     else silent s
 
@@ -153,10 +156,16 @@ effect s m Leaves = silent (departs s m.client)
 effect s m Tells = record { server = s; outs = epoch_to s m.client ∷ [] }
 effect s m Alarms = silent s
 effect s m (Rebuilds pieces) = silent (adopts s m.client pieces)
-effect s m (Repeats body) = record { server = s; outs = push_to s m.client (s.lines m.client).pushed body ∷ [] }
-effect s m Hears = silent (heard s m.client)
-effect s m (Lowers span keep) = silent (lowers (heard s m.client) m.client span keep)
+effect s m (Repeats body) = record { server = s; outs = push_to s m.client (s.sessions m.client).last_push body ∷ [] }
+effect s m Acknowledges = silent (acknowledged s m.client)
+effect s m (Lowers span keep) = silent (lowers (acknowledged s m.client) m.client span keep)
 effect s m (Waits req point hi g) =
-    silent (queues (heard s m.client) (record { client = m.client; req = req; point = point; hi = hi; mode = g }))
-effect s m (Judges number op o) = answers (writes (heard s m.client) m.client op o) m.client number op o
-effect s m (AnswersAgain number op o) = answers (heard s m.client) m.client number op o
+    silent (queues (acknowledged s m.client) (record {
+      client = m.client;
+      req = req;
+      point = point;
+      hi = hi;
+      mode = g;
+    }))
+effect s m (Judges number op o) = answers (writes (acknowledged s m.client) m.client op o) m.client number op o
+effect s m (AnswersAgain number op o) = answers (acknowledged s m.client) m.client number op o

@@ -4,28 +4,28 @@ use Rattle.std.specs.List.{list_any, filter}
 use Rattle.krl_durable.specs.declared.record.Record.{Record}
 use Rattle.krl_durable.specs.Registers.{Durable, record_of}
 use Rattle.krl_table.specs.Rows.{Rows}
-use Rattle.krl_server.specs.declared.line.Line.{Line}
+use Rattle.krl_server.specs.declared.session.Session.{Session}
 use Rattle.krl_server.specs.declared.phase.Phase.{Phase}
 use Rattle.krl_server.specs.declared.phase.Phase.TheVariants as phase
 
 pub record Server : Type 0 where
   pub durable : Durable
   pub rows : Rows
-  pub lines : ℕ → Line  -- by client
+  pub sessions : ℕ → Session  -- by client
   -- who was registered at the start, and has since neither reported, nor registered anew, nor left
   pub missing : List ℕ
 
-abbrev pub blank_line : Line
-blank_line = record { pushed = 0; unheard = None; asked = 0 }
+abbrev pub blank_session : Session
+blank_session = record { last_push = 0; unacked = None; last_request = 0 }
 
 -- someone is missing
-abbrev pub is_gathering : List ℕ → Bool
-is_gathering [] = false
-is_gathering (c ∷ cs) = true
+abbrev pub is_recovering : List ℕ → Bool
+is_recovering [] = false
+is_recovering (c ∷ cs) = true
 
 abbrev pub phase_of : List ℕ → Phase
 phase_of [] = phase.Serving
-phase_of (c ∷ cs) = phase.Gathering
+phase_of (c ∷ cs) = phase.Recovering
 
 -- the client stands in the list
 abbrev pub lists : List ℕ → ℕ → Bool
@@ -35,9 +35,9 @@ lists clients c = list_any (λ d. nat_eq c d) clients
 abbrev pub unlist : List ℕ → ℕ → List ℕ
 unlist clients c = filter (λ d. not (nat_eq c d)) clients
 
--- the lines with another one of this client
-abbrev pub set_line : (ℕ → Line) → ℕ → Line → ℕ → Line
-set_line lines c line d = if nat_eq d c then line else lines d
+-- the sessions with another one of this client
+abbrev pub set_session : (ℕ → Session) → ℕ → Session → ℕ → Session
+set_session sessions c session d = if nat_eq d c then session else sessions d
 
 -- the incarnation of a record, or 0
 abbrev pub incarnation_or_0 : Option Record → ℕ

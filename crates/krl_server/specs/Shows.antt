@@ -40,9 +40,9 @@ use Rattle.krl_durable.specs.Registers.{Durable, record_of}
 use Rattle.krl_table.specs.Rows.{most_clients, mode_at}
 use Rattle.krl_table.specs.Points.{range_at, key_at}
 use Rattle.krl_table.specs.Reports.{reported_key}
-use Rattle.krl_server.specs.declared.line.Line.{Line}
+use Rattle.krl_server.specs.declared.session.Session.{Session}
 use Rattle.krl_server.specs.Servers.{Server, lists}
-use Rattle.krl_server.specs.Cases.{Case, Ignored, Registers, Leaves, Tells, Alarms, Rebuilds, Repeats, Hears, Lowers, Waits, Judges, AnswersAgain}
+use Rattle.krl_server.specs.Cases.{Case, Ignored, Registers, Leaves, Tells, Alarms, Rebuilds, Repeats, Acknowledges, Lowers, Waits, Judges, AnswersAgain}
 
 -- Words of the machine
 
@@ -125,7 +125,7 @@ WasSent l inc (told.Callback epoch span keep) = (1 ≤ epoch) × IsWhole span
 
 abbrev pub machine_phase : List ℕ → links.Phase
 machine_phase [] = links.Serving
-machine_phase (c ∷ cs) = links.Gathering
+machine_phase (c ∷ cs) = links.Recovering
 
 -- what all links see of a durable part
 abbrev pub view_of : Durable → links.Phase → Shared
@@ -146,23 +146,24 @@ IsRecord (Some r) l = record {
   applied : (o : Outcome) → r.left ≡ false → r.outcome ≡ Some o → l.applied ≡ is_applied o;
 }
 
--- what a link has of the server, by the shared part, the client's record, whether it is missing, its line, and its
+-- what a link has of the server, by the shared part, the client's record, whether it is missing, its session, and its
 -- parts at each point
-pub record LinkIs (s : Shared) (of : Option Record) (is_missing : Bool) (line : Line)
+pub record LinkIs (s : Shared) (of : Option Record) (is_missing : Bool) (session : Session)
     (range_part : ℕ → RangePart) (key_part : ℕ → KeyPart) (l : Link) : Type 0 where
   pub known : IsRecord of l
   pub missing : l.missing ≡ is_missing
-  pub pushed : l.pushed ≡ line.pushed
-  pub acked : l.acked ≡ not (is_some line.unheard)
-  pub unheard : (body : PushBody) → line.unheard ≡ Some body → WasSent l l.reg (told.Push s.epoch line.pushed body)
+  pub last_push : l.last_push ≡ session.last_push
+  pub acked : l.acked ≡ not (is_some session.unacked)
+  pub unacked : (body : PushBody) → session.unacked ≡ Some body →
+      WasSent l l.reg (told.Push s.epoch session.last_push body)
   pub range : s.phase ≡ links.Serving → (q : ℕ) → l.top_range q ≡ range_part q
   pub key : s.phase ≡ links.Serving → (q : ℕ) → l.top_key q ≡ key_part q
-  pub new_range : s.phase ≡ links.Gathering → (q : ℕ) → l.new_range q ≡ range_part q
-  pub new_key : s.phase ≡ links.Gathering → (q : ℕ) → l.new_key q ≡ key_part q
+  pub new_range : s.phase ≡ links.Recovering → (q : ℕ) → l.new_range q ≡ range_part q
+  pub new_key : s.phase ≡ links.Recovering → (q : ℕ) → l.new_key q ≡ key_part q
 
 abbrev pub LinkShows : Server → ℕ → Link → Type 0
 LinkShows s c l =
-    LinkIs (view s) (record_of s.durable.register c) (lists s.missing c) (s.lines c)
+    LinkIs (view s) (record_of s.durable.register c) (lists s.missing c) (s.sessions c)
     (range_at s.durable.index s.rows c) (key_at s.durable.index s.rows c) l
 
 -- a message of the registered incarnation in this epoch stands in the link, and the client has not left
@@ -195,7 +196,7 @@ logged m Tells log = log
 logged m Alarms log = log
 logged m (Rebuilds pieces) log = log
 logged m (Repeats body) log = log
-logged m Hears log = log
+logged m Acknowledges log = log
 logged m (Lowers span keep) log = log
 logged m (Waits req point hi g) log = log
 logged m (Judges number op o) log =

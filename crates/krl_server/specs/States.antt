@@ -5,25 +5,30 @@ use Rattle.krl_messages.specs.declared.to_server.ToServerBody.TheVariants as sai
 use Rattle.krl_table.specs.Kept.{rows_of, IsOver}
 use Rattle.krl_table.specs.Reports.{conflicts}
 use Rattle.krl_server.specs.declared.state.State.{State}
-use Rattle.krl_server.specs.declared.line.Line.{Line}
+use Rattle.krl_server.specs.declared.session.Session.{Session}
 use Rattle.krl_server.specs.declared.case.Case.{Case as Found}
 use Rattle.krl_server.specs.declared.case.Case.TheVariants as found
 use Rattle.krl_server.specs.declared.case.After.{After}
 use Rattle.krl_server.specs.declared.case.After.TheVariants as after
-use Rattle.krl_server.specs.Servers.{Server, blank_line}
-use Rattle.krl_server.specs.Cases.{Case, Ignored, Registers, Leaves, Tells, Alarms, Rebuilds, Repeats, Hears, Lowers, Waits, Judges, AnswersAgain, judged}
+use Rattle.krl_server.specs.Servers.{Server, blank_session}
+use Rattle.krl_server.specs.Cases.{Case, Ignored, Registers, Leaves, Tells, Alarms, Rebuilds, Repeats, Acknowledges, Lowers, Waits, Judges, AnswersAgain, judged}
 
--- the line of a client
-abbrev pub lines_of : List Line → ℕ → Line
-lines_of lines c = slice_index_or lines c blank_line
+-- the session of a client
+abbrev pub sessions_of : List Session → ℕ → Session
+sessions_of sessions c = slice_index_or sessions c blank_session
 
 -- what the state means
 abbrev pub meaning : State → Server
-meaning st = record { durable = st.durable; rows = rows_of st.table; lines = lines_of st.lines; missing = st.missing }
+meaning st = record {
+  durable = st.durable;
+  rows = rows_of st.table;
+  sessions = sessions_of st.sessions;
+  missing = st.missing;
+}
 
--- there is a line for each client, and the table's rows stand at slots of the index
+-- there is a session for each client, and the table's rows stand at slots of the index
 pub record IsFormed (st : State) : Type 0 where
-  pub full : length st.lines ≡ 64
+  pub full : length st.sessions ≡ 64
   pub over : IsOver st.durable.index st.table
 
 -- the case of a missing client's report
@@ -42,7 +47,7 @@ meant s c b found.Leaves = Leaves
 meant s c b found.Tells = Tells
 meant s c b found.Reports = case_of_pieces s c b
 meant s c b (found.Repeats body) = Repeats body
-meant s c b found.Hears = Hears
+meant s c b found.Acknowledges = Acknowledges
 meant s c b (found.Lowers span keep) = Lowers span keep
 meant s c b (found.Waits req point hi g) = Waits req point hi g
 meant s c b (found.Writes number op) = Judges number op (judged s c op)
@@ -57,7 +62,7 @@ after_of Tells = after.Nothing
 after_of Alarms = after.Alarm
 after_of (Rebuilds pieces) = after.Calls
 after_of (Repeats body) = after.Nothing
-after_of Hears = after.Calls
+after_of Acknowledges = after.Calls
 after_of (Lowers span keep) = after.Answers
 after_of (Waits req point hi g) = after.Calls
 after_of (Judges number op o) = after.Calls

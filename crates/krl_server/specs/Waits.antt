@@ -6,7 +6,7 @@ use Rattle.krl_durable.specs.Index.{slot_of}
 use Rattle.krl_table.specs.Rows as table
 use Rattle.krl_table.specs.Rows.{most_clients}
 use Rattle.krl_server.specs.Servers.{Server}
-use Rattle.krl_server.specs.Callbacks.{is_beside}
+use Rattle.krl_server.specs.Callbacks.{is_compatible}
 
 -- how the client waits
 abbrev pub waiter_of : Server → ℕ → Option Waiter
@@ -15,7 +15,7 @@ waiter_of s c = table.waiter_of s.durable.index s.rows c
 -- the client d is in the way of the waiter u of slot n: it waits there before it, or what it holds there does not go
 -- beside what u wants
 abbrev pub is_in_the_way : Server → ℕ → Waiter → ℕ → Bool
-is_in_the_way s n u d = goes_before u.client d (s.rows n).queue || not (is_beside s n u d)
+is_in_the_way s n u d = goes_before u.client d (s.rows n).queue || not (is_compatible s n u d)
 
 abbrev pub waits_for_by : Server → Option Waiter → ℕ → Bool
 waits_for_by s None d = false

@@ -2,7 +2,7 @@
 ghost use Rattle.std.specs.Prelude.{◌≡◌, ◌<◌, ◌≤◌, ◌+◌, length, IfSome, IfNone, Some, None, true};
 ghost use Rattle.krl_durable.specs.Index.{is_slot};
 ghost use Rattle.krl_table.specs.Rows.{front_of};
-ghost use Rattle.krl_table.specs.Replies.{can_have};
+ghost use Rattle.krl_table.specs.Replies.{is_wanted_compatible};
 ghost use Rattle.krl_table.specs.Sound.{IsTable};
 ghost use Rattle.krl_server.specs.Outboxes.{as_list};
 ghost use Rattle.krl_server.specs.Answering.{grants, tells_absent};
@@ -26,8 +26,8 @@ impl State {
         requires sound { IsSound (meaning self.old) }
         requires slot { is_slot self.old.durable.index slot ≡ true }
         requires first { front_of ((meaning self.old).rows slot).queue ≡ Some waiter.now }
-        requires fits { IfSome (front_of ((meaning self.old).rows slot).queue)
-            (λ u. can_have (meaning self.old).rows slot u ≡ true) }
+        requires is_compatible_there { IfSome (front_of ((meaning self.old).rows slot).queue)
+            (λ u. is_wanted_compatible (meaning self.old).rows slot u ≡ true) }
         ensures server { meaning self.new
             ≡ (grants (meaning self.old) (record { slot = slot; waiter = waiter.now })).server }
         ensures out { as_list result
@@ -68,7 +68,7 @@ impl State {
     }
 
     /// Answers the slot's first waiter, if that is possible.
-    fn take_turn(&mut self, slot: u64) -> Option<ToClient>
+    fn answer_first(&mut self, slot: u64) -> Option<ToClient>
         requires formed { IsFormed self.old }
         requires slot { is_slot self.old.durable.index slot ≡ true }
         requires sound { IsSound (meaning self.old) }
@@ -79,7 +79,7 @@ impl State {
         ensures formed { IsFormed self.new }
     {
         let waiter = self.table.front(slot)?;
-        let acked = self.line(waiter.client).can_push();
+        let acked = self.session(waiter.client).can_push();
         match self.table.answerable(slot, acked) {
             Some(Reply::Grant) => self.grant(slot, &waiter),
             Some(Reply::Absent) => self.tell_absent(slot, &waiter),
@@ -90,7 +90,7 @@ impl State {
     /// Answers first waiters, at the least slot first, until none can be answered. An answer makes
     /// nobody answerable at a lower slot, so one walk upward does. The list has the slots at which
     /// somebody waits, and still does afterwards: nobody comes to wait.
-    pub(crate) fn answer(&mut self, slots: &[u64], outbox: &mut Outbox)
+    pub(crate) fn answer_waiters(&mut self, slots: &[u64], outbox: &mut Outbox)
         requires formed { IsFormed self.old }
         requires slots { HaveWaiters (meaning self.old) 0 slots.now }
         requires sound { IsSound (meaning self.old) }
@@ -102,7 +102,7 @@ impl State {
     {
         let mut i = 0;
         while i < slots.len() {
-            match self.take_turn(slots[i]) {
+            match self.answer_first(slots[i]) {
                 Some(message) => outbox.send(message),
                 None => i += 1,
             }

@@ -2,14 +2,14 @@
 ghost use Rattle.std.specs.Prelude.{◌≡◌, ◌<◌, ℕ, [], IfOk, OnErr, IfSome, IfNone};
 ghost use Rattle.krl_durable.specs.Index.{slot_of};
 ghost use Rattle.krl_server.specs.Cases.{case_of};
-ghost use Rattle.krl_server.specs.Effects.{heard, queues};
+ghost use Rattle.krl_server.specs.Effects.{acknowledged, queues};
 ghost use Rattle.krl_server.specs.Doing.{IsServer, HasTurned, HasStepped};
 ghost use Rattle.krl_server.specs.Shows.{IsSound};
 ghost use Rattle.krl_server.specs.States.{meaning, meant, IsFormed};
 
 use crate::case::Case;
-use crate::line::Line;
 use crate::out::{Outbox, ServerOut};
+use crate::session::Session;
 use crate::state::State;
 use krl_messages::{PushBody, ToClient, ToServer};
 use krl_modes::END;
@@ -28,22 +28,23 @@ impl State {
         requires client { waiter.now.client < 64 }
         requires sound { IsSound (meaning self.old) }
         ensures turned { IfSome result (λ o. HasTurned
-            (queues (heard (meaning self.old) waiter.now.client) waiter.now) (meaning self.new)
+            (queues (acknowledged (meaning self.old) waiter.now.client) waiter.now)
+            (meaning self.new)
             (slot_of self.old.durable.index waiter.now.point) o) }
         ensures free { IfSome result (λ _. ((meaning self.old).rows
             (slot_of self.old.durable.index waiter.now.point)).queue ≡ []) }
         ensures none { IfNone result (self.new ≡ self.old) }
         ensures formed { IsFormed self.new }
     {
-        let line = self.line(waiter.client);
-        if line.pushed >= END {
+        let session = self.session(waiter.client);
+        if session.last_push >= END {
             return None;
         }
         let slots = self.table.grant_at_once(&self.durable, waiter)?;
-        self.lines[waiter.client as usize] = Line {
-            unheard: None,
-            asked: waiter.req,
-            ..line
+        self.sessions[waiter.client as usize] = Session {
+            unacked: None,
+            last_request: waiter.req,
+            ..session
         };
         let holdings = self.holdings(slots.as_slice(), waiter.client);
         self.push(
@@ -86,7 +87,7 @@ impl State {
         else {
             return Ok(None);
         };
-        if self.missing.is_gathering() {
+        if self.missing.is_recovering() {
             return Ok(None);
         }
         let mut outbox = Outbox::new(alloc, 1 + 63 * self.count_waiting())?;

@@ -22,7 +22,7 @@ pub(crate) enum Case {
     /// The push that is not acknowledged is sent again.
     Repeats(PushBody),
     /// The last push is acknowledged, and nothing more.
-    Hears,
+    Acknowledges,
     /// Modes are given back.
     Lowers {
         span: Span,

@@ -12,10 +12,11 @@ ghost use Rattle.krl_table.specs.Waiters.{WaitsNowhere};
 ghost use Rattle.krl_durable.specs.Writes.{index_after};
 ghost use Rattle.krl_table.specs.Kept.{IsOver};
 ghost use Rattle.krl_server.specs.Cases.{judged};
-ghost use Rattle.krl_server.specs.Effects.{rows_after, registers, departs, adopts, heard, lowers};
+ghost use Rattle.krl_server.specs.Effects.{rows_after, registers, departs, adopts, acknowledged};
+ghost use Rattle.krl_server.specs.Effects.{lowers};
 ghost use Rattle.krl_server.specs.Effects.{queues, writes, answers};
 
-use crate::line::Line;
+use crate::session::Session;
 use crate::state::State;
 use krl_messages::{Outcome, Pieces, PushBody, ToClient, WriteOp};
 use krl_modes::{Mode, Point, Span};
@@ -40,7 +41,7 @@ impl State {
     {
         self.durable.register(client, incarnation)?;
         self.table.clear(client);
-        self.lines[client as usize] = Line::blank();
+        self.sessions[client as usize] = Session::blank();
         self.missing.remove(client);
         Ok(())
     }
@@ -82,10 +83,10 @@ impl State {
         requires formed { IsFormed self.old }
         requires client { client < 64 }
         ensures lowers { meaning self.new
-            ≡ lowers (heard (meaning self.old) client) client span keep }
+            ≡ lowers (acknowledged (meaning self.old) client) client span keep }
         ensures formed { IsFormed self.new }
     {
-        self.hear(client);
+        self.acknowledge(client);
         self.table.lower(&self.durable, client, span, keep);
     }
 
@@ -94,15 +95,16 @@ impl State {
         requires formed { IsFormed self.old }
         requires client { node.client < 64 }
         requires free { WaitsNowhere (meaning self.old).rows node.client }
-        ensures queues { meaning self.new ≡ queues (heard (meaning self.old) node.client) node }
+        ensures queues { meaning self.new
+            ≡ queues (acknowledged (meaning self.old) node.client) node }
         ensures formed { IsFormed self.new }
     {
         let waiter = node.waiter();
-        let line = self.line(waiter.client);
-        self.lines[waiter.client as usize] = Line {
-            unheard: None,
-            asked: waiter.req,
-            ..line
+        let session = self.session(waiter.client);
+        self.sessions[waiter.client as usize] = Session {
+            unacked: None,
+            last_request: waiter.req,
+            ..session
         };
         self.table.enqueue(&self.durable, node);
     }

@@ -1,6 +1,6 @@
 //! The clients that are missing.
 ghost use Rattle.std.specs.Prelude.{◌≡◌, IfOk};
-ghost use Rattle.krl_server.specs.Servers.{is_gathering, lists, unlist};
+ghost use Rattle.krl_server.specs.Servers.{is_recovering, lists, unlist};
 
 use std::alloc::{AllocError, Global};
 use std::marker::Model;
@@ -29,8 +29,8 @@ impl Missing {
     }
 
     /// Whether somebody is missing.
-    pub(crate) fn is_gathering(&self) -> bool
-        ensures { result ≡ is_gathering self.now }
+    pub(crate) fn is_recovering(&self) -> bool
+        ensures { result ≡ is_recovering self.now }
     {
         !self.clients.is_empty()
     }

@@ -4,7 +4,7 @@ ghost use Rattle.krl_durable.specs.Registers.{missing_order};
 ghost use Rattle.krl_durable.specs.Changes.{IsChange};
 ghost use Rattle.krl_table.specs.Rows.{blank_row};
 ghost use Rattle.krl_table.specs.Kept.{rows_of, IsOver};
-ghost use Rattle.krl_server.specs.Servers.{is_gathering, phase_of};
+ghost use Rattle.krl_server.specs.Servers.{is_recovering, phase_of};
 ghost use Rattle.krl_server.specs.Answering.{Answered};
 ghost use Rattle.krl_server.specs.Steps.{nudge, crash};
 ghost use Rattle.krl_server.specs.Ends.{most_messages};
@@ -15,10 +15,10 @@ ghost use Rattle.krl_server.specs.Says.{PushesStand};
 ghost use Rattle.krl_server.specs.Waits.{waiter_of, waited_for};
 ghost use Rattle.krl_table.specs.Holds.{HoldsAt};
 
-use crate::line::blank_lines;
 use crate::missing::Missing;
 use crate::out::ServerOut;
 use crate::phase::Phase;
+use crate::session::blank_sessions;
 use crate::start_refused::{NotStarted, StartRefused};
 use crate::state::State;
 use arrayvec::ArrayVec;
@@ -99,7 +99,7 @@ impl Server {
                     state: State {
                         durable,
                         table,
-                        lines: blank_lines(),
+                        sessions: blank_sessions(),
                         missing,
                     },
                 })
@@ -144,7 +144,7 @@ impl Server {
         self.state.step(alloc, message)
     }
 
-    /// What is sent to move a client that seems stuck: while the server gathers, the epoch to a
+    /// What is sent to move a client that seems stuck: while the server recovers, the epoch to a
     /// missing client; while it serves, the client's push that is not acknowledged, or else the
     /// callbacks to those who block it where it waits first; and nothing to any other. It changes
     /// nothing, and answers nobody: while the server serves, nobody is left who could be answered.
@@ -154,7 +154,7 @@ impl Server {
     /// `AllocError` where the list's memory is refused.
     pub fn nudge(&self, alloc: Global, client: u64) -> Result<Items<ToClient>, AllocError>
         ensures sent { IfOk result (λ outs. outs ≡ nudge (meaning self.now) client) }
-        ensures nobody { is_gathering (meaning self.now).missing ≡ false
+        ensures nobody { is_recovering (meaning self.now).missing ≡ false
             → Answered (meaning self.now) (meaning self.now) [] }
         ensures few { IfOk result (λ outs. length outs ≤ most_messages) }
     {
@@ -169,7 +169,7 @@ impl Server {
         let State {
             durable,
             table: _,
-            lines: _,
+            sessions: _,
             missing: _,
         } = state;
         durable
@@ -182,14 +182,14 @@ impl Server {
         &self.state.durable
     }
 
-    /// Whether the server gathers reports. It takes no memory. The clause `every` says what holds
-    /// of every server.
+    /// Whether the server recovers: it still waits for reports. It takes no memory. The clause
+    /// `every` says what holds of every server.
     pub fn phase(&self) -> Phase
         ensures phase { result ≡ phase_of (meaning self.now).missing }
         ensures every { IsServer self.now }
     {
-        if self.state.missing.is_gathering() {
-            Phase::Gathering
+        if self.state.missing.is_recovering() {
+            Phase::Recovering
         } else {
             Phase::Serving
         }
@@ -216,9 +216,9 @@ impl Server {
     }
 
     /// The clients that the client waits for, in ascending order: at the slot at which it waits,
-    /// those that wait before it, and those that hold what does not go beside what it wants.
+    /// those that wait before it, and those that hold what is not compatible with what it wants.
     /// Nobody where it does not wait, or where it waits for a push of its own to be acknowledged,
-    /// or, while the server gathers, for the missing alone. It takes no memory.
+    /// or, while the server recovers, for the missing alone. It takes no memory.
     pub fn waited_for(&self, client: u64) -> ArrayVec<u64, 64>
         requires { client < 64 }
         ensures { result.items ≡ waited_for (meaning self.now) client }

@@ -1,6 +1,6 @@
 //! Who waits for whom.
 ghost use Rattle.std.specs.Prelude.{◌≡◌, ◌<◌, not};
-ghost use Rattle.krl_server.specs.Callbacks.{is_beside};
+ghost use Rattle.krl_server.specs.Callbacks.{is_compatible};
 ghost use Rattle.krl_server.specs.States.{meaning, IsFormed};
 ghost use Rattle.krl_server.specs.Waits.{waiter_of, is_in_the_way, waits_for, waited_for};
 
@@ -18,11 +18,12 @@ impl State {
         self.table.waiter_of(client)
     }
 
-    /// Whether what the other client holds on the slot does not go beside what the waiter wants.
+    /// Whether what the other client holds on the slot is not compatible with what the waiter
+    /// wants.
     fn holds_against(&self, slot: u64, waiter: &Waiter, other: u64) -> bool
         requires clients { waiter.now.client < 64 }
         requires other { other < 64 }
-        ensures { result ≡ not (is_beside (meaning self.now) slot waiter.now other) }
+        ensures { result ≡ not (is_compatible (meaning self.now) slot waiter.now other) }
     {
         if other == waiter.client {
             return false;
@@ -31,8 +32,8 @@ impl State {
         !wanted.compatible(self.table.mode(slot, other))
     }
 
-    /// Whether the other client waits on the slot before the waiter, or holds there what does not
-    /// go beside what it wants.
+    /// Whether the other client waits on the slot before the waiter, or holds there what is not
+    /// compatible with what it wants.
     fn is_in_the_way(&self, slot: u64, waiter: &Waiter, other: u64) -> bool
         requires client { waiter.now.client < 64 }
         requires other { other < 64 }

@@ -5,13 +5,13 @@ ghost use Rattle.krl_durable.specs.Index.{is_slot};
 ghost use Rattle.krl_modes.specs.Modes.{key_of};
 ghost use Rattle.krl_messages.specs.Several.{Ascend, most_holdings};
 ghost use Rattle.krl_server.specs.Servers.{incarnation_of, unlist};
-ghost use Rattle.krl_server.specs.States.{meaning, lines_of, IsFormed};
+ghost use Rattle.krl_server.specs.States.{meaning, sessions_of, IsFormed};
 ghost use Rattle.krl_server.specs.Outboxes.{as_list};
 ghost use Rattle.krl_server.specs.Effects.{out_to, epoch_to, push_to, callback_to, shown, holding};
-ghost use Rattle.krl_server.specs.Effects.{heard, holdings, pushes};
+ghost use Rattle.krl_server.specs.Effects.{acknowledged, holdings, pushes};
 
-use crate::line::Line;
 use crate::missing::Missing;
+use crate::session::Session;
 use krl_durable::Durable;
 use krl_messages::{Holding, Holdings, PushBody, ToClient, ToClientBody, Value};
 use krl_modes::{END, KeyPart, Mode, Point, Span};
@@ -25,7 +25,7 @@ pub struct State {
     /// Who holds which mode on which slot, and who waits there.
     pub(crate) table: Table,
     /// What was pushed and asked, by client.
-    pub(crate) lines: [Line; 64],
+    pub(crate) sessions: [Session; 64],
     /// Who is missing.
     pub(crate) missing: Missing,
 }
@@ -41,13 +41,13 @@ fn shown(part: KeyPart, value: Option<Value>) -> Option<Value>
 }
 
 impl State {
-    /// The client's line.
-    pub(crate) fn line(&self, client: u64) -> Line
+    /// The client's session.
+    pub(crate) fn session(&self, client: u64) -> Session
         requires formed { IsFormed self.now }
         requires client { client < 64 }
-        ensures { result ≡ lines_of self.now.lines client }
+        ensures { result ≡ sessions_of self.now.sessions client }
     {
-        self.lines[client as usize]
+        self.sessions[client as usize]
     }
 
     /// A message to the client's registered incarnation.
@@ -130,17 +130,17 @@ impl State {
     }
 
     /// The client's last push counts as acknowledged.
-    pub(crate) fn hear(&mut self, client: u64)
+    pub(crate) fn acknowledge(&mut self, client: u64)
         requires formed { IsFormed self.old }
         requires client { client < 64 }
-        ensures heard { meaning self.new ≡ heard (meaning self.old) client }
-        ensures rest { self.new ≡ record self.old { lines = self.new.lines } }
+        ensures acknowledged { meaning self.new ≡ acknowledged (meaning self.old) client }
+        ensures rest { self.new ≡ record self.old { sessions = self.new.sessions } }
         ensures formed { IsFormed self.new }
     {
-        let line = self.line(client);
-        self.lines[client as usize] = Line {
-            unheard: None,
-            ..line
+        let session = self.session(client);
+        self.sessions[client as usize] = Session {
+            unacked: None,
+            ..session
         };
     }
 
@@ -150,19 +150,19 @@ impl State {
         requires client { client < 64 }
         ensures server { meaning self.new ≡ (pushes (meaning self.old) client body).server }
         ensures outs { as_list result ≡ (pushes (meaning self.old) client body).outs }
-        ensures rest { self.new ≡ record self.old { lines = self.new.lines } }
+        ensures rest { self.new ≡ record self.old { sessions = self.new.sessions } }
         ensures formed { IsFormed self.new }
     {
-        let line = self.line(client);
-        if line.pushed >= END {
+        let session = self.session(client);
+        if session.last_push >= END {
             return None;
         }
-        let number = line.pushed + 1;
+        let number = session.last_push + 1;
         let message = self.push_to(client, number, &body);
-        self.lines[client as usize] = Line {
-            pushed: number,
-            unheard: Some(body),
-            ..line
+        self.sessions[client as usize] = Session {
+            last_push: number,
+            unacked: Some(body),
+            ..session
         };
         Some(message)
     }

@@ -10,11 +10,11 @@ mod changes;
 #[cfg(test)]
 mod exchange;
 #[cfg(test)]
-mod gathering;
-#[cfg(test)]
 mod named;
 #[cfg(test)]
 mod ranges;
+#[cfg(test)]
+mod recovering;
 #[cfg(test)]
 mod requests;
 #[cfg(test)]

@@ -80,7 +80,7 @@ fn nudges(alloc: Global, server: &Server, client: u64, expected: &[Told]) -> boo
 fn is_shown(alloc: Global, server: &Server, act: Act, expected: &Gives) -> bool {
     match (act, expected) {
         (Act::Missing, Gives::Missing(clients)) => {
-            (server.phase() == Phase::Gathering) != clients.is_empty()
+            (server.phase() == Phase::Recovering) != clients.is_empty()
                 && are_missing(alloc, server, clients)
         }
         (Act::Entries, Gives::Entries(entries)) => { are_entries(server.durable().run(0), entries) }

@@ -32,7 +32,7 @@ pub fn surviving(durable: &Durable) -> Survives {
 #[derive(Clone, Copy, PartialEq, Eq)]
 pub struct Shows {
     survives: Survives,
-    gathers: bool,
+    recovers: bool,
     missing: [Option<u64>; 4],
     nudges: [Option<ToClient>; 4],
 }
@@ -62,7 +62,7 @@ pub fn showing(alloc: Global, server: &Server) -> Shows {
     }
     Shows {
         survives: surviving(server.durable()),
-        gathers: server.phase() == Phase::Gathering,
+        recovers: server.phase() == Phase::Recovering,
         missing: first_missing(alloc, server),
         nudges,
     }

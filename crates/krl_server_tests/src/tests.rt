@@ -10,10 +10,10 @@ use crate::acts::{Act, Gives};
 use crate::again::CALLS;
 use crate::changes::{CHANGES, all_say};
 use crate::exchange::{CROWD, EXCHANGE, SHARES};
-use crate::gathering::{CONTRADICTS, GATHERS, REGISTERS};
 use crate::ranges::{
     COVERS, ENDS_BEFORE_A_HELD_SLOT, ENDS_BEFORE_A_WAITER, READS_VALUES_AGAIN, WRITES_VALUES,
 };
+use crate::recovering::{CONTRADICTS, RECOVERS, REGISTERS};
 use crate::runs::all_give;
 use crate::starts::{is_spent, started};
 use crate::strangers::STRANGERS;
@@ -174,8 +174,8 @@ fn passes_over_strangers(rt: HostRuntime) {
 }
 
 #[test]
-fn gathers_before_it_serves(rt: HostRuntime) {
-    assert!(rt; gives_over_a_crash(rt.alloc(), &two_entries(), &REGISTERS, &GATHERS));
+fn recovers_before_it_serves(rt: HostRuntime) {
+    assert!(rt; gives_over_a_crash(rt.alloc(), &two_entries(), &REGISTERS, &RECOVERS));
 }
 
 #[test]

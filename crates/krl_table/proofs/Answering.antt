@@ -9,9 +9,10 @@ use Rattle.krl_messages.specs.Members.{In}
 use Rattle.krl_queue.specs.declared.waiter.Waiter.{Waiter}
 use Rattle.krl_durable.specs.Index.{Index, IsSlotOf}
 use Rattle.krl_table.specs.declared.reply.Reply.TheVariants as reply
-use Rattle.krl_table.specs.Rows.{Row, row_fits, front_of}
+use Rattle.krl_table.specs.Rows.{Row, is_compatible_in_row, front_of}
 use Rattle.krl_table.specs.Calls.{wanted}
-use Rattle.krl_table.specs.Replies.{asks_absent, lacks_entry, can_have, first_reply, first_reply_on, row_reply}
+use Rattle.krl_table.specs.Replies.{asks_absent, lacks_entry, is_wanted_compatible, first_reply, first_reply_on}
+use Rattle.krl_table.specs.Replies.{row_reply}
 use Rattle.krl_table.specs.Kept.{Kept, rows_of, IsOver}
 use Rattle.krl_table.proofs.Means.{eq_cases}
 use Rattle.krl_table.proofs.Slots.{none_false, next_of}
@@ -44,15 +45,16 @@ reply_is m t over n = by_queue (rows_of t n).queue refl
     by_queue : (us : List Waiter) → (rows_of t n).queue ≡ us → first_reply_on n (rows_of t n) us ≡ first_reply m (rows_of t) n us
     by_queue [] e = refl
     by_queue (u ∷ us) e = let at = subst (In u) (sym e) (inl refl) in
-        ap (λ b. if b then Some reply.Absent else (if can_have (rows_of t) n u then Some reply.Grant else None))
+        ap (λ b. if b then Some reply.Absent else (if is_wanted_compatible (rows_of t) n u then Some reply.Grant
+        else None))
         (lacks_is m over.near n u (subst (IsSlotOf m u.point) (over.placed n u at) (next_of m over.near u.point (over.points n u at))))
 
-pub reply_grants : (n : ℕ) (row : Row) → row_reply n row ≡ Some reply.Grant → IfSome (front_of row.queue) (λ u. row_fits row u.client (wanted row u) ≡ true)
+pub reply_grants : (n : ℕ) (row : Row) → row_reply n row ≡ Some reply.Grant → IfSome (front_of row.queue) (λ u. is_compatible_in_row row u.client (wanted row u) ≡ true)
 reply_grants n row e = by_queue row.queue e
   where
-    by_queue : (us : List Waiter) → first_reply_on n row us ≡ Some reply.Grant → IfSome (front_of us) (λ u. row_fits row u.client (wanted row u) ≡ true)
+    by_queue : (us : List Waiter) → first_reply_on n row us ≡ Some reply.Grant → IfSome (front_of us) (λ u. is_compatible_in_row row u.client (wanted row u) ≡ true)
     by_queue [] e = absurd (cc)
-    by_queue (u ∷ us) e = by_tests (lacks_entry n u) (row_fits row u.client (wanted row u)) e
+    by_queue (u ∷ us) e = by_tests (lacks_entry n u) (is_compatible_in_row row u.client (wanted row u)) e
       where
         by_tests : (a b : Bool) → (if a then Some reply.Absent else (if b then Some reply.Grant else None)) ≡ Some reply.Grant → b ≡ true
         by_tests true b e = absurd (cc)

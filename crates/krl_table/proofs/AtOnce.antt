@@ -9,7 +9,7 @@ use Rattle.krl_queue.specs.declared.waiter.Waiter.{Waiter}
 use Rattle.krl_durable.specs.Index.{Index, slot_of}
 use Rattle.krl_table.specs.Rows.{Row, Rows, front_of, set_row, set_mode}
 use Rattle.krl_table.specs.Calls.{with_mode, with_queue, wanted, queue_with, enqueued, grant_first, granted_first, raised, raised_on}
-use Rattle.krl_table.specs.Replies.{asks_absent, can_have}
+use Rattle.krl_table.specs.Replies.{asks_absent, is_wanted_compatible}
 use Rattle.krl_table.specs.Grants.{nobody_waits, is_granted_at_once, taken_after, taken, granted, most_more}
 use Rattle.krl_table.proofs.Raises.{granted_from, taken_from}
 
@@ -19,10 +19,10 @@ no_queue (u ∷ us) e = absurd (cc)
 
 -- where the tests come out so
 pub at_once_is : (m : Index) (rows : Rows) (u : Waiter) (n : ℕ) (free absent : Bool) → slot_of m u.point ≡ n →
-    (nobody_waits (rows n).queue && can_have rows n u) ≡ free → asks_absent m u ≡ absent → is_granted_at_once m rows u ≡ (free && not absent)
+    (nobody_waits (rows n).queue && is_wanted_compatible rows n u) ≡ free → asks_absent m u ≡ absent → is_granted_at_once m rows u ≡ (free && not absent)
 at_once_is m rows u n free absent at e f =
-    ap (λ k. nobody_waits (rows k).queue && (can_have rows k u && not (asks_absent m u))) at
-    ∙ moved (nobody_waits (rows n).queue) (can_have rows n u) (not (asks_absent m u)) ∙ ap (λ b. b && not (asks_absent m u)) e ∙ ap (λ b. free && not b) f
+    ap (λ k. nobody_waits (rows k).queue && (is_wanted_compatible rows k u && not (asks_absent m u))) at
+    ∙ moved (nobody_waits (rows n).queue) (is_wanted_compatible rows n u) (not (asks_absent m u)) ∙ ap (λ b. b && not (asks_absent m u)) e ∙ ap (λ b. free && not b) f
   where
     moved : (a b d : Bool) → (a && (b && d)) ≡ ((a && b) && d)
     moved true b d = refl

@@ -18,10 +18,10 @@ use Rattle.krl_durable.specs.Index.{Index, low_of, span_of, is_slot, IsSlotOf}
 use Rattle.krl_table.specs.declared.row.SlotRow.{SlotRow}
 use Rattle.krl_table.specs.Rows.{Row, blank_row, set_mode, mode_at}
 use Rattle.krl_table.specs.Calls.{with_mode, unqueue, cleared, lowered}
-use Rattle.krl_table.specs.Kept.{Kept, row_there, rows_of, cleared_row, lowered_between, IsAll, IsOver, IsSound, AreBeside, AreListed, times}
+use Rattle.krl_table.specs.Kept.{Kept, row_there, rows_of, cleared_row, lowered_between, IsAll, IsOver, IsSound, AreCompatible, AreListed, times}
 use Rattle.krl_table.proofs.Means.{eq_cases}
 use Rattle.krl_table.proofs.Alone.{alone_here, times_fewer}
-use Rattle.krl_table.proofs.Besides.{cleared_beside, lowered_beside}
+use Rattle.krl_table.proofs.Besides.{cleared_compatible, lowered_compatible}
 use Rattle.krl_table.proofs.Stands.{in_unqueue, unqueue_in}
 use Rattle.krl_table.proofs.Slots.{low_under, low_past, slot_end, slot_twice}
 use Rattle.krl_table.proofs.Walk.{lower_before, lower_past, lower_here}
@@ -84,7 +84,7 @@ module _ (c : ℕ) (client : c < 64) (t u : Kept) (sound : IsSound t) (made : Is
     near = near_all (λ n. cleared_row c) t u made sound;
     used = made.used;
     strangers = λ n d le. ap (λ (r : Row). r.modes d) (made.rows n) ∙ set_strangers (rows_of t n).modes c mode.N client (sound.strangers n) d le;
-    beside = λ n. subst (λ (r : Row). AreBeside r.modes) (sym (made.rows n)) (cleared_beside (rows_of t n).modes c (sound.beside n));
+    beside = λ n. subst (λ (r : Row). AreCompatible r.modes) (sym (made.rows n)) (cleared_compatible (rows_of t n).modes c (sound.beside n));
     clients = λ n v at. sound.clients n v (in_unqueue (rows_of t n).queue c v (subst (In v) (queue_is n) at)).0;
     alone = λ d i j ne. let x = sound.alone d i j ne in let a = ap (times d) (queue_is i) in let b = ap (times d) (queue_is j) in
         let f = times_fewer d (λ w. not (nat_eq c w.client)) (rows_of t i).queue in let g = times_fewer d (λ w. not (nat_eq c w.client)) (rows_of t j).queue in omega (arith, x, a, b, f, g);
@@ -117,7 +117,7 @@ module _ (from hi c : ℕ) (keep : Mode) (client : c < 64) (t u : Kept) (made : 
     near = near_all (lowered_between from hi c keep) t u made s;
     used = made.used;
     strangers = λ n. by_row NoStrangers n (s.strangers n) (set_strangers (rows_of t n).modes c (meet (mode_at (rows_of t) n c) keep) client (s.strangers n));
-    beside = λ n. by_row (λ r. AreBeside r.modes) n (s.beside n) (lowered_beside (rows_of t n).modes c keep (s.beside n));
+    beside = λ n. by_row (λ r. AreCompatible r.modes) n (s.beside n) (lowered_compatible (rows_of t n).modes c keep (s.beside n));
     clients = λ n v at. s.clients n v (subst (In v) (lowered_queue n) at);
     alone = λ d i j ne. let x = s.alone d i j ne in let a = ap (times d) (lowered_queue i) in let b = ap (times d) (lowered_queue j) in omega (arith, x, a, b);
   }

@@ -8,12 +8,12 @@ use Rattle.krl_queue.specs.Waiting.{first_of}
 use Rattle.krl_durable.specs.Index.{Index, slot_of, is_slot}
 use Rattle.krl_table.specs.Rows.{Row, front_of}
 use Rattle.krl_table.specs.Calls.{with_queue, queue_with, grant_first, behind_first, wanted}
-use Rattle.krl_table.specs.Replies.{can_have}
-use Rattle.krl_table.specs.Kept.{Kept, rows_of, IsSet, IsOver, IsSound, AreBeside, AreListed, times, unlisted}
+use Rattle.krl_table.specs.Replies.{is_wanted_compatible}
+use Rattle.krl_table.specs.Kept.{Kept, rows_of, IsSet, IsOver, IsSound, AreCompatible, AreListed, times, unlisted}
 use Rattle.krl_table.proofs.Means.{eq_cases}
 use Rattle.krl_table.proofs.Below.{clients_are}
 use Rattle.krl_table.proofs.Alone.{one, times_more, times_with, none_times, in_times}
-use Rattle.krl_table.proofs.Besides.{set_beside, fits_beside}
+use Rattle.krl_table.proofs.Besides.{set_compatible, compatible_row}
 use Rattle.krl_table.proofs.Stands.{in_queue_with, queue_with_in, none_in}
 use Rattle.krl_table.proofs.Sounds.{NoStrangers, set_strangers, has_row, other_row, set_sound, modes_sound, same_queue, fewer_over, set_over, one_queue, listed_same, listed_less, listed_more}
 
@@ -42,7 +42,7 @@ module _ (t u : Kept) (k : ℕ) (row : Row) (w : Waiter) (ws : List Waiter) (sou
       (λ e. subst (λ y. times c (rows_of u y).queue ≤ times c (rows_of t y).queue) (sym e) (let a = ap (times c) at_k in let b = ap (times c) queue in let d = times_more c w ws in omega (arith, a, b, d)))
       (λ ne. let a = ap (times c) (at_other n ne) in omega (arith, a))
 
-  pub front_sound : k ≤ END → NoStrangers row → AreBeside row.modes → IsSound u
+  pub front_sound : k ≤ END → NoStrangers row → AreCompatible row.modes → IsSound u
   front_sound le strangers beside = set_sound t u k row s sound le strangers beside (λ v at. sound.clients k v (fewer_here v at))
       (λ c i j ne. let x = sound.alone c i j ne in let a = fewer c i in let b = fewer c j in omega (arith, x, a, b))
 
@@ -81,15 +81,16 @@ at_nobody waiting u one ws x is e l = subst (λ o. AreListed (unlisted waiting o
 -- Grant
 
 module _ (t u : Kept) (k : ℕ) (sound : IsSound t) (le : k ≤ END) (s : IsSet t u k (grant_first (rows_of t k) (rows_of t k).queue)) where
-  pub granted_sound : IfSome (front_of (rows_of t k).queue) (λ w. can_have (rows_of t) k w ≡ true) → IsSound u
-  granted_sound fits = by_queue (rows_of t k).queue refl s fits
+  pub granted_sound : IfSome (front_of (rows_of t k).queue) (λ w. is_wanted_compatible (rows_of t) k w ≡ true) →
+      IsSound u
+  granted_sound is_compatible_there = by_queue (rows_of t k).queue refl s is_compatible_there
     where
-      by_queue : (ws : List Waiter) → (rows_of t k).queue ≡ ws → IsSet t u k (grant_first (rows_of t k) ws) → IfSome (front_of ws) (λ w. can_have (rows_of t) k w ≡ true) → IsSound u
+      by_queue : (ws : List Waiter) → (rows_of t k).queue ≡ ws → IsSet t u k (grant_first (rows_of t k) ws) → IfSome (front_of ws) (λ w. is_wanted_compatible (rows_of t) k w ≡ true) → IsSound u
       by_queue [] q s h = modes_sound t u k (rows_of t k) s refl sound le (sound.strangers k) (sound.beside k)
       by_queue (w ∷ ws) q s h = front_sound t u k (grant_first (rows_of t k) (w ∷ ws)) w ws sound s q refl le
           (set_strangers (rows_of t k).modes w.client (wanted (rows_of t k) w) (sound.clients k w (subst (In w) (sym q) (inl refl))) (sound.strangers k))
-          (set_beside (rows_of t k).modes w.client (wanted (rows_of t k) w) (sound.beside k)
-          (fits_beside (rows_of t k) w.client (wanted (rows_of t k) w) (λ d lt. sound.strangers k d (let many = clients_are in omega (arith, lt, many))) h))
+          (set_compatible (rows_of t k).modes w.client (wanted (rows_of t k) w) (sound.beside k)
+          (compatible_row (rows_of t k) w.client (wanted (rows_of t k) w) (λ d lt. sound.strangers k d (let many = clients_are in omega (arith, lt, many))) h))
 
   pub granted_listed : (waiting : List (Option Waiter)) (first : Option Waiter) → first ≡ front_of (rows_of t k).queue → AreListed waiting t → AreListed (unlisted waiting first) u
   granted_listed waiting first is l = by_queue (rows_of t k).queue refl s

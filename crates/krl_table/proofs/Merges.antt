@@ -22,7 +22,7 @@ use Rattle.krl_table.specs.declared.row.SlotRow.{SlotRow}
 use Rattle.krl_table.specs.Rows.{Row, blank_row, mode_at}
 use Rattle.krl_table.specs.Calls.{with_queue, merged, merge_into}
 use Rattle.krl_table.specs.Points.{key_off_slot, range_at, key_at, MayDelete}
-use Rattle.krl_table.specs.Kept.{Kept, row_there, rows_of, AreSet, IsOver, IsSound, AreBeside, AreListed, times}
+use Rattle.krl_table.specs.Kept.{Kept, row_there, rows_of, AreSet, IsOver, IsSound, AreCompatible, AreListed, times}
 use Rattle.krl_table.proofs.Means.{eq_cases, both_rows, by_two, remove_at, remove_past}
 use Rattle.krl_table.proofs.Alone.{AreAlone, alone_moved, times_both}
 use Rattle.krl_table.proofs.Slots.{next_of, slot_is, slot_self, slot_end}
@@ -142,7 +142,7 @@ module _ (m : Index) (k s : ℕ) (near : (n : ℕ) → END ≤ n → get m n ≡
       near = λ n lt. set.others n (λ e. omega (arith, e, lt, far)) (λ e. let le = slot_end m near s at.slot in omega (arith, e, lt, le)) ∙ sound.near n lt;
       used = λ n r e. eq_cases n k (λ f. set.used n r (inl f) e) (λ nk. eq_cases n s (λ f. set.used n r (inr f) e) (λ ns. sound.used n r (sym (set.others n nk ns) ∙ e)));
       strangers = λ n. by_two t u k blank_row s new set NoStrangers (λ d le. refl) (sound.strangers s) (λ j. sound.strangers j) n;
-      beside = λ n. by_two t u k blank_row s new set (λ r. AreBeside r.modes) (λ d e ne. refl) (sound.beside s) (λ j. sound.beside j) n;
+      beside = λ n. by_two t u k blank_row s new set (λ r. AreCompatible r.modes) (λ d e ne. refl) (sound.beside s) (λ j. sound.beside j) n;
       clients = λ n w x. let y = came n w x in sound.clients y.0 w y.1;
       alone = is_alone;
     }

@@ -6,7 +6,7 @@ use Rattle.krl_messages.specs.Members.{In}
 use Rattle.krl_queue.specs.declared.waiter.Waiter.{Waiter}
 use Rattle.krl_durable.specs.Index.{Index}
 use Rattle.krl_table.specs.Rows.{Row, blank_row}
-use Rattle.krl_table.specs.Kept.{Kept, row_there, rows_of, IsOver, IsSound, AreBeside, AreListed, times, waiter_in}
+use Rattle.krl_table.specs.Kept.{Kept, row_there, rows_of, IsOver, IsSound, AreCompatible, AreListed, times, waiter_in}
 use Rattle.krl_table.proofs.Sounds.{some_none}
 
 module _ (t : Kept) (none : (n : ℕ) → get t n ≡ None) where
@@ -21,7 +21,7 @@ module _ (t : Kept) (none : (n : ℕ) → get t n ≡ None) where
     near = λ n lt. none n;
     used = λ n r e. absurd (some_none (get t n) r e (none n));
     strangers = λ n c le. ap (λ (r : Row). r.modes c) (nothing_rows n);
-    beside = λ n. subst (λ (r : Row). AreBeside r.modes) (sym (nothing_rows n)) (λ c d ne. refl);
+    beside = λ n. subst (λ (r : Row). AreCompatible r.modes) (sym (nothing_rows n)) (λ c d ne. refl);
     clients = λ n u at. absurd (nobody n u at);
     alone = λ c i j ne. let a = ap (λ (r : Row). times c r.queue) (nothing_rows i) in let b = ap (λ (r : Row). times c r.queue) (nothing_rows j) in omega (arith, a, b);
   }

@@ -8,13 +8,13 @@ use Rattle.krl_modes.specs.declared.mode.Mode.TheVariants as mode
 use Rattle.krl_modes.specs.Modes.{compatible}
 use Rattle.krl_queue.specs.declared.waiter.Waiter.{Waiter}
 use Rattle.krl_durable.specs.Index.{Index, slot_of, is_slot}
-use Rattle.krl_table.specs.Rows.{Row, Rows, blank_row, front_of, all_below, most_clients, row_fits}
+use Rattle.krl_table.specs.Rows.{Row, Rows, blank_row, front_of, all_below, most_clients, is_compatible_in_row}
 use Rattle.krl_table.specs.Calls.{with_mode, wanted, raised, raised_on, granted_first}
-use Rattle.krl_table.specs.Replies.{can_have}
+use Rattle.krl_table.specs.Replies.{is_wanted_compatible}
 use Rattle.krl_table.specs.Grants.{can_take, goes_on, taken_after, taken_by, granted_by, most_more}
 use Rattle.krl_table.specs.Kept.{Kept, rows_of, IsSet, IsOver, IsSound, AreListed}
 use Rattle.krl_table.proofs.Below.{clients_are}
-use Rattle.krl_table.proofs.Besides.{none_beside, set_beside, fits_beside}
+use Rattle.krl_table.proofs.Besides.{none_compatible, set_compatible, compatible_row}
 use Rattle.krl_table.proofs.Sounds.{set_strangers, modes_sound, same_queue, fewer_over, listed_same}
 
 -- where nobody holds anything, anything can stand
@@ -22,8 +22,8 @@ all_true : (n : ℕ) (f : ℕ → Bool) → ((d : ℕ) → f d ≡ true) → all
 all_true zero f h = refl
 all_true (suc n) f h = ap (λ b. b && all_below n f) (h n) ∙ all_true n f h
 
-pub blank_fits : (c : ℕ) (g : Mode) → row_fits blank_row c g ≡ true
-blank_fits c g = all_true most_clients (λ d. nat_eq d c || compatible g mode.N) (λ d. ap (λ b. nat_eq d c || b) (none_beside g) ∙ or_yes (nat_eq d c))
+pub blank_is_compatible : (c : ℕ) (g : Mode) → is_compatible_in_row blank_row c g ≡ true
+blank_is_compatible c g = all_true most_clients (λ d. nat_eq d c || compatible g mode.N) (λ d. ap (λ b. nat_eq d c || b) (none_compatible g) ∙ or_yes (nat_eq d c))
   where
     or_yes : (b : Bool) → (b || true) ≡ true
     or_yes true = refl
@@ -33,11 +33,11 @@ module _ (t u : Kept) (k : ℕ) (w : Waiter) (sound : IsSound t) (client : w.cli
   abbrev row : Row
   row = with_mode (rows_of t k) w.client (wanted (rows_of t k) w)
 
-  pub raised_sound : k ≤ END → can_have (rows_of t) k w ≡ true → IsSound u
-  raised_sound le fits = modes_sound t u k row s refl sound le
+  pub raised_sound : k ≤ END → is_wanted_compatible (rows_of t) k w ≡ true → IsSound u
+  raised_sound le is_compatible_there = modes_sound t u k row s refl sound le
       (set_strangers (rows_of t k).modes w.client (wanted (rows_of t k) w) client (sound.strangers k))
-      (set_beside (rows_of t k).modes w.client (wanted (rows_of t k) w) (sound.beside k)
-      (fits_beside (rows_of t k) w.client (wanted (rows_of t k) w) (λ d lt. sound.strangers k d (let many = clients_are in omega (arith, lt, many))) fits))
+      (set_compatible (rows_of t k).modes w.client (wanted (rows_of t k) w) (sound.beside k)
+      (compatible_row (rows_of t k) w.client (wanted (rows_of t k) w) (λ d lt. sound.strangers k d (let many = clients_are in omega (arith, lt, many))) is_compatible_there))
 
   pub raised_listed : (waiting : List (Option Waiter)) → AreListed waiting t → AreListed waiting u
   raised_listed waiting l = listed_same waiting t u (same_queue t u k row s refl) l

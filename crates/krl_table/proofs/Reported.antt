@@ -25,14 +25,15 @@ use Rattle.krl_messages.specs.declared.pieces.Pieces.{Pieces}
 use Rattle.krl_messages.specs.Members.{In}
 use Rattle.krl_durable.specs.Index.{Index, low_of, slots, is_slot, IsSlotOf}
 use Rattle.krl_table.specs.declared.row.SlotRow.{SlotRow}
-use Rattle.krl_table.specs.Rows.{Row, Rows, blank_row, fits, mode_at, set_mode, all_below, most_clients, row_fits}
+use Rattle.krl_table.specs.Rows.{Row, Rows, blank_row, is_compatible_there, mode_at, set_mode, all_below, most_clients}
+use Rattle.krl_table.specs.Rows.{is_compatible_in_row}
 use Rattle.krl_table.specs.Calls.{with_mode}
 use Rattle.krl_table.specs.Reports.{reported_range, reported_key, rebuilt, conflicts, adopted}
 use Rattle.krl_table.specs.Reported.{RangesOff, KeysOff, BeginsSpan, NothingFrom, IsNextReported}
-use Rattle.krl_table.specs.Kept.{Kept, row_of, row_there, rows_of, IsSet, IsAll, IsOver, IsSound, AreBeside, times, lowered_between}
+use Rattle.krl_table.specs.Kept.{Kept, row_of, row_there, rows_of, IsSet, IsAll, IsOver, IsSound, AreCompatible, times, lowered_between}
 use Rattle.krl_table.proofs.Means.{eq_cases}
 use Rattle.krl_table.proofs.Below.{clients_are}
-use Rattle.krl_table.proofs.Besides.{set_beside, fits_beside}
+use Rattle.krl_table.proofs.Besides.{set_compatible, compatible_row}
 use Rattle.krl_table.proofs.Rooms.{Lists, slots_have, slots_are}
 use Rattle.krl_table.proofs.Slots.{low_past, slot_end, slot_twice}
 use Rattle.krl_table.proofs.Sounds.{NoStrangers, set_strangers, set_over}
@@ -188,14 +189,15 @@ all_at p (x ∷ xs) n e at = by_test (p x) refl e (λ h k. all_at p xs n h k) at
     by_test true f h ih (inr k) = ih h k
     by_test false f h ih k = absurd (cc)
 
-abbrev pub AllFit : Index → Rows → ℕ → Pieces → Type 0
-AllFit m rows c pieces = (n : ℕ) → is_slot m n ≡ true → fits rows n c (rebuilt m pieces n) ≡ true
+abbrev pub AreAllCompatible : Index → Rows → ℕ → Pieces → Type 0
+AreAllCompatible m rows c pieces = (n : ℕ) → is_slot m n ≡ true →
+    is_compatible_there rows n c (rebuilt m pieces n) ≡ true
 
-pub no_conflict : (m : Index) (rows : Rows) (c : ℕ) (pieces : Pieces) → AllFit m rows c pieces → conflicts m rows c pieces ≡ false
-no_conflict m rows c pieces h = ap not (all_true (λ n. fits rows n c (rebuilt m pieces n)) (slots m) (λ n at. h n (slots_are m n at)))
+pub no_conflict : (m : Index) (rows : Rows) (c : ℕ) (pieces : Pieces) → AreAllCompatible m rows c pieces → conflicts m rows c pieces ≡ false
+no_conflict m rows c pieces h = ap not (all_true (λ n. is_compatible_there rows n c (rebuilt m pieces n)) (slots m) (λ n at. h n (slots_are m n at)))
 
-pub fit_all : (m : Index) (rows : Rows) (c : ℕ) (pieces : Pieces) → conflicts m rows c pieces ≡ false → AllFit m rows c pieces
-fit_all m rows c pieces e n slot = all_at (λ n. fits rows n c (rebuilt m pieces n)) (slots m) n (not_false (list_all (λ n. fits rows n c (rebuilt m pieces n)) (slots m)) e) (slots_have m n slot)
+pub compatible_all : (m : Index) (rows : Rows) (c : ℕ) (pieces : Pieces) → conflicts m rows c pieces ≡ false → AreAllCompatible m rows c pieces
+compatible_all m rows c pieces e n slot = all_at (λ n. is_compatible_there rows n c (rebuilt m pieces n)) (slots m) n (not_false (list_all (λ n. is_compatible_there rows n c (rebuilt m pieces n)) (slots m)) e) (slots_have m n slot)
   where
     not_false : (b : Bool) → not b ≡ false → b ≡ true
     not_false true e = refl
@@ -206,12 +208,12 @@ pub one_further : (m : Index) (pieces : Pieces) (P : ℕ → Type 0) (at s : ℕ
 one_further m pieces P at s next below none here n lt e = eq_cases n s (λ f. subst P (sym f) here)
     (λ ne. ⊎_elim (λ (a : n < at). below n a e) (λ (a : at ≤ n). none n a (next.between n a (omega (arith, lt, ne)) e)) (cases_lt n at))
 
--- nothing can stand beside anything
+-- N is compatible with every mode
 none_first : (g : Mode) → compatible mode.N g ≡ true
 none_first g = grind arith
 
-pub none_fits : (rows : Rows) (n c : ℕ) (g : Mode) → g ≡ mode.N → fits rows n c g ≡ true
-none_fits rows n c g e = ap (fits rows n c) e ∙ all_yes most_clients (λ d. nat_eq d c || compatible mode.N ((rows n).modes d)) (λ d. ap (λ b. nat_eq d c || b) (none_first ((rows n).modes d)) ∙ or_yes (nat_eq d c))
+pub none_is_compatible : (rows : Rows) (n c : ℕ) (g : Mode) → g ≡ mode.N → is_compatible_there rows n c g ≡ true
+none_is_compatible rows n c g e = ap (is_compatible_there rows n c) e ∙ all_yes most_clients (λ d. nat_eq d c || compatible mode.N ((rows n).modes d)) (λ d. ap (λ b. nat_eq d c || b) (none_first ((rows n).modes d)) ∙ or_yes (nat_eq d c))
   where
     or_yes : (b : Bool) → (b || true) ≡ true
     or_yes true = refl
@@ -307,14 +309,14 @@ module _ (m : Index) (c : ℕ) (pieces : Pieces) (t u : Kept) (client : c < 64) 
   pub adopted_queue : (n : ℕ) → (rows_of u n).queue ≡ (rows_of t n).queue
   adopted_queue n = by_row n (λ r. r.queue ≡ (rows_of t n).queue) refl (λ e. refl)
 
-  pub adopted_sound : AllFit m (rows_of t) c pieces → IsOver m u → ((n : ℕ) (r : SlotRow) → get u n ≡ Some r → row_of r ≢ blank_row) → IsSound u
+  pub adopted_sound : AreAllCompatible m (rows_of t) c pieces → IsOver m u → ((n : ℕ) (r : SlotRow) → get u n ≡ Some r → row_of r ≢ blank_row) → IsSound u
   adopted_sound fit over used = record {
     near = λ n lt. none_far n lt (get u n) refl;
     used = used;
     strangers = λ n. by_row n NoStrangers (sound.strangers n) (λ e. set_strangers (rows_of t n).modes c (rebuilt m pieces n) client (sound.strangers n));
-    beside = λ n. by_row n (λ r. AreBeside r.modes) (sound.beside n)
-        (λ e. set_beside (rows_of t n).modes c (rebuilt m pieces n) (sound.beside n)
-        (fits_beside (rows_of t n) c (rebuilt m pieces n) (λ d le. sound.strangers n d (let many = clients_are in omega (arith, le, many))) (fit n e)));
+    beside = λ n. by_row n (λ r. AreCompatible r.modes) (sound.beside n)
+        (λ e. set_compatible (rows_of t n).modes c (rebuilt m pieces n) (sound.beside n)
+        (compatible_row (rows_of t n) c (rebuilt m pieces n) (λ d le. sound.strangers n d (let many = clients_are in omega (arith, le, many))) (fit n e)));
     clients = λ n v at. sound.clients n v (subst (In v) (adopted_queue n) at);
     alone = λ d i j ne. let x = sound.alone d i j ne in let a = ap (times d) (adopted_queue i) in let b = ap (times d) (adopted_queue j) in omega (arith, x, a, b);
   }
@@ -354,8 +356,8 @@ module _ (c : ℕ) (t v : Kept) (made : IsAll (lowered_between 0 TOP c mode.N) t
       no_row (Some r) f = absurd (slot_twice (is_slot m n) (over.within n (subst IsSome (sym f) refl)) e)
 
   -- the other clients' modes are as before, so what fits still does
-  pub emptied_fits : ((n : ℕ) → END ≤ n → get m n ≡ None) → (pieces : Pieces) → AllFit m (rows_of t) c pieces → AllFit m (rows_of v) c pieces
-  emptied_fits near pieces h n e = subst (λ (r : Row). row_fits r c (rebuilt m pieces n) ≡ true)
+  pub emptied_is_compatible : ((n : ℕ) → END ≤ n → get m n ≡ None) → (pieces : Pieces) → AreAllCompatible m (rows_of t) c pieces → AreAllCompatible m (rows_of v) c pieces
+  emptied_is_compatible near pieces h n e = subst (λ (r : Row). is_compatible_in_row r c (rebuilt m pieces n) ≡ true)
       (sym (made.rows n ∙ lower_here 0 TOP c mode.N n (rows_of t n) (omega arith) (let le = slot_end m near n e in omega (arith, le))))
       (ap (λ f. all_below most_clients f) (fun_ext (λ (d : ℕ). by_test d (nat_eq d c))) ∙ h n e)
     where

@@ -16,7 +16,7 @@ use Rattle.krl_durable.specs.Index.{Index, slot_of, is_slot}
 use Rattle.krl_table.specs.declared.row.SlotRow.{SlotRow}
 use Rattle.krl_table.specs.Rows.{Row, blank_row, mode_at, set_mode}
 use Rattle.krl_table.specs.Sound.{IsPlaced, IsTable}
-use Rattle.krl_table.specs.Kept.{Kept, row_there, rows_of, IsSet, IsOver, IsSound, AreBeside, AreListed, times, waiter_in}
+use Rattle.krl_table.specs.Kept.{Kept, row_there, rows_of, IsSet, IsOver, IsSound, AreCompatible, AreListed, times, waiter_in}
 use Rattle.krl_table.proofs.Means.{eq_cases}
 use Rattle.krl_table.proofs.Below.{clients_are}
 use Rattle.krl_table.proofs.Alone.{AreAlone, alone_here, times_none, in_times}
@@ -65,12 +65,12 @@ module _ (t u : Kept) (k : ℕ) (row : Row) (s : IsSet t u k row) where
       (λ e. subst (λ j. P (rows_of u j)) (sym e) (subst P (sym s.here) here))
       (λ ne. subst P (sym (other_row n ne)) (rest n))
 
-  pub set_sound : IsSound t → k ≤ END → NoStrangers row → AreBeside row.modes → ((v : Waiter) → In v row.queue → v.client < 64) → ((c : ℕ) → AreAlone (λ n. times c (rows_of u n).queue)) → IsSound u
+  pub set_sound : IsSound t → k ≤ END → NoStrangers row → AreCompatible row.modes → ((v : Waiter) → In v row.queue → v.client < 64) → ((c : ℕ) → AreAlone (λ n. times c (rows_of u n).queue)) → IsSound u
   set_sound sound le strangers beside clients alone = record {
     near = λ n lt. s.others n (λ e. omega (arith, e, lt, le)) ∙ sound.near n lt;
     used = λ n r e. eq_cases n k (λ g. s.used r (ap (get u) (sym g) ∙ e)) (λ ne. sound.used n r (sym (s.others n ne) ∙ e));
     strangers = λ n. by_slot NoStrangers strangers (λ j. sound.strangers j) n;
-    beside = λ n. by_slot (λ r. AreBeside r.modes) beside (λ j. sound.beside j) n;
+    beside = λ n. by_slot (λ r. AreCompatible r.modes) beside (λ j. sound.beside j) n;
     clients = λ n. by_slot (λ r. (v : Waiter) → In v r.queue → v.client < 64) clients (λ j. sound.clients j) n;
     alone = alone;
   }
@@ -82,7 +82,7 @@ module _ (t u : Kept) (k : ℕ) (row : Row) (s : IsSet t u k row) where
         (λ e. subst (λ j. (rows_of u j).queue ≡ (rows_of t j).queue) (sym e) (ap (λ (r : Row). r.queue) s.here ∙ queue))
         (λ ne. ap (λ (r : Row). r.queue) (other_row n ne))
 
-    pub modes_sound : IsSound t → k ≤ END → NoStrangers row → AreBeside row.modes → IsSound u
+    pub modes_sound : IsSound t → k ≤ END → NoStrangers row → AreCompatible row.modes → IsSound u
     modes_sound sound le strangers beside = set_sound sound le strangers beside
         (λ v at. sound.clients k v (subst (In v) queue at))
         (λ c i j ne. let x = sound.alone c i j ne in let a = ap (times c) (same_queue i) in let b = ap (times c) (same_queue j) in omega (arith, x, a, b))

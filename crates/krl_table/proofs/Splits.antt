@@ -19,10 +19,10 @@ use Rattle.krl_table.specs.declared.row.SlotRow.{SlotRow}
 use Rattle.krl_table.specs.Rows.{Row, blank_row, mode_at}
 use Rattle.krl_table.specs.Calls.{with_queue, split_modes, mode_beside, split, split_at}
 use Rattle.krl_table.specs.Points.{key_off_slot, range_at, key_at}
-use Rattle.krl_table.specs.Kept.{Kept, row_there, rows_of, AreSet, IsOver, IsSound, AreBeside, AreListed, times}
+use Rattle.krl_table.specs.Kept.{Kept, row_there, rows_of, AreSet, IsOver, IsSound, AreCompatible, AreListed, times}
 use Rattle.krl_table.proofs.Means.{eq_cases, both_rows, by_two, insert_at, insert_past}
 use Rattle.krl_table.proofs.Alone.{AreAlone, alone_moved, times_parted}
-use Rattle.krl_table.proofs.Besides.{split_beside}
+use Rattle.krl_table.proofs.Besides.{split_compatible}
 use Rattle.krl_table.proofs.Stands.{in_filter, filter_in}
 use Rattle.krl_table.proofs.Slots.{no_slot, next_of, slot_is, slot_end, slot_twice}
 use Rattle.krl_table.proofs.Parts.{same_range, other_key, writer_key}
@@ -148,7 +148,7 @@ module _ (m : Index) (k s : ℕ) (v : Value) (near : (n : ℕ) → END ≤ n →
       near = λ n lt. set.others n (λ e. omega (arith, e, lt, far)) (λ e. let le = slot_end m near s at.slot in omega (arith, e, lt, le)) ∙ sound.near n lt;
       used = λ n r e. eq_cases n k (λ f. set.used n r (inl f) e) (λ nk. eq_cases n s (λ f. set.used n r (inr f) e) (λ ns. sound.used n r (sym (set.others n nk ns) ∙ e)));
       strangers = λ n. by_two t u k new s old set NoStrangers new_strangers (sound.strangers s) (λ j. sound.strangers j) n;
-      beside = λ n. by_two t u k new s old set (λ r. AreBeside r.modes) (split_beside (rows_of t s).modes c may (sound.beside s)) (sound.beside s) (λ j. sound.beside j) n;
+      beside = λ n. by_two t u k new s old set (λ r. AreCompatible r.modes) (split_compatible (rows_of t s).modes c may (sound.beside s)) (sound.beside s) (λ j. sound.beside j) n;
       clients = λ n w x. let y = came n w x in sound.clients y.0 w y.1;
       alone = is_alone;
     }

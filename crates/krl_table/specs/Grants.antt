@@ -6,7 +6,7 @@ use Rattle.krl_queue.specs.declared.waiter.Waiter.{Waiter}
 use Rattle.krl_durable.specs.Index.{Index, slot_of}
 use Rattle.krl_table.specs.Rows.{Rows}
 use Rattle.krl_table.specs.Calls.{granted_first, raised, raised_on}
-use Rattle.krl_table.specs.Replies.{asks_absent, can_have}
+use Rattle.krl_table.specs.Replies.{asks_absent, is_wanted_compatible}
 
 -- the most slots that one grant takes, beside the waiter's own
 abbrev pub most_more : ℕ
@@ -16,17 +16,18 @@ abbrev pub nobody_waits : List Waiter → Bool
 nobody_waits [] = true
 nobody_waits (u ∷ us) = false
 
--- grant_at_once: on the waiter's slot nobody waits, what it wants can stand beside what all others hold, and it does
+-- grant_at_once: on the waiter's slot nobody waits, what it wants is compatible with what all others hold, and it does
 -- not ask for an entry where there is none
 abbrev pub is_granted_at_once : Index → Rows → Waiter → Bool
 is_granted_at_once m rows u =
-    nobody_waits (rows (slot_of m u.point)).queue && (can_have rows (slot_of m u.point) u && not (asks_absent m u))
+    nobody_waits (rows (slot_of m u.point)).queue && (is_wanted_compatible rows (slot_of m u.point) u
+    && not (asks_absent m u))
 
--- beside its own slot the waiter may take this one: nobody waits there, what it wants there can stand beside what all
+-- beside its own slot the waiter may take this one: nobody waits there, what it wants there is compatible with what all
 -- others hold, and it does not ask for an entry alone where there is none
 abbrev pub can_take : Rows → ℕ → Waiter → Bool
 can_take rows n u =
-    nobody_waits (rows n).queue && (can_have rows n u && not (needs_entry u.mode && nat_eq n END))
+    nobody_waits (rows n).queue && (is_wanted_compatible rows n u && not (needs_entry u.mode && nat_eq n END))
 
 -- after slot n comes another, whose span begins below the end of what the waiter asks for, and the waiter may take it
 abbrev pub goes_on : Index → Rows → ℕ → Waiter → Bool

@@ -12,9 +12,9 @@ use Rattle.krl_queue.specs.Waiting.{without_first}
 use Rattle.krl_store.specs.Stores.{Stored}
 use Rattle.krl_durable.specs.Index.{Index, slot_of, is_slot}
 use Rattle.krl_table.specs.declared.row.SlotRow.{SlotRow}
-use Rattle.krl_table.specs.Rows.{Row, Rows, blank_row, mode_at, set_mode, row_fits}
+use Rattle.krl_table.specs.Rows.{Row, Rows, blank_row, mode_at, set_mode, is_compatible_in_row}
 use Rattle.krl_table.specs.Calls.{with_mode, wanted}
-use Rattle.krl_table.specs.Replies.{can_have}
+use Rattle.krl_table.specs.Replies.{is_wanted_compatible}
 use Rattle.krl_table.specs.Grants.{goes_on, nobody_waits}
 
 -- the kept rows, by slot: a slot without one is blank
@@ -84,12 +84,13 @@ HasRoom s n = map.get s.map n ≡ None → length (map.entries s.map) < s.room
 -- beside its own slot the waiter may take slot n, by the row there
 abbrev pub row_takes : ℕ → Row → Waiter → Bool
 row_takes n row u =
-    nobody_waits row.queue && (row_fits row u.client (wanted row u) && not (needs_entry u.mode && nat_eq n END))
+    nobody_waits row.queue && (is_compatible_in_row row u.client (wanted row u) && not (needs_entry u.mode
+    && nat_eq n END))
 
 -- next is the slot after this one, and the waiter may take it
 pub record IsTaken (m : Index) (t : Kept) (at : ℕ) (u : Waiter) (next : ℕ) : Type 0 where
   pub slot : slot_of m (suc at) ≡ next
-  pub fits : can_have (rows_of t) next u ≡ true
+  pub is_compatible_there : is_wanted_compatible (rows_of t) next u ≡ true
   pub on : goes_on m (rows_of t) at u ≡ true
 
 -- how often the client waits there
@@ -97,8 +98,8 @@ abbrev pub times : ℕ → List Waiter → ℕ
 times c us = count_by (λ u. nat_eq c u.client) us
 
 -- no two modes of these are in each other's way
-abbrev pub AreBeside : (ℕ → Mode) → Type 0
-AreBeside modes = (c d : ℕ) → c ≢ d → compatible (modes c) (modes d) ≡ true
+abbrev pub AreCompatible : (ℕ → Mode) → Type 0
+AreCompatible modes = (c d : ℕ) → c ≢ d → compatible (modes c) (modes d) ≡ true
 
 -- What holds of every table: no row is kept blank, and none above END; on each slot the modes of different clients are
 -- compatible; nobody but a client holds anything or waits, and each client waits once at most.
@@ -106,7 +107,7 @@ pub record IsSound (t : Kept) : Type 0 where
   pub near : (n : ℕ) → END < n → map.get t n ≡ None
   pub used : (n : ℕ) (r : SlotRow) → map.get t n ≡ Some r → row_of r ≢ blank_row
   pub strangers : (n c : ℕ) → 64 ≤ c → mode_at (rows_of t) n c ≡ mode.N
-  pub beside : (n : ℕ) → AreBeside (rows_of t n).modes
+  pub beside : (n : ℕ) → AreCompatible (rows_of t n).modes
   pub clients : (n : ℕ) (u : Waiter) → In u (rows_of t n).queue → u.client < 64
   pub alone : (c i j : ℕ) → i ≢ j → times c (rows_of t i).queue + times c (rows_of t j).queue ≤ 1
 

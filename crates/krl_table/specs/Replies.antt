@@ -7,21 +7,21 @@ use Rattle.krl_queue.specs.declared.waiter.Waiter.{Waiter}
 use Rattle.krl_durable.specs.Index.{Index}
 use Rattle.krl_table.specs.declared.reply.Reply.{Reply}
 use Rattle.krl_table.specs.declared.reply.Reply.TheVariants as reply
-use Rattle.krl_table.specs.Rows.{Row, Rows, row_fits, fits}
+use Rattle.krl_table.specs.Rows.{Row, Rows, is_compatible_in_row, is_compatible_there}
 use Rattle.krl_table.specs.Calls.{wanted}
 
 -- the waiter asks for an entry where there is none
 abbrev pub asks_absent : Index → Waiter → Bool
 asks_absent m u = needs_entry u.mode && not (is_some (map.get m u.point))
 
--- what it wants can stand beside what all others hold on the slot
-abbrev pub can_have : Rows → ℕ → Waiter → Bool
-can_have rows n u = fits rows n u.client (wanted (rows n) u)
+-- what it wants is compatible with what all others hold on the slot
+abbrev pub is_wanted_compatible : Rows → ℕ → Waiter → Bool
+is_wanted_compatible rows n u = is_compatible_there rows n u.client (wanted (rows n) u)
 
 -- what a waiter can be told, where its client has acknowledged every push
 abbrev pub reply_to : Index → Rows → ℕ → Waiter → Option Reply
 reply_to m rows n u =
-    if asks_absent m u then Some reply.Absent else (if can_have rows n u then Some reply.Grant else None)
+    if asks_absent m u then Some reply.Absent else (if is_wanted_compatible rows n u then Some reply.Grant else None)
 
 abbrev pub first_reply : Index → Rows → ℕ → List Waiter → Option Reply
 first_reply m rows n [] = None
@@ -40,7 +40,7 @@ first_reply_on n row [] = None
 first_reply_on n row (u ∷ us) =
     if lacks_entry n u
     then Some reply.Absent
-    else (if row_fits row u.client (wanted row u) then Some reply.Grant else None)
+    else (if is_compatible_in_row row u.client (wanted row u) then Some reply.Grant else None)
 
 -- the same, by the slot's row alone
 abbrev pub row_reply : ℕ → Row → Option Reply

@@ -70,10 +70,10 @@ abbrev pub all_below : ℕ → (ℕ → Bool) → Bool
 all_below zero f = true
 all_below (suc n) f = f n && all_below n f
 
--- the client may hold the mode beside what all others hold in this row
-abbrev pub row_fits : Row → ℕ → Mode → Bool
-row_fits row c g = all_below most_clients (λ d. nat_eq d c || compatible g (row.modes d))
+-- the mode is compatible with what all others hold in this row
+abbrev pub is_compatible_in_row : Row → ℕ → Mode → Bool
+is_compatible_in_row row c g = all_below most_clients (λ d. nat_eq d c || compatible g (row.modes d))
 
--- the client may hold the mode on the slot beside what all others hold there
-abbrev pub fits : Rows → ℕ → ℕ → Mode → Bool
-fits rows n c g = row_fits (rows n) c g
+-- the mode is compatible with what all others hold on the slot
+abbrev pub is_compatible_there : Rows → ℕ → ℕ → Mode → Bool
+is_compatible_there rows n c g = is_compatible_in_row (rows n) c g

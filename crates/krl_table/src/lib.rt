@@ -1,6 +1,7 @@
 //! The table of the server: who holds which mode on which slot, and who waits there.
 #![tactic(auto)]
 
+mod all_rows;
 mod conflict;
 mod extent;
 mod extents;
@@ -10,11 +11,10 @@ mod pieces;
 mod reply;
 mod reports;
 mod row;
-mod steps;
+mod row_ops;
 mod sweep;
 mod table;
 mod waiting;
-mod walks;
 
 pub use conflict::Conflict;
 pub use first::FirstWaiter;

@@ -6,32 +6,32 @@ ghost use Rattle.krl_modes.specs.declared.mode.Mode.TheVariants as mode;
 ghost use Rattle.krl_durable.specs.Index.{is_slot};
 ghost use Rattle.krl_durable.specs.Writes.{most_entries};
 ghost use Rattle.krl_table.specs.declared.row.SlotRow.{SlotRow as Kept};
-ghost use Rattle.krl_table.specs.Rows.{blank_row, fits, mode_at};
+ghost use Rattle.krl_table.specs.Rows.{blank_row, is_compatible_there, mode_at};
 ghost use Rattle.krl_table.specs.Reports.{rebuilt, adopted};
 ghost use Rattle.krl_table.specs.Kept.{row_of, rows_of, IsOver, most_rows};
 ghost use Rattle.krl_table.specs.Extents.{AreWithin};
 
 use crate::extents::Extents;
 use crate::row::SlotRow;
-use crate::steps;
+use crate::row_ops;
 use crate::sweep::Sweep;
 use krl_durable::Durable;
 use krl_messages::Pieces;
 use krl_modes::Mode;
 use krl_store::Store;
 
-/// Whether the client may hold the mode on the slot, beside what all others hold.
-fn fits(rows: &Store<SlotRow>, slot: u64, client: u64, mode: Mode) -> bool
-    ensures { result ≡ fits (rows_of rows.now.map) slot client mode }
+/// Whether the mode is compatible with what all others hold on the slot.
+fn is_compatible_there(rows: &Store<SlotRow>, slot: u64, client: u64, mode: Mode) -> bool
+    ensures { result ≡ is_compatible_there (rows_of rows.now.map) slot client mode }
 {
     match rows.get(slot) {
-        Some(row) => row.fits(client, mode),
+        Some(row) => row.is_compatible_there(client, mode),
         None => true,
     }
 }
 
-/// Whether on each slot the client may hold what is reported of it, beside what all others hold.
-pub(crate) fn all_fit(
+/// Whether on each slot what is reported of it is compatible with what all others hold.
+pub(crate) fn all_compatible(
     rows: &Store<SlotRow>,
     durable: &Durable,
     client: u64,
@@ -39,12 +39,13 @@ pub(crate) fn all_fit(
 ) -> bool
     requires { (n : ℕ) → END ≤ n → map.get durable.now.index n ≡ None }
     ensures { (result ≡ true) ↔ ((n : ℕ) → is_slot durable.now.index n ≡ true
-        → fits (rows_of rows.now.map) n client (rebuilt durable.now.index pieces.now n) ≡ true) }
+        → is_compatible_there (rows_of rows.now.map) n client
+        (rebuilt durable.now.index pieces.now n) ≡ true) }
 {
     let mut sweep = Sweep::over(pieces);
     let mut at: u64 = 0;
     while let Some(reported) = sweep.next(durable, at) {
-        if !fits(rows, reported.slot, client, reported.mode) {
+        if !is_compatible_there(rows, reported.slot, client, reported.mode) {
             return false;
         }
         at = reported.slot + 1;
@@ -78,7 +79,7 @@ pub(crate) fn settle(
     let mut sweep = Sweep::over(pieces);
     let mut at: u64 = 0;
     while let Some(reported) = sweep.next(durable, at) {
-        steps::set(rows, reported.slot, client, reported.mode);
+        row_ops::set(rows, reported.slot, client, reported.mode);
         extents.note(client, reported.slot);
         at = reported.slot + 1;
         sweep.pass(at);

@@ -6,7 +6,8 @@ ghost use Rattle.krl_queue.specs.Waiting.{without_first};
 ghost use Rattle.krl_table.specs.Calls.{queue_with, split_modes, mode_beside, wanted, with_mode};
 ghost use Rattle.krl_table.specs.Calls.{grant_first};
 ghost use Rattle.krl_table.specs.Kept.{mode_of, row_of};
-ghost use Rattle.krl_table.specs.Rows.{blank_row, front_of, all_below, most_clients, row_fits};
+ghost use Rattle.krl_table.specs.Rows.{blank_row, front_of, all_below, most_clients};
+ghost use Rattle.krl_table.specs.Rows.{is_compatible_in_row};
 ghost use Rattle.krl_table.specs.Rows.{set_mode};
 ghost use Rattle.krl_table.specs.Replies.{row_reply};
 
@@ -131,8 +132,8 @@ impl SlotRow {
         self.set(waiter.client, wanted);
     }
 
-    /// Whether the client may hold the mode beside what all others hold.
-    pub(crate) fn fits(&self, client: u64, mode: Mode) -> bool
+    /// Whether the mode is compatible with what all others hold.
+    pub(crate) fn is_compatible_there(&self, client: u64, mode: Mode) -> bool
         ensures { result ≡ all_below most_clients
             (λ d. nat_eq d client || compatible mode (mode_of self.now.modes d)) }
     {
@@ -146,14 +147,15 @@ impl SlotRow {
         true
     }
 
-    /// Whether what the waiter wants can stand beside what all others hold.
-    pub(crate) fn can_have(&self, waiter: &Waiter) -> bool
+    /// Whether what the waiter wants is compatible with what all others hold.
+    pub(crate) fn is_wanted_compatible(&self, waiter: &Waiter) -> bool
         requires { waiter.now.client < 64 }
         ensures { result
-            ≡ row_fits (row_of self.now) waiter.now.client (wanted (row_of self.now) waiter.now) }
+            ≡ is_compatible_in_row (row_of self.now) waiter.now.client
+            (wanted (row_of self.now) waiter.now) }
     {
         let wanted = self.mode(waiter.client).join(waiter.mode);
-        self.fits(waiter.client, wanted)
+        self.is_compatible_there(waiter.client, wanted)
     }
 
     /// What the first waiter can be told, who waits on this slot.
@@ -164,7 +166,7 @@ impl SlotRow {
         let waiter = self.queue.front()?;
         if reply::asks_absent(slot, &waiter) {
             Some(Reply::Absent)
-        } else if self.can_have(&waiter) {
+        } else if self.is_wanted_compatible(&waiter) {
             Some(Reply::Grant)
         } else {
             None

@@ -27,7 +27,7 @@ use crate::extents::Extents;
 use crate::first::FirstWaiter;
 use crate::row::SlotRow;
 use crate::waiting::Waiting;
-use crate::{reports, steps, walks};
+use crate::{all_rows, reports, row_ops};
 use arrayvec::ArrayVec;
 use krl_durable::Durable;
 use krl_messages::Pieces;
@@ -192,7 +192,7 @@ impl Table {
         } else {
             first.point
         };
-        walks::lower(&mut self.rows, client, from, span.hi(), keep);
+        all_rows::lower(&mut self.rows, client, from, span.hi(), keep);
     }
 
     /// The client holds nothing, and waits no more. It looks at the rows that are kept between the
@@ -203,7 +203,7 @@ impl Table {
         ensures slots { (m : Index) → IsOver m self.old → IsOver m self.new }
     {
         let extent = self.extents.of(client);
-        walks::clear(&mut self.rows, client, extent);
+        all_rows::clear(&mut self.rows, client, extent);
         self.waiting.clear(client);
         self.extents.forget(client);
     }
@@ -222,7 +222,7 @@ impl Table {
         let waiter = node.waiter();
         let client = waiter.client;
         let slot = durable.slot_of(waiter.point.get());
-        steps::enqueue(&mut self.rows, slot, node);
+        row_ops::enqueue(&mut self.rows, slot, node);
         self.waiting.note(waiter);
         self.extents.note(client, slot);
     }
@@ -233,7 +233,7 @@ impl Table {
         ensures slots { (m : Index) → IsOver m self.old → IsOver m self.new }
     {
         if self.has_row(slot) {
-            let first = steps::drop_front(&mut self.rows, slot);
+            let first = row_ops::drop_front(&mut self.rows, slot);
             self.waiting.leave(&first);
         }
     }
@@ -263,7 +263,7 @@ impl Table {
             ≡ key_part.X }
     {
         let slot = durable.slot_of(key.get());
-        steps::part(&mut self.rows, slot, key, client);
+        row_ops::part(&mut self.rows, slot, key, client);
         self.extents.follow(slot, key.get());
     }
 
@@ -286,7 +286,7 @@ impl Table {
             ≡ key_at durable.now.index (rows_of self.old) d p }
     {
         let slot = durable.slot_of(key + 1);
-        steps::join(&mut self.rows, key, slot);
+        row_ops::join(&mut self.rows, key, slot);
         self.extents.follow(key, slot);
     }
 
@@ -318,12 +318,12 @@ impl Table {
         ensures slots { IsOver durable.now.index self.new }
     {
         let _kept = durable.epoch();
-        if !reports::all_fit(&self.rows, durable, client, pieces) {
+        if !reports::all_compatible(&self.rows, durable, client, pieces) {
             return Err(Conflict);
         }
         // What it held before goes, of which nothing may be left where nothing is reported.
         let extent = self.extents.of(client);
-        walks::lower(&mut self.rows, client, extent.first, TOP, Mode::N);
+        all_rows::lower(&mut self.rows, client, extent.first, TOP, Mode::N);
         reports::settle(&mut self.rows, &mut self.extents, durable, client, pieces);
         Ok(())
     }

@@ -4,7 +4,7 @@ use Rattle.std.specs.Prelude.{slice_get}
 use Rattle.krl_messages.specs.declared.to_server.ToServer.{ToServer}
 use Rattle.krl_server.specs.declared.out.ServerOut.{ServerOut}
 use Rattle.krl_server.specs.Servers.{Server}
-use Rattle.krl_server.specs.Cases.{Case, Ignored, Registers, Leaves, Tells, Alarms, Rebuilds, Repeats, Hears, Lowers, Waits, Judges, AnswersAgain, case_of}
+use Rattle.krl_server.specs.Cases.{Case, Ignored, Registers, Leaves, Tells, Alarms, Rebuilds, Repeats, Acknowledges, Lowers, Waits, Judges, AnswersAgain, case_of}
 use Rattle.krl_server.specs.Changes.{change_of}
 use Rattle.krl_server.specs.Doing.{HasStepped}
 use Rattle.krl_steps.specs.declared.applied_write.AppliedWrite.{AppliedWrite}
@@ -22,7 +22,7 @@ noted_is_applied m Tells = refl
 noted_is_applied m Alarms = refl
 noted_is_applied m (Rebuilds pieces) = refl
 noted_is_applied m (Repeats body) = refl
-noted_is_applied m Hears = refl
+noted_is_applied m Acknowledges = refl
 noted_is_applied m (Lowers s keep) = refl
 noted_is_applied m (Waits req point hi g) = refl
 noted_is_applied m (Judges number op o) = refl

@@ -15,7 +15,7 @@ use Rattle.krl_table.specs.Rows.{most_clients}
 use Rattle.krl_server.specs.Servers.{Server}
 use Rattle.krl_server.specs.Cases.{Registers, Waits, Lowers, case_of}
 use Rattle.krl_server.specs.Effects.{effect}
-use Rattle.krl_server.specs.Answering.{Turn, next_turn, take_turn}
+use Rattle.krl_server.specs.Answering.{Turn, next_turn, answer_first}
 use Rattle.krl_server.specs.Callbacks.{callbacks}
 use Rattle.krl_server.specs.Steps.{ServerStep}
 use Rattle.krl_client.specs.Clients.{Client}
@@ -69,7 +69,7 @@ abbrev turn : Turn
 turn = record { slot = 10; waiter = record { client = 1; req = 1; point = 5; hi = 6; mode = mode.RangeXX } }
 
 abbrev pub taken : Index → Server
-taken m = (take_turn (freed m) turn).server
+taken m = (answer_first (freed m) turn).server
 
 hello_case : (m : Index) → case_of (granted m) hello ≡ Registers
 unfolding most_clients
@@ -109,7 +109,7 @@ release_turn : (m : Index) → map.entries m ≡ two → next_turn (freed m) ≡
 unfolding most_clients
 release_turn m e = simp (e, map.get-entries)
 
-release_outs : (m : Index) → map.entries m ≡ two → (take_turn (freed m) turn).outs ≡ grant ∷ []
+release_outs : (m : Index) → map.entries m ≡ two → (answer_first (freed m) turn).outs ≡ grant ∷ []
 unfolding most_clients
 release_outs m e = simp (e, map.get-entries)
 

@@ -24,12 +24,12 @@ use Rattle.krl_table.specs.Rows.{most_clients}
 use Rattle.krl_table.specs.Calls.{wanted, dropped}
 use Rattle.krl_table.specs.Grants.{taken, granted}
 use Rattle.krl_table.specs.Replies.{asks_absent}
-use Rattle.krl_server.specs.Servers.{Server, is_gathering, lists}
-use Rattle.krl_server.specs.Cases.{Case, Ignored, Registers, Leaves, Tells, Alarms, Rebuilds, Repeats, Hears, Lowers, Waits, Judges, AnswersAgain, case_of}
-use Rattle.krl_server.specs.Effects.{Done, callback_to, with_rows, holding, holdings, heard, writes, answers, pushes, effect}
-use Rattle.krl_server.specs.Answering.{Turn, tells_absent, grants, take_turn, Answered, stops, goes_on}
-use Rattle.krl_server.specs.Callbacks.{is_beside, callbacks_from, callbacks_for, callbacks_at, callbacks_among, callbacks_of, callbacks_of_among}
-use Rattle.krl_server.specs.Steps.{Kind, Idle, Quiet, Acts, kind_of, calls_of, Ends, at_once, gathers, serves, ServerStep, nudge_served, nudge_known, nudge}
+use Rattle.krl_server.specs.Servers.{Server, is_recovering, lists}
+use Rattle.krl_server.specs.Cases.{Case, Ignored, Registers, Leaves, Tells, Alarms, Rebuilds, Repeats, Acknowledges, Lowers, Waits, Judges, AnswersAgain, case_of}
+use Rattle.krl_server.specs.Effects.{Done, callback_to, with_rows, holding, holdings, acknowledged, writes, answers, pushes, effect}
+use Rattle.krl_server.specs.Answering.{Turn, tells_absent, grants, answer_first, Answered, stops, goes_on}
+use Rattle.krl_server.specs.Callbacks.{is_compatible, callbacks_from, callbacks_for, callbacks_at, callbacks_among, callbacks_of, callbacks_of_among}
+use Rattle.krl_server.specs.Steps.{Kind, Idle, Quiet, Acts, kind_of, calls_of, Ends, at_once, recovers, serves, ServerStep, nudge_served, nudge_known, nudge}
 
 -- the epoch of a callback, else 0
 abbrev pub epoch_called : ToClientBody → ℕ
@@ -58,7 +58,7 @@ outs_by n true x y a b = a
 outs_by n false x y a b = b
 
 pushes_called : (n : ℕ) (s : Server) (c : ℕ) (b : PushBody) → AreCalled n (pushes s c b).outs
-pushes_called n s c b = outs_by n (nat_lt (s.lines c).pushed END) _ _ (one_call n _ (omega arith)) (no_calls n)
+pushes_called n s c b = outs_by n (nat_lt (s.sessions c).last_push END) _ _ (one_call n _ (omega arith)) (no_calls n)
 
 write_called : (n : ℕ) (s : Server) (c number : ℕ) (op : WriteOp) (o : Outcome) → AreCalled n (answers s c number op o).outs
 write_called n s c number op o = pushes_called n s c (push.Answer number o (holding s (slot_of s.durable.index (op_key op)) c))
@@ -71,20 +71,21 @@ effect_called n s m Tells = one_call n _ (omega arith)
 effect_called n s m Alarms = no_calls n
 effect_called n s m (Rebuilds pieces) = no_calls n
 effect_called n s m (Repeats body) = one_call n _ (omega arith)
-effect_called n s m Hears = no_calls n
+effect_called n s m Acknowledges = no_calls n
 effect_called n s m (Lowers span keep) = no_calls n
 effect_called n s m (Waits req point hi g) = no_calls n
-effect_called n s m (Judges number op o) = write_called n (writes (heard s m.client) m.client op o) m.client number op o
-effect_called n s m (AnswersAgain number op o) = write_called n (heard s m.client) m.client number op o
+effect_called n s m (Judges number op o) =
+    write_called n (writes (acknowledged s m.client) m.client op o) m.client number op o
+effect_called n s m (AnswersAgain number op o) = write_called n (acknowledged s m.client) m.client number op o
 
-turn_called : (n : ℕ) (s : Server) (t : Turn) → AreCalled n (take_turn s t).outs
+turn_called : (n : ℕ) (s : Server) (t : Turn) → AreCalled n (answer_first s t).outs
 turn_called n s t = outs_by n (asks_absent s.durable.index t.waiter) (tells_absent s t) (grants s t)
     (pushes_called n (with_rows s (dropped s.rows t.slot)) t.waiter.client (push.Absent t.waiter.req t.waiter.point))
     (pushes_called n (with_rows s (granted s.durable.index s.rows t.slot)) t.waiter.client (push.Grant t.waiter.req (holdings (with_rows s (granted s.durable.index s.rows t.slot)) t.waiter.client (taken s.durable.index s.rows t.slot))))
 
 answers_called : (n : ℕ) (s t : Server) (outs : List ToClient) → Answered s t outs → AreCalled n outs
 answers_called n s _ _ (stops s' e) = no_calls n
-answers_called n s t _ (goes_on s' t' turn outs e rest) = both_called n (take_turn s' turn).outs outs (turn_called n s' turn) (answers_called n (take_turn s' turn).server t' outs rest)
+answers_called n s t _ (goes_on s' t' turn outs e rest) = both_called n (answer_first s' turn).outs outs (turn_called n s' turn) (answers_called n (answer_first s' turn).server t' outs rest)
 
 -- Callbacks
 
@@ -95,7 +96,7 @@ module _ (s : Server) where
 
   from_called : (n : ℕ) (u : Waiter) (d k : ℕ) → AreCalled s.durable.epoch (callbacks_from s n u d k)
   from_called n u d zero = no_calls s.durable.epoch
-  from_called n u d (suc k) = list_by (is_beside s n u d) _ _ (from_called n u (suc d) k) (both_called s.durable.epoch (callback_to s d (span_of s.durable.index n) (cap (wanted (s.rows n) u)) ∷ []) (callbacks_from s n u (suc d) k) (one_call s.durable.epoch _ (omega arith)) (from_called n u (suc d) k))
+  from_called n u d (suc k) = list_by (is_compatible s n u d) _ _ (from_called n u (suc d) k) (both_called s.durable.epoch (callback_to s d (span_of s.durable.index n) (cap (wanted (s.rows n) u)) ∷ []) (callbacks_from s n u (suc d) k) (one_call s.durable.epoch _ (omega arith)) (from_called n u (suc d) k))
 
   for_called : (n : ℕ) (u : Waiter) → AreCalled s.durable.epoch (callbacks_for s n u)
   for_called n u = list_by (asks_absent s.durable.index u) _ _ (no_calls s.durable.epoch) (from_called n u 0 most_clients)
@@ -128,7 +129,7 @@ module _ (s : Server) where
   known_called : (c : ℕ) (o : Option Record) → AreCalled s.durable.epoch (nudge_known s c o)
   known_called c None = no_calls s.durable.epoch
   known_called c (Some r) = list_by r.left _ _ (no_calls s.durable.epoch)
-      (list_by (is_gathering s.missing) _ _ (list_by (lists s.missing c) _ _ (one_call s.durable.epoch _ (omega arith)) (no_calls s.durable.epoch)) (served_called c (s.lines c).unheard))
+      (list_by (is_recovering s.missing) _ _ (list_by (lists s.missing c) _ _ (one_call s.durable.epoch _ (omega arith)) (no_calls s.durable.epoch)) (served_called c (s.sessions c).unacked))
 
   -- a nudge
   pub nudge_called : (c : ℕ) → AreCalled s.durable.epoch (nudge s c)
@@ -136,7 +137,7 @@ module _ (s : Server) where
 
 ends_called : (done : Done) (kind : Kind) (t : Server) (outs : List ToClient) → ((n : ℕ) → AreCalled n done.outs) → Ends done kind t outs → AreCalled t.durable.epoch outs
 ends_called done kind _ _ h (at_once k) = h done.server.durable.epoch
-ends_called done kind _ _ h (gathers g) = h done.server.durable.epoch
+ends_called done kind _ _ h (recovers g) = h done.server.durable.epoch
 ends_called done kind _ _ h (serves t said acts up rest) = both_called t.durable.epoch done.outs (said ++ calls_of kind t) (h t.durable.epoch)
     (both_called t.durable.epoch said (calls_of kind t) (answers_called t.durable.epoch done.server t said rest) (calls_called t kind))
 

@@ -16,7 +16,7 @@ use Rattle.krl_world.proofs.Reached.{Reached, world_reached, bound_reached}
 use Rattle.krl_world.proofs.Promised.{compatible_world, scans_world}
 use Rattle.krl_world.proofs.Written.{writes_world}
 use Rattle.krl_world.proofs.Bounded.{bounded_world, said_world, told_world}
-use Rattle.krl_world.proofs.Gathered.{gathered_world}
+use Rattle.krl_world.proofs.Recovery.{recovery_world}
 
 pub headline_holds : ServerFollows → (w : State) → IsReachable w → Headline w
 headline_holds owed w h = let r = (world_reached owed w h).1 in let a = machine_of w.server r.of r.log in record {
@@ -33,7 +33,7 @@ pub restarts_holds : ServerFollows → (w : State) (b : Bound) → HasBound w b 
 restarts_holds owed w b h = record {
   said = λ m at. said_world w r.of r.log r.mirrors restarts m at;
   told = λ m at. told_world w r.of r.log r.mirrors restarts m at;
-  gathered = λ s up gathering. gathered_world (first_of w.opening) w r.of r.log b s r.mirrors r.bound up (subst (λ n. Reachable (first_of w.opening) END (machine_of n r.of r.log)) up r.reach) gathering;
+  recovery = λ s up recovering. recovery_world (first_of w.opening) w r.of r.log b s r.mirrors r.bound up (subst (λ n. Reachable (first_of w.opening) END (machine_of n r.of r.log)) up r.reach) recovering;
   no_alarm = λ s m up at. let shown = subst (λ n. ServerShows n r.of) up r.mirrors.server in
       owed.no_alarm (first_of w.opening) s r.of r.log m (subst (λ n. Reachable (first_of w.opening) END (machine_of n r.of r.log)) up r.reach) shown.0 shown.1 (r.mirrors.from m at);
 }

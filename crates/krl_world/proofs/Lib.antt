@@ -14,7 +14,7 @@ pub mod Promised
 pub mod Written
 pub mod Calling
 pub mod Bounded
-pub mod Gathered
+pub mod Recovery
 pub mod Kept
 pub mod Described
 pub mod Onward

@@ -16,7 +16,7 @@ use Rattle.krl_protocol.specs.Worlds as machine
 use Rattle.krl_protocol.specs.Worlds.{Logged, Steps}
 use Rattle.krl_protocol.proofs.Worlds.{eq_cases}
 use Rattle.krl_protocol.proofs.Steps.{put, put_changed, link_steps}
-use Rattle.krl_server.specs.declared.line.Line.{Line}
+use Rattle.krl_server.specs.declared.session.Session.{Session}
 use Rattle.krl_server.specs.Steps.{start}
 use Rattle.krl_server.specs.Shows.{Stands, WasSent, IsRecord, LinkIs, Shows, view, view_of, DurableShows, IsSound}
 use Rattle.krl_client_machine.specs.Shows.{Grows, server_part, ShowsSeat, Leads}
@@ -99,13 +99,13 @@ record_stays : (o : Option Record) (l m : Link) → server_part m ≡ server_par
 record_stays None l m e h = record { reg = ap (λ x. x.reg) e ∙ h.reg; left = ap (λ x. x.left) e ∙ h.left; done = ap (λ x. x.done) e ∙ h.done }
 record_stays (Some r) l m e h = record { reg = ap (λ x. x.reg) e ∙ h.reg; left = ap (λ x. x.left) e ∙ h.left; done = λ n. ap (λ x. x.done) e ∙ h.done n; applied = λ o n i. ap (λ x. x.applied) e ∙ h.applied o n i }
 
-link_stays : (s : Shared) (of : Option Record) (missing : Bool) (line : Line) (r : ℕ → RangePart) (k : ℕ → KeyPart) (l m : Link) → server_part m ≡ server_part l → Grows l m → LinkIs s of missing line r k l → LinkIs s of missing line r k m
-link_stays s of missing line r k l m e g h = record {
+link_stays : (s : Shared) (of : Option Record) (missing : Bool) (session : Session) (r : ℕ → RangePart) (k : ℕ → KeyPart) (l m : Link) → server_part m ≡ server_part l → Grows l m → LinkIs s of missing session r k l → LinkIs s of missing session r k m
+link_stays s of missing session r k l m e g h = record {
   known = record_stays of l m e h.known;
   missing = ap (λ x. x.missing) e ∙ h.missing;
-  pushed = ap (λ x. x.pushed) e ∙ h.pushed;
+  last_push = ap (λ x. x.last_push) e ∙ h.last_push;
   acked = ap (λ x. x.acked) e ∙ h.acked;
-  unheard = λ b i. subst (λ n. WasSent m n (told.Push s.epoch line.pushed b)) (sym (ap (λ x. x.reg) e)) (sent_stays l m g l.reg (told.Push s.epoch line.pushed b) (h.unheard b i));
+  unacked = λ b i. subst (λ n. WasSent m n (told.Push s.epoch session.last_push b)) (sym (ap (λ x. x.reg) e)) (sent_stays l m g l.reg (told.Push s.epoch session.last_push b) (h.unacked b i));
   range = λ p q. ap (λ x. x.top_range q) e ∙ h.range p q;
   key = λ p q. ap (λ x. x.top_key q) e ∙ h.key p q;
   new_range = λ p q. ap (λ x. x.new_range q) e ∙ h.new_range p q;

@@ -149,4 +149,4 @@ pub opening_known : (es : Register) → missing_order es ≡ [] → (c : ℕ) �
 opening_known es h c = known_by (record_of es c) (left_all es h c)
 
 pub opening_idle : (es : Register) (c : ℕ) → IsIdle (links_of es c)
-opening_idle es c = record { missing = refl; pushed = refl; acked = refl; range = λ q. refl; key = λ q. refl }
+opening_idle es c = record { missing = refl; last_push = refl; acked = refl; range = λ q. refl; key = λ q. refl }

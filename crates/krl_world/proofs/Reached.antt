@@ -10,7 +10,7 @@ use Rattle.krl_protocol.specs.Links as links
 use Rattle.krl_protocol.specs.Links.{Link}
 use Rattle.krl_protocol.specs.Worlds.{Logged, Reachable}
 use Rattle.krl_protocol.proofs.Steps.{steps_reachable}
-use Rattle.krl_server.specs.Servers.{Server, is_gathering}
+use Rattle.krl_server.specs.Servers.{Server, is_recovering}
 use Rattle.krl_server.specs.Steps.{start}
 use Rattle.krl_server.specs.Shows.{machine_phase, Shows}
 use Rattle.krl_server.specs.Follows.{BoundStays, ServerFollows}
@@ -38,12 +38,12 @@ pub record Reached (first : Durable) (w : State) (b : Bound) : Type 0 where
   pub bound : HaveBound of b
   pub index : b.index ≡ index_of w
 
-pub serves : (cs : List ℕ) → is_gathering cs ≡ false → machine_phase cs ≡ links.Serving
+pub serves : (cs : List ℕ) → is_recovering cs ≡ false → machine_phase cs ≡ links.Serving
 serves [] e = refl
 serves (c ∷ cs) e = absurd (cc)
 
 -- where it serves, the links' bounds are its table
-table_bound : (s : Server) (of : ℕ → Link) → Shows s of → is_gathering s.missing ≡ false → HaveBound of (table_of s)
+table_bound : (s : Server) (of : ℕ → Link) → Shows s of → is_recovering s.missing ≡ false → HaveBound of (table_of s)
 table_bound s of h e c p = ((h.link c).range (serves s.missing e) p, (h.link c).key (serves s.missing e) p)
 
 range_kept : (t : Bool) (a b r : RangePart) → a ≡ b → r ≡ (if t then range.N else a) → r ≡ (if t then range.N else b)
@@ -60,16 +60,16 @@ kept_bound of to gone b h stays c p = (range_kept (gone c) ((of c).top_range p) 
 
 bound_on : (n : ServerNode) (of to : ℕ → Link) (gone : ℕ → Bool) (b : Bound) → HaveBound of b → ServerShows n to → (is_serving n ≡ false → (c : ℕ) → BoundStays (gone c) (of c) (to c)) → HaveBound to (bound_at n (cleared gone b))
 bound_on (Down d) of to gone b h shows stays = kept_bound of to gone b h (stays refl)
-bound_on (Up s) of to gone b h shows stays = by_test (is_gathering s.missing) refl stays
+bound_on (Up s) of to gone b h shows stays = by_test (is_recovering s.missing) refl stays
   where
-    by_test : (t : Bool) → is_gathering s.missing ≡ t → ((if t then false else true) ≡ false → (c : ℕ) → BoundStays (gone c) (of c) (to c)) → HaveBound to (if t then cleared gone b else table_of s)
+    by_test : (t : Bool) → is_recovering s.missing ≡ t → ((if t then false else true) ≡ false → (c : ℕ) → BoundStays (gone c) (of c) (to c)) → HaveBound to (if t then cleared gone b else table_of s)
     by_test true e stay = kept_bound of to gone b h (stay refl)
     by_test false e stay = table_bound s to shows.0 e
 
 -- the index of the bound
 index_on : (n : ServerNode) (b : Bound) (gone : ℕ → Bool) → (is_serving n ≡ false → b.index ≡ (durable_of n).index) → (bound_at n (cleared gone b)).index ≡ (durable_of n).index
 index_on (Down d) b gone h = h refl
-index_on (Up s) b gone h = by_test (is_gathering s.missing) h
+index_on (Up s) b gone h = by_test (is_recovering s.missing) h
   where
     by_test : (t : Bool) → ((if t then false else true) ≡ false → b.index ≡ s.durable.index) → (if t then cleared gone b else table_of s).index ≡ s.durable.index
     by_test true x = x refl
@@ -97,7 +97,7 @@ opened_reached owed d h = let m = first_mirrors owed d h in record {
   log = [];
   reach = first_reached d h;
   mirrors = m;
-  bound = table_bound (start d) (links_of d.register) m.server.0 (ap is_gathering h.left);
+  bound = table_bound (start d) (links_of d.register) m.server.0 (ap is_recovering h.left);
   index = refl;
 }
 

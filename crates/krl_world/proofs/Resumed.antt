@@ -30,7 +30,7 @@ use Rattle.krl_table.specs.Reports.{adopted}
 use Rattle.krl_server.specs.Servers.{Server}
 use Rattle.krl_server.specs.Cases.{Rebuilds, Waits, Judges, case_of}
 use Rattle.krl_server.specs.Effects.{effect}
-use Rattle.krl_server.specs.Answering.{Turn, next_turn, take_turn}
+use Rattle.krl_server.specs.Answering.{Turn, next_turn, answer_first}
 use Rattle.krl_server.specs.Callbacks.{callbacks}
 use Rattle.krl_server.specs.Steps.{ServerStep, start}
 use Rattle.krl_client.specs.Clients.{Client}
@@ -46,7 +46,7 @@ use Rattle.krl_steps.specs.declared.answer.Answer.TheVariants as told
 use Rattle.krl_world.specs.States.{Up, Down, State, fresh, served, with_client, durable_of, index_of, is_serving, opened}
 use Rattle.krl_world.specs.Steps.{span, applies, Takes, Runs, IsReachable}
 use Rattle.krl_world.specs.Promises.{answer_message}
-use Rattle.krl_world.proofs.Acting.{still_gathers, answers_none, answers_one}
+use Rattle.krl_world.proofs.Acting.{still_recovers, answers_none, answers_one}
 use Rattle.krl_world.proofs.Worked.{two}
 use Rattle.krl_world.proofs.Running.{m, no_entries, index_entries, no_pieces, w6, opens, run, runs}
 use Rattle.krl_world.proofs.Pieced.{pieces_of, told_alone, told_given_up}
@@ -107,7 +107,7 @@ abbrev turn : Turn
 turn = record { slot = 20; waiter = record { client = 1; req = 1; point = 11; hi = 12; mode = mode.RangeXX } }
 
 abbrev granted : Index → Server
-granted i = (take_turn (waiting i) turn).server
+granted i = (answer_first (waiting i) turn).server
 
 abbrev deleted : Index → Server
 deleted i = (effect (granted i) delete (Judges 1 (write.Delete 10) outcome.Applied)).server
@@ -117,7 +117,7 @@ unfolding most_clients
 half_case i e = simp e
 
 reads_half : (i : Index) → map.entries i ≡ two → ServerStep (again i) (report 0 no_pieces) (half i) []
-reads_half i e = still_gathers (again i) (report 0 no_pieces) (Rebuilds no_pieces) [] (half_case i e) refl refl
+reads_half i e = still_recovers (again i) (report 0 no_pieces) (Rebuilds no_pieces) [] (half_case i e) refl refl
 
 full_case : (i : Index) → map.entries i ≡ two → case_of (half i) (report 1 alone) ≡ Rebuilds alone
 unfolding most_clients
@@ -141,7 +141,7 @@ lock_turn : (i : Index) → map.entries i ≡ two → next_turn (waiting i) ≡ 
 unfolding most_clients
 lock_turn i e = simp (e, map.get-entries, adopted, is_slot)
 
-lock_outs : (i : Index) → map.entries i ≡ two → (take_turn (waiting i) turn).outs ≡ grant ∷ []
+lock_outs : (i : Index) → map.entries i ≡ two → (answer_first (waiting i) turn).outs ≡ grant ∷ []
 unfolding most_clients
 lock_outs i e = simp (e, map.get-entries, adopted, is_slot)
 

@@ -14,8 +14,8 @@ use Rattle.krl_durable.specs.Registers.{Durable}
 use Rattle.krl_protocol.specs.Links.{Link}
 use Rattle.krl_protocol.specs.Worlds as machine
 use Rattle.krl_protocol.specs.Worlds.{Logged, Steps, Reachable}
-use Rattle.krl_server.specs.Servers.{Server, is_gathering}
-use Rattle.krl_server.specs.Cases.{Case, Ignored, Registers, Leaves, Tells, Alarms, Rebuilds, Repeats, Hears, Lowers, Waits, Judges, AnswersAgain, case_of}
+use Rattle.krl_server.specs.Servers.{Server, is_recovering}
+use Rattle.krl_server.specs.Cases.{Case, Ignored, Registers, Leaves, Tells, Alarms, Rebuilds, Repeats, Acknowledges, Lowers, Waits, Judges, AnswersAgain, case_of}
 use Rattle.krl_server.specs.Steps.{ServerStep, nudge, start, can_start}
 use Rattle.krl_server.specs.Shows.{op_of, WasSent, logged}
 use Rattle.krl_client.specs.Clients.{Client}
@@ -65,7 +65,7 @@ case_log m Tells log = nil_right (oldest_first log)
 case_log m Alarms log = nil_right (oldest_first log)
 case_log m (Rebuilds pieces) log = nil_right (oldest_first log)
 case_log m (Repeats body) log = nil_right (oldest_first log)
-case_log m Hears log = nil_right (oldest_first log)
+case_log m Acknowledges log = nil_right (oldest_first log)
 case_log m (Lowers s keep) log = nil_right (oldest_first log)
 case_log m (Waits req point hi g) log = nil_right (oldest_first log)
 case_log m (Judges number x o) log = judged_log m number x o log
@@ -90,10 +90,10 @@ mirrors_on w n of to log log' a b outs writes h ea eb steps sent clients shows e
     grows : (c : ℕ) → Grows (of c) (to c)
     grows c = subst (λ x. Grows (x c) (to c)) ea (subst (λ x. Grows (a.links c) (x c)) eb (steps_grow a b steps c))
 
-pub not_serving : (t : Server) → is_serving (Up t) ≡ false → is_gathering t.missing ≡ true
-not_serving t e = by_test (is_gathering t.missing) refl e
+pub not_serving : (t : Server) → is_serving (Up t) ≡ false → is_recovering t.missing ≡ true
+not_serving t e = by_test (is_recovering t.missing) refl e
   where
-    by_test : (b : Bool) → is_gathering t.missing ≡ b → (if b then false else true) ≡ false → is_gathering t.missing ≡ true
+    by_test : (b : Bool) → is_recovering t.missing ≡ b → (if b then false else true) ≡ false → is_recovering t.missing ≡ true
     by_test true i f = i
     by_test false i f = absurd (cc)
 

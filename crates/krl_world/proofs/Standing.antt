@@ -10,10 +10,10 @@ use Rattle.krl_durable.specs.declared.record.Record.{Record}
 use Rattle.krl_durable.specs.Index.{slot_of}
 use Rattle.krl_durable.specs.Registers.{Durable, record_of, left_by}
 use Rattle.krl_messages.specs.Writes.{op_key}
-use Rattle.krl_server.specs.Servers.{Server, is_gathering}
+use Rattle.krl_server.specs.Servers.{Server, is_recovering}
 use Rattle.krl_server.specs.Cases.{Case, case_of}
-use Rattle.krl_server.specs.Effects.{Done, holding, heard, writes, pushes, effect}
-use Rattle.krl_server.specs.Steps.{Kind, Idle, kind_of, Ends, at_once, gathers, serves, ServerStep}
+use Rattle.krl_server.specs.Effects.{Done, holding, acknowledged, writes, pushes, effect}
+use Rattle.krl_server.specs.Steps.{Kind, Idle, kind_of, Ends, at_once, recovers, serves, ServerStep}
 use Rattle.krl_server.proofs.Cased.{by_case}
 use Rattle.krl_server.proofs.Pushes.{pushes_missing}
 use Rattle.krl_server.proofs.Served.{answered_up}
@@ -27,7 +27,7 @@ done_by true x y s a b = a
 done_by false x y s a b = b
 
 pushes_index : (s : Server) (c : ℕ) (b : PushBody) → (pushes s c b).server.durable.index ≡ s.durable.index
-pushes_index s c b = done_by (nat_lt (s.lines c).pushed END) _ _ s refl refl
+pushes_index s c b = done_by (nat_lt (s.sessions c).last_push END) _ _ s refl refl
 
 left_index : (d : Durable) (c : ℕ) (o : Option Record) → (left_by d c o).index ≡ d.index
 left_index d c None = refl
@@ -39,7 +39,7 @@ not_both false e f = cc
 
 -- the index stays where a step ends with its effect: nobody serves after it, or it has not acted
 abbrev Stays : Server → ToServer → Case → Type 0
-Stays s m k = (is_gathering (effect s m k).server.missing ≡ true) ⊎ (kind_of k ≡ Idle) → (effect s m k).server.durable.index ≡ s.durable.index
+Stays s m k = (is_recovering (effect s m k).server.missing ≡ true) ⊎ (kind_of k ≡ Idle) → (effect s m k).server.durable.index ≡ s.durable.index
 
 case_stays : (s : Server) (m : ToServer) → Stays s m (case_of s m)
 case_stays s m = by_case s m (Stays s m) (record {
@@ -50,21 +50,21 @@ case_stays s m = by_case s m (Stays s m) (record {
   alarms = λ e. refl;
   rebuilds = λ r epoch pieces a b c d e. refl;
   repeats = λ r body a b e. refl;
-  hears = λ r a e. refl;
+  acknowledges = λ r a e. refl;
   lowers = λ r span keep a e. refl;
   waits = λ r req point hi g a b c d e. refl;
   judges = λ r number op o a b c d f e. ⊎_elim
-      (λ (g : _). let t = writes (heard s m.client) m.client op o in absurd (not_both (is_gathering s.missing) (ap is_gathering (sym (pushes_missing t m.client (push.Answer number o (holding t (slot_of t.durable.index (op_key op)) m.client)))) ∙ g) a.serves))
+      (λ (g : _). let t = writes (acknowledged s m.client) m.client op o in absurd (not_both (is_recovering s.missing) (ap is_recovering (sym (pushes_missing t m.client (push.Answer number o (holding t (slot_of t.durable.index (op_key op)) m.client)))) ∙ g) a.serves))
       (λ (i : _). absurd (cc)) e;
-  answers_again = λ r number op o a b c d f e. let t = heard s m.client in pushes_index t m.client (push.Answer number o (holding t (slot_of t.durable.index (op_key op)) m.client));
+  answers_again = λ r number op o a b c d f e. let t = acknowledged s m.client in pushes_index t m.client (push.Answer number o (holding t (slot_of t.durable.index (op_key op)) m.client));
 })
 
-ends_index : (s : Server) (done : Done) (kind : Kind) (t : Server) (outs : List ToClient) → ((is_gathering done.server.missing ≡ true) ⊎ (kind ≡ Idle) → done.server.durable.index ≡ s.durable.index) → Ends done kind t outs → is_gathering t.missing ≡ true → t.durable.index ≡ s.durable.index
+ends_index : (s : Server) (done : Done) (kind : Kind) (t : Server) (outs : List ToClient) → ((is_recovering done.server.missing ≡ true) ⊎ (kind ≡ Idle) → done.server.durable.index ≡ s.durable.index) → Ends done kind t outs → is_recovering t.missing ≡ true → t.durable.index ≡ s.durable.index
 ends_index s done kind _ _ h (at_once k) e = h (inr k)
-ends_index s done kind _ _ h (gathers g) e = h (inl g)
-ends_index s done kind _ _ h (serves t said acts up rest) e = absurd (not_both (is_gathering t.missing) e (answered_up done.server t said rest up))
+ends_index s done kind _ _ h (recovers g) e = h (inl g)
+ends_index s done kind _ _ h (serves t said acts up rest) e = absurd (not_both (is_recovering t.missing) e (answered_up done.server t said rest up))
 
-step_index : (s t : Server) (m : ToServer) (outs : List ToClient) → ServerStep s m t outs → is_gathering t.missing ≡ true → t.durable.index ≡ s.durable.index
+step_index : (s t : Server) (m : ToServer) (outs : List ToClient) → ServerStep s m t outs → is_recovering t.missing ≡ true → t.durable.index ≡ s.durable.index
 step_index s t m outs h e = ends_index s (effect s m (case_of s m)) (kind_of (case_of s m)) t outs (case_stays s m) h e
 
 -- Steps of the world

@@ -1,18 +1,18 @@
 -- While it serves, the bound of a run is the server's table.
 use Rattle.std.proofs.Common.{◌≡◌, ℕ, Bool, true, false, List, [], ◌∷◌, refl, sym, subst, if◌then◌else◌}
 use Rattle.krl_durable.specs.Registers.{Durable}
-use Rattle.krl_server.specs.Servers.{is_gathering}
+use Rattle.krl_server.specs.Servers.{is_recovering}
 use Rattle.krl_steps.specs.declared.step.Step.{Step}
 use Rattle.krl_world.specs.States.{ServerNode, Up, Down, State, opened}
 use Rattle.krl_world.specs.Bounds.{Bound, table_of, first_bound, step_clears, cleared, bound_at, bound_after, RunsWithin, BoundIsTable}
 
 abbrev IsItsTable : ServerNode → Bound → Type 0
-IsItsTable (Up s) b = is_gathering s.missing ≡ false → b ≡ table_of s
+IsItsTable (Up s) b = is_recovering s.missing ≡ false → b ≡ table_of s
 IsItsTable (Down d) b = Unit {0}
 
 after_is : (n : ServerNode) (kept : Bound) → IsItsTable n (bound_at n kept)
 after_is (Down d) kept = tt
-after_is (Up s) kept = by_test (is_gathering s.missing)
+after_is (Up s) kept = by_test (is_recovering s.missing)
   where
     by_test : (t : Bool) → t ≡ false → (if t then kept else table_of s) ≡ table_of s
     by_test true e = absurd (cc)

@@ -4,10 +4,10 @@ use Rattle.krl_durable.specs.Registers.{Durable}
 use Rattle.krl_messages.specs.declared.to_server.ToServer.{ToServer}
 use Rattle.krl_messages.specs.declared.to_client.ToClient.{ToClient}
 use Rattle.krl_messages.specs.Members.{In}
-use Rattle.krl_server.specs.Servers.{Server, is_gathering, unlist}
-use Rattle.krl_server.specs.Cases.{Case, Ignored, Registers, Leaves, Tells, Alarms, Rebuilds, Repeats, Hears, Lowers, Waits, Judges, AnswersAgain, case_of}
-use Rattle.krl_server.specs.Effects.{Done, heard, writes, effect}
-use Rattle.krl_server.specs.Steps.{Kind, kind_of, Ends, at_once, gathers, serves, ServerStep}
+use Rattle.krl_server.specs.Servers.{Server, is_recovering, unlist}
+use Rattle.krl_server.specs.Cases.{Case, Ignored, Registers, Leaves, Tells, Alarms, Rebuilds, Repeats, Acknowledges, Lowers, Waits, Judges, AnswersAgain, case_of}
+use Rattle.krl_server.specs.Effects.{Done, acknowledged, writes, effect}
+use Rattle.krl_server.specs.Steps.{Kind, kind_of, Ends, at_once, recovers, serves, ServerStep}
 use Rattle.krl_server.proofs.Pushes.{pushes_missing}
 use Rattle.krl_server.proofs.Served.{answered_up}
 use Rattle.krl_steps.specs.declared.step.Step.{Step}
@@ -19,7 +19,7 @@ use Rattle.krl_world.proofs.Ways.{Way, stays, reads, stops, begins, way}
 
 -- One message
 
-pub none_missing : (cs : List ℕ) → is_gathering cs ≡ false → cs ≡ []
+pub none_missing : (cs : List ℕ) → is_recovering cs ≡ false → cs ≡ []
 none_missing [] e = refl
 none_missing (c ∷ cs) e = absurd (cc)
 
@@ -31,36 +31,37 @@ effect_serves s m Tells e = e
 effect_serves s m Alarms e = e
 effect_serves s m (Rebuilds pieces) e = ap (λ cs. unlist cs m.client) e
 effect_serves s m (Repeats body) e = e
-effect_serves s m Hears e = e
+effect_serves s m Acknowledges e = e
 effect_serves s m (Lowers span keep) e = e
 effect_serves s m (Waits req point hi g) e = e
-effect_serves s m (Judges number op o) e = pushes_missing (writes (heard s m.client) m.client op o) m.client _ ∙ e
-effect_serves s m (AnswersAgain number op o) e = pushes_missing (heard s m.client) m.client _ ∙ e
+effect_serves s m (Judges number op o) e =
+    pushes_missing (writes (acknowledged s m.client) m.client op o) m.client _ ∙ e
+effect_serves s m (AnswersAgain number op o) e = pushes_missing (acknowledged s m.client) m.client _ ∙ e
 
-ends_serve : (done : Done) (kind : Kind) (t : Server) (outs : List ToClient) → is_gathering done.server.missing ≡ false → Ends done kind t outs → is_gathering t.missing ≡ false
+ends_serve : (done : Done) (kind : Kind) (t : Server) (outs : List ToClient) → is_recovering done.server.missing ≡ false → Ends done kind t outs → is_recovering t.missing ≡ false
 ends_serve done kind t outs e (at_once i) = e
-ends_serve done kind t outs e (gathers g) = e
+ends_serve done kind t outs e (recovers g) = e
 ends_serve done kind t outs e (serves u answers n g a) = answered_up done.server u answers a e
 
-step_serves : (s t : Server) (m : ToServer) (outs : List ToClient) → is_gathering s.missing ≡ false → ServerStep s m t outs → is_gathering t.missing ≡ false
+step_serves : (s t : Server) (m : ToServer) (outs : List ToClient) → is_recovering s.missing ≡ false → ServerStep s m t outs → is_recovering t.missing ≡ false
 step_serves s t m outs e h =
     ends_serve (effect s m (case_of s m)) (kind_of (case_of s m)) t outs
-    (ap is_gathering (effect_serves s m (case_of s m) (none_missing s.missing e))) h
+    (ap is_recovering (effect_serves s m (case_of s m) (none_missing s.missing e))) h
 
 -- One step
 
-not_gathering : (t : Bool) → (if t then false else true) ≡ true → t ≡ false
-not_gathering true e = absurd (cc)
-not_gathering false e = refl
+not_recovering : (t : Bool) → (if t then false else true) ≡ true → t ≡ false
+not_recovering true e = absurd (cc)
+not_recovering false e = refl
 
-serving : (s : Server) → is_gathering s.missing ≡ false → is_serving (Up s) ≡ true
+serving : (s : Server) → is_recovering s.missing ≡ false → is_serving (Up s) ≡ true
 serving s e = ap (λ (t : Bool). if t then false else true) e
 
 takes_serve : (w v : State) (s : Step) → is_serving w.server ≡ true → s ≢ step.CrashServer → Way w v s → is_serving v.server ≡ true
 takes_serve w v s h n (stays e) = subst (λ x. is_serving x ≡ true) (sym e) h
 takes_serve w v s h n (reads old new m outs e f at t) =
     let up : is_serving (Up old) ≡ true = subst (λ x. is_serving x ≡ true) e h in
-    subst (λ x. is_serving x ≡ true) (sym f) (serving new (step_serves old new m outs (not_gathering (is_gathering old.missing) up) t))
+    subst (λ x. is_serving x ≡ true) (sym f) (serving new (step_serves old new m outs (not_recovering (is_recovering old.missing) up) t))
 takes_serve w v s h n (stops old e up f) = absurd (n e)
 takes_serve w v s h n (begins d e f) = let bad : is_serving (Down d) ≡ true = subst (λ x. is_serving x ≡ true) e h in absurd (cc)
 
@@ -72,7 +73,7 @@ runs_serve w v (s ∷ steps) h n r = runs_serve r.1 v steps (takes_serve w r.1 s
 
 first_serves : (d : Durable) → CanOpen d → is_serving (opened d).server ≡ true
 unfolding opened
-first_serves d h = ap (λ ms. if is_gathering ms then false else true) h.left
+first_serves d h = ap (λ ms. if is_recovering ms then false else true) h.left
 
 pub serves_on : ServesOn
 serves_on d steps w h n r = runs_serve (opened d) w steps (first_serves d h) n r

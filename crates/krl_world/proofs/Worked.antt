@@ -16,7 +16,7 @@ use Rattle.krl_table.specs.Rows.{most_clients}
 use Rattle.krl_server.specs.Servers.{Server}
 use Rattle.krl_server.specs.Cases.{Registers, Waits, case_of}
 use Rattle.krl_server.specs.Effects.{effect}
-use Rattle.krl_server.specs.Answering.{Turn, turn_at, turn_among, next_turn, take_turn, Answered, stops, goes_on}
+use Rattle.krl_server.specs.Answering.{Turn, turn_at, turn_among, next_turn, answer_first, Answered, stops, goes_on}
 use Rattle.krl_server.specs.Callbacks.{callbacks_at, callbacks_among, callbacks}
 use Rattle.krl_server.specs.Steps.{Acts, kind_of, Ends, serves, ServerStep, start}
 
@@ -53,7 +53,7 @@ abbrev turn : Turn
 turn = record { slot = 10; waiter = record { client = 0; req = 1; point = 5; hi = 6; mode = mode.RangeSS } }
 
 abbrev pub granted : Index → Server
-granted m = (take_turn (waiting m) turn).server
+granted m = (answer_first (waiting m) turn).server
 
 -- where nobody waits, nobody is answered or called back
 turn_none : (s : Server) (n : ℕ) (later : Option Turn) (us : List Waiter) → us ≡ [] → later ≡ None → turn_at s n us later ≡ None
@@ -89,7 +89,7 @@ lock_turn : (m : Index) → map.entries m ≡ two → next_turn (waiting m) ≡ 
 unfolding most_clients
 lock_turn m e = simp e
 
-lock_outs : (m : Index) → map.entries m ≡ two → (take_turn (waiting m) turn).outs ≡ grant ∷ []
+lock_outs : (m : Index) → map.entries m ≡ two → (answer_first (waiting m) turn).outs ≡ grant ∷ []
 unfolding most_clients
 lock_outs m e = simp (e, map.get-entries)
 

@@ -25,7 +25,7 @@ use Rattle.krl_durable.specs.Registers.{Durable, record_of}
 use Rattle.krl_durable.specs.declared.record.Record.{Record}
 use Rattle.krl_table.specs.Points as table
 use Rattle.krl_table.specs.Reports.{reported_key}
-use Rattle.krl_server.specs.Servers.{Server, is_gathering, lists}
+use Rattle.krl_server.specs.Servers.{Server, is_recovering, lists}
 use Rattle.krl_server.specs.Cases.{case_of}
 use Rattle.krl_server.specs.Effects.{adopts}
 use Rattle.krl_server.specs.Steps.{alarms, start}
@@ -87,7 +87,7 @@ cleared gone b = record {
 }
 
 abbrev pub bound_at : ServerNode → Bound → Bound
-bound_at (Up s) kept = if is_gathering s.missing then kept else table_of s
+bound_at (Up s) kept = if is_recovering s.missing then kept else table_of s
 bound_at (Down d) kept = kept
 
 -- the bound after a step from one world to the next
@@ -107,7 +107,7 @@ HasBound w b = CanOpen w.opening × (steps : List Step) × RunsWithin (opened w.
 -- while a server serves, the bound of a run is its table
 abbrev pub BoundIsTable : Type 0
 BoundIsTable =
-    (w : State) (b : Bound) (s : Server) → HasBound w b → w.server ≡ Up s → is_gathering s.missing ≡ false →
+    (w : State) (b : Bound) (s : Server) → HasBound w b → w.server ≡ Up s → is_recovering s.missing ≡ false →
     b ≡ table_of s
 
 -- What lies within it
@@ -177,8 +177,8 @@ pub record IsAwaited (w : State) (s : Server) (c : ℕ) (r : Record) (pieces : P
 abbrev pub table_with : Server → ℕ → Pieces → Bound
 table_with s c pieces = table_of (adopts s c pieces)
 
--- what a server that gathers has heard, or may still hear, is within the bound
-pub record IsGatheredWithin (w : State) (b : Bound) (s : Server) : Type 0 where
+-- what a server that recovers has heard, or may still hear, is within the bound
+pub record IsRecoveryWithin (w : State) (b : Bound) (s : Server) : Type 0 where
   -- an awaited report is, and it is at least what its client believes
   pub report : (c : ℕ) (r : Record) (pieces : Pieces) → IsAwaited w s c r pieces → (p : ℕ) →
       IsRangeWithin (range_said pieces.ranges p) (b.range_at c p)
@@ -200,7 +200,7 @@ pub record HoldsOverRestarts (w : State) (b : Bound) : Type 0 where
   -- no message has an epoch above the durable one
   pub said : (m : ToServer) → In (message.ToServer m) w.sent → epoch_said m.body ≤ (durable_of w.server).epoch
   pub told : (m : ToClient) → In (message.ToClient m) w.sent → epoch_told m.body ≤ (durable_of w.server).epoch
-  -- of a server that gathers
-  pub gathered : (s : Server) → w.server ≡ Up s → is_gathering s.missing ≡ true → IsGatheredWithin w b s
+  -- of a server that recovers
+  pub recovery : (s : Server) → w.server ≡ Up s → is_recovering s.missing ≡ true → IsRecoveryWithin w b s
   -- the server's step on a message that was ever sent has no alarm
   pub no_alarm : (s : Server) (m : ToServer) → w.server ≡ Up s → In (message.ToServer m) w.sent → alarms s m ≡ false

@@ -8,7 +8,7 @@ use Rattle.krl_steps.specs.declared.step.Step.{Step}
 use Rattle.krl_steps.specs.declared.step.Step.TheVariants as step
 use Rattle.krl_steps.specs.declared.answer.Answer.{Answer}
 use Rattle.krl_steps.specs.declared.refused.Refused.{Refused}
-use Rattle.krl_server.specs.Servers.{Server, is_gathering}
+use Rattle.krl_server.specs.Servers.{Server, is_recovering}
 use Rattle.krl_world.specs.States.{Up, State, opened, is_serving, range_held, key_held}
 use Rattle.krl_world.specs.Bounds.{Bound, table_of, HasBound, IsTableWithin, Covers}
 use Rattle.krl_world.specs.Steps.{CanOpen, refusal_of, Takes, Steps, Runs, RunsWith, IsReachable}
@@ -35,10 +35,10 @@ ServesOn =
     (d : Durable) (steps : List Step) (w : State) → CanOpen d → (In step.CrashServer steps → ⊥) →
     Runs (opened d) steps w → is_serving w.server ≡ true
 
--- nobody gets anything by a restart: where a server gathered and now serves, its table is within the bound until then,
+-- nobody gets anything by a restart: where a server recovered and now serves, its table is within the bound until then,
 -- and it has what each client believes
-abbrev pub GatheringsEnd : Type 0
-GatheringsEnd =
+abbrev pub RecoveriesEnd : Type 0
+RecoveriesEnd =
     (w v : State) (b : Bound) (s t : Server) (taken : Step) (answer : Answer) → HasBound w b → w.server ≡ Up s →
-    is_gathering s.missing ≡ true → Takes w taken answer v → v.server ≡ Up t → is_gathering t.missing ≡ false →
+    is_recovering s.missing ≡ true → Takes w taken answer v → v.server ≡ Up t → is_recovering t.missing ≡ false →
     IsTableWithin (table_of t) b × ((c : ℕ) → Covers (table_of t) v c)

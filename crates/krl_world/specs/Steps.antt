@@ -17,7 +17,7 @@ use Rattle.krl_durable.specs.Writes.{most_entries}
 use Rattle.krl_server.specs.declared.start_refused.StartRefused.{StartRefused as NotStarted}
 use Rattle.krl_server.specs.declared.start_refused.StartRefused.TheVariants as not_started
 use Rattle.krl_server.specs.Servers.{Server}
-use Rattle.krl_server.specs.Cases.{Case, Ignored, Registers, Leaves, Tells, Alarms, Rebuilds, Repeats, Hears, Lowers, Waits, Judges, AnswersAgain, case_of}
+use Rattle.krl_server.specs.Cases.{Case, Ignored, Registers, Leaves, Tells, Alarms, Rebuilds, Repeats, Acknowledges, Lowers, Waits, Judges, AnswersAgain, case_of}
 use Rattle.krl_server.specs.Steps as server
 use Rattle.krl_server.specs.Steps.{ServerStep}
 use Rattle.krl_cache.specs.Beliefs.{CoversAll}
@@ -58,18 +58,18 @@ pub record CanOpen (d : Durable) : Type 0 where
   pub left : missing_order d.register ≡ []
 
 -- why no world begins with these entries
-abbrev pub BeginsNot : List (ℕ × Value) → Refused → Type 0
-BeginsNot entries r = (e : IndexRefused) × Refuses entries e × (r ≡ refused_by_index e)
+abbrev pub CannotBegin : List (ℕ × Value) → Refused → Type 0
+CannotBegin entries r = (e : IndexRefused) × Refuses entries e × (r ≡ refused_by_index e)
 
 -- why no world begins with this durable part
-abbrev pub OpensNot : Durable → Refused → Type 0
-OpensNot d r = (r ≡ refused.OutOfMemory) ⊎ ((r ≡ refused.Spent) × (server.can_start d ≡ false))
+abbrev pub CannotOpen : Durable → Refused → Type 0
+CannotOpen d r = (r ≡ refused.OutOfMemory) ⊎ ((r ≡ refused.Spent) × (server.can_start d ≡ false))
 
 -- why no world begins with what survived when values were numbers: it can't be migrated, or there is no epoch for the
 -- start; or memory was not there
-abbrev pub MigratesNot : DurableV1 → Refused → Type 0
-MigratesNot d r =
-    ((e : NotMigrated) × migrations.MigratesNot d e × (r ≡ refused_by_migration e)) ⊎ OpensNot (migrated d) r
+abbrev pub CannotMigrate : DurableV1 → Refused → Type 0
+CannotMigrate d r =
+    ((e : NotMigrated) × migrations.CannotMigrate d e × (r ≡ refused_by_migration e)) ⊎ CannotOpen (migrated d) r
 
 -- Refusals, apart from memory: the first reason in the written order
 
@@ -148,7 +148,7 @@ applies m Tells = []
 applies m Alarms = []
 applies m (Rebuilds pieces) = []
 applies m (Repeats body) = []
-applies m Hears = []
+applies m Acknowledges = []
 applies m (Lowers s keep) = []
 applies m (Waits req point hi g) = []
 applies m (Judges number op o) =

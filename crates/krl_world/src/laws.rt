@@ -3,7 +3,7 @@ ghost use Rattle.krl_world.specs.States.{State};
 ghost use Rattle.krl_world.specs.Steps.{IsReachable};
 ghost use Rattle.krl_world.specs.Promises.{Headline};
 ghost use Rattle.krl_world.specs.Laws.{ReachableStays, NobodyAbove63};
-ghost use Rattle.krl_world.specs.Laws.{CanGoOn, ServesOn, GatheringsEnd};
+ghost use Rattle.krl_world.specs.Laws.{CanGoOn, ServesOn, RecoveriesEnd};
 ghost use Rattle.krl_world.specs.Runs.{ScansSomewhere, WritesSomewhere, ComesThroughSomewhere};
 ghost use Rattle.krl_world.specs.Bounds.{Bound, HasBound, BoundIsTable};
 ghost use Rattle.krl_world.specs.Bounds.{IsBounded, HoldsOverRestarts};
@@ -26,7 +26,7 @@ pub fn bound_is_the_table()
 {}
 
 /// What clients believe, and what live pushes say, is within the bound table of each run; so is
-/// what a gathering server hears and rebuilds, no message has an epoch above the durable one, and
+/// what a recovering server hears and rebuilds, no message has an epoch above the durable one, and
 /// no message alarms the server.
 pub fn within_the_bound()
     ensures bounded { (w : State) (b : Bound) → HasBound w b → IsBounded w b }
@@ -53,10 +53,10 @@ pub fn serves_on()
     ensures { ServesOn }
 {}
 
-/// Nobody gets anything by a restart: the table of the server that serves when a gathering ends is
+/// Nobody gets anything by a restart: the table of the server that serves when a recovery ends is
 /// at most the bound table until then, and at least what each client believes.
-pub fn gatherings_end()
-    ensures { GatheringsEnd }
+pub fn recoveries_end()
+    ensures { RecoveriesEnd }
 {}
 
 /// Some run comes to a world in which a scan from a cache gives an entry.

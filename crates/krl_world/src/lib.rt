@@ -7,13 +7,13 @@
 //! once, and once where its client was told Applied. `laws` says this and more of all worlds.
 #![tactic(auto)]
 
-pub mod clients;
+pub mod client_steps;
 pub mod laws;
 mod message;
+pub mod network;
 mod node;
 mod nodes;
-pub mod sending;
-pub mod serving;
+pub mod server_steps;
 mod world;
 
 pub use krl_steps::{Answer, AppliedWrite, Command, Refused, Step};

@@ -11,12 +11,12 @@ ghost use Rattle.krl_steps.specs.declared.step.Step.TheVariants as steps;
 ghost use Rattle.krl_durable.specs.Registers.{missing_order};
 ghost use Rattle.krl_durable.specs.Migrations.{migrated};
 ghost use Rattle.krl_world.specs.States.{index_of, unused, opened, fresh, range_held, key_held};
-ghost use Rattle.krl_world.specs.Steps.{Steps, CanBegin, BeginsNot, CanOpen, OpensNot, MigratesNot, message_at};
+ghost use Rattle.krl_world.specs.Steps.{Steps, CanBegin, CannotBegin, CanOpen, CannotOpen, CannotMigrate, message_at};
 ghost use Rattle.krl_world.specs.Fields.{meaning, server_up, kept_client, AreUnstarted};
 
 use crate::message::Message;
 use crate::node::{Seat, ServerNode, not_started};
-use crate::{clients, serving};
+use crate::{client_steps, server_steps};
 use krl_blocks::Entries;
 use krl_client::Client;
 use krl_durable::{Durable, DurableV1};
@@ -89,7 +89,7 @@ impl Nodes {
         ensures { MatchResult result
             (λ w. CanBegin entries.items × CanOpen (unused entries.items)
             × (meaning w ≡ fresh entries.items))
-            (BeginsNot entries.items) }
+            (CannotBegin entries.items) }
     {
         let opening = Durable::new(alloc, entries.as_slice())?;
         let durable = Durable::new(alloc, entries.as_slice())?;
@@ -103,7 +103,7 @@ impl Nodes {
     pub(crate) fn migrate(alloc: Global, old: &DurableV1) -> Result<Nodes, Refused>
         ensures { MatchResult result
             (λ w. CanOpen (migrated old.now) × (meaning w ≡ opened (migrated old.now)))
-            (MigratesNot old.now) }
+            (CannotMigrate old.now) }
     {
         let opening = Durable::migrate(alloc, old)?;
         let durable = Durable::migrate(alloc, old)?;
@@ -117,7 +117,7 @@ impl Nodes {
         requires left { missing_order opening.register ≡ [] }
         ensures { MatchResult result
             (λ w. CanOpen opening × (meaning w ≡ opened opening))
-            (OpensNot opening) }
+            (CannotOpen opening) }
     {
         opening.epoch();
         let seats = seats_of_nobody(alloc, &opening)?;
@@ -174,7 +174,7 @@ impl Nodes {
         let Some(node) = &mut self.server else {
             return Ok(Answer::Done);
         };
-        serving::arrive(self.alloc, node, &mut self.sent, &mut self.writes, at)?;
+        server_steps::arrive(self.alloc, node, &mut self.sent, &mut self.writes, at)?;
         Ok(Answer::Done)
     }
 
@@ -188,7 +188,7 @@ impl Nodes {
         let Some(client) = &mut self.seats[message.client as usize].client else {
             return Ok(Answer::Done);
         };
-        clients::read(client, &mut self.sent, &message)?;
+        client_steps::read(client, &mut self.sent, &message)?;
         Ok(Answer::Done)
     }
 
@@ -198,7 +198,7 @@ impl Nodes {
         if number > 63 {
             return Err(Refused::BadClient);
         }
-        clients::obey(&mut self.seats[number as usize], &mut self.sent, what)
+        client_steps::obey(&mut self.seats[number as usize], &mut self.sent, what)
     }
 
     fn tick(&mut self, number: u64) -> Result<Answer, Refused>
@@ -210,7 +210,7 @@ impl Nodes {
         let Some(client) = &self.seats[number as usize].client else {
             return Err(Refused::Down);
         };
-        clients::tick(client, &mut self.sent)?;
+        client_steps::tick(client, &mut self.sent)?;
         Ok(Answer::Done)
     }
 
@@ -226,7 +226,7 @@ impl Nodes {
         let ServerNode::Up(server) = node else {
             return Err(Refused::Down);
         };
-        serving::nudge(self.alloc, server, &mut self.sent, number)?;
+        server_steps::nudge(self.alloc, server, &mut self.sent, number)?;
         Ok(Answer::Done)
     }
 
@@ -236,7 +236,7 @@ impl Nodes {
         if number > 63 {
             return Err(Refused::BadClient);
         }
-        clients::start(
+        client_steps::start(
             self.alloc,
             &mut self.seats[number as usize],
             &mut self.sent,

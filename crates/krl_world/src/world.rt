@@ -6,7 +6,7 @@ ghost use Rattle.krl_blocks.specs.Laid.{flat};
 ghost use Rattle.krl_blocks.specs.Runs.{runs_of};
 ghost use Rattle.krl_durable.specs.Migrations.{migrated};
 ghost use Rattle.krl_world.specs.States.{index_of, opened, fresh, range_held, key_held};
-ghost use Rattle.krl_world.specs.Steps.{Steps, RunsWith, CanBegin, BeginsNot, CanOpen, MigratesNot, IsReachable, message_at};
+ghost use Rattle.krl_world.specs.Steps.{Steps, RunsWith, CanBegin, CannotBegin, CanOpen, CannotMigrate, IsReachable, message_at};
 ghost use Rattle.krl_world.specs.Promises.{IsCompatible, ScansIndex, WritesOnce};
 ghost use Rattle.krl_world.specs.Laws.{CanGoOn};
 ghost use Rattle.krl_world.specs.Bounds.{Bound, HasBound, IsBounded, HoldsOverRestarts};
@@ -60,7 +60,7 @@ impl World {
     pub fn new(alloc: Global, entries: Vec<(u64, Value)>) -> Result<World, Refused>
         ensures { MatchResult result
             (λ w. CanBegin entries.items × (meaning w ≡ fresh entries.items))
-            (BeginsNot entries.items) }
+            (CannotBegin entries.items) }
     {
         let nodes = Nodes::new(alloc, entries)?;
         Ok(World { nodes })
@@ -77,7 +77,7 @@ impl World {
     pub fn migrate(alloc: Global, old: &DurableV1) -> Result<World, Refused>
         ensures { MatchResult result
             (λ w. CanOpen (migrated old.now) × (meaning w ≡ opened (migrated old.now)))
-            (MigratesNot old.now) }
+            (CannotMigrate old.now) }
     {
         let nodes = Nodes::migrate(alloc, old)?;
         Ok(World { nodes })

@@ -31,7 +31,7 @@ fn made_at_last(alloc: Global) -> Option<World> {
 }
 
 // Client 0 locks a range over both entries, inserts between them, and forgets; then its server
-// crashes, gathers its report, and the client leaves.
+// crashes, takes its report, and the client leaves.
 fn steps() -> [Step; 24] {
     let lock = Command::Lock {
         point: 15,

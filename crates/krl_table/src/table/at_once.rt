@@ -4,7 +4,7 @@ ghost use Rattle.krl_durable.specs.Index.{slot_of};
 ghost use Rattle.krl_table.specs.Calls.{enqueued};
 ghost use Rattle.krl_table.specs.Grants.{granted, taken, nobody_waits, is_granted_at_once};
 ghost use Rattle.krl_table.specs.Kept.{rows_of, IsOver};
-ghost use Rattle.krl_table.specs.Replies.{can_have};
+ghost use Rattle.krl_table.specs.Replies.{is_wanted_compatible};
 
 use super::Table;
 use crate::reply;
@@ -21,15 +21,15 @@ impl Table {
         self.waiting.is_empty()
     }
 
-    /// Whether nobody waits on the slot, and what the waiter wants can stand beside what all others
-    /// hold there.
+    /// Whether nobody waits on the slot, and what the waiter wants is compatible with what all
+    /// others hold there.
     fn is_free_for(&self, slot: u64, waiter: &Waiter) -> bool
         requires { waiter.now.client < 64 }
         ensures { result ≡ (nobody_waits (rows_of self.now slot).queue
-            && can_have (rows_of self.now) slot waiter.now) }
+            && is_wanted_compatible (rows_of self.now) slot waiter.now) }
     {
         match self.rows.get(slot) {
-            Some(row) => row.queue.is_empty() && row.can_have(waiter),
+            Some(row) => row.queue.is_empty() && row.is_wanted_compatible(waiter),
             None => true,
         }
     }

@@ -10,11 +10,11 @@ ghost use Rattle.krl_table.specs.Rows.{front_of};
 ghost use Rattle.krl_table.specs.Calls.{granted_first, raised, raised_on};
 ghost use Rattle.krl_table.specs.Grants.{granted, taken, can_take, goes_on, taken_after};
 ghost use Rattle.krl_table.specs.Kept.{row_of, rows_of, row_takes, IsOver, IsTaken};
-ghost use Rattle.krl_table.specs.Replies.{can_have};
+ghost use Rattle.krl_table.specs.Replies.{is_wanted_compatible};
 
 use super::Table;
 use crate::row::SlotRow;
-use crate::steps;
+use crate::row_ops;
 use arrayvec::ArrayVec;
 use krl_durable::Durable;
 use krl_modes::{END, Point};
@@ -26,8 +26,8 @@ fn row_takes(row: &SlotRow, slot: u64, waiter: &Waiter) -> bool
     ensures { result ≡ row_takes slot (row_of row.now) waiter.now }
 {
     let free = row.queue.is_empty();
-    let fits = row.can_have(waiter);
-    free && fits && !lacks_entry(slot, waiter)
+    let is_compatible_there = row.is_wanted_compatible(waiter);
+    free && is_compatible_there && !lacks_entry(slot, waiter)
 }
 
 /// Whether the waiter asks for an entry alone, and the slot is END.
@@ -38,15 +38,15 @@ fn lacks_entry(slot: u64, waiter: &Waiter) -> bool
 }
 
 impl Table {
-    /// The slot's first waiter gets what it wants, which can stand beside what all others hold
+    /// The slot's first waiter gets what it wants, which is compatible with what all others hold
     /// there, and waits no more. The grant goes on over the slots after it that begin below the end
     /// of what the waiter asks for: up to the first where somebody waits, or where it can't stand
     /// beside what others hold, or which is END and the waiter asks for an entry alone. It answers
     /// the slots that were taken, in ascending order; none where nobody waits. It takes no memory.
     pub fn grant(&mut self, durable: &Durable, slot: u64) -> ArrayVec<Point, 8>
         requires over { IsOver durable.now.index self.old }
-        requires fits { IfSome (front_of (rows_of self.old slot).queue)
-            (λ u. can_have (rows_of self.old) slot u ≡ true) }
+        requires is_compatible_there { IfSome (front_of (rows_of self.old slot).queue)
+            (λ u. is_wanted_compatible (rows_of self.old) slot u ≡ true) }
         ensures granted { (n : ℕ) → rows_of self.new n
             ≡ granted durable.now.index (rows_of self.old) slot n }
         ensures taken { result.items ≡ taken durable.now.index (rows_of self.old) slot }
@@ -64,13 +64,13 @@ impl Table {
     /// The slot's first waiter gets what it wants there, and waits no more.
     fn grant_first(&mut self, slot: u64)
         requires there { IsSome (map.get self.old slot) }
-        requires fits { IfSome (front_of (rows_of self.old slot).queue)
-            (λ u. can_have (rows_of self.old) slot u ≡ true) }
+        requires is_compatible_there { IfSome (front_of (rows_of self.old slot).queue)
+            (λ u. is_wanted_compatible (rows_of self.old) slot u ≡ true) }
         ensures granted { (n : ℕ) → rows_of self.new n ≡ granted_first (rows_of self.old) slot n }
         ensures slots { (m : Index) → IsOver m self.old → IsOver m self.new }
         ensures end { slot ≤ END }
     {
-        let first = steps::grant(&mut self.rows, slot);
+        let first = row_ops::grant(&mut self.rows, slot);
         self.waiting.leave(&first);
     }
 
@@ -130,7 +130,8 @@ impl Table {
     fn can_take(&self, slot: u64, waiter: &Waiter) -> bool
         requires { waiter.now.client < 64 }
         ensures result { result ≡ can_take (rows_of self.now) slot waiter.now }
-        ensures fits { result ≡ true → can_have (rows_of self.now) slot waiter.now ≡ true }
+        ensures is_compatible_there { result ≡ true
+            → is_wanted_compatible (rows_of self.now) slot waiter.now ≡ true }
     {
         match self.rows.get(slot) {
             Some(row) => row_takes(row, slot, waiter),
@@ -138,19 +139,20 @@ impl Table {
         }
     }
 
-    /// The waiter's client gets on the slot what it wants, which can stand beside what all others
+    /// The waiter's client gets on the slot what it wants, which is compatible with what all others
     /// hold there.
     pub(super) fn raise(&mut self, durable: &Durable, slot: u64, waiter: &Waiter)
         requires over { IsOver durable.now.index self.old }
         requires slot { is_slot durable.now.index slot ≡ true }
         requires client { waiter.now.client < 64 }
-        requires fits { can_have (rows_of self.old) slot waiter.now ≡ true }
+        requires is_compatible_there { is_wanted_compatible (rows_of self.old) slot waiter.now
+            ≡ true }
         ensures raised { (n : ℕ)
             → rows_of self.new n ≡ raised (rows_of self.old) slot waiter.now n }
         ensures slots { IsOver durable.now.index self.new }
     {
         let _kept = durable.epoch();
-        steps::raise(&mut self.rows, slot, waiter);
+        row_ops::raise(&mut self.rows, slot, waiter);
         self.extents.note(waiter.client, slot);
     }
 }

@@ -7,7 +7,7 @@ ghost use Rattle.krl_durable.specs.Writes.{held};
 ghost use Rattle.krl_table.specs.declared.reply.Reply.TheVariants as reply;
 ghost use Rattle.krl_table.specs.Rows.{column, front_of};
 ghost use Rattle.krl_table.specs.Kept.{rows_of, IsOver};
-ghost use Rattle.krl_table.specs.Replies.{answerable, can_have};
+ghost use Rattle.krl_table.specs.Replies.{answerable, is_wanted_compatible};
 
 use super::Table;
 use crate::needs;
@@ -25,7 +25,7 @@ impl Table {
             → result ≡ answerable m (rows_of self.now) slot acked }
         ensures grants { result ≡ Some reply.Grant
             → IfSome (front_of (rows_of self.now slot).queue)
-            (λ u. can_have (rows_of self.now) slot u ≡ true) }
+            (λ u. is_wanted_compatible (rows_of self.now) slot u ≡ true) }
     {
         if !acked {
             return None;

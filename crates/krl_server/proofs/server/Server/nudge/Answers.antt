@@ -1,6 +1,6 @@
 use Rattle.std.proofs.Common.{◌≡◌, false, [], subst}
 use Rattle.krl_server.specs.declared.state.State.{State}
-use Rattle.krl_server.specs.Servers.{is_gathering}
+use Rattle.krl_server.specs.Servers.{is_recovering}
 use Rattle.krl_server.specs.Answering.{Answered}
 use Rattle.krl_server.specs.States.{meaning}
 use Rattle.krl_server.proofs.Numbers.{all_end}
@@ -12,5 +12,5 @@ returns-clause-few c = few_nudges (meaning c.self.inside.state) c.args.client c.
 
 pub returns-clause-nobody : goal.returns-clause-nobody
 returns-clause-nobody c =
-    subst (λ (st : State). is_gathering (meaning st).missing ≡ false → Answered (meaning st) (meaning st) []) c.self.view_is
+    subst (λ (st : State). is_recovering (meaning st).missing ≡ false → Answered (meaning st) (meaning st) []) c.self.view_is
     (all_end.nobody_left (meaning c.self.inside.state) c.self.invariant.settled)

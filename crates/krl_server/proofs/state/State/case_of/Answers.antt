@@ -1,6 +1,6 @@
 use Rattle.std.proofs.Common.{sym, ◌∙◌}
-use Rattle.krl_server.proofs.Waited.{not_strange}
+use Rattle.krl_server.proofs.Waited.{not_malformed}
 use Rattle.krl_server.proofs.state.State.case_of.Goals as goal
 
 pub case_of_record-requires-clause-client : goal.case_of_record-requires-clause-client
-case_of_record-requires-clause-client c = not_strange c.args.message.now (sym c.is_strange.ensures ∙ c.if-is_strange.false)
+case_of_record-requires-clause-client c = not_malformed c.args.message.now (sym c.is_malformed.ensures ∙ c.if-is_malformed.false)

@@ -2,7 +2,7 @@ use Rattle.std.proofs.Common.{◌<◌, sym, ap, subst, ◌∙◌}
 use Rattle.krl_queue.specs.declared.waiter.Waiter.{Waiter}
 use Rattle.krl_table.specs.Kept.{rows_of}
 use Rattle.krl_server.specs.States.{meaning, meant}
-use Rattle.krl_server.specs.Effects.{heard, answers}
+use Rattle.krl_server.specs.Effects.{acknowledged, answers}
 use Rattle.krl_server.specs.Outboxes.{as_list}
 use Rattle.krl_server.specs.declared.case.Performed.{Performed}
 use Rattle.krl_server.specs.Doing.{IsPerformed}
@@ -20,11 +20,11 @@ register-requires-clause-incarnation c = (facts_of (meaning c.args.self.now) c.a
 pub depart-requires-clause-client : goal.depart-requires-clause-client
 depart-requires-clause-client c = (facts_of (meaning c.args.self.now) c.args.message.now c.args.case.now _ c.requires.case c.in-Leaves.is).client
 
-pub line-number-requires-clause-client : goal.line-number-requires-clause-client
-line-number-requires-clause-client c = facts_of (meaning c.args.self.now) c.args.message.now c.args.case.now _ c.requires.case c.in-Repeats.is
+pub session-number-requires-clause-client : goal.session-number-requires-clause-client
+session-number-requires-clause-client c = facts_of (meaning c.args.self.now) c.args.message.now c.args.case.now _ c.requires.case c.in-Repeats.is
 
-pub hear-requires-clause-client : goal.hear-requires-clause-client
-hear-requires-clause-client c = facts_of (meaning c.args.self.now) c.args.message.now c.args.case.now _ c.requires.case c.in-Hears.is
+pub acknowledge-requires-clause-client : goal.acknowledge-requires-clause-client
+acknowledge-requires-clause-client c = facts_of (meaning c.args.self.now) c.args.message.now c.args.case.now _ c.requires.case c.in-Acknowledges.is
 
 pub lower-requires-clause-client : goal.lower-requires-clause-client
 lower-requires-clause-client c = facts_of (meaning c.args.self.now) c.args.message.now c.args.case.now _ c.requires.case c.in-Lowers.is
@@ -44,8 +44,8 @@ write-outcome-requires-clause-key c = (facts_of (meaning c.args.self.now) c.args
 pub write-outcome-requires-clause-unspent : goal.write-outcome-requires-clause-unspent
 write-outcome-requires-clause-unspent c = (facts_of (meaning c.args.self.now) c.args.message.now c.args.case.now _ c.requires.case c.in-Writes.is).unspent
 
-pub hear-requires-in-Writes-clause-client : goal.hear-requires-in-Writes-clause-client
-hear-requires-in-Writes-clause-client c = (facts_of (meaning c.args.self.now) c.args.message.now c.args.case.now _ c.requires.case c.in-Writes.is).client
+pub acknowledge-requires-in-Writes-clause-client : goal.acknowledge-requires-in-Writes-clause-client
+acknowledge-requires-in-Writes-clause-client c = (facts_of (meaning c.args.self.now) c.args.message.now c.args.case.now _ c.requires.case c.in-Writes.is).client
 
 pub answer_write-requires-clause-client : goal.answer_write-requires-clause-client
 answer_write-requires-clause-client c = (facts_of (meaning c.args.self.now) c.args.message.now c.args.case.now _ c.requires.case c.in-Writes.is).client
@@ -53,8 +53,8 @@ answer_write-requires-clause-client c = (facts_of (meaning c.args.self.now) c.ar
 pub answer_write-requires-clause-key : goal.answer_write-requires-clause-key
 answer_write-requires-clause-key c = (facts_of (meaning c.args.self.now) c.args.message.now c.args.case.now _ c.requires.case c.in-Writes.is).key
 
-pub hear-requires-in-AnswersAgain-clause-client : goal.hear-requires-in-AnswersAgain-clause-client
-hear-requires-in-AnswersAgain-clause-client c = (facts_of (meaning c.args.self.now) c.args.message.now c.args.case.now _ c.requires.case c.in-AnswersAgain.is).client
+pub acknowledge-requires-in-AnswersAgain-clause-client : goal.acknowledge-requires-in-AnswersAgain-clause-client
+acknowledge-requires-in-AnswersAgain-clause-client c = (facts_of (meaning c.args.self.now) c.args.message.now c.args.case.now _ c.requires.case c.in-AnswersAgain.is).client
 
 pub answer_write-requires-in-AnswersAgain-clause-client : goal.answer_write-requires-in-AnswersAgain-clause-client
 answer_write-requires-in-AnswersAgain-clause-client c = (facts_of (meaning c.args.self.now) c.args.message.now c.args.case.now _ c.requires.case c.in-AnswersAgain.is).client
@@ -69,7 +69,8 @@ returns-in-Writes-clause-performed c =
     let number = c.in-Writes.number in
     let op = c.in-Writes.op in
     let o = c.write-outcome.result in
-    let is = c.hear-in-Writes.ensures.heard ∙ ap (λ x. heard x own) c.write-outcome.ensures.writes in
+    let is = c.acknowledge-in-Writes.ensures.acknowledged
+    ∙ ap (λ x. acknowledged x own) c.write-outcome.ensures.writes in
     record {
       outs = as_list c.answer_write.result;
       performed = subst (λ left. IsPerformed s c.args.message.now (meaning c.answer_write.new.self) left (as_list c.answer_write.result)) (sym (ap (λ (d : Performed). d.after) c.changing-in-Writes.ensures))
@@ -92,7 +93,7 @@ returns-in-AnswersAgain-clause-performed c =
       performed = subst (λ left. IsPerformed s c.args.message.now (meaning c.answer_write-in-AnswersAgain.new.self) left (as_list c.answer_write-in-AnswersAgain.result)) (sym (ap (λ (d : Performed). d.after) c.unchanging-in-AnswersAgain.ensures))
           (performed_again s c.args.message.now (meaning c.answer_write-in-AnswersAgain.new.self) number op o (as_list c.answer_write-in-AnswersAgain.result)
           (sym (ap (λ f. meant s own c.args.message.now.body f) c.in-AnswersAgain.is) ∙ c.requires.case)
-          (c.answer_write-in-AnswersAgain.ensures.server ∙ ap (λ x. (answers x own number op o).server) c.hear-in-AnswersAgain.ensures.heard)
-          (c.answer_write-in-AnswersAgain.ensures.outs ∙ ap (λ x. (answers x own number op o).outs) c.hear-in-AnswersAgain.ensures.heard));
+          (c.answer_write-in-AnswersAgain.ensures.server ∙ ap (λ x. (answers x own number op o).server) c.acknowledge-in-AnswersAgain.ensures.acknowledged)
+          (c.answer_write-in-AnswersAgain.ensures.outs ∙ ap (λ x. (answers x own number op o).outs) c.acknowledge-in-AnswersAgain.ensures.acknowledged));
       sends = c.send_some-in-AnswersAgain.ensures;
     }

@@ -23,12 +23,12 @@ call_back-requires-clause-slots c = subst (HaveWaiters (meaning c.grant_at_once.
 pub call_back-requires-clause-sound : goal.call_back-requires-clause-sound
 call_back-requires-clause-sound c =
     (made_at_once c.args.self.now c.args.message.now c.args.case.now c.in-Waits.req c.in-Waits.point c.in-Waits.hi c.in-Waits.mode (meaning c.grant_at_once.new.self) c.in-Some.granted
-    c.requires.server c.requires.case c.in-Waits.is (sym c.is_gathering.ensures ∙ c.if-is_gathering.false) c.in-Some.ensures.turned c.in-Some.ensures.free).sound
+    c.requires.server c.requires.case c.in-Waits.is (sym c.is_recovering.ensures ∙ c.if-is_recovering.false) c.in-Some.ensures.turned c.in-Some.ensures.free).sound
 
 pub call_back-requires-clause-room : goal.call_back-requires-clause-room
 call_back-requires-clause-room c =
     let few = (made_at_once c.args.self.now c.args.message.now c.args.case.now c.in-Waits.req c.in-Waits.point c.in-Waits.hi c.in-Waits.mode (meaning c.grant_at_once.new.self) c.in-Some.granted
-    c.requires.server c.requires.case c.in-Waits.is (sym c.is_gathering.ensures ∙ c.if-is_gathering.false) c.in-Some.ensures.turned c.in-Some.ensures.free).few in
+    c.requires.server c.requires.case c.in-Waits.is (sym c.is_recovering.ensures ∙ c.if-is_recovering.false) c.in-Some.ensures.turned c.in-Some.ensures.free).few in
     let sent = sends_length c.in_ok-outbox.outbox c.send.new.self (c.in-Some.granted ∷ []) c.send.ensures in
     let none = ap (λ b. length b.sent) c.in_ok-outbox.ensures in
     let room = ap (λ b. b.room) c.in_ok-outbox.ensures in
@@ -46,7 +46,7 @@ returns-in-Some-clause-stepped c =
     let sent = c.into_items.ensures ∙ c.call_back.ensures.sent ∙ ap (λ l. l ++ callbacks t) (c.send.ensures.sent ∙ ap (λ (b : Sent). b.sent ++ (o ∷ [])) c.in_ok-outbox.ensures) in
     record {
       step = subst (ServerStep s m t) (sym sent)
-          (made_at_once c.args.self.now m c.args.case.now c.in-Waits.req c.in-Waits.point c.in-Waits.hi c.in-Waits.mode t o c.requires.server c.requires.case c.in-Waits.is (sym c.is_gathering.ensures ∙ c.if-is_gathering.false) c.in-Some.ensures.turned c.in-Some.ensures.free).step;
+          (made_at_once c.args.self.now m c.args.case.now c.in-Waits.req c.in-Waits.point c.in-Waits.hi c.in-Waits.mode t o c.requires.server c.requires.case c.in-Waits.is (sym c.is_recovering.ensures ∙ c.if-is_recovering.false) c.in-Some.ensures.turned c.in-Some.ensures.free).step;
       alarm = sym (ap (λ k. if is_alarm k then Some m.client else None) e);
       change = sym (ap (change_of m) e);
     }

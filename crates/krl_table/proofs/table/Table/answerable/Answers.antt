@@ -1,6 +1,6 @@
 use Rattle.std.proofs.Common.{◌≡◌, ◌<◌, true, Some, IfSome, sym, ap, subst, ◌∙◌, arith}
 use Rattle.std.specs.FinMap.{get}
-use Rattle.krl_table.specs.Rows.{row_fits, front_of}
+use Rattle.krl_table.specs.Rows.{is_compatible_in_row, front_of}
 use Rattle.krl_table.specs.Calls.{wanted}
 use Rattle.krl_table.specs.Replies.{answerable, row_reply}
 use Rattle.krl_table.specs.Kept.{row_of, row_there, rows_of, IsOver}
@@ -27,4 +27,4 @@ returns-in-Some-clause-grants c is =
     let t = c.self.inside.rows.map in
     let here : get t c.args.slot ≡ Some c.in-Some.row.now = sym c.in-Some.ensures in
     let row = ap (λ x. rows_of x c.args.slot) (sym c.self.view_is) ∙ ap row_there here in
-    subst (λ x. IfSome (front_of x.queue) (λ u. row_fits x u.client (wanted x u) ≡ true)) (sym row) (reply_grants c.args.slot (row_of c.in-Some.row.now) (sym c.reply.ensures ∙ is))
+    subst (λ x. IfSome (front_of x.queue) (λ u. is_compatible_in_row x u.client (wanted x u) ≡ true)) (sym row) (reply_grants c.args.slot (row_of c.in-Some.row.now) (sym c.reply.ensures ∙ is))

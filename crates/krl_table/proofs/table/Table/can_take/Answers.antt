@@ -3,11 +3,11 @@ use Rattle.std.specs.Prelude.{option_copied}
 use Rattle.std.specs.FinMap.{get}
 use Rattle.krl_modes.specs.declared.point.TheConstants.{END}
 use Rattle.krl_modes.specs.Modes.{needs_entry}
-use Rattle.krl_table.specs.Rows.{row_fits, blank_row}
+use Rattle.krl_table.specs.Rows.{is_compatible_in_row, blank_row}
 use Rattle.krl_table.specs.Calls.{wanted}
 use Rattle.krl_table.specs.Grants.{nobody_waits}
 use Rattle.krl_table.specs.Kept.{row_of, row_there, row_takes}
-use Rattle.krl_table.proofs.Raises.{blank_fits}
+use Rattle.krl_table.proofs.Raises.{blank_is_compatible}
 use Rattle.krl_table.proofs.table.Table.can_take.Goals as goal
 
 second : (a b d : Bool) → (a && (b && d)) ≡ true → b ≡ true
@@ -20,21 +20,22 @@ returns-in-Some-clause-result c =
     let here : get c.args.self.now c.args.slot ≡ Some c.in-Some.row.now = ap (λ m. get m c.args.slot) (sym c.self.view_is) ∙ sym c.in-Some.ensures in
     c.row_takes.ensures ∙ ap (λ o. row_takes c.args.slot (row_there o) c.args.waiter.now) (sym here)
 
-pub returns-in-Some-clause-fits : goal.returns-in-Some-clause-fits
-returns-in-Some-clause-fits c e =
+pub returns-in-Some-clause-is_compatible_there : goal.returns-in-Some-clause-is_compatible_there
+returns-in-Some-clause-is_compatible_there c e =
     let w = c.args.waiter.now in
     let here : get c.args.self.now c.args.slot ≡ Some c.in-Some.row.now = ap (λ m. get m c.args.slot) (sym c.self.view_is) ∙ sym c.in-Some.ensures in
-    subst (λ o. row_fits (row_there o) w.client (wanted (row_there o) w) ≡ true) (sym here)
-    (second (nobody_waits c.in-Some.row.now.queue) (row_fits (row_of c.in-Some.row.now) w.client (wanted (row_of c.in-Some.row.now) w)) (not (needs_entry w.mode && nat_eq c.args.slot END)) (sym c.row_takes.ensures ∙ e))
+    subst (λ o. is_compatible_in_row (row_there o) w.client (wanted (row_there o) w) ≡ true) (sym here)
+    (second (nobody_waits c.in-Some.row.now.queue) (is_compatible_in_row (row_of c.in-Some.row.now) w.client (wanted (row_of c.in-Some.row.now) w)) (not (needs_entry w.mode && nat_eq c.args.slot END)) (sym c.row_takes.ensures ∙ e))
 
 pub returns-in-None-clause-result : goal.returns-in-None-clause-result
 returns-in-None-clause-result c =
     let w = c.args.waiter.now in
     let none : get c.args.self.now c.args.slot ≡ None = ap (λ m. get m c.args.slot) (sym c.self.view_is) ∙ sym c.get.ensures ∙ ap (λ o. option_copied o) c.in-None.is in
-    ap not c.lacks_entry.ensures ∙ sym (ap (λ o. row_takes c.args.slot (row_there o) w) none ∙ ap (λ b. b && not (needs_entry w.mode && nat_eq c.args.slot END)) (blank_fits w.client (wanted blank_row w)))
+    ap not c.lacks_entry.ensures ∙ sym (ap (λ o. row_takes c.args.slot (row_there o) w) none ∙ ap (λ b. b && not (needs_entry w.mode && nat_eq c.args.slot END)) (blank_is_compatible w.client (wanted blank_row w)))
 
-pub returns-in-None-clause-fits : goal.returns-in-None-clause-fits
-returns-in-None-clause-fits c e =
+pub returns-in-None-clause-is_compatible_there : goal.returns-in-None-clause-is_compatible_there
+returns-in-None-clause-is_compatible_there c e =
     let w = c.args.waiter.now in
     let none : get c.args.self.now c.args.slot ≡ None = ap (λ m. get m c.args.slot) (sym c.self.view_is) ∙ sym c.get.ensures ∙ ap (λ o. option_copied o) c.in-None.is in
-    ap (λ o. row_fits (row_there o) w.client (wanted (row_there o) w)) none ∙ blank_fits w.client (wanted blank_row w)
+    ap (λ o. is_compatible_in_row (row_there o) w.client (wanted (row_there o) w)) none
+    ∙ blank_is_compatible w.client (wanted blank_row w)

@@ -2,7 +2,7 @@ use Rattle.std.proofs.Common.{◌≡◌, ◌≤◌, ◌<◌, ℕ, Bool, true, fa
 use Rattle.std.proofs.lemmas.Bool.Decides.{nat_tests}
 use Rattle.krl_durable.specs.Index.{is_slot}
 use Rattle.krl_table.specs.Calls.{raised}
-use Rattle.krl_table.specs.Replies.{can_have}
+use Rattle.krl_table.specs.Replies.{is_wanted_compatible}
 use Rattle.krl_table.specs.Kept.{rows_of}
 use Rattle.krl_table.proofs.Raises.{IsGoing, begins, ends_rows, ends_taken, test_ends, goes}
 use Rattle.krl_table.proofs.table.Table.go_on.Goals as goal
@@ -25,7 +25,7 @@ raise-requires c =
       over = c.loop-self.invariant.over;
       slot = subst (λ i. is_slot m i ≡ true) (sym c.get.ensures.number) c.in-Some.ensures.slot;
       client = c.requires.client;
-      fits = subst (λ i. can_have (rows_of c.loop-self.self) i c.args.waiter.now ≡ true) (sym c.get.ensures.number) c.in-Some.ensures.some.fits;
+      is_compatible_there = subst (λ i. is_wanted_compatible (rows_of c.loop-self.self) i c.args.waiter.now ≡ true) (sym c.get.ensures.number) c.in-Some.ensures.some.is_compatible_there;
     }
 
 pub returns-in_default-clause-rows : goal.returns-in_default-clause-rows

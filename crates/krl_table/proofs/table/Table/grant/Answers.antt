@@ -37,7 +37,7 @@ returns-in-Some-clause-taken c =
     ∙ sym (taken_from m rows k w (sym c.front.ensures.front ∙ c.in-Some.is))
 
 pub grant_first-requires : goal.grant_first-requires
-grant_first-requires c = record { there = front_there c.args.self.now c.args.slot c.in-Some.waiter (sym c.front.ensures.front ∙ c.in-Some.is); fits = c.requires.fits }
+grant_first-requires c = record { there = front_there c.args.self.now c.args.slot c.in-Some.waiter (sym c.front.ensures.front ∙ c.in-Some.is); is_compatible_there = c.requires.is_compatible_there }
 
 pub go_on-requires : goal.go_on-requires
 go_on-requires c = record {

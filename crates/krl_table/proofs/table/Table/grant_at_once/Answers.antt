@@ -3,7 +3,7 @@ use Rattle.std.proofs.Math.Path.{fun_ext}
 use Rattle.krl_durable.specs.Index.{slot_of, IsSlotOf}
 use Rattle.krl_table.specs.Rows.{Rows}
 use Rattle.krl_table.specs.Calls.{raised_on}
-use Rattle.krl_table.specs.Replies.{can_have}
+use Rattle.krl_table.specs.Replies.{is_wanted_compatible}
 use Rattle.krl_table.specs.Grants.{nobody_waits, taken_after}
 use Rattle.krl_table.specs.Kept.{rows_of}
 use Rattle.krl_table.proofs.Answering.{lacks_is}
@@ -29,7 +29,8 @@ returns-clause-granted c n =
     let m = c.args.durable.now.index in let rows = rows_of c.args.self.now in let w = c.args.waiter.now in let k = c.slot_of-slot.result in
     let is_free : c.is_free_for.result ≡ true = grind (arith, c.if-not-is_free_for.false) in
     let at : slot_of m w.point ≡ k = ap (slot_of m) (sym c.get.ensures.number) ∙ sym c.slot_of-slot.ensures.slot in
-    let free = first_of_two (nobody_waits (rows k).queue) (can_have rows k w) (sym c.is_free_for.ensures ∙ is_free) in
+    let free = first_of_two (nobody_waits (rows k).queue) (is_wanted_compatible rows k w) (sym c.is_free_for.ensures
+    ∙ is_free) in
     let many = one_noted c.new-taken.result.items c.push.new.self.items _ c.new-taken.ensures c.push.ensures.items in
     ap (λ (r : Rows). r n) (c.go_on.ensures.rows
     ∙ ap (λ j. raised_on (rows_of c.raise.new.self) (taken_after m (rows_of c.raise.new.self) k w j) w) many
@@ -41,7 +42,8 @@ returns-clause-taken c =
     let m = c.args.durable.now.index in let rows = rows_of c.args.self.now in let w = c.args.waiter.now in let k = c.slot_of-slot.result in
     let is_free : c.is_free_for.result ≡ true = grind (arith, c.if-not-is_free_for.false) in
     let at : slot_of m w.point ≡ k = ap (slot_of m) (sym c.get.ensures.number) ∙ sym c.slot_of-slot.ensures.slot in
-    let free = first_of_two (nobody_waits (rows k).queue) (can_have rows k w) (sym c.is_free_for.ensures ∙ is_free) in
+    let free = first_of_two (nobody_waits (rows k).queue) (is_wanted_compatible rows k w) (sym c.is_free_for.ensures
+    ∙ is_free) in
     let many = one_noted c.new-taken.result.items c.push.new.self.items _ c.new-taken.ensures c.push.ensures.items in
     let point = unwrapped c.new.result c.unwrap.result k c.unwrap.ensures c.new.ensures.point in
     c.go_on.ensures.taken

@@ -1,7 +1,7 @@
 use Rattle.std.proofs.Common.{◌≡◌, ◌≤◌, ◌<◌, true, IsSome, IfSome, sym, ap, subst, ◌∙◌}
 use Rattle.std.specs.FinMap.{get}
 use Rattle.krl_table.specs.Rows.{front_of}
-use Rattle.krl_table.specs.Replies.{can_have}
+use Rattle.krl_table.specs.Replies.{is_wanted_compatible}
 use Rattle.krl_table.specs.Calls.{granted_first}
 use Rattle.krl_table.specs.Kept.{most_rows, rows_of, IsOver, AreListed}
 use Rattle.krl_table.proofs.Means.{set_rows}
@@ -23,7 +23,7 @@ pub invariant_of-self : goal.invariant_of-self
 invariant_of-self c =
     let t = c.self.inside.rows.map in let u = c.grant-first.new.rows.map in let k = c.args.slot in
     let le = row_end t c.self.invariant.0 k (subst (λ x. IsSome (get x k)) (sym c.self.view_is) c.requires.there) in (
-      granted_sound t u k c.self.invariant.0 le c.grant-first.ensures.set (subst (λ x. IfSome (front_of (rows_of x k).queue) (λ w. can_have (rows_of x) k w ≡ true)) (sym c.self.view_is) c.requires.fits),
+      granted_sound t u k c.self.invariant.0 le c.grant-first.ensures.set (subst (λ x. IfSome (front_of (rows_of x k).queue) (λ w. is_wanted_compatible (rows_of x) k w ≡ true)) (sym c.self.view_is) c.requires.is_compatible_there),
       subst (λ l. AreListed l u) (sym c.leave.ensures) (granted_listed t u k c.self.invariant.0 le c.grant-first.ensures.set c.self.inside.waiting.by_client c.grant-first.result c.grant-first.ensures.waiter c.self.invariant.1),
       subst (λ n. most_rows ≤ n) (sym c.grant-first.ensures.room) c.self.invariant.2,
       (let es = c.self.inside.extents.by_client in within_less es es t u k _ c.grant-first.ensures.set (same_wider es) c.self.invariant.3 (free_granted (rows_of t k))),

@@ -1,15 +1,15 @@
 use Rattle.std.proofs.Common.{◌≡◌, ◌&&◌, None, sym, ap, ◌∙◌}
 use Rattle.std.specs.Prelude.{option_copied}
 use Rattle.std.specs.FinMap.{get}
-use Rattle.krl_table.specs.Rows.{row_fits, blank_row}
+use Rattle.krl_table.specs.Rows.{is_compatible_in_row, blank_row}
 use Rattle.krl_table.specs.Calls.{wanted}
 use Rattle.krl_table.specs.Grants.{nobody_waits}
 use Rattle.krl_table.specs.Kept.{row_there}
-use Rattle.krl_table.proofs.Raises.{blank_fits}
+use Rattle.krl_table.proofs.Raises.{blank_is_compatible}
 use Rattle.krl_table.proofs.table.Table.is_free_for.Goals as goal
 
 pub returns-in-None : goal.returns-in-None
 returns-in-None c =
     let w = c.args.waiter.now in
     let none : get c.args.self.now c.args.slot ≡ None = ap (λ m. get m c.args.slot) (sym c.self.view_is) ∙ sym c.get.ensures ∙ ap (λ o. option_copied o) c.in-None.is in
-    sym (ap (λ o. nobody_waits (row_there o).queue && row_fits (row_there o) w.client (wanted (row_there o) w)) none ∙ blank_fits w.client (wanted blank_row w))
+    sym (ap (λ o. nobody_waits (row_there o).queue && is_compatible_in_row (row_there o) w.client (wanted (row_there o) w)) none ∙ blank_is_compatible w.client (wanted blank_row w))

@@ -20,7 +20,7 @@ returns-then-can_take-clause-some c =
     let below : nat_lt (suc at) w.hi ≡ true = grind (arith, nat_tests, c.if-at-waiter.false) in
     of_point c.new.result next (IsTaken m t at w) c.new.ensures.point (record {
       slot = slot;
-      fits = c.can_take.ensures.fits c.if-can_take.true;
+      is_compatible_there = c.can_take.ensures.is_compatible_there c.if-can_take.true;
       on = by_take m (rows_of t) at next w true near below slot (sym c.can_take.ensures.result ∙ c.if-can_take.true);
     })
 

@@ -1,6 +1,6 @@
 use Rattle.std.proofs.Common.{◌≡◌, ◌≤◌, true, sym, ap, subst, ◌∙◌}
 use Rattle.krl_table.specs.Calls.{raised}
-use Rattle.krl_table.specs.Replies.{can_have}
+use Rattle.krl_table.specs.Replies.{is_wanted_compatible}
 use Rattle.krl_table.specs.Kept.{most_rows, rows_of, IsOver}
 use Rattle.krl_table.proofs.Means.{set_rows}
 use Rattle.krl_table.proofs.Rooms.{room_at}
@@ -20,7 +20,7 @@ pub invariant_of-self : goal.invariant_of-self
 invariant_of-self c =
     let m = c.args.durable.now.index in let t = c.self.inside.rows.map in let u = c.raise.new.rows.map in let k = c.args.slot in let w = c.args.waiter.now in
     let le = slot_end m c.requires.over.near k c.requires.slot in (
-      raised_sound t u k w c.self.invariant.0 c.requires.client c.raise.ensures.set le (subst (λ x. can_have (rows_of x) k w ≡ true) (sym c.self.view_is) c.requires.fits),
+      raised_sound t u k w c.self.invariant.0 c.requires.client c.raise.ensures.set le (subst (λ x. is_wanted_compatible (rows_of x) k w ≡ true) (sym c.self.view_is) c.requires.is_compatible_there),
       raised_listed t u k w c.self.invariant.0 c.requires.client c.raise.ensures.set c.self.inside.waiting.by_client c.self.invariant.1,
       subst (λ n. most_rows ≤ n) (sym c.raise.ensures.room) c.self.invariant.2,
       within_one c.self.inside.extents.by_client c.note.new.self.by_client t u k _ c.raise.ensures.set c.note.ensures.wider c.self.invariant.3 w.client c.note.ensures.there (λ d. free_mode (rows_of t k) w.client d _),

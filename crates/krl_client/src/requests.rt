@@ -1,0 +1,213 @@
+//! Commands that send.
+ghost use Rattle.std.specs.Prelude.{◌≡◌, None, Some, [], ◌∷◌, IfOk, IfErr, OnErr, OnOk, ◌<◌};
+ghost use Rattle.krl_modes.specs.declared.point.TheConstants.{END};
+ghost use Rattle.krl_modes.specs.declared.mode.Mode.TheVariants.{N};
+ghost use Rattle.krl_messages.specs.Writes.{op_key};
+ghost use Rattle.krl_client.specs.Commands as commands;
+ghost use Rattle.krl_client.specs.Fields.{meaning, IsDue};
+
+use crate::client::Client;
+use crate::last_write::LastWrite;
+use crate::lock_request::LockRequest;
+use crate::refused::CommandRefused;
+use crate::view::one;
+use krl_cache::Belief;
+use krl_messages::{RequestBody, ToServer, ToServerBody, WriteOp};
+use krl_modes::{END, KeyPart, Mode, RangePart, Span, TOP};
+use std::alloc::AllocError;
+
+impl Client {
+    // Why it refuses to ask for a lock of the points from this one on below `hi`.
+    pub(crate) fn lock_refusal(&self, point: u64, hi: u64) -> Option<CommandRefused>
+        ensures { result ≡ commands.lock_refusal (meaning self.now) point hi }
+    {
+        if point > END {
+            return Some(CommandRefused::BadPoint);
+        }
+        if hi <= point || hi > TOP {
+            return Some(CommandRefused::BadSpan);
+        }
+        if !self.has_joined() {
+            return Some(CommandRefused::NotJoined);
+        }
+        if self.asked.is_waiting() {
+            return Some(CommandRefused::Busy);
+        }
+        if self.req >= END {
+            return Some(CommandRefused::Spent);
+        }
+        None
+    }
+
+    /// Asks for a lock of this mode on the slot of the point, from 0 to END, and on the slots after
+    /// it that begin below `hi`, as far as they are free. The request waits for its answer, and
+    /// each tick says it again.
+    ///
+    /// # Errors
+    ///
+    /// In this order: `BadPoint` where the point is above END; `BadSpan` where `hi` is not above
+    /// the point, or is above TOP; `NotJoined` before the client was told an epoch; `Busy` while a
+    /// request waits; `Spent` where no number is left for it; `OutOfMemory`. The client is as it
+    /// was.
+    pub fn lock(&mut self, point: u64, hi: u64, mode: Mode) -> Result<Vec<ToServer>, CommandRefused>
+        ensures due { IfErr result (λ r. IsDue (commands.lock_refusal (meaning self.old) point hi) r) }
+        ensures unchanged { OnErr result (self.new ≡ self.old) }
+        ensures none_due { OnOk result (commands.lock_refusal (meaning self.old) point hi ≡ None) }
+        ensures client { OnOk result
+            (meaning self.new ≡ commands.locked (meaning self.old) point hi mode) }
+        ensures says { IfOk result
+            (λ list. list.items ≡ commands.says_lock
+            (commands.locked (meaning self.old) point hi mode) point hi mode ∷ []) }
+    {
+        if let Some(refusal) = self.lock_refusal(point, hi) {
+            return Err(refusal);
+        }
+        let req = self.req + 1;
+        let list = one(
+            self.alloc,
+            self.requests(RequestBody::Lock {
+                req,
+                point,
+                hi,
+                mode,
+            }),
+        )?;
+        self.req = req;
+        self.asked = LockRequest::Waiting { point, hi, mode };
+        Ok(list)
+    }
+
+    // Whether it holds what the write needs.
+    fn holds_for(&self, change: WriteOp) -> bool
+        requires { op_key change < END }
+        ensures { result ≡ commands.holds_for (meaning self.now).belief change }
+    {
+        match change {
+            WriteOp::Insert { key, .. } => RangePart::I.at_most(self.cache.range_at(key)),
+            WriteOp::Put { key, .. } => self.cache.key_at(key) == KeyPart::X,
+            WriteOp::Delete { key } => {
+                self.cache.key_at(key) == KeyPart::X
+                    && self.cache.range_at(key) == RangePart::X
+                    && self.cache.range_at(key + 1) == RangePart::X
+            }
+        }
+    }
+
+    // Why it refuses to write.
+    pub(crate) fn write_refusal(&self, change: WriteOp) -> Option<CommandRefused>
+        ensures { result ≡ commands.write_refusal (meaning self.now) change }
+    {
+        let asked = change;
+        if asked.key() >= END {
+            return Some(CommandRefused::BadPoint);
+        }
+        if !self.has_joined() {
+            return Some(CommandRefused::NotJoined);
+        }
+        if self.written.outstanding().is_some() {
+            return Some(CommandRefused::Writing);
+        }
+        if !self.holds_for(change) {
+            return Some(CommandRefused::NotHeld);
+        }
+        if self.writes >= END {
+            return Some(CommandRefused::Spent);
+        }
+        None
+    }
+
+    /// Asks for a change of the index. The write is outstanding until it is answered, across epochs
+    /// too, and each tick says it again. It needs what lets its holder make the change alone: for
+    /// an insert a range part of I or X at the key; for a put the key part X there; for a delete
+    /// the key part X, and the range part X both at the key and one past it. This rule is the
+    /// project's own.
+    ///
+    /// # Errors
+    ///
+    /// In this order: `BadPoint` where the key is END or more; `NotJoined` before the client was
+    /// told an epoch; `Writing` while a write is outstanding; `NotHeld` where the client does not
+    /// hold what the write needs; `Spent` where no number is left for it; `OutOfMemory`. The client
+    /// is as it was.
+    pub fn write(&mut self, change: WriteOp) -> Result<Vec<ToServer>, CommandRefused>
+        ensures due { IfErr result
+            (λ r. IsDue (commands.write_refusal (meaning self.old) change) r) }
+        ensures unchanged { OnErr result (self.new ≡ self.old) }
+        ensures none_due { OnOk result (commands.write_refusal (meaning self.old) change ≡ None) }
+        ensures client { OnOk result (meaning self.new ≡ commands.wrote (meaning self.old) change) }
+        ensures says { IfOk result
+            (λ list. list.items ≡ commands.says_write
+            (commands.wrote (meaning self.old) change) change ∷ []) }
+    {
+        let asked = change;
+        if let Some(refusal) = self.write_refusal(asked) {
+            return Err(refusal);
+        }
+        let number = self.writes + 1;
+        let op = change;
+        let list = one(self.alloc, self.requests(RequestBody::Write { number, op }))?;
+        self.writes = number;
+        self.written = LastWrite::Outstanding(change);
+        Ok(list)
+    }
+
+    // Why it refuses to forget the span.
+    pub(crate) fn forget_refusal(&self, span: Span) -> Option<CommandRefused>
+        ensures { result ≡ commands.forget_refusal (meaning self.now) span }
+    {
+        if !self.has_joined() {
+            return Some(CommandRefused::NotJoined);
+        }
+        if self.is_writing_in(span) {
+            return Some(CommandRefused::Writing);
+        }
+        if self.meets_pin(span) {
+            return Some(CommandRefused::Pinned);
+        }
+        None
+    }
+
+    /// Gives back what it holds of the points from `lo` on below `hi`.
+    ///
+    /// # Errors
+    ///
+    /// In this order: `BadSpan` where `lo` is not below `hi`, or `hi` is above TOP; `NotJoined`
+    /// before the client was told an epoch; `Writing` where the outstanding write's key is one of
+    /// the points; `Pinned` where a pin has one of them; `OutOfMemory`. The client is as it was.
+    pub fn forget(&mut self, lo: u64, hi: u64) -> Result<Vec<ToServer>, CommandRefused>
+        ensures due { IfErr result
+            (λ r. IsDue (commands.forget_refusal (meaning self.old)
+            (record { lo = lo; hi = hi })) r) }
+        ensures unchanged { OnErr result (self.new ≡ self.old) }
+        ensures none_due { OnOk result
+            (commands.forget_refusal (meaning self.old) (record { lo = lo; hi = hi }) ≡ None) }
+        ensures client { OnOk result
+            (meaning self.new ≡ commands.forgot (meaning self.old) (record { lo = lo; hi = hi })) }
+        ensures says { IfOk result
+            (λ list. list.items ≡ commands.says_release (meaning self.old)
+            (record { lo = lo; hi = hi }) N ∷ []) }
+    {
+        let Ok(span) = Span::new(lo, hi) else {
+            return Err(CommandRefused::BadSpan);
+        };
+        if let Some(refusal) = self.forget_refusal(span) {
+            return Err(refusal);
+        }
+        let list = self.lower(span, Mode::N)?;
+        Ok(list)
+    }
+
+    /// Leaves: says Bye, which gives back all that it holds, and is gone.
+    ///
+    /// # Errors
+    ///
+    /// The client, unchanged, where memory is refused.
+    pub fn leave(self) -> Result<Vec<ToServer>, Client>
+        ensures unchanged { IfErr result (λ client. client ≡ self) }
+        ensures says { IfOk result (λ list. list.items ≡ commands.says_bye (meaning self) ∷ []) }
+    {
+        match one(self.alloc, self.says(ToServerBody::Bye)) {
+            Ok(list) => Ok(list),
+            Err(_) => Err(self),
+        }
+    }
+}

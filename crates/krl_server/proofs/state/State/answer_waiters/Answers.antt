@@ -1,0 +1,48 @@
+use Rattle.std.proofs.Common.{◌++◌, ◌∷◌, [], sym, subst, arith}
+use Rattle.std.proofs.Math.ListN.{drop_of_length-le}
+use Rattle.std.proofs.lemmas.List.{drop_more}
+use Rattle.krl_server.specs.States.{meaning}
+use Rattle.krl_server.specs.Doing.{HaveWaiters}
+use Rattle.krl_server.proofs.Boxes.{sends_more, sends_length}
+use Rattle.krl_server.proofs.Rounds.{HasBegun, one_more, all_told}
+use Rattle.krl_server.proofs.Listed.{round_here, left_after_turn, none_left_at_all, still_listed}
+use Rattle.krl_server.proofs.state.State.answer_waiters.Goals as goal
+
+pub send-requires : goal.send-requires
+send-requires c =
+    let i = c.loop-i.invariant in
+    let r = round_here (meaning c.loop-i.self) c.args.slots.now c.loop-i.i _ (drop_more c.args.slots.now c.loop-i.i 0 c.loop-i-test.true) i.left (meaning c.answer_first.new.self) c.in-Some.message i.sound i.table c.in-Some.ensures.turned in
+    let less = r.less in let room = i.room in omega (arith, less, room)
+
+pub loop-i-smaller-in-Some : goal.loop-i-smaller-in-Some
+loop-i-smaller-in-Some c =
+    let i = c.loop-i.invariant in
+    let r = round_here (meaning c.loop-i.self) c.args.slots.now c.loop-i.i _ (drop_more c.args.slots.now c.loop-i.i 0 c.loop-i-test.true) i.left (meaning c.answer_first.new.self) c.in-Some.message i.sound i.table c.in-Some.ensures.turned in
+    let less = r.less in omega (arith, less)
+
+pub loop-i-preserved-in-Some : goal.loop-i-preserved-in-Some
+loop-i-preserved-in-Some c =
+    let i = c.loop-i.invariant in
+    let m = c.in-Some.message in
+    let b = i.begun in
+    let ns = c.args.slots.now in
+    let is = drop_more ns c.loop-i.i 0 c.loop-i-test.true in
+    let r = round_here (meaning c.loop-i.self) ns c.loop-i.i _ is i.left (meaning c.answer_first.new.self) m i.sound i.table c.in-Some.ensures.turned in
+    record {
+      formed = c.in-Some.ensures.formed;
+      sound = r.sound;
+      table = r.table;
+      all = subst (λ x. HaveWaiters x 0 ns) (sym r.is) (still_listed (meaning c.loop-i.self) r.turn r.next 0 ns i.all);
+      left = left_after_turn (meaning c.loop-i.self) ns c.loop-i.i _ is i.left (meaning c.answer_first.new.self) r.turn r.next r.is r.none;
+      begun = (b.0 ++ m ∷ [], subst (λ x. HasBegun (meaning c.args.self.now) x (b.0 ++ m ∷ [])) (sym r.is) (one_more (meaning c.args.self.now) (meaning c.loop-i.self) r.turn b.0 (m ∷ []) b.1 r.next r.outs), sends_more c.args.outbox.now c.loop-i.outbox c.send.new.self b.0 (m ∷ []) b.2 c.send.ensures);
+      room = let less = r.less in let room = i.room in let more = c.send.ensures.room in let long = sends_length c.loop-i.outbox c.send.new.self (m ∷ []) c.send.ensures in omega (arith, less, room, more, long);
+    }
+
+pub returns-clause-answered : goal.returns-clause-answered
+returns-clause-answered c =
+    let i = c.loop-i.invariant in
+    record {
+      outs = i.begun.0;
+      answered = all_told (meaning c.args.self.now) (meaning c.loop-i.self) i.begun.0 i.begun.1 (none_left_at_all (meaning c.loop-i.self) c.args.slots.now c.loop-i.i (drop_of_length-le c.args.slots.now (omega (arith, c.loop-i-test.false))) i.left);
+      sends = i.begun.2;
+    }

@@ -1,0 +1,26 @@
+use Rattle.std.proofs.Common.{◌≤◌, ◌+◌, ◌-◌, List, length}
+use Rattle.krl_messages.specs.declared.to_client.ToClient.{ToClient}
+use Rattle.krl_table.specs.Kept.{rows_of}
+use Rattle.krl_table.specs.Sound.{IsTable}
+use Rattle.krl_server.specs.Ends.{waiting}
+use Rattle.krl_server.specs.Shows.{IsSound}
+use Rattle.krl_server.specs.States.{meaning, IsFormed}
+use Rattle.krl_server.specs.Outboxes.{Sends}
+use Rattle.krl_server.specs.Doing.{HaveWaiters}
+use Rattle.krl_server.proofs.Rounds.{HasBegun}
+use Rattle.krl_server.proofs.Listed.{AreLeft}
+use Rattle.krl_server.proofs.state.State.answer_waiters.Given as goal
+
+abbrev pub invariant-loop-i : goal.invariant-loop-i
+invariant-loop-i l = record {
+  formed : IsFormed l.self;
+  sound : IsSound (meaning l.self);
+  table : IsTable l.self.durable.index (rows_of l.self.table);
+  all : HaveWaiters (meaning l.self) 0 l.slots;
+  left : AreLeft (meaning l.self) l.slots l.i;
+  begun : (outs : List ToClient) × HasBegun (meaning l.fn.self) (meaning l.self) outs × Sends l.fn.outbox l.outbox outs;
+  room : length l.outbox.sent + waiting (meaning l.self) ≤ l.outbox.room;
+}
+
+abbrev pub decreases-loop-i : goal.decreases-loop-i
+decreases-loop-i l = waiting (meaning l.self) + (length l.slots - l.i)

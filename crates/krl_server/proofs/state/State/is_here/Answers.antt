@@ -1,7 +1,0 @@
-use Rattle.std.proofs.Common.{sym, ap, ◌∙◌}
-use Rattle.krl_server.specs.Doing.{is_here}
-use Rattle.krl_server.proofs.Nudged.{known_low}
-use Rattle.krl_server.proofs.state.State.is_here.Goals as goal
-
-pub returns-in-Some-clause-client : goal.returns-in-Some-clause-client
-returns-in-Some-clause-client c = λ yes. known_low c.args.self.now.durable.register c.args.client c.epoch-kept.ensures.kept.clients (ap is_here (sym c.record.ensures ∙ c.in-Some.is) ∙ yes)

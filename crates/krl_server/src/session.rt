@@ -1,0 +1,49 @@
+//! A client's session: the numbers between the server and it.
+ghost use Rattle.std.specs.Prelude.{◌≡◌, ℕ, length};
+ghost use Rattle.krl_server.specs.Servers.{blank_session};
+ghost use Rattle.krl_server.specs.States.{sessions_of};
+ghost use Rattle.krl_server.specs.Answering.{can_push};
+
+use krl_messages::PushBody;
+use krl_modes::END;
+
+/// What was pushed to one client, and asked by it, in this epoch.
+#[derive(Clone, Copy)]
+pub struct Session {
+    /// The number of the last push, or 0.
+    pub last_push: u64,
+    /// That push, until it is acknowledged.
+    pub unacked: Option<PushBody>,
+    /// The number of the last request that was taken, or 0. A stranger who asks under a client's
+    /// name may drive it past END.
+    pub last_request: u64,
+}
+
+impl Session {
+    /// Nothing was pushed or asked.
+    pub(crate) fn blank() -> Session
+        ensures { result ≡ blank_session }
+    {
+        Session {
+            last_push: 0,
+            unacked: None,
+            last_request: 0,
+        }
+    }
+
+    /// Whether another push may be made: the last one is acknowledged, and there is a number for
+    /// the next.
+    pub(crate) fn can_push(self) -> bool
+        ensures { result ≡ can_push self }
+    {
+        self.unacked.is_none() && self.last_push < END
+    }
+}
+
+/// A blank session for each client.
+pub(crate) fn blank_sessions() -> [Session; 64]
+    ensures full { length result ≡ 64 }
+    ensures blank { (c : ℕ) → sessions_of result c ≡ blank_session }
+{
+    [Session::blank(); 64]
+}

@@ -1,0 +1,375 @@
+//! A step: a message is judged, done, and whoever can be answered is.
+ghost use Rattle.std.specs.Prelude.{◌≡◌, ◌≤◌, true, ◌<◌, ◌+◌, [], length, Some, IfOk, OnOk, OnErr};
+ghost use Rattle.std.specs.Prelude.{IsSome, IfSome};
+ghost use Rattle.std.specs.FinMap as map;
+ghost use Rattle.krl_server.specs.States.{meaning, meant, case_of_pieces, after_of, IsFormed};
+ghost use Rattle.krl_table.specs.Sound.{IsTable};
+ghost use Rattle.krl_server.specs.Shows.{IsSound};
+ghost use Rattle.krl_server.specs.Cases.{case_of};
+ghost use Rattle.krl_server.specs.Effects.{effect};
+ghost use Rattle.krl_server.specs.Changes.{change_of};
+ghost use Rattle.krl_server.specs.Callbacks.{callbacks_of_among};
+ghost use Rattle.krl_server.specs.Steps.{nudge, nudge_missing, nudge_served};
+ghost use Rattle.krl_durable.specs.Registers.{record_of};
+ghost use Rattle.krl_durable.specs.Index.{slots, slot_of};
+ghost use Rattle.krl_modes.specs.declared.point.TheConstants.{END};
+ghost use Rattle.krl_server.specs.Doing.{is_registered, calls_of_first, calls_at_first};
+ghost use Rattle.krl_server.specs.Doing.{waiting_clients};
+ghost use Rattle.krl_server.specs.Doing.{room_for, own_of, IsPerformed, HasPerformed, HasRoom};
+ghost use Rattle.krl_server.specs.Doing.{HasFinished, HasStepped, IsServer, IsFirst};
+
+use crate::case::{After, Case, Performed};
+use crate::out::{Outbox, ServerOut};
+use crate::session::Session;
+use crate::state::State;
+use krl_durable::Change;
+use krl_messages::{Items, ToClient, ToServer, ToServerBody};
+use krl_modes::Point;
+use krl_queue::{WaitNode, Waiter};
+use krl_table::FirstWaiter;
+use std::alloc::{AllocError, Global};
+
+impl State {
+    /// How many clients wait.
+    pub(crate) fn count_waiting(&self) -> usize
+        requires { IsFormed self.now }
+        ensures count { result ≡ waiting_clients (meaning self.now) }
+        ensures few { result ≤ 64 }
+    {
+        if self.table.nobody_waits() {
+            return 0;
+        }
+        let mut count = 0;
+        for client in 0..64u64 {
+            if self.waits(client) {
+                count += 1;
+            }
+        }
+        count
+    }
+
+    /// How many messages a step can send: its own, an answer to each who waits, and a callback to
+    /// each other client for each who still waits.
+    fn room(&self, case: &Case) -> usize
+        requires { IsFormed self.now }
+        ensures { result ≡ room_for (waiting_clients (meaning self.now)) case.now }
+    {
+        match *case {
+            Case::Ignored => 0,
+            Case::Tells | Case::Repeats(_) => 1,
+            Case::Lowers { .. } => self.count_waiting(),
+            Case::Leaves | Case::Reports | Case::Acknowledges => 64 * self.count_waiting(),
+            Case::Registers | Case::Writes { .. } | Case::AnswersAgain { .. } => 1
+                + 64 * self.count_waiting(),
+            Case::Waits { .. } => 64 * (self.count_waiting() + 1),
+        }
+    }
+
+    /// Takes the report that a missing client makes, or says Alarm.
+    fn take_report(&mut self, message: &ToServer) -> After
+        requires formed { IsFormed self.old }
+        requires case { case_of_pieces (meaning self.old) message.now.client message.now.body
+            ≡ case_of (meaning self.old) message.now }
+        ensures performed { IsPerformed (meaning self.old) message.now
+            (meaning self.new) result [] }
+        ensures formed { IsFormed self.new }
+    {
+        match &message.body {
+            ToServerBody::Report { epoch: _, pieces } => {
+                if self.report(message.client, pieces) {
+                    After::Alarm
+                } else {
+                    After::Calls
+                }
+            }
+            ToServerBody::Hello | ToServerBody::Bye | ToServerBody::Request(_) => After::Nothing,
+        }
+    }
+
+    /// Does what the case says.
+    ///
+    /// # Errors
+    ///
+    /// `AllocError` where memory is refused. Nothing has changed then.
+    fn perform(
+        &mut self,
+        alloc: Global,
+        message: &ToServer,
+        case: &Case,
+        outbox: &mut Outbox,
+    ) -> Result<Performed, AllocError>
+        requires server { IsServer self.old }
+        requires case { meant (meaning self.old) message.now.client message.now.body case.now
+            ≡ case_of (meaning self.old) message.now }
+        requires room { length outbox.old.sent + own_of case.now ≤ outbox.old.room }
+        ensures performed { IfOk result (λ done. HasPerformed
+            (meaning self.old) message.now (meaning self.new) done.after outbox.old outbox.new) }
+        ensures change { IfOk result
+            (λ done. done.change ≡ change_of message.now (case_of (meaning self.old) message.now)) }
+        ensures formed { OnOk result (IsFormed self.new) }
+        ensures refused { OnErr result (self.new ≡ self.old) }
+    {
+        let client = message.client;
+        match *case {
+            Case::Ignored => Ok(After::Nothing.unchanging()),
+            Case::Registers => {
+                let incarnation = message.incarnation;
+                self.register(client, incarnation)?;
+                outbox.send(self.epoch_to(client));
+                let registered = Change::Registered {
+                    client,
+                    incarnation,
+                };
+                Ok(After::Calls.changing(registered))
+            }
+            Case::Leaves => {
+                self.depart(client);
+                Ok(After::Calls.changing(Change::Left { client }))
+            }
+            Case::Tells => {
+                outbox.send(self.epoch_to(client));
+                Ok(After::Nothing.unchanging())
+            }
+            Case::Reports => Ok(self.take_report(message).unchanging()),
+            Case::Repeats(body) => {
+                let number = self.session(client).last_push;
+                outbox.send(self.push_to(client, number, &body));
+                Ok(After::Nothing.unchanging())
+            }
+            Case::Acknowledges => {
+                self.acknowledge(client);
+                Ok(After::Calls.unchanging())
+            }
+            Case::Lowers { span, keep } => {
+                self.lower(client, span, keep);
+                Ok(After::Answers.unchanging())
+            }
+            Case::Waits {
+                req,
+                point,
+                hi,
+                mode,
+            } => {
+                let node = WaitNode::try_new(
+                    alloc,
+                    Waiter {
+                        client,
+                        req,
+                        point,
+                        hi,
+                        mode,
+                    },
+                )?;
+                self.enqueue(node);
+                Ok(After::Calls.unchanging())
+            }
+            Case::Writes { number, op } => {
+                let (written, answered) = (*&op, *&op);
+                let outcome = self.write(client, written);
+                self.acknowledge(client);
+                outbox.send_some(self.answer_write(client, number, answered, outcome));
+                let judged = Change::Judged {
+                    client,
+                    number,
+                    op,
+                    outcome,
+                };
+                Ok(After::Calls.changing(judged))
+            }
+            Case::AnswersAgain {
+                number,
+                op,
+                outcome,
+            } => {
+                self.acknowledge(client);
+                outbox.send_some(self.answer_write(client, number, op, outcome));
+                Ok(After::Calls.unchanging())
+            }
+        }
+    }
+
+    /// One step.
+    ///
+    /// # Errors
+    ///
+    /// `AllocError` where memory is refused. Nothing has changed then, and nothing is sent.
+    pub(crate) fn step(
+        &mut self,
+        alloc: Global,
+        message: &ToServer,
+    ) -> Result<ServerOut, AllocError>
+        requires { IsServer self.old }
+        ensures stepped { IfOk result
+            (λ out. HasStepped (meaning self.old) message.now (meaning self.new) out) }
+        ensures formed { OnOk result (IsFormed self.new) }
+        ensures refused { OnErr result (self.new ≡ self.old) }
+    {
+        let case = self.case_of(message);
+        match self.step_at_once(alloc, message, &case)? {
+            Some(out) => Ok(out),
+            None => self.step_by_turns(alloc, message, &case),
+        }
+    }
+
+    /// One step of this case: it is done, and then whoever can be answered is.
+    ///
+    /// # Errors
+    ///
+    /// `AllocError` where memory is refused. Nothing has changed then, and nothing is sent.
+    fn step_by_turns(
+        &mut self,
+        alloc: Global,
+        message: &ToServer,
+        case: &Case,
+    ) -> Result<ServerOut, AllocError>
+        requires server { IsServer self.old }
+        requires case { meant (meaning self.old) message.now.client message.now.body case.now
+            ≡ case_of (meaning self.old) message.now }
+        ensures stepped { IfOk result
+            (λ out. HasStepped (meaning self.old) message.now (meaning self.new) out) }
+        ensures formed { OnOk result (IsFormed self.new) }
+        ensures refused { OnErr result (self.new ≡ self.old) }
+    {
+        let mut outbox = Outbox::new(alloc, self.room(case))?;
+        let done = self.perform(alloc, message, case, &mut outbox)?;
+        self.finish(done.after, &mut outbox);
+        Ok(ServerOut {
+            messages: outbox.into_items(),
+            alarm: done.after.alarm(message.client),
+            change: done.change,
+        })
+    }
+
+    /// Does what is left to be done, while the server serves: it answers all who can be answered,
+    /// and calls back those who block others.
+    fn finish(&mut self, after: After, outbox: &mut Outbox)
+        requires formed { IsFormed self.old }
+        requires sound { IsSound (meaning self.old) }
+        requires table { IsTable self.old.durable.index (meaning self.old).rows }
+        requires room { HasRoom (meaning self.old) after outbox.old }
+        ensures finished { HasFinished (meaning self.old) after
+            (meaning self.new) outbox.old outbox.new }
+        ensures formed { IsFormed self.new }
+    {
+        if !after.answers() {
+            return;
+        }
+        if self.missing.is_recovering() {
+            return;
+        }
+        let slots = self.table.waiting_slots(&self.durable);
+        self.answer_waiters(slots.as_slice(), outbox);
+        if !after.calls_back() {
+            return;
+        }
+        self.call_back(slots.as_slice(), outbox);
+    }
+
+    /// What a nudge of the client sends.
+    ///
+    /// # Errors
+    ///
+    /// `AllocError` where the list's memory is refused.
+    pub(crate) fn nudge(&self, alloc: Global, client: u64) -> Result<Items<ToClient>, AllocError>
+        requires { IsServer self.now }
+        ensures { IfOk result (λ outs. outs ≡ nudge (meaning self.now) client) }
+    {
+        if !self.is_registered(client) {
+            return Ok(Outbox::empty(alloc).into_items());
+        }
+        if self.missing.is_recovering() {
+            self.nudge_missing(alloc, client)
+        } else {
+            self.nudge_served(alloc, client)
+        }
+    }
+
+    /// Whether the client is registered and has not left.
+    fn is_registered(&self, client: u64) -> bool
+        ensures here { result ≡ is_registered (record_of self.now.durable.register client) }
+        ensures client { result ≡ true → client < 64 }
+    {
+        let _kept = self.durable.epoch();
+        match self.durable.record(client) {
+            Some(known) => !known.left,
+            None => false,
+        }
+    }
+
+    /// While the server recovers, a missing client is told the epoch.
+    fn nudge_missing(&self, alloc: Global, client: u64) -> Result<Items<ToClient>, AllocError>
+        ensures { IfOk result (λ outs. outs ≡ nudge_missing (meaning self.now) client) }
+    {
+        if !self.missing.lists(client) {
+            return Ok(Outbox::empty(alloc).into_items());
+        }
+        let mut outbox = Outbox::new(alloc, 1)?;
+        outbox.send(self.epoch_to(client));
+        Ok(outbox.into_items())
+    }
+
+    /// While it serves, the client's push that is not acknowledged is sent again, or else those are
+    /// called back who block it where it waits first.
+    fn nudge_served(&self, alloc: Global, client: u64) -> Result<Items<ToClient>, AllocError>
+        requires server { IsServer self.now }
+        requires client { client < 64 }
+        ensures { IfOk result (λ outs. outs ≡ nudge_served
+            (meaning self.now) client ((meaning self.now).sessions client).unacked) }
+    {
+        let Session {
+            last_push,
+            unacked,
+            last_request: _,
+        } = self.session(client);
+        if let Some(body) = unacked {
+            let mut outbox = Outbox::new(alloc, 1)?;
+            outbox.send(self.push_to(client, last_push, &body));
+            return Ok(outbox.into_items());
+        }
+        match self.first_waiter_of(client) {
+            Some((slot, first)) => {
+                let mut outbox = Outbox::new(alloc, 63)?;
+                self.call_back_for(slot, &first, &mut outbox);
+                Ok(outbox.into_items())
+            }
+            None => Ok(Outbox::empty(alloc).into_items()),
+        }
+    }
+
+    /// The slot at which the client waits first, and what it finds there.
+    fn first_waiter_of(&self, client: u64) -> Option<(u64, FirstWaiter)>
+        requires server { IsServer self.now }
+        requires client { client < 64 }
+        ensures first { IfSome result (λ w. IsFirst (meaning self.now) w.0 w.1) }
+        ensures client { IfSome result (λ w. w.1.waiter.client ≡ client) }
+        ensures calls { calls_of_first (meaning self.now) result
+            ≡ callbacks_of_among client (meaning self.now) (slots self.now.durable.index) }
+    {
+        match self.table.waiter_of(client) {
+            Some(waiter) => self.first_at(waiter.point, client),
+            None => None,
+        }
+    }
+
+    /// The slot of the point, and its first waiter, if that is the client's.
+    fn first_at(&self, point: Point, client: u64) -> Option<(u64, FirstWaiter)>
+        requires formed { IsFormed self.now }
+        requires point { point ≤ END }
+        ensures first { IfSome result (λ w. IsFirst (meaning self.now) w.0 w.1) }
+        ensures client { IfSome result (λ w. w.1.waiter.client ≡ client) }
+        ensures calls { calls_of_first (meaning self.now) result
+            ≡ calls_at_first (meaning self.now) (slot_of self.now.durable.index point) client }
+    {
+        let slot = self.durable.slot_of(point.get());
+        match self.table.first(&self.durable, slot) {
+            Some(first) => {
+                if first.waiter.client == client {
+                    Some((slot, first))
+                } else {
+                    None
+                }
+            }
+            None => None,
+        }
+    }
+}

@@ -1,0 +1,14 @@
+use Rattle.std.proofs.Common.{◌≡◌, ◌-◌, ◌≤◌}
+use Rattle.krl_table.specs.Kept.{lowered_between}
+use Rattle.krl_table.proofs.Walk.{IsWalked}
+use Rattle.krl_table.proofs.all_rows.lower.Given as goal
+
+abbrev pub invariant-loop-slot : goal.invariant-loop-slot
+invariant-loop-slot l = record {
+  walked : IsWalked (lowered_between l.from l.hi l.client l.keep) l.fn.rows.map l.rows.map l.at;
+  from : l.from ≤ l.at;
+  room : l.rows.room ≡ l.fn.rows.room;
+}
+
+abbrev pub decreases-loop-slot : goal.decreases-loop-slot
+decreases-loop-slot l = l.hi - l.at

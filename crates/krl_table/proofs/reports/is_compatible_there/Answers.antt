@@ -1,0 +1,8 @@
+use Rattle.std.proofs.Common.{sym, ap, ◌∙◌}
+use Rattle.krl_table.specs.Rows.{is_compatible_in_row}
+use Rattle.krl_table.specs.Kept.{row_there}
+use Rattle.krl_table.proofs.Raises.{blank_is_compatible}
+use Rattle.krl_table.proofs.reports.is_compatible_there.Goals as goal
+
+pub returns-in-None : goal.returns-in-None
+returns-in-None c = sym (ap (λ o. is_compatible_in_row (row_there o) c.args.client c.args.mode) (sym c.get.ensures ∙ ap (λ o. Rattle.std.specs.Prelude.option_copied o) c.in-None.is) ∙ blank_is_compatible c.args.client c.args.mode)

@@ -1,0 +1,6 @@
+use Rattle.krl_server.proofs.Whole.{all_follow}
+use Rattle.krl_world.proofs.Closing.{recoveries_end}
+use Rattle.krl_world.proofs.laws.recoveries_end.Goals as goal
+
+pub returns : goal.returns
+returns c = recoveries_end all_follow

@@ -1,7 +1,0 @@
-use Rattle.std.proofs.Common.{arith}
-use Rattle.krl_server.specs.Ends.{most_messages}
-use Rattle.krl_world.proofs.serving.nudge.Goals as goal
-
-pub send_to_clients-requires : goal.send_to_clients-requires
-unfolding most_messages
-send_to_clients-requires c = let few = c.in_ok-messages.ensures.few in omega (arith, c.in_ok-reserve.ensures.ok)

@@ -1,0 +1,191 @@
+//! What a client does, with all that was sent.
+ghost use Rattle.std.specs.Prelude.{◌≡◌, List, Some, OnOk, OnErr, IfErr};
+ghost use Rattle.krl_client.specs.Fields.{meaning};
+ghost use Rattle.krl_world.specs.declared.message.Message.{Message};
+ghost use Rattle.krl_steps.specs.declared.step.Command.TheVariants as command;
+ghost use Rattle.krl_world.specs.Fields.{seat_of, client_there};
+ghost use Rattle.krl_world.specs.Moves.{IsRefused, Commanded, CommandedAt, Started, Ticked};
+ghost use Rattle.krl_world.specs.Moves.{HasRead, starting_refusal};
+
+use crate::message::Message;
+use crate::network::{MOST_OF_A_CLIENT, send_to_server};
+use crate::node::Seat;
+use krl_client::{Client, ScanAnswer};
+use krl_messages::{ToClient, WriteOp};
+use krl_modes::Mode;
+use krl_steps::{Answer, Command, Refused};
+use std::alloc::{AllocError, Global};
+
+/// The client asks for a lock.
+fn lock(
+    client: &mut Client,
+    sent: &mut Vec<Message>,
+    point: u64,
+    hi: u64,
+    mode: Mode,
+) -> Result<Answer, Refused>
+    ensures { Commanded (meaning client.old) (command.Lock point hi mode) (Some (meaning client.new))
+        sent.old.items sent.new.items result }
+{
+    if let Some(refusal) = client.refuses_lock(point, hi) {
+        return Err(Refused::from(refusal));
+    }
+    sent.reserve(MOST_OF_A_CLIENT)?;
+    let messages = client.lock(point, hi, mode)?;
+    send_to_server(sent, messages);
+    Ok(Answer::Done)
+}
+
+/// The client writes.
+fn write(client: &mut Client, sent: &mut Vec<Message>, op: WriteOp) -> Result<Answer, Refused>
+    ensures { Commanded (meaning client.old) (command.Write op) (Some (meaning client.new))
+        sent.old.items sent.new.items result }
+{
+    let asked = op;
+    if let Some(refusal) = client.refuses_write(asked) {
+        return Err(Refused::from(refusal));
+    }
+    sent.reserve(MOST_OF_A_CLIENT)?;
+    let messages = client.write(op)?;
+    send_to_server(sent, messages);
+    Ok(Answer::Done)
+}
+
+/// The client forgets a span.
+fn forget(client: &mut Client, sent: &mut Vec<Message>, lo: u64, hi: u64) -> Result<Answer, Refused>
+    ensures { Commanded (meaning client.old) (command.Forget lo hi) (Some (meaning client.new))
+        sent.old.items sent.new.items result }
+{
+    if let Some(refusal) = client.refuses_forget(lo, hi) {
+        return Err(Refused::from(refusal));
+    }
+    sent.reserve(MOST_OF_A_CLIENT)?;
+    let messages = client.forget(lo, hi)?;
+    send_to_server(sent, messages);
+    Ok(Answer::Done)
+}
+
+/// The client answers a scan from its cache.
+fn scan(client: &Client, lo: u64, hi: u64) -> Result<Answer, Refused>
+    ensures { (old : List Message) → Commanded (meaning client.now) (command.Scan lo hi)
+        (Some (meaning client.now)) old old result }
+{
+    match client.scan(lo, hi)? {
+        ScanAnswer::Rows(rows) => Ok(Answer::Rows(rows)),
+        ScanAnswer::Miss(point) => Ok(Answer::Miss(point)),
+        ScanAnswer::Pending(key) => Ok(Answer::Pending(key)),
+    }
+}
+
+/// The client pins a span.
+fn pin(client: &mut Client, lo: u64, hi: u64) -> Result<Answer, Refused>
+    ensures { (old : List Message) → Commanded (meaning client.old) (command.Pin lo hi)
+        (Some (meaning client.new)) old old result }
+{
+    let id = client.pin(lo, hi)?;
+    Ok(Answer::Pinned(id))
+}
+
+/// The client frees a pin.
+fn unpin(client: &mut Client, id: u64) -> Result<Answer, Refused>
+    ensures { (old : List Message) → Commanded (meaning client.old) (command.Unpin id)
+        (Some (meaning client.new)) old old result }
+{
+    client.unpin(id)?;
+    Ok(Answer::Done)
+}
+
+/// The client leaves.
+fn leave(seat: &mut Seat, sent: &mut Vec<Message>) -> Result<Answer, Refused>
+    ensures commanded { CommandedAt (client_there seat.old.client) command.Leave
+        (client_there seat.new.client) sent.old.items sent.new.items result }
+    ensures greatest { seat.new.greatest ≡ seat.old.greatest }
+{
+    let Some(client) = seat.client.take() else {
+        return Err(Refused::Down);
+    };
+    if sent.reserve(MOST_OF_A_CLIENT).is_err() {
+        seat.client = Some(client);
+        return Err(Refused::OutOfMemory);
+    }
+    match client.leave() {
+        Ok(messages) => {
+            send_to_server(sent, messages);
+            Ok(Answer::Done)
+        }
+        Err(client) => {
+            seat.client = Some(client);
+            Err(Refused::OutOfMemory)
+        }
+    }
+}
+
+/// The client at the seat, where one runs, obeys the command.
+pub fn obey(seat: &mut Seat, sent: &mut Vec<Message>, what: Command) -> Result<Answer, Refused>
+    ensures commanded { CommandedAt (client_there seat.old.client) what
+        (client_there seat.new.client) sent.old.items sent.new.items result }
+    ensures greatest { seat.new.greatest ≡ seat.old.greatest }
+{
+    let Some(client) = &mut seat.client else {
+        return Err(Refused::Down);
+    };
+    match what {
+        Command::Lock { point, hi, mode } => lock(client, sent, point, hi, mode),
+        Command::Write(op) => write(client, sent, op),
+        Command::Scan { lo, hi } => scan(client, lo, hi),
+        Command::Forget { lo, hi } => forget(client, sent, lo, hi),
+        Command::Pin { lo, hi } => pin(client, lo, hi),
+        Command::Unpin(id) => unpin(client, id),
+        Command::Leave => leave(seat, sent),
+    }
+}
+
+/// The client says again what is not answered.
+pub fn tick(client: &Client, sent: &mut Vec<Message>) -> Result<(), AllocError>
+    ensures ok { OnOk result (Ticked (meaning client.now) sent.old.items sent.new.items) }
+    ensures err { OnErr result (sent.new.items ≡ sent.old.items) }
+{
+    sent.reserve(MOST_OF_A_CLIENT)?;
+    let messages = client.tick()?;
+    send_to_server(sent, messages);
+    Ok(())
+}
+
+/// The client reads the message.
+pub fn read(
+    client: &mut Client,
+    sent: &mut Vec<Message>,
+    message: &ToClient,
+) -> Result<(), AllocError>
+    ensures ok { OnOk result (HasRead (meaning client.old) message.now (meaning client.new)
+        sent.old.items sent.new.items) }
+    ensures err { OnErr result ((client.new ≡ client.old) × (sent.new.items ≡ sent.old.items)) }
+{
+    sent.reserve(MOST_OF_A_CLIENT)?;
+    let messages = client.step(message)?;
+    send_to_server(sent, messages);
+    Ok(())
+}
+
+/// A client of this number starts at its seat, with the next incarnation.
+pub fn start(
+    alloc: Global,
+    seat: &mut Seat,
+    sent: &mut Vec<Message>,
+    number: u64,
+) -> Result<(), Refused>
+    ensures ok { OnOk result
+        (Started number (seat_of seat.old) (seat_of seat.new) sent.old.items sent.new.items) }
+    ensures due { IfErr result (IsRefused (starting_refusal number (seat_of seat.old)) (Unit {0})) }
+    ensures err { OnErr result ((seat.new ≡ seat.old) × (sent.new.items ≡ sent.old.items)) }
+{
+    if seat.client.is_some() {
+        return Err(Refused::Running);
+    }
+    let incarnation = seat.greatest.saturating_add(1);
+    let (client, hello) = Client::start(alloc, number, incarnation)?;
+    sent.push(Message::ToServer(hello))?;
+    seat.greatest = incarnation;
+    seat.client = Some(client);
+    Ok(())
+}
