@@ -6,12 +6,12 @@ use Rattle.krl_messages.specs.declared.to_client.ToClient.{ToClient}
 use Rattle.krl_wire.specs.declared.fault.Fault.{Fault}
 use Rattle.krl_server.specs.declared.state.State.{State}
 use Rattle.krl_server.specs.declared.out.ServerOut.{ServerOut}
-use Rattle.krl_server.specs.States.{meaning}
+use Rattle.krl_server.specs.StateMeaning.{meaning}
 use Rattle.krl_server.specs.Servers.{Server}
 use Rattle.krl_server.specs.Effects.{Done, effect}
 use Rattle.krl_server.specs.Cases.{Case, Alarms, case_of, is_alarm}
 use Rattle.krl_server.specs.Steps.{Kind, Idle, Ends, at_once, recovers, serves, kind_of}
-use Rattle.krl_server.specs.Doing.{HasStepped}
+use Rattle.krl_server.specs.CodeSteps.{HasStepped}
 use Rattle.krl_embed.specs.declared.code.Code.TheVariants as code
 use Rattle.krl_embed.specs.declared.server_calls.Stepped.{Stepped}
 use Rattle.krl_embed.specs.Replies.{code_of}

@@ -17,7 +17,7 @@ use Rattle.krl_durable.specs.Changes.{changed_by}
 use Rattle.krl_server.specs.Servers.{Server}
 use Rattle.krl_server.specs.declared.state.State.{State}
 use Rattle.krl_server.specs.declared.out.ServerOut.{ServerOut}
-use Rattle.krl_server.specs.States.{meaning}
+use Rattle.krl_server.specs.StateMeaning.{meaning}
 use Rattle.krl_embed.specs.declared.changes.ChangeRow.{ChangeRow}
 use Rattle.krl_embed.specs.declared.code.Code.{Code}
 use Rattle.krl_embed.specs.declared.code.Code.TheVariants as code

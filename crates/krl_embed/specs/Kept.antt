@@ -8,7 +8,7 @@ use Rattle.krl_durable.specs.declared.change.Change.TheVariants as change
 use Rattle.krl_durable.specs.Changes.{changed_by}
 use Rattle.krl_durable.specs.Registers.{Durable}
 use Rattle.krl_server.specs.declared.state.State.{State}
-use Rattle.krl_server.specs.States.{meaning}
+use Rattle.krl_server.specs.StateMeaning.{meaning}
 use Rattle.krl_server.specs.Steps.{start}
 use Rattle.krl_server.specs.Replays.{raised}
 use Rattle.krl_embed.specs.declared.changes.ChangeRow.{ChangeRow}

@@ -19,7 +19,7 @@ use Rattle.krl_client.specs.Fields as clients
 use Rattle.krl_client.specs.declared.refused.StartRefused.{StartRefused}
 use Rattle.krl_client.specs.declared.refused.StartRefused.TheVariants as due
 use Rattle.krl_server.specs.declared.state.State.{State}
-use Rattle.krl_server.specs.States as servers
+use Rattle.krl_server.specs.StateMeaning as servers
 use Rattle.krl_server.specs.Steps.{start}
 use Rattle.krl_embed.specs.declared.code.Code.{Code}
 use Rattle.krl_embed.specs.declared.code.Code.TheVariants as code

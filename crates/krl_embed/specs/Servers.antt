@@ -8,9 +8,9 @@ use Rattle.krl_durable.specs.Changes.{IsChange}
 use Rattle.krl_server.specs.declared.state.State.{State}
 use Rattle.krl_server.specs.declared.out.ServerOut.{ServerOut}
 use Rattle.krl_server.specs.Servers.{Server}
-use Rattle.krl_server.specs.States.{meaning}
+use Rattle.krl_server.specs.StateMeaning.{meaning}
 use Rattle.krl_server.specs.Steps.{nudge}
-use Rattle.krl_server.specs.Doing.{HasStepped}
+use Rattle.krl_server.specs.CodeSteps.{HasStepped}
 use Rattle.krl_embed.specs.declared.code.Code.{Code}
 use Rattle.krl_embed.specs.declared.code.Code.TheVariants as code
 use Rattle.krl_embed.specs.declared.endpoint.Endpoint.{Endpoint}

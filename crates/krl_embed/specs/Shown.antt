@@ -17,7 +17,7 @@ use Rattle.krl_server.specs.declared.state.State.{State}
 use Rattle.krl_server.specs.declared.phase.Phase.{Phase}
 use Rattle.krl_server.specs.declared.phase.Phase.TheVariants as phase
 use Rattle.krl_server.specs.Servers.{phase_of}
-use Rattle.krl_server.specs.States as servers
+use Rattle.krl_server.specs.StateMeaning as servers
 use Rattle.krl_embed.specs.declared.code.Code.{Code}
 use Rattle.krl_embed.specs.declared.code.Code.TheVariants as code
 use Rattle.krl_embed.specs.declared.client_shows.ClientState.{ClientState}

@@ -5,7 +5,7 @@ use Rattle.krl_table.specs.Rows.{most_clients}
 use Rattle.krl_table.specs.Holds.{HoldsAt}
 use Rattle.krl_wire.specs.Spelling.{mode_tag}
 use Rattle.krl_server.specs.declared.state.State.{State}
-use Rattle.krl_server.specs.States.{meaning}
+use Rattle.krl_server.specs.StateMeaning.{meaning}
 use Rattle.krl_server.specs.Waits.{waiter_of, waited_for}
 use Rattle.krl_embed.specs.declared.code.Code.{Code}
 use Rattle.krl_embed.specs.declared.code.Code.TheVariants as code

@@ -1,6 +1,6 @@
 //! Starting a server on what was kept.
 ghost use Rattle.std.specs.Prelude.{◌≡◌, Some, IfOk, IfErr, map};
-ghost use Rattle.krl_server.specs.States.{meaning};
+ghost use Rattle.krl_server.specs.StateMeaning.{meaning};
 ghost use Rattle.krl_server.specs.Steps.{start};
 ghost use Rattle.krl_embed.specs.Replies.{code_of};
 ghost use Rattle.krl_embed.specs.Opening.{parts, refused_code, RefusesOpening, RefusesRecords};

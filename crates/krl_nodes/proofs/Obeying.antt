@@ -17,7 +17,7 @@ use Rattle.krl_steps.specs.declared.refused.Refused.TheVariants as refused
 use Rattle.krl_world.specs.States.{Seat, from_clients, from_server}
 use Rattle.krl_world.specs.Steps.{named, if_runs, command_refusal, CommandTakesMemory}
 use Rattle.krl_steps.specs.Refusals.{refused_by_client}
-use Rattle.krl_world.specs.Moves.{IsRefused, CommandedAt, Started, Ticked, starting_refusal}
+use Rattle.krl_world.specs.SeatSteps.{IsRefused, CommandedAt, Started, Ticked, starting_refusal}
 use Rattle.krl_nodes.specs.Mail.{Mail}
 use Rattle.krl_nodes.specs.Letters.{mail_of, with_said, with_sent}
 use Rattle.krl_nodes.specs.Turns.{ClientActs, IsSame, HasTicked, did_of, done_if}

@@ -9,14 +9,14 @@ use Rattle.krl_messages.specs.Values.{Value}
 use Rattle.krl_durable.specs.Registers.{Durable}
 use Rattle.krl_durable.specs.Kept.{IsKept}
 use Rattle.krl_server.specs.Steps.{start}
-use Rattle.krl_server.specs.States.{meaning}
+use Rattle.krl_server.specs.StateMeaning.{meaning}
 use Rattle.krl_server.specs.declared.state.State.{State as Kept}
 use Rattle.krl_world.specs.declared.node.ServerNode.{ServerNode as KeptNode}
 use Rattle.krl_world.specs.declared.node.ServerNode.TheVariants as kept
 use Rattle.krl_world.specs.Fields.{node_of}
 use Rattle.krl_world.specs.States.{Up, fresh, opened, unused}
 use Rattle.krl_world.specs.Steps.{CanOpen}
-use Rattle.krl_world.proofs.Shapes.{reachable_stays}
+use Rattle.krl_world.proofs.Code.Shapes.{reachable_stays}
 use Rattle.krl_nodes.specs.declared.post.Chair.TheVariants.{Taken, Free}
 use Rattle.krl_nodes.specs.declared.view.View.{View}
 use Rattle.krl_nodes.specs.declared.view.Node.TheVariants.{Server}

@@ -11,7 +11,7 @@ use Rattle.krl_steps.specs.declared.step.Command.{Command}
 use Rattle.krl_steps.specs.declared.step.Command.TheVariants as command
 use Rattle.krl_steps.specs.declared.answer.Answer.{Answer}
 use Rattle.krl_world.specs.States.{from_clients}
-use Rattle.krl_world.specs.Moves.{Does}
+use Rattle.krl_world.specs.SeatSteps.{Does}
 
 pub record Says (k : Client) (what : Command) (a : Answer) (next : Option Client) (old new : List Message) : Type 0 where
   pub list : List ToServer

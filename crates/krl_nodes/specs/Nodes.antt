@@ -20,7 +20,7 @@ use Rattle.krl_steps.specs.declared.step.Command.TheVariants as command
 use Rattle.krl_world.specs.States.{ServerNode, Seat, State, durable_of, index_of, fresh}
 use Rattle.krl_world.specs.Steps.{span, named, CommandTakesMemory}
 use Rattle.krl_steps.specs.Refusals.{refused_by_client}
-use Rattle.krl_world.specs.Moves.{IsRefused}
+use Rattle.krl_world.specs.SeatSteps.{IsRefused}
 use Rattle.krl_world.specs.Fields.{node_of, seat_of}
 use Rattle.krl_nodes.specs.Mail.{Mail}
 use Rattle.krl_nodes.specs.Shown.{ClientAt, shown}

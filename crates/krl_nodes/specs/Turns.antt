@@ -17,7 +17,7 @@ use Rattle.krl_steps.specs.declared.step.Command.{Command}
 use Rattle.krl_world.specs.States.{ServerNode, Up, Down, Seat, from_clients}
 use Rattle.krl_world.specs.Steps.{of_client, if_runs, named, command_refusal, server_down, server_start, CommandTakesMemory}
 use Rattle.krl_steps.specs.Refusals.{refused_by_client}
-use Rattle.krl_world.specs.Moves.{IsRefused, CommandedAt, starting_refusal}
+use Rattle.krl_world.specs.SeatSteps.{IsRefused, CommandedAt, starting_refusal}
 use Rattle.krl_nodes.specs.Mail.{Mail}
 use Rattle.krl_nodes.specs.Letters.{letters_to, left_by, IsPicked, Delivers, Loses, with_to_server, with_to_client}
 use Rattle.krl_nodes.specs.Letters.{with_said, with_sent}

@@ -1,7 +1,7 @@
 //! The post: the letters that wait, and who is seated.
 ghost use Rattle.std.specs.Prelude.{◌≡◌, ◌<◌, ℕ, [], replicate, IfOk, OnOk, OnErr};
 ghost use Rattle.std.specs.Prelude.{Some, slice_get, MatchBool, MatchResult};
-ghost use Rattle.krl_server.specs.States as server_states;
+ghost use Rattle.krl_server.specs.StateMeaning as server_states;
 ghost use Rattle.krl_server.specs.Steps as steps;
 ghost use Rattle.krl_client.specs.Fields as client_fields;
 ghost use Rattle.krl_world.specs.Fields.{node_of, seat_of};

@@ -11,10 +11,10 @@ use Rattle.krl_server.specs.contracts.state.State as state
 use Rattle.krl_server.specs.contracts.server.Server as server
 
 session_sent : IsSend session.the_row
-session_sent = let a = push_body_sent in search sendable depth 24 is_compatible_there 4000
+session_sent = let a = push_body_sent in search sendable depth 24 fits 4000
 
 missing_inside : IsSend missing.TheInside.the_row
-missing_inside = search (sendable, Vec-send) depth 24 is_compatible_there 4000
+missing_inside = search (sendable, Vec-send) depth 24 fits 4000
 
 missing_sent : IsSend (missing.the_field).row
 missing_sent = view_send _ _ _ _ _ missing_inside

@@ -18,7 +18,7 @@ use Rattle.krl_table.specs.Rows.{Rows, mode_at, set_row}
 use Rattle.krl_table.specs.Calls.{with_mode, wanted, grant_first, granted_first, raised, raised_on}
 use Rattle.krl_table.specs.Replies.{is_wanted_compatible}
 use Rattle.krl_table.specs.Grants.{nobody_waits, can_take, goes_on, taken_after, taken_by, taken, granted_by, granted, most_more}
-use Rattle.krl_table.proofs.Slots.{low_under}
+use Rattle.krl_table.proofs.Rows.Slots.{low_under}
 use Rattle.krl_messages.specs.Several.{IsBefore, Ascend, most_holdings}
 use Rattle.krl_durable.specs.Registers.{Durable}
 use Rattle.krl_server.specs.Servers.{Server}
@@ -26,8 +26,8 @@ use Rattle.krl_server.specs.Effects.{holding, holdings}
 use Rattle.krl_durable.proofs.Slots.{find_here}
 use Rattle.krl_durable.proofs.SlotLaws.{find_past}
 use Rattle.krl_server.proofs.Slots.{is_slot_true, span_here}
-use Rattle.krl_server.specs.Shows.{IsWhole}
-use Rattle.krl_server.proofs.Meaning.{row_here, row_other, mode_other, row_modes}
+use Rattle.krl_server.specs.AsLinks.{IsWhole}
+use Rattle.krl_server.proofs.Refinement.Meaning.{row_here, row_other, mode_other, row_modes}
 use Rattle.krl_server.proofs.Tests.{if_case}
 
 -- The next slot

@@ -6,7 +6,7 @@ use Rattle.krl_durable.specs.Changes.{changed_by}
 use Rattle.krl_server.specs.declared.out.ServerOut.{ServerOut}
 use Rattle.krl_server.specs.Servers.{Server}
 use Rattle.krl_server.specs.Steps.{crash, can_start, start}
-use Rattle.krl_server.specs.Doing.{HasStepped}
+use Rattle.krl_server.specs.CodeSteps.{HasStepped}
 
 -- of what a server does a host writes these down: it takes a message, and this is sent and said; or it crashes, and
 -- starts on what survived

@@ -6,10 +6,10 @@ ghost use Rattle.krl_table.specs.Replies.{is_wanted_compatible};
 ghost use Rattle.krl_table.specs.Sound.{IsTable};
 ghost use Rattle.krl_server.specs.Outboxes.{as_list};
 ghost use Rattle.krl_server.specs.Answering.{grants, tells_absent};
-ghost use Rattle.krl_server.specs.States.{meaning, IsFormed};
-ghost use Rattle.krl_server.specs.Ends.{waiting};
-ghost use Rattle.krl_server.specs.Shows.{IsSound};
-ghost use Rattle.krl_server.specs.Doing.{turn_here, HasTurned, HasAnswered, HaveWaiters};
+ghost use Rattle.krl_server.specs.StateMeaning.{meaning, IsFormed};
+ghost use Rattle.krl_server.specs.Termination.{waiting};
+ghost use Rattle.krl_server.specs.AsLinks.{IsSound};
+ghost use Rattle.krl_server.specs.CodeSteps.{turn_here, HasTurned, HasAnswered, HaveWaiters};
 
 use crate::out::Outbox;
 use crate::state::State;

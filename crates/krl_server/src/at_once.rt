@@ -3,9 +3,9 @@ ghost use Rattle.std.specs.Prelude.{◌≡◌, ◌<◌, ℕ, [], IfOk, OnErr, If
 ghost use Rattle.krl_durable.specs.Index.{slot_of};
 ghost use Rattle.krl_server.specs.Cases.{case_of};
 ghost use Rattle.krl_server.specs.Effects.{acknowledged, queues};
-ghost use Rattle.krl_server.specs.Doing.{IsServer, HasTurned, HasStepped};
-ghost use Rattle.krl_server.specs.Shows.{IsSound};
-ghost use Rattle.krl_server.specs.States.{meaning, meant, IsFormed};
+ghost use Rattle.krl_server.specs.CodeSteps.{IsServer, HasTurned, HasStepped};
+ghost use Rattle.krl_server.specs.AsLinks.{IsSound};
+ghost use Rattle.krl_server.specs.StateMeaning.{meaning, meant, IsFormed};
 
 use crate::case::Case;
 use crate::out::{Outbox, ServerOut};

@@ -3,13 +3,13 @@ ghost use Rattle.std.specs.Prelude.{◌≡◌, ◌≤◌, ◌<◌, ◌+◌, ◌|
 ghost use Rattle.std.specs.Prelude.{if◌then◌else◌};
 ghost use Rattle.krl_table.specs.Replies.{asks_absent};
 ghost use Rattle.krl_server.specs.Callbacks.{callbacks_for, callbacks_at, callbacks};
-ghost use Rattle.krl_server.specs.Shows.{IsSound};
+ghost use Rattle.krl_server.specs.AsLinks.{IsSound};
 ghost use Rattle.krl_modes.specs.Modes.{compatible, cap};
 ghost use Rattle.krl_table.specs.Kept.{mode_of};
 ghost use Rattle.krl_server.specs.Effects.{callback_to};
 ghost use Rattle.krl_server.specs.Outboxes.{as_list, Sends};
-ghost use Rattle.krl_server.specs.Doing.{IsFirst, HaveWaiters};
-ghost use Rattle.krl_server.specs.States.{meaning, IsFormed};
+ghost use Rattle.krl_server.specs.CodeSteps.{IsFirst, HaveWaiters};
+ghost use Rattle.krl_server.specs.StateMeaning.{meaning, IsFormed};
 
 use crate::out::Outbox;
 use crate::state::State;

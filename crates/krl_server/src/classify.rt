@@ -1,7 +1,7 @@
 //! Which case a message meets, in the order of judging.
 ghost use Rattle.std.specs.Prelude.{◌≡◌, ◌<◌, ℕ, suc, nat_eq, Some};
 ghost use Rattle.krl_table.specs.Rows.{waits};
-ghost use Rattle.krl_server.specs.States.{meaning, meant, sessions_of, IsFormed};
+ghost use Rattle.krl_server.specs.StateMeaning.{meaning, meant, sessions_of, IsFormed};
 ghost use Rattle.krl_messages.specs.declared.to_server.ToServerBody.{ToServerBody};
 ghost use Rattle.krl_server.specs.Servers.{Server};
 ghost use Rattle.krl_server.specs.Cases.{is_malformed, case_of, case_of_record, case_of_newer};
@@ -16,7 +16,7 @@ use krl_messages::{Outcome, Request, RequestBody, ToServer, ToServerBody, WriteO
 use krl_modes::{END, Mode, Point, TOP};
 
 /// Whether the sender's number or incarnation is none of a client.
-#[tactic(auto, using(crate::proofs::Numbers::sixty_four))]
+#[tactic(auto, using(crate::proofs::Outputs::Numbers::sixty_four))]
 fn is_malformed(message: &ToServer) -> bool
     ensures { result ≡ is_malformed message.now }
 {

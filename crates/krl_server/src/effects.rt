@@ -6,7 +6,7 @@ ghost use Rattle.krl_messages.specs.Writes.{op_key};
 ghost use Rattle.krl_durable.specs.Registers.{IsIncarnation, record_of};
 ghost use Rattle.krl_table.specs.Reports.{conflicts};
 ghost use Rattle.krl_table.specs.Sound.{IsTable};
-ghost use Rattle.krl_server.specs.States.{meaning, IsFormed};
+ghost use Rattle.krl_server.specs.StateMeaning.{meaning, IsFormed};
 ghost use Rattle.krl_server.specs.Outboxes.{as_list};
 ghost use Rattle.krl_table.specs.Waiters.{WaitsNowhere};
 ghost use Rattle.krl_durable.specs.Writes.{index_after};

@@ -7,11 +7,11 @@ ghost use Rattle.krl_table.specs.Kept.{rows_of, IsOver};
 ghost use Rattle.krl_server.specs.Servers.{is_recovering, phase_of};
 ghost use Rattle.krl_server.specs.Answering.{Answered};
 ghost use Rattle.krl_server.specs.Steps.{nudge, crash};
-ghost use Rattle.krl_server.specs.Ends.{most_messages};
-ghost use Rattle.krl_server.specs.States.{meaning};
-ghost use Rattle.krl_server.specs.Doing.{IsStarted, IsNotStarted, HasStepped, IsServer};
-ghost use Rattle.krl_server.specs.Says.{may_change_durable, HasCallbacks, AnswersWrite};
-ghost use Rattle.krl_server.specs.Says.{PushesStand};
+ghost use Rattle.krl_server.specs.Termination.{most_messages};
+ghost use Rattle.krl_server.specs.StateMeaning.{meaning};
+ghost use Rattle.krl_server.specs.CodeSteps.{IsStarted, IsNotStarted, HasStepped, IsServer};
+ghost use Rattle.krl_server.specs.Outputs.{may_change_durable, HasCallbacks, AnswersWrite};
+ghost use Rattle.krl_server.specs.Outputs.{PushesStand};
 ghost use Rattle.krl_server.specs.Waits.{waiter_of, waited_for};
 ghost use Rattle.krl_table.specs.Holds.{HoldsAt};
 
@@ -50,7 +50,7 @@ impl Drop for Server {
 impl Model for Server {
     ghost use Rattle.krl_server.specs.declared.state.State.{State};
     ghost use Rattle.krl_server.specs.contracts.state.State as kept;
-    ghost use Rattle.krl_server.specs.Doing.{IsServer};
+    ghost use Rattle.krl_server.specs.CodeSteps.{IsServer};
 
     ghost Value = { State };
 

@@ -1,7 +1,7 @@
 //! A client's session: the numbers between the server and it.
 ghost use Rattle.std.specs.Prelude.{◌≡◌, ℕ, length};
 ghost use Rattle.krl_server.specs.Servers.{blank_session};
-ghost use Rattle.krl_server.specs.States.{sessions_of};
+ghost use Rattle.krl_server.specs.StateMeaning.{sessions_of};
 ghost use Rattle.krl_server.specs.Answering.{can_push};
 
 use krl_messages::PushBody;

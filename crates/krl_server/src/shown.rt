@@ -1,7 +1,7 @@
 //! Who waits for whom.
 ghost use Rattle.std.specs.Prelude.{◌≡◌, ◌<◌, not};
 ghost use Rattle.krl_server.specs.Callbacks.{is_compatible};
-ghost use Rattle.krl_server.specs.States.{meaning, IsFormed};
+ghost use Rattle.krl_server.specs.StateMeaning.{meaning, IsFormed};
 ghost use Rattle.krl_server.specs.Waits.{waiter_of, is_in_the_way, waits_for, waited_for};
 
 use crate::state::State;

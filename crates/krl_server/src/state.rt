@@ -5,7 +5,7 @@ ghost use Rattle.krl_durable.specs.Index.{is_slot};
 ghost use Rattle.krl_modes.specs.Modes.{key_of};
 ghost use Rattle.krl_messages.specs.Several.{Ascend, most_holdings};
 ghost use Rattle.krl_server.specs.Servers.{incarnation_of, unlist};
-ghost use Rattle.krl_server.specs.States.{meaning, sessions_of, IsFormed};
+ghost use Rattle.krl_server.specs.StateMeaning.{meaning, sessions_of, IsFormed};
 ghost use Rattle.krl_server.specs.Outboxes.{as_list};
 ghost use Rattle.krl_server.specs.Effects.{out_to, epoch_to, push_to, callback_to, shown, holding};
 ghost use Rattle.krl_server.specs.Effects.{acknowledged, holdings, pushes};

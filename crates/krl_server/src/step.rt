@@ -2,9 +2,9 @@
 ghost use Rattle.std.specs.Prelude.{◌≡◌, ◌≤◌, true, ◌<◌, ◌+◌, [], length, Some, IfOk, OnOk, OnErr};
 ghost use Rattle.std.specs.Prelude.{IsSome, IfSome};
 ghost use Rattle.std.specs.FinMap as map;
-ghost use Rattle.krl_server.specs.States.{meaning, meant, case_of_pieces, after_of, IsFormed};
+ghost use Rattle.krl_server.specs.StateMeaning.{meaning, meant, case_of_pieces, after_of, IsFormed};
 ghost use Rattle.krl_table.specs.Sound.{IsTable};
-ghost use Rattle.krl_server.specs.Shows.{IsSound};
+ghost use Rattle.krl_server.specs.AsLinks.{IsSound};
 ghost use Rattle.krl_server.specs.Cases.{case_of};
 ghost use Rattle.krl_server.specs.Effects.{effect};
 ghost use Rattle.krl_server.specs.Changes.{change_of};
@@ -13,10 +13,10 @@ ghost use Rattle.krl_server.specs.Steps.{nudge, nudge_missing, nudge_served};
 ghost use Rattle.krl_durable.specs.Registers.{record_of};
 ghost use Rattle.krl_durable.specs.Index.{slots, slot_of};
 ghost use Rattle.krl_modes.specs.declared.point.TheConstants.{END};
-ghost use Rattle.krl_server.specs.Doing.{is_registered, calls_of_first, calls_at_first};
-ghost use Rattle.krl_server.specs.Doing.{waiting_clients};
-ghost use Rattle.krl_server.specs.Doing.{room_for, own_of, IsPerformed, HasPerformed, HasRoom};
-ghost use Rattle.krl_server.specs.Doing.{HasFinished, HasStepped, IsServer, IsFirst};
+ghost use Rattle.krl_server.specs.CodeSteps.{is_registered, calls_of_first, calls_at_first};
+ghost use Rattle.krl_server.specs.CodeSteps.{waiting_clients};
+ghost use Rattle.krl_server.specs.CodeSteps.{room_for, own_of, IsPerformed, HasPerformed, HasRoom};
+ghost use Rattle.krl_server.specs.CodeSteps.{HasFinished, HasStepped, IsServer, IsFirst};
 
 use crate::case::{After, Case, Performed};
 use crate::out::{Outbox, ServerOut};

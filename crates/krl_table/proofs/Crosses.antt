@@ -11,7 +11,7 @@ use Rattle.krl_table.specs.contracts.extents.Extents as extents
 use Rattle.krl_table.specs.contracts.table.Table as table
 
 waiting_sent : IsSend (waiting.the_field).row
-waiting_sent = let a = waiter_sent in search sendable depth 24 is_compatible_there 4000
+waiting_sent = let a = waiter_sent in search sendable depth 24 fits 4000
 
 row_kept_sent : IsSend slot_row.the_row
 row_kept_sent = recorded_send _ _ (slot_row.the_type).to (slot_row.the_type).to_one

@@ -9,5 +9,5 @@ pub use Rattle.krl_durable.specs.Index
 pub mod Waiters
 pub mod Holds
 pub mod Kept
-pub mod Reported
+pub mod ReportSweep
 pub mod Extents

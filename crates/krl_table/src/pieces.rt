@@ -5,8 +5,8 @@ ghost use Rattle.krl_modes.specs.declared.part.RangePart.TheVariants as range;
 ghost use Rattle.krl_modes.specs.declared.part.KeyPart.TheVariants as key;
 ghost use Rattle.krl_modes.specs.Spans.{meets};
 ghost use Rattle.krl_table.specs.Reports.{reported_range, reported_key};
-ghost use Rattle.krl_table.specs.Reported.{RangesOff, KeysOff, RangesRise, KeysRise, SameRanges};
-ghost use Rattle.krl_table.specs.Reported.{SameKeys};
+ghost use Rattle.krl_table.specs.ReportSweep.{RangesOff, KeysOff, RangesRise, KeysRise, SameRanges};
+ghost use Rattle.krl_table.specs.ReportSweep.{SameKeys};
 
 use krl_messages::{KeyPiece, RangePiece};
 use krl_modes::{KeyPart, RangePart, Span};

@@ -3,8 +3,8 @@ ghost use Rattle.std.specs.Prelude.{◌≡◌, ◌≤◌, ℕ, None, IfSome, IfN
 ghost use Rattle.std.specs.FinMap as map;
 ghost use Rattle.krl_modes.specs.declared.point.TheConstants.{END, TOP};
 ghost use Rattle.krl_table.specs.Reports.{rebuilt};
-ghost use Rattle.krl_table.specs.Reported.{BeginsSpan, IsNextReported, NothingFrom, SameRanges};
-ghost use Rattle.krl_table.specs.Reported.{SameKeys};
+ghost use Rattle.krl_table.specs.ReportSweep.{BeginsSpan, IsNextReported, NothingFrom, SameRanges};
+ghost use Rattle.krl_table.specs.ReportSweep.{SameKeys};
 
 use crate::pieces;
 use krl_durable::Durable;
@@ -35,7 +35,7 @@ impl<'a> Model for Sweep<'a> {
     ghost use Rattle.std.specs.Prelude.{◌≡◌, true};
     ghost use Rattle.krl_messages.specs.declared.pieces.Pieces.{Pieces};
     ghost use Rattle.krl_messages.specs.contracts.pieces.Pieces as pieces;
-    ghost use Rattle.krl_table.specs.Reported.{RangesRise, KeysRise};
+    ghost use Rattle.krl_table.specs.ReportSweep.{RangesRise, KeysRise};
 
     ghost Value = { Pieces };
 

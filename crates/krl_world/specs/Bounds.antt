@@ -29,7 +29,7 @@ use Rattle.krl_server.specs.Servers.{Server, is_recovering, lists}
 use Rattle.krl_server.specs.Cases.{case_of}
 use Rattle.krl_server.specs.Effects.{adopts}
 use Rattle.krl_server.specs.Steps.{alarms, start}
-use Rattle.krl_server.specs.Shows.{range_said}
+use Rattle.krl_server.specs.AsLinks.{range_said}
 use Rattle.krl_cache.specs.Beliefs.{is_last}
 use Rattle.krl_client.specs.Clients.{Client}
 use Rattle.krl_world.specs.declared.message.Message.{Message}
@@ -39,7 +39,7 @@ use Rattle.krl_steps.specs.declared.step.Step.TheVariants as step
 use Rattle.krl_steps.specs.declared.answer.Answer.{Answer}
 use Rattle.krl_world.specs.States.{ServerNode, Up, Down, State, opened, durable_of, index_of, client_of, range_held, key_held}
 use Rattle.krl_world.specs.Steps.{CanOpen, message_at, Takes}
-use Rattle.krl_server.specs.Follows.{clears}
+use Rattle.krl_server.specs.Simulation.{clears}
 
 -- a range part and a key part for each client at each point, and the index of that moment
 pub record Bound : Type 0 where

@@ -4,7 +4,7 @@ use Rattle.std.specs.FinMap as map
 use Rattle.krl_durable.specs.Registers.{Durable, record_of}
 use Rattle.krl_server.specs.Servers.{incarnation_or_0}
 use Rattle.krl_server.specs.declared.state.State.{State as Kept}
-use Rattle.krl_server.specs.States as server_state
+use Rattle.krl_server.specs.StateMeaning as server_state
 use Rattle.krl_client.specs.Clients as clients
 use Rattle.krl_client.specs.Fields as client_fields
 use Rattle.krl_world.specs.declared.node.ServerNode.{ServerNode as KeptNode}

@@ -5,4 +5,4 @@ pub mod Bounds
 pub mod Laws
 pub mod Runs
 pub mod Fields
-pub mod Moves
+pub mod SeatSteps

@@ -4,8 +4,8 @@ ghost use Rattle.krl_client.specs.Fields.{meaning};
 ghost use Rattle.krl_world.specs.declared.message.Message.{Message};
 ghost use Rattle.krl_steps.specs.declared.step.Command.TheVariants as command;
 ghost use Rattle.krl_world.specs.Fields.{seat_of, client_there};
-ghost use Rattle.krl_world.specs.Moves.{IsRefused, Commanded, CommandedAt, Started, Ticked};
-ghost use Rattle.krl_world.specs.Moves.{HasRead, starting_refusal};
+ghost use Rattle.krl_world.specs.SeatSteps.{IsRefused, Commanded, CommandedAt, Started, Ticked};
+ghost use Rattle.krl_world.specs.SeatSteps.{HasRead, starting_refusal};
 
 use crate::message::Message;
 use crate::network::{MOST_OF_A_CLIENT, send_to_server};

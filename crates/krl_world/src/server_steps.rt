@@ -2,13 +2,13 @@
 ghost use Rattle.std.specs.Prelude.{◌≡◌, ◌<◌, ◌++◌, None, Some, length, slice_get, OnOk, OnErr};
 ghost use Rattle.std.specs.Vec.{vec_len, vec_capacity};
 ghost use Rattle.krl_messages.specs.declared.to_server.ToServer.{ToServer};
-ghost use Rattle.krl_server.specs.States.{meaning};
+ghost use Rattle.krl_server.specs.StateMeaning.{meaning};
 ghost use Rattle.krl_server.specs.Steps as steps;
 ghost use Rattle.krl_world.specs.declared.message.Message.TheVariants as sent_message;
 ghost use Rattle.krl_world.specs.States.{from_server};
 ghost use Rattle.krl_world.specs.Steps.{server_down};
 ghost use Rattle.krl_world.specs.Fields.{node_of};
-ghost use Rattle.krl_world.specs.Moves.{HasServed, HasArrived, applied_in, as_list};
+ghost use Rattle.krl_world.specs.SeatSteps.{HasServed, HasArrived, applied_in, as_list};
 
 use crate::message::Message;
 use crate::network::{MOST_OF_A_SERVER, send_to_clients};

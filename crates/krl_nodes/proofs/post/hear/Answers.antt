@@ -1,5 +1,5 @@
 use Rattle.std.proofs.Common.{arith}
-use Rattle.krl_server.specs.Ends.{most_messages}
+use Rattle.krl_server.specs.Termination.{most_messages}
 use Rattle.krl_nodes.proofs.post.hear.Goals as goal
 
 pub send_to_clients-requires : goal.send_to_clients-requires

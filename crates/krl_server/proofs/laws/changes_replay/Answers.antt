@@ -1,4 +1,4 @@
-use Rattle.krl_server.proofs.Replayed.{all_replay}
+use Rattle.krl_server.proofs.Outputs.Replayed.{all_replay}
 use Rattle.krl_server.proofs.laws.changes_replay.Goals as goal
 
 pub returns : goal.returns

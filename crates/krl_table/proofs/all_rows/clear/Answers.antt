@@ -1,8 +1,8 @@
 use Rattle.std.proofs.Common.{refl, ◌∙◌, sym, arith}
 use Rattle.krl_table.specs.Kept.{rows_of}
 use Rattle.krl_table.specs.Extents.{cleared_within}
-use Rattle.krl_table.proofs.Means.{set_after}
-use Rattle.krl_table.proofs.Walk.{none_walked, walk_step, walk_ends, walk_stops, clears_keep, clears_before, clears_past, clears_here}
+use Rattle.krl_table.proofs.Rows.RowChanges.{set_after}
+use Rattle.krl_table.proofs.Rows.Walk.{none_walked, walk_step, walk_ends, walk_stops, clears_keep, clears_before, clears_past, clears_here}
 use Rattle.krl_table.proofs.all_rows.clear.Goals as goal
 
 pub loop-slot-init : goal.loop-slot-init

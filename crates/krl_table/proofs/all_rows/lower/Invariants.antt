@@ -1,6 +1,6 @@
 use Rattle.std.proofs.Common.{◌≡◌, ◌-◌, ◌≤◌}
 use Rattle.krl_table.specs.Kept.{lowered_between}
-use Rattle.krl_table.proofs.Walk.{IsWalked}
+use Rattle.krl_table.proofs.Rows.Walk.{IsWalked}
 use Rattle.krl_table.proofs.all_rows.lower.Given as goal
 
 abbrev pub invariant-loop-slot : goal.invariant-loop-slot

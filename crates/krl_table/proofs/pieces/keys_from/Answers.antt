@@ -1,7 +1,7 @@
 use Rattle.std.proofs.Common.{sym, ap, subst, ◌∙◌}
 use Rattle.krl_table.specs.Reports.{reported_key}
-use Rattle.krl_table.specs.Reported.{KeysRise}
-use Rattle.krl_table.proofs.Rising.{key_passed, keys_tail}
+use Rattle.krl_table.specs.ReportSweep.{KeysRise}
+use Rattle.krl_table.proofs.ReportRows.Rising.{key_passed, keys_tail}
 use Rattle.krl_table.proofs.pieces.keys_from.Goals as goal
 
 pub loop-first-preserved : goal.loop-first-preserved

@@ -1,6 +1,6 @@
 use Rattle.std.proofs.Common.{arith}
-use Rattle.krl_table.proofs.Reported.{keys_begin, keys_go, keys_end}
-use Rattle.krl_table.proofs.Rising.{keys_off_from}
+use Rattle.krl_table.proofs.ReportRows.PieceByPiece.{keys_begin, keys_go, keys_end}
+use Rattle.krl_table.proofs.ReportRows.Rising.{keys_off_from}
 use Rattle.krl_table.proofs.pieces.next_key.Goals as goal
 
 pub loop-piece-init : goal.loop-piece-init

@@ -1,6 +1,6 @@
 use Rattle.std.proofs.Common.{arith}
-use Rattle.krl_table.proofs.Reported.{ranges_begin, ranges_go, ranges_end}
-use Rattle.krl_table.proofs.Rising.{ranges_off_from}
+use Rattle.krl_table.proofs.ReportRows.PieceByPiece.{ranges_begin, ranges_go, ranges_end}
+use Rattle.krl_table.proofs.ReportRows.Rising.{ranges_off_from}
 use Rattle.krl_table.proofs.pieces.next_range.Goals as goal
 
 pub loop-piece-init : goal.loop-piece-init

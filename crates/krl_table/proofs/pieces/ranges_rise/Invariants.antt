@@ -1,5 +1,5 @@
 use Rattle.std.proofs.Common.{drop}
-use Rattle.krl_table.specs.Reported.{RangesRise}
+use Rattle.krl_table.specs.ReportSweep.{RangesRise}
 use Rattle.krl_table.proofs.pieces.ranges_rise.Given as goal
 
 -- where the others rise from here on, all do

@@ -3,7 +3,7 @@ use Rattle.krl_modes.specs.declared.point.TheConstants.{END}
 use Rattle.krl_durable.specs.Index.{is_slot}
 use Rattle.krl_table.specs.Rows.{is_compatible_there}
 use Rattle.krl_table.specs.Reports.{rebuilt}
-use Rattle.krl_table.specs.Reported.{BeginsSpan, ReportsSame}
+use Rattle.krl_table.specs.ReportSweep.{BeginsSpan, ReportsSame}
 use Rattle.krl_table.specs.Kept.{rows_of}
 use Rattle.krl_table.proofs.reports.all_compatible.Given as goal
 

@@ -1,7 +1,7 @@
 use Rattle.std.proofs.Common.{sym, ap, ◌∙◌}
 use Rattle.krl_table.specs.Rows.{is_compatible_in_row}
 use Rattle.krl_table.specs.Kept.{row_there}
-use Rattle.krl_table.proofs.Raises.{blank_is_compatible}
+use Rattle.krl_table.proofs.Calls.Raises.{blank_is_compatible}
 use Rattle.krl_table.proofs.reports.is_compatible_there.Goals as goal
 
 pub returns-in-None : goal.returns-in-None

@@ -1,11 +1,11 @@
 use Rattle.std.proofs.Common.{◌≤◌, ◌+◌, refl, sym, subst, ◌∙◌, arith}
 use Rattle.krl_table.specs.Calls.{with_mode}
 use Rattle.krl_table.specs.Kept.{most_rows, rows_of, IsSet}
-use Rattle.krl_table.specs.Reported.{ReportsSame}
-use Rattle.krl_table.proofs.Rooms.{room_at}
-use Rattle.krl_table.proofs.Reported.{begins_past_slot, settle_begins, settle_goes, settle_ends}
-use Rattle.krl_table.proofs.Rising.{same_begins, same_goes, next_same, nothing_same}
-use Rattle.krl_table.proofs.Within.{within_one, free_mode}
+use Rattle.krl_table.specs.ReportSweep.{ReportsSame}
+use Rattle.krl_table.proofs.Invariant.Rooms.{room_at}
+use Rattle.krl_table.proofs.ReportRows.PieceByPiece.{begins_past_slot, settle_begins, settle_goes, settle_ends}
+use Rattle.krl_table.proofs.ReportRows.Rising.{same_begins, same_goes, next_same, nothing_same}
+use Rattle.krl_table.proofs.Invariant.Within.{within_one, free_mode}
 use Rattle.krl_table.proofs.reports.settle.Goals as goal
 
 pub loop-reported-init : goal.loop-reported-init

@@ -1,8 +1,8 @@
 use Rattle.std.proofs.Common.{◌≡◌, ◌-◌, ◌+◌}
 use Rattle.krl_modes.specs.declared.point.TheConstants.{END}
-use Rattle.krl_table.specs.Reported.{ReportsSame}
+use Rattle.krl_table.specs.ReportSweep.{ReportsSame}
 use Rattle.krl_table.specs.Extents.{AreWithin}
-use Rattle.krl_table.proofs.Reported.{IsSettled}
+use Rattle.krl_table.proofs.ReportRows.PieceByPiece.{IsSettled}
 use Rattle.krl_table.proofs.reports.settle.Given as goal
 
 abbrev pub invariant-loop-reported : goal.invariant-loop-reported

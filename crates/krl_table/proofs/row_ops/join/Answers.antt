@@ -4,7 +4,7 @@ use Rattle.krl_table.specs.declared.row.SlotRow.{SlotRow}
 use Rattle.krl_table.specs.Calls.{with_queue}
 use Rattle.krl_table.specs.Rows.{Row, blank_row}
 use Rattle.krl_table.specs.Kept.{Kept, row_of, row_there, rows_of}
-use Rattle.krl_table.proofs.Means.{gone_set, both_as, remove_past}
+use Rattle.krl_table.proofs.Rows.RowChanges.{gone_set, both_as, remove_past}
 use Rattle.krl_table.proofs.row_ops.join.Goals as goal
 
 -- the row that was taken out

@@ -1,5 +1,5 @@
 use Rattle.std.proofs.Common.{ap}
-use Rattle.krl_table.proofs.Means.{set_blank}
+use Rattle.krl_table.proofs.Rows.RowChanges.{set_blank}
 use Rattle.krl_table.proofs.row_ops.lower.Goals as goal
 
 pub returns-then-goes_blank-clause-set : goal.returns-then-goes_blank-clause-set

@@ -4,8 +4,8 @@ use Rattle.krl_queue.specs.Waiting.{up_to, beyond}
 use Rattle.krl_table.specs.Calls.{split_modes, with_queue}
 use Rattle.krl_table.specs.Rows.{Row}
 use Rattle.krl_table.specs.Kept.{row_of, rows_of, AreSet}
-use Rattle.krl_table.proofs.Means.{both_set, both_after, both_as, there_not}
-use Rattle.krl_table.proofs.Rooms.{rows_less}
+use Rattle.krl_table.proofs.Rows.RowChanges.{both_set, both_after, both_as, there_not}
+use Rattle.krl_table.proofs.Invariant.Rooms.{rows_less}
 use Rattle.krl_table.proofs.row_ops.part.Goals as goal
 
 pub put-requires : goal.put-requires

@@ -1,6 +1,6 @@
 use Rattle.std.proofs.Common.{◌≡◌, true, false, ap, ◌∙◌, sym}
 use Rattle.krl_table.specs.Kept.{row_of}
-use Rattle.krl_table.proofs.Means.{set_kept, set_blank}
+use Rattle.krl_table.proofs.Rows.RowChanges.{set_kept, set_blank}
 use Rattle.krl_table.proofs.row_ops.put.Goals as goal
 
 pub returns-then-is_blank-clause-set : goal.returns-then-is_blank-clause-set

@@ -1,6 +1,6 @@
 use Rattle.std.proofs.Common.{◌≡◌, Some, None, IsSome, sym, ap, subst, ◌∙◌, refl}
 use Rattle.std.specs.FinMap as map
-use Rattle.krl_table.proofs.Means.{eq_cases, insert_other, insert_same}
+use Rattle.krl_table.proofs.Rows.RowChanges.{eq_cases, insert_other, insert_same}
 use Rattle.krl_table.proofs.row_ops.take.Goals as goal
 
 pub returns-in-Some-clause-others : goal.returns-in-Some-clause-others

@@ -1,5 +1,5 @@
-use Rattle.krl_server.proofs.Whole.{all_follow}
-use Rattle.krl_world.proofs.Onward.{can_go_on}
+use Rattle.krl_server.proofs.Refinement.Whole.{all_follow}
+use Rattle.krl_world.proofs.Progress.CanGoOn.{can_go_on}
 use Rattle.krl_world.proofs.laws.can_go_on.Goals as goal
 
 pub returns : goal.returns

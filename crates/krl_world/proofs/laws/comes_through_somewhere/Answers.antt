@@ -1,4 +1,5 @@
-use Rattle.krl_world.proofs.Resumed.{whole, c27, resumed, told_back, second, serves, told_applied, listed, without}
+use Rattle.krl_world.proofs.Examples.RestartRun.{whole, c27, resumed, told_back, second, serves, told_applied, listed}
+use Rattle.krl_world.proofs.Examples.RestartRun.{without}
 use Rattle.krl_world.proofs.laws.comes_through_somewhere.Goals as goal
 
 pub returns : goal.returns

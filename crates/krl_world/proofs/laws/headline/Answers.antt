@@ -1,5 +1,5 @@
-use Rattle.krl_server.proofs.Whole.{all_follow}
-use Rattle.krl_world.proofs.Kept.{headline_holds}
+use Rattle.krl_server.proofs.Refinement.Whole.{all_follow}
+use Rattle.krl_world.proofs.Promises.Kept.{headline_holds}
 use Rattle.krl_world.proofs.laws.headline.Goals as goal
 
 pub returns : goal.returns

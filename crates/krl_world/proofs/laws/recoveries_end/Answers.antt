@@ -1,5 +1,5 @@
-use Rattle.krl_server.proofs.Whole.{all_follow}
-use Rattle.krl_world.proofs.Closing.{recoveries_end}
+use Rattle.krl_server.proofs.Refinement.Whole.{all_follow}
+use Rattle.krl_world.proofs.Promises.Closing.{recoveries_end}
 use Rattle.krl_world.proofs.laws.recoveries_end.Goals as goal
 
 pub returns : goal.returns

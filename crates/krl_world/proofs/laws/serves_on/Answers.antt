@@ -1,4 +1,4 @@
-use Rattle.krl_world.proofs.Unbroken.{serves_on}
+use Rattle.krl_world.proofs.Promises.Unbroken.{serves_on}
 use Rattle.krl_world.proofs.laws.serves_on.Goals as goal
 
 pub returns : goal.returns

@@ -1,5 +1,5 @@
-use Rattle.krl_server.proofs.Whole.{all_follow}
-use Rattle.krl_world.proofs.Kept.{bounded_holds, restarts_holds}
+use Rattle.krl_server.proofs.Refinement.Whole.{all_follow}
+use Rattle.krl_world.proofs.Promises.Kept.{bounded_holds, restarts_holds}
 use Rattle.krl_world.proofs.laws.within_the_bound.Goals as goal
 
 pub returns-clause-bounded : goal.returns-clause-bounded

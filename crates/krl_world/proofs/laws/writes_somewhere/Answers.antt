@@ -1,5 +1,5 @@
-use Rattle.krl_world.proofs.Inserting.{entry}
-use Rattle.krl_world.proofs.Insertion.{v8, written_reached, listed, told_applied}
+use Rattle.krl_world.proofs.Examples.InsertAtServer.{entry}
+use Rattle.krl_world.proofs.Examples.InsertRun.{v8, written_reached, listed, told_applied}
 use Rattle.krl_world.proofs.laws.writes_somewhere.Goals as goal
 
 pub returns : goal.returns

@@ -1,4 +1,4 @@
-use Rattle.krl_server.specs.States.{meaning}
+use Rattle.krl_server.specs.StateMeaning.{meaning}
 use Rattle.krl_server.specs.Steps.{nudge}
 use Rattle.krl_nodes.proofs.Obeying.{nudged}
 use Rattle.krl_nodes.proofs.post.Post.nudge.Goals as goal

@@ -2,13 +2,13 @@ use Rattle.std.proofs.Common.{◌≡◌, ◌<◌, Some, sym, subst, ◌∙◌, a
 use Rattle.krl_queue.specs.declared.waiter.Waiter.{Waiter}
 use Rattle.krl_table.specs.Rows.{front_of}
 use Rattle.krl_table.specs.Kept.{rows_of}
-use Rattle.krl_server.specs.States.{meaning}
-use Rattle.krl_server.specs.Shows.{IsSound}
+use Rattle.krl_server.specs.StateMeaning.{meaning}
+use Rattle.krl_server.specs.AsLinks.{IsSound}
 use Rattle.krl_server.specs.declared.state.State.{State}
 use Rattle.krl_server.specs.Answering.{can_push}
-use Rattle.krl_server.specs.Doing.{HasTurned}
-use Rattle.krl_server.proofs.Numbers.{sixty_four}
-use Rattle.krl_server.proofs.Turning.{front_in, if_some, not_answerable, turned_grant, turned_absent}
+use Rattle.krl_server.specs.CodeSteps.{HasTurned}
+use Rattle.krl_server.proofs.Outputs.Numbers.{sixty_four}
+use Rattle.krl_server.proofs.Code.FirstTurn.{front_in, if_some, not_answerable, turned_grant, turned_absent}
 use Rattle.krl_server.proofs.state.State.answer_first.Goals as goal
 
 own : (st : State) (n : _) (u : Waiter) → IsSound (meaning st) → front_of (rows_of st.table n).queue ≡ Some u → u.client < 64

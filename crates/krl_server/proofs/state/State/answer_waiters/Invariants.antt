@@ -2,13 +2,13 @@ use Rattle.std.proofs.Common.{◌≤◌, ◌+◌, ◌-◌, List, length}
 use Rattle.krl_messages.specs.declared.to_client.ToClient.{ToClient}
 use Rattle.krl_table.specs.Kept.{rows_of}
 use Rattle.krl_table.specs.Sound.{IsTable}
-use Rattle.krl_server.specs.Ends.{waiting}
-use Rattle.krl_server.specs.Shows.{IsSound}
-use Rattle.krl_server.specs.States.{meaning, IsFormed}
+use Rattle.krl_server.specs.Termination.{waiting}
+use Rattle.krl_server.specs.AsLinks.{IsSound}
+use Rattle.krl_server.specs.StateMeaning.{meaning, IsFormed}
 use Rattle.krl_server.specs.Outboxes.{Sends}
-use Rattle.krl_server.specs.Doing.{HaveWaiters}
-use Rattle.krl_server.proofs.Rounds.{HasBegun}
-use Rattle.krl_server.proofs.Listed.{AreLeft}
+use Rattle.krl_server.specs.CodeSteps.{HaveWaiters}
+use Rattle.krl_server.proofs.Code.Rounds.{HasBegun}
+use Rattle.krl_server.proofs.Code.Listed.{AreLeft}
 use Rattle.krl_server.proofs.state.State.answer_waiters.Given as goal
 
 abbrev pub invariant-loop-i : goal.invariant-loop-i

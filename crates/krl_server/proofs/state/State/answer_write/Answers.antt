@@ -1,7 +1,7 @@
 use Rattle.std.proofs.Common.{◌∙◌, ap, arith}
 use Rattle.krl_messages.specs.declared.to_client.PushBody.TheVariants as push
 use Rattle.krl_durable.specs.Index.{slot_of}
-use Rattle.krl_server.specs.States.{meaning}
+use Rattle.krl_server.specs.StateMeaning.{meaning}
 use Rattle.krl_server.specs.Effects.{pushes, holding}
 use Rattle.krl_server.proofs.state.State.answer_write.Goals as goal
 

@@ -3,7 +3,7 @@ use Rattle.std.proofs.lemmas.List.{take_more, length-take-le}
 use Rattle.krl_messages.specs.declared.holding.Holding.{Holding}
 use Rattle.krl_messages.specs.Several.{Ascend}
 use Rattle.krl_server.specs.Servers.{Server}
-use Rattle.krl_server.specs.States.{meaning}
+use Rattle.krl_server.specs.StateMeaning.{meaning}
 use Rattle.krl_server.specs.Effects.{holding, holdings}
 use Rattle.krl_server.proofs.Grants.{ascend_take, holdings_on, holdings_long}
 use Rattle.krl_server.proofs.state.State.holdings.Goals as goal

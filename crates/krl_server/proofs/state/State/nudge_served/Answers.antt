@@ -1,7 +1,7 @@
 use Rattle.std.proofs.Common.{◌<◌, length, ap, arith}
 use Rattle.krl_table.specs.Rows.{most_clients}
-use Rattle.krl_server.specs.States.{meaning}
-use Rattle.krl_server.proofs.Numbers.{sixty_four, for_few}
+use Rattle.krl_server.specs.StateMeaning.{meaning}
+use Rattle.krl_server.proofs.Outputs.Numbers.{sixty_four, for_few}
 use Rattle.krl_server.proofs.state.State.nudge_served.Goals as goal
 
 pub call_back_for-requires-clause-room : goal.call_back_for-requires-clause-room

@@ -1,14 +1,14 @@
 use Rattle.std.proofs.Common.{◌<◌, sym, ap, subst, ◌∙◌}
 use Rattle.krl_queue.specs.declared.waiter.Waiter.{Waiter}
 use Rattle.krl_table.specs.Kept.{rows_of}
-use Rattle.krl_server.specs.States.{meaning, meant}
+use Rattle.krl_server.specs.StateMeaning.{meaning, meant}
 use Rattle.krl_server.specs.Effects.{acknowledged, answers}
 use Rattle.krl_server.specs.Outboxes.{as_list}
 use Rattle.krl_server.specs.declared.case.Performed.{Performed}
-use Rattle.krl_server.specs.Doing.{IsPerformed}
+use Rattle.krl_server.specs.CodeSteps.{IsPerformed}
 use Rattle.krl_server.specs.Cases.{Judges}
 use Rattle.krl_table.specs.Waiters.{WaitsNowhere}
-use Rattle.krl_server.proofs.Facts.{facts_of, waits_nowhere, performed_write, performed_again}
+use Rattle.krl_server.proofs.Code.Facts.{facts_of, waits_nowhere, performed_write, performed_again}
 use Rattle.krl_server.proofs.state.State.perform.Goals as goal
 
 pub register-requires-clause-client : goal.register-requires-clause-client

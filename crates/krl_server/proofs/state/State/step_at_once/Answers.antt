@@ -3,14 +3,14 @@ use Rattle.std.specs.Prelude.{if◌then◌else◌}
 use Rattle.krl_server.specs.Callbacks.{callbacks}
 use Rattle.krl_server.specs.Cases.{is_alarm}
 use Rattle.krl_server.specs.Changes.{change_of}
-use Rattle.krl_server.specs.Doing.{HaveWaiters}
+use Rattle.krl_server.specs.CodeSteps.{HaveWaiters}
 use Rattle.krl_server.specs.Outboxes.{Sent}
-use Rattle.krl_server.specs.States.{meaning, meant}
+use Rattle.krl_server.specs.StateMeaning.{meaning, meant}
 use Rattle.krl_server.specs.Steps.{ServerStep}
-use Rattle.krl_server.proofs.Boxes.{sends_length}
-use Rattle.krl_server.proofs.Facts.{facts_of}
-use Rattle.krl_server.proofs.Listed.{listed}
-use Rattle.krl_server.proofs.AtOnce.{made_at_once}
+use Rattle.krl_server.proofs.Code.Boxes.{sends_length}
+use Rattle.krl_server.proofs.Code.Facts.{facts_of}
+use Rattle.krl_server.proofs.Code.Listed.{listed}
+use Rattle.krl_server.proofs.Code.AtOnce.{made_at_once}
 use Rattle.krl_server.proofs.state.State.step_at_once.Goals as goal
 
 pub grant_at_once-requires-clause-client : goal.grant_at_once-requires-clause-client

@@ -1,12 +1,12 @@
 use Rattle.std.proofs.Common.{◌++◌, [], sym, ap, subst, ◌∙◌}
 use Rattle.krl_table.specs.Sound.{IsTable}
-use Rattle.krl_server.specs.States.{meaning}
-use Rattle.krl_server.specs.Shows.{IsSound}
+use Rattle.krl_server.specs.StateMeaning.{meaning}
+use Rattle.krl_server.specs.AsLinks.{IsSound}
 use Rattle.krl_server.specs.Steps.{ServerStep}
 use Rattle.krl_server.specs.Outboxes.{Sent}
-use Rattle.krl_server.proofs.Kept.{effect_table}
-use Rattle.krl_server.proofs.Sounds.{effect_sound}
-use Rattle.krl_server.proofs.Stepped.{room_left, step_is, alarm_said}
+use Rattle.krl_server.proofs.Invariant.Kept.{effect_table}
+use Rattle.krl_server.proofs.Invariant.Sounds.{effect_sound}
+use Rattle.krl_server.proofs.Code.Stepped.{room_left, step_is, alarm_said}
 use Rattle.krl_server.proofs.state.State.step_by_turns.Goals as goal
 
 pub finish-requires-clause-sound : goal.finish-requires-clause-sound

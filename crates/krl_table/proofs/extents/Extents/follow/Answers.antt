@@ -2,7 +2,7 @@ use Rattle.std.proofs.Common.{ℕ, sym, subst, ◌∙◌}
 use Rattle.std.proofs.lemmas.List.{length-set}
 use Rattle.krl_table.specs.declared.extent.Extent.{Extent}
 use Rattle.krl_table.specs.Extents.{Lies, extent_in}
-use Rattle.krl_table.proofs.Within.{follow_wider, follow_there}
+use Rattle.krl_table.proofs.Invariant.Within.{follow_wider, follow_there}
 use Rattle.krl_table.proofs.extents.Extents.follow.Goals as goal
 
 pub loop-client-preserved : goal.loop-client-preserved

@@ -1,5 +1,5 @@
 use Rattle.std.proofs.Common.{ap}
-use Rattle.krl_table.proofs.Means.{blank_is}
+use Rattle.krl_table.proofs.Rows.RowChanges.{blank_is}
 use Rattle.krl_table.proofs.row.SlotRow.is_blank.Goals as goal
 
 pub returns-then-is_empty : goal.returns-then-is_empty

@@ -3,7 +3,7 @@ use Rattle.krl_modes.specs.declared.mode.Mode.TheVariants as mode
 use Rattle.krl_table.specs.Rows.{Row}
 use Rattle.krl_table.specs.Calls.{with_mode}
 use Rattle.krl_table.specs.Kept.{row_of}
-use Rattle.krl_table.proofs.Means.{blank_is, modes-set}
+use Rattle.krl_table.proofs.Rows.RowChanges.{blank_is, modes-set}
 use Rattle.krl_table.proofs.row.SlotRow.is_blank_beside.Goals as goal
 
 pub returns-then-is_empty : goal.returns-then-is_empty

@@ -3,7 +3,7 @@ use Rattle.std.proofs.Common.{ne_eqb}
 use Rattle.std.proofs.lemmas.Bool.{or_from}
 use Rattle.krl_modes.specs.Modes.{compatible}
 use Rattle.krl_table.specs.Kept.{mode_of}
-use Rattle.krl_table.proofs.Below.{all_clients, not_all_clients}
+use Rattle.krl_table.proofs.Rows.Below.{all_clients, not_all_clients}
 use Rattle.krl_table.proofs.row.SlotRow.is_compatible_there.Goals as goal
 
 pub returns-then-not-compatible : goal.returns-then-not-compatible

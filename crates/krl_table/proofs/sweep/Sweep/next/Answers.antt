@@ -1,7 +1,7 @@
 use Rattle.std.proofs.Common.{subst, arith}
 use Rattle.krl_messages.specs.declared.pieces.Pieces.{Pieces}
-use Rattle.krl_table.specs.Reported.{NothingFrom, IsNextReported}
-use Rattle.krl_table.proofs.Reported.{ranges_nearer, next_reported, nothing_more}
+use Rattle.krl_table.specs.ReportSweep.{NothingFrom, IsNextReported}
+use Rattle.krl_table.proofs.ReportRows.PieceByPiece.{ranges_nearer, next_reported, nothing_more}
 use Rattle.krl_table.proofs.sweep.Sweep.next.Goals as goal
 
 pub returns-then-next-gt-END-clause-none : goal.returns-then-next-gt-END-clause-none

@@ -3,10 +3,10 @@ use Rattle.krl_modes.specs.declared.point.TheConstants.{TOP}
 use Rattle.krl_modes.specs.declared.mode.Mode.TheVariants as mode
 use Rattle.krl_table.specs.Reports.{conflicts, adopted}
 use Rattle.krl_table.specs.Kept.{most_rows, rows_of, IsOver}
-use Rattle.krl_table.proofs.Sounds.{listed_same}
-use Rattle.krl_table.proofs.Clears.{lowered_sound, lowered_queue, lowered_over}
-use Rattle.krl_table.proofs.Reported.{no_conflict, compatible_all, adopted_queue, adopted_sound, adopted_same, emptied_at, emptied_off, emptied_is_compatible}
-use Rattle.krl_table.proofs.Within.{all_lowered, lower_within}
+use Rattle.krl_table.proofs.Invariant.Sounds.{listed_same}
+use Rattle.krl_table.proofs.Calls.Clears.{lowered_sound, lowered_queue, lowered_over}
+use Rattle.krl_table.proofs.ReportRows.PieceByPiece.{no_conflict, compatible_all, adopted_queue, adopted_sound, adopted_same, emptied_at, emptied_off, emptied_is_compatible}
+use Rattle.krl_table.proofs.Invariant.Within.{all_lowered, lower_within}
 use Rattle.krl_table.proofs.table.Table.adopt_report.Goals as goal
 
 pub all_compatible-requires : goal.all_compatible-requires
@@ -45,7 +45,7 @@ returns-clause-adopted c n =
     let m = c.args.durable.now.index in let t = c.self.inside.rows.map in let v = c.lower.new.rows.map in
     let over = subst (IsOver m) (sym c.self.view_is) c.requires.over in
     c.settle.ensures.adopted n
-    ∙ adopted_same m c.args.client c.args.pieces.now t v over (λ k e. emptied_off c.args.client t v all m over k e) (λ k e. Rattle.krl_table.proofs.Reported.blank_off c.args.client t v all m over k e) n
+    ∙ adopted_same m c.args.client c.args.pieces.now t v over (λ k e. emptied_off c.args.client t v all m over k e) (λ k e. Rattle.krl_table.proofs.ReportRows.PieceByPiece.blank_off c.args.client t v all m over k e) n
     ∙ ap (λ x. adopted m (rows_of x) c.args.client c.args.pieces.now n) c.self.view_is
 
 pub returns-clause-conflict : goal.returns-clause-conflict

@@ -7,7 +7,7 @@ use Rattle.krl_table.specs.Rows.{is_compatible_in_row, blank_row}
 use Rattle.krl_table.specs.Calls.{wanted}
 use Rattle.krl_table.specs.Grants.{nobody_waits}
 use Rattle.krl_table.specs.Kept.{row_of, row_there, row_takes}
-use Rattle.krl_table.proofs.Raises.{blank_is_compatible}
+use Rattle.krl_table.proofs.Calls.Raises.{blank_is_compatible}
 use Rattle.krl_table.proofs.table.Table.can_take.Goals as goal
 
 second : (a b d : Bool) → (a && (b && d)) ≡ true → b ≡ true

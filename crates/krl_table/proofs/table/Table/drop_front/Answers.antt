@@ -3,9 +3,9 @@ use Rattle.std.specs.Prelude.{is_some}
 use Rattle.std.specs.FinMap.{get}
 use Rattle.krl_table.specs.declared.row.SlotRow.{SlotRow}
 use Rattle.krl_table.specs.Kept.{most_rows, rows_of, IsOver, AreListed}
-use Rattle.krl_table.proofs.Fronts.{front_client, dropped_sound, dropped_listed, dropped_over}
-use Rattle.krl_table.proofs.Sounds.{row_end}
-use Rattle.krl_table.proofs.Within.{same_wider, within_less, free_behind}
+use Rattle.krl_table.proofs.Calls.Fronts.{front_client, dropped_sound, dropped_listed, dropped_over}
+use Rattle.krl_table.proofs.Invariant.Sounds.{row_end}
+use Rattle.krl_table.proofs.Invariant.Within.{same_wider, within_less, free_behind}
 use Rattle.krl_table.proofs.table.Table.drop_front.Goals as goal
 
 some_of : (o : Option SlotRow) → is_some o ≡ true → IsSome o

@@ -3,10 +3,10 @@ use Rattle.krl_modes.specs.declared.point.TheConstants.{END}
 use Rattle.krl_queue.specs.Waiting.{first_of}
 use Rattle.krl_table.specs.Kept.{most_rows, rows_of, IsOver, AreListed}
 use Rattle.krl_table.specs.Extents.{extent_in, Lies}
-use Rattle.krl_table.proofs.Rooms.{room_at}
-use Rattle.krl_table.proofs.Slots.{slot_end}
-use Rattle.krl_table.proofs.Fronts.{more_sound, more_listed, more_over}
-use Rattle.krl_table.proofs.Within.{within_one, free_queue_with}
+use Rattle.krl_table.proofs.Invariant.Rooms.{room_at}
+use Rattle.krl_table.proofs.Rows.Slots.{slot_end}
+use Rattle.krl_table.proofs.Calls.Fronts.{more_sound, more_listed, more_over}
+use Rattle.krl_table.proofs.Invariant.Within.{within_one, free_queue_with}
 use Rattle.krl_table.proofs.table.Table.enqueue.Goals as goal
 
 pub enqueue-requires-clause-room : goal.enqueue-requires-clause-room

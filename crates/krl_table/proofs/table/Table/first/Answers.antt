@@ -3,8 +3,8 @@ use Rattle.std.specs.FinMap.{get}
 use Rattle.krl_queue.specs.declared.waiter.Waiter.{Waiter}
 use Rattle.krl_table.specs.Rows.{front_of}
 use Rattle.krl_table.specs.Kept.{row_there, rows_of}
-use Rattle.krl_table.proofs.Means.{front-is}
-use Rattle.krl_table.proofs.Fronts.{front_client}
+use Rattle.krl_table.proofs.Rows.RowChanges.{front-is}
+use Rattle.krl_table.proofs.Calls.Fronts.{front_client}
 use Rattle.krl_table.proofs.table.Table.first.Goals as goal
 
 no_first : (us : List Waiter) → slice_get us 0 ≡ None → us ≡ []

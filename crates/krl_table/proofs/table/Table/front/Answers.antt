@@ -2,8 +2,8 @@ use Rattle.std.proofs.Common.{◌≡◌, ◌<◌, Some, IfSome, sym, ap, subst, 
 use Rattle.std.specs.FinMap.{get}
 use Rattle.krl_table.specs.Rows.{front_of}
 use Rattle.krl_table.specs.Kept.{row_there}
-use Rattle.krl_table.proofs.Means.{front-is}
-use Rattle.krl_table.proofs.Fronts.{front_client}
+use Rattle.krl_table.proofs.Rows.RowChanges.{front-is}
+use Rattle.krl_table.proofs.Calls.Fronts.{front_client}
 use Rattle.krl_table.proofs.table.Table.front.Goals as goal
 
 pub returns-in-Some-clause-client : goal.returns-in-Some-clause-client

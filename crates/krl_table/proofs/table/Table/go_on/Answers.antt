@@ -4,7 +4,7 @@ use Rattle.krl_durable.specs.Index.{is_slot}
 use Rattle.krl_table.specs.Calls.{raised}
 use Rattle.krl_table.specs.Replies.{is_wanted_compatible}
 use Rattle.krl_table.specs.Kept.{rows_of}
-use Rattle.krl_table.proofs.Raises.{IsGoing, begins, ends_rows, ends_taken, test_ends, goes}
+use Rattle.krl_table.proofs.Calls.Raises.{IsGoing, begins, ends_rows, ends_taken, test_ends, goes}
 use Rattle.krl_table.proofs.table.Table.go_on.Goals as goal
 
 room : (b : Bool) (n : ℕ) → b ≡ false → b ≡ (n == 8) → n ≤ 8 → n < 8

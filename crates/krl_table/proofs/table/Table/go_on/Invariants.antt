@@ -1,5 +1,5 @@
 use Rattle.std.proofs.Common.{◌-◌, length}
-use Rattle.krl_table.proofs.Raises.{IsGoing}
+use Rattle.krl_table.proofs.Calls.Raises.{IsGoing}
 use Rattle.krl_table.proofs.table.Table.go_on.Given as goal
 
 abbrev pub invariant-loop-self : goal.invariant-loop-self

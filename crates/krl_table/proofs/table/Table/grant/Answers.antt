@@ -4,8 +4,8 @@ use Rattle.krl_table.specs.Rows.{Rows}
 use Rattle.krl_table.specs.Calls.{raised_on, granted_first}
 use Rattle.krl_table.specs.Grants.{taken_after}
 use Rattle.krl_table.specs.Kept.{rows_of}
-use Rattle.krl_table.proofs.Raises.{granted_from, taken_from, one_noted, unwrapped}
-use Rattle.krl_table.proofs.Fronts.{front_there}
+use Rattle.krl_table.proofs.Calls.Raises.{granted_from, taken_from, one_noted, unwrapped}
+use Rattle.krl_table.proofs.Calls.Fronts.{front_there}
 use Rattle.krl_table.proofs.table.Table.grant.Goals as goal
 
 pub unwrap-requires : goal.unwrap-requires

@@ -6,9 +6,9 @@ use Rattle.krl_table.specs.Calls.{raised_on}
 use Rattle.krl_table.specs.Replies.{is_wanted_compatible}
 use Rattle.krl_table.specs.Grants.{nobody_waits, taken_after}
 use Rattle.krl_table.specs.Kept.{rows_of}
-use Rattle.krl_table.proofs.Answering.{lacks_is}
-use Rattle.krl_table.proofs.Raises.{one_noted, unwrapped}
-use Rattle.krl_table.proofs.AtOnce.{at_once_is, at_once_granted, at_once_taken}
+use Rattle.krl_table.proofs.Calls.Answering.{lacks_is}
+use Rattle.krl_table.proofs.Calls.Raises.{one_noted, unwrapped}
+use Rattle.krl_table.proofs.Calls.AtOnce.{at_once_is, at_once_granted, at_once_taken}
 use Rattle.krl_table.proofs.table.Table.grant_at_once.Goals as goal
 
 first_of_two : (a b : Bool) → (a && b) ≡ true → a ≡ true

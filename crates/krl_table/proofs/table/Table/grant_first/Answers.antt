@@ -4,10 +4,10 @@ use Rattle.krl_table.specs.Rows.{front_of}
 use Rattle.krl_table.specs.Replies.{is_wanted_compatible}
 use Rattle.krl_table.specs.Calls.{granted_first}
 use Rattle.krl_table.specs.Kept.{most_rows, rows_of, IsOver, AreListed}
-use Rattle.krl_table.proofs.Means.{set_rows}
-use Rattle.krl_table.proofs.Fronts.{front_client, granted_sound, granted_listed, granted_over}
-use Rattle.krl_table.proofs.Sounds.{row_end}
-use Rattle.krl_table.proofs.Within.{same_wider, within_less, free_granted}
+use Rattle.krl_table.proofs.Rows.RowChanges.{set_rows}
+use Rattle.krl_table.proofs.Calls.Fronts.{front_client, granted_sound, granted_listed, granted_over}
+use Rattle.krl_table.proofs.Invariant.Sounds.{row_end}
+use Rattle.krl_table.proofs.Invariant.Within.{same_wider, within_less, free_granted}
 use Rattle.krl_table.proofs.table.Table.grant_first.Goals as goal
 
 pub grant-first-requires : goal.grant-first-requires

@@ -5,7 +5,7 @@ use Rattle.krl_table.specs.Rows.{is_compatible_in_row, blank_row}
 use Rattle.krl_table.specs.Calls.{wanted}
 use Rattle.krl_table.specs.Grants.{nobody_waits}
 use Rattle.krl_table.specs.Kept.{row_there}
-use Rattle.krl_table.proofs.Raises.{blank_is_compatible}
+use Rattle.krl_table.proofs.Calls.Raises.{blank_is_compatible}
 use Rattle.krl_table.proofs.table.Table.is_free_for.Goals as goal
 
 pub returns-in-None : goal.returns-in-None

@@ -2,9 +2,10 @@ use Rattle.std.proofs.Common.{◌≡◌, ◌≤◌, ◌<◌, ℕ, true, sym, ap,
 use Rattle.krl_durable.specs.Index.{Index, low_of, is_slot, IsSlotOf}
 use Rattle.krl_table.specs.Calls.{lowered}
 use Rattle.krl_table.specs.Kept.{most_rows, rows_of, IsOver}
-use Rattle.krl_table.proofs.Sounds.{listed_same}
-use Rattle.krl_table.proofs.Clears.{lowered_sound, lowered_queue, lowered_over, lowered_is, begins_past, begins_at}
-use Rattle.krl_table.proofs.Within.{lower_within}
+use Rattle.krl_table.proofs.Invariant.Sounds.{listed_same}
+use Rattle.krl_table.proofs.Calls.Clears.{lowered_sound, lowered_queue, lowered_over, lowered_is, begins_past}
+use Rattle.krl_table.proofs.Calls.Clears.{begins_at}
+use Rattle.krl_table.proofs.Invariant.Within.{lower_within}
 use Rattle.krl_table.proofs.table.Table.lower.Goals as goal
 use Rattle.krl_table.proofs.table.Table.lower.Goals.{then-first-lo, else-first-lo}
 

@@ -9,9 +9,9 @@ use Rattle.krl_table.specs.Rows.{mode_at}
 use Rattle.krl_table.specs.Calls.{merged}
 use Rattle.krl_table.specs.Points.{range_at, key_at, MayDelete}
 use Rattle.krl_table.specs.Kept.{most_rows, Kept, rows_of, IsOver}
-use Rattle.krl_table.proofs.Sounds.{held_row}
-use Rattle.krl_table.proofs.Merges.{its_gap, its_next, under, merge_rows, merge_listed, merge_sound, merge_over, merge_ranges, merge_keys}
-use Rattle.krl_table.proofs.Within.{merge_within}
+use Rattle.krl_table.proofs.Invariant.Sounds.{held_row}
+use Rattle.krl_table.proofs.Calls.Merges.{its_gap, its_next, under, merge_rows, merge_listed, merge_sound, merge_over, merge_ranges, merge_keys}
+use Rattle.krl_table.proofs.Invariant.Within.{merge_within}
 use Rattle.krl_table.proofs.table.Table.merge.Goals as goal
 
 -- who has a gap alone holds something

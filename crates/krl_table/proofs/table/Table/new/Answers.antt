@@ -2,9 +2,9 @@ use Rattle.std.proofs.Common.{◌≤◌, ℕ, sym, ap, subst, ◌∙◌, arith}
 use Rattle.std.specs.FinMap.{get, get-empty}
 use Rattle.std.specs.Ordering.{nat_cmp}
 use Rattle.krl_table.specs.Kept.{most_rows}
-use Rattle.krl_table.proofs.Nothing.{nothing_sound, nothing_over, nothing_listed, nothing_rows}
-use Rattle.krl_table.proofs.Rooms.{rows_are}
-use Rattle.krl_table.proofs.Within.{none_within}
+use Rattle.krl_table.proofs.Rows.Nothing.{nothing_sound, nothing_over, nothing_listed, nothing_rows}
+use Rattle.krl_table.proofs.Invariant.Rooms.{rows_are}
+use Rattle.krl_table.proofs.Invariant.Within.{none_within}
 use Rattle.krl_table.proofs.table.Table.new.Goals as goal
 
 pub invariant_of-result : goal.invariant_of-result

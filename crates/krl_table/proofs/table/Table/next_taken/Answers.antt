@@ -4,7 +4,7 @@ use Rattle.std.specs.Prelude.{nat_lt}
 use Rattle.krl_modes.specs.declared.point.TheConstants.{END}
 use Rattle.krl_durable.specs.Index.{slot_of}
 use Rattle.krl_table.specs.Kept.{rows_of, IsTaken}
-use Rattle.krl_table.proofs.Raises.{by_take}
+use Rattle.krl_table.proofs.Calls.Raises.{by_take}
 use Rattle.krl_table.proofs.table.Table.next_taken.Goals as goal
 
 -- what holds of the number holds of its point

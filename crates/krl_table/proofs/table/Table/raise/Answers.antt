@@ -2,11 +2,11 @@ use Rattle.std.proofs.Common.{◌≡◌, ◌≤◌, true, sym, ap, subst, ◌∙
 use Rattle.krl_table.specs.Calls.{raised}
 use Rattle.krl_table.specs.Replies.{is_wanted_compatible}
 use Rattle.krl_table.specs.Kept.{most_rows, rows_of, IsOver}
-use Rattle.krl_table.proofs.Means.{set_rows}
-use Rattle.krl_table.proofs.Rooms.{room_at}
-use Rattle.krl_table.proofs.Slots.{slot_end}
-use Rattle.krl_table.proofs.Raises.{raised_sound, raised_listed, raised_over}
-use Rattle.krl_table.proofs.Within.{within_one, free_mode}
+use Rattle.krl_table.proofs.Rows.RowChanges.{set_rows}
+use Rattle.krl_table.proofs.Invariant.Rooms.{room_at}
+use Rattle.krl_table.proofs.Rows.Slots.{slot_end}
+use Rattle.krl_table.proofs.Calls.Raises.{raised_sound, raised_listed, raised_over}
+use Rattle.krl_table.proofs.Invariant.Within.{within_one, free_mode}
 use Rattle.krl_table.proofs.table.Table.raise.Goals as goal
 
 pub raise-requires : goal.raise-requires

@@ -10,10 +10,10 @@ use Rattle.krl_table.specs.Calls.{split}
 use Rattle.krl_table.specs.Points.{range_at, key_at, MayInsert}
 use Rattle.krl_table.specs.Kept.{most_rows, Kept, rows_of, IsOver}
 use Rattle.krl_table.specs.Extents.{extent_in, Lies}
-use Rattle.krl_table.proofs.Sounds.{held_row}
-use Rattle.krl_table.proofs.Rooms.{room_new}
-use Rattle.krl_table.proofs.Splits.{apart, split_rows, split_listed, split_sound, split_over, split_ranges, split_keys, split_own}
-use Rattle.krl_table.proofs.Within.{split_within}
+use Rattle.krl_table.proofs.Invariant.Sounds.{held_row}
+use Rattle.krl_table.proofs.Invariant.Rooms.{room_new}
+use Rattle.krl_table.proofs.Calls.Splits.{apart, split_rows, split_listed, split_sound, split_over, split_ranges, split_keys, split_own}
+use Rattle.krl_table.proofs.Invariant.Within.{split_within}
 use Rattle.krl_table.proofs.table.Table.split.Goals as goal
 
 -- who may insert holds something

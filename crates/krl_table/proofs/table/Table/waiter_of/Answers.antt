@@ -2,8 +2,8 @@ use Rattle.std.proofs.Common.{◌≡◌, None, sym, ap, subst, ◌∙◌}
 use Rattle.krl_table.specs.Kept.{rows_of, IsOver}
 use Rattle.krl_table.specs.Rows.{waiter_of}
 use Rattle.krl_table.specs.Sound.{IsTable}
-use Rattle.krl_table.proofs.Waiters.{none_waits, listed_waiter}
-use Rattle.krl_table.proofs.Sounds.{sound_table}
+use Rattle.krl_table.proofs.Rows.Waiters.{none_waits, listed_waiter}
+use Rattle.krl_table.proofs.Invariant.Sounds.{sound_table}
 use Rattle.krl_table.proofs.table.Table.waiter_of.Goals as goal
 
 pub returns-clause-waiter : goal.returns-clause-waiter

@@ -2,7 +2,7 @@ use Rattle.std.proofs.Common.{◌≡◌, ◌+◌, ◌≤◌, ◌++◌, ◌∷◌
 use Rattle.krl_durable.specs.Index.{Index, IsSlotOf}
 use Rattle.krl_modes.specs.declared.point.TheConstants.{END}
 use Rattle.krl_table.specs.Kept.{IsSound, AreListed}
-use Rattle.krl_table.proofs.NextWaiting.{AreFound, count_from, none_found, all_found, fewer_left, room_for_slot, one_found}
+use Rattle.krl_table.proofs.Rows.NextWaiting.{AreFound, count_from, none_found, all_found, fewer_left, room_for_slot, one_found}
 use Rattle.krl_table.proofs.table.Table.waiting_slots.Goals as goal
 
 -- the slot, as it was found

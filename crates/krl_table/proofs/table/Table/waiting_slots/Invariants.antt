@@ -1,4 +1,4 @@
-use Rattle.krl_table.proofs.NextWaiting.{AreFound, count_from}
+use Rattle.krl_table.proofs.Rows.NextWaiting.{AreFound, count_from}
 use Rattle.krl_table.proofs.table.Table.waiting_slots.Given as goal
 
 abbrev pub invariant-loop-point : goal.invariant-loop-point

@@ -1,5 +1,5 @@
 use Rattle.std.proofs.Common.{◌+◌, sym, subst}
-use Rattle.krl_table.proofs.Holds.{AreCounted, all_counted, one_counted, none_more}
+use Rattle.krl_table.proofs.Rows.Holds.{AreCounted, all_counted, one_counted, none_more}
 use Rattle.krl_table.proofs.table.shown.count_held.Goals as goal
 use Rattle.krl_table.proofs.table.shown.count_held.Goals.{then-holds, else-holds}
 

@@ -1,5 +1,5 @@
 use Rattle.std.proofs.Common.{eqb-true, eq-eqb, sym, ◌∙◌}
-use Rattle.krl_table.proofs.Counted.{none_counted, counts_none}
+use Rattle.krl_table.proofs.Rows.Counted.{none_counted, counts_none}
 use Rattle.krl_table.proofs.waiting.Waiting.is_empty.Goals as goal
 
 pub returns : goal.returns

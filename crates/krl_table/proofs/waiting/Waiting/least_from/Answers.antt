@@ -1,6 +1,6 @@
 use Rattle.std.proofs.Common.{None, arith}
 use Rattle.std.proofs.lemmas.List.{get_or_default}
-use Rattle.krl_table.proofs.NextWaiting.{none_least, next_least, all_least}
+use Rattle.krl_table.proofs.Rows.NextWaiting.{none_least, next_least, all_least}
 use Rattle.krl_table.proofs.waiting.Waiting.least_from.Goals as goal
 
 pub loop-waiter-init : goal.loop-waiter-init

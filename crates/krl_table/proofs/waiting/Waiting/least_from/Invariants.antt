@@ -1,4 +1,4 @@
-use Rattle.krl_table.proofs.NextWaiting.{IsLeastBelow}
+use Rattle.krl_table.proofs.Rows.NextWaiting.{IsLeastBelow}
 use Rattle.krl_table.proofs.waiting.Waiting.least_from.Given as goal
 
 abbrev pub invariant-loop-waiter : goal.invariant-loop-waiter

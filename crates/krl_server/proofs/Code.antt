@@ -1,0 +1,20 @@
+-- What the contracts of the code's functions cite, up to the clauses of `Server::step`.
+pub mod AtOnce
+pub mod Boxes
+pub mod CallbackLoop
+pub mod Changed
+pub mod Facts
+pub mod Finishing
+pub mod Known
+pub mod Listed
+pub mod StateChanges
+pub mod NudgeMessages
+pub mod Rooms
+pub mod Rounds
+pub mod StepClauses
+pub mod Standing
+pub mod Started
+pub mod Stepped
+pub mod FirstTurn
+pub mod WaitersByClient
+pub mod WaitsFor

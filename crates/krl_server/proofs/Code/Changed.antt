@@ -1,0 +1,105 @@
+-- What a write that is Applied asks of the table, and what it leaves over the index.
+use Rattle.std.proofs.Common.{◌≡◌, ℕ, suc, ◌≤◌, ◌<◌, Bool, true, false, ◌||◌, Option, Some, None, refl, sym, ap, subst, ◌∙◌, arith}
+use Rattle.std.proofs.Common.{nat_eq, ltb-true}
+use Rattle.std.specs.Prelude.{is_some, not, nat_lt, length}
+use Rattle.std.specs.FinMap as map
+use Rattle.krl_modes.specs.declared.point.TheConstants.{END}
+use Rattle.krl_messages.specs.Values.{Value}
+use Rattle.krl_messages.specs.declared.write_op.WriteOp.{WriteOp}
+use Rattle.krl_messages.specs.declared.write_op.WriteOp.TheVariants as write
+use Rattle.krl_messages.specs.declared.outcome.Outcome.{Outcome}
+use Rattle.krl_messages.specs.declared.outcome.Outcome.TheVariants as outcome
+use Rattle.krl_protocol.proofs.Worlds.{eq_cases}
+use Rattle.krl_durable.specs.Index.{Index, slot_of, is_slot, IsSlotOf}
+use Rattle.krl_messages.specs.Writes.{op_key}
+use Rattle.krl_durable.specs.Writes.{held, judge, judged_insert, index_after, most_entries}
+use Rattle.krl_table.specs.Rows.{column}
+use Rattle.krl_table.specs.Kept.{Kept, rows_of, IsOver}
+use Rattle.krl_table.proofs.Rows.Slots.{slot_is, next_of}
+use Rattle.krl_table.specs.Points.{MayInsert, MayDelete}
+use Rattle.krl_server.proofs.Refinement.Splits.{get_here, get_other}
+use Rattle.krl_server.proofs.Refinement.Writes.{insert_may, change_may}
+
+is_none : {A : Type 0} (o : Option A) → is_some o ≡ false → o ≡ None
+is_none None e = refl
+is_none (Some x) e = absurd (cc)
+
+-- an insert that is Applied finds room
+insert_room : (present may full : Bool) → judged_insert present may full ≡ outcome.Applied → full ≡ false
+insert_room true may full e = absurd (cc)
+insert_room false false full e = absurd (cc)
+insert_room false true true e = absurd (cc)
+insert_room false true false e = refl
+
+room_left : (n : ℕ) → not (nat_lt n most_entries) ≡ false → n < most_entries
+room_left n e = by_test (nat_lt n most_entries) refl e
+  where
+    by_test : (b : Bool) → nat_lt n most_entries ≡ b → not b ≡ false → n < most_entries
+    by_test true f g = ltb-true n most_entries f
+    by_test false f g = absurd (cc)
+
+-- another value leaves the slots
+module _ (m : Index) (k : ℕ) (v : Value) (may : Bool) (lt : k < END) (e : judge m (write.Put k v) may ≡ outcome.Applied) where
+  same_slots : (n : ℕ) → is_slot (map.insert m k v) n ≡ is_slot m n
+  same_slots n = eq_cases n k
+      (λ f. subst (λ x. is_slot (map.insert m k v) x ≡ is_slot m x) (sym f)
+      (ap (λ o. nat_eq k END || is_some o) (get_here m k v) ∙ sym (ap (λ b. nat_eq k END || b) (change_may (is_some (map.get m k)) may e).0)))
+      (λ ne. ap (λ o. nat_eq n END || is_some o) (get_other m k v n ne))
+
+  still_near : ((n : ℕ) → END ≤ n → map.get m n ≡ None) → (n : ℕ) → END ≤ n → map.get (map.insert m k v) n ≡ None
+  still_near near n le = get_other m k v n (λ f. omega (arith, f, le, lt)) ∙ near n le
+
+  pub put_over : (t : Kept) → IsOver m t → IsOver (map.insert m k v) t
+  put_over t over = record {
+    near = still_near over.near;
+    within = λ n h. same_slots n ∙ over.within n h;
+    points = over.points;
+    placed = λ n u at. slot_is (map.insert m k v) (still_near over.near) u.point n (over.points n u at)
+        (same_place (subst (IsSlotOf m u.point) (over.placed n u at) (next_of m over.near u.point (over.points n u at))));
+  }
+    where
+      same_place : {p n : ℕ} → IsSlotOf m p n → IsSlotOf (map.insert m k v) p n
+      same_place {n = n} x = record { slot = same_slots n ∙ x.slot; above = x.above; least = λ j a b. same_slots j ∙ x.least j a b }
+
+-- a write of this shape that is Applied
+pub put_after : (m : Index) (t : Kept) (op : WriteOp) (o : Outcome) (k : ℕ) (v : Value) (may : Bool) → op ≡ write.Put k v → o ≡ outcome.Applied → op_key op < END → judge m op may ≡ o → IsOver m t → IsOver (index_after m op o) t
+put_after m t op o k v may e f lt is over =
+    subst (λ x. IsOver (index_after m op x) t) (sym f) (subst (λ x. IsOver (index_after m x outcome.Applied) t) (sym e)
+    (put_over m k v may (subst (λ x. op_key x < END) e lt) (sym (ap (λ x. judge m x may) e) ∙ is ∙ f) t over))
+
+-- what such a write asks of the index and of the table
+pub record Inserts (m : Index) (t : Kept) (c k : ℕ) : Type 0 where
+  pub key : k < END
+  pub free : map.get m k ≡ None
+  pub room : length (map.entries m) < most_entries
+  pub may : MayInsert (rows_of t) (slot_of m k) c
+
+pub record Deletes (m : Index) (t : Kept) (c k : ℕ) : Type 0 where
+  pub key : k < END
+  pub there : is_slot m k ≡ true
+  pub may : MayDelete (rows_of t) k (slot_of m (suc k)) c
+
+pub insert_asks : (m : Index) (t : Kept) (c : ℕ) (op : WriteOp) (o : Outcome) (k : ℕ) (v : Value) → op ≡ write.Insert k v → o ≡ outcome.Applied → op_key op < END → judge m op (held m (column (rows_of t) c) op) ≡ o → Inserts m t c k
+insert_asks m t c op o k v e f lt is =
+    let judged = sym (ap (λ x. judge m x (held m (column (rows_of t) c) x)) e) ∙ is ∙ f in
+    let may = insert_may (is_some (map.get m k)) (held m (column (rows_of t) c) (write.Insert k v)) (not (nat_lt (length (map.entries m)) most_entries)) judged in
+    record {
+      key = subst (λ x. op_key x < END) e lt;
+      free = is_none (map.get m k) may.0;
+      room = room_left (length (map.entries m)) (insert_room (is_some (map.get m k)) (held m (column (rows_of t) c) (write.Insert k v)) (not (nat_lt (length (map.entries m)) most_entries)) judged);
+      may = may.1;
+    }
+
+pub delete_asks : (m : Index) (t : Kept) (c : ℕ) (op : WriteOp) (o : Outcome) (k : ℕ) → op ≡ write.Delete k → o ≡ outcome.Applied → op_key op < END → judge m op (held m (column (rows_of t) c) op) ≡ o → Deletes m t c k
+delete_asks m t c op o k e f lt is =
+    let judged = sym (ap (λ x. judge m x (held m (column (rows_of t) c) x)) e) ∙ is ∙ f in
+    let may = change_may (is_some (map.get m k)) (held m (column (rows_of t) c) (write.Delete k)) judged in
+    record {
+      key = subst (λ x. op_key x < END) e lt;
+      there = ap (λ b. nat_eq k END || b) may.0 ∙ or_yes (nat_eq k END);
+      may = may.1;
+    }
+  where
+    or_yes : (b : Bool) → (b || true) ≡ true
+    or_yes true = refl
+    or_yes false = refl

@@ -1,0 +1,144 @@
+-- What holds of the message in the case that was found, and what performing it comes to.
+use Rattle.std.proofs.Common.{◌≡◌, ℕ, ◌≤◌, ◌<◌, Bool, true, false, not, ◌||◌, nat_eq, ltb-false, Option, Some, None, List, refl, sym, ap, subst, ◌∙◌, arith}
+use Rattle.std.proofs.lemmas.Bool.{eqb-false, or_parts}
+use Rattle.std.specs.Prelude.{nat_lt, is_some, IsSome, IsSomeAnd, if◌then◌else◌}
+use Rattle.krl_modes.specs.declared.point.TheConstants.{END}
+use Rattle.krl_messages.specs.declared.to_client.ToClient.{ToClient}
+use Rattle.krl_messages.specs.declared.to_server.ToServer.{ToServer}
+use Rattle.krl_messages.specs.declared.to_server.ToServerBody.TheVariants as said
+use Rattle.krl_messages.specs.declared.pieces.Pieces.{Pieces}
+use Rattle.krl_messages.specs.declared.write_op.WriteOp.{WriteOp}
+use Rattle.krl_messages.specs.declared.outcome.Outcome.{Outcome}
+use Rattle.krl_messages.specs.Writes.{op_key}
+use Rattle.krl_durable.specs.declared.record.Record.{Record}
+use Rattle.krl_durable.specs.Index.{Index, slots, is_slot}
+use Rattle.krl_durable.specs.Registers.{IsIncarnation, record_of}
+use Rattle.krl_queue.specs.Waiting.{first_of}
+use Rattle.krl_table.specs.Rows.{Rows, most_clients, waits}
+use Rattle.krl_table.specs.Reports.{conflicts}
+use Rattle.krl_table.specs.Sound.{IsTable}
+use Rattle.krl_server.specs.declared.case.Case.{Case as Found}
+use Rattle.krl_server.specs.declared.case.After.TheVariants as after
+use Rattle.krl_server.specs.Servers.{Server}
+use Rattle.krl_server.specs.Cases.{Case, Ignored, Registers, Leaves, Tells, Alarms, Rebuilds, Repeats, Acknowledges, Lowers, Waits, Judges, AnswersAgain, is_malformed, case_of_record, case_of}
+use Rattle.krl_server.specs.Effects.{acknowledged, writes, answers, effect}
+use Rattle.krl_server.specs.StateMeaning.{meant, case_of_pieces}
+use Rattle.krl_table.specs.Waiters.{WaitsNowhere}
+use Rattle.krl_server.specs.CodeSteps.{IsPerformed}
+use Rattle.krl_server.proofs.Tests.{if_case}
+use Rattle.krl_server.proofs.Cased.{by_said}
+use Rattle.krl_server.proofs.Outputs.Numbers.{sixty_four}
+use Rattle.krl_server.proofs.Invariant.Tabled.{slots_have, any_in}
+
+-- the sender is a client whose record can note another write
+pub record MayWrite (s : Server) (m : ToServer) (op : WriteOp) : Type 0 where
+  pub client : m.client < 64
+  pub key : op_key op < END
+  pub unspent : IsSomeAnd (record_of s.durable.register m.client) (λ r. r.last < END)
+
+pub record MayWait (s : Server) (m : ToServer) : Type 0 where
+  pub client : m.client < 64
+  pub free : waits s.durable.index s.rows m.client ≡ false
+
+pub record MayAnswer (m : ToServer) (op : WriteOp) : Type 0 where
+  pub client : m.client < 64
+  pub key : op_key op < END
+
+pub record MayRegister (m : ToServer) : Type 0 where
+  pub client : m.client < 64
+  pub incarnation : IsIncarnation m.incarnation
+
+pub record MayLeave (s : Server) (m : ToServer) : Type 0 where
+  pub client : m.client < 64
+  pub known : IsSome (record_of s.durable.register m.client)
+
+abbrev pub CaseFacts : Server → ToServer → Case → Type 0
+CaseFacts s m Ignored = Unit {0}
+CaseFacts s m Registers = MayRegister m
+CaseFacts s m Leaves = MayLeave s m
+CaseFacts s m Tells = Unit {0}
+CaseFacts s m Alarms = m.client < 64
+CaseFacts s m (Rebuilds pieces) = m.client < 64
+CaseFacts s m (Repeats body) = m.client < 64
+CaseFacts s m Acknowledges = m.client < 64
+CaseFacts s m (Lowers span keep) = m.client < 64
+CaseFacts s m (Waits req point hi g) = MayWait s m
+CaseFacts s m (Judges number op o) = MayWrite s m op
+CaseFacts s m (AnswersAgain number op o) = MayAnswer m op
+
+module _ (s : Server) (m : ToServer) where
+  low : m.client < most_clients → m.client < 64
+  low lt = subst (λ k. m.client < k) sixty_four lt
+
+  noted_at : (o : Option Record) (r : Record) → o ≡ Some r → r.last < END → IsSomeAnd o (λ r. r.last < END)
+  noted_at o r e lt = subst (λ o. IsSomeAnd o (λ r. r.last < END)) (sym e) lt
+
+  some_at : (o : Option Record) (r : Record) → o ≡ Some r → IsSome o
+  some_at o r e = subst (λ o. IsSome o) (sym e) refl
+
+  facts_said : 1 ≤ m.incarnation → m.incarnation ≤ END → CaseFacts s m (case_of s m)
+  facts_said some high = by_said s m (CaseFacts s m)
+      (record {
+        ignored = tt;
+        registers = λ lt newer body. record { client = low lt; incarnation = (some, high) };
+        leaves = λ r from body. record { client = low from.client; known = some_at (record_of s.durable.register m.client) r from.known };
+        tells = tt;
+        alarms = λ r epoch pieces from body now missing bad. low from.client;
+        rebuilds = λ r epoch pieces from body now missing fine. low from.client;
+        repeats = λ r body served unacked. low served.from.client;
+        acknowledges = λ r request b a. low a.served.from.client;
+        lowers = λ r request span keep a. low a.served.from.client;
+        waits = λ r request req point hi g a new free near. record { client = low a.served.from.client; free = free };
+        judges = λ r request number op o a under near new is. record { client = low a.served.from.client; key = under; unspent = noted_at (record_of s.durable.register m.client) r a.served.from.known (omega (arith, near, new)) };
+        answers_again = λ r request number op o a under some last is. record { client = low a.served.from.client; key = under };
+      })
+
+  -- a malformed message is ignored
+  pub all_facts : CaseFacts s m (case_of s m)
+  all_facts = if_case (λ k. CaseFacts s m k) (is_malformed m) Ignored (case_of_record s m (record_of s.durable.register m.client))
+      (λ malformed. tt)
+      (λ fine.
+      let x = or_parts (not (nat_lt m.client most_clients)) (nat_eq m.incarnation 0 || nat_lt END m.incarnation) fine in
+      let y = or_parts (nat_eq m.incarnation 0) (nat_lt END m.incarnation) x.1 in
+      subst (CaseFacts s m) (ap (λ b. if b then Ignored else case_of_record s m (record_of s.durable.register m.client)) fine)
+      (facts_said (let ne = eqb-false m.incarnation 0 y.0 in omega (arith, ne)) (ltb-false END m.incarnation y.1)))
+
+  -- what holds in the case that was found
+  pub facts_of : (f g : Found) → meant s m.client m.body f ≡ case_of s m → f ≡ g → CaseFacts s m (meant s m.client m.body g)
+  facts_of f g e is = subst (λ x. CaseFacts s m (meant s m.client m.body x)) is (subst (CaseFacts s m) (sym e) all_facts)
+
+  -- and where it is a report
+  pub reporter : (epoch : ℕ) (pieces : Pieces) → case_of_pieces s m.client m.body ≡ case_of s m → m.body ≡ said.Report epoch pieces → m.client < 64
+  reporter epoch pieces e is = by_conflict (conflicts s.durable.index s.rows m.client pieces) (subst (λ b. CaseFacts s m (case_of_pieces s m.client b)) is (subst (CaseFacts s m) (sym e) all_facts))
+    where
+      by_conflict : (b : Bool) → CaseFacts s m (if b then Alarms else Rebuilds pieces) → m.client < 64
+      by_conflict true h = h
+      by_conflict false h = h
+
+  -- a new write was done and answered
+  pub performed_write : (t : Server) (number : ℕ) (op : WriteOp) (o : Outcome) (outs : List ToClient) → Judges number op o ≡ case_of s m → t ≡ (answers (acknowledged (writes s m.client op o) m.client) m.client number op o).server → outs ≡ (answers (acknowledged (writes s m.client op o) m.client) m.client number op o).outs → IsPerformed s m t after.Calls outs
+  performed_write t number op o outs e server sent = record {
+    server = server ∙ ap (λ k. (effect s m k).server) e;
+    outs_are = sent ∙ ap (λ k. (effect s m k).outs) e;
+    after = ap Rattle.krl_server.specs.StateMeaning.after_of e;
+  }
+
+  -- the last write was answered again
+  pub performed_again : (t : Server) (number : ℕ) (op : WriteOp) (o : Outcome) (outs : List ToClient) → AnswersAgain number op o ≡ case_of s m → t ≡ (answers (acknowledged s m.client) m.client number op o).server → outs ≡ (answers (acknowledged s m.client) m.client number op o).outs → IsPerformed s m t after.Calls outs
+  performed_again t number op o outs e server sent = record {
+    server = server ∙ ap (λ k. (effect s m k).server) e;
+    outs_are = sent ∙ ap (λ k. (effect s m k).outs) e;
+    after = ap Rattle.krl_server.specs.StateMeaning.after_of e;
+  }
+
+-- who waits on no slot waits nowhere
+none_found : {A : Type 0} (o : Option A) → is_some o ≡ false → o ≡ None
+none_found None e = refl
+none_found (Some u) e = absurd (cc)
+
+pub waits_nowhere : (m : Index) (rows : Rows) (c : ℕ) → IsTable m rows → waits m rows c ≡ false → WaitsNowhere rows c
+waits_nowhere m rows c table e n = by_slot (is_slot m n) refl
+  where
+    by_slot : (b : Bool) → is_slot m n ≡ b → first_of c (rows n).queue ≡ None
+    by_slot true f = none_found (first_of c (rows n).queue) (any_in (λ k. is_some (first_of c (rows k).queue)) (slots m) n e (slots_have m n f))
+    by_slot false f = ap (λ r. first_of c r.queue) (table.blank n f)

@@ -1,0 +1,139 @@
+-- The turn of a slot's first waiter, as the code takes it.
+use Rattle.std.proofs.Common.{◌≡◌, ℕ, suc, ◌<◌, Bool, true, false, not, ◌&&◌, ◌||◌, Option, Some, None, List, [], ◌∷◌, refl, sym, ap, subst, ◌∙◌}
+use Rattle.std.proofs.lemmas.Bool.{ltb-true, and_parts}
+use Rattle.std.specs.Prelude.{nat_lt, is_some, IfSome, if◌then◌else◌}
+use Rattle.krl_modes.specs.declared.point.TheConstants.{END}
+use Rattle.krl_messages.specs.declared.to_client.ToClient.{ToClient}
+use Rattle.krl_messages.specs.declared.to_client.PushBody.TheVariants as push
+use Rattle.krl_messages.specs.Members.{In}
+use Rattle.krl_queue.specs.declared.waiter.Waiter.{Waiter}
+use Rattle.krl_durable.specs.Index.{Index}
+use Rattle.krl_table.specs.declared.reply.Reply.{Reply}
+use Rattle.krl_table.specs.declared.reply.Reply.TheVariants as reply
+use Rattle.krl_table.specs.Rows.{Rows, front_of}
+use Rattle.krl_table.specs.Calls.{dropped, behind_first}
+use Rattle.krl_table.specs.Grants.{taken, granted}
+use Rattle.krl_table.specs.Replies.{asks_absent, is_wanted_compatible, reply_to, first_reply, answerable}
+use Rattle.krl_server.specs.Servers.{Server}
+use Rattle.krl_server.specs.Effects.{with_rows, holdings, push_to}
+use Rattle.krl_server.specs.Answering.{Turn, can_push, is_answerable, turn_at, tells_absent, grants}
+use Rattle.krl_server.specs.Outboxes.{as_list}
+use Rattle.krl_server.specs.CodeSteps.{turn_here, HasTurned}
+use Rattle.krl_server.proofs.Code.StateChanges.{pushes_next}
+
+-- the first of a list
+pub front_is : (us : List Waiter) (u : Waiter) → front_of us ≡ Some u → us ≡ u ∷ behind_first us
+front_is [] u e = absurd (cc)
+front_is (v ∷ us) u e = cc
+
+pub front_none : (us : List Waiter) → front_of us ≡ None → us ≡ []
+front_none [] e = refl
+front_none (v ∷ us) e = absurd (cc)
+
+pub front_in : (us : List Waiter) (u : Waiter) → front_of us ≡ Some u → In u us
+front_in us u e = subst (In u) (sym (front_is us u e)) (Rattle.std.proofs.Common.inl refl)
+
+-- what a reply says
+
+grant_says : (m : Index) (rows : Rows) (n : ℕ) (u : Waiter) → reply_to m rows n u ≡ Some reply.Grant → (asks_absent m u ≡ false) × (is_wanted_compatible rows n u ≡ true)
+grant_says m rows n u = by_tests (asks_absent m u) (is_wanted_compatible rows n u)
+  where
+    by_tests : (a b : Bool) → (if a then Some reply.Absent else (if b then Some reply.Grant else None)) ≡ Some reply.Grant → (a ≡ false) × (b ≡ true)
+    by_tests true b e = absurd (cc)
+    by_tests false true e = (refl, refl)
+    by_tests false false e = absurd (cc)
+
+absent_says : (m : Index) (rows : Rows) (n : ℕ) (u : Waiter) → reply_to m rows n u ≡ Some reply.Absent → asks_absent m u ≡ true
+absent_says m rows n u = by_tests (asks_absent m u) (is_wanted_compatible rows n u)
+  where
+    by_tests : (a b : Bool) → (if a then Some reply.Absent else (if b then Some reply.Grant else None)) ≡ Some reply.Absent → a ≡ true
+    by_tests true b e = refl
+    by_tests false true e = absurd (cc)
+    by_tests false false e = absurd (cc)
+
+none_says : (m : Index) (rows : Rows) (n : ℕ) (u : Waiter) → reply_to m rows n u ≡ None → (asks_absent m u || is_wanted_compatible rows n u) ≡ false
+none_says m rows n u = by_tests (asks_absent m u) (is_wanted_compatible rows n u)
+  where
+    by_tests : (a b : Bool) → (if a then Some reply.Absent else (if b then Some reply.Grant else None)) ≡ None → (a || b) ≡ false
+    by_tests true b e = absurd (cc)
+    by_tests false true e = absurd (cc)
+    by_tests false false e = refl
+
+some_reply : (b : Bool) (o : Option Reply) (r : Reply) → (if b then o else None) ≡ Some r → (b ≡ true) × (o ≡ Some r)
+some_reply true o r e = (refl, e)
+some_reply false o r e = absurd (cc)
+
+no_reply : (b : Bool) (o : Option Reply) (t : Bool) → (o ≡ None → t ≡ false) → (if b then o else None) ≡ None → (b && t) ≡ false
+no_reply true o t f e = f e
+no_reply false o t f e = refl
+
+sent_one : (o : Option ToClient) (x : ToClient) → as_list o ≡ x ∷ [] → o ≡ Some x
+sent_one None x e = absurd (cc)
+sent_one (Some y) x e = cc
+
+pub if_some : {A : Type 0} (P : A → Type 0) (o : Option A) (x : A) → o ≡ Some x → P x → IfSome o P
+if_some P o x e p = subst (λ o. IfSome o P) (sym e) p
+
+pub always_if_some : {A P : Type 0} (o : Option A) → P → IfSome o (λ _. P)
+always_if_some None p = tt
+always_if_some (Some x) p = p
+
+-- the turn at a slot whose first waiter is u
+module _ (s : Server) (n : ℕ) (u : Waiter) (first : front_of (s.rows n).queue ≡ Some u) where
+  abbrev turn : Turn
+  turn = record { slot = n; waiter = u }
+
+  here : turn_here s n ≡ (if is_answerable s n u then Some (let x : Turn = record { slot = n; waiter = u } in x) else None)
+  here = ap (λ q. turn_at s n q None) (front_is (s.rows n).queue u first)
+
+  yes : is_answerable s n u ≡ true → turn_here s n ≡ Some (let x : Turn = record { slot = n; waiter = u } in x)
+  yes e = here ∙ ap (λ b. if b then Some (let x : Turn = record { slot = n; waiter = u } in x) else None) e
+
+  answer : (acked : Bool) → answerable s.durable.index s.rows n acked ≡ (if acked then reply_to s.durable.index s.rows n u else None)
+  answer acked = ap (λ q. if acked then first_reply s.durable.index s.rows n q else None) (front_is (s.rows n).queue u first)
+
+  pub not_answerable : (acked : Bool) → acked ≡ can_push (s.sessions u.client) → None ≡ answerable s.durable.index s.rows n acked → turn_here s n ≡ None
+  not_answerable acked e a = here ∙ ap (λ b. if b then Some (let x : Turn = record { slot = n; waiter = u } in x) else None)
+      (ap (λ b. b && (asks_absent s.durable.index u || is_wanted_compatible s.rows n u)) (sym e) ∙ no_reply acked (reply_to s.durable.index s.rows n u) (asks_absent s.durable.index u || is_wanted_compatible s.rows n u) (none_says s.durable.index s.rows n u) (sym (a ∙ answer acked)))
+
+  module _ (acked : Bool) (is : acked ≡ can_push (s.sessions u.client)) where
+    pushable : acked ≡ true → (s.sessions u.client).last_push < END
+    pushable e = ltb-true (s.sessions u.client).last_push END (and_parts (not (is_some (s.sessions u.client).unacked)) (nat_lt (s.sessions u.client).last_push END) (sym is ∙ e)).1
+
+    pub turned_grant : (t : Server) (o : Option ToClient) → Some reply.Grant ≡ answerable s.durable.index s.rows n acked → t ≡ (grants s (record { slot = n; waiter = u })).server → as_list o ≡ (grants s (record { slot = n; waiter = u })).outs → (x : ToClient) × (o ≡ Some x) × HasTurned s t n x
+    turned_grant t o a server outs =
+        let r = some_reply acked (reply_to s.durable.index s.rows n u) reply.Grant (sym (a ∙ answer acked)) in
+        let g = grant_says s.durable.index s.rows n u r.1 in
+        let body = push.Grant u.req (holdings (with_rows s (granted s.durable.index s.rows n)) u.client (taken s.durable.index s.rows n)) in
+        let x = push_to (with_rows s (granted s.durable.index s.rows n)) u.client (suc (s.sessions u.client).last_push) body in
+        let next = pushes_next (with_rows s (granted s.durable.index s.rows n)) u.client body (pushable r.0) in
+        let here_is = yes (ap (λ b. b && (asks_absent s.durable.index u || is_wanted_compatible s.rows n u)) (sym is ∙ r.0) ∙ ap (λ b. b || is_wanted_compatible s.rows n u) g.0 ∙ g.1) in
+        let same = ap (λ b. if b then tells_absent s turn else grants s turn) g.0 in (
+          x,
+          sent_one o x (outs ∙ ap (λ d. d.outs) next),
+          record {
+            turn = turn;
+            here = here_is;
+            server = server ∙ ap (λ d. d.server) (sym same);
+            out = ap (λ d. d.outs) same ∙ ap (λ d. d.outs) next;
+          },
+        )
+
+    pub turned_absent : (t : Server) (o : Option ToClient) → Some reply.Absent ≡ answerable s.durable.index s.rows n acked → t ≡ (tells_absent s (record { slot = n; waiter = u })).server → as_list o ≡ (tells_absent s (record { slot = n; waiter = u })).outs → (x : ToClient) × (o ≡ Some x) × HasTurned s t n x
+    turned_absent t o a server outs =
+        let r = some_reply acked (reply_to s.durable.index s.rows n u) reply.Absent (sym (a ∙ answer acked)) in
+        let g = absent_says s.durable.index s.rows n u r.1 in
+        let body = push.Absent u.req u.point in
+        let x = push_to (with_rows s (dropped s.rows n)) u.client (suc (s.sessions u.client).last_push) body in
+        let next = pushes_next (with_rows s (dropped s.rows n)) u.client body (pushable r.0) in
+        let here_is = yes (ap (λ b. b && (asks_absent s.durable.index u || is_wanted_compatible s.rows n u)) (sym is ∙ r.0) ∙ ap (λ b. b || is_wanted_compatible s.rows n u) g) in
+        let same = ap (λ b. if b then tells_absent s turn else grants s turn) g in (
+          x,
+          sent_one o x (outs ∙ ap (λ d. d.outs) next),
+          record {
+            turn = turn;
+            here = here_is;
+            server = server ∙ ap (λ d. d.server) (sym same);
+            out = ap (λ d. d.outs) same ∙ ap (λ d. d.outs) next;
+          },
+        )

@@ -1,0 +1,81 @@
+-- A server that starts, and one that has taken a step.
+use Rattle.std.proofs.Math.ListN.{replicate}
+use Rattle.krl_server.specs.declared.session.Session.{Session}
+use Rattle.std.proofs.Common.{◌≡◌, ℕ, zero, suc, ◌≤◌, ◌<◌, List, length, refl, sym, ap, subst, ◌∙◌}
+use Rattle.std.proofs.Math.Path.{fun_ext}
+use Rattle.std.proofs.lemmas.Bool.{lt-ltb}
+use Rattle.krl_modes.specs.declared.point.TheConstants.{END}
+use Rattle.krl_messages.specs.declared.to_server.ToServer.{ToServer}
+use Rattle.krl_messages.specs.declared.to_client.ToClient.{ToClient}
+use Rattle.krl_durable.specs.Registers.{Durable, missing_order}
+use Rattle.krl_durable.specs.Kept.{IsKept}
+use Rattle.krl_table.specs.Rows.{blank_row}
+use Rattle.krl_table.specs.Kept.{rows_of, IsOver}
+use Rattle.krl_server.specs.declared.state.State.{State}
+use Rattle.krl_server.specs.declared.out.ServerOut.{ServerOut}
+use Rattle.krl_server.specs.Servers.{Server, blank_session}
+use Rattle.krl_server.specs.StateMeaning.{meaning, sessions_of, IsFormed}
+use Rattle.krl_server.specs.Steps.{ServerStep, start}
+use Rattle.krl_server.specs.AsLinks.{IsSound}
+use Rattle.krl_server.specs.Invariant.{IsOrdered}
+use Rattle.krl_server.specs.Steps.{IsSettled}
+use Rattle.std.specs.Prelude.{Result, Ok, Err, IfOk, OnOk, OnErr}
+use Rattle.krl_server.specs.Termination.{most_messages}
+use Rattle.krl_server.specs.CodeSteps.{IsServer, IsStarted, HasStepped}
+use Rattle.krl_server.proofs.Outputs.Numbers.{all_end}
+use Rattle.krl_server.specs.Ranges.{IsWithin, AreRegistered}
+use Rattle.krl_server.proofs.Invariant.Kept.{server_keeps}
+use Rattle.krl_server.proofs.Invariant.Within.{all_within}
+use Rattle.krl_server.proofs.Code.Known.{durable_within}
+
+module _ (d : Durable) (st : State) (lt : d.epoch < END) (durable : st.durable ≡ record d { epoch = suc d.epoch }) (rows : (n : ℕ) → rows_of st.table n ≡ blank_row) (over : IsOver d.index st.table) (full : length st.sessions ≡ 64) (sessions : (c : ℕ) → sessions_of st.sessions c ≡ blank_session) (missing : st.missing ≡ missing_order d.register) where
+  means_start : meaning st ≡ start d
+  means_start =
+      ap (λ x. record (meaning st) { durable = x }) durable
+      ∙ ap (λ r. record (meaning st) { durable = record d { epoch = suc d.epoch }; rows = r }) (fun_ext rows)
+      ∙ ap (λ l. let s : Server = record { durable = record d { epoch = suc d.epoch }; rows = λ n. blank_row; sessions = l; missing = st.missing } in s) (fun_ext sessions)
+      ∙ ap (λ m. let s : Server = record { durable = record d { epoch = suc d.epoch }; rows = λ n. blank_row; sessions = λ c. blank_session; missing = m } in s) missing
+
+  pub is_started : IsStarted d (meaning st)
+  is_started = record { epoch = lt-ltb d.epoch END lt; server = means_start }
+
+  pub is_server : IsKept d → IsServer st
+  is_server kept =
+      let x = server_keeps.ordered_start d kept.outcomes in
+      record {
+        formed = record { full = full; over = subst (λ y. IsOver y.index st.table) (sym durable) over };
+        sound = subst IsSound (sym means_start) (server_keeps.sound_start d over.near);
+        ordered = subst IsOrdered (sym means_start) x.0;
+        settled = subst IsSettled (sym means_start) x.1;
+        within = subst IsWithin (sym means_start) (all_within.start d (lt-ltb d.epoch END lt) (durable_within d kept));
+        here = subst AreRegistered (sym means_start) (all_within.registered_start d);
+      }
+
+-- a step keeps it
+pub server_after : (old new : State) (m : ToServer) (outs : List ToClient) → IsServer old → IsFormed new → ServerStep (meaning old) m (meaning new) outs → IsServer new
+server_after old new m outs i formed step = record {
+  formed = formed;
+  sound = server_keeps.sound_step (meaning old) (meaning new) m outs i.sound step;
+  ordered = server_keeps.ordered_step (meaning old) (meaning new) m outs i.sound i.ordered step;
+  settled = server_keeps.settled_step (meaning old) (meaning new) m outs i.settled step;
+  within = all_within.step (meaning old) (meaning new) m outs i.within step;
+  here = all_within.registered_step (meaning old) (meaning new) m outs i.sound i.here step;
+}
+
+-- whatever comes of it
+pub server_kept : {E : Type 0} (old new : State) (m : ToServer) (r : Result ServerOut E) → IsServer old → IfOk r (λ out. HasStepped (meaning old) m (meaning new) out) → OnOk r (IsFormed new) → OnErr r (new ≡ old) → IsServer new
+server_kept old new m (Ok out) i stepped formed refused = server_after old new m out.messages i formed stepped.step
+server_kept old new m (Err e) i stepped formed refused = subst IsServer (sym refused) i
+
+pub few_sent : {E : Type 0} (old new : State) (m : ToServer) (r : Result ServerOut E) → IsServer old → IfOk r (λ out. HasStepped (meaning old) m (meaning new) out) → IfOk r (λ out. length out.messages ≤ most_messages)
+few_sent old new m (Ok out) i stepped = all_end.few (meaning old) (meaning new) m out.messages i.sound i.ordered.table stepped.step
+few_sent old new m (Err e) i stepped = tt
+
+-- a blank session for each client
+blank_all : (n c : ℕ) → sessions_of (replicate n blank_session) c ≡ blank_session
+blank_all zero c = refl
+blank_all (suc n) zero = refl
+blank_all (suc n) (suc c) = blank_all n c
+
+pub blank_each : (n : ℕ) (x : Session) → x ≡ blank_session → (c : ℕ) → sessions_of (replicate n x) c ≡ blank_session
+blank_each n x e c = subst (λ y. sessions_of (replicate n y) c ≡ blank_session) (sym e) (blank_all n c)

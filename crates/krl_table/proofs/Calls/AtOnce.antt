@@ -1,0 +1,71 @@
+-- A waiter that goes to a slot where nobody waits, and is granted there.
+use Rattle.std.proofs.Common.{◌≡◌, ℕ, Bool, true, false, not, ◌&&◌, List, [], ◌∷◌, ◌++◌, Some, refl, sym, ap, ◌∙◌}
+use Rattle.std.proofs.Common.{nat_eq, eq-eqb}
+use Rattle.std.proofs.Math.Path.{fun_ext}
+use Rattle.std.specs.Prelude.{if◌then◌else◌}
+use Rattle.krl_modes.specs.Modes.{at_most}
+use Rattle.krl_modes.specs.declared.mode.Mode.TheVariants as mode
+use Rattle.krl_queue.specs.declared.waiter.Waiter.{Waiter}
+use Rattle.krl_durable.specs.Index.{Index, slot_of}
+use Rattle.krl_table.specs.Rows.{Row, Rows, front_of, set_row, set_mode}
+use Rattle.krl_table.specs.Calls.{with_mode, with_queue, wanted, queue_with, enqueued, grant_first, granted_first, raised, raised_on}
+use Rattle.krl_table.specs.Replies.{asks_absent, is_wanted_compatible}
+use Rattle.krl_table.specs.Grants.{nobody_waits, is_granted_at_once, taken_after, taken, granted, most_more}
+use Rattle.krl_table.proofs.Calls.Raises.{granted_from, taken_from}
+
+no_queue : (us : List Waiter) → nobody_waits us ≡ true → us ≡ []
+no_queue [] e = refl
+no_queue (u ∷ us) e = absurd (cc)
+
+-- where the tests come out so
+pub at_once_is : (m : Index) (rows : Rows) (u : Waiter) (n : ℕ) (free absent : Bool) → slot_of m u.point ≡ n →
+    (nobody_waits (rows n).queue && is_wanted_compatible rows n u) ≡ free → asks_absent m u ≡ absent → is_granted_at_once m rows u ≡ (free && not absent)
+at_once_is m rows u n free absent at e f =
+    ap (λ k. nobody_waits (rows k).queue && (is_wanted_compatible rows k u && not (asks_absent m u))) at
+    ∙ moved (nobody_waits (rows n).queue) (is_wanted_compatible rows n u) (not (asks_absent m u)) ∙ ap (λ b. b && not (asks_absent m u)) e ∙ ap (λ b. free && not b) f
+  where
+    moved : (a b d : Bool) → (a && (b && d)) ≡ ((a && b) && d)
+    moved true b d = refl
+    moved false b d = refl
+
+module _ (m : Index) (rows : Rows) (u : Waiter) (n : ℕ) (at : slot_of m u.point ≡ n) (free : nobody_waits (rows n).queue ≡ true) where
+  none : (rows n).queue ≡ []
+  none = no_queue (rows n).queue free
+
+  -- it is alone there
+  alone : queue_with (rows n) u ≡ u ∷ []
+  alone = ap (λ q. if at_most ((rows n).modes u.client) mode.N then q ++ u ∷ [] else u ∷ q) none ∙ either (at_most ((rows n).modes u.client) mode.N)
+    where
+      either : (b : Bool) → (if b then u ∷ [] else u ∷ []) ≡ u ∷ []
+      either true = refl
+      either false = refl
+
+  abbrev queued : Rows
+  queued = set_row rows n (with_queue (rows n) (u ∷ []))
+
+  queued_is : enqueued m rows u ≡ queued
+  queued_is = ap (λ k. set_row rows k (with_queue (rows k) (queue_with (rows k) u))) at ∙ ap (λ q. set_row rows n (with_queue (rows n) q)) alone
+
+  here : queued n ≡ with_queue (rows n) (u ∷ [])
+  here = ap (λ b. if b then with_queue (rows n) (u ∷ []) else rows n) (eq-eqb n n refl)
+
+  granted_row : grant_first (queued n) (queued n).queue ≡ with_mode (rows n) u.client (wanted (rows n) u)
+  granted_row = ap (λ (r : Row). grant_first r r.queue) here ∙ (λ i. record { modes = set_mode (rows n).modes u.client (wanted (rows n) u); queue = sym none i })
+
+  first_is : granted_first queued n ≡ raised rows n u
+  first_is = fun_ext (λ (k : ℕ). by_test k (nat_eq k n))
+    where
+      by_test : (k : ℕ) (b : Bool) → (if b then grant_first (queued n) (queued n).queue else (if b then with_queue (rows n) (u ∷ []) else rows k)) ≡ (if b then with_mode (rows n) u.client (wanted (rows n) u) else rows k)
+      by_test k true = granted_row
+      by_test k false = refl
+
+  front : front_of (queued n).queue ≡ Some u
+  front = ap (λ (r : Row). front_of r.queue) here
+
+  pub at_once_granted : granted m (enqueued m rows u) (slot_of m u.point) ≡ raised_on (raised rows n u) (taken_after m (raised rows n u) n u most_more) u
+  at_once_granted = ap (λ k. granted m (enqueued m rows u) k) at ∙ ap (λ (r : Rows). granted m r n) queued_is ∙ granted_from m queued n u front
+      ∙ ap (λ (r : Rows). raised_on r (taken_after m r n u most_more) u) first_is
+
+  pub at_once_taken : taken m (enqueued m rows u) (slot_of m u.point) ≡ n ∷ taken_after m (raised rows n u) n u most_more
+  at_once_taken = ap (λ k. taken m (enqueued m rows u) k) at ∙ ap (λ (r : Rows). taken m r n) queued_is ∙ taken_from m queued n u front
+      ∙ ap (λ (r : Rows). n ∷ taken_after m r n u most_more) first_is

@@ -1,0 +1,142 @@
+-- A client's mode on one slot rises to what a waiter wants; and so on slot after slot.
+use Rattle.std.proofs.Common.{◌≡◌, ℕ, zero, suc, ◌-◌, ◌≤◌, ◌<◌, Bool, true, false, ◌&&◌, ◌||◌, List, [], ◌∷◌, ◌++◌, Option, Some, None, IfSome, length, refl, sym, ap, subst, ◌∙◌, append_assoc, arith}
+use Rattle.std.proofs.Math.Path.{fun_ext}
+use Rattle.std.specs.Prelude.{nat_eq, nat_lt, if◌then◌else◌}
+use Rattle.krl_modes.specs.declared.point.TheConstants.{END}
+use Rattle.krl_modes.specs.declared.mode.Mode.{Mode}
+use Rattle.krl_modes.specs.declared.mode.Mode.TheVariants as mode
+use Rattle.krl_modes.specs.Modes.{compatible}
+use Rattle.krl_queue.specs.declared.waiter.Waiter.{Waiter}
+use Rattle.krl_durable.specs.Index.{Index, slot_of, is_slot}
+use Rattle.krl_table.specs.Rows.{Row, Rows, blank_row, front_of, all_below, most_clients, is_compatible_in_row}
+use Rattle.krl_table.specs.Calls.{with_mode, wanted, raised, raised_on, granted_first}
+use Rattle.krl_table.specs.Replies.{is_wanted_compatible}
+use Rattle.krl_table.specs.Grants.{can_take, goes_on, taken_after, taken_by, granted_by, most_more}
+use Rattle.krl_table.specs.Kept.{Kept, rows_of, IsSet, IsOver, IsSound, AreListed}
+use Rattle.krl_table.proofs.Rows.Below.{clients_are}
+use Rattle.krl_table.proofs.Invariant.Compatible.{none_compatible, set_compatible, compatible_row}
+use Rattle.krl_table.proofs.Invariant.Sounds.{set_strangers, modes_sound, same_queue, fewer_over, listed_same}
+
+-- where nobody holds anything, anything can stand
+all_true : (n : ℕ) (f : ℕ → Bool) → ((d : ℕ) → f d ≡ true) → all_below n f ≡ true
+all_true zero f h = refl
+all_true (suc n) f h = ap (λ b. b && all_below n f) (h n) ∙ all_true n f h
+
+pub blank_is_compatible : (c : ℕ) (g : Mode) → is_compatible_in_row blank_row c g ≡ true
+blank_is_compatible c g = all_true most_clients (λ d. nat_eq d c || compatible g mode.N) (λ d. ap (λ b. nat_eq d c || b) (none_compatible g) ∙ or_yes (nat_eq d c))
+  where
+    or_yes : (b : Bool) → (b || true) ≡ true
+    or_yes true = refl
+    or_yes false = refl
+
+module _ (t u : Kept) (k : ℕ) (w : Waiter) (sound : IsSound t) (client : w.client < 64) (s : IsSet t u k (with_mode (rows_of t k) w.client (wanted (rows_of t k) w))) where
+  abbrev row : Row
+  row = with_mode (rows_of t k) w.client (wanted (rows_of t k) w)
+
+  pub raised_sound : k ≤ END → is_wanted_compatible (rows_of t) k w ≡ true → IsSound u
+  raised_sound le is_compatible_there = modes_sound t u k row s refl sound le
+      (set_strangers (rows_of t k).modes w.client (wanted (rows_of t k) w) client (sound.strangers k))
+      (set_compatible (rows_of t k).modes w.client (wanted (rows_of t k) w) (sound.beside k)
+      (compatible_row (rows_of t k) w.client (wanted (rows_of t k) w) (λ d lt. sound.strangers k d (let many = clients_are in omega (arith, lt, many))) is_compatible_there))
+
+  pub raised_listed : (waiting : List (Option Waiter)) → AreListed waiting t → AreListed waiting u
+  raised_listed waiting l = listed_same waiting t u (same_queue t u k row s refl) l
+
+  pub raised_over : (m : Index) → IsOver m t → is_slot m k ≡ true → IsOver m u
+  raised_over m over slot = fewer_over t u k row s m over slot (λ v at. at)
+
+-- A grant that goes on
+
+nothing_more : (m : Index) (rows : Rows) (n : ℕ) (w : Waiter) (k : ℕ) → goes_on m rows n w ≡ false → taken_after m rows n w k ≡ []
+nothing_more m rows n w zero e = refl
+nothing_more m rows n w (suc k) e = ap (λ b. if b then slot_of m (suc n) ∷ taken_after m (raised rows (slot_of m (suc n)) w) (slot_of m (suc n)) w k else []) e
+
+one_more : (m : Index) (rows : Rows) (n : ℕ) (w : Waiter) (k : ℕ) → goes_on m rows n w ≡ true → taken_after m rows n w (suc k) ≡ slot_of m (suc n) ∷ taken_after m (raised rows (slot_of m (suc n)) w) (slot_of m (suc n)) w k
+one_more m rows n w k e = ap (λ b. if b then slot_of m (suc n) ∷ taken_after m (raised rows (slot_of m (suc n)) w) (slot_of m (suc n)) w k else []) e
+
+-- where the grant stands: these rows, the last slot, and how many are noted; what is left of it leads to one end
+pub record IsGoing (m : Index) (first : Kept) (slot : ℕ) (w : Waiter) (noted : List ℕ) (t : Kept) (at : ℕ) (now : List ℕ) : Type 0 where
+  pub over : IsOver m t
+  pub rows : raised_on (rows_of first) (taken_after m (rows_of first) slot w (8 - length noted)) w ≡ raised_on (rows_of t) (taken_after m (rows_of t) at w (8 - length now)) w
+  pub taken : noted ++ taken_after m (rows_of first) slot w (8 - length noted) ≡ now ++ taken_after m (rows_of t) at w (8 - length now)
+
+pub begins : (m : Index) (t : Kept) (slot : ℕ) (w : Waiter) (noted : List ℕ) → IsOver m t → IsGoing m t slot w noted t slot noted
+begins m t slot w noted over = record { over = over; rows = refl; taken = refl }
+
+module _ (m : Index) (first : Kept) (slot : ℕ) (w : Waiter) (noted : List ℕ) (t : Kept) (at : ℕ) (now : List ℕ) (going : IsGoing m first slot w noted t at now) where
+  -- nothing is left
+  pub ends_rows : taken_after m (rows_of t) at w (8 - length now) ≡ [] → rows_of t ≡ raised_on (rows_of first) (taken_after m (rows_of first) slot w (8 - length noted)) w
+  ends_rows none = sym (going.rows ∙ ap (λ ns. raised_on (rows_of t) ns w) none)
+
+  pub ends_taken : taken_after m (rows_of t) at w (8 - length now) ≡ [] → now ≡ noted ++ taken_after m (rows_of first) slot w (8 - length noted)
+  ends_taken none = sym (going.taken ∙ ap (λ ns. now ++ ns) none ∙ append_nil now)
+    where
+      append_nil : (xs : List ℕ) → xs ++ [] ≡ xs
+      append_nil [] = refl
+      append_nil (x ∷ xs) = ap (λ ys. x ∷ ys) (append_nil xs)
+
+  pub full_ends : length now ≡ 8 → taken_after m (rows_of t) at w (8 - length now) ≡ []
+  full_ends e = let zero_left : 8 - length now ≡ 0 = omega (arith, e) in ap (λ k. taken_after m (rows_of t) at w k) zero_left
+
+  pub test_ends : goes_on m (rows_of t) at w ≡ false → taken_after m (rows_of t) at w (8 - length now) ≡ []
+  test_ends stops = nothing_more m (rows_of t) at w (8 - length now) stops
+
+  -- the next slot is taken
+  pub goes : (u : Kept) (next : ℕ) → length now < 8 → slot_of m (suc at) ≡ next → goes_on m (rows_of t) at w ≡ true → ((n : ℕ) → rows_of u n ≡ raised (rows_of t) next w n) → IsOver m u → IsGoing m first slot w noted u next (now ++ next ∷ [])
+  goes u next room slot_is on rows over = record {
+    over = over;
+    rows = going.rows ∙ ap (λ ns. raised_on (rows_of t) ns w) step ∙ ap (λ (r : Rows). raised_on r (taken_after m (rows_of u) next w (8 - length (now ++ next ∷ []))) w) (sym is_raised);
+    taken = going.taken ∙ ap (λ ns. now ++ ns) step ∙ sym (append_assoc now (next ∷ []) (taken_after m (rows_of u) next w (8 - length (now ++ next ∷ []))));
+  }
+    where
+      is_raised : rows_of u ≡ raised (rows_of t) next w
+      is_raised = fun_ext rows
+
+      longer : (xs : List ℕ) → length (xs ++ next ∷ []) ≡ suc (length xs)
+      longer [] = refl
+      longer (x ∷ xs) = ap (λ n. suc n) (longer xs)
+
+      left : 8 - length now ≡ suc (8 - length (now ++ next ∷ []))
+      left = let a = longer now in omega (arith, a, room)
+
+      step : taken_after m (rows_of t) at w (8 - length now) ≡ next ∷ taken_after m (rows_of u) next w (8 - length (now ++ next ∷ []))
+      step = ap (λ k. taken_after m (rows_of t) at w k) left ∙ one_more m (rows_of t) at w (8 - length (now ++ next ∷ [])) on
+          ∙ ap (λ s. s ∷ taken_after m (raised (rows_of t) s w) s w (8 - length (now ++ next ∷ []))) slot_is
+          ∙ ap (λ (r : Rows). next ∷ taken_after m r next w (8 - length (now ++ next ∷ []))) (sym is_raised)
+
+-- Tests
+
+pub no_after_end : (m : Index) (rows : Rows) (n : ℕ) (w : Waiter) → nat_lt n END ≡ false → goes_on m rows n w ≡ false
+no_after_end m rows n w e = ap (λ b. b && (nat_lt (suc n) w.hi && can_take rows (slot_of m (suc n)) w)) e
+
+pub no_past : (m : Index) (rows : Rows) (n : ℕ) (w : Waiter) → nat_lt (suc n) w.hi ≡ false → goes_on m rows n w ≡ false
+no_past m rows n w e = ap (λ b. nat_lt n END && (b && can_take rows (slot_of m (suc n)) w)) e ∙ and_false (nat_lt n END)
+  where
+    and_false : (b : Bool) → (b && false) ≡ false
+    and_false true = refl
+    and_false false = refl
+
+pub by_take : (m : Index) (rows : Rows) (n next : ℕ) (w : Waiter) (b : Bool) → nat_lt n END ≡ true → nat_lt (suc n) w.hi ≡ true → slot_of m (suc n) ≡ next → can_take rows next w ≡ b → goes_on m rows n w ≡ b
+by_take m rows n next w b near below is e = ap (λ x. x && (nat_lt (suc n) w.hi && can_take rows (slot_of m (suc n)) w)) near ∙ ap (λ x. x && can_take rows (slot_of m (suc n)) w) below ∙ ap (λ s. can_take rows s w) is ∙ e
+
+-- A grant
+
+-- one slot is noted, so seven more may be
+pub one_noted : (old new : List ℕ) (k : ℕ) → old ≡ [] → new ≡ old ++ k ∷ [] → 8 - length new ≡ 7
+one_noted old new k e f = ap (λ l. 8 - length l) (f ∙ ap (λ l. l ++ k ∷ []) e)
+
+-- the point of a number
+pub unwrapped : (o : Option ℕ) (x k : ℕ) → o ≡ Some x → IfSome o (λ p. p ≡ k) → x ≡ k
+unwrapped None x k e h = absurd (cc)
+unwrapped (Some y) x k e h = let same : y ≡ x = cc in sym same ∙ h
+
+module _ (m : Index) (rows : Rows) (n : ℕ) (w : Waiter) (front : front_of (rows n).queue ≡ Some w) where
+  by_front : (P : List Waiter → Type 0) → ((ws : List Waiter) → P (w ∷ ws)) → (ws : List Waiter) → front_of ws ≡ Some w → P ws
+  by_front P h [] e = absurd (cc)
+  by_front P h (v ∷ ws) e = let same : v ≡ w = cc in subst (λ x. P (x ∷ ws)) (sym same) (h ws)
+
+  pub granted_from : granted_by m rows n (rows n).queue ≡ raised_on (granted_first rows n) (taken_after m (granted_first rows n) n w most_more) w
+  granted_from = by_front (λ ws. granted_by m rows n ws ≡ raised_on (granted_first rows n) (taken_after m (granted_first rows n) n w most_more) w) (λ ws. refl) (rows n).queue front
+
+  pub taken_from : taken_by m rows n (rows n).queue ≡ n ∷ taken_after m (granted_first rows n) n w most_more
+  taken_from = by_front (λ ws. taken_by m rows n ws ≡ n ∷ taken_after m (granted_first rows n) n w most_more) (λ ws. refl) (rows n).queue front

@@ -1,0 +1,12 @@
+-- Kept rows, and what they stand for: the slots, the extents' rows, who waits and who holds.
+pub mod RowChanges
+pub mod Below
+pub mod NewSlotModes
+pub mod NewSlotParts
+pub mod Slots
+pub mod Walk
+pub mod Nothing
+pub mod NextWaiting
+pub mod Waiters
+pub mod Counted
+pub mod Holds

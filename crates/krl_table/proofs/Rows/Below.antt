@@ -1,0 +1,27 @@
+-- What holds of each number below another.
+use Rattle.std.proofs.Common.{◌≡◌, ℕ, zero, suc, ◌+◌, ◌<◌, Bool, true, false, ◌&&◌, refl, sym, ap, subst, ◌∙◌, arith}
+use Rattle.krl_table.specs.Rows.{all_below, most_clients}
+use Rattle.krl_table.proofs.Rows.RowChanges.{eq_cases}
+
+pub below_more : (f : ℕ → Bool) (n : ℕ) → all_below n f ≡ true → f n ≡ true → all_below (n + 1) f ≡ true
+below_more f n e h = let one : n + 1 ≡ suc n = omega arith in rw one (ap (λ b. b && all_below n f) h ∙ e)
+
+and_false : (b : Bool) → (b && false) ≡ false
+and_false true = refl
+and_false false = refl
+
+pub below_false : (f : ℕ → Bool) (m n : ℕ) → n < m → f n ≡ false → all_below m f ≡ false
+below_false f zero n lt e = absurd (omega (arith, lt))
+below_false f (suc m) n lt e = eq_cases n m
+    (λ g. ap (λ b. b && all_below m f) (ap f (sym g) ∙ e))
+    (λ ne. ap (λ b. f m && b) (below_false f m n (omega (arith, lt, ne)) e) ∙ and_false (f m))
+
+pub clients_are : most_clients ≡ 64
+unfolding most_clients
+clients_are = refl
+
+pub all_clients : (f : ℕ → Bool) (n : ℕ) → n ≡ 64 → all_below n f ≡ true → true ≡ all_below most_clients f
+all_clients f n e h = subst (λ k. true ≡ all_below k f) (e ∙ sym clients_are) (sym h)
+
+pub not_all_clients : (f : ℕ → Bool) (n : ℕ) → n < 64 → f n ≡ false → false ≡ all_below most_clients f
+not_all_clients f n lt e = sym (below_false f most_clients n (subst (λ k. n < k) (sym clients_are) lt) e)

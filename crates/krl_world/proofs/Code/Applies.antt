@@ -1,0 +1,44 @@
+-- The write that is noted is the one that the server applied: the step says it.
+use Rattle.std.proofs.Common.{◌≡◌, ℕ, zero, suc, get_or, Option, Some, None, List, [], ◌∷◌, ◌++◌, refl, ap, ◌∙◌}
+use Rattle.std.specs.Prelude.{slice_get}
+use Rattle.krl_messages.specs.declared.to_server.ToServer.{ToServer}
+use Rattle.krl_server.specs.declared.out.ServerOut.{ServerOut}
+use Rattle.krl_server.specs.Servers.{Server}
+use Rattle.krl_server.specs.Cases.{Case, Ignored, Registers, Leaves, Tells, Alarms, Rebuilds, Repeats, Acknowledges, Lowers, Waits, Judges, AnswersAgain, case_of}
+use Rattle.krl_server.specs.Changes.{change_of}
+use Rattle.krl_server.specs.CodeSteps.{HasStepped}
+use Rattle.krl_steps.specs.declared.applied_write.AppliedWrite.{AppliedWrite}
+use Rattle.krl_world.specs.Steps.{applies}
+use Rattle.krl_world.specs.SeatSteps.{applied_in, HasServed}
+use Rattle.krl_world.specs.declared.message.Message.{Message}
+use Rattle.krl_world.specs.States.{from_server}
+
+-- what is noted of a case's change is what the case applies
+noted_is_applied : (m : ToServer) (k : Case) → applied_in m (change_of m k) ≡ applies m k
+noted_is_applied m Ignored = refl
+noted_is_applied m Registers = refl
+noted_is_applied m Leaves = refl
+noted_is_applied m Tells = refl
+noted_is_applied m Alarms = refl
+noted_is_applied m (Rebuilds pieces) = refl
+noted_is_applied m (Repeats body) = refl
+noted_is_applied m Acknowledges = refl
+noted_is_applied m (Lowers s keep) = refl
+noted_is_applied m (Waits req point hi g) = refl
+noted_is_applied m (Judges number op o) = refl
+noted_is_applied m (AnswersAgain number op o) = refl
+
+-- a message is read: what was sent and what is noted, by what the step sends and says
+pub served_by : (s t : Server) (m : ToServer) (out : ServerOut) (old new : List Message) (before after : List AppliedWrite) → HasStepped s m t out → new ≡ old ++ from_server out.messages → after ≡ before ++ applied_in m out.change → HasServed s m t old new before after
+served_by s t m out old new before after h e f = record {
+  outs = out.messages;
+  step = h.step;
+  sent = e;
+  writes_are = f ∙ ap (λ o. before ++ applied_in m o) h.change ∙ ap (λ xs. before ++ xs) (noted_is_applied m (case_of s m));
+}
+
+-- what stands at an index
+pub got : {A : Type 0} (xs : List A) (i : ℕ) (x d : A) → slice_get xs i ≡ Some x → get_or xs i d ≡ x
+got [] i x d e = absurd (cc)
+got (y ∷ ys) zero x d e = let f : Some y ≡ Some x = e in cc
+got (y ∷ ys) (suc i) x d e = got ys i x d e

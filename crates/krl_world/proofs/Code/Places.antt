@@ -1,0 +1,83 @@
+-- The steps at a seat, over what a world keeps.
+use Rattle.std.proofs.Common.{◌≡◌, ℕ, suc, ◌≤◌, ◌<◌, Some, None, Option, List, length, set, get_or, refl, sym, ap, subst, ◌∙◌, arith}
+use Rattle.std.proofs.lemmas.List.{get_or_default}
+use Rattle.std.specs.Prelude.{Result, Ok, Err, slice_get}
+use Rattle.krl_messages.specs.declared.to_client.ToClient.{ToClient}
+use Rattle.krl_client.specs.Clients.{Client}
+use Rattle.krl_client.specs.Fields as client_fields
+use Rattle.krl_world.specs.declared.node.Seat.{Seat as KeptSeat}
+use Rattle.krl_world.specs.declared.message.Message.{Message}
+use Rattle.krl_world.specs.declared.message.Message.TheVariants as message
+use Rattle.krl_steps.specs.declared.step.Step.TheVariants as step
+use Rattle.krl_steps.specs.declared.step.Command.{Command}
+use Rattle.krl_steps.specs.declared.answer.Answer.{Answer}
+use Rattle.krl_steps.specs.declared.answer.Answer.TheVariants as told
+use Rattle.krl_steps.specs.declared.refused.Refused.{Refused}
+use Rattle.krl_steps.specs.declared.refused.Refused.TheVariants as refused
+use Rattle.krl_world.specs.States.{client_of}
+use Rattle.krl_world.specs.Steps.{Steps}
+use Rattle.krl_world.specs.Fields.{Fields, meaning, seat_of, kept_nobody, client_there}
+use Rattle.krl_world.specs.SeatSteps.{IsRefused, CommandedAt, Started, Ticked, HasRead, starting_refusal}
+use Rattle.krl_world.proofs.Code.Lifts.{seats_set, unchanged_by}
+use Rattle.krl_world.proofs.Code.Commands.{gone, gone_fields, command_steps}
+use Rattle.krl_world.proofs.Code.Seats as seats
+
+-- the seat of a client number
+pub record IsAt (w : Fields) (c : ℕ) (x : KeptSeat) : Type 0 where
+  pub low : c ≤ 63
+  pub there : c < length w.seats
+  pub is : x ≡ get_or w.seats c kept_nobody
+
+pub is_at : (w : Fields) (c : ℕ) (x d : KeptSeat) → length w.seats ≡ 64 → c ≤ 63 → x ≡ get_or w.seats c d → IsAt w c x
+is_at w c x d full low e = let there : c < length w.seats = omega arith in
+    record { low = low; there = there; is = e ∙ get_or_default w.seats c d kept_nobody there }
+
+client_is : (w : Fields) (c : ℕ) (x : KeptSeat) (o : Option Client) → IsAt w c x → client_there x.client ≡ o → client_of (meaning w) c ≡ o
+client_is w c x o a e = ap (λ (s : KeptSeat). client_there s.client) (sym a.is) ∙ e
+
+pub command_at : (w : Fields) (c : ℕ) (x y : KeptSeat) (sent : List Message) (what : Command) (r : Result Answer Refused) → IsAt w c x → y.greatest ≡ x.greatest → CommandedAt (client_there x.client) what (client_there y.client) w.sent sent r → Steps (meaning w) (step.Command c what) r (meaning (record w { seats = set w.seats c y; sent = sent }))
+command_at w c x y sent what r a g d =
+    command_steps (meaning w) (meaning (record w { seats = set w.seats c y; sent = sent })) c what (client_there x.client) (client_there y.client) sent r a.low (client_is w c x _ a refl) (gone_fields w c x y sent a.there a.is g) d
+
+pub crash_at : (w : Fields) (c : ℕ) (x y : KeptSeat) (k : client_fields.Fields) → IsAt w c x → y.greatest ≡ x.greatest → x.client ≡ Some k → y.client ≡ None → Steps (meaning w) (step.CrashClient c) (Ok told.Done) (meaning (record w { seats = set w.seats c y }))
+crash_at w c x y k a g e f =
+    seats.crashed_steps (meaning w) (meaning (record w { seats = set w.seats c y })) c (client_fields.meaning k) a.low (client_is w c x _ a (ap client_there e)) (gone_fields w c x y w.sent a.there a.is g ∙ ap (λ o. gone (meaning w) c (client_there o) w.sent) f)
+
+pub crash_none_at : (w : Fields) (c : ℕ) (x y : KeptSeat) → IsAt w c x → y.greatest ≡ x.greatest → x.client ≡ None → y.client ≡ None → Steps (meaning w) (step.CrashClient c) (Err refused.Down) (meaning (record w { seats = set w.seats c y }))
+crash_none_at w c x y a g e f =
+    seats.crash_down (meaning w) (meaning (record w { seats = set w.seats c y })) c a.low (client_is w c x _ a (ap client_there e)) (gone_fields w c x y w.sent a.there a.is g ∙ ap (λ o. gone (meaning w) c (client_there o) w.sent) f)
+
+pub start_at : (w : Fields) (c : ℕ) (x y : KeptSeat) (sent : List Message) → IsAt w c x → Started c (seat_of x) (seat_of y) w.sent sent → Steps (meaning w) (step.StartClient c) (Ok told.Done) (meaning (record w { seats = set w.seats c y; sent = sent }))
+start_at w c x y sent a s =
+    seats.started_steps (meaning w) (meaning (record w { seats = set w.seats c y; sent = sent })) c (seat_of y) sent a.low (λ t. record (meaning w) { seats = seats_set w.seats c y a.there t; sent = sent })
+    (subst (λ (z : KeptSeat). Started c (seat_of z) (seat_of y) w.sent sent) a.is s)
+
+pub start_refused_at : (w : Fields) (c : ℕ) (x y : KeptSeat) (sent : List Message) (r : Refused) → IsAt w c x → y ≡ x → sent ≡ w.sent → IsRefused (starting_refusal c (seat_of x)) (Unit {0}) r → Steps (meaning w) (step.StartClient c) (Err r) (meaning (record w { seats = set w.seats c y; sent = sent }))
+start_refused_at w c x y sent r a e f d =
+    seats.start_refused (meaning w) (meaning (record w { seats = set w.seats c y; sent = sent })) c r a.low (unchanged_by w c y sent a.there (ap seat_of (e ∙ a.is)) f)
+    (subst (λ (z : KeptSeat). IsRefused (starting_refusal c (seat_of z)) (Unit {0}) r) a.is d)
+
+pub tick_at : (w : Fields) (c : ℕ) (x : KeptSeat) (k : client_fields.Fields) (sent : List Message) → IsAt w c x → x.client ≡ Some k → Ticked (client_fields.meaning k) w.sent sent → Steps (meaning w) (step.Tick c) (Ok told.Done) (meaning (record w { sent = sent }))
+tick_at w c x k sent a e t = seats.ticked_steps (meaning w) (meaning (record w { sent = sent })) c (client_fields.meaning k) sent a.low (client_is w c x _ a (ap client_there e)) refl t
+
+pub tick_memory_at : (w : Fields) (c : ℕ) (x : KeptSeat) (k : client_fields.Fields) (sent : List Message) → IsAt w c x → x.client ≡ Some k → sent ≡ w.sent → Steps (meaning w) (step.Tick c) (Err refused.OutOfMemory) (meaning (record w { sent = sent }))
+tick_memory_at w c x k sent a e f = seats.tick_memory (meaning w) (meaning (record w { sent = sent })) c (client_fields.meaning k) a.low (client_is w c x _ a (ap client_there e)) (λ t. meaning (record w { sent = f t }))
+
+pub tick_none_at : (w : Fields) (c : ℕ) (x : KeptSeat) → IsAt w c x → x.client ≡ None → Steps (meaning w) (step.Tick c) (Err refused.Down) (meaning w)
+tick_none_at w c x a e = seats.tick_down (meaning w) (meaning w) c a.low (client_is w c x _ a (ap client_there e)) refl
+
+pub read_at : (w : Fields) (at : ℕ) (m : ToClient) (x y : KeptSeat) (k next : client_fields.Fields) (sent : List Message) → IsAt w m.client x → slice_get w.sent at ≡ Some (message.ToClient m) → y.greatest ≡ x.greatest → x.client ≡ Some k → y.client ≡ Some next → HasRead (client_fields.meaning k) m (client_fields.meaning next) w.sent sent → Steps (meaning w) (step.Deliver (suc at)) (Ok told.Done) (meaning (record w { seats = set w.seats m.client y; sent = sent }))
+read_at w at m x y k next sent a f g e n r =
+    seats.read_steps (meaning w) (meaning (record w { seats = set w.seats m.client y; sent = sent })) at m (client_fields.meaning k) (client_fields.meaning next) sent f (client_is w m.client x _ a (ap client_there e)) (gone_fields w m.client x y sent a.there a.is g ∙ ap (λ o. gone (meaning w) m.client (client_there o) sent) n) r
+
+pub read_memory_at : (w : Fields) (at : ℕ) (m : ToClient) (x : KeptSeat) (k next : client_fields.Fields) (sent : List Message) → IsAt w m.client x → slice_get w.sent at ≡ Some (message.ToClient m) → x.client ≡ Some k → next ≡ k → sent ≡ w.sent → Steps (meaning w) (step.Deliver (suc at)) (Err refused.OutOfMemory) (meaning (record w { seats = set w.seats m.client (record x { client = Some next }); sent = sent }))
+read_memory_at w at m x k next sent a f e g n =
+    seats.read_memory (meaning w) (meaning (record w { seats = set w.seats m.client (record x { client = Some next }); sent = sent })) at m (client_fields.meaning k) f (client_is w m.client x _ a (ap client_there e))
+    (unchanged_by w m.client (record x { client = Some next }) sent a.there ((λ t. seat_of (record x { client = (ap (λ o. Some o) g ∙ sym e) t })) ∙ ap seat_of a.is) n)
+
+pub read_none_at : (w : Fields) (at : ℕ) (m : ToClient) (x : KeptSeat) → IsAt w m.client x → slice_get w.sent at ≡ Some (message.ToClient m) → x.client ≡ None → Steps (meaning w) (step.Deliver (suc at)) (Ok told.Done) (meaning (record w { seats = set w.seats m.client x }))
+read_none_at w at m x a f e =
+    seats.read_by_nobody (meaning w) (meaning (record w { seats = set w.seats m.client x })) at m f (client_is w m.client x _ a (ap client_there e)) (unchanged_by w m.client x w.sent a.there (ap seat_of a.is) refl)
+
+pub read_past : (w : Fields) (at : ℕ) (m : ToClient) → length w.seats ≤ m.client → slice_get w.sent at ≡ Some (message.ToClient m) → Steps (meaning w) (step.Deliver (suc at)) (Ok told.Done) (meaning w)
+read_past w at m le f = seats.read_by_nobody (meaning w) (meaning w) at m f (seats.nobody_past w.seats m.client le) refl

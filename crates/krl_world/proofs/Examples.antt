@@ -1,0 +1,10 @@
+-- The laws `scans_somewhere`, `writes_somewhere` and `comes_through_somewhere`: some runs, step by step.
+pub mod Worked
+pub mod Running
+pub mod InsertAtServer
+pub mod InsertRun
+pub mod Acting
+pub mod CallbackRun
+pub mod RestartRun
+pub mod Pieced
+pub mod Several

@@ -1,0 +1,3 @@
+-- The law `can_go_on`: each step that is not refused can be taken.
+pub mod CanGoOn
+pub mod Described

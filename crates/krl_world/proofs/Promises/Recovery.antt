@@ -1,0 +1,181 @@
+-- While a server recovers, what it has heard and may still hear lies within the bound of the run; and so does what it
+-- rebuilds.
+use Rattle.std.proofs.Common.{◌≡◌, ℕ, ◌∙◌, true, false, Option, Some, None, List, [], ◌∷◌, refl, sym, subst}
+use Rattle.krl_modes.specs.declared.point.TheConstants.{END}
+use Rattle.krl_modes.specs.declared.part.RangePart.{RangePart}
+use Rattle.krl_modes.specs.declared.part.KeyPart.{KeyPart}
+use Rattle.std.specs.List.{AllByRecursion}
+use Rattle.krl_messages.specs.Values.{Value}
+use Rattle.krl_messages.specs.declared.pieces.Pieces.{Pieces}
+use Rattle.krl_messages.specs.Members.{In}
+use Rattle.krl_protocol.specs.Modes.{RangeAtMost, KeyAtMost}
+use Rattle.krl_protocol.specs.Links as links
+use Rattle.krl_protocol.specs.Links.{Link, takes_report}
+use Rattle.krl_protocol.specs.Tables as tables
+use Rattle.krl_protocol.specs.Worlds as machine
+use Rattle.krl_protocol.specs.Worlds.{Logged, MayTake, Reachable, stepped, at_link}
+use Rattle.krl_protocol.proofs.Steps.{put, put_changed}
+use Rattle.krl_protocol.proofs.Runs.{restarts_hold}
+use Rattle.krl_durable.specs.declared.record.Record.{Record}
+use Rattle.krl_durable.specs.Index.{Index}
+use Rattle.krl_table.specs.Rows.{Rows, column}
+use Rattle.krl_table.specs.Reports.{reported_key, adopted}
+use Rattle.krl_server.specs.Servers.{Server, is_recovering, lists, unlist}
+use Rattle.krl_server.specs.AsLinks.{range_said, report_of, machine_phase, view, IsWhole, IsRecord, Shows, IsSound}
+use Rattle.krl_server.proofs.Refinement.Meaning.{range_is, key_is, same_range, same_key}
+use Rattle.krl_server.proofs.Refinement.Follows.{at_put}
+use Rattle.krl_server.proofs.Refinement.Recovering.{unlist_here, unlist_other}
+use Rattle.krl_server.proofs.Refinement.Reported.{report_shown}
+use Rattle.krl_server.proofs.Refinement.Rebuilt.{adopted_others}
+use Rattle.krl_client.specs.Clients.{Client}
+use Rattle.krl_client_machine.specs.Shows.{ShowsSeat}
+use Rattle.krl_world.specs.States.{Up, State, client_of, range_believed, key_believed}
+use Rattle.krl_world.specs.Bounds.{Bound, table_with, IsRangeWithin, IsKeyWithin, IsAwaited, IsRecoveryWithin}
+use Rattle.krl_world.proofs.Refinement.Mirrors.{machine_of, shared_of, ServerShows, Mirrors}
+use Rattle.krl_world.proofs.Refinement.Reached.{HaveBound}
+use Rattle.krl_world.proofs.Refinement.Serves.{seat_stays}
+use Rattle.krl_world.proofs.Promises.Bounded.{range_within, key_within}
+
+-- What a client believes, where it is at most what its link has
+
+believed_range : (c g p : ℕ) (o : Option Client) (l : Link) (r top : RangePart) → ShowsSeat c g o l → r ≡ top → RangeAtMost (l.range p) r → IsRangeWithin (range_believed o p) top
+believed_range c g p None l r top h e y = refl
+believed_range c g p (Some k) l r top h e y = range_within _ _ _ _ (h.1.range p) e y
+
+believed_key : (c g p : ℕ) (o : Option Client) (l : Link) (r top : KeyPart) → ShowsSeat c g o l → r ≡ top → KeyAtMost (l.key p) r → IsKeyWithin (key_believed o p) top
+believed_key c g p None l r top h e y = refl
+believed_key c g p (Some k) l r top h e y = key_within _ _ _ _ (h.1.key p) e y
+
+-- A report that is taken
+
+-- the links then show the table with the report, the old bound and the same clients
+record IsTaken (s : Server) (c : ℕ) (pieces : Pieces) (b : Bound) (old : Link) (d : ℕ) (l : Link) : Type 0 where
+  client : l.client ≡ old.client
+  missing : l.missing ≡ lists (unlist s.missing c) d
+  range : (p : ℕ) → l.new_range p ≡ (table_with s c pieces).range_at d p
+  key : (p : ℕ) → l.new_key p ≡ (table_with s c pieces).key_at d p
+  top_range : (p : ℕ) → l.top_range p ≡ b.range_at d p
+  top_key : (p : ℕ) → l.top_key p ≡ b.key_at d p
+
+-- the rows are within the bound then, and at least what clients believe that are not missing
+abbrev IsTakenWithin : State → Bound → Server → ℕ → Pieces → Type 0
+IsTakenWithin w b s c pieces = (d p : ℕ) →
+    (IsRangeWithin ((table_with s c pieces).range_at d p) (b.range_at d p) × IsKeyWithin ((table_with s c pieces).key_at d p) (b.key_at d p))
+    × (lists (unlist s.missing c) d ≡ false → IsRangeWithin (range_believed (client_of w d) p) ((table_with s c pieces).range_at d p) × IsKeyWithin (key_believed (client_of w d) p) ((table_with s c pieces).key_at d p))
+
+-- the link of the client that reports
+taken_link : Server → ℕ → Pieces → Link → Link
+taken_link s c pieces l = record l {
+  missing = false;
+  new_range = tables.range_at (view s) (column (adopted s.durable.index s.rows c pieces) c);
+  new_key = tables.key_at (view s) (column (adopted s.durable.index s.rows c pieces) c);
+}
+
+links_taken : (s : Server) (of : ℕ → Link) (c : ℕ) (pieces : Pieces) (b : Bound) → HaveBound of b → Shows s of → IsSound s → machine_phase s.missing ≡ links.Recovering → (d : ℕ) → IsTaken s c pieces b (of d) d (put of c (taken_link s c pieces (of c)) d)
+unfolding taken_link
+links_taken s of c pieces b have h i on = at_put (λ d l. IsTaken s c pieces b (of d) d l) of c (taken_link s c pieces (of c))
+    (record {
+      client = refl;
+      missing = sym (unlist_here s.missing c);
+      range = λ p. sym (range_is index s.durable.epoch phase i.near rows c p);
+      key = λ p. sym (key_is index s.durable.epoch phase i.near rows c p);
+      top_range = λ p. (have c p).0;
+      top_key = λ p. (have c p).1;
+    })
+    (λ d ne. let x = h.link d in record {
+      client = refl;
+      missing = x.missing ∙ sym (unlist_other s.missing c d ne);
+      range = λ p. x.new_range on p ∙ same_range index s.rows rows d (adopted_others index s.rows c pieces d ne) p;
+      key = λ p. x.new_key on p ∙ same_key index s.rows rows d (adopted_others index s.rows c pieces d ne) p;
+      top_range = λ p. (have d p).0;
+      top_key = λ p. (have d p).1;
+    })
+  where
+    index : Index
+    index = s.durable.index
+
+    phase : links.Phase
+    phase = machine_phase s.missing
+
+    rows : Rows
+    rows = adopted s.durable.index s.rows c pieces
+
+taken_within : (first : ℕ → Option Value) (w : State) (of : ℕ → Link) (log : List Logged) (b : Bound) (s : Server) (c inc : ℕ) (pieces : Pieces) → Mirrors w of log → HaveBound of b → Shows s of → IsSound s → Reachable first END (machine_of (Up s) of log) → MayTake (shared_of (Up s)) (of c) (report_of inc s.durable.epoch pieces) → AllByRecursion (λ x. IsWhole x.span) pieces.ranges → IsTakenWithin w b s c pieces
+unfolding taken_link
+taken_within first w of log b s c inc pieces m have h i reach may whole d p = (
+  (range_within _ _ _ _ (sym (x.range p)) (x.top_range p) low.0, key_within _ _ _ _ (sym (x.key p)) (x.top_key p) low.1),
+  λ here. let high = r.rebuilt_covers d may.recovering (x.missing ∙ here) p in
+      (believed_range d (w.seats d).greatest p (client_of w d) (to d) _ _ seat (x.range p) high.0, believed_key d (w.seats d).greatest p (client_of w d) (to d) _ _ seat (x.key p) high.1),
+)
+  where
+    l : Link
+    l = taken_link s c pieces (of c)
+
+    to : ℕ → Link
+    to = put of c l
+
+    after : machine.World
+    after = record { shared = view s; links = to; log = log }
+
+    step : machine.Step (machine_of (Up s) of log) after
+    step = at_link c l to
+        (takes_report (report_of inc s.durable.epoch pieces) _ _ may.sent may.recovering may.missing may.inc may.epoch (report_shown s.durable.index s.durable.epoch (machine_phase s.missing) i.near s.rows c inc s.durable.epoch pieces whole))
+        (put_changed of c l)
+
+    r : machine.Restarts after
+    r = restarts_hold first END after (stepped (machine_of (Up s) of log) after reach step)
+
+    x : IsTaken s c pieces b (of d) d (to d)
+    x = links_taken s of c pieces b have h i may.recovering d
+
+    low : RangeAtMost ((to d).new_range p) ((to d).top_range p) × KeyAtMost ((to d).new_key p) ((to d).top_key p)
+    low = r.rebuilt d may.recovering p
+
+    seat : ShowsSeat d (w.seats d).greatest (client_of w d) (to d)
+    seat = seat_stays d (w.seats d).greatest (client_of w d) (of d) (to d) x.client (m.seats d)
+
+-- Gathering
+
+recovers : (cs : List ℕ) → is_recovering cs ≡ true → machine_phase cs ≡ links.Recovering
+recovers [] e = absurd (cc)
+recovers (c ∷ cs) e = refl
+
+registered_as : (o : Option Record) (r : Record) (l : Link) → o ≡ Some r → IsRecord o l → l.reg ≡ r.incarnation
+registered_as o r l e h = let x : IsRecord (Some r) l = subst (λ y. IsRecord y l) e h in x.reg
+
+pub recovery_world : (first : ℕ → Option Value) (w : State) (of : ℕ → Link) (log : List Logged) (b : Bound) (s : Server) → Mirrors w of log → HaveBound of b → w.server ≡ Up s → Reachable first END (machine_of (Up s) of log) → is_recovering s.missing ≡ true → IsRecoveryWithin w b s
+recovery_world first w of log b s m have up reach recovering = record {
+  report = λ c x pieces a p. let y = r.reports c _ (may c x pieces a) p in
+      (range_within _ _ _ _ refl (have c p).0 y.0, key_within _ _ _ _ refl (have c p).1 y.1);
+  report_covers = λ c x k pieces awaited here own p.
+      let a = seat c k here in
+      let y = r.covers c _ (may c x pieces awaited) (sym own ∙ sym (a.1.inc)) p in
+      (subst (λ o. IsRangeWithin (range_believed o p) (range_said pieces.ranges p)) (sym here) (range_within _ _ _ _ (a.1.range p) refl y.0), subst (λ o. IsKeyWithin (key_believed o p) (reported_key pieces.keys p)) (sym here) (key_within _ _ _ _ (a.1.key p) refl y.1));
+  row = λ c p. let y = r.rebuilt c phase p in
+      (range_within _ _ _ _ (sym ((shows.link c).new_range phase p)) (have c p).0 y.0, key_within _ _ _ _ (sym ((shows.link c).new_key phase p)) (have c p).1 y.1);
+  row_covers = λ c missing p. let y = r.rebuilt_covers c phase ((shows.link c).missing ∙ missing) p in
+      (believed_range c (w.seats c).greatest p (client_of w c) (of c) _ _ (m.seats c) ((shows.link c).new_range phase p) y.0, believed_key c (w.seats c).greatest p (client_of w c) (of c) _ _ (m.seats c) ((shows.link c).new_key phase p) y.1);
+  taken = λ c x pieces awaited d p. (as_taken c x pieces awaited d p).0;
+  taken_covers = λ c x pieces awaited d missing p. (as_taken c x pieces awaited d p).1 missing;
+}
+  where
+    r : machine.Restarts (machine_of (Up s) of log)
+    r = restarts_hold first END (machine_of (Up s) of log) reach
+
+    shown : ServerShows (Up s) of
+    shown = subst (λ n. ServerShows n of) up m.server
+
+    shows : Shows s of
+    shows = shown.0
+
+    phase : machine_phase s.missing ≡ links.Recovering
+    phase = recovers s.missing recovering
+
+    may : (c : ℕ) (x : Record) (pieces : Pieces) → IsAwaited w s c x pieces → MayTake (shared_of (Up s)) (of c) (report_of x.incarnation s.durable.epoch pieces)
+    may c x pieces a = record { sent = (m.from _ a.sent).0; recovering = phase; missing = (shows.link c).missing ∙ a.missing; inc = sym (registered_as _ x (of c) a.known (shows.link c).known); epoch = refl }
+
+    as_taken : (c : ℕ) (x : Record) (pieces : Pieces) → IsAwaited w s c x pieces → IsTakenWithin w b s c pieces
+    as_taken c x pieces a = taken_within first w of log b s c x.incarnation pieces m have shown.0 shown.1 reach (may c x pieces a) (m.from _ a.sent).1
+
+    seat : (c : ℕ) (k : Client) → client_of w c ≡ Some k → ShowsSeat c (w.seats c).greatest (Some k) (of c)
+    seat c k here = subst (λ x. ShowsSeat c (w.seats c).greatest x (of c)) here (m.seats c)

@@ -1,0 +1,164 @@
+-- A world, and the machine's world that shows it. A client's step is steps of the machine.
+use Rattle.std.proofs.Common.{◌≡◌, ℕ, ◌≤◌, ◌∙◌, Bool, true, false, cond, Option, Some, None, List, [], ◌∷◌, ◌++◌, inl, inr, refl, sym, ap, subst, ⊎_elim, nat_eq, if◌then◌else◌, eqb-true}
+use Rattle.krl_messages.specs.declared.to_server.ToServer.{ToServer}
+use Rattle.krl_messages.specs.declared.to_client.ToClient.{ToClient}
+use Rattle.krl_messages.specs.declared.to_client.ToClientBody.TheVariants as told
+use Rattle.krl_messages.specs.declared.write_op.WriteOp.{WriteOp}
+use Rattle.krl_messages.specs.declared.write_op.WriteOp.TheVariants as write
+use Rattle.krl_modes.specs.declared.part.RangePart.{RangePart}
+use Rattle.krl_modes.specs.declared.part.KeyPart.{KeyPart}
+use Rattle.krl_messages.specs.Members.{In}
+use Rattle.krl_messages.proofs.Members.{in_both}
+use Rattle.krl_durable.specs.declared.record.Record.{Record}
+use Rattle.krl_protocol.specs.Links as links
+use Rattle.krl_protocol.specs.Links.{Op, Shared, Link}
+use Rattle.krl_protocol.specs.Worlds as machine
+use Rattle.krl_protocol.specs.Worlds.{Logged, Steps}
+use Rattle.krl_protocol.proofs.Worlds.{eq_cases}
+use Rattle.krl_protocol.proofs.Steps.{put, put_changed, link_steps}
+use Rattle.krl_server.specs.declared.session.Session.{Session}
+use Rattle.krl_server.specs.Steps.{start}
+use Rattle.krl_server.specs.AsLinks.{Stands, WasSent, IsRecord, LinkIs, Shows, view, view_of, DurableShows, IsSound}
+use Rattle.krl_client_machine.specs.Shows.{Grows, server_part, ShowsSeat, Leads}
+use Rattle.krl_client_machine.proofs.Basics.{grows_not}
+use Rattle.krl_world.specs.declared.message.Message.TheVariants as message
+use Rattle.krl_steps.specs.declared.applied_write.AppliedWrite.{AppliedWrite}
+use Rattle.krl_world.specs.States.{ServerNode, Up, Down, Seat, State, durable_of, is_serving, from_clients, from_server, seated}
+use Rattle.krl_server.specs.Simulation.{BoundStays}
+use Rattle.krl_world.proofs.Refinement.Calling.{epoch_called}
+use Rattle.krl_world.proofs.Refinement.Letters.{from_stands, stands_stays, sent_stays}
+
+-- The machine's world
+
+abbrev pub shared_of : ServerNode → Shared
+shared_of (Up s) = view s
+shared_of (Down d) = view_of d links.Down
+
+abbrev pub machine_of : ServerNode → (ℕ → Link) → List Logged → machine.World
+machine_of n of log = record { shared = shared_of n; links = of; log = log }
+
+abbrev pub ServerShows : ServerNode → (ℕ → Link) → Type 0
+ServerShows (Up s) of = Shows s of × IsSound s
+ServerShows (Down d) of = DurableShows d of × IsSound (start d)
+
+abbrev pub op_back : Op → WriteOp
+op_back (links.Insert k v) = write.Insert k v
+op_back (links.Put k v) = write.Put k v
+op_back (links.Delete k) = write.Delete k
+
+abbrev pub as_applied : Logged → AppliedWrite
+as_applied e = record { client = e.client; incarnation = e.wrote.inc; number = e.wrote.number; op = op_back e.wrote.op }
+
+-- the machine keeps its list the last first
+abbrev pub oldest_first : List Logged → List AppliedWrite
+oldest_first [] = []
+oldest_first (e ∷ es) = oldest_first es ++ (as_applied e ∷ [])
+
+-- each seat, each message, the server and the writes show in the links and the log
+pub record Mirrors (w : State) (of : ℕ → Link) (log : List Logged) : Type 0 where
+  pub seats : (c : ℕ) → ShowsSeat c (w.seats c).greatest (w.seats c).client (of c)
+  pub from : (m : ToServer) → In (message.ToServer m) w.sent → Stands (of m.client) m.incarnation m.body
+  pub to : (m : ToClient) → In (message.ToClient m) w.sent → WasSent (of m.client) m.incarnation m.body
+  pub called : (m : ToClient) → In (message.ToClient m) w.sent → epoch_called m.body ≤ (durable_of w.server).epoch
+  pub server : ServerShows w.server of
+  pub writes : w.writes ≡ oldest_first log
+
+-- where the machine goes with a step, from a world with this server
+pub record Goes (n : ServerNode) (v : State) (gone : ℕ → Bool) (of : ℕ → Link) (log : List Logged) : Type 0 where
+  pub after : ℕ → Link
+  pub log_after : List Logged
+  pub steps : Steps (machine_of n of log) (machine_of v.server after log_after)
+  pub mirrors : Mirrors v after log_after
+  pub bound : is_serving v.server ≡ false → (c : ℕ) → BoundStays (gone c) (of c) (after c)
+
+-- Lists of messages
+
+pub in_from_clients : (m : ToServer) (ms : List ToServer) → In (message.ToServer m) (from_clients ms) → In m ms
+in_from_clients m [] h = absurd h
+in_from_clients m (x ∷ ms) (inl e) = inl (cc)
+in_from_clients m (x ∷ ms) (inr h) = inr (in_from_clients m ms h)
+
+pub not_from_clients : (m : ToClient) (ms : List ToServer) → In (message.ToClient m) (from_clients ms) → ⊥
+not_from_clients m [] h = h
+not_from_clients m (x ∷ ms) (inl e) = cc
+not_from_clients m (x ∷ ms) (inr h) = not_from_clients m ms h
+
+pub in_from_server : (m : ToClient) (ms : List ToClient) → In (message.ToClient m) (from_server ms) → In m ms
+in_from_server m [] h = absurd h
+in_from_server m (x ∷ ms) (inl e) = inl (cc)
+in_from_server m (x ∷ ms) (inr h) = inr (in_from_server m ms h)
+
+pub not_from_server : (m : ToServer) (ms : List ToClient) → In (message.ToServer m) (from_server ms) → ⊥
+not_from_server m [] h = h
+not_from_server m (x ∷ ms) (inl e) = cc
+not_from_server m (x ∷ ms) (inr h) = not_from_server m ms h
+
+-- What a client's step leaves of the server
+
+record_stays : (o : Option Record) (l m : Link) → server_part m ≡ server_part l → IsRecord o l → IsRecord o m
+record_stays None l m e h = record { reg = ap (λ x. x.reg) e ∙ h.reg; left = ap (λ x. x.left) e ∙ h.left; done = ap (λ x. x.done) e ∙ h.done }
+record_stays (Some r) l m e h = record { reg = ap (λ x. x.reg) e ∙ h.reg; left = ap (λ x. x.left) e ∙ h.left; done = λ n. ap (λ x. x.done) e ∙ h.done n; applied = λ o n i. ap (λ x. x.applied) e ∙ h.applied o n i }
+
+link_stays : (s : Shared) (of : Option Record) (missing : Bool) (session : Session) (r : ℕ → RangePart) (k : ℕ → KeyPart) (l m : Link) → server_part m ≡ server_part l → Grows l m → LinkIs s of missing session r k l → LinkIs s of missing session r k m
+link_stays s of missing session r k l m e g h = record {
+  known = record_stays of l m e h.known;
+  missing = ap (λ x. x.missing) e ∙ h.missing;
+  last_push = ap (λ x. x.last_push) e ∙ h.last_push;
+  acked = ap (λ x. x.acked) e ∙ h.acked;
+  unacked = λ b i. subst (λ n. WasSent m n (told.Push s.epoch session.last_push b)) (sym (ap (λ x. x.reg) e)) (sent_stays l m g l.reg (told.Push s.epoch session.last_push b) (h.unacked b i));
+  range = λ p q. ap (λ x. x.top_range q) e ∙ h.range p q;
+  key = λ p q. ap (λ x. x.top_key q) e ∙ h.key p q;
+  new_range = λ p q. ap (λ x. x.new_range q) e ∙ h.new_range p q;
+  new_key = λ p q. ap (λ x. x.new_key q) e ∙ h.new_key p q;
+}
+
+pub server_stays : (n : ServerNode) (of to : ℕ → Link) → ((c : ℕ) → server_part (to c) ≡ server_part (of c)) → ((c : ℕ) → Grows (of c) (to c)) → ServerShows n of → ServerShows n to
+server_stays (Up s) of to e g h = (
+  record {
+    link = λ c. link_stays _ _ _ _ _ _ (of c) (to c) (e c) (g c) (h.0.link c);
+    heard = λ n u at. let x = h.0.heard n u at in (x.0, (g u.client).heads x.0 x.1, x.2 ∙ sym (ap (λ y. y.reg) (e u.client)), x.3, ap (λ y. y.left) (e u.client) ∙ x.4);
+  },
+  h.1,
+)
+server_stays (Down d) of to e g h = (λ c. record_stays _ (of c) (to c) (e c) (h.0 c), h.1)
+
+pub bound_same : (l m : Link) → server_part m ≡ server_part l → BoundStays false l m
+bound_same l m e = record { range = λ p. ap (λ x. x.top_range p) e; key = λ p. ap (λ x. x.top_key p) e }
+
+-- a seat changes, and its client sends these
+pub seat_goes : (w : State) (of : ℕ → Link) (log : List Logged) (c : ℕ) (x : Seat) (ms : List ToServer) → Mirrors w of log → Leads (shared_of w.server) (of c) c x.greatest x.client ms → Goes w.server (seated w c x ms) (λ d. false) of log
+seat_goes w of log c x ms h g = record {
+  after = to;
+  log_after = log;
+  steps = link_steps (shared_of w.server) log c (of c) g.link of to refl g.steps ch;
+  mirrors = record {
+    seats = λ d. seat_by d (nat_eq d c) refl;
+    from = λ m i. ⊎_elim (λ (a : In (message.ToServer m) w.sent). stands_stays (of m.client) (to m.client) (grows m.client) m.incarnation m.body (h.from m a))
+        (λ (b : In (message.ToServer m) (from_clients ms)). told_by m (in_from_clients m ms b)) (in_both w.sent (from_clients ms) (message.ToServer m) i);
+    to = λ m i. ⊎_elim (λ (a : In (message.ToClient m) w.sent). sent_stays (of m.client) (to m.client) (grows m.client) m.incarnation m.body (h.to m a))
+        (λ (b : In (message.ToClient m) (from_clients ms)). absurd (not_from_clients m ms b)) (in_both w.sent (from_clients ms) (message.ToClient m) i);
+    called = λ m i. ⊎_elim (λ (a : In (message.ToClient m) w.sent). h.called m a) (λ (b : In (message.ToClient m) (from_clients ms)). absurd (not_from_clients m ms b)) (in_both w.sent (from_clients ms) (message.ToClient m) i);
+    server = server_stays w.server of to same grows h.server;
+    writes = h.writes;
+  };
+  bound = λ n d. bound_same (of d) (to d) (same d);
+}
+  where
+    to : ℕ → Link
+    to = put of c g.link
+
+    ch : machine.Changed of to c g.link
+    ch = put_changed of c g.link
+
+    grows : (d : ℕ) → Grows (of d) (to d)
+    grows d = eq_cases d c (λ e. subst (λ y. Grows (of y) (to y)) (sym e) (subst (Grows (of c)) (sym ch.here) g.grows)) (λ ne. subst (Grows (of d)) (sym (ch.rest d ne)) (grows_not (of d)))
+
+    same : (d : ℕ) → server_part (to d) ≡ server_part (of d)
+    same d = eq_cases d c (λ e. subst (λ y. server_part (to y) ≡ server_part (of y)) (sym e) (subst (λ l. server_part l ≡ server_part (of c)) (sym ch.here) g.same)) (λ ne. ap server_part (ch.rest d ne))
+
+    told_by : (m : ToServer) → In m ms → Stands (to m.client) m.incarnation m.body
+    told_by m i = subst (λ d. Stands (to d) m.incarnation m.body) (sym (g.mine m i)) (subst (λ l. Stands l m.incarnation m.body) (sym ch.here) (from_stands g.link m.incarnation m.body (g.told m i)))
+
+    seat_by : (d : ℕ) (t : Bool) → nat_eq d c ≡ t → ShowsSeat d (if t then x else w.seats d).greatest (if t then x else w.seats d).client (cond t g.link (of d))
+    seat_by d true e = subst (λ y. ShowsSeat y x.greatest x.client g.link) (sym (eqb-true d c e)) g.seat
+    seat_by d false e = h.seats d

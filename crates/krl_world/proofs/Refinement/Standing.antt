@@ -1,0 +1,80 @@
+-- While nobody serves, the index stands still.
+use Rattle.std.proofs.Common.{◌≡◌, ℕ, ◌∙◌, Bool, true, false, Option, Some, None, List, ◌⊎◌, inl, inr, refl, sym, ap, subst, ⊎_elim, if◌then◌else◌}
+use Rattle.std.specs.Prelude.{nat_lt}
+use Rattle.krl_modes.specs.declared.point.TheConstants.{END}
+use Rattle.krl_messages.specs.declared.to_server.ToServer.{ToServer}
+use Rattle.krl_messages.specs.declared.to_client.ToClient.{ToClient}
+use Rattle.krl_messages.specs.declared.to_client.PushBody.{PushBody}
+use Rattle.krl_messages.specs.declared.to_client.PushBody.TheVariants as push
+use Rattle.krl_durable.specs.declared.record.Record.{Record}
+use Rattle.krl_durable.specs.Index.{slot_of}
+use Rattle.krl_durable.specs.Registers.{Durable, record_of, left_by}
+use Rattle.krl_messages.specs.Writes.{op_key}
+use Rattle.krl_server.specs.Servers.{Server, is_recovering}
+use Rattle.krl_server.specs.Cases.{Case, case_of}
+use Rattle.krl_server.specs.Effects.{Done, holding, acknowledged, writes, pushes, effect}
+use Rattle.krl_server.specs.Steps.{Kind, Idle, kind_of, Ends, at_once, recovers, serves, ServerStep}
+use Rattle.krl_server.proofs.Cased.{by_case}
+use Rattle.krl_server.proofs.Refinement.Pushes.{pushes_missing}
+use Rattle.krl_server.proofs.Refinement.Served.{answered_up}
+use Rattle.krl_steps.specs.declared.step.Step.{Step}
+use Rattle.krl_world.specs.States.{ServerNode, Up, Down, State, durable_of, index_of, is_serving}
+use Rattle.krl_world.proofs.Refinement.Serves.{not_serving}
+use Rattle.krl_world.proofs.Refinement.ServerMoves.{Way, stays, reads, stops, begins}
+
+done_by : (t : Bool) (x y : Done) (s : Server) → x.server.durable.index ≡ s.durable.index → y.server.durable.index ≡ s.durable.index → (if t then x else y).server.durable.index ≡ s.durable.index
+done_by true x y s a b = a
+done_by false x y s a b = b
+
+pushes_index : (s : Server) (c : ℕ) (b : PushBody) → (pushes s c b).server.durable.index ≡ s.durable.index
+pushes_index s c b = done_by (nat_lt (s.sessions c).last_push END) _ _ s refl refl
+
+left_index : (d : Durable) (c : ℕ) (o : Option Record) → (left_by d c o).index ≡ d.index
+left_index d c None = refl
+left_index d c (Some r) = refl
+
+not_both : (b : Bool) → b ≡ true → b ≡ false → ⊥
+not_both true e f = cc
+not_both false e f = cc
+
+-- the index stays where a step ends with its effect: nobody serves after it, or it has not acted
+abbrev Stays : Server → ToServer → Case → Type 0
+Stays s m k = (is_recovering (effect s m k).server.missing ≡ true) ⊎ (kind_of k ≡ Idle) → (effect s m k).server.durable.index ≡ s.durable.index
+
+case_stays : (s : Server) (m : ToServer) → Stays s m (case_of s m)
+case_stays s m = by_case s m (Stays s m) (record {
+  ignored = λ e. refl;
+  registers = λ a b c e. refl;
+  leaves = λ r a e. left_index s.durable m.client (record_of s.durable.register m.client);
+  tells = λ e. refl;
+  alarms = λ e. refl;
+  rebuilds = λ r epoch pieces a b c d e. refl;
+  repeats = λ r body a b e. refl;
+  acknowledges = λ r a e. refl;
+  lowers = λ r span keep a e. refl;
+  waits = λ r req point hi g a b c d e. refl;
+  judges = λ r number op o a b c d f e. ⊎_elim
+      (λ (g : _). let t = writes (acknowledged s m.client) m.client op o in absurd (not_both (is_recovering s.missing) (ap is_recovering (sym (pushes_missing t m.client (push.Answer number o (holding t (slot_of t.durable.index (op_key op)) m.client)))) ∙ g) a.serves))
+      (λ (i : _). absurd (cc)) e;
+  answers_again = λ r number op o a b c d f e. let t = acknowledged s m.client in pushes_index t m.client (push.Answer number o (holding t (slot_of t.durable.index (op_key op)) m.client));
+})
+
+ends_index : (s : Server) (done : Done) (kind : Kind) (t : Server) (outs : List ToClient) → ((is_recovering done.server.missing ≡ true) ⊎ (kind ≡ Idle) → done.server.durable.index ≡ s.durable.index) → Ends done kind t outs → is_recovering t.missing ≡ true → t.durable.index ≡ s.durable.index
+ends_index s done kind _ _ h (at_once k) e = h (inr k)
+ends_index s done kind _ _ h (recovers g) e = h (inl g)
+ends_index s done kind _ _ h (serves t said acts up rest) e = absurd (not_both (is_recovering t.missing) e (answered_up done.server t said rest up))
+
+step_index : (s t : Server) (m : ToServer) (outs : List ToClient) → ServerStep s m t outs → is_recovering t.missing ≡ true → t.durable.index ≡ s.durable.index
+step_index s t m outs h e = ends_index s (effect s m (case_of s m)) (kind_of (case_of s m)) t outs (case_stays s m) h e
+
+-- Steps of the world
+
+server_is : (w v : State) (n m : ServerNode) → w.server ≡ n → v.server ≡ m → (is_serving m ≡ false → (durable_of m).index ≡ (durable_of n).index) → is_serving v.server ≡ false → index_of v ≡ index_of w
+server_is w v n m a b h e = ap (λ x. (durable_of x).index) b ∙ h (subst (λ x. is_serving x ≡ false) b e) ∙ sym (ap (λ x. (durable_of x).index) a)
+
+-- a step after which nobody serves leaves the index
+pub index_stands : (w v : State) (s : Step) → Way w v s → is_serving v.server ≡ false → index_of v ≡ index_of w
+index_stands w v s (stays e) n = ap (λ x. (durable_of x).index) e
+index_stands w v s (reads old new m outs a b at t) n = server_is w v (Up old) (Up new) a b (λ e. step_index old new m outs t (not_serving new e)) n
+index_stands w v s (stops old e a b) n = server_is w v (Up old) _ a b (λ x. refl) n
+index_stands w v s (begins d a b) n = server_is w v (Down d) _ a b (λ x. refl) n
