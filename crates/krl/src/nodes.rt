@@ -16,8 +16,8 @@ const PAUSE: u64 = 1;
 // How long it says nothing, in seconds.
 const SILENCE: u64 = 1;
 
-/// Passed at once; tells on standard error at which turn the client is, once a second at most, where
-/// anybody is to be told.
+/// Passed at once; tells on standard error at which turn the client is, once a second at most,
+/// where anybody is to be told.
 #[derive(Drop)]
 pub struct Telling<'a, R> {
     rt: &'a R,
@@ -78,8 +78,8 @@ fn line(alloc: Global, ended: &Result<NodesReport, NotRun>) -> Result<String, Al
     }
 }
 
-/// Writes what came of nodes, and gives the exit status: 0 where the second client read its rows and
-/// they were written, else 1. What went wrong is said on standard error.
+/// Writes what came of nodes, and gives the exit status: 0 where the second client read its rows
+/// and they were written, else 1. What went wrong is said on standard error.
 pub fn tell<R: Eprint + AllocGlobal, W: Sink>(
     rt: &R,
     writer: &mut W,

@@ -24,8 +24,13 @@ module _ (V : RattleType) (v : IsSend V) where
 
   shelf_inside : IsSend (shelf.TheInside.the_row V)
   shelf_inside = recorded_send _ _ (shelf.TheInside.the_type V).to (shelf.TheInside.the_type V).to_one
-      (struct_send (shape (shelf.TheInside.the_type V)) (Vec-send _ spot_sent, (Vec-send _ number_sent,
-          (Vec-send _ entry_sent, (number_sent, tt)))))
+      (struct_send (shape (shelf.TheInside.the_type V)) (
+        Vec-send _ spot_sent,
+        (
+          Vec-send _ number_sent,
+          (Vec-send _ entry_sent, (number_sent, tt)),
+        ),
+      ))
 
   shelf_sent : IsSend (shelf.the_field V).row
   shelf_sent = view_send _ _ _ _ _ shelf_inside

@@ -1,6 +1,7 @@
 //! One block of a shelf: entries whose keys rise. Where an entry is looked for, the guess of its
 //! place is looked at first.
-ghost use Rattle.std.specs.Prelude.{◌≡◌, ◌<◌, length, IfSome, MatchOption, slice_get, ◌++◌, ◌∷◌, []};
+ghost use Rattle.std.specs.Prelude.{◌≡◌, ◌<◌, length, IfSome, MatchOption, slice_get, ◌++◌, ◌∷◌};
+ghost use Rattle.std.specs.Prelude.{[]};
 ghost use Rattle.krl_blocks.specs.Entries.{KeysRise, NoKey, IsInserted, IsRemoved, IsChanged};
 ghost use Rattle.krl_blocks.specs.Shelves.{IsOneOther};
 ghost use Rattle.krl_blocks.specs.Laid.{AreHalved};
@@ -24,7 +25,8 @@ pub fn put_in<V: Copy + Drop>(shelf: &mut Shelf<V>, b: usize, key: u64, value: V
 pub fn push_in<V: Copy + Drop>(shelf: &mut Shelf<V>, b: usize, key: u64, value: V)
     requires within { b < length shelf.old.blocks }
     requires room { IfSome (slice_get shelf.old.blocks b) (λ x. length x < 64) }
-    ensures one { IsOneOther shelf.old.blocks shelf.new.blocks b (λ x y. y ≡ x ++ (key, value) ∷ []) }
+    ensures one { IsOneOther shelf.old.blocks shelf.new.blocks b
+        (λ x y. y ≡ x ++ (key, value) ∷ []) }
     ensures most { shelf.new.most ≡ shelf.old.most }
 {
     let i = shelf.get(b).len();

@@ -2,7 +2,8 @@
 ghost use Rattle.std.specs.Prelude.{◌≡◌, ◌≤◌, ◌<◌, length, MatchOption, IfOk, OnOk, OnErr, []};
 ghost use Rattle.krl_blocks.specs.Laid.{flat};
 ghost use Rattle.krl_blocks.specs.Runs.{runs_of};
-ghost use Rattle.krl_blocks.specs.Entries.{KeysRise, NoKey, HasEntry, IsFound, IsRun, IsInserted, IsRemoved, IsChanged};
+ghost use Rattle.krl_blocks.specs.Entries.{KeysRise, NoKey, HasEntry, IsFound, IsRun, IsInserted};
+ghost use Rattle.krl_blocks.specs.Entries.{IsRemoved, IsChanged};
 
 use crate::entries::Entries;
 use crate::found::Found;
@@ -10,9 +11,9 @@ use crate::layout::Layout;
 use std::alloc::{AllocError, Global};
 use std::marker::Model;
 
-/// Entries with keys that rise, seen as their list and as how many there may be with no more memory.
-/// They lie in blocks of at most 64, so that a change moves few of them, and so that a walk reads
-/// what lies side by side. Neighbours that have 32 entries together, or fewer, are merged.
+/// Entries with keys that rise, seen as their list and as how many there may be with no more
+/// memory. They lie in blocks of at most 64, so that a change moves few of them, and so that a walk
+/// reads what lies side by side. Neighbours that have 32 entries together, or fewer, are merged.
 #[derive(Drop)]
 pub struct Blocks<V> {
     layout: Layout<V>,
@@ -100,7 +101,8 @@ impl<V: Copy + Drop> Blocks<V> {
         }
     }
 
-    /// Where a point stands: the last key below it, and the entries from it on. One search finds both.
+    /// Where a point stands: the last key below it, and the entries from it on. One search finds
+    /// both.
     pub fn find(&self, point: u64) -> Found<'_, V>
         ensures found { IsFound self.now.list point result.before result.run.now }
         ensures rises { KeysRise self.now.list }
@@ -108,8 +110,8 @@ impl<V: Copy + Drop> Blocks<V> {
         self.layout.find(point)
     }
 
-    /// The entries from the first at or above the point, as far as its block goes: there is at least
-    /// one, where there is any. A walk asks again behind the last of them.
+    /// The entries from the first at or above the point, as far as its block goes: there is at
+    /// least one, where there is any. A walk asks again behind the last of them.
     pub fn run(&self, point: u64) -> &[(u64, V)]
         ensures { IsRun self.now.list point result.now }
     {
@@ -148,8 +150,8 @@ impl<V: Copy + Drop> Blocks<V> {
         self.len += 1;
     }
 
-    /// Gives the entry of the key another value, and answers the one before; None where no entry has
-    /// the key, and then nothing changes.
+    /// Gives the entry of the key another value, and answers the one before; None where no entry
+    /// has the key, and then nothing changes.
     pub fn set(&mut self, key: u64, value: V) -> Option<V>
         ensures changed { MatchOption result (NoKey key self.old.list × (self.new ≡ self.old))
             (λ was. IsChanged self.old.list self.new.list key value was) }

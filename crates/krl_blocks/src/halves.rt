@@ -1,5 +1,6 @@
 //! A search with no branch on what the numbers are.
-ghost use Rattle.std.specs.Prelude.{◌≡◌, ◌≤◌, ◌<◌, ◌^◌, ◌*◌, ◌+◌, ℕ, nat_lt, true, false, length, slice_index_or, take, drop, if◌then◌else◌};
+ghost use Rattle.std.specs.Prelude.{◌≡◌, ◌≤◌, ◌<◌, ◌^◌, ◌*◌, ◌+◌, ℕ, nat_lt, true, false, length};
+ghost use Rattle.std.specs.Prelude.{slice_index_or, take, drop, if◌then◌else◌};
 ghost use Rattle.std.specs.List.{AllByRecursion};
 ghost use Rattle.krl_blocks.specs.Laid.{Rises};
 ghost use Rattle.krl_blocks.specs.Entries.{KeysRise};

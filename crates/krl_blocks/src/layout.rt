@@ -1,8 +1,11 @@
 //! The blocks.
-ghost use Rattle.std.specs.Prelude.{◌≡◌, ◌≤◌, ◌<◌, length, max, MatchOption, IfSome, OnOk, OnErr, slice_get, vec_capacity, take, drop, true, false, nat_lt, nat_le, []};
+ghost use Rattle.std.specs.Prelude.{◌≡◌, ◌≤◌, ◌<◌, length, max, MatchOption, IfSome, OnOk, OnErr};
+ghost use Rattle.std.specs.Prelude.{slice_get, vec_capacity, take, drop, true, false, nat_lt};
+ghost use Rattle.std.specs.Prelude.{nat_le, []};
 ghost use Rattle.std.specs.List.{AllByRecursion};
 ghost use Rattle.krl_blocks.specs.Entries.{NoKey, IsFound, IsInserted, IsRemoved, IsChanged};
-ghost use Rattle.krl_blocks.specs.Laid.{flat, last_length, is_thin, IsKept, IsShort, IsNearly, IsMergeable, IsParted};
+ghost use Rattle.krl_blocks.specs.Laid.{flat, last_length, is_thin, IsKept, IsShort, IsNearly};
+ghost use Rattle.krl_blocks.specs.Laid.{IsMergeable, IsParted};
 
 use crate::block::{halve, push_in, put_in, set_in, take_from};
 use crate::finger::Finger;
@@ -14,8 +17,8 @@ use std::alloc::{AllocError, Global};
 /// Two neighbours with this many entries together, or fewer, are merged.
 const FEW: usize = 32;
 
-/// Entries in blocks, none of them empty. `IsKept` says what holds of them, and `flat` which entries
-/// they are.
+/// Entries in blocks, none of them empty. `IsKept` says what holds of them, and `flat` which
+/// entries they are.
 #[derive(Drop)]
 pub struct Layout<V> {
     /// The greatest key of each block.
@@ -105,8 +108,10 @@ impl<V: Copy + Drop> Layout<V> {
         ensures kept { IsKept self.new.tops self.new.shelf }
         ensures most { self.new.shelf.most ≡ self.old.shelf.most }
         ensures changed { MatchOption result
-            (NoKey key (flat self.old.shelf.blocks) × (flat self.new.shelf.blocks ≡ flat self.old.shelf.blocks))
-            (λ was. IsChanged (flat self.old.shelf.blocks) (flat self.new.shelf.blocks) key value was) }
+            (NoKey key (flat self.old.shelf.blocks)
+            × (flat self.new.shelf.blocks ≡ flat self.old.shelf.blocks))
+            (λ was. IsChanged
+            (flat self.old.shelf.blocks) (flat self.new.shelf.blocks) key value was) }
     {
         let b = count_tops(&self.tops, key, self.finger.block);
         if b < self.shelf.len() {
@@ -123,23 +128,28 @@ impl<V: Copy + Drop> Layout<V> {
         requires new { NoKey key (flat self.old.shelf.blocks) }
         ensures kept { IsKept self.new.tops self.new.shelf }
         ensures most { self.new.shelf.most ≡ self.old.shelf.most }
-        ensures inserted { IsInserted (flat self.old.shelf.blocks) (flat self.new.shelf.blocks) key value }
+        ensures inserted { IsInserted
+            (flat self.old.shelf.blocks) (flat self.new.shelf.blocks) key value }
     {
         let b = self.make_room(key);
         self.put(b, key, value);
     }
 
-    // The block where the key belongs, which has room for one entry more: a full one is parted first.
+    // The block where the key belongs, which has room for one entry more: a full one is parted
+    // first.
     fn make_room(&mut self, key: u64) -> usize
         requires kept { IsKept self.old.tops self.old.shelf }
         requires some { length self.old.shelf.blocks < self.old.shelf.most }
         ensures kept { IsKept self.new.tops self.new.shelf }
         ensures most { self.new.shelf.most ≡ self.old.shelf.most }
         ensures same { flat self.new.shelf.blocks ≡ flat self.old.shelf.blocks }
-        ensures below { AllByRecursion (λ t. nat_lt t key ≡ true) (take result self.new.tops.items) }
-        ensures rest { AllByRecursion (λ t. nat_lt t key ≡ false) (drop result self.new.tops.items) }
+        ensures below { AllByRecursion
+            (λ t. nat_lt t key ≡ true) (take result self.new.tops.items) }
+        ensures rest { AllByRecursion
+            (λ t. nat_lt t key ≡ false) (drop result self.new.tops.items) }
         ensures room { IfSome (slice_get self.new.shelf.blocks result) (λ x. length x < 64) }
-        ensures some { length self.new.shelf.blocks ≤ result → length self.new.shelf.blocks < self.new.shelf.most }
+        ensures some { length self.new.shelf.blocks ≤ result
+            → length self.new.shelf.blocks < self.new.shelf.most }
     {
         let b = count_tops(&self.tops, key, self.finger.block);
         if b >= self.shelf.len() || self.shelf.get(b).len() < MOST {
@@ -172,10 +182,12 @@ impl<V: Copy + Drop> Layout<V> {
         requires below { AllByRecursion (λ t. nat_lt t key ≡ true) (take b self.old.tops.items) }
         requires rest { AllByRecursion (λ t. nat_lt t key ≡ false) (drop b self.old.tops.items) }
         requires room { IfSome (slice_get self.old.shelf.blocks b) (λ x. length x < 64) }
-        requires some { length self.old.shelf.blocks ≤ b → length self.old.shelf.blocks < self.old.shelf.most }
+        requires some { length self.old.shelf.blocks ≤ b
+            → length self.old.shelf.blocks < self.old.shelf.most }
         ensures kept { IsKept self.new.tops self.new.shelf }
         ensures most { self.new.shelf.most ≡ self.old.shelf.most }
-        ensures inserted { IsInserted (flat self.old.shelf.blocks) (flat self.new.shelf.blocks) key value }
+        ensures inserted { IsInserted
+            (flat self.old.shelf.blocks) (flat self.new.shelf.blocks) key value }
     {
         if b < self.shelf.len() {
             put_in(&mut self.shelf, b, key, value, self.finger.entry);
@@ -201,7 +213,8 @@ impl<V: Copy + Drop> Layout<V> {
         requires room { last_length 64 self.old.shelf.blocks < 64 }
         ensures kept { IsKept self.new.tops self.new.shelf }
         ensures most { self.new.shelf.most ≡ self.old.shelf.most }
-        ensures inserted { IsInserted (flat self.old.shelf.blocks) (flat self.new.shelf.blocks) key value }
+        ensures inserted { IsInserted
+            (flat self.old.shelf.blocks) (flat self.new.shelf.blocks) key value }
     {
         let b = self.shelf.len() - 1;
         push_in(&mut self.shelf, b, key, value);
@@ -216,7 +229,8 @@ impl<V: Copy + Drop> Layout<V> {
         requires full { 64 ≤ last_length 64 self.old.shelf.blocks }
         ensures kept { IsKept self.new.tops self.new.shelf }
         ensures most { self.new.shelf.most ≡ self.old.shelf.most }
-        ensures inserted { IsInserted (flat self.old.shelf.blocks) (flat self.new.shelf.blocks) key value }
+        ensures inserted { IsInserted
+            (flat self.old.shelf.blocks) (flat self.new.shelf.blocks) key value }
     {
         self.tops.push(key).unwrap();
         self.shelf.push((key, value));
@@ -228,7 +242,8 @@ impl<V: Copy + Drop> Layout<V> {
         ensures kept { IsKept self.new.tops self.new.shelf }
         ensures most { self.new.shelf.most ≡ self.old.shelf.most }
         ensures removed { MatchOption result
-            (NoKey key (flat self.old.shelf.blocks) × (flat self.new.shelf.blocks ≡ flat self.old.shelf.blocks))
+            (NoKey key (flat self.old.shelf.blocks)
+            × (flat self.new.shelf.blocks ≡ flat self.old.shelf.blocks))
             (λ v. IsRemoved (flat self.old.shelf.blocks) (flat self.new.shelf.blocks) key v) }
     {
         let b = count_tops(&self.tops, key, self.finger.block);

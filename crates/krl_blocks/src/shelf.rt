@@ -1,5 +1,6 @@
 //! Where the blocks lie.
-ghost use Rattle.std.specs.Prelude.{◌≡◌, ◌≤◌, ◌<◌, ◌+◌, ◌*◌, suc, length, max, IfSome, OnOk, OnErr, slice_get, slice_set, vec_capacity, Some, [], ◌∷◌, ◌++◌};
+ghost use Rattle.std.specs.Prelude.{◌≡◌, ◌≤◌, ◌<◌, ◌+◌, ◌*◌, suc, length, max, IfSome, OnOk, OnErr};
+ghost use Rattle.std.specs.Prelude.{slice_get, slice_set, vec_capacity, Some, [], ◌∷◌, ◌++◌};
 ghost use Rattle.std.specs.List.{insert, remove};
 ghost use Rattle.krl_blocks.specs.Shelves.{AreFew, IsOneOther, IsSplit, IsJoined, IsFree};
 
@@ -44,7 +45,8 @@ fn free_place<V: Copy + Drop>(
 ) -> usize
     requires next { spare.old.items ≡ [] → 64 * next ≡ length cells.old.items }
     requires room { spare.old.items ≡ [] → length cells.old.items + 64 ≤ vec_capacity cells.old }
-    ensures free { IsFree spare.old.items spare.new.items cells.old.items cells.new.items result entry }
+    ensures free { IsFree
+        spare.old.items spare.new.items cells.old.items cells.new.items result entry }
     ensures spares { vec_capacity spare.new ≡ vec_capacity spare.old }
     ensures cells { vec_capacity cells.old ≤ vec_capacity cells.new }
 {
@@ -113,7 +115,8 @@ impl<V: Copy + Drop> Shelf<V> {
     /// Puts an entry into the block there, before the one at i. The block has fewer than 64.
     pub fn put(&mut self, b: usize, i: usize, entry: (u64, V))
         requires within { b < length self.old.blocks }
-        requires place { IfSome (slice_get self.old.blocks b) (λ x. (i ≤ length x) × (length x < 64)) }
+        requires place { IfSome (slice_get self.old.blocks b)
+            (λ x. (i ≤ length x) × (length x < 64)) }
         ensures one { IsOneOther self.old.blocks self.new.blocks b (λ x y. y ≡ insert x i entry) }
         ensures most { self.new.most ≡ self.old.most }
     {
@@ -145,7 +148,8 @@ impl<V: Copy + Drop> Shelf<V> {
     pub fn set(&mut self, b: usize, i: usize, entry: (u64, V))
         requires within { b < length self.old.blocks }
         requires place { IfSome (slice_get self.old.blocks b) (λ x. i < length x) }
-        ensures one { IsOneOther self.old.blocks self.new.blocks b (λ x y. y ≡ slice_set x i entry) }
+        ensures one { IsOneOther self.old.blocks self.new.blocks b
+            (λ x y. y ≡ slice_set x i entry) }
         ensures most { self.new.most ≡ self.old.most }
     {
         let spot = self.order[b];
@@ -166,8 +170,8 @@ impl<V: Copy + Drop> Shelf<V> {
         self.order.push(Spot { place, len: 1 }).unwrap();
     }
 
-    /// Moves the entries from i on out of the block there, into a new block behind it. There is room
-    /// for it.
+    /// Moves the entries from i on out of the block there, into a new block behind it. There is
+    /// room for it.
     pub fn split(&mut self, b: usize, i: usize)
         requires room { length self.old.blocks < self.old.most }
         requires within { b < length self.old.blocks }

@@ -1,12 +1,15 @@
 //! Taking a holding over: one look at what stands around its span, and then what differs.
-ghost use Rattle.std.specs.Prelude.{◌≡◌, ◌≤◌, ◌<◌, ℕ, suc, true, false, nat_eq, IfOk, OnOk, OnErr, if◌then◌else◌};
+ghost use Rattle.std.specs.Prelude.{◌≡◌, ◌≤◌, ◌<◌, ℕ, suc, true, false, nat_eq, IfOk, OnOk, OnErr};
+ghost use Rattle.std.specs.Prelude.{if◌then◌else◌};
 ghost use Rattle.krl_modes.specs.declared.point.TheConstants.{TOP};
 ghost use Rattle.krl_modes.specs.Modes.{range_of};
 ghost use Rattle.krl_modes.specs.Spans.{contains};
 ghost use Rattle.krl_cache.specs.Beliefs as beliefs;
 ghost use Rattle.krl_cache.specs.Lists.{lies_in, entry_of, own_entry};
-ghost use Rattle.krl_cache.specs.Maps.{at, part_at, IsFree, IsChanged, CanUndo, EndsAlike, AreStartsMerged, gone};
-ghost use Rattle.krl_cache.specs.Plans.{IsBegun, IsPlan, part_taken, open_at, opens, closes, CanShut, Shuts};
+ghost use Rattle.krl_cache.specs.Maps.{at, part_at, IsFree, IsChanged, CanUndo, EndsAlike};
+ghost use Rattle.krl_cache.specs.Maps.{AreStartsMerged, gone};
+ghost use Rattle.krl_cache.specs.Plans.{IsBegun, IsPlan, part_taken, open_at, opens, closes};
+ghost use Rattle.krl_cache.specs.Plans.{CanShut, Shuts};
 
 use crate::back::{back_from, part_last, skip_to, take_from};
 use crate::entry::Entry;

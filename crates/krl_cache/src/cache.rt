@@ -9,7 +9,8 @@ ghost use Rattle.krl_modes.specs.declared.point.TheConstants.{TOP};
 ghost use Rattle.krl_cache.specs.Beliefs as beliefs;
 ghost use Rattle.krl_cache.specs.Kept.{range_said, AreMerged};
 ghost use Rattle.krl_cache.specs.Lists.{key_piece, StandWithin};
-ghost use Rattle.krl_cache.specs.Maps.{Maps, maps_believe, at, part_at, IsPast, AreStartsMerged, row_of, piece_of, is_held};
+ghost use Rattle.krl_cache.specs.Maps.{Maps, maps_believe, at, part_at, IsPast, AreStartsMerged};
+ghost use Rattle.krl_cache.specs.Maps.{row_of, piece_of, is_held};
 
 use crate::belief::Belief;
 use crate::entry::Entry;

@@ -1,5 +1,6 @@
 //! Maps from points: what begins there, and what stands there.
-ghost use Rattle.std.specs.Prelude.{◌≡◌, ◌≢◌, ◌≤◌, ◌<◌, ◌-◌, ℕ, suc, true, nat_eq, MatchOption, IfOk, IsTrue, ◌↔◌, OnOk, OnErr, IsSome, if◌then◌else◌};
+ghost use Rattle.std.specs.Prelude.{◌≡◌, ◌≢◌, ◌≤◌, ◌<◌, ◌-◌, ℕ, suc, true, nat_eq, MatchOption};
+ghost use Rattle.std.specs.Prelude.{IfOk, IsTrue, ◌↔◌, OnOk, OnErr, IsSome, if◌then◌else◌};
 ghost use Rattle.std.specs.Option.{option_and_then};
 ghost use Rattle.krl_modes.specs.declared.point.TheConstants.{TOP};
 ghost use Rattle.krl_modes.specs.Parts.{range_meet, reads_key};
@@ -7,7 +8,10 @@ ghost use Rattle.krl_modes.specs.Modes.{range_of, key_of};
 ghost use Rattle.krl_modes.specs.Spans.{contains};
 ghost use Rattle.krl_cache.specs.Beliefs as beliefs;
 ghost use Rattle.krl_cache.specs.Lists.{lies_in, entry_lowered, entry_of};
-ghost use Rattle.krl_cache.specs.Maps.{at, part_at, IsFree, IsFreeFrom, IsFirst, IsPlaced, IsUndone, CanUndo, HasEnds, KeepsParts, EndsAlike, IsChanged, HoldsBefore, BeginsAnew, AreStartsMerged, gone, lowered_part};
+ghost use Rattle.krl_cache.specs.Maps.{at, part_at, IsFree, IsFreeFrom, IsFirst, IsPlaced};
+ghost use Rattle.krl_cache.specs.Maps.{IsUndone, CanUndo, HasEnds, KeepsParts, EndsAlike};
+ghost use Rattle.krl_cache.specs.Maps.{IsChanged, HoldsBefore, BeginsAnew, AreStartsMerged, gone};
+ghost use Rattle.krl_cache.specs.Maps.{lowered_part};
 
 use crate::entry::Entry;
 use crate::parts::reads_key;

@@ -4,8 +4,10 @@ ghost use Rattle.std.specs.Prelude.{◌≡◌, ◌≤◌, ℕ, true, IfOk, OnOk,
 ghost use Rattle.std.specs.List.{AllByRecursion};
 ghost use Rattle.krl_messages.specs.Several.{Ascend};
 ghost use Rattle.krl_cache.specs.Beliefs as beliefs;
-ghost use Rattle.krl_cache.specs.Maps.{at, part_at, HasEnds, KeepsParts, EndsAlike, BeginsAnew, AreStartsMerged};
-ghost use Rattle.krl_cache.specs.Several.{CanUndoBoth, UndoesBoth, HasRoom, AreReady, AreMergedBetween, is_end_of, parts_after, entries_after};
+ghost use Rattle.krl_cache.specs.Maps.{at, part_at, HasEnds, KeepsParts, EndsAlike, BeginsAnew};
+ghost use Rattle.krl_cache.specs.Maps.{AreStartsMerged};
+ghost use Rattle.krl_cache.specs.Several.{CanUndoBoth, UndoesBoth, HasRoom, AreReady};
+ghost use Rattle.krl_cache.specs.Several.{AreMergedBetween, is_end_of, parts_after, entries_after};
 
 use crate::adopt::adopt;
 use crate::entry::Entry;

@@ -19,7 +19,8 @@ pub fn run_out<V: Copy + Drop, F: Copy + FnMut(&u64, &mut V) -> bool>(
 )
     requires { CanExtractIf F.FnMut walk.old }
     ensures same { walk.new.map.ghost_name ≡ walk.old.map.ghost_name }
-    ensures out { RunsOut (CalledAtPair F.FnMut) (λ (r : Range ℕ). end_test nat_cmp (Excluded r.end))
+    ensures out { RunsOut (CalledAtPair F.FnMut)
+        (λ (r : Range ℕ). end_test nat_cmp (Excluded r.end))
         walk.old.map.now walk.new.map.now walk.old.cursor }
 {
     while let Some(_) = walk.next() {}

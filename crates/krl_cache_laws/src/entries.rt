@@ -6,7 +6,8 @@ ghost use Rattle.std.specs.Ordering.{nat_cmp};
 ghost use Rattle.std.specs.FinMap.{find};
 ghost use Rattle.krl_modes.specs.Spans.{contains};
 ghost use Rattle.krl_cache.specs.Beliefs as beliefs;
-ghost use Rattle.krl_cache.specs.Lists.{pick, entry_lowered, entry_of, tagged, row_value, key_piece};
+ghost use Rattle.krl_cache.specs.Lists.{pick, entry_lowered, entry_of, tagged, row_value};
+ghost use Rattle.krl_cache.specs.Lists.{key_piece};
 ghost use Rattle.krl_cache_laws.specs.Lists.{ArePlaced};
 
 use krl_cache::{Entry, reads_key};

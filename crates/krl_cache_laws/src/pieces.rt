@@ -1,5 +1,6 @@
 //! Pieces in order, in a plain list.
-ghost use Rattle.std.specs.Prelude.{◌≡◌, ◌≤◌, ◌<◌, ◌++◌, ◌∷◌, ℕ, List, true, IsTrue, ◌↔◌, MatchOption, IfOk, OnOk, if◌then◌else◌};
+ghost use Rattle.std.specs.Prelude.{◌≡◌, ◌≤◌, ◌<◌, ◌++◌, ◌∷◌, ℕ, List, true, IsTrue, ◌↔◌};
+ghost use Rattle.std.specs.Prelude.{MatchOption, IfOk, OnOk, if◌then◌else◌};
 ghost use Rattle.std.specs.List.{filter_map, find as list_find};
 ghost use Rattle.krl_modes.specs.declared.point.TheConstants.{TOP};
 ghost use Rattle.krl_modes.specs.declared.part.RangePart.TheVariants as range;

@@ -1,5 +1,6 @@
 //! What a client does with a message.
-ghost use Rattle.std.specs.Prelude.{◌≡◌, true, None, Some, suc, ◌≤◌, [], ◌∷◌, IfOk, OnErr, ◌&&◌, nat_eq, nat_le};
+ghost use Rattle.std.specs.Prelude.{◌≡◌, true, None, Some, suc, ◌≤◌, [], ◌∷◌, IfOk, OnErr, ◌&&◌};
+ghost use Rattle.std.specs.Prelude.{nat_eq, nat_le};
 ghost use Rattle.krl_modes.specs.declared.point.TheConstants.{END};
 ghost use Rattle.krl_messages.specs.declared.to_client.ToClientBody.TheVariants as told;
 ghost use Rattle.krl_messages.specs.declared.to_client.PushBody.TheVariants as push;

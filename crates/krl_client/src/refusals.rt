@@ -28,7 +28,8 @@ impl Client {
     /// Why it would refuse to forget the points from `lo` on below `hi`, apart from memory: the
     /// first of `BadSpan`, `NotJoined`, `Writing`, `Pinned`.
     pub fn refuses_forget(&self, lo: u64, hi: u64) -> Option<CommandRefused>
-        ensures { result ≡ commands.forget_refusal (meaning self.now) (record { lo = lo; hi = hi }) }
+        ensures { result ≡ commands.forget_refusal (meaning self.now)
+            (record { lo = lo; hi = hi }) }
     {
         match Span::new(lo, hi) {
             Ok(span) => self.forget_refusal(span),

@@ -50,7 +50,8 @@ impl Client {
     /// request waits; `Spent` where no number is left for it; `OutOfMemory`. The client is as it
     /// was.
     pub fn lock(&mut self, point: u64, hi: u64, mode: Mode) -> Result<Vec<ToServer>, CommandRefused>
-        ensures due { IfErr result (λ r. IsDue (commands.lock_refusal (meaning self.old) point hi) r) }
+        ensures due { IfErr result
+            (λ r. IsDue (commands.lock_refusal (meaning self.old) point hi) r) }
         ensures unchanged { OnErr result (self.new ≡ self.old) }
         ensures none_due { OnOk result (commands.lock_refusal (meaning self.old) point hi ≡ None) }
         ensures client { OnOk result

@@ -1,7 +1,8 @@
 //! Whatever a client does is some steps of its link in the protocol's machine.
 #![tactic(auto)]
 
-ghost use Rattle.krl_client_machine.specs.Simulation.{StartShows, CrashShows, CommandsShow, TicksShow, MessagesShow};
+ghost use Rattle.krl_client_machine.specs.Simulation.{StartShows, CrashShows, CommandsShow};
+ghost use Rattle.krl_client_machine.specs.Simulation.{TicksShow, MessagesShow};
 
 /// A start is some steps of the machine.
 pub fn starts()

@@ -1,5 +1,5 @@
-//! Calls of a cache, one after another, and what each gives. Where an allocation is refused, a cache
-//! believes what it believed, and the refused call is made again.
+//! Calls of a cache, one after another, and what each gives. Where an allocation is refused, a
+//! cache believes what it believed, and the refused call is made again.
 use crate::again::CALLS;
 use crate::shown::{are_rows, are_told};
 use krl_cache::{Belief, Scanned};

@@ -222,8 +222,8 @@ const EACH_LENGTH: &[(u64, Bytes)] = &[
     (70, THIRTY_TWO),
 ];
 
-// They are adopted and lowered. Then longer ones stand in the places of the shorter, and shorter ones
-// in those of the longer.
+// They are adopted and lowered. Then longer ones stand in the places of the shorter, and shorter
+// ones in those of the longer.
 static ADOPTS_EACH_LENGTH: [(Ask, Gives); 10] = [
     (
         Ask::AdoptAll(&[

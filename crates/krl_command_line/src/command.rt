@@ -28,8 +28,8 @@ pub struct RandomOptions {
 /// How the nodes of a run on threads come by their letters.
 #[derive(Clone, Copy)]
 pub struct NodesOptions {
-    /// What it is drawn from which letters are lost, repeated and reordered; None where each is read
-    /// once, the oldest first.
+    /// What it is drawn from which letters are lost, repeated and reordered; None where each is
+    /// read once, the oldest first.
     pub policy: Option<u64>,
     pub ghost in_range: { IfSome policy (λ seed. seed ≤ END) } by { Prim.hlevel props },
 }
@@ -86,21 +86,21 @@ A random run begins with the entries 10=1 and 20=2, and takes N steps that are d
 four clients lock, write, scan, give back, start and stop, the server stops and starts, and messages
 come late, again or never. After each step the run looks whether what every two clients hold is
 compatible at each point from 0 to 63, and whether the rows of a scan are those of the index. Then
-the line 'random SEED STEPS sound' is printed, and the status is 0. The same words give the same run.
-With --busy messages seldom come late, so the clients do more.";
+the line 'random SEED STEPS sound' is printed, and the status is 0. The same words give the same
+run. With --busy messages seldom come late, so the clients do more.";
 
 const NODES: &str = "\
 A server runs on the entries 10=1 and 20=2, and clients 1 and 2 beside it, each on a thread of its
 own. Client 1 locks 15, inserts 15=5, forgets what it holds there and leaves. Client 2 locks 15 and
 16, and scans its own cache from 11 on below 21 until key 15 is among the rows. Then the line
-'rows 15=5 20=2' is printed, and the status is 0. Each client takes at most 10,000 turns, and waits a
-millisecond where no letter is there for it. Where one has taken them all, 'nodes gave up' is
+'rows 15=5 20=2' is printed, and the status is 0. Each client takes at most 10,000 turns, and waits
+a millisecond where no letter is there for it. Where one has taken them all, 'nodes gave up' is
 printed, and the status is 1, after some fifteen seconds on a machine that does little else.
 
 With --policy N each node reads its letters as is drawn from N: one in eight is lost, two are read
 and stay, and any that waits may be the next. A node that finds no letter says again what is not
-answered. What client 1 says last may be lost, and it does not say it again: so 'nodes gave up' is as
-right an end as the rows.";
+answered. What client 1 says last may be lost, and it does not say it again: so 'nodes gave up' is
+as right an end as the rows.";
 
 // A number from `least` to `most`.
 fn number<'a>(
@@ -149,7 +149,8 @@ fn script_command<'a>(alloc: Global) -> Result<Command<'a>, AllocError> {
         .arg(flag(
             alloc,
             "picture",
-            "Write a picture of the run in its place: each message, crash and start, in 120 columns",
+            "Write a picture of the run in its place: each message, crash and start, in 120 \
+             columns",
         ))?
         .arg(flag(alloc, "svg", "Write that picture as a drawing in SVG"))
 }

@@ -1,5 +1,5 @@
-//! Pictures of a run: the nodes side by side, and a line for each message that is delivered, repeated
-//! or lost, each crash and each start, and what each line of a script printed.
+//! Pictures of a run: the nodes side by side, and a line for each message that is delivered,
+//! repeated or lost, each crash and each start, and what each line of a script printed.
 //!
 //! Nothing is promised of a picture but that drawing it is safe and ends.
 #![tactic(auto)]

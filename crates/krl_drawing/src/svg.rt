@@ -44,7 +44,11 @@ fn head(alloc: Global, layout: &Layout, lines: usize) -> Result<String, AllocErr
     let width = across(layout.count());
     let height = down(lines.saturating_add(1));
     format!(in alloc;
-        "<svg xmlns=\"http://www.w3.org/2000/svg\" width=\"{width}\" height=\"{height}\" font-family=\"monospace\" font-size=\"12\">\n<defs><marker id=\"tip\" refX=\"8\" refY=\"4\" markerWidth=\"8\" markerHeight=\"8\" orient=\"auto\"><path d=\"M0,0L8,4L0,8z\"/></marker></defs>\n<rect width=\"100%\" height=\"100%\" fill=\"white\"/>\n"
+        "<svg xmlns=\"http://www.w3.org/2000/svg\" width=\"{width}\" height=\"{height}\" \
+         font-family=\"monospace\" font-size=\"12\">\n\
+         <defs><marker id=\"tip\" refX=\"8\" refY=\"4\" markerWidth=\"8\" markerHeight=\"8\" \
+         orient=\"auto\"><path d=\"M0,0L8,4L0,8z\"/></marker></defs>\n\
+         <rect width=\"100%\" height=\"100%\" fill=\"white\"/>\n"
     )
 }
 
@@ -105,7 +109,8 @@ fn arrow(
         note.as_bytes(),
     )?;
     format!(in alloc;
-        "{words}<line x1=\"{x1}\" y1=\"{y}\" x2=\"{x2}\" y2=\"{y}\" stroke=\"{color}\" marker-end=\"url(#tip)\"/>\n"
+        "{words}<line x1=\"{x1}\" y1=\"{y}\" x2=\"{x2}\" y2=\"{y}\" stroke=\"{color}\" \
+         marker-end=\"url(#tip)\"/>\n"
     )
 }
 

@@ -1,5 +1,6 @@
 //! What survives a restart, as its callers see it.
-ghost use Rattle.std.specs.Prelude.{◌≡◌, ◌≤◌, ◌<◌, suc, nat_eq, [], length, IsSome, IsSomeAnd, OnOk};
+ghost use Rattle.std.specs.Prelude.{◌≡◌, ◌≤◌, ◌<◌, suc, nat_eq, [], length, IsSome, IsSomeAnd};
+ghost use Rattle.std.specs.Prelude.{OnOk};
 ghost use Rattle.std.specs.Prelude.{OnErr, MatchResult, IfOk};
 ghost use Rattle.std.specs.List.{AllByRecursion, IsDistinct};
 ghost use Rattle.std.specs.Map.{keys_of};
@@ -49,8 +50,11 @@ impl Model for Durable {
 
     ghost Value = { Kept };
 
-    ghost coded = { Prim.hlevel
-        (codes, map.code {R = nat_cmp} coded_ℕ (coded_list coded_ℕ), record_contract.the_row.coded) };
+    ghost coded = { Prim.hlevel (
+      codes,
+      map.code {R = nat_cmp} coded_ℕ (coded_list coded_ℕ),
+      record_contract.the_row.coded,
+    ) };
 
     ghost view = { λ d. record { index = d.index; epoch = d.epoch; register = d.register } };
 

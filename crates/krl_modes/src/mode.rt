@@ -1,9 +1,13 @@
 //! The thirteen modes.
 ghost use Rattle.std.specs.Prelude.{◌≡◌, ◌↔◌, IfSome, IsNone};
 ghost use Rattle.krl_modes.specs.Parts.{range_join, key_join, range_meet, key_meet};
-ghost use Rattle.krl_modes.specs.Modes.{range_of, key_of, mode_of, at_or_above, at_most, compatible, join, meet, cap, needs_entry, mode_name, mode_named};
-ghost use Rattle.krl_modes.specs.Orders.{IsPartialOrder, IsLeastUpperBound, IsGreatestLowerBound, IsCompatibility};
-ghost use Rattle.krl_modes.specs.Laws.{HasParts, HasPartsCorrected, IsNoMode, IsLeastModeAbove, IsGreatestBeside, ReadsItsKey, IsOnlyNamed};
+ghost use Rattle.krl_modes.specs.Modes.{range_of, key_of, mode_of, at_or_above, at_most};
+ghost use Rattle.krl_modes.specs.Modes.{compatible, join, meet, cap, needs_entry, mode_name};
+ghost use Rattle.krl_modes.specs.Modes.{mode_named};
+ghost use Rattle.krl_modes.specs.Orders.{IsPartialOrder, IsLeastUpperBound, IsGreatestLowerBound};
+ghost use Rattle.krl_modes.specs.Orders.{IsCompatibility};
+ghost use Rattle.krl_modes.specs.Laws.{HasParts, HasPartsCorrected, IsNoMode, IsLeastModeAbove};
+ghost use Rattle.krl_modes.specs.Laws.{IsGreatestBeside, ReadsItsKey, IsOnlyNamed};
 ghost use Rattle.krl_modes.specs.declared.mode.Mode.{Mode};
 
 use crate::part::{KeyPart, RangePart};

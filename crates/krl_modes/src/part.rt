@@ -1,7 +1,10 @@
 //! The two parts of a mode.
 ghost use Rattle.std.specs.Prelude.{◌≡◌};
-ghost use Rattle.krl_modes.specs.Parts.{range_at_most, key_at_most, ranges_compatible, keys_compatible, range_join, range_meet, key_join, key_meet, range_part_name, key_part_name};
-ghost use Rattle.krl_modes.specs.Orders.{IsPartialOrder, IsLeastUpperBound, IsGreatestLowerBound, IsCompatibility};
+ghost use Rattle.krl_modes.specs.Parts.{range_at_most, key_at_most, ranges_compatible};
+ghost use Rattle.krl_modes.specs.Parts.{keys_compatible, range_join, range_meet, key_join};
+ghost use Rattle.krl_modes.specs.Parts.{key_meet, range_part_name, key_part_name};
+ghost use Rattle.krl_modes.specs.Orders.{IsPartialOrder, IsLeastUpperBound, IsGreatestLowerBound};
+ghost use Rattle.krl_modes.specs.Orders.{IsCompatibility};
 
 /// What a mode holds of a gap: the points between an entry and the one before it, and the entry's
 /// own point. N lies below S and I, and both lie below X; S and I are not ordered.

@@ -125,8 +125,8 @@ impl Reading {
     }
 }
 
-/// Reads letters until both clients have ended. Where a letter may be lost it nudges clients 1 and 2
-/// by turns.
+/// Reads letters until both clients have ended. Where a letter may be lost it nudges clients 1 and
+/// 2 by turns.
 pub(crate) fn serve<R: Wait>(
     rt: &R,
     office: &Office,

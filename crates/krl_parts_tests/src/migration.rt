@@ -96,8 +96,8 @@ fn has_records(durable: &Durable) -> bool {
     durable.record(1).is_none()
 }
 
-// Whether it keeps all but the form of its value where nobody is missing, and is else refused, since
-// this client has not left.
+// Whether it keeps all but the form of its value where nobody is missing, and is else refused,
+// since this client has not left.
 fn is_migrated(alloc: Global, old: &DurableV1, missing: Option<u64>) -> bool {
     for _ in 0..CALLS {
         match Durable::migrate(alloc, old) {

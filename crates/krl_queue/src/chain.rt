@@ -1,9 +1,11 @@
 //! The owner of a list's nodes, and the steps that go through raw pointers.
-ghost use Rattle.std.specs.Prelude.{◌≡◌, ◌+◌, ◌<◌, ◌≤◌, List, [], ◌∷◌, ◌++◌, take, drop, length, slice_get};
+ghost use Rattle.std.specs.Prelude.{◌≡◌, ◌+◌, ◌<◌, ◌≤◌, List, [], ◌∷◌, ◌++◌, take, drop, length};
+ghost use Rattle.std.specs.Prelude.{slice_get};
 ghost use denote.RawPtr.{null_ptr};
 ghost use Rattle.krl_queue.specs.Ends.{IsPlace, ArePlaces};
 ghost use Rattle.krl_queue.specs.Waiting.{first_of, without_first};
-ghost use Rattle.krl_queue.specs.Segment.{Spot, spot, waiters, first_or, last_or, segment, segment_lent};
+ghost use Rattle.krl_queue.specs.Segment.{Spot, spot, waiters, first_or, last_or, segment};
+ghost use Rattle.krl_queue.specs.Segment.{segment_lent};
 
 use crate::loose::Loose;
 use crate::node::Node;

@@ -1,5 +1,6 @@
 //! Random runs.
-ghost use Rattle.std.specs.Prelude.{◌≡◌, ◌≢◌, ℕ, ◌≤◌, ◌&&◌, ◌++◌, List, None, Some, true, IfOk, IfSome, IfNone, IsErrOf, filter, is_none, nat_le, nat_lt};
+ghost use Rattle.std.specs.Prelude.{◌≡◌, ◌≢◌, ℕ, ◌≤◌, ◌&&◌, ◌++◌, List, None, Some, true, IfOk};
+ghost use Rattle.std.specs.Prelude.{IfSome, IfNone, IsErrOf, filter, is_none, nat_le, nat_lt};
 ghost use Rattle.krl_blocks.specs.Laid.{flat};
 ghost use Rattle.krl_blocks.specs.Runs.{runs_of};
 ghost use Rattle.krl_messages.specs.Values as values;
@@ -11,7 +12,10 @@ ghost use Rattle.krl_text.specs.Limits.{most_interruptions, most_steps};
 ghost use Rattle.krl_script.specs.Soundness.{first_unsound, numbers_below};
 ghost use Rattle.krl_text.specs.Transfers.{IsSteady};
 ghost use Rattle.krl_script.specs.declared.random.Pace.TheVariants as pace;
-ghost use Rattle.krl_script.specs.RandomRuns.{stage_of, first_entries, first_of, sight_of, waits_since, TakesDrawn, GoesOn, late, most_hurried, Hurries, GoesAt, RunsRandomly, EndsRandomRun, random_line, WroteLineOf};
+ghost use Rattle.krl_script.specs.RandomRuns.{stage_of, first_entries, first_of, sight_of};
+ghost use Rattle.krl_script.specs.RandomRuns.{waits_since, TakesDrawn, GoesOn, late, most_hurried};
+ghost use Rattle.krl_script.specs.RandomRuns.{Hurries, GoesAt, RunsRandomly, EndsRandomRun};
+ghost use Rattle.krl_script.specs.RandomRuns.{random_line, WroteLineOf};
 
 use crate::soundness::least_unsound;
 use crate::waiting::Waiting;
@@ -106,7 +110,8 @@ fn rows_behind<'a>(
 
 // Whether these rows are the entries with keys from lo on below hi.
 fn are_range(entries: &Entries<'_, Value>, rows: &[(u64, Value)], lo: u64, hi: u64) -> bool
-    ensures sound { rows.now ≡ filter (λ e. nat_le lo e.0 && nat_lt e.0 hi) (flat (runs_of entries.now))
+    ensures sound { rows.now ≡ filter
+        (λ e. nat_le lo e.0 && nat_lt e.0 hi) (flat (runs_of entries.now))
         → result ≡ true }
     ensures looks { result ≡ true
         → rows.now ≡ filter (λ e. nat_le lo e.0 && nat_lt e.0 hi) (flat (runs_of entries.now)) }
@@ -297,8 +302,8 @@ fn first_unsound_step<P: Progress>(
     Ok(None)
 }
 
-// Takes so many steps of this seed, at this pace. Gives the last world, and the first step after which something
-// was not sound.
+// Takes so many steps of this seed, at this pace. Gives the last world, and the first step after
+// which something was not sound.
 fn driven<P: Progress>(
     alloc: Global,
     progress: &mut P,

@@ -1,6 +1,8 @@
 //! Which messages wait.
-ghost use Rattle.std.specs.Prelude.{◌≡◌, ◌≢◌, ℕ, nat_lt, ◌+◌, ◌<◌, ◌^◌, true, length, slice_get, Some, OnOk};
-ghost use Rattle.krl_script.specs.Waiting.{none_sent, sent_to, without, none_waiting, waiting_after};
+ghost use Rattle.std.specs.Prelude.{◌≡◌, ◌≢◌, ℕ, nat_lt, ◌+◌, ◌<◌, ◌^◌, true, length, slice_get};
+ghost use Rattle.std.specs.Prelude.{Some, OnOk};
+ghost use Rattle.krl_script.specs.Waiting.{none_sent, sent_to, without, none_waiting};
+ghost use Rattle.krl_script.specs.Waiting.{waiting_after};
 
 use std::alloc::{AllocError, Global};
 use std::collections::VecDeque;

@@ -1,5 +1,5 @@
-//! Acts, one after another, and whether each gives what it should. Where an allocation is refused, a
-//! server shows what it showed, and the refused call is made again.
+//! Acts, one after another, and whether each gives what it should. Where an allocation is refused,
+//! a server shows what it showed, and the refused call is made again.
 use crate::acts::{Act, Gives, Told};
 use crate::again::CALLS;
 use crate::requests::message;

@@ -2,8 +2,10 @@
 //! is empty.
 ghost use Rattle.std.specs.Prelude.{◌≡◌};
 ghost use Rattle.std.specs.List.{flat_map};
-ghost use Rattle.krl_text.specs.declared.limits.TheConstants.{MAX_TEXT, MAX_LINES, MAX_LINE, MAX_DELIVERIES, MAX_TURNS, MAX_STEPS};
-ghost use Rattle.krl_text.specs.Limits.{most_text, most_lines, most_line, most_deliveries, most_turns, most_interruptions, most_steps};
+ghost use Rattle.krl_text.specs.declared.limits.TheConstants.{MAX_TEXT, MAX_LINES, MAX_LINE};
+ghost use Rattle.krl_text.specs.declared.limits.TheConstants.{MAX_DELIVERIES, MAX_TURNS, MAX_STEPS};
+ghost use Rattle.krl_text.specs.Limits.{most_text, most_lines, most_line, most_deliveries};
+ghost use Rattle.krl_text.specs.Limits.{most_turns, most_interruptions, most_steps};
 ghost use Rattle.krl_text.specs.Printing.{line_of, modes_lines, tables_of_modes};
 
 /// The code's limits are the numerals of the definitions.

@@ -1,8 +1,13 @@
 //! From a line to what it asks for.
-ghost use Rattle.std.specs.Prelude.{◌≡◌, ℕ, ◌+◌, ◌<◌, ◌≤◌, ◌^◌, List, [], map, length, IfOk, OnOk, IfSome, nat_eq, position};
+ghost use Rattle.std.specs.Prelude.{◌≡◌, ℕ, ◌+◌, ◌<◌, ◌≤◌, ◌^◌, List, [], map, length, IfOk, OnOk};
+ghost use Rattle.std.specs.Prelude.{IfSome, nat_eq, position};
 ghost use Rattle.std.specs.List.{slice_split};
 ghost use Rattle.std.specs.Str.{bytes_eq};
-ghost use Rattle.krl_text.specs.Words.{Gives, words_of, digits_of, number_of, bytes_of, value_of, pair_of, pairs_of, mode_of, argument_count, argument, or_fault, single_of, double_of, triple_of, valued_of, seed_of, argument_count_within, reach_of, lock_of, crash_of, start_of, request_of, meaning_of_words, meaning_of};
+ghost use Rattle.krl_text.specs.Words.{Gives, words_of, digits_of, number_of, bytes_of, value_of};
+ghost use Rattle.krl_text.specs.Words.{pair_of, pairs_of, mode_of, argument_count, argument};
+ghost use Rattle.krl_text.specs.Words.{or_fault, single_of, double_of, triple_of, valued_of};
+ghost use Rattle.krl_text.specs.Words.{seed_of, argument_count_within, reach_of, lock_of, crash_of};
+ghost use Rattle.krl_text.specs.Words.{start_of, request_of, meaning_of_words, meaning_of};
 
 use crate::fault::{LineFault, SyntaxFault};
 use crate::request::{Entries, Request};

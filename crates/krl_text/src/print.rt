@@ -1,7 +1,9 @@
 //! The lines that are printed.
 ghost use Rattle.std.specs.Prelude.{◌≡◌, ◌++◌, IfOk, OnOk};
 ghost use Rattle.std.specs.List.{flat_map};
-ghost use Rattle.krl_text.specs.Printing.{value_text, row_text, refused_line, rows_line, answer_lines, outcome_lines, beside_text, compatible_line, join_line, modes_lines, fault_line};
+ghost use Rattle.krl_text.specs.Printing.{value_text, row_text, refused_line, rows_line};
+ghost use Rattle.krl_text.specs.Printing.{answer_lines, outcome_lines, beside_text};
+ghost use Rattle.krl_text.specs.Printing.{compatible_line, join_line, modes_lines, fault_line};
 
 use crate::fault::SyntaxFault;
 use krl_messages::Value;

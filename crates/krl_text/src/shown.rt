@@ -3,7 +3,9 @@ ghost use Rattle.std.specs.Prelude.{◌≡◌, ◌++◌, codes, IfOk, OnOk};
 ghost use Rattle.std.specs.List.{flat_map};
 ghost use Rattle.krl_blocks.specs.Laid.{flat};
 ghost use Rattle.krl_blocks.specs.Runs.{runs_of};
-ghost use Rattle.krl_text.specs.Printing.{line_of, row_text, hold_line, lock_text, outcome_name, write_text, status_text, number_text, list_line, applied_text, writes_line};
+ghost use Rattle.krl_text.specs.Printing.{line_of, row_text, hold_line, lock_text, outcome_name};
+ghost use Rattle.krl_text.specs.Printing.{write_text, status_text, number_text, list_line};
+ghost use Rattle.krl_text.specs.Printing.{applied_text, writes_line};
 
 use crate::print::{push_rows, refused};
 use krl_blocks::Entries;
@@ -118,7 +120,8 @@ fn push_entries(
 /// The line of the index.
 pub fn index(alloc: Global, entries: &Entries<'_, Value>) -> Result<String, AllocError>
     ensures { IfOk result (λ line.
-        line.bytes.items ≡ line_of (codes "index" ++ flat_map row_text (flat (runs_of entries.now)))) }
+        line.bytes.items ≡ line_of (codes "index"
+        ++ flat_map row_text (flat (runs_of entries.now)))) }
 {
     let mut line = format!(in alloc; "index")?;
     push_entries(alloc, &mut line, entries)?;

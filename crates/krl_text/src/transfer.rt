@@ -1,8 +1,10 @@
 //! A text is read whole, and lines are written whole, unless the reader or the writer fails.
-ghost use Rattle.std.specs.Prelude.{◌≡◌, ℕ, ◌≤◌, List, [], ◌++◌, length, Some, IfOk, OnOk, IfErr, IsOk, IsErrOf};
+ghost use Rattle.std.specs.Prelude.{◌≡◌, ℕ, ◌≤◌, List, [], ◌++◌, length, Some, IfOk, OnOk, IfErr};
+ghost use Rattle.std.specs.Prelude.{IsOk, IsErrOf};
 ghost use Rattle.std.specs.Io.KnownBytes.{Appends, Consumes};
 ghost use Rattle.krl_text.specs.Limits.{most_turns};
-ghost use Rattle.krl_text.specs.Transfers.{Counts, ReadsWhole, ComesOfReading, MayEndReading, IsSteady};
+ghost use Rattle.krl_text.specs.Transfers.{Counts, ReadsWhole, ComesOfReading, MayEndReading};
+ghost use Rattle.krl_text.specs.Transfers.{IsSteady};
 
 use crate::fault::ScriptFault;
 use crate::limits::{MAX_TEXT, MAX_TURNS};

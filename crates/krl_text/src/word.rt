@@ -1,6 +1,9 @@
 //! The words that begin a line.
 ghost use Rattle.std.specs.Prelude.{◌≡◌};
-ghost use Rattle.krl_text.specs.Words.{alone_text, single_text, double_text, triple_text, word_text, word_named, alone_request, single_request, double_request, valued_text, valued_change, valued_request, triple_command, triple_request};
+ghost use Rattle.krl_text.specs.Words.{alone_text, single_text, double_text, triple_text};
+ghost use Rattle.krl_text.specs.Words.{word_text, word_named, alone_request, single_request};
+ghost use Rattle.krl_text.specs.Words.{double_request, valued_text, valued_change, valued_request};
+ghost use Rattle.krl_text.specs.Words.{triple_command, triple_request};
 
 use crate::request::{Request, Show};
 use krl_messages::{Value, WriteOp};

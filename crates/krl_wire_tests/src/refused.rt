@@ -1,5 +1,5 @@
-//! Memory that is refused: a refused call is made again, twice at most, so that each run ends alike,
-//! whichever request for memory is refused, or two in a row.
+//! Memory that is refused: a refused call is made again, twice at most, so that each run ends
+//! alike, whichever request for memory is refused, or two in a row.
 use krl_messages::ToServer;
 use krl_wire::{ReadError, has_counts, put_to_server, to_server_of};
 use std::alloc::{AllocError, Global};

@@ -24,8 +24,8 @@ fn lock(
     hi: u64,
     mode: Mode,
 ) -> Result<Answer, Refused>
-    ensures { Commanded (meaning client.old) (command.Lock point hi mode) (Some (meaning client.new))
-        sent.old.items sent.new.items result }
+    ensures { Commanded (meaning client.old) (command.Lock point hi mode)
+        (Some (meaning client.new)) sent.old.items sent.new.items result }
 {
     if let Some(refusal) = client.refuses_lock(point, hi) {
         return Err(Refused::from(refusal));

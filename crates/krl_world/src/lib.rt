@@ -2,9 +2,9 @@
 //!
 //! Whoever drives a `World` says what happens next: which message is delivered, how late and how
 //! often, what a client is told to do, who crashes and who starts. After every list of steps no two
-//! clients hold incompatible parts at one point; the rows that answer a scan are those of the index,
-//! though the client read its own cache alone; and each numbered write changed the index at most
-//! once, and once where its client was told Applied. `laws` says this and more of all worlds.
+//! clients hold incompatible parts at one point; the rows that answer a scan are those of the
+//! index, though the client read its own cache alone; and each numbered write changed the index at
+//! most once, and once where its client was told Applied. `laws` says this and more of all worlds.
 #![tactic(auto)]
 
 pub mod client_steps;

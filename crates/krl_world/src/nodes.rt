@@ -11,7 +11,8 @@ ghost use Rattle.krl_steps.specs.declared.step.Step.TheVariants as steps;
 ghost use Rattle.krl_durable.specs.Registers.{missing_order};
 ghost use Rattle.krl_durable.specs.Migrations.{migrated};
 ghost use Rattle.krl_world.specs.States.{index_of, unused, opened, fresh, range_held, key_held};
-ghost use Rattle.krl_world.specs.Steps.{Steps, CanBegin, CannotBegin, CanOpen, CannotOpen, CannotMigrate, message_at};
+ghost use Rattle.krl_world.specs.Steps.{Steps, CanBegin, CannotBegin, CanOpen, CannotOpen};
+ghost use Rattle.krl_world.specs.Steps.{CannotMigrate, message_at};
 ghost use Rattle.krl_world.specs.Fields.{meaning, server_up, kept_client, AreUnstarted};
 
 use crate::message::Message;

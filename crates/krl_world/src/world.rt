@@ -6,7 +6,8 @@ ghost use Rattle.krl_blocks.specs.Laid.{flat};
 ghost use Rattle.krl_blocks.specs.Runs.{runs_of};
 ghost use Rattle.krl_durable.specs.Migrations.{migrated};
 ghost use Rattle.krl_world.specs.States.{index_of, opened, fresh, range_held, key_held};
-ghost use Rattle.krl_world.specs.Steps.{Steps, RunsWith, CanBegin, CannotBegin, CanOpen, CannotMigrate, IsReachable, message_at};
+ghost use Rattle.krl_world.specs.Steps.{Steps, RunsWith, CanBegin, CannotBegin, CanOpen};
+ghost use Rattle.krl_world.specs.Steps.{CannotMigrate, IsReachable, message_at};
 ghost use Rattle.krl_world.specs.Promises.{IsCompatible, ScansIndex, WritesOnce};
 ghost use Rattle.krl_world.specs.Laws.{CanGoOn};
 ghost use Rattle.krl_world.specs.Bounds.{Bound, HasBound, IsBounded, HoldsOverRestarts};
@@ -66,13 +67,15 @@ impl World {
         Ok(World { nodes })
     }
 
-    /// A world that begins with what survived when values were numbers: the same keys, epoch, register
-    /// and records, each value its eight bytes. Nothing has happened in it: its server runs, in the
-    /// next epoch, and no client. Each client's greatest incarnation is the registered one, or 0.
+    /// A world that begins with what survived when values were numbers: the same keys, epoch,
+    /// register and records, each value its eight bytes. Nothing has happened in it: its server
+    /// runs, in the next epoch, and no client. Each client's greatest incarnation is the registered
+    /// one, or 0.
     ///
     /// # Errors
     ///
-    /// `StillRegistered`, with the first by registration, where some registered client has not left;
+    /// `StillRegistered`, with the first by registration, where some registered client has not
+    /// left;
     /// `Spent` where the epoch is END; and `OutOfMemory` at any point.
     pub fn migrate(alloc: Global, old: &DurableV1) -> Result<World, Refused>
         ensures { MatchResult result

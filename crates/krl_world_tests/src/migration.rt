@@ -1,5 +1,5 @@
-//! Worlds that begin with what survived when values were numbers. A call that is refused for want of
-//! memory is made again, so that each run ends alike, whichever requests for memory are refused.
+//! Worlds that begin with what survived when values were numbers. A call that is refused for want
+//! of memory is made again, so that each run ends alike, whichever requests for memory are refused.
 ghost use Rattle.std.specs.Prelude.{◌≤◌, nat_eq};
 ghost use Rattle.std.specs.List.{AllByRecursion, IsDistinct};
 ghost use Rattle.std.specs.Map.{keys_of};

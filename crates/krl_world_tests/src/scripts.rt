@@ -10,7 +10,8 @@ static FIRST: &str =
 static TRANSCRIPT: &str = "rows 10=1\nmiss 11\n";
 
 /// Scripts with their transcripts: the first one; one with inserts of two clients; one in which the
-/// server crashes before a client is told of its insert; and a lock of a range over values of bytes.
+/// server crashes before a client is told of its insert; and a lock of a range over values of
+/// bytes.
 static SCRIPTS: [(&str, &str); 4] = [
     (
         "seed 10=1 20=2\nclient 0\nsettle\nlock 0 5 RangeS-S\nsettle\nscan 0 0 11\nscan 0 0 12\n",
@@ -82,8 +83,8 @@ impl Read for Dripping<'_> {
     }
 }
 
-/// Takes some bytes a write, and sees whether they are what is to come. It is interrupted some times
-/// before the first write, and fails once it has no room.
+/// Takes some bytes a write, and sees whether they are what is to come. It is interrupted some
+/// times before the first write, and fails once it has no room.
 #[derive(Drop)]
 pub struct Narrow<'a> {
     pub rest: &'a [u8],
