@@ -17,6 +17,8 @@ mod joining;
 #[cfg(test)]
 mod locking;
 #[cfg(test)]
+mod replies;
+#[cfg(test)]
 mod shown;
 #[cfg(test)]
 mod writing;

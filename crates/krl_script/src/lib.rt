@@ -4,6 +4,7 @@
 
 mod delivery;
 mod interpreter;
+mod progress;
 mod random;
 mod run;
 mod shown;
@@ -16,5 +17,6 @@ pub use krl_text::{
     MAX_TEXT, MAX_TURNS, Request, ScriptFault, Show, Sink, Source, SyntaxFault, first_line, laws,
     read_text, write_line,
 };
-pub use random::{Progress, Untold, busy_run, random_run};
+pub use progress::{Progress, Untold};
+pub use random::{busy_run, random_run};
 pub use run::run_script;

@@ -17,6 +17,7 @@ ghost use Rattle.krl_script.specs.RandomRuns.{waits_since, TakesDrawn, GoesOn, l
 ghost use Rattle.krl_script.specs.RandomRuns.{Hurries, GoesAt, RunsRandomly, EndsRandomRun};
 ghost use Rattle.krl_script.specs.RandomRuns.{random_line, WroteLineOf};
 
+use crate::progress::Progress;
 use crate::soundness::least_unsound;
 use crate::waiting::Waiting;
 use krl_blocks::Entries;
@@ -41,20 +42,6 @@ const POINTS: u64 = 64;
 
 // How many steps are taken from one report to the next.
 const STRIDE: u64 = 10000;
-
-/// Who is told how far a random run is.
-pub trait Progress {
-    /// So many steps were taken by now. It is told of every 10,000th step.
-    fn taken(&mut self, steps: u64);
-}
-
-/// Nobody is told.
-#[derive(Drop)]
-pub struct Untold;
-
-impl Progress for Untold {
-    fn taken(&mut self, _steps: u64) {}
-}
 
 /// What a random run does between two steps that are drawn.
 #[derive(Clone, Copy)]

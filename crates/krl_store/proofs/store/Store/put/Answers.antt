@@ -3,7 +3,8 @@ use Rattle.std.specs.FinMap as map
 use Rattle.slab.specs.Slab.{get}
 use Rattle.krl_blocks.specs.Entries.{IsInserted}
 use Rattle.krl_store.specs.Stores.{kept}
-use Rattle.krl_store.proofs.Keeping.{found, via, stored_get, stored_len, exchanged_is, more_kept, more_is}
+use Rattle.krl_store.proofs.Finding.{found}
+use Rattle.krl_store.proofs.Keeping.{via, stored_get, stored_len, exchanged_is, more_kept, more_is}
 use Rattle.krl_store.proofs.store.Store.put.Goals as goal
 
 pub exchange-requires : goal.exchange-requires

@@ -1,7 +1,8 @@
 use Rattle.std.proofs.Common.{None, sym, ap, refl, ◌∙◌}
 use Rattle.std.specs.FinMap as map
 use Rattle.slab.specs.Slab.{get}
-use Rattle.krl_store.proofs.Keeping.{found, via, stored_get, gone_same, less_kept, less_is, less_was, removed_was}
+use Rattle.krl_store.proofs.Finding.{found, removed_was}
+use Rattle.krl_store.proofs.Keeping.{via, stored_get, gone_same, less_kept, less_is, less_was}
 use Rattle.krl_store.proofs.store.Store.remove.Goals as goal
 
 pub returns-in_err-place-clause-before : goal.returns-in_err-place-clause-before

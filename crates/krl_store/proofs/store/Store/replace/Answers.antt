@@ -2,7 +2,8 @@ use Rattle.std.proofs.Common.{Some, None, sym, ap, ◌∙◌}
 use Rattle.std.specs.FinMap as map
 use Rattle.slab.specs.Slab.{get}
 use Rattle.krl_store.specs.Stores.{kept}
-use Rattle.krl_store.proofs.Keeping.{found, via, stored_get, exchanged_is}
+use Rattle.krl_store.proofs.Finding.{found}
+use Rattle.krl_store.proofs.Keeping.{via, stored_get, exchanged_is}
 use Rattle.krl_store.proofs.store.Store.replace.Goals as goal
 
 pub returns-in_err-place-clause-before : goal.returns-in_err-place-clause-before
