@@ -14,6 +14,10 @@ pub record Bounds : Type 0 where
   pub lo : ℕ
   pub hi : ℕ
 
+-- some point lies in the span
+abbrev pub IsWhole : Bounds → Type 0
+IsWhole span = span.lo < span.hi
+
 -- the point lies in the span
 abbrev pub contains : Bounds → ℕ → Bool
 contains s p = nat_le s.lo p && nat_lt p s.hi

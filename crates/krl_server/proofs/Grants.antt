@@ -64,7 +64,7 @@ slot_always m p = ap (λ o. nat_eq (slot_of m p) END || is_some o) (fin.get-entr
 -- no slot lies above END
 pub slot_near : (m : Index) → ((q : ℕ) → END ≤ q → fin.get m q ≡ None) → (n : ℕ) → is_slot m n ≡ true → n ≤ END
 slot_near m near n e = ⊎_elim
-    (λ (a : END < n). absurd (is_slot_true m 0 Rattle.krl_protocol.specs.Links.Serving near n e (λ f. omega (arith, f, a)) (near n (omega (arith, a)))))
+    (λ (a : END < n). absurd (is_slot_true m near n e (λ f. omega (arith, f, a)) (near n (omega (arith, a)))))
     (λ (a : n ≤ END). a)
     (cases_lt END n)
 
@@ -191,9 +191,9 @@ granted_compatible m rows n k v vs ne queue = by_queue (rows n).queue refl
 span_behind : (m : Index) → ((q : ℕ) → END ≤ q → fin.get m q ≡ None) → (n k : ℕ) → is_slot m n ≡ true → is_slot m k ≡ true → n < k → suc n ≤ low_of m k
 span_behind m near n k here there lt = ⊎_elim
     (λ (a : low_of m k < suc n).
-    let x = (span_here m 0 Rattle.krl_protocol.specs.Links.Serving near k n (slot_near m near k there)).1 (omega (arith, a), omega (arith, lt)) in
+    let x = (span_here m near k n (slot_near m near k there)).1 (omega (arith, a), omega (arith, lt)) in
     let y = x.1 n (omega arith) lt in
-    absurd (is_slot_true m 0 Rattle.krl_protocol.specs.Links.Serving near n here y.1 y.0))
+    absurd (is_slot_true m near n here y.1 y.0))
     (λ (a : suc n ≤ low_of m k). a)
     (cases_lt (low_of m k) (suc n))
 

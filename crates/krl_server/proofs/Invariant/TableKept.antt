@@ -14,7 +14,6 @@ use Rattle.krl_messages.specs.declared.pieces.Pieces.{Pieces}
 use Rattle.krl_messages.specs.Members.{In}
 use Rattle.krl_queue.specs.declared.waiter.Waiter.{Waiter}
 use Rattle.krl_queue.specs.Waiting.{first_of}
-use Rattle.krl_protocol.specs.Links.{Serving}
 use Rattle.krl_protocol.proofs.Worlds.{eq_cases}
 use Rattle.krl_durable.specs.Index.{Index, slot_of, slots, is_slot, span_of}
 use Rattle.krl_table.specs.Rows.{Row, Rows, most_clients, mode_at, set_row, set_mode, is_compatible_there, waits}
@@ -46,7 +45,7 @@ slot_there m near p le = by_test (is_slot m (slot_of m p)) refl
   where
     by_test : (b : Bool) → is_slot m (slot_of m p) ≡ b → b ≡ true
     by_test true e = refl
-    by_test false e = let x = is_slot_false m 0 Serving near (slot_of m p) e in absurd ((slot_here m 0 Serving near p le).0 x.0 x.1)
+    by_test false e = let x = is_slot_false m near (slot_of m p) e in absurd ((slot_here m near p le).0 x.0 x.1)
 
 -- on some slots another mode for one client, compatible with those of the others
 pub changed_kept : (m : Index) (old new : Rows) (c : ℕ) → c < most_clients → IsKept m old → ((n : ℕ) → is_slot m n ≡ false → new n ≡ old n) → ((n : ℕ) → (new n).queue ≡ (old n).queue) → ((n d : ℕ) → d ≢ c → mode_at new n d ≡ mode_at old n d) → ((n d : ℕ) → d ≢ c → compatible (mode_at new n c) (mode_at old n d) ≡ true) → IsKept m new

@@ -10,7 +10,6 @@ use Rattle.krl_messages.specs.declared.write_op.WriteOp.{WriteOp}
 use Rattle.krl_messages.specs.declared.write_op.WriteOp.TheVariants as write
 use Rattle.krl_messages.specs.declared.outcome.Outcome.TheVariants as outcome
 use Rattle.krl_queue.specs.Waiting.{up_to, beyond}
-use Rattle.krl_protocol.specs.Links.{Serving}
 use Rattle.krl_protocol.proofs.Worlds.{eq_cases}
 use Rattle.krl_durable.specs.Index.{Index, slot_of, is_slot}
 use Rattle.krl_messages.specs.Writes.{op_key}
@@ -50,7 +49,7 @@ module _ (m : Index) (near : (q : ℕ) → END ≤ q → map.get m q ≡ None) (
     blank = λ j e. kept.blank j (still j e);
     strangers = kept.strangers;
     beside = kept.beside;
-    placed = λ j u at. let p = put_placed m 0 Serving near rows placed k v w present near' j u at in ((kept.placed j u at).0, p.0, p.1);
+    placed = λ j u at. let p = put_placed m near rows placed k v w present near' j u at in ((kept.placed j u at).0, p.0, p.1);
     alone = kept.alone;
   }
     where
@@ -74,7 +73,7 @@ module _ (m : Index) (near : (q : ℕ) → END ≤ q → map.get m q ≡ None) (
         (λ ne no. kept.blank j (still j ne e));
     strangers = split_strangers m rows k c own kept.strangers;
     beside = λ j. two_rows rows n k j at_n at_k (λ r. AreCompatible r.modes) (λ f. split_compatible (rows n).modes c may (kept.beside n)) (λ ne f. kept.beside n) (λ ne no. kept.beside j);
-    placed = λ j u at. let p = split_placed m 0 Serving near rows placed k v c lt absent near' j u at in let f = split_from m 0 Serving near rows placed k v c lt absent near' j u at in ((kept.placed f.0 u f.1).0, p.0, p.1);
+    placed = λ j u at. let p = split_placed m near rows placed k v c lt absent near' j u at in let f = split_from m near rows placed k v c lt absent near' j u at in ((kept.placed f.0 u f.1).0, p.0, p.1);
     alone = moved_alone rows n k at_n at_k apart (λ c. let x = times_parted c k (rows n).queue in let y = ap (λ r. times c r.queue) (kept.blank k gone) in omega (arith, x, y)) kept.alone;
   }
     where
@@ -113,7 +112,7 @@ module _ (m : Index) (near : (q : ℕ) → END ≤ q → map.get m q ≡ None) (
         (λ ne no. kept.blank j (still j ne e));
     strangers = merge_strangers m rows k kept.strangers;
     beside = λ j. two_rows rows n k j at_n blank_row (λ r. AreCompatible r.modes) (λ f c d ne. refl) (λ ne f. kept.beside n) (λ ne no. kept.beside j);
-    placed = λ j u at. let p = merge_placed m 0 Serving near rows placed k w lt present near' j u at in let f = merge_from m 0 Serving near rows placed k w lt present near' j u at in ((kept.placed f.0 u f.1).0, p.0, p.1);
+    placed = λ j u at. let p = merge_placed m near rows placed k w lt present near' j u at in let f = merge_from m near rows placed k w lt present near' j u at in ((kept.placed f.0 u f.1).0, p.0, p.1);
     alone = moved_alone rows n k at_n blank_row apart (λ c. let x = times_both c (rows k).queue (rows n).queue in omega (arith, x)) kept.alone;
   }
     where
@@ -124,7 +123,7 @@ module _ (m : Index) (near : (q : ℕ) → END ≤ q → map.get m q ≡ None) (
       at_n = with_queue (rows (slot_of m (suc k))) ((rows k).queue ++ (rows (slot_of m (suc k))).queue)
 
       apart : slot_of m (suc k) ≢ k
-      apart f = let x = (slot_here m 0 Serving near (suc k) (omega (arith, lt))).1.0 in omega (arith, f, x)
+      apart f = let x = (slot_here m near (suc k) (omega (arith, lt))).1.0 in omega (arith, f, x)
 
       near' : (q : ℕ) → END ≤ q → map.get (map.remove m k) q ≡ None
       near' q le = gone_other m k q (λ f. omega (arith, f, le, lt)) ∙ near q le

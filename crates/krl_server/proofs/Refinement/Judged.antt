@@ -51,7 +51,7 @@ module _ (s : Server) (i : IsSound s) (c : ℕ) (l : Link) (k : LinkShows s c l)
   each_says [] slots = tt
   each_says (n ∷ ns) slots = (
     slot_holding (view s) l (column s.rows c) i.near (row_shows s i c l k serving) n slots.0.1 (holding s n c) refl refl
-        (λ q low up. (span_here s.durable.index s.durable.epoch (view s).phase i.near n q slots.0.0).1 (low, omega (arith, up)))
+        (λ q low up. (span_here s.durable.index i.near n q slots.0.0).1 (low, omega (arith, up)))
         (λ far r. entry_shown (map.get s.durable.index n) (key_of (mode_at s.rows n c)) r),
     each_says ns slots.1,
   )
@@ -69,10 +69,10 @@ pub answers_on : (s : Server) (of : ℕ → Link) (log : List Logged) (cleared :
 answers_on s of log cleared c a number op o i serving free at head inc epoch left last some applied under h =
     let n = slot_of s.durable.index (op_key op) in
     let w : Write = record { head = a; number = number; op = op_of op } in
-    let spec = slot_here s.durable.index s.durable.epoch (view s).phase i.near (op_key op) (omega (arith, under)) in
-    let high = slot_high s.durable.index s.durable.epoch (view s).phase i.near (op_key op) (omega (arith, under)) in
+    let spec = slot_here s.durable.index i.near (op_key op) (omega (arith, under)) in
+    let high = slot_high s.durable.index i.near (op_key op) (omega (arith, under)) in
     let key = key_same op in
-    let in_span = (span_here s.durable.index s.durable.epoch (view s).phase i.near n (op_key op) high).0 spec.1 in
+    let in_span = (span_here s.durable.index i.near n (op_key op) high).0 spec.1 in
     pushes_on s of log cleared c (push.Answer number o (holding s n c)) serving i.begun some (a, head, inc, epoch, left) free
     (record {
       says = holdings_say s i c (of c) (h.link c) serving (n ∷ []) ((high, spec.0), tt);

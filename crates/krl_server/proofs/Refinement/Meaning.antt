@@ -34,12 +34,12 @@ off_same range.X = refl
 
 module _ (m : Index) (epoch : ℕ) (phase : Phase) (near : (q : ℕ) → END ≤ q → map.get m q ≡ None) (rows : Rows) (c : ℕ) where
   pub range_is : (q : ℕ) → range_at m rows c q ≡ machine.range_at (seen_in m epoch phase) (column rows c) q
-  range_is q = range_by_slots (seen_in m epoch phase) near (column rows c) (slot_of m) (slot_here m epoch phase near) q
+  range_is q = range_by_slots (seen_in m epoch phase) near (column rows c) (slot_of m) (slot_here m near) q
 
   pub key_is : (q : ℕ) → key_at m rows c q ≡ machine.key_at (seen_in m epoch phase) (column rows c) q
   key_is q =
       ap (λ r. if is_slot m q then key_of (mode_at rows q c) else key_off_slot r) (range_is q)
-      ∙ key_by_slots (seen_in m epoch phase) near (column rows c) (is_slot m) key_off_slot (is_slot_true m epoch phase near) (is_slot_false m epoch phase near) off_same q
+      ∙ key_by_slots (seen_in m epoch phase) near (column rows c) (is_slot m) key_off_slot (is_slot_true m near) (is_slot_false m near) off_same q
 
 -- where c's modes are the same, so is what the table gives it
 module _ (m : Index) (old new : Rows) (c : ℕ) (same : (n : ℕ) → mode_at old n c ≡ mode_at new n c) where

@@ -30,7 +30,7 @@ module _ (m : Index) (epoch : ℕ) (phase : Phase) (near : (q : ℕ) → END ≤
   pub delete_shown : (k : ℕ) (u : Value) → k < END → map.get m k ≡ Some u → is_key_X (key_of (column rows c k)) ≡ true → is_range_X (range_of (column rows c k)) ≡ true → is_range_X (range_of (column rows c (slot_of m (suc k)))) ≡ true → Written (record { shared = seen_in m epoch phase; links = of; log = log }) c (Delete k) (map.get (map.remove m k)) (column (merged m rows k))
   delete_shown k u lt present x rx rx' =
       let n = slot_of m (suc k) in
-      let y = slot_here m epoch phase near (suc k) (omega arith) in
+      let y = slot_here m near (suc k) (omega arith) in
       delete_written (record { shared = seen_in m epoch phase; links = of; log = log }) c (column rows) near shows inv k u n (map.get (map.remove m k)) (column (merged m rows k)) lt present (gone_here m k) (gone_other m k) y.0 y.1
       (its_key_X (key_of (column rows c k)) x) (range_is_X (range_of (column rows c k)) rx) (range_is_X (range_of (column rows c n)) rx')
       (λ d j ne. set_modes rows n k d j _ _ refl ne)

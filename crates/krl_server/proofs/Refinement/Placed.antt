@@ -13,14 +13,12 @@ use Rattle.krl_messages.specs.Values.{Value}
 use Rattle.krl_messages.specs.Members.{In}
 use Rattle.krl_messages.proofs.Members.{in_both}
 use Rattle.krl_queue.specs.declared.waiter.Waiter.{Waiter}
-use Rattle.krl_protocol.specs.Links.{Phase, IsSlot, InSpan}
 use Rattle.krl_protocol.proofs.Worlds.{eq_cases}
-use Rattle.krl_protocol.proofs.Tables.{slot_unique}
 use Rattle.krl_durable.specs.Index.{Index, slot_of}
 use Rattle.krl_table.specs.Rows.{Row, Rows, blank_row, most_clients, mode_at, set_row}
 use Rattle.krl_table.specs.Calls.{mode_beside, split, merged}
 use Rattle.krl_table.proofs.Invariant.Stands.{in_filter}
-use Rattle.krl_server.proofs.Slots.{seen_in, slot_here}
+use Rattle.krl_server.proofs.Slots.{IsSlot, InSpan, slot_unique, slot_here}
 use Rattle.krl_server.proofs.Refinement.Meaning.{row_here, row_other}
 use Rattle.krl_server.proofs.Refinement.Splits.{get_here, get_other, set_modes}
 use Rattle.krl_server.proofs.Refinement.Merges.{gone_here, gone_other}
@@ -43,15 +41,15 @@ ArePlaced m rows = (n : ℕ) (u : Waiter) → In u (rows n).queue → (u.point �
 abbrev pub ComeFrom : Rows → Rows → Type 0
 ComeFrom old new = (n : ℕ) (u : Waiter) → In u (new n).queue → (k : ℕ) × In u (old k).queue
 
-module _ (m : Index) (epoch : ℕ) (phase : Phase) (near : (q : ℕ) → END ≤ q → map.get m q ≡ None) (rows : Rows) (placed : ArePlaced m rows) where
+module _ (m : Index) (near : (q : ℕ) → END ≤ q → map.get m q ≡ None) (rows : Rows) (placed : ArePlaced m rows) where
   -- where a waiter stands, as slot and span
-  stands : (n : ℕ) (u : Waiter) → In u (rows n).queue → IsSlot (seen_in m epoch phase) n × InSpan (seen_in m epoch phase) n u.point
-  stands n u at = let p = placed n u at in let x = slot_here m epoch phase near u.point p.0 in
-      (subst (λ y. IsSlot (seen_in m epoch phase) y) p.1 x.0, subst (λ y. InSpan (seen_in m epoch phase) y u.point) p.1 x.1)
+  stands : (n : ℕ) (u : Waiter) → In u (rows n).queue → IsSlot m n × InSpan m n u.point
+  stands n u at = let p = placed n u at in let x = slot_here m near u.point p.0 in
+      (subst (λ y. IsSlot m y) p.1 x.0, subst (λ y. InSpan m y u.point) p.1 x.1)
 
   -- it is the slot of the point in another index, where it is a slot and no key lies between
-  there : (m' : Index) → ((q : ℕ) → END ≤ q → map.get m' q ≡ None) → (n p : ℕ) → p ≤ END → IsSlot (seen_in m' epoch phase) n → InSpan (seen_in m' epoch phase) n p → slot_of m' p ≡ n
-  there m' near' n p le slot span = let x = slot_here m' epoch phase near' p le in slot_unique (seen_in m' epoch phase) (slot_of m' p) n p x.0 slot x.1 span
+  there : (m' : Index) → ((q : ℕ) → END ≤ q → map.get m' q ≡ None) → (n p : ℕ) → p ≤ END → IsSlot m' n → InSpan m' n p → slot_of m' p ≡ n
+  there m' near' n p le slot span = let x = slot_here m' near' p le in slot_unique m' (slot_of m' p) n p x.0 slot x.1 span
 
   pub put_placed : (k : ℕ) (v u : Value) → map.get m k ≡ Some u → ((q : ℕ) → END ≤ q → map.get (map.insert m k v) q ≡ None) → ArePlaced (map.insert m k v) rows
   put_placed k v u present near' n w at =
@@ -93,14 +91,14 @@ module _ (m : Index) (epoch : ℕ) (phase : Phase) (near : (q : ℕ) → END ≤
         (λ ne no x. let p = placed j u x in let y = stands j u x in (
           p.0,
           there (map.insert m k v) near' j u.point p.0 (λ far none. y.0 far (sym (get_other m k v j ne) ∙ none))
-              (y.1.0, λ i a b. let z = y.1.1 i a b in (get_other m k v i (λ g. no (slot_unique (seen_in m epoch phase) j n k y.0 here.0 (omega (arith, g, b), λ h c d. y.1.1 h (omega (arith, g, a, c)) d) here.1)) ∙ z.0, z.1)),
+              (y.1.0, λ i a b. let z = y.1.1 i a b in (get_other m k v i (λ g. no (slot_unique m j n k y.0 here.0 (omega (arith, g, b), λ h c d. y.1.1 h (omega (arith, g, a, c)) d) here.1)) ∙ z.0, z.1)),
         )) at
       where
         n : ℕ
         n = slot_of m k
 
-        here : IsSlot (seen_in m epoch phase) (slot_of m k) × InSpan (seen_in m epoch phase) (slot_of m k) k
-        here = slot_here m epoch phase near k (omega (arith, lt))
+        here : IsSlot m (slot_of m k) × InSpan m (slot_of m k) k
+        here = slot_here m near k (omega (arith, lt))
 
         low_point : (p k : ℕ) → nat_le p k ≡ true → p ≤ k
         low_point p k e = grind (arith, nat_tests)
@@ -139,10 +137,10 @@ module _ (m : Index) (epoch : ℕ) (phase : Phase) (near : (q : ℕ) → END ≤
         (λ ne no x. let p = placed j w x in let y = stands j w x in
         (p.0, there (map.remove m k) near' j w.point p.0 (slot_left j ne y.0) (y.1.0, λ i b d. let r = y.1.1 i b d in (gone_too i r.0, r.1)))) at
       where
-        here : IsSlot (seen_in m epoch phase) (slot_of m (suc k)) × InSpan (seen_in m epoch phase) (slot_of m (suc k)) (suc k)
-        here = slot_here m epoch phase near (suc k) (omega (arith, lt))
+        here : IsSlot m (slot_of m (suc k)) × InSpan m (slot_of m (suc k)) (suc k)
+        here = slot_here m near (suc k) (omega (arith, lt))
 
-        slot_left : (n : ℕ) → n ≢ k → IsSlot (seen_in m epoch phase) n → IsSlot (seen_in (map.remove m k) epoch phase) n
+        slot_left : (n : ℕ) → n ≢ k → IsSlot m n → IsSlot (map.remove m k) n
         slot_left n ne slot far none = slot far (sym (gone_other m k n ne) ∙ none)
 
         by_side : (i : ℕ) → w.point ≤ i → i < slot_of m (suc k) → ((i : ℕ) → w.point ≤ i → i < k → (map.get m i ≡ None) × (i ≢ END)) → (map.get (map.remove m k) i ≡ None) × (i ≢ END)

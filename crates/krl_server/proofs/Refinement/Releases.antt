@@ -84,7 +84,7 @@ lowers_follow s of log cleared c a span keep lt i at head ok h =
     (λ w. let x = span_within m n span w in
     let g = mode_here (s.rows n).modes c (meet (mode_at s.rows n c) keep) in
     inr (
-      (λ q near. let y = (span_here m s.durable.epoch (view s).phase i.near n q (slot_near (view s) i.near n slot)).0 near in (omega (arith, x.0, y.0), omega (arith, x.1, y.1))),
+      (λ q near. let y = (span_here m i.near n q (slot_near (view s) i.near n slot)).0 near in (omega (arith, x.0, y.0), omega (arith, x.1, y.1))),
       ap range_of g ∙ (meet-parts (mode_at s.rows n c) keep).range,
       ap key_of g ∙ (meet-parts (mode_at s.rows n c) keep).key,
     ))

@@ -63,13 +63,13 @@ module _ (m : Index) (epoch : ℕ) (phase : Phase) (near : (q : ℕ) → END ≤
   -- on a slot the client has the rebuilt mode
   pub adopted_at : (n : ℕ) → IsSlot (seen_in m epoch phase) n → (b : Bool) → is_slot m n ≡ b → column (adopted m rows c pieces) c n ≡ rebuilt m pieces n
   adopted_at n slot true e = ap (λ b. (if b then (let r : Row = record (rows n) { modes = set_mode (rows n).modes c (rebuilt m pieces n) } in r) else rows n).modes c) e ∙ ap (λ b. if b then rebuilt m pieces n else (rows n).modes c) (eq-eqb c c refl)
-  adopted_at n slot false e = let x = is_slot_false m epoch phase near n e in absurd (slot x.0 x.1)
+  adopted_at n slot false e = let x = is_slot_false m near n e in absurd (slot x.0 x.1)
 
   pub report_shown : IsRebuilt (seen_in m epoch phase) (report_of inc said_in pieces) (machine.range_at (seen_in m epoch phase) (column (adopted m rows c pieces) c)) (machine.key_at (seen_in m epoch phase) (column (adopted m rows c pieces) c))
   report_shown = report_rebuilds (seen_in m epoch phase) near (report_of inc said_in pieces) (column (adopted m rows c pieces) c) (λ n. reported_range pieces.ranges (span_of m n))
-      (λ n q slot span. let x = (span_here m epoch phase near n q (slot_near (seen_in m epoch phase) near n slot)).0 span in said_below pieces.ranges (span_of m n) q x.0 (omega (arith, x.1)))
+      (λ n q slot span. let x = (span_here m near n q (slot_near (seen_in m epoch phase) near n slot)).0 span in said_below pieces.ranges (span_of m n) q x.0 (omega (arith, x.1)))
       (λ n a slot h.
       let high = slot_near (seen_in m epoch phase) near n slot in
-      let self = (span_here m epoch phase near n n high).0 (omega arith, λ k a b. absurd (omega arith)) in
-      reported_least pieces.ranges (span_of m n) a (omega (arith, self.0)) whole (λ q b d. h q ((span_here m epoch phase near n q high).1 (b, omega (arith, d)))))
+      let self = (span_here m near n n high).0 (omega arith, λ k a b. absurd (omega arith)) in
+      reported_least pieces.ranges (span_of m n) a (omega (arith, self.0)) whole (λ q b d. h q ((span_here m near n q high).1 (b, omega (arith, d)))))
       (λ n slot. adopted_at n slot (is_slot m n) refl)

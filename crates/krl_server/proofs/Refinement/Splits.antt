@@ -54,7 +54,7 @@ module _ (m : Index) (epoch : ℕ) (phase : Phase) (near : (q : ℕ) → END ≤
   pub insert_shown : (k : ℕ) (v : Value) → k < END → map.get m k ≡ None → lets_insert (range_of (column rows c (slot_of m k))) ≡ true → Written (record { shared = seen_in m epoch phase; links = of; log = log }) c (Insert k v) (map.get (map.insert m k v)) (column (split m rows k c))
   insert_shown k v lt absent may =
       let n = slot_of m k in
-      let x = slot_here m epoch phase near k (omega arith) in
+      let x = slot_here m near k (omega arith) in
       insert_written (record { shared = seen_in m epoch phase; links = of; log = log }) c (column rows) near shows inv k v n (map.get (map.insert m k v)) (column (split m rows k c)) lt absent (get_here m k v) (get_other m k v) x.0 x.1
       (may_insert (range_of (column rows c n)) may)
       (set_here rows n k c _ _ ∙ ap (λ b. if b then at_or_above (range_of ((rows n).modes c)) key.X else mode_beside (range_of ((rows n).modes c))) (eq-eqb c c refl))

@@ -77,6 +77,16 @@ pub record Raises (s : Server) (of : ℕ → Link) (log : List Logged) (c : ℕ)
   pub heard : IsHeardOf (view s) (after c)
   pub clients : (d : ℕ) → (after d).client ≡ (of d).client
 
+-- one row of the client c is another, and who waits afterwards waited before
+pub one_sound : (s : Server) → IsSound s → (c n : ℕ) (row : Row) → ((d : ℕ) → d ≢ c → row.modes d ≡ mode_at s.rows n d) → ((m : ℕ) (v : Waiter) → In v (set_row s.rows n row m).queue → In v (s.rows m).queue) → c < most_clients → IsSound (with_rows s (set_row s.rows n row))
+one_sound s i c n row rest stayed lt = record {
+  near = i.near;
+  begun = i.begun;
+  strangers = λ m d ge. sym (row_modes s.rows n row d (sym (rest d (λ e. omega (arith, e, ge, lt)))) m) ∙ i.strangers m d ge;
+  placed = λ m v at. i.placed m v (stayed m v at);
+  clients = λ m v at. i.clients m v (stayed m v at);
+}
+
 -- one row of the client c is another, in which its mode is not below the old one and agrees with those of all others
 module _ (s : Server) (i : IsSound s) (c n : ℕ) (row : Row) (slot : IsSlot (view s) n) (rest : (d : ℕ) → d ≢ c → row.modes d ≡ mode_at s.rows n d) (stayed : (m : ℕ) (v : Waiter) → In v (set_row s.rows n row m).queue → In v (s.rows m).queue) where
   abbrev to : Rows
@@ -87,15 +97,6 @@ module _ (s : Server) (i : IsSound s) (c n : ℕ) (row : Row) (slot : IsSlot (vi
 
   column_here : column to c n ≡ row.modes c
   column_here = ap (λ r. r.modes c) (row_here s.rows n row)
-
-  pub one_sound : c < most_clients → IsSound (with_rows s to)
-  one_sound lt = record {
-    near = i.near;
-    begun = i.begun;
-    strangers = λ m d ge. sym (others d (λ e. omega (arith, e, ge, lt)) m) ∙ i.strangers m d ge;
-    placed = λ m v at. i.placed m v (stayed m v at);
-    clients = λ m v at. i.clients m v (stayed m v at);
-  }
 
   pub one_raise : (of : ℕ → Link) (log : List Logged) → c < most_clients → WorldInv (world_of s of log) → (view s).phase ≡ links.Serving → Shows s of → IsHeardOf (view s) (of c) → RangeAtMost (range_of (mode_at s.rows n c)) (range_of (row.modes c)) × KeyAtMost (key_of (mode_at s.rows n c)) (key_of (row.modes c)) → ((d : ℕ) → d ≢ c → RangesAgree (range_of (row.modes c)) (range_of (mode_at s.rows n d)) × KeysAgree (key_of (row.modes c)) (key_of (mode_at s.rows n d))) → Raises s of log c to
   one_raise of log lt inv serving h heard up agree =
@@ -126,7 +127,7 @@ module _ (s : Server) (i : IsSound s) (c n : ℕ) (row : Row) (slot : IsSlot (vi
         shows = put_shows s t of c l shown
             (λ d ne x. relink (view s) (record_of s.durable.register d) (lists s.missing d) (s.sessions d) (range_at m s.rows d) (range_at m to d) (key_at m s.rows d) (key_at m to d) (of d) (same_range m s.rows to d (others d ne)) (same_key m s.rows to d (others d ne)) x)
             h (λ j v at. heard_kept (view s) of (put of c l) c l ch (λ z. z) v.client (h.heard j v (stayed j v at)));
-        sound = one_sound lt;
+        sound = one_sound s i c n row rest stayed lt;
         heard = heard_kept (view s) of (put of c l) c l ch (λ z. z) c heard;
         clients = put_client of c l refl;
       }
@@ -136,7 +137,7 @@ raises_more : (s : Server) (of : ℕ → Link) (log : List Logged) (u : Waiter) 
 raises_more s of log u lt inv serving rows n there may r =
     let c = u.client in
     let t = with_rows s rows in
-    let x = one_raise t r.sound c n (with_mode (rows n) c (wanted (rows n) u)) (is_slot_true s.durable.index s.durable.epoch (view s).phase r.sound.near n there)
+    let x = one_raise t r.sound c n (with_mode (rows n) c (wanted (rows n) u)) (is_slot_true s.durable.index r.sound.near n there)
     (λ d ne. mode_other (rows n).modes c d (wanted (rows n) u) ne)
     (λ m v at. subst (In v) (raised_queue rows n u m) at)
     r.after log lt (world_steps (world_of s of log) (world_of t r.after log) r.steps inv) serving r.shows r.heard
@@ -151,12 +152,13 @@ raises_more s of log u lt inv serving rows n there may r =
       clients = λ d. x.clients d ∙ r.clients d;
     }
 
+-- the first waiter of a slot waits no more
 module _ (s : Server) (i : IsSound s) (n : ℕ) (u : Waiter) (us : List Waiter) (queue : (s.rows n).queue ≡ u ∷ us) where
-  at_first : In u (s.rows n).queue
+  pub at_first : In u (s.rows n).queue
   at_first = subst (In u) (sym queue) (inl refl)
 
   -- who waits afterwards waited before, on the same slot
-  stayed_on : (row : Row) → row.queue ≡ us → (m : ℕ) (v : Waiter) → In v (set_row s.rows n row m).queue → In v (s.rows m).queue
+  pub stayed_on : (row : Row) → row.queue ≡ us → (m : ℕ) (v : Waiter) → In v (set_row s.rows n row m).queue → In v (s.rows m).queue
   stayed_on row e m v h = ⊎_elim (λ (x : (m ≡ n) × In v row.queue). subst (λ y. In v (s.rows y).queue) (sym x.0) (subst (In v) (sym queue) (inr (subst (In v) e x.1)))) (λ (old : In v (s.rows m).queue). old) (in_row s.rows n row m v h)
 
   abbrev drop_row : Row
@@ -168,7 +170,7 @@ module _ (s : Server) (i : IsSound s) (n : ℕ) (u : Waiter) (us : List Waiter) 
   pub dropped_is : set_row s.rows n drop_row ≡ dropped s.rows n
   dropped_is = ap (λ q. set_row s.rows n (with_queue (s.rows n) (behind_first q))) (sym queue)
 
-  drop_modes : (c m : ℕ) → mode_at s.rows m c ≡ mode_at (set_row s.rows n drop_row) m c
+  pub drop_modes : (c m : ℕ) → mode_at s.rows m c ≡ mode_at (set_row s.rows n drop_row) m c
   drop_modes c m = row_modes s.rows n drop_row c refl m
 
   drop_sound : IsSound (with_rows s (set_row s.rows n drop_row))
@@ -184,10 +186,7 @@ module _ (s : Server) (i : IsSound s) (n : ℕ) (u : Waiter) (us : List Waiter) 
   dropped_sound = subst (λ r. IsSound (with_rows s r)) dropped_is drop_sound
 
   grant_sound : IsSound (with_rows s (set_row s.rows n grant_row))
-  grant_sound = one_sound s i u.client n grant_row place_slot (λ d ne. mode_other (s.rows n).modes u.client d (wanted (s.rows n) u) ne) (stayed_on grant_row refl) (i.clients n u at_first)
-    where
-      place_slot : IsSlot (view s) n
-      place_slot = let place = i.placed n u at_first in subst (IsSlot (view s)) place.1 (slot_here s.durable.index s.durable.epoch (view s).phase i.near u.point place.0).0
+  grant_sound = one_sound s i u.client n grant_row (λ d ne. mode_other (s.rows n).modes u.client d (wanted (s.rows n) u) ne) (stayed_on grant_row refl) (i.clients n u at_first)
 
   -- the rows that a grant leaves
   abbrev all_rows : Rows
@@ -196,21 +195,32 @@ module _ (s : Server) (i : IsSound s) (n : ℕ) (u : Waiter) (us : List Waiter) 
   pub granted_sound : IsSound (with_rows s (granted s.durable.index s.rows n))
   granted_sound = subst (λ r. IsSound (with_rows s r)) (sym (granted_is s.durable.index s.rows n u us queue))
       (along s.durable.index u (λ r. IsSound (with_rows s r)) n
-      (λ r j far there is_compatible_there x. one_sound (with_rows s r) x u.client j (with_mode (r j) u.client (wanted (r j) u)) (is_slot_true s.durable.index s.durable.epoch (view s).phase x.near j there) (λ d ne. mode_other (r j).modes u.client d (wanted (r j) u) ne) (λ m v at. subst (In v) (raised_queue r j u m) at) (i.clients n u at_first))
+      (λ r j far there is_compatible_there x. one_sound (with_rows s r) x u.client j (with_mode (r j) u.client (wanted (r j) u)) (λ d ne. mode_other (r j).modes u.client d (wanted (r j) u) ne) (λ m v at. subst (In v) (raised_queue r j u m) at) (i.clients n u at_first))
       most_more n (set_row s.rows n grant_row) (omega arith) grant_sound)
+
+-- what the machine does then
+module _ (s : Server) (i : IsSound s) (n : ℕ) (u : Waiter) (us : List Waiter) (queue : (s.rows n).queue ≡ u ∷ us) where
+  abbrev drop_row : Row
+  drop_row = with_queue (s.rows n) us
+
+  abbrev grant_row : Row
+  grant_row = record { modes = set_mode (s.rows n).modes u.client (wanted (s.rows n) u); queue = us }
+
+  abbrev all_rows : Rows
+  all_rows = raised_on (set_row s.rows n grant_row) (taken_after s.durable.index (set_row s.rows n grant_row) n u most_more) u
 
   drop_shows : (of : ℕ → Link) → Shows s of → Shows (with_rows s (set_row s.rows n drop_row)) of
   drop_shows of h = record {
     link = λ d. relink (view s) (record_of s.durable.register d) (lists s.missing d) (s.sessions d) (range_at s.durable.index s.rows d) (range_at s.durable.index (set_row s.rows n drop_row) d) (key_at s.durable.index s.rows d) (key_at s.durable.index (set_row s.rows n drop_row) d) (of d)
-        (same_range s.durable.index s.rows (set_row s.rows n drop_row) d (drop_modes d)) (same_key s.durable.index s.rows (set_row s.rows n drop_row) d (drop_modes d)) (h.link d);
-    heard = λ m v at. h.heard m v (stayed_on drop_row refl m v at);
+        (same_range s.durable.index s.rows (set_row s.rows n drop_row) d (drop_modes s i n u us queue d)) (same_key s.durable.index s.rows (set_row s.rows n drop_row) d (drop_modes s i n u us queue d)) (h.link d);
+    heard = λ m v at. h.heard m v (stayed_on s i n u us queue drop_row refl m v at);
   }
 
   pub absents_follow : (of : ℕ → Link) (log : List Logged) (cleared : ℕ → Bool) → (view s).phase ≡ links.Serving → can_push (s.sessions u.client) ≡ true → Shows s of → Goes s of log cleared (pushes (with_rows s (dropped s.rows n)) u.client (push.Absent u.req u.point)) log
-  absents_follow of log cleared serving can h = subst (λ r. Goes s of log cleared (pushes (with_rows s r) u.client (push.Absent u.req u.point)) log) dropped_is
+  absents_follow of log cleared serving can h = subst (λ r. Goes s of log cleared (pushes (with_rows s r) u.client (push.Absent u.req u.point)) log) (dropped_is s i n u us queue)
       (let t = with_rows s (set_row s.rows n drop_row) in
       steps_then s t of of log log log cleared _ (pushes_serve t u.client (push.Absent u.req u.point) (not_recovering s.missing serving)) (λ c. refl) none
-      (pushes_on t of log cleared u.client (push.Absent u.req u.point) serving i.begun tt (h.heard n u at_first)
+      (pushes_on t of log cleared u.client (push.Absent u.req u.point) serving i.begun tt (h.heard n u (at_first s i n u us queue))
       (none_of (s.sessions u.client).unacked (and_parts (not (is_some (s.sessions u.client).unacked)) (nat_lt (s.sessions u.client).last_push END) can).0)
       (record { says = λ q t e. absurd (none-some t e); answer = inl refl })
       (drop_shows of h)))
@@ -220,22 +230,22 @@ module _ (s : Server) (i : IsSound s) (n : ℕ) (u : Waiter) (us : List Waiter) 
     where
       by_test : (b : Bool) → is_slot m k ≡ b → b ≡ true
       by_test true e = refl
-      by_test false e = let x = is_slot_false s.durable.index s.durable.epoch (view s).phase i.near k (subst (λ y. is_slot y k ≡ false) same e) in absurd (slot x.0 x.1)
+      by_test false e = let x = is_slot_false s.durable.index i.near k (subst (λ y. is_slot y k ≡ false) same e) in absurd (slot x.0 x.1)
 
   -- what a push tells of slots
   slots_told : (ns : List ℕ) (low : ℕ) → AreSlotsAfter s.durable.index low ns → AllByRecursion (λ k. (k ≤ END) × IsSlot (view s) k) ns
   slots_told [] low h = tt
-  slots_told (k ∷ ns) low h = ((slot_near s.durable.index i.near k h.1, is_slot_true s.durable.index s.durable.epoch (view s).phase i.near k h.1), slots_told ns k h.2)
+  slots_told (k ∷ ns) low h = ((slot_near s.durable.index i.near k h.1, is_slot_true s.durable.index i.near k h.1), slots_told ns k h.2)
 
   grants_step : (of : ℕ → Link) (log : List Logged) (cleared : ℕ → Bool) → WorldInv (world_of s of log) → (view s).phase ≡ links.Serving → can_push (s.sessions u.client) ≡ true → is_wanted_compatible s.rows n u ≡ true → Shows s of → Goes s of log cleared (let g = with_rows s all_rows in pushes g u.client (push.Grant u.req (holdings g u.client (n ∷ taken_after s.durable.index (set_row s.rows n grant_row) n u most_more)))) log
   grants_step of log cleared inv serving can may h =
       let c = u.client in
       let m = s.durable.index in
-      let lt = i.clients n u at_first in
-      let place = i.placed n u at_first in
-      let slot : IsSlot (view s) n = subst (IsSlot (view s)) place.1 (slot_here m s.durable.epoch (view s).phase i.near u.point place.0).0 in
-      let high : n ≤ END = subst (λ x. x ≤ END) place.1 (slot_high m s.durable.epoch (view s).phase i.near u.point place.0) in
-      let first : Raises s of log c (set_row s.rows n grant_row) = one_raise s i c n grant_row slot (λ d ne. mode_other (s.rows n).modes c d (wanted (s.rows n) u) ne) (stayed_on grant_row refl) of log lt inv serving h (h.heard n u at_first)
+      let lt = i.clients n u (at_first s i n u us queue) in
+      let place = i.placed n u (at_first s i n u us queue) in
+      let slot : IsSlot (view s) n = subst (IsSlot (view s)) place.1 (slot_here m i.near u.point place.0).0 in
+      let high : n ≤ END = subst (λ x. x ≤ END) place.1 (slot_high m i.near u.point place.0) in
+      let first : Raises s of log c (set_row s.rows n grant_row) = one_raise s i c n grant_row slot (λ d ne. mode_other (s.rows n).modes c d (wanted (s.rows n) u) ne) (stayed_on s i n u us queue grant_row refl) of log lt inv serving h (h.heard n u (at_first s i n u us queue))
       (subst (λ y. RangeAtMost (range_of (mode_at s.rows n c)) (range_of y) × KeyAtMost (key_of (mode_at s.rows n c)) (key_of y)) (sym (mode_here (s.rows n).modes c (wanted (s.rows n) u))) (join_above (mode_at s.rows n c) u.mode))
       (λ d ne. subst (λ y. RangesAgree (range_of y) (range_of (mode_at s.rows n d)) × KeysAgree (key_of y) (key_of (mode_at s.rows n d))) (sym (mode_here (s.rows n).modes c (wanted (s.rows n) u))) (compatible_agrees s.rows n c (wanted (s.rows n) u) (λ e ge. i.strangers n e ge) may d ne)) in
       let r = along m u (λ rows. Raises s of log c rows) n (λ rows k far there is_compatible_there x. raises_more s of log u lt inv serving rows k there is_compatible_there x) most_more n (set_row s.rows n grant_row) (omega arith) first in

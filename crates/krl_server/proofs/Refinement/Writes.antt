@@ -144,8 +144,8 @@ lasts s c (write.Insert k v) i own under e =
     let near : (q : ℕ) → END ≤ q → map.get (map.insert s.durable.index k v) q ≡ None = λ q le. get_other s.durable.index k v q (λ f. omega (arith, f, le, under)) ∙ i.near q le in
     record {
       near = near;
-      placed = split_placed s.durable.index s.durable.epoch (view s).phase i.near s.rows i.placed k v c under absent near;
-      from = split_from s.durable.index s.durable.epoch (view s).phase i.near s.rows i.placed k v c under absent near;
+      placed = split_placed s.durable.index i.near s.rows i.placed k v c under absent near;
+      from = split_from s.durable.index i.near s.rows i.placed k v c under absent near;
       strangers = split_strangers s.durable.index s.rows k c own i.strangers;
     }
 lasts s c (write.Put k v) i own under e =
@@ -153,7 +153,7 @@ lasts s c (write.Put k v) i own under e =
     let near : (q : ℕ) → END ≤ q → map.get (map.insert s.durable.index k v) q ≡ None = λ q le. get_other s.durable.index k v q (λ f. omega (arith, f, le, under)) ∙ i.near q le in
     record {
       near = near;
-      placed = put_placed s.durable.index s.durable.epoch (view s).phase i.near s.rows i.placed k v present.0 present.1 near;
+      placed = put_placed s.durable.index i.near s.rows i.placed k v present.0 present.1 near;
       from = λ n u at. (n, at);
       strangers = i.strangers;
     }
@@ -162,8 +162,8 @@ lasts s c (write.Delete k) i own under e =
     let near : (q : ℕ) → END ≤ q → map.get (map.remove s.durable.index k) q ≡ None = λ q le. gone_other s.durable.index k q (λ f. omega (arith, f, le, under)) ∙ i.near q le in
     record {
       near = near;
-      placed = merge_placed s.durable.index s.durable.epoch (view s).phase i.near s.rows i.placed k present.0 under present.1 near;
-      from = merge_from s.durable.index s.durable.epoch (view s).phase i.near s.rows i.placed k present.0 under present.1 near;
+      placed = merge_placed s.durable.index i.near s.rows i.placed k present.0 under present.1 near;
+      from = merge_from s.durable.index i.near s.rows i.placed k present.0 under present.1 near;
       strangers = merge_strangers s.durable.index s.rows k i.strangers;
     }
 
