@@ -1,6 +1,5 @@
 -- What a grant takes, and what each raise of it leaves as it was.
-use Rattle.std.proofs.Common.{◌≡◌, ◌≢◌, ℕ, zero, suc, ◌≤◌, ◌<◌, Bool, true, false, not, ◌&&◌, ◌||◌, None, List, [], ◌∷◌, ◌++◌, take, length, refl, sym, ap, subst, ◌∙◌, ⊎_elim, arith}
-use Rattle.std.proofs.Common.{nat_eq, eq-eqb, ltb-true}
+use Rattle.std.proofs.Common.{◌≡◌, ◌≢◌, ℕ, zero, suc, ◌≤◌, ◌<◌, Bool, true, false, not, ◌&&◌, ◌||◌, None, List, [], ◌∷◌, ◌++◌, take, length, refl, sym, ap, subst, ◌∙◌, ⊎_elim, arith, nat_eq, eq-eqb, ltb-true}
 use Rattle.std.proofs.lemmas.Bool.{cases_lt, and_parts}
 use Rattle.std.proofs.lemmas.Bool.Decides.{nat_tests}
 use Rattle.std.specs.Prelude.{nat_lt, nat_le, is_some, if◌then◌else◌}
@@ -12,7 +11,7 @@ use Rattle.krl_modes.specs.declared.point.TheConstants.{END}
 use Rattle.krl_modes.specs.Modes.{needs_entry}
 use Rattle.krl_messages.specs.Values.{Value}
 use Rattle.krl_queue.specs.declared.waiter.Waiter.{Waiter}
-use Rattle.krl_protocol.proofs.Worlds.{eq_cases}
+use Rattle.krl_table.proofs.Rows.RowChanges.{eq_cases}
 use Rattle.krl_durable.specs.Index.{Index, first_or_end, slot_of, low_of, is_slot}
 use Rattle.krl_table.specs.Rows.{Rows, mode_at, set_row}
 use Rattle.krl_table.specs.Calls.{with_mode, wanted, grant_first, granted_first, raised, raised_on}
@@ -26,8 +25,8 @@ use Rattle.krl_server.specs.Effects.{holding, holdings}
 use Rattle.krl_durable.proofs.Slots.{find_here}
 use Rattle.krl_durable.proofs.SlotLaws.{find_past}
 use Rattle.krl_server.proofs.Slots.{is_slot_true, span_here}
-use Rattle.krl_server.specs.AsLinks.{IsWhole}
-use Rattle.krl_server.proofs.Refinement.Meaning.{row_here, row_other, mode_other, row_modes}
+use Rattle.krl_modes.specs.Spans.{IsWhole}
+use Rattle.krl_server.proofs.Updates.{row_here, row_other, mode_other, row_modes}
 use Rattle.krl_server.proofs.Tests.{if_case}
 
 -- The next slot

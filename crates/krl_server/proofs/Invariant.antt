@@ -1,4 +1,8 @@
 -- The laws `server_keeps` and `server_within`: what holds of each server between two steps.
+pub mod RowsSound
+pub mod AnswersSound
+pub mod Placed
+pub mod WritesSound
 pub mod Sounds
 pub mod Kept
 pub mod Within

@@ -1,5 +1,8 @@
 mod Worked
 pub mod Slots
+pub mod Updates
+pub mod Points
+pub mod Turns
 pub mod Tests
 pub mod Grants
 pub mod Cased
@@ -7,4 +10,3 @@ pub mod Crosses
 pub mod Code
 pub mod Invariant
 pub mod Outputs
-pub mod Refinement

@@ -130,3 +130,18 @@ is_alarm (Lowers span keep) = false
 is_alarm (Waits req point hi g) = false
 is_alarm (Judges number op o) = false
 is_alarm (AnswersAgain number op o) = false
+
+-- the case registers the message's client anew, or marks it left
+abbrev pub clears : Case → Bool
+clears Ignored = false
+clears Registers = true
+clears Leaves = true
+clears Tells = false
+clears Alarms = false
+clears (Rebuilds pieces) = false
+clears (Repeats body) = false
+clears Acknowledges = false
+clears (Lowers span keep) = false
+clears (Waits req point hi g) = false
+clears (Judges number op o) = false
+clears (AnswersAgain number op o) = false

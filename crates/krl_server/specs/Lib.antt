@@ -8,10 +8,9 @@ pub mod Changes
 pub mod Answering
 pub mod Callbacks
 pub mod Steps
-pub mod AsLinks
+pub mod Sound
 pub mod CodeSteps
 pub mod Replays
-pub mod Simulation
 pub mod Invariant
 pub mod Termination
 pub mod Outputs

@@ -1,18 +1,10 @@
 //! What holds of every server, whoever sends it what: each function's contract is a law, and its
 //! body is empty.
 ghost use Rattle.krl_server.specs.Termination.{StepsEnd};
-ghost use Rattle.krl_server.specs.Simulation.{ServerFollows};
 ghost use Rattle.krl_server.specs.Invariant.{ServerKeeps};
 ghost use Rattle.krl_server.specs.Replays.{ChangesReplay};
 ghost use Rattle.krl_server.specs.Outputs.{ServerSays};
 ghost use Rattle.krl_server.specs.Ranges.{ServerWithin};
-
-/// Each step of a server, on a message that was sent, is some steps of the abstract machine, and so
-/// are its nudges, its crash and its start. On such a message it never says Alarm; on one that
-/// nobody sent it may.
-pub fn server_follows()
-    ensures { ServerFollows }
-{}
 
 /// Whatever message comes, each step of a server keeps it sound, its table and its register in
 /// order, and leaves nobody who could be answered.

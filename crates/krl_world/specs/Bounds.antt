@@ -24,12 +24,11 @@ use Rattle.krl_durable.specs.Index.{Index}
 use Rattle.krl_durable.specs.Registers.{Durable, record_of}
 use Rattle.krl_durable.specs.declared.record.Record.{Record}
 use Rattle.krl_table.specs.Points as table
-use Rattle.krl_table.specs.Reports.{reported_key}
+use Rattle.krl_table.specs.Reports.{reported_key, range_said}
 use Rattle.krl_server.specs.Servers.{Server, is_recovering, lists}
-use Rattle.krl_server.specs.Cases.{case_of}
+use Rattle.krl_server.specs.Cases.{case_of, clears}
 use Rattle.krl_server.specs.Effects.{adopts}
 use Rattle.krl_server.specs.Steps.{alarms, start}
-use Rattle.krl_server.specs.AsLinks.{range_said}
 use Rattle.krl_cache.specs.Beliefs.{is_last}
 use Rattle.krl_client.specs.Clients.{Client}
 use Rattle.krl_world.specs.declared.message.Message.{Message}
@@ -39,7 +38,6 @@ use Rattle.krl_steps.specs.declared.step.Step.TheVariants as step
 use Rattle.krl_steps.specs.declared.answer.Answer.{Answer}
 use Rattle.krl_world.specs.States.{ServerNode, Up, Down, State, opened, durable_of, index_of, client_of, range_held, key_held}
 use Rattle.krl_world.specs.Steps.{CanOpen, message_at, Takes}
-use Rattle.krl_server.specs.Simulation.{clears}
 
 -- a range part and a key part for each client at each point, and the index of that moment
 pub record Bound : Type 0 where

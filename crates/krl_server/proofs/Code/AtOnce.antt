@@ -13,7 +13,7 @@ use Rattle.krl_messages.specs.declared.to_client.PushBody.TheVariants as push
 use Rattle.krl_messages.specs.declared.to_server.ToServer.{ToServer}
 use Rattle.krl_messages.specs.Members.{In}
 use Rattle.krl_queue.specs.declared.waiter.Waiter.{Waiter}
-use Rattle.krl_protocol.proofs.Worlds.{eq_cases}
+use Rattle.krl_table.proofs.Rows.RowChanges.{eq_cases}
 use Rattle.krl_durable.specs.Index.{Index, slots, slot_of}
 use Rattle.krl_table.specs.declared.reply.Reply.TheVariants as reply
 use Rattle.krl_table.specs.Rows.{Row, Rows, front_of, all_below, most_clients}
@@ -34,10 +34,10 @@ use Rattle.krl_server.specs.Effects.{with_rows, acknowledged, queues, holdings, 
 use Rattle.krl_server.specs.Answering.{can_push, next_turn, answer_first, grants, Answered, stops, goes_on}
 use Rattle.krl_server.specs.Callbacks.{callbacks}
 use Rattle.krl_server.specs.Steps.{Acts, Ends, serves, kind_of, ServerStep}
-use Rattle.krl_server.specs.AsLinks.{IsSound}
+use Rattle.krl_server.specs.Sound.{IsSound}
 use Rattle.krl_server.specs.Outboxes.{as_list}
 use Rattle.krl_server.specs.CodeSteps.{turn_here, HasTurned, IsServer, waiting_clients}
-use Rattle.krl_server.proofs.Refinement.Meaning.{row_here, row_other, session_here, session_other}
+use Rattle.krl_server.proofs.Updates.{row_here, row_other, session_here, session_other}
 use Rattle.krl_server.proofs.Code.StateChanges.{sessions_set, set_twice}
 use Rattle.krl_server.proofs.Grants.{slot_always}
 use Rattle.krl_server.proofs.Code.FirstTurn.{turned_grant}

@@ -1,6 +1,5 @@
 -- What a write that is Applied asks of the table, and what it leaves over the index.
-use Rattle.std.proofs.Common.{◌≡◌, ℕ, suc, ◌≤◌, ◌<◌, Bool, true, false, ◌||◌, Option, Some, None, refl, sym, ap, subst, ◌∙◌, arith}
-use Rattle.std.proofs.Common.{nat_eq, ltb-true}
+use Rattle.std.proofs.Common.{◌≡◌, ℕ, suc, ◌≤◌, ◌<◌, Bool, true, false, ◌||◌, Option, Some, None, refl, sym, ap, subst, ◌∙◌, arith, nat_eq, ltb-true}
 use Rattle.std.specs.Prelude.{is_some, not, nat_lt, length}
 use Rattle.std.specs.FinMap as map
 use Rattle.krl_modes.specs.declared.point.TheConstants.{END}
@@ -9,7 +8,7 @@ use Rattle.krl_messages.specs.declared.write_op.WriteOp.{WriteOp}
 use Rattle.krl_messages.specs.declared.write_op.WriteOp.TheVariants as write
 use Rattle.krl_messages.specs.declared.outcome.Outcome.{Outcome}
 use Rattle.krl_messages.specs.declared.outcome.Outcome.TheVariants as outcome
-use Rattle.krl_protocol.proofs.Worlds.{eq_cases}
+use Rattle.krl_table.proofs.Rows.RowChanges.{eq_cases}
 use Rattle.krl_durable.specs.Index.{Index, slot_of, is_slot, IsSlotOf}
 use Rattle.krl_messages.specs.Writes.{op_key}
 use Rattle.krl_durable.specs.Writes.{held, judge, judged_insert, index_after, most_entries}
@@ -17,8 +16,8 @@ use Rattle.krl_table.specs.Rows.{column}
 use Rattle.krl_table.specs.Kept.{Kept, rows_of, IsOver}
 use Rattle.krl_table.proofs.Rows.Slots.{slot_is, next_of}
 use Rattle.krl_table.specs.Points.{MayInsert, MayDelete}
-use Rattle.krl_server.proofs.Refinement.Splits.{get_here, get_other}
-use Rattle.krl_server.proofs.Refinement.Writes.{insert_may, change_may}
+use Rattle.krl_server.proofs.Updates.{get_here, get_other}
+use Rattle.krl_server.proofs.Invariant.WritesSound.{insert_may, change_may}
 
 is_none : {A : Type 0} (o : Option A) → is_some o ≡ false → o ≡ None
 is_none None e = refl

@@ -1,6 +1,5 @@
 -- There is room for all that a step sends.
-use Rattle.std.proofs.Common.{◌≡◌, ℕ, zero, suc, ◌+◌, ◌≤◌, ◌<◌, Bool, true, false, ◌||◌, Option, Some, None, List, [], ◌∷◌, ◌⊎◌, inl, inr, refl, sym, ap, subst, ◌∙◌, ⊎_elim, arith}
-use Rattle.std.proofs.Common.{nat_eq, eqb-true}
+use Rattle.std.proofs.Common.{◌≡◌, ℕ, zero, suc, ◌+◌, ◌≤◌, ◌<◌, Bool, true, false, ◌||◌, Option, Some, None, List, [], ◌∷◌, ◌⊎◌, inl, inr, refl, sym, ap, subst, ◌∙◌, ⊎_elim, arith, nat_eq, eqb-true}
 use Rattle.std.proofs.lemmas.Bool.{eqb-false}
 use Rattle.std.specs.Prelude.{is_some, if◌then◌else◌}
 use Rattle.std.specs.List.{list_any}
@@ -8,18 +7,18 @@ use Rattle.krl_messages.specs.declared.to_server.ToServer.{ToServer}
 use Rattle.krl_messages.specs.Members.{In}
 use Rattle.krl_queue.specs.declared.waiter.Waiter.{Waiter}
 use Rattle.krl_queue.specs.Waiting.{first_of}
-use Rattle.krl_protocol.proofs.Worlds.{eq_cases}
+use Rattle.krl_table.proofs.Rows.RowChanges.{eq_cases}
 use Rattle.krl_durable.specs.Index.{Index, slots, is_slot}
 use Rattle.krl_table.specs.Rows.{Rows, most_clients, waits}
 use Rattle.krl_table.specs.Sound.{IsTable}
 use Rattle.krl_server.specs.Servers.{Server}
 use Rattle.krl_server.specs.Cases.{Case}
 use Rattle.krl_server.specs.Effects.{effect}
-use Rattle.krl_server.specs.AsLinks.{IsSound}
+use Rattle.krl_server.specs.Sound.{IsSound}
 use Rattle.krl_server.specs.Termination.{waiting}
 use Rattle.krl_server.specs.CodeSteps.{count_below, waiting_clients}
 use Rattle.krl_server.proofs.Invariant.Tabled.{slots_have}
-use Rattle.krl_server.proofs.Refinement.Follows.{not_truth}
+use Rattle.krl_server.proofs.Tests.{not_truth}
 use Rattle.krl_server.proofs.Outputs.Counted.{sum_below, slots_are, none_on, not_found, once_on, clients_of, slots_apart, times_on}
 use Rattle.krl_server.proofs.Invariant.WaitersAfter.{asks, Came}
 

@@ -1,6 +1,5 @@
 -- One walk upward over the slots answers all who can be answered.
-use Rattle.std.proofs.Common.{◌≡◌, ◌≢◌, ℕ, suc, ◌≤◌, ◌<◌, Bool, true, false, not, ◌&&◌, ◌||◌, Option, Some, None, List, [], ◌∷◌, ◌++◌, map, inl, inr, refl, sym, ap, subst, ◌∙◌, ⊎_elim, append_assoc, arith}
-use Rattle.std.proofs.Common.{nat_eq}
+use Rattle.std.proofs.Common.{◌≡◌, ◌≢◌, ℕ, suc, ◌≤◌, ◌<◌, Bool, true, false, not, ◌&&◌, ◌||◌, Option, Some, None, List, [], ◌∷◌, ◌++◌, map, inl, inr, refl, sym, ap, subst, ◌∙◌, ⊎_elim, append_assoc, arith, nat_eq}
 use Rattle.std.proofs.lemmas.Bool.{cases_lt}
 use Rattle.std.proofs.lemmas.List.{append-nil}
 use Rattle.std.proofs.lemmas.Option.{none-some, same_Some}
@@ -14,7 +13,7 @@ use Rattle.krl_messages.specs.declared.to_client.PushBody.{PushBody}
 use Rattle.krl_messages.specs.declared.to_client.PushBody.TheVariants as push
 use Rattle.krl_messages.specs.Members.{In}
 use Rattle.krl_queue.specs.declared.waiter.Waiter.{Waiter}
-use Rattle.krl_protocol.proofs.Worlds.{eq_cases}
+use Rattle.krl_table.proofs.Rows.RowChanges.{eq_cases}
 use Rattle.krl_durable.specs.Index.{Index, slots, is_slot}
 use Rattle.krl_table.specs.Rows.{Row, all_below, most_clients}
 use Rattle.krl_table.specs.Calls.{wanted, with_queue, behind_first, dropped}
@@ -26,17 +25,17 @@ use Rattle.krl_server.specs.Servers.{Server, set_session}
 use Rattle.krl_server.specs.Effects.{Done, with_session, with_rows, push_to, pushes, silent, holdings}
 use Rattle.krl_server.specs.Answering.{Turn, can_push, is_answerable, turn_at, turn_among, next_turn, tells_absent, grants, answer_first, Answered, goes_on, stops}
 use Rattle.krl_server.specs.Termination.{waiting}
-use Rattle.krl_server.specs.AsLinks.{IsSound}
+use Rattle.krl_server.specs.Sound.{IsSound}
 use Rattle.krl_server.specs.CodeSteps.{turn_here, HasTurned}
 use Rattle.krl_durable.proofs.Slots.{Rises}
 use Rattle.krl_durable.proofs.SlotLaws.{from_above, keys_of_map_rise}
-use Rattle.krl_server.proofs.Refinement.Meaning.{row_other, session_here, session_other}
+use Rattle.krl_server.proofs.Updates.{row_other, session_here, session_other}
 use Rattle.krl_server.proofs.Tests.{if_both}
 use Rattle.krl_server.proofs.Outputs.Counted.{above_all, keys_under}
 use Rattle.krl_server.proofs.Invariant.Tabled.{slots_have}
 use Rattle.krl_server.proofs.Outputs.Ends.{pushes_rows, turn_durable, turn_less}
 use Rattle.krl_server.proofs.Grants.{granted_below, granted_compatible}
-use Rattle.krl_server.proofs.Refinement.Turns.{turn_sound}
+use Rattle.krl_server.proofs.Invariant.AnswersSound.{turn_sound}
 use Rattle.krl_server.proofs.Invariant.Kept.{turn_table}
 
 -- Answers so far

@@ -27,8 +27,8 @@ use Rattle.krl_server.specs.Answering.{can_push, Turn, next_turn, answer_first, 
 use Rattle.krl_server.specs.Steps.{Kind, Idle, Quiet, Acts, kind_of, calls_of, Ends, at_once, recovers, serves, ServerStep}
 use Rattle.krl_server.specs.Outputs.{PushesStand}
 use Rattle.krl_server.proofs.Tests.{if_both, none_of}
-use Rattle.krl_server.proofs.Refinement.Meaning.{session_here, session_other}
-use Rattle.krl_server.proofs.Refinement.Turns.{turn_is}
+use Rattle.krl_server.proofs.Updates.{session_here, session_other}
+use Rattle.krl_server.proofs.Turns.{turn_is}
 use Rattle.krl_server.proofs.Cased.{by_said}
 use Rattle.krl_server.proofs.Outputs.Says.{all_said}
 

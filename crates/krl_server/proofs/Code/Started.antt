@@ -15,10 +15,9 @@ use Rattle.krl_server.specs.declared.state.State.{State}
 use Rattle.krl_server.specs.declared.out.ServerOut.{ServerOut}
 use Rattle.krl_server.specs.Servers.{Server, blank_session}
 use Rattle.krl_server.specs.StateMeaning.{meaning, sessions_of, IsFormed}
-use Rattle.krl_server.specs.Steps.{ServerStep, start}
-use Rattle.krl_server.specs.AsLinks.{IsSound}
+use Rattle.krl_server.specs.Steps.{ServerStep, start, IsSettled}
+use Rattle.krl_server.specs.Sound.{IsSound}
 use Rattle.krl_server.specs.Invariant.{IsOrdered}
-use Rattle.krl_server.specs.Steps.{IsSettled}
 use Rattle.std.specs.Prelude.{Result, Ok, Err, IfOk, OnOk, OnErr}
 use Rattle.krl_server.specs.Termination.{most_messages}
 use Rattle.krl_server.specs.CodeSteps.{IsServer, IsStarted, HasStepped}

@@ -1,13 +1,12 @@
 -- What a change of the state means.
-use Rattle.std.proofs.Common.{◌≡◌, ℕ, suc, ◌+◌, ◌≤◌, ◌<◌, Bool, true, false, Some, None, List, [], ◌∷◌, length, set, refl, sym, ap, subst, ◌∙◌}
-use Rattle.std.proofs.Common.{nat_eq, add-one}
+use Rattle.std.proofs.Common.{◌≡◌, ℕ, suc, ◌+◌, ◌≤◌, ◌<◌, Bool, true, false, Some, None, List, [], ◌∷◌, length, set, refl, sym, ap, subst, ◌∙◌, nat_eq, add-one}
 use Rattle.std.proofs.lemmas.Bool.{lt-ltb, le-ltb}
 use Rattle.std.proofs.Math.Path.{fun_ext}
 use Rattle.std.proofs.lemmas.List.{get_or-set_same, get_or-set_other}
 use Rattle.std.specs.Prelude.{if◌then◌else◌}
 use Rattle.krl_modes.specs.declared.point.TheConstants.{END}
 use Rattle.krl_messages.specs.declared.to_client.PushBody.{PushBody}
-use Rattle.krl_protocol.proofs.Worlds.{eq_cases}
+use Rattle.krl_table.proofs.Rows.RowChanges.{eq_cases}
 use Rattle.krl_queue.specs.declared.waiter.Waiter.{Waiter}
 use Rattle.krl_table.specs.Rows.{Rows}
 use Rattle.krl_table.specs.Calls.{enqueued}
@@ -17,7 +16,7 @@ use Rattle.krl_server.specs.Servers.{Server, blank_session, set_session}
 use Rattle.krl_server.specs.Effects.{Done, with_session, push_to, pushes, silent, acknowledged, queues}
 use Rattle.krl_server.specs.declared.state.State.{State}
 use Rattle.krl_server.specs.StateMeaning.{sessions_of, meaning}
-use Rattle.krl_server.proofs.Refinement.Meaning.{session_here, session_other}
+use Rattle.krl_server.proofs.Updates.{session_here, session_other}
 
 -- another session for one client
 pub sessions_set : (sessions : List Session) (c : ℕ) (x : Session) → c < length sessions → sessions_of (set sessions c x) ≡ set_session (sessions_of sessions) c x

@@ -31,10 +31,9 @@ use Rattle.krl_server.specs.Answering.{Turn, answer_first, tells_absent, grants,
 use Rattle.krl_server.specs.Steps.{Kind, Idle, Quiet, Acts, kind_of, calls_of, Ends, at_once, recovers, serves, ServerStep}
 use Rattle.krl_server.specs.Outputs.{changes_durable, is_new_write, may_change, may_change_durable, is_callback, IsCallback, HasCallbacks, is_answer, answered_write, IsAnswered, AnswersWrite}
 use Rattle.krl_server.specs.CodeSteps.{HasStepped}
-use Rattle.krl_server.proofs.Tests.{if_both}
-use Rattle.krl_server.proofs.Refinement.Follows.{not_truth}
-use Rattle.krl_server.proofs.Refinement.Meaning.{session_here}
-use Rattle.krl_server.proofs.Refinement.Served.{answered_up}
+use Rattle.krl_server.proofs.Tests.{if_both, not_truth}
+use Rattle.krl_server.proofs.Updates.{session_here}
+use Rattle.krl_server.proofs.Invariant.AnswersSound.{answered_up}
 use Rattle.krl_server.proofs.Outputs.Ends.{pushes_durable}
 use Rattle.krl_server.proofs.Invariant.Kept.{ends_durable}
 use Rattle.krl_server.proofs.Cased.{by_said}

@@ -1,6 +1,5 @@
 -- Each step of a server keeps its table and its register in order, and leaves nobody who could be answered.
-use Rattle.std.proofs.Common.{◌≡◌, ℕ, suc, ◌<◌, true, not, Some, None, List, [], ◌∷◌, refl, sym, ap, subst, ◌∙◌, arith}
-use Rattle.std.proofs.Common.{ne_eqb}
+use Rattle.std.proofs.Common.{◌≡◌, ℕ, suc, ◌<◌, true, not, Some, None, List, [], ◌∷◌, refl, sym, ap, subst, ◌∙◌, arith, ne_eqb}
 use Rattle.std.proofs.lemmas.Bool.{and_parts}
 use Rattle.std.proofs.lemmas.Option.{same_Some}
 use Rattle.std.specs.Prelude.{nat_lt}
@@ -12,7 +11,7 @@ use Rattle.krl_messages.specs.declared.to_server.ToServer.{ToServer}
 use Rattle.krl_messages.specs.declared.to_client.ToClient.{ToClient}
 use Rattle.krl_messages.specs.declared.to_client.PushBody.{PushBody}
 use Rattle.krl_messages.specs.declared.to_client.PushBody.TheVariants as push
-use Rattle.krl_protocol.proofs.Worlds.{eq_cases}
+use Rattle.krl_table.proofs.Rows.RowChanges.{eq_cases}
 use Rattle.krl_durable.specs.declared.record.Record.{Record}
 use Rattle.krl_durable.specs.Index.{slot_of, slots}
 use Rattle.krl_durable.specs.Registers.{Durable, Register, record_of, with_record, new_record, left_by, HasOutcomes}
@@ -31,15 +30,14 @@ use Rattle.krl_server.specs.Effects as effects
 use Rattle.krl_server.specs.Effects.{Done, acknowledged, rows_after, pushes, effect}
 use Rattle.krl_server.specs.Answering.{Turn, turn_among, next_turn, answer_first, tells_absent, grants, can_push, Answered, stops, goes_on}
 use Rattle.krl_server.specs.Steps.{Kind, Idle, kind_of, Ends, at_once, recovers, serves, IsSettled, start}
-use Rattle.krl_server.specs.AsLinks.{IsSound}
+use Rattle.krl_server.specs.Sound.{IsSound}
 use Rattle.krl_server.specs.Invariant.{ServerKeeps}
-use Rattle.krl_server.proofs.Refinement.Meaning.{record_here, record_other}
-use Rattle.krl_server.proofs.Refinement.Follows.{not_truth}
-use Rattle.krl_server.proofs.Tests.{if_case}
-use Rattle.krl_server.proofs.Refinement.Turns.{turn_is, turn_sound}
-use Rattle.krl_server.proofs.Refinement.Served.{answering_sound}
+use Rattle.krl_server.proofs.Updates.{record_here, record_other}
+use Rattle.krl_server.proofs.Tests.{not_truth, if_case}
+use Rattle.krl_server.proofs.Turns.{turn_is}
+use Rattle.krl_server.proofs.Invariant.AnswersSound.{turn_sound, answering_sound}
 use Rattle.krl_server.proofs.Invariant.Sounds.{effect_sound}
-use Rattle.krl_server.proofs.Refinement.Restart.{start_sound}
+use Rattle.krl_server.proofs.Invariant.RowsSound.{start_sound}
 use Rattle.krl_server.proofs.Outputs.Ends.{pushes_durable, turn_durable}
 use Rattle.krl_server.proofs.Cased.{by_case}
 use Rattle.krl_server.proofs.Invariant.Tabled.{IsKept, kept_of, table_of, blank_kept}

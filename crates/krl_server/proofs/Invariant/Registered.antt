@@ -6,7 +6,7 @@ use Rattle.krl_messages.specs.declared.to_client.PushBody.TheVariants as push
 use Rattle.krl_messages.specs.Writes.{op_key}
 use Rattle.krl_messages.specs.Members.{In}
 use Rattle.krl_queue.specs.declared.waiter.Waiter.{Waiter}
-use Rattle.krl_protocol.proofs.Worlds.{eq_cases}
+use Rattle.krl_table.proofs.Rows.RowChanges.{eq_cases}
 use Rattle.krl_durable.specs.declared.record.Record.{Record}
 use Rattle.krl_durable.specs.Index.{slot_of}
 use Rattle.krl_durable.specs.Registers.{Register, Durable, with_record, new_record, left_by}
@@ -22,13 +22,13 @@ use Rattle.krl_server.specs.Effects as effects
 use Rattle.krl_server.specs.Effects.{Done, acknowledged, effect}
 use Rattle.krl_server.specs.Answering.{Turn, answer_first, tells_absent, grants, Answered, stops, goes_on}
 use Rattle.krl_server.specs.Steps.{Kind, kind_of, Ends, at_once, recovers, serves, ServerStep}
-use Rattle.krl_server.specs.AsLinks.{IsSound}
+use Rattle.krl_server.specs.Sound.{IsSound}
 use Rattle.krl_server.specs.Ranges.{IsRegistered, AreRegistered}
-use Rattle.krl_server.proofs.Refinement.Meaning.{record_here, record_other}
+use Rattle.krl_server.proofs.Updates.{record_here, record_other}
 use Rattle.krl_server.proofs.Tests.{if_both}
 use Rattle.krl_server.proofs.Cased.{IsFrom, by_case}
 use Rattle.krl_server.proofs.Grants.{granted_queue}
-use Rattle.krl_server.proofs.Refinement.Turns.{in_row}
+use Rattle.krl_server.proofs.Turns.{in_row}
 use Rattle.krl_server.proofs.Outputs.Ends.{pushes_rows, pushes_durable, turn_durable}
 use Rattle.krl_server.proofs.Invariant.WaitersAfter.{asks, Came, all_came}
 

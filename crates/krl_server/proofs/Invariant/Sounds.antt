@@ -8,11 +8,11 @@ use Rattle.krl_messages.specs.declared.outcome.Outcome.TheVariants as outcome
 use Rattle.krl_messages.specs.declared.to_server.ToServer.{ToServer}
 use Rattle.krl_messages.specs.declared.to_client.PushBody.TheVariants as push
 use Rattle.krl_queue.specs.declared.waiter.Waiter.{Waiter}
-use Rattle.krl_protocol.proofs.Worlds.{eq_cases}
+use Rattle.krl_table.proofs.Rows.RowChanges.{eq_cases}
 use Rattle.krl_durable.specs.declared.record.Record.{Record}
 use Rattle.krl_durable.specs.Index.{slot_of}
 use Rattle.krl_durable.specs.Registers.{record_of, left_by}
-use Rattle.krl_messages.specs.Writes.{op_key}
+use Rattle.krl_messages.specs.Writes.{op_key, is_applied}
 use Rattle.krl_messages.specs.Members.{In}
 use Rattle.krl_table.specs.Rows.{Row, Rows, most_clients, mode_at}
 use Rattle.krl_table.specs.Calls.{with_queue, queue_with, cleared}
@@ -21,14 +21,12 @@ use Rattle.krl_server.specs.Servers.{Server}
 use Rattle.krl_server.specs.Cases.{Judges, judged, case_of}
 use Rattle.krl_server.specs.Effects as effects
 use Rattle.krl_server.specs.Effects.{effect, acknowledged, queues, departs}
-use Rattle.krl_server.specs.AsLinks.{is_applied, IsSound}
-use Rattle.krl_server.proofs.Refinement.Meaning.{row_modes, mode_here, mode_other}
-use Rattle.krl_server.proofs.Refinement.Pushes.{acknowledged_sound, pushes_sound}
-use Rattle.krl_server.proofs.Refinement.Refused.{with_noted, refusal_is}
-use Rattle.krl_server.proofs.Refinement.Turns.{in_row}
-use Rattle.krl_server.proofs.Refinement.Releases.{lowered_sound}
-use Rattle.krl_server.proofs.Refinement.Rebuilt.{adopts_sound}
-use Rattle.krl_server.proofs.Refinement.Writes.{writes_sound}
+use Rattle.krl_server.specs.Sound.{IsSound}
+use Rattle.krl_server.proofs.Updates.{row_modes, mode_here, mode_other}
+use Rattle.krl_server.proofs.Invariant.AnswersSound.{acknowledged_sound, pushes_sound}
+use Rattle.krl_server.proofs.Invariant.WritesSound.{with_noted, refusal_is, writes_sound}
+use Rattle.krl_server.proofs.Turns.{in_row}
+use Rattle.krl_server.proofs.Invariant.RowsSound.{lowered_sound, adopts_sound}
 use Rattle.krl_server.proofs.Cased.{IsFrom, by_case}
 
 -- a client's modes become N, and it waits no more

@@ -1,6 +1,5 @@
 -- Each call keeps what holds of every table. Insert and delete are the subject of another file.
-use Rattle.std.proofs.Common.{◌≡◌, ◌≢◌, ℕ, ◌≤◌, ◌<◌, Bool, true, false, not, ◌&&◌, None, List, [], ◌∷◌, inl, inr, refl, sym, ap, subst, ◌∙◌, ⊎_elim, arith}
-use Rattle.std.proofs.Common.{nat_eq, ne_eqb}
+use Rattle.std.proofs.Common.{◌≡◌, ◌≢◌, ℕ, ◌≤◌, ◌<◌, Bool, true, false, not, ◌&&◌, None, List, [], ◌∷◌, inl, inr, refl, sym, ap, subst, ◌∙◌, ⊎_elim, arith, nat_eq, ne_eqb}
 use Rattle.std.proofs.Math.Path.{fun_ext}
 use Rattle.std.proofs.lemmas.Bool.{not-false}
 use Rattle.std.specs.Prelude.{is_some, if◌then◌else◌}
@@ -14,7 +13,7 @@ use Rattle.krl_messages.specs.declared.pieces.Pieces.{Pieces}
 use Rattle.krl_messages.specs.Members.{In}
 use Rattle.krl_queue.specs.declared.waiter.Waiter.{Waiter}
 use Rattle.krl_queue.specs.Waiting.{first_of}
-use Rattle.krl_protocol.proofs.Worlds.{eq_cases}
+use Rattle.krl_table.proofs.Rows.RowChanges.{eq_cases}
 use Rattle.krl_durable.specs.Index.{Index, slot_of, slots, is_slot, span_of}
 use Rattle.krl_table.specs.Rows.{Row, Rows, most_clients, mode_at, set_row, set_mode, is_compatible_there, waits}
 use Rattle.krl_table.specs.Calls.{with_mode, with_queue, lowered, unqueue, cleared, queue_with, enqueued, wanted, behind_first, dropped, raised}
@@ -23,19 +22,16 @@ use Rattle.krl_table.specs.Reports.{rebuilt, conflicts, adopted}
 use Rattle.krl_table.specs.Replies.{is_wanted_compatible}
 use Rattle.krl_table.specs.Sound.{IsPlaced}
 use Rattle.krl_server.proofs.Slots.{slot_here, is_slot_false}
-use Rattle.krl_server.proofs.Refinement.Meaning.{row_here, row_other, row_modes, mode_here, mode_other}
-use Rattle.krl_server.proofs.Refinement.Releases.{low_row, lowered_queue, lowered_others}
-use Rattle.krl_server.proofs.Refinement.Turns.{in_row}
-use Rattle.krl_server.proofs.Refinement.Follows.{not_truth}
+use Rattle.krl_server.proofs.Updates.{row_here, row_other, row_modes, mode_here, mode_other}
+use Rattle.krl_server.proofs.Invariant.RowsSound.{low_row, lowered_queue, lowered_others}
+use Rattle.krl_server.proofs.Turns.{in_row}
+use Rattle.krl_server.proofs.Tests.{not_truth, none_some, if_case}
 use Rattle.krl_server.proofs.Grants.{along, granted_is, raised_queue, raised_others}
-use Rattle.krl_server.proofs.Tests.{none_some, if_case}
 use Rattle.krl_table.specs.Kept.{times, AreCompatible}
-use Rattle.krl_table.proofs.Invariant.Alone.{one, times_more, times_fewer, times_with, none_times, alone_fewer}
-use Rattle.krl_table.proofs.Invariant.Alone.{alone_new}
+use Rattle.krl_table.proofs.Invariant.Alone.{one, times_more, times_fewer, times_with, none_times, alone_fewer, alone_new}
 use Rattle.krl_table.proofs.Invariant.Compatible.{meet_compatible, none_compatible, turned, other_compatible}
 use Rattle.krl_table.proofs.Invariant.Stands.{in_unqueue, in_queue_with}
-use Rattle.krl_server.proofs.Invariant.Tabled.{IsKept, slots_have, all_in, any_in, same_compatible, compatible_row}
-use Rattle.krl_server.proofs.Invariant.Tabled.{slot_waits}
+use Rattle.krl_server.proofs.Invariant.Tabled.{IsKept, slots_have, all_in, any_in, same_compatible, compatible_row, slot_waits}
 
 -- Modes
 

@@ -1,6 +1,5 @@
 -- A write that is Applied keeps what holds of every table.
-use Rattle.std.proofs.Common.{◌≡◌, ◌≢◌, ℕ, suc, ◌+◌, ◌≤◌, ◌<◌, Bool, true, false, ◌||◌, Some, None, ◌++◌, refl, sym, ap, ◌∙◌, arith}
-use Rattle.std.proofs.Common.{nat_eq, ne_eqb}
+use Rattle.std.proofs.Common.{◌≡◌, ◌≢◌, ℕ, suc, ◌+◌, ◌≤◌, ◌<◌, Bool, true, false, ◌||◌, Some, None, ◌++◌, refl, sym, ap, ◌∙◌, arith, nat_eq, ne_eqb}
 use Rattle.std.specs.Prelude.{is_some}
 use Rattle.std.specs.FinMap as map
 use Rattle.krl_modes.specs.declared.point.TheConstants.{END}
@@ -10,7 +9,7 @@ use Rattle.krl_messages.specs.declared.write_op.WriteOp.{WriteOp}
 use Rattle.krl_messages.specs.declared.write_op.WriteOp.TheVariants as write
 use Rattle.krl_messages.specs.declared.outcome.Outcome.TheVariants as outcome
 use Rattle.krl_queue.specs.Waiting.{up_to, beyond}
-use Rattle.krl_protocol.proofs.Worlds.{eq_cases}
+use Rattle.krl_table.proofs.Rows.RowChanges.{eq_cases}
 use Rattle.krl_durable.specs.Index.{Index, slot_of, is_slot}
 use Rattle.krl_messages.specs.Writes.{op_key}
 use Rattle.krl_durable.specs.Writes.{held, judge, written}
@@ -19,13 +18,10 @@ use Rattle.krl_table.specs.Rows.{Row, Rows, blank_row, most_clients, mode_at, co
 use Rattle.krl_table.specs.Calls.{with_queue, split_modes, split, merged}
 use Rattle.krl_server.specs.Effects.{rows_written}
 use Rattle.krl_server.proofs.Slots.{slot_here}
-use Rattle.krl_server.proofs.Refinement.Meaning.{row_here, row_other}
-use Rattle.krl_server.proofs.Refinement.Splits.{get_here, get_other}
-use Rattle.krl_server.proofs.Refinement.Merges.{gone_other}
-use Rattle.krl_server.proofs.Refinement.Placed.{two_rows, ArePlaced, put_placed, split_from, split_placed, merge_from, merge_placed, split_strangers, merge_strangers}
-use Rattle.krl_server.proofs.Refinement.Writes.{insert_may, change_may}
-use Rattle.krl_server.proofs.Refinement.Follows.{not_truth}
-use Rattle.krl_server.proofs.Tests.{none_some, some_of}
+use Rattle.krl_server.proofs.Updates.{row_here, row_other, get_here, get_other, gone_other}
+use Rattle.krl_server.proofs.Invariant.Placed.{two_rows, ArePlaced, put_placed, split_from, split_placed, merge_from, merge_placed, split_strangers, merge_strangers}
+use Rattle.krl_server.proofs.Invariant.WritesSound.{insert_may, change_may}
+use Rattle.krl_server.proofs.Tests.{not_truth, none_some, some_of}
 use Rattle.krl_table.specs.Kept.{times, AreCompatible}
 use Rattle.krl_table.proofs.Invariant.Alone.{times_both, times_parted, AreAlone, alone_moved}
 use Rattle.krl_table.proofs.Invariant.Compatible.{split_compatible}

@@ -1,6 +1,5 @@
 -- What holds of every table, in a form that is easy to keep; and what keeps it.
-use Rattle.std.proofs.Common.{◌≡◌, ◌≢◌, ℕ, zero, suc, ◌+◌, ◌≤◌, ◌<◌, Bool, true, false, ◌||◌, ◌&&◌, Some, None, List, [], ◌∷◌, ◌++◌, inl, inr, map, refl, sym, ap, subst, ◌∙◌, ⊎_elim, cond, arith}
-use Rattle.std.proofs.Common.{nat_eq, ne_eqb}
+use Rattle.std.proofs.Common.{◌≡◌, ◌≢◌, ℕ, zero, suc, ◌+◌, ◌≤◌, ◌<◌, Bool, true, false, ◌||◌, ◌&&◌, Some, None, List, [], ◌∷◌, ◌++◌, inl, inr, map, refl, sym, ap, subst, ◌∙◌, ⊎_elim, cond, arith, nat_eq, ne_eqb}
 use Rattle.std.proofs.lemmas.Bool.{cases_lt}
 use Rattle.std.proofs.lemmas.Bool.Decides.{nat_tests}
 use Rattle.std.specs.Prelude.{is_some}
@@ -17,12 +16,11 @@ use Rattle.krl_messages.specs.Members.{In}
 use Rattle.krl_messages.proofs.Members.{in_to_all}
 use Rattle.krl_queue.specs.declared.waiter.Waiter.{Waiter}
 use Rattle.krl_queue.specs.Waiting.{first_of}
-use Rattle.krl_protocol.proofs.Worlds.{eq_cases}
+use Rattle.krl_table.proofs.Rows.RowChanges.{eq_cases}
 use Rattle.krl_durable.specs.Index.{Index, slots, is_slot}
 use Rattle.krl_table.specs.Rows.{Rows, blank_row, most_clients, mode_at, is_compatible_there}
 use Rattle.krl_table.specs.Sound.{IsPlaced, IsTable}
-use Rattle.krl_server.proofs.Refinement.Follows.{not_truth}
-use Rattle.krl_server.proofs.Tests.{none_some}
+use Rattle.krl_server.proofs.Tests.{not_truth, none_some}
 use Rattle.krl_table.specs.Kept.{times, AreCompatible}
 use Rattle.krl_table.proofs.Invariant.Alone.{none_times, times_none, AreAlone, alone_here}
 use Rattle.krl_table.proofs.Invariant.Compatible.{none_compatible, or_true, all_below_at}

@@ -1,6 +1,5 @@
 -- Numbers stay within END, and lists within their bounds.
-use Rattle.std.proofs.Common.{◌≡◌, ◌≢◌, ℕ, suc, ◌+◌, ◌-◌, ◌≤◌, ◌<◌, Bool, true, false, not, cond, ◌||◌, Some, None, List, [], ◌∷◌, length, ◌⊎◌, inl, inr, refl, sym, ap, subst, ◌∙◌, ⊎_elim, arith}
-use Rattle.std.proofs.Common.{nat_eq, eq-eqb, eqb-true, ltb-true, ltb-false}
+use Rattle.std.proofs.Common.{◌≡◌, ◌≢◌, ℕ, suc, ◌+◌, ◌-◌, ◌≤◌, ◌<◌, Bool, true, false, not, cond, ◌||◌, Some, None, List, [], ◌∷◌, length, ◌⊎◌, inl, inr, refl, sym, ap, subst, ◌∙◌, ⊎_elim, arith, nat_eq, eq-eqb, eqb-true, ltb-true, ltb-false}
 use Rattle.std.proofs.lemmas.Bool.{eqb-false, or_parts, not-false}
 use Rattle.std.proofs.lemmas.Option.{none-some, same_Some}
 use Rattle.std.specs.Prelude.{nat_lt, is_some, if◌then◌else◌}
@@ -15,7 +14,7 @@ use Rattle.krl_messages.specs.declared.to_server.ToServer.{ToServer}
 use Rattle.krl_messages.specs.declared.to_client.ToClient.{ToClient}
 use Rattle.krl_messages.specs.declared.to_client.PushBody.{PushBody}
 use Rattle.krl_messages.specs.declared.to_client.PushBody.TheVariants as push
-use Rattle.krl_protocol.proofs.Worlds.{eq_cases}
+use Rattle.krl_table.proofs.Rows.RowChanges.{eq_cases}
 use Rattle.krl_durable.specs.declared.record.Record.{Record}
 use Rattle.krl_durable.specs.Index.{Index, slot_of}
 use Rattle.krl_durable.specs.Registers.{Register, Durable, record_of, with_record, new_record, left_by, missing_order}
@@ -35,13 +34,11 @@ use Rattle.krl_server.specs.Answering.{Turn, answer_first, tells_absent, grants,
 use Rattle.krl_server.specs.Steps.{Ends, Kind, at_once, recovers, serves, start, can_start, kind_of}
 use Rattle.krl_server.specs.Ranges.{AreApart, clients_of, IsEntry, IsDurableWithin, IsWithin, ServerWithin}
 use Rattle.krl_server.proofs.Invariant.Registered.{step_here}
-use Rattle.krl_server.proofs.Refinement.Meaning.{session_here, session_other, record_here, record_other}
-use Rattle.krl_server.proofs.Refinement.Follows.{not_truth}
-use Rattle.krl_server.proofs.Refinement.Recovering.{unlist_here, unlist_other}
-use Rattle.krl_server.proofs.Refinement.Writes.{change_may}
+use Rattle.krl_server.proofs.Updates.{session_here, session_other, record_here, record_other, unlist_here, unlist_other}
+use Rattle.krl_server.proofs.Tests.{not_truth, if_both, if_case}
+use Rattle.krl_server.proofs.Invariant.WritesSound.{change_may}
 use Rattle.krl_server.proofs.Cased.{by_case}
 use Rattle.krl_server.proofs.Outputs.Counted.{few_apart}
-use Rattle.krl_server.proofs.Tests.{if_both, if_case}
 
 -- Registers
 

@@ -1,6 +1,5 @@
 -- Few wait, and so few are answered and few are called back.
-use Rattle.std.proofs.Common.{◌≡◌, ℕ, zero, suc, ◌+◌, ◌≤◌, ◌<◌, Bool, true, false, cond, Some, None, List, [], ◌∷◌, ◌++◌, map, length, inl, inr, refl, sym, ap, subst, ◌∙◌, ⊎_elim, arith}
-use Rattle.std.proofs.Common.{nat_eq, eq-eqb, ne_eqb, eqb-true}
+use Rattle.std.proofs.Common.{◌≡◌, ℕ, zero, suc, ◌+◌, ◌≤◌, ◌<◌, Bool, true, false, cond, Some, None, List, [], ◌∷◌, ◌++◌, map, length, inl, inr, refl, sym, ap, subst, ◌∙◌, ⊎_elim, arith, nat_eq, eq-eqb, ne_eqb, eqb-true}
 use Rattle.std.proofs.lemmas.Bool.{cases_lt, eqb-false}
 use Rattle.std.proofs.lemmas.List.Recursion.{is_count_by}
 use Rattle.std.proofs.lemmas.Option.{none-some}
@@ -14,7 +13,7 @@ use Rattle.krl_messages.specs.Values.{Value}
 use Rattle.krl_messages.specs.Members.{In}
 use Rattle.krl_queue.specs.declared.waiter.Waiter.{Waiter}
 use Rattle.krl_queue.specs.Waiting.{first_of}
-use Rattle.krl_protocol.proofs.Worlds.{eq_cases}
+use Rattle.krl_table.proofs.Rows.RowChanges.{eq_cases}
 use Rattle.krl_durable.specs.Index.{Index, slots}
 use Rattle.krl_table.specs.Rows.{Rows, most_clients}
 use Rattle.krl_table.specs.Sound.{IsPlaced, IsTable}

@@ -8,7 +8,7 @@ use Rattle.krl_messages.specs.declared.to_client.PushBody.{PushBody}
 use Rattle.krl_messages.specs.declared.to_server.ToServer.{ToServer}
 use Rattle.krl_messages.specs.Members.{In}
 use Rattle.krl_queue.specs.declared.waiter.Waiter.{Waiter}
-use Rattle.krl_protocol.proofs.Worlds.{eq_cases}
+use Rattle.krl_table.proofs.Rows.RowChanges.{eq_cases}
 use Rattle.krl_durable.specs.Index.{slots}
 use Rattle.krl_table.specs.Rows.{Row, Rows, set_row}
 use Rattle.krl_table.specs.Calls.{with_queue, grant_first, granted_first, behind_first, dropped}
@@ -20,11 +20,10 @@ use Rattle.krl_server.specs.Effects.{Done, with_rows, pushes, effect}
 use Rattle.krl_server.specs.Answering.{Turn, is_answerable, turn_at, turn_among, next_turn, tells_absent, grants, answer_first, Answered, stops, goes_on}
 use Rattle.krl_server.specs.Steps.{Kind, Idle, Quiet, Acts, kind_of, calls_of, Ends, at_once, recovers, serves, ServerStep}
 use Rattle.krl_server.specs.Termination.{waiting_on, waiting}
-use Rattle.krl_server.proofs.Refinement.Meaning.{row_here, row_other}
-use Rattle.krl_server.proofs.Refinement.Follows.{not_truth}
+use Rattle.krl_server.proofs.Updates.{row_here, row_other}
+use Rattle.krl_server.proofs.Tests.{not_truth, if_both}
 use Rattle.krl_server.proofs.Grants.{granted_queue}
-use Rattle.krl_server.proofs.Refinement.Turns.{turn_is}
-use Rattle.krl_server.proofs.Tests.{if_both}
+use Rattle.krl_server.proofs.Turns.{turn_is}
 
 -- the turn's slot is one of those
 place_of : (s : Server) (ns : List ℕ) (t : Turn) → turn_among s ns ≡ Some t → In t.slot ns

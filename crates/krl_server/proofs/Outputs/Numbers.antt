@@ -1,6 +1,5 @@
 -- A step or nudge sends few messages; and all that holds of the end of a step.
-use Rattle.std.proofs.Common.{◌≡◌, ℕ, zero, suc, ◌+◌, ◌*◌, ◌≤◌, ◌<◌, Bool, true, false, ◌||◌, Option, Some, None, List, [], ◌∷◌, ◌++◌, length, inl, refl, sym, ap, subst, arith, length-append}
-use Rattle.std.proofs.Common.{nat_eq, eq-eqb}
+use Rattle.std.proofs.Common.{◌≡◌, ℕ, zero, suc, ◌+◌, ◌*◌, ◌≤◌, ◌<◌, Bool, true, false, ◌||◌, Option, Some, None, List, [], ◌∷◌, ◌++◌, length, inl, refl, sym, ap, subst, arith, length-append, nat_eq, eq-eqb}
 use Rattle.std.specs.Prelude.{if◌then◌else◌}
 use Rattle.krl_modes.specs.Modes.{compatible, cap}
 use Rattle.krl_messages.specs.declared.to_client.ToClient.{ToClient}
@@ -10,7 +9,7 @@ use Rattle.krl_messages.specs.declared.to_client.PushBody.TheVariants as push
 use Rattle.krl_messages.specs.declared.write_op.WriteOp.{WriteOp}
 use Rattle.krl_messages.specs.declared.outcome.Outcome.{Outcome}
 use Rattle.krl_queue.specs.declared.waiter.Waiter.{Waiter}
-use Rattle.krl_protocol.proofs.Worlds.{eq_cases}
+use Rattle.krl_table.proofs.Rows.RowChanges.{eq_cases}
 use Rattle.krl_durable.specs.declared.record.Record.{Record}
 use Rattle.krl_durable.specs.Index.{slot_of, slots, span_of}
 use Rattle.krl_messages.specs.Writes.{op_key}
@@ -26,9 +25,9 @@ use Rattle.krl_server.specs.Effects.{callback_to, epoch_to, holding, acknowledge
 use Rattle.krl_server.specs.Answering.{stops}
 use Rattle.krl_server.specs.Callbacks.{is_compatible, callbacks_from, callbacks_for, callbacks_at, callbacks_among, callbacks_of, callbacks_of_among}
 use Rattle.krl_server.specs.Steps.{Kind, Idle, Quiet, Acts, kind_of, calls_of, at_once, recovers, serves, ServerStep, nudge_served, nudge_missing, nudge_known, nudge}
-use Rattle.krl_server.specs.AsLinks.{IsSound}
+use Rattle.krl_server.specs.Sound.{IsSound}
 use Rattle.krl_server.specs.Termination.{waiting_on, waiting, most_messages, StepsEnd}
-use Rattle.krl_server.proofs.Refinement.Served.{answering_sound}
+use Rattle.krl_server.proofs.Invariant.AnswersSound.{answering_sound}
 use Rattle.krl_server.proofs.Outputs.Ends.{pushes_few, answered_less, step_ends, one_end}
 use Rattle.krl_server.proofs.Invariant.Sounds.{effect_sound}
 use Rattle.krl_server.proofs.Invariant.Kept.{effect_table}

@@ -24,8 +24,8 @@ use Rattle.krl_server.specs.Replays.{Event, Took, Restarted, Lives, LivesThrough
 use Rattle.krl_server.proofs.Cased.{IsFrom, by_case}
 use Rattle.krl_server.proofs.Outputs.Ends.{pushes_durable}
 use Rattle.krl_server.proofs.Invariant.Kept.{ends_durable}
-use Rattle.krl_server.proofs.Refinement.Meaning.{record_here}
-use Rattle.krl_server.proofs.Refinement.Refused.{applied_is}
+use Rattle.krl_server.proofs.Updates.{record_here}
+use Rattle.krl_server.proofs.Invariant.WritesSound.{applied_is}
 
 -- A new write
 

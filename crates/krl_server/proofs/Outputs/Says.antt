@@ -1,6 +1,5 @@
 -- What a step changes and sends.
-use Rattle.std.proofs.Common.{◌≡◌, ◌≢◌, ℕ, zero, suc, ◌+◌, ◌≤◌, ◌<◌, Bool, true, false, not, ◌||◌, ◌↔◌, Some, List, [], ◌∷◌, inl, inr, refl, sym, ap, subst, ◌∙◌, ⊎_elim, arith}
-use Rattle.std.proofs.Common.{nat_eq, ne_eqb}
+use Rattle.std.proofs.Common.{◌≡◌, ◌≢◌, ℕ, zero, suc, ◌+◌, ◌≤◌, ◌<◌, Bool, true, false, not, ◌||◌, ◌↔◌, Some, List, [], ◌∷◌, inl, inr, refl, sym, ap, subst, ◌∙◌, ⊎_elim, arith, nat_eq, ne_eqb}
 use Rattle.std.proofs.lemmas.Bool.{eqb-false, and_parts, or_parts}
 use Rattle.std.proofs.lemmas.Option.{none-some, same_Some}
 use Rattle.std.specs.Prelude.{nat_lt, is_some, if◌then◌else◌}
@@ -11,7 +10,7 @@ use Rattle.krl_messages.specs.declared.to_client.ToClient.{ToClient}
 use Rattle.krl_messages.specs.declared.to_client.PushBody.{PushBody}
 use Rattle.krl_messages.specs.declared.to_client.PushBody.TheVariants as push
 use Rattle.krl_queue.specs.declared.waiter.Waiter.{Waiter}
-use Rattle.krl_protocol.proofs.Worlds.{eq_cases}
+use Rattle.krl_table.proofs.Rows.RowChanges.{eq_cases}
 use Rattle.krl_durable.specs.Index.{slot_of, span_of, slots}
 use Rattle.krl_messages.specs.Writes.{op_key}
 use Rattle.krl_messages.specs.Members.{In}
@@ -28,8 +27,8 @@ use Rattle.krl_server.specs.Answering.{can_push, Turn, next_turn, tells_absent, 
 use Rattle.krl_server.specs.Callbacks.{is_compatible, callbacks_from, callbacks_for, callbacks_at, callbacks_among, callbacks}
 use Rattle.krl_server.specs.Outputs.{changes_durable, IsCallback, IsNextPush, ServerSays}
 use Rattle.krl_server.specs.Steps.{kind_of}
-use Rattle.krl_server.proofs.Refinement.Meaning.{session_here}
-use Rattle.krl_server.proofs.Refinement.Turns.{turn_is}
+use Rattle.krl_server.proofs.Updates.{session_here}
+use Rattle.krl_server.proofs.Turns.{turn_is}
 use Rattle.krl_server.proofs.Outputs.Ends.{pushes_durable}
 use Rattle.krl_server.proofs.Invariant.Kept.{ends_durable}
 use Rattle.krl_server.proofs.Tests.{if_both}

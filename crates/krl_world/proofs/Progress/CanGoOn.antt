@@ -12,7 +12,7 @@ use Rattle.krl_messages.specs.declared.to_client.ToClient.{ToClient}
 use Rattle.krl_messages.specs.Writes.{op_key}
 use Rattle.krl_protocol.proofs.Runs.{always_bounded, restarts_hold, scans_are_index}
 use Rattle.krl_server.specs.Cases.{case_of}
-use Rattle.krl_server.specs.Simulation.{ServerFollows}
+use Rattle.krl_refinement.specs.Server.Simulation.{ServerFollows}
 use Rattle.krl_server.proofs.Outputs.Ends.{step_ends}
 use Rattle.krl_cache.specs.Beliefs.{Belief, is_span, is_covered, CoversAll, AreRows}
 use Rattle.krl_cache.specs.Kept.{Describes}
@@ -21,7 +21,7 @@ use Rattle.krl_client.specs.Commands.{is_pending, finds_rows, misses, locked, sa
 use Rattle.krl_client.specs.Messages as receiver
 use Rattle.krl_client.specs.Ticks.{tick, says_hello}
 use Rattle.krl_modes.specs.declared.mode.Mode.TheVariants as mode
-use Rattle.krl_client_machine.proofs.Basics.{passed}
+use Rattle.krl_refinement.proofs.Client.Basics.{passed}
 use Rattle.krl_world.specs.declared.message.Message.{Message}
 use Rattle.krl_world.specs.declared.message.Message.TheVariants as message
 use Rattle.krl_steps.specs.declared.step.Step.{Step}

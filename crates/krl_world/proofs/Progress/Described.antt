@@ -19,7 +19,7 @@ use Rattle.krl_cache.specs.Beliefs.{Belief, IsBelief}
 use Rattle.krl_cache.specs.Kept.{Describes}
 use Rattle.krl_cache.proofs.Described.{beliefs_are_described}
 use Rattle.krl_client.specs.Clients.{Client}
-use Rattle.krl_client_machine.specs.Shows.{ShowsClient, ShowsSeat}
+use Rattle.krl_refinement.specs.Client.Shows.{ShowsClient, ShowsSeat}
 use Rattle.krl_world.specs.States.{State, client_of}
 use Rattle.krl_world.proofs.Refinement.Mirrors.{machine_of, Mirrors}
 use Rattle.krl_world.proofs.Promises.CompatibilityAndScans.{end_is}

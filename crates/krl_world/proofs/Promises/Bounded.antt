@@ -27,14 +27,15 @@ use Rattle.krl_messages.specs.Members.{In}
 use Rattle.krl_messages.proofs.Members.{in_to_all}
 use Rattle.krl_protocol.specs.Holdings.{said_at, or_by, said_by}
 use Rattle.krl_protocol.proofs.Holdings.{says_here}
-use Rattle.krl_server.specs.AsLinks.{push_of, push_with, IsWhole, IsTold, Stands, WasSent}
+use Rattle.krl_refinement.specs.Messages.{push_of, push_with, IsTold, Stands, WasSent}
+use Rattle.krl_modes.specs.Spans.{IsWhole}
 use Rattle.krl_client.specs.Clients.{Client}
-use Rattle.krl_client_machine.specs.Shows.{ShowsClient, ShowsSeat}
+use Rattle.krl_refinement.specs.Client.Shows.{ShowsClient, ShowsSeat}
 use Rattle.krl_world.specs.declared.message.Message.TheVariants as message
 use Rattle.krl_world.specs.States.{ServerNode, Up, Down, State, durable_of, index_of, client_of, range_believed, key_believed}
 use Rattle.krl_world.specs.Bounds.{Bound, IsRangeWithin, IsKeyWithin, IsHoldingWithin, IsPushWithin, IsBounded, epoch_said, epoch_told}
 use Rattle.krl_world.proofs.Refinement.Calling.{epoch_called}
-use Rattle.krl_world.proofs.Refinement.Letters.{push_epoch}
+use Rattle.krl_refinement.proofs.Messages.{push_epoch}
 use Rattle.krl_world.proofs.Refinement.Mirrors.{machine_of, shared_of, Mirrors}
 use Rattle.krl_world.proofs.Refinement.Reached.{HaveBound}
 

@@ -26,11 +26,11 @@ use Rattle.krl_server.specs.Cases.{case_of}
 use Rattle.krl_server.specs.Effects.{Done, effect}
 use Rattle.krl_server.specs.Answering.{Answered, stops, goes_on}
 use Rattle.krl_server.specs.Steps.{Kind, kind_of, Ends, at_once, recovers, serves}
-use Rattle.krl_server.specs.Simulation.{ServerFollows}
+use Rattle.krl_refinement.specs.Server.Simulation.{ServerFollows}
 use Rattle.krl_server.proofs.Cased.{by_said}
-use Rattle.krl_server.proofs.Refinement.Follows.{not_truth}
-use Rattle.krl_server.proofs.Refinement.Rebuilt.{adopted_queue}
-use Rattle.krl_server.proofs.Refinement.Served.{answered_up}
+use Rattle.krl_server.proofs.Tests.{not_truth}
+use Rattle.krl_server.proofs.Invariant.RowsSound.{adopted_queue}
+use Rattle.krl_server.proofs.Invariant.AnswersSound.{answered_up}
 use Rattle.krl_world.specs.declared.message.Message.TheVariants as message
 use Rattle.krl_steps.specs.declared.step.Step.{Step}
 use Rattle.krl_world.specs.States.{ServerNode, Up, Down, State, opened, range_held, key_held}

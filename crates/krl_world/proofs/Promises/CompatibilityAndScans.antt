@@ -11,7 +11,7 @@ use Rattle.krl_modes.specs.declared.part.RangePart.{RangePart}
 use Rattle.krl_modes.specs.declared.part.RangePart.TheVariants as range
 use Rattle.krl_modes.specs.declared.part.KeyPart.{KeyPart}
 use Rattle.krl_modes.specs.declared.part.KeyPart.TheVariants as key
-use Rattle.krl_modes.specs.Parts.{ranges_compatible, keys_compatible}
+use Rattle.krl_modes.specs.Parts.{ranges_compatible, keys_compatible, reads_key, reads_gap}
 use Rattle.krl_modes.specs.Spans.{Bounds, IsPointOf, contains}
 use Rattle.krl_messages.specs.Values.{Value}
 use Rattle.krl_modes.specs.Weights.{rank, reads}
@@ -25,15 +25,14 @@ use Rattle.krl_durable.proofs.Slots.{is_true}
 use Rattle.krl_cache.specs.Beliefs.{Belief, is_covered, is_span, CoversAll, AreRows}
 use Rattle.krl_cache.proofs.Calls.{past_end}
 use Rattle.krl_cache.proofs.OneScan.{rows_are_determined}
-use Rattle.krl_modes.specs.Parts.{reads_key, reads_gap}
 use Rattle.krl_modes.proofs.SpanLaws.{inside_span}
 use Rattle.krl_client.specs.declared.scan_answer.ScanAnswer.{ScanAnswer}
 use Rattle.krl_client.specs.declared.scan_answer.ScanAnswer.TheVariants as scanned
 use Rattle.krl_client.specs.Clients.{Client, is_writing_in}
 use Rattle.krl_client.specs.Commands.{Answers, is_pending, finds_rows, misses, scan_refusal}
-use Rattle.krl_client_machine.specs.Shows.{ShowsClient, ShowsSeat}
-use Rattle.krl_client_machine.proofs.Basics.{passed}
-use Rattle.krl_client_machine.proofs.Steps.{not_in}
+use Rattle.krl_refinement.specs.Client.Shows.{ShowsClient, ShowsSeat}
+use Rattle.krl_refinement.proofs.Client.Basics.{passed}
+use Rattle.krl_refinement.proofs.Client.Steps.{not_in}
 use Rattle.krl_steps.specs.declared.step.Step.{Step}
 use Rattle.krl_steps.specs.declared.step.Step.TheVariants as step
 use Rattle.krl_steps.specs.declared.step.Command.{Command}

@@ -5,7 +5,7 @@ use Rattle.krl_protocol.specs.Worlds as machine
 use Rattle.krl_protocol.specs.Worlds.{Reachable}
 use Rattle.krl_protocol.proofs.Runs.{always_compatible, always_bounded, scans_are_index, restarts_hold}
 use Rattle.krl_protocol.proofs.Writes.{writes_once}
-use Rattle.krl_server.specs.Simulation.{ServerFollows}
+use Rattle.krl_refinement.specs.Server.Simulation.{ServerFollows}
 use Rattle.krl_world.specs.States.{State}
 use Rattle.krl_world.specs.Steps.{IsReachable}
 use Rattle.krl_world.specs.Promises.{Headline}

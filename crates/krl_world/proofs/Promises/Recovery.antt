@@ -19,16 +19,20 @@ use Rattle.krl_protocol.proofs.Runs.{restarts_hold}
 use Rattle.krl_durable.specs.declared.record.Record.{Record}
 use Rattle.krl_durable.specs.Index.{Index}
 use Rattle.krl_table.specs.Rows.{Rows, column}
-use Rattle.krl_table.specs.Reports.{reported_key, adopted}
+use Rattle.krl_table.specs.Reports.{reported_key, adopted, range_said}
 use Rattle.krl_server.specs.Servers.{Server, is_recovering, lists, unlist}
-use Rattle.krl_server.specs.AsLinks.{range_said, report_of, machine_phase, view, IsWhole, IsRecord, Shows, IsSound}
-use Rattle.krl_server.proofs.Refinement.Meaning.{range_is, key_is, same_range, same_key}
-use Rattle.krl_server.proofs.Refinement.Follows.{at_put}
-use Rattle.krl_server.proofs.Refinement.Recovering.{unlist_here, unlist_other}
-use Rattle.krl_server.proofs.Refinement.Reported.{report_shown}
-use Rattle.krl_server.proofs.Refinement.Rebuilt.{adopted_others}
+use Rattle.krl_refinement.specs.Messages.{report_of}
+use Rattle.krl_refinement.specs.Server.AsLinks.{machine_phase, view, IsRecord, Shows}
+use Rattle.krl_modes.specs.Spans.{IsWhole}
+use Rattle.krl_server.specs.Sound.{IsSound}
+use Rattle.krl_refinement.proofs.Server.Meaning.{range_is, key_is}
+use Rattle.krl_server.proofs.Points.{same_range, same_key}
+use Rattle.krl_refinement.proofs.Server.Follows.{at_put}
+use Rattle.krl_server.proofs.Updates.{unlist_here, unlist_other}
+use Rattle.krl_refinement.proofs.Server.Reported.{report_shown}
+use Rattle.krl_server.proofs.Invariant.RowsSound.{adopted_others}
 use Rattle.krl_client.specs.Clients.{Client}
-use Rattle.krl_client_machine.specs.Shows.{ShowsSeat}
+use Rattle.krl_refinement.specs.Client.Shows.{ShowsSeat}
 use Rattle.krl_world.specs.States.{Up, State, client_of, range_believed, key_believed}
 use Rattle.krl_world.specs.Bounds.{Bound, table_with, IsRangeWithin, IsKeyWithin, IsAwaited, IsRecoveryWithin}
 use Rattle.krl_world.proofs.Refinement.Mirrors.{machine_of, shared_of, ServerShows, Mirrors}

@@ -8,8 +8,7 @@ use Rattle.krl_server.specs.Servers.{Server, is_recovering, unlist}
 use Rattle.krl_server.specs.Cases.{Case, Ignored, Registers, Leaves, Tells, Alarms, Rebuilds, Repeats, Acknowledges, Lowers, Waits, Judges, AnswersAgain, case_of}
 use Rattle.krl_server.specs.Effects.{Done, acknowledged, writes, effect}
 use Rattle.krl_server.specs.Steps.{Kind, kind_of, Ends, at_once, recovers, serves, ServerStep}
-use Rattle.krl_server.proofs.Refinement.Pushes.{pushes_missing}
-use Rattle.krl_server.proofs.Refinement.Served.{answered_up}
+use Rattle.krl_server.proofs.Invariant.AnswersSound.{pushes_missing, answered_up}
 use Rattle.krl_steps.specs.declared.step.Step.{Step}
 use Rattle.krl_steps.specs.declared.step.Step.TheVariants as step
 use Rattle.krl_world.specs.States.{Up, Down, State, is_serving, opened}

@@ -17,7 +17,8 @@ use Rattle.krl_protocol.specs.Worlds as machine
 use Rattle.krl_protocol.specs.Worlds.{Logged, entry_after}
 use Rattle.krl_durable.specs.Index.{Index}
 use Rattle.krl_durable.specs.Writes.{written}
-use Rattle.krl_server.specs.AsLinks.{op_of, is_applied}
+use Rattle.krl_refinement.specs.Messages.{op_of}
+use Rattle.krl_messages.specs.Writes.{is_applied}
 use Rattle.krl_steps.specs.declared.applied_write.AppliedWrite.{AppliedWrite}
 use Rattle.krl_world.specs.States.{State, index_of}
 use Rattle.krl_world.specs.Promises.{IsListed, IsOnce, fold, IsDue, AreDue, WritesOnce}

@@ -15,9 +15,9 @@ use Rattle.krl_protocol.proofs.Steps.{steps_reachable, steps_on, link_steps}
 use Rattle.krl_durable.specs.declared.record.Record.{Record}
 use Rattle.krl_durable.specs.Registers.{Register, record_of, missing_order, HasIncarnations}
 use Rattle.krl_server.specs.Servers.{incarnation_or_0}
-use Rattle.krl_server.specs.AsLinks.{IsRecord}
-use Rattle.krl_server.specs.Simulation.{IsIdle}
-use Rattle.krl_server.proofs.Refinement.Follows.{not_truth}
+use Rattle.krl_refinement.specs.Server.AsLinks.{IsRecord}
+use Rattle.krl_refinement.specs.Server.Simulation.{IsIdle}
+use Rattle.krl_server.proofs.Tests.{not_truth}
 
 -- One link
 

@@ -18,15 +18,17 @@ use Rattle.krl_protocol.proofs.Worlds.{eq_cases}
 use Rattle.krl_protocol.proofs.Steps.{put, put_changed, link_steps}
 use Rattle.krl_server.specs.declared.session.Session.{Session}
 use Rattle.krl_server.specs.Steps.{start}
-use Rattle.krl_server.specs.AsLinks.{Stands, WasSent, IsRecord, LinkIs, Shows, view, view_of, DurableShows, IsSound}
-use Rattle.krl_client_machine.specs.Shows.{Grows, server_part, ShowsSeat, Leads}
-use Rattle.krl_client_machine.proofs.Basics.{grows_not}
+use Rattle.krl_refinement.specs.Messages.{Stands, WasSent}
+use Rattle.krl_refinement.specs.Server.AsLinks.{IsRecord, LinkIs, Shows, view, view_of, DurableShows}
+use Rattle.krl_server.specs.Sound.{IsSound}
+use Rattle.krl_refinement.specs.Client.Shows.{Grows, server_part, ShowsSeat, Leads}
+use Rattle.krl_refinement.proofs.Client.Basics.{grows_not}
 use Rattle.krl_world.specs.declared.message.Message.TheVariants as message
 use Rattle.krl_steps.specs.declared.applied_write.AppliedWrite.{AppliedWrite}
 use Rattle.krl_world.specs.States.{ServerNode, Up, Down, Seat, State, durable_of, is_serving, from_clients, from_server, seated}
-use Rattle.krl_server.specs.Simulation.{BoundStays}
+use Rattle.krl_refinement.specs.Server.Simulation.{BoundStays}
 use Rattle.krl_world.proofs.Refinement.Calling.{epoch_called}
-use Rattle.krl_world.proofs.Refinement.Letters.{from_stands, stands_stays, sent_stays}
+use Rattle.krl_refinement.proofs.Messages.{from_stands, stands_stays, sent_stays}
 
 -- The machine's world
 

@@ -12,8 +12,8 @@ use Rattle.krl_protocol.specs.Worlds.{Logged, Reachable}
 use Rattle.krl_protocol.proofs.Steps.{steps_reachable}
 use Rattle.krl_server.specs.Servers.{Server, is_recovering}
 use Rattle.krl_server.specs.Steps.{start}
-use Rattle.krl_server.specs.AsLinks.{machine_phase, Shows}
-use Rattle.krl_server.specs.Simulation.{BoundStays, ServerFollows}
+use Rattle.krl_refinement.specs.Server.AsLinks.{machine_phase, Shows}
+use Rattle.krl_refinement.specs.Server.Simulation.{BoundStays, ServerFollows}
 use Rattle.krl_steps.specs.declared.step.Step.{Step}
 use Rattle.krl_steps.specs.declared.answer.Answer.{Answer}
 use Rattle.krl_world.specs.States.{ServerNode, Up, Down, State, durable_of, index_of, is_serving, opened}

@@ -15,19 +15,20 @@ use Rattle.krl_protocol.specs.Links.{Link}
 use Rattle.krl_protocol.specs.Worlds as machine
 use Rattle.krl_protocol.specs.Worlds.{Logged, Steps, Reachable}
 use Rattle.krl_server.specs.Servers.{Server, is_recovering}
-use Rattle.krl_server.specs.Cases.{Case, Ignored, Registers, Leaves, Tells, Alarms, Rebuilds, Repeats, Acknowledges, Lowers, Waits, Judges, AnswersAgain, case_of}
+use Rattle.krl_server.specs.Cases.{Case, Ignored, Registers, Leaves, Tells, Alarms, Rebuilds, Repeats, Acknowledges, Lowers, Waits, Judges, AnswersAgain, case_of, clears}
 use Rattle.krl_server.specs.Steps.{ServerStep, nudge, start, can_start}
-use Rattle.krl_server.specs.AsLinks.{op_of, WasSent, logged}
+use Rattle.krl_refinement.specs.Messages.{op_of, WasSent}
+use Rattle.krl_refinement.specs.Server.AsLinks.{logged}
 use Rattle.krl_client.specs.Clients.{Client}
-use Rattle.krl_client_machine.specs.Shows.{Grows, ShowsClient, ShowsSeat}
+use Rattle.krl_refinement.specs.Client.Shows.{Grows, ShowsClient, ShowsSeat}
 use Rattle.krl_world.specs.declared.message.Message.TheVariants as message
 use Rattle.krl_steps.specs.declared.applied_write.AppliedWrite.{AppliedWrite}
 use Rattle.krl_world.specs.States.{ServerNode, Up, Down, State, durable_of, is_serving, from_server, served}
 use Rattle.krl_world.specs.Steps.{applies}
-use Rattle.krl_server.specs.Simulation.{clears, ServerFollows}
+use Rattle.krl_refinement.specs.Server.Simulation.{ServerFollows}
 use Rattle.krl_world.proofs.Refinement.Growing.{steps_grow}
 use Rattle.krl_world.proofs.Refinement.Calling.{AreCalled, step_called, nudge_called, epoch_rises}
-use Rattle.krl_world.proofs.Refinement.Letters.{stands_stays, sent_stays}
+use Rattle.krl_refinement.proofs.Messages.{stands_stays, sent_stays}
 use Rattle.krl_world.proofs.Refinement.Mirrors.{machine_of, ServerShows, op_back, oldest_first, Mirrors, Goes, in_from_server, not_from_server}
 
 -- a seat shows in whatever has the same client

@@ -15,8 +15,7 @@ use Rattle.krl_server.specs.Cases.{Case, case_of}
 use Rattle.krl_server.specs.Effects.{Done, holding, acknowledged, writes, pushes, effect}
 use Rattle.krl_server.specs.Steps.{Kind, Idle, kind_of, Ends, at_once, recovers, serves, ServerStep}
 use Rattle.krl_server.proofs.Cased.{by_case}
-use Rattle.krl_server.proofs.Refinement.Pushes.{pushes_missing}
-use Rattle.krl_server.proofs.Refinement.Served.{answered_up}
+use Rattle.krl_server.proofs.Invariant.AnswersSound.{pushes_missing, answered_up}
 use Rattle.krl_steps.specs.declared.step.Step.{Step}
 use Rattle.krl_world.specs.States.{ServerNode, Up, Down, State, durable_of, index_of, is_serving}
 use Rattle.krl_world.proofs.Refinement.Serves.{not_serving}

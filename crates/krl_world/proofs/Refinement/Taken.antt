@@ -10,8 +10,8 @@ use Rattle.krl_protocol.specs.Links.{Link}
 use Rattle.krl_protocol.specs.Worlds.{Logged, Reachable, none}
 use Rattle.krl_server.specs.Steps.{can_start}
 use Rattle.krl_client.specs.Clients.{Client, begun}
-use Rattle.krl_client_machine.specs.Shows.{ShowsSeat, Leads}
-use Rattle.krl_client_machine.proofs.Simulation.{start_shows, crash_shows, commands_show, ticks_show_all, messages_show}
+use Rattle.krl_refinement.specs.Client.Shows.{ShowsSeat, Leads}
+use Rattle.krl_refinement.proofs.Client.Simulation.{start_shows, crash_shows, commands_show, ticks_show_all, messages_show}
 use Rattle.krl_world.specs.declared.message.Message.{Message}
 use Rattle.krl_world.specs.declared.message.Message.TheVariants as message
 use Rattle.krl_steps.specs.declared.step.Step.{Step}
@@ -25,8 +25,8 @@ use Rattle.krl_world.specs.States.{ServerNode, Up, Down, State, client_of, with_
 use Rattle.krl_world.specs.Steps.{span, message_at, command_refusal, named, of_client, if_runs, server_start, refusal_of, ServerReads, ClientReads, Delivers, Obeys, nudged, started, crashed, Does}
 use Rattle.krl_steps.specs.Refusals.{refused_by_client}
 use Rattle.krl_world.specs.Bounds.{clears_in, step_clears}
-use Rattle.krl_server.specs.Simulation.{BoundStays, ServerFollows}
-use Rattle.krl_world.proofs.Refinement.Letters.{sent_tells}
+use Rattle.krl_refinement.specs.Server.Simulation.{BoundStays, ServerFollows}
+use Rattle.krl_refinement.proofs.Messages.{sent_tells}
 use Rattle.krl_world.proofs.Refinement.Mirrors.{machine_of, shared_of, Mirrors, Goes, seat_goes}
 use Rattle.krl_world.proofs.Refinement.Serves.{reads_goes, nudge_goes, crash_goes, start_goes}
 

@@ -1,4 +1,4 @@
-use Rattle.krl_server.proofs.Refinement.Whole.{all_follow}
+use Rattle.krl_refinement.proofs.Server.Whole.{all_follow}
 use Rattle.krl_world.proofs.Promises.Closing.{recoveries_end}
 use Rattle.krl_world.proofs.laws.recoveries_end.Goals as goal
 

@@ -1,4 +1,4 @@
-use Rattle.krl_server.proofs.Refinement.Whole.{all_follow}
+use Rattle.krl_refinement.proofs.Server.Whole.{all_follow}
 use Rattle.krl_world.proofs.Promises.Kept.{bounded_holds, restarts_holds}
 use Rattle.krl_world.proofs.laws.within_the_bound.Goals as goal
 

@@ -1,5 +1,0 @@
-pub mod Basics
-pub mod Steps
-pub mod Repeats
-pub mod Receives
-pub mod Simulation

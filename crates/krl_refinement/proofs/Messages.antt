@@ -1,0 +1,129 @@
+-- What a client reports stands in its link, and whatever stands in a link stays there while no message goes.
+use Rattle.std.proofs.Common.{◌≡◌, ℕ, suc, ◌<◌, ◌∙◌, Bool, true, false, None, List, [], ◌∷◌, refl, sym, ap, subst, arith, nat_eq, if◌then◌else◌, eqb-true}
+use Rattle.std.proofs.lemmas.Bool.{eqb-false}
+use mathlib.Core.Path.{fun_ext}
+use Rattle.std.specs.List.{AllByRecursion}
+use Rattle.krl_modes.specs.declared.part.RangePart.{RangePart}
+use Rattle.krl_modes.specs.declared.part.RangePart.TheVariants as range
+use Rattle.krl_modes.specs.declared.part.KeyPart.{KeyPart}
+use Rattle.krl_modes.specs.declared.part.KeyPart.TheVariants as key
+use Rattle.krl_modes.specs.Parts.{range_join, key_join}
+use Rattle.krl_modes.specs.Spans.{IsWhole, contains}
+use Rattle.krl_modes.proofs.SpanLaws.{inside_span}
+use Rattle.krl_messages.specs.declared.range_pieces.RangePiece.{RangePiece}
+use Rattle.krl_messages.specs.declared.key_pieces.KeyPiece.{KeyPiece}
+use Rattle.krl_messages.specs.declared.pieces.Pieces.{Pieces}
+use Rattle.krl_messages.specs.declared.to_server.ToServerBody.{ToServerBody}
+use Rattle.krl_messages.specs.declared.to_server.ToServerBody.TheVariants as said
+use Rattle.krl_messages.specs.declared.to_server.RequestBody.{RequestBody}
+use Rattle.krl_messages.specs.declared.to_server.RequestBody.TheVariants as asked
+use Rattle.krl_messages.specs.declared.to_client.ToClientBody.{ToClientBody}
+use Rattle.krl_messages.specs.declared.to_client.ToClientBody.TheVariants as told
+use Rattle.krl_messages.specs.declared.to_client.PushBody.{PushBody}
+use Rattle.krl_messages.specs.declared.to_client.PushBody.TheVariants as push
+use Rattle.krl_messages.specs.Members.{In}
+use Rattle.krl_protocol.specs.Links as links
+use Rattle.krl_protocol.specs.Links.{Head, Link}
+use Rattle.krl_table.specs.Reports.{range_said, reported_key}
+use Rattle.krl_cache.specs.Kept as cache
+use Rattle.krl_cache.specs.Kept.{AreInOrder, AreAscending, Describes}
+use Rattle.krl_refinement.specs.Messages.{report_of, push_of, RequestStands, Stands, WasSent}
+use Rattle.krl_refinement.specs.Client.Shows.{Grows}
+
+-- Reports. Where pieces stand apart, the first that speaks of a point is the join of all that do
+
+join_n : (a : RangePart) → range_join a range.N ≡ a
+join_n range.N = refl
+join_n range.S = refl
+join_n range.I = refl
+join_n range.X = refl
+
+key_join_n : (a : KeyPart) → key_join a key.N ≡ a
+key_join_n key.N = refl
+key_join_n key.S = refl
+key_join_n key.U = refl
+key_join_n key.X = refl
+
+ranges_later : (xs : List RangePiece) (lo q : ℕ) → AreInOrder lo xs → q < lo → range_said xs q ≡ range.N
+ranges_later [] lo q h l = refl
+ranges_later (x ∷ xs) lo q h l = by_test (contains x.span q) refl (ranges_later xs x.span.hi q h.3 (let a = h.0 in let b = h.1 in omega arith))
+  where
+    by_test : (t : Bool) → contains x.span q ≡ t → range_said xs q ≡ range.N → (if t then range_join x.part (range_said xs q) else range_said xs q) ≡ range.N
+    by_test true e ih = let i = inside_span x.span q e in let a = h.0 in let b = i.0 in absurd (omega arith)
+    by_test false e ih = ih
+
+ranges_agree : (xs : List RangePiece) (lo q : ℕ) → AreInOrder lo xs → range_said xs q ≡ cache.range_said xs q
+ranges_agree [] lo q h = refl
+ranges_agree (x ∷ xs) lo q h = by_test (contains x.span q) refl (ranges_agree xs x.span.hi q h.3)
+  where
+    by_test : (t : Bool) → contains x.span q ≡ t → range_said xs q ≡ cache.range_said xs q → (if t then range_join x.part (range_said xs q) else range_said xs q) ≡ (if t then x.part else cache.range_said xs q)
+    by_test true e ih = let i = inside_span x.span q e in ap (range_join x.part) (ranges_later xs x.span.hi q h.3 i.1) ∙ join_n x.part
+    by_test false e ih = ih
+
+keys_later : (xs : List KeyPiece) (lo q : ℕ) → AreAscending lo xs → q < lo → reported_key xs q ≡ key.N
+keys_later [] lo q h l = refl
+keys_later (x ∷ xs) lo q h l = by_test (nat_eq x.point q) refl (keys_later xs (suc x.point) q h.3 (let a = h.0 in omega arith))
+  where
+    by_test : (t : Bool) → nat_eq x.point q ≡ t → reported_key xs q ≡ key.N → (if t then key_join x.part (reported_key xs q) else reported_key xs q) ≡ key.N
+    by_test true e ih = let i = eqb-true x.point q e in let a = h.0 in absurd (omega arith)
+    by_test false e ih = ih
+
+keys_agree : (xs : List KeyPiece) (lo q : ℕ) → AreAscending lo xs → reported_key xs q ≡ cache.key_said xs q
+keys_agree [] lo q h = refl
+keys_agree (x ∷ xs) lo q h = by_tests (nat_eq x.point q) (nat_eq q x.point) refl refl (keys_agree xs (suc x.point) q h.3)
+  where
+    by_tests : (t u : Bool) → nat_eq x.point q ≡ t → nat_eq q x.point ≡ u → reported_key xs q ≡ cache.key_said xs q → (if t then key_join x.part (reported_key xs q) else reported_key xs q) ≡ (if u then x.part else cache.key_said xs q)
+    by_tests true true e f ih = let i = eqb-true x.point q e in ap (key_join x.part) (keys_later xs (suc x.point) q h.3 (omega arith)) ∙ key_join_n x.part
+    by_tests true false e f ih = let i = eqb-true x.point q e in absurd (eqb-false q x.point f (sym i))
+    by_tests false true e f ih = let i = eqb-true q x.point f in absurd (eqb-false x.point q e (sym i))
+    by_tests false false e f ih = ih
+
+all_whole : (xs : List RangePiece) (lo : ℕ) → AreInOrder lo xs → AllByRecursion (λ x. IsWhole x.span) xs
+all_whole [] lo h = tt
+all_whole (x ∷ xs) lo h = (h.1, all_whole xs x.span.hi h.3)
+
+report_is : (r : links.Report) (inc epoch : ℕ) (ps : Pieces) → r.inc ≡ inc → r.epoch ≡ epoch → Describes ps (record { range_at = r.range; key_at = r.key; value_at = λ p. None }) → r ≡ report_of inc epoch ps
+report_is r inc epoch ps i e d =
+    let ranges : r.range ≡ range_said ps.ranges = fun_ext (λ q. sym (ranges_agree ps.ranges 0 q d.ranges_in_order ∙ d.ranges q)) in
+    let keys : r.key ≡ reported_key ps.keys = fun_ext (λ q. sym (keys_agree ps.keys 0 q d.keys_in_order ∙ d.keys q)) in
+    λ t. record { inc = i t; epoch = e t; range = ranges t; key = keys t }
+
+-- a report of pieces that describe what the machine's client believes
+pub report_stands : (l : Link) (r : links.Report) (inc epoch : ℕ) (ps : Pieces) → In r l.reports → r.inc ≡ inc → r.epoch ≡ epoch → Describes ps (record { range_at = r.range; key_at = r.key; value_at = λ p. None }) → Stands l inc (said.Report epoch ps)
+report_stands l r inc epoch ps at i e d = (subst (λ x. In x l.reports) (report_is r inc epoch ps i e d) at, all_whole ps.ranges 0 d.ranges_in_order)
+
+-- What a push bears
+
+pub push_inc : (inc epoch number : ℕ) (b : PushBody) → (push_of inc epoch number b).inc ≡ inc
+push_inc inc epoch number (push.Grant req hs) = refl
+push_inc inc epoch number (push.Absent req point) = refl
+push_inc inc epoch number (push.Answer w o h) = refl
+
+pub push_epoch : (inc epoch number : ℕ) (b : PushBody) → (push_of inc epoch number b).epoch ≡ epoch
+push_epoch inc epoch number (push.Grant req hs) = refl
+push_epoch inc epoch number (push.Absent req point) = refl
+push_epoch inc epoch number (push.Answer w o h) = refl
+
+pub push_number : (inc epoch number : ℕ) (b : PushBody) → (push_of inc epoch number b).number ≡ number
+push_number inc epoch number (push.Grant req hs) = refl
+push_number inc epoch number (push.Absent req point) = refl
+push_number inc epoch number (push.Answer w o h) = refl
+
+-- No message goes
+
+request_stays : (l m : Link) → Grows l m → (a : Head) (b : RequestBody) → RequestStands l a b → RequestStands m a b
+request_stays l m g a (asked.Lock req point hi mode) h = h
+request_stays l m g a (asked.Write number x) h = g.writes _ h
+request_stays l m g a (asked.Release s keep) h = (h.0, g.releases _ h.1)
+request_stays l m g a asked.Ack h = h
+
+pub stands_stays : (l m : Link) → Grows l m → (inc : ℕ) (b : ToServerBody) → Stands l inc b → Stands m inc b
+stands_stays l m g inc said.Hello h = g.hellos _ h
+stands_stays l m g inc said.Bye h = g.byes _ h
+stands_stays l m g inc (said.Report epoch ps) h = (g.reports _ h.0, h.1)
+stands_stays l m g inc (said.Request r) h = (g.heads _ h.0, request_stays l m g _ r.body h.1)
+
+pub sent_stays : (l m : Link) → Grows l m → (inc : ℕ) (b : ToClientBody) → WasSent l inc b → WasSent m inc b
+sent_stays l m g inc (told.Epoch epoch) h = g.notices _ h
+sent_stays l m g inc (told.Push epoch number b) h = (g.pushes _ h.0, h.1, h.2)
+sent_stays l m g inc (told.Callback epoch s keep) h = h

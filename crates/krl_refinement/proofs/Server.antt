@@ -1,0 +1,24 @@
+-- The law `server_follows`: each step of a server is some steps of the machine.
+pub mod Agreeing
+pub mod Meaning
+pub mod Follows
+pub mod Pushes
+pub mod Judged
+pub mod Refused
+pub mod LockRequests
+pub mod Releases
+pub mod HelloAndBye
+pub mod Recovering
+pub mod Reported
+pub mod Rebuilt
+pub mod Splits
+pub mod Merges
+pub mod Writes
+pub mod Turns
+pub mod Served
+pub mod Callbacks
+pub mod Nudges
+pub mod Restart
+pub mod Alarms
+pub mod Walk
+pub mod Whole

@@ -1,0 +1,29 @@
+-- What a Delete that is Applied makes of the table, for the machine.
+use Rattle.std.proofs.Common.{◌≡◌, ℕ, suc, ◌≤◌, ◌<◌, true, List, Some, None, refl, arith}
+use Rattle.std.specs.FinMap as map
+use Rattle.krl_modes.specs.declared.point.TheConstants.{END}
+use Rattle.krl_modes.specs.Modes.{range_of, key_of}
+use Rattle.krl_modes.specs.Parts.{is_range_X, is_key_X}
+use Rattle.krl_modes.proofs.PartLaws.{range_is_X}
+use Rattle.krl_messages.specs.Values.{Value}
+use Rattle.krl_durable.specs.Index.{Index, slot_of}
+use Rattle.krl_table.specs.Rows.{Rows, column}
+use Rattle.krl_table.specs.Calls.{merged}
+use Rattle.krl_protocol.specs.Links.{Phase, Delete, Link}
+use Rattle.krl_protocol.specs.Worlds.{Logged}
+use Rattle.krl_protocol.proofs.Worlds.{WorldInv}
+use Rattle.krl_protocol.proofs.Refines.{Shows}
+use Rattle.krl_protocol.proofs.Written.{Written, delete_written}
+use Rattle.krl_server.proofs.Updates.{set_modes, gone_here, gone_other}
+use Rattle.krl_server.proofs.Slots.{slot_here}
+use Rattle.krl_refinement.proofs.Server.Splits.{its_key_X}
+use Rattle.krl_refinement.proofs.Server.Meaning.{seen_in}
+
+module _ (m : Index) (epoch : ℕ) (phase : Phase) (near : (q : ℕ) → END ≤ q → map.get m q ≡ None) (of : ℕ → Link) (log : List Logged) (rows : Rows) (shows : (d : ℕ) → Shows (seen_in m epoch phase) (of d) (column rows d)) (inv : WorldInv (record { shared = seen_in m epoch phase; links = of; log = log })) (c : ℕ) where
+  pub delete_shown : (k : ℕ) (u : Value) → k < END → map.get m k ≡ Some u → is_key_X (key_of (column rows c k)) ≡ true → is_range_X (range_of (column rows c k)) ≡ true → is_range_X (range_of (column rows c (slot_of m (suc k)))) ≡ true → Written (record { shared = seen_in m epoch phase; links = of; log = log }) c (Delete k) (map.get (map.remove m k)) (column (merged m rows k))
+  delete_shown k u lt present x rx rx' =
+      let n = slot_of m (suc k) in
+      let y = slot_here m near (suc k) (omega arith) in
+      delete_written (record { shared = seen_in m epoch phase; links = of; log = log }) c (column rows) near shows inv k u n (map.get (map.remove m k)) (column (merged m rows k)) lt present (gone_here m k) (gone_other m k) y.0 y.1
+      (its_key_X (key_of (column rows c k)) x) (range_is_X (range_of (column rows c k)) rx) (range_is_X (range_of (column rows c n)) rx')
+      (λ d j ne. set_modes rows n k d j _ _ refl ne)

@@ -1,0 +1,95 @@
+-- A crash and a start of the server.
+use Rattle.std.proofs.Common.{◌≡◌, ℕ, suc, ◌≤◌, Bool, true, false, Option, Some, None, List, [], ◌∷◌, ◌⊎◌, inl, inr, refl, sym, ap, subst, ◌∙◌, nat_eq}
+use Rattle.std.proofs.lemmas.Option.{none-some}
+use Rattle.std.specs.Prelude.{if◌then◌else◌, ◌||◌}
+use Rattle.std.specs.FinMap as map
+use Rattle.krl_modes.specs.declared.point.TheConstants.{END}
+use Rattle.krl_durable.specs.declared.record.Record.{Record}
+use Rattle.krl_durable.specs.Registers.{Register, Durable, record_of, missing_order}
+use Rattle.krl_table.specs.Rows.{blank_rows}
+use Rattle.krl_protocol.specs.Links.{Link, no_range, no_key}
+use Rattle.krl_protocol.specs.Worlds.{Logged, IsMissing, crash, start, finish, Steps, none, more}
+use Rattle.krl_server.specs.Servers.{Server, blank_session, is_recovering, lists}
+use Rattle.krl_server.specs.Steps.{can_start}
+use Rattle.krl_server.specs.Sound.{IsSound}
+use Rattle.krl_server.proofs.Points.{blank_range, blank_key}
+use Rattle.krl_server.proofs.Tests.{not_truth}
+use Rattle.krl_server.proofs.Invariant.RowsSound.{start_sound}
+use Rattle.krl_server.specs.Steps as steps
+use Rattle.krl_refinement.specs.Server.AsLinks.{IsRecord, Shows, DurableShows, down_world_of, world_of}
+use Rattle.krl_refinement.specs.Server.Simulation.{BoundStays, CrashFollows, StartFollows, IsIdle, Opens}
+use Rattle.krl_refinement.proofs.Server.Follows.{up_phase}
+
+pub crash_follows : (s : Server) (of : ℕ → Link) (log : List Logged) → Shows s of → IsSound s → CrashFollows s of log
+crash_follows s of log h i = record { steps = more none (crash (up_phase s.missing)); shows = λ c. (h.link c).known; sound = start_sound s.durable i.near }
+
+missing_known : (es : Register) (c : ℕ) → lists (missing_order es) c ≡ false → (l : Link) → IsRecord (record_of es c) l → (l.left ≡ true) ⊎ (l.reg ≡ 0)
+missing_known [] c e l h = inr h.reg
+missing_known (x ∷ es) c e l h = by_left x.1.left refl (nat_eq c x.0) refl e h (missing_known es c)
+  where
+    by_left : (b : Bool) → x.1.left ≡ b → (a : Bool) → nat_eq c x.0 ≡ a → lists (if b then missing_order es else x.0 ∷ missing_order es) c ≡ false → IsRecord (if a then Some x.1 else record_of es c) l → (lists (missing_order es) c ≡ false → (l : Link) → IsRecord (record_of es c) l → (l.left ≡ true) ⊎ (l.reg ≡ 0)) → (l.left ≡ true) ⊎ (l.reg ≡ 0)
+    by_left true f true g e h ih = inl (h.left ∙ f)
+    by_left true f false g e h ih = ih e l h
+    by_left false f true g e h ih = let y : (true || lists (missing_order es) c) ≡ false = subst (λ b. (b || lists (missing_order es) c) ≡ false) g e in absurd (cc)
+    by_left false f false g e h ih = ih (sym (ap (λ b. b || lists (missing_order es) c) g) ∙ e) l h
+
+abbrev started_with : Durable → List ℕ → Server
+started_with d ms = record { durable = record d { epoch = suc d.epoch }; rows = blank_rows; sessions = λ c. blank_session; missing = ms }
+
+known_kept : (o : Option Record) (l : Link) (b : Bool) → IsRecord o l → IsRecord o (record l { missing = b; last_push = 0; acked = true; new_range = no_range; new_key = no_key })
+known_kept None l b h = h
+known_kept (Some r) l b h = h
+
+known_end : (o : Option Record) (l : Link) (b : Bool) → IsRecord o l → IsRecord o (record l { missing = b; last_push = 0; acked = true; new_range = no_range; new_key = no_key; top_range = no_range; top_key = no_key })
+known_end None l b h = h
+known_end (Some r) l b h = h
+
+record Starts (d : Durable) (s : Server) (of : ℕ → Link) (log : List Logged) : Type 0 where
+  pub after : ℕ → Link
+  pub steps : Steps (down_world_of d of log) (world_of s after log)
+  pub shows : Shows s after
+  pub clients : (c : ℕ) → (after c).client ≡ (of c).client
+  pub bound : is_recovering s.missing ≡ true → (c : ℕ) → BoundStays false (of c) (after c)
+
+starts_with : (d : Durable) (ms : List ℕ) (of : ℕ → Link) (log : List Logged) → ((c : ℕ) → IsMissing (of c) (lists ms c)) → DurableShows d of → Starts d (started_with d ms) of log
+starts_with d [] of log miss known = record {
+  after = λ c. record (of c) { missing = false; last_push = 0; acked = true; new_range = no_range; new_key = no_key; top_range = no_range; top_key = no_key };
+  steps = more (more none (start (λ c. false) refl miss)) (finish refl (λ c. refl));
+  shows = record {
+    link = λ c. record { known = known_end (record_of d.register c) (of c) false (known c); missing = refl; last_push = refl; acked = refl; unacked = λ body e. absurd (none-some body e); range = λ p q. sym (blank_range d.index blank_rows c (λ n. refl) q); key = λ p q. sym (blank_key d.index blank_rows c (λ n. refl) q); new_range = λ p q. sym (blank_range d.index blank_rows c (λ n. refl) q); new_key = λ p q. sym (blank_key d.index blank_rows c (λ n. refl) q) };
+    heard = λ n u at. absurd at;
+  };
+  clients = λ c. refl;
+  bound = λ g. absurd (not_truth (is_recovering []) refl g);
+}
+starts_with d (x ∷ xs) of log miss known = record {
+  after = λ c. record (of c) { missing = lists (x ∷ xs) c; last_push = 0; acked = true; new_range = no_range; new_key = no_key };
+  steps = more none (start (lists (x ∷ xs)) refl miss);
+  shows = record {
+    link = λ c. record { known = known_kept (record_of d.register c) (of c) (lists (x ∷ xs) c) (known c); missing = refl; last_push = refl; acked = refl; unacked = λ body e. absurd (none-some body e); range = λ p q. absurd (cc); key = λ p q. absurd (cc); new_range = λ p q. sym (blank_range d.index blank_rows c (λ n. refl) q); new_key = λ p q. sym (blank_key d.index blank_rows c (λ n. refl) q) };
+    heard = λ n u at. absurd at;
+  };
+  clients = λ c. refl;
+  bound = λ g c. record { range = λ p. refl; key = λ p. refl };
+}
+
+-- a start is a start, and a finish where nobody is missing
+pub start_follows : (d : Durable) (of : ℕ → Link) (log : List Logged) → can_start d ≡ true → DurableShows d of → IsSound (steps.start d) → StartFollows d of log
+start_follows d of log can known i =
+    let x = starts_with d (missing_order d.register) of log (λ c e. missing_known d.register c e (of c) (known c)) known in
+    record {
+      follows = record { after = x.after; log_after = log; steps = x.steps; shows = x.shows; sound = i; sent = λ o at. absurd at; clients = x.clients };
+      writes = refl;
+      bound = x.bound;
+    }
+
+-- the first start, where each client that is known has left
+pub opens : (d : Durable) (of : ℕ → Link) → missing_order d.register ≡ [] → DurableShows d of → ((c : ℕ) → IsIdle (of c)) → ((q : ℕ) → END ≤ q → map.get d.index q ≡ None) → Opens d of
+opens d of gone known idle near = record {
+  shows = subst (λ ms. Shows (started_with d ms) of) (sym gone)
+      (record {
+        link = λ c. record { known = known c; missing = (idle c).missing; last_push = (idle c).last_push; acked = (idle c).acked; unacked = λ body f. absurd (none-some body f); range = λ p q. (idle c).range q ∙ sym (blank_range d.index blank_rows c (λ n. refl) q); key = λ p q. (idle c).key q ∙ sym (blank_key d.index blank_rows c (λ n. refl) q); new_range = λ p q. absurd (cc); new_key = λ p q. absurd (cc) };
+        heard = λ n u at. absurd at;
+      });
+  sound = start_sound d near;
+}
