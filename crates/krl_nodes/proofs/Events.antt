@@ -21,10 +21,10 @@ use Rattle.krl_steps.specs.declared.refused.Refused.TheVariants as refused
 use Rattle.krl_world.specs.States.{ServerNode, Up, Down, Seat, State, client_of, set_seat, from_clients, from_server}
 use Rattle.krl_world.specs.Steps.{Steps, of_client, applies, server_down}
 use Rattle.krl_world.specs.SeatSteps.{Does, CommandedAt, Started, starting_refusal}
-use Rattle.krl_world.proofs.Code.Lifts.{seat_here, seat_other}
-use Rattle.krl_world.proofs.Code.Commands.{gone, command_steps}
-use Rattle.krl_world.proofs.Code.Seats as seats
-use Rattle.krl_world.proofs.Code.Server as server
+use Rattle.krl_world.proofs.Functions.Lifts.{seat_here, seat_other}
+use Rattle.krl_world.proofs.Functions.Commands.{gone, command_steps}
+use Rattle.krl_world.proofs.Functions.Seats as seats
+use Rattle.krl_world.proofs.Functions.Server as server
 use Rattle.krl_nodes.specs.Mail.{Mail}
 use Rattle.krl_nodes.specs.Shown.{Shown, ServerAt, ClientAt}
 use Rattle.krl_nodes.specs.Letters.{letters_to, left_by, place_of, with_to_server, with_to_client, with_said, with_sent}

@@ -13,8 +13,8 @@ use Rattle.krl_steps.specs.declared.step.Step.{Step}
 use Rattle.krl_steps.specs.declared.answer.Answer.{Answer}
 use Rattle.krl_world.specs.States.{State}
 use Rattle.krl_world.specs.Steps.{Steps}
-use Rattle.krl_world.proofs.Code.Shapes.{Left, as_it_was, at_seat, at_server, takes_left, reachable_nobody}
-use Rattle.krl_world.proofs.Code.Runs.{reachable_after}
+use Rattle.krl_world.proofs.Functions.Shapes.{Left, as_it_was, at_seat, at_server, takes_left, reachable_nobody}
+use Rattle.krl_world.proofs.Functions.Runs.{reachable_after}
 use Rattle.krl_nodes.specs.declared.post.Chair.{Chair}
 use Rattle.krl_nodes.specs.declared.post.Chair.TheVariants.{Taken, Free}
 use Rattle.krl_nodes.specs.declared.view.View.{View}

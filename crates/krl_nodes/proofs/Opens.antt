@@ -16,7 +16,7 @@ use Rattle.krl_world.specs.declared.node.ServerNode.TheVariants as kept
 use Rattle.krl_world.specs.Fields.{node_of}
 use Rattle.krl_world.specs.States.{Up, fresh, opened, unused}
 use Rattle.krl_world.specs.Steps.{CanOpen}
-use Rattle.krl_world.proofs.Code.Shapes.{reachable_stays}
+use Rattle.krl_world.proofs.Functions.Shapes.{reachable_stays}
 use Rattle.krl_nodes.specs.declared.post.Chair.TheVariants.{Taken, Free}
 use Rattle.krl_nodes.specs.declared.view.View.{View}
 use Rattle.krl_nodes.specs.declared.view.Node.TheVariants.{Server}

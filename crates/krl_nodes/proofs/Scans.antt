@@ -14,8 +14,8 @@ use Rattle.krl_steps.specs.declared.refused.Refused.{Refused}
 use Rattle.krl_world.specs.States.{State, Seat, client_of, index_of}
 use Rattle.krl_world.specs.Steps.{Steps, span, if_runs, named, command_refusal}
 use Rattle.krl_steps.specs.Refusals.{refused_by_client}
-use Rattle.krl_world.proofs.Code.Lifts.{takes, is_client}
-use Rattle.krl_world.proofs.Code.Runs.{scans_before}
+use Rattle.krl_world.proofs.Functions.Lifts.{takes, is_client}
+use Rattle.krl_world.proofs.Functions.Runs.{scans_before}
 use Rattle.krl_nodes.specs.Shown.{ClientAt}
 use Rattle.krl_nodes.specs.Rule.{ReachableFrom}
 use Rattle.krl_nodes.specs.Steps.{Agreeable}

@@ -7,6 +7,6 @@ pub mod Tests
 pub mod Grants
 pub mod Cased
 pub mod Crosses
-pub mod Code
+pub mod Functions
 pub mod Invariant
 pub mod Outputs

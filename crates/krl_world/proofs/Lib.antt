@@ -1,4 +1,4 @@
-pub mod Code
+pub mod Functions
 pub mod Refinement
 pub mod Promises
 pub mod Progress

@@ -1,7 +1,7 @@
 use Rattle.std.proofs.Common.{refl, ap, ◌∙◌}
 use Rattle.krl_world.specs.Steps.{server_down}
 use Rattle.krl_world.specs.Fields.{node_of}
-use Rattle.krl_world.proofs.Code.Lifts.{is_client}
+use Rattle.krl_world.proofs.Functions.Lifts.{is_client}
 use Rattle.krl_server.specs.StateMeaning.{meaning}
 use Rattle.krl_nodes.proofs.turns.nudge.Goals as goal
 

@@ -1,4 +1,4 @@
-use Rattle.krl_server.proofs.Code.Started.{blank_each}
+use Rattle.krl_server.proofs.Functions.Started.{blank_each}
 use Rattle.krl_server.proofs.session.blank_sessions.Goals as goal
 
 pub returns-clause-blank : goal.returns-clause-blank

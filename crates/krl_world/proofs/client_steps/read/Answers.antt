@@ -1,7 +1,7 @@
 use Rattle.std.proofs.Common.{◌≤◌, length, arith}
 use Rattle.krl_client.specs.Fields.{meaning}
 use Rattle.krl_client.specs.Messages.{case_of}
-use Rattle.krl_world.proofs.Code.ThreeMessages.{few_said}
+use Rattle.krl_world.proofs.Functions.ThreeMessages.{few_said}
 use Rattle.krl_world.proofs.client_steps.read.Goals as goal
 
 pub send_to_server-requires : goal.send_to_server-requires

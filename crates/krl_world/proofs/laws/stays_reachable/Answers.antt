@@ -1,4 +1,4 @@
-use Rattle.krl_world.proofs.Code.Shapes.{reachable_stays}
+use Rattle.krl_world.proofs.Functions.Shapes.{reachable_stays}
 use Rattle.krl_world.proofs.laws.stays_reachable.Goals as goal
 
 pub returns : goal.returns

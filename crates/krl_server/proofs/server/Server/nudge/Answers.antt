@@ -4,7 +4,7 @@ use Rattle.krl_server.specs.Servers.{is_recovering}
 use Rattle.krl_server.specs.Answering.{Answered}
 use Rattle.krl_server.specs.StateMeaning.{meaning}
 use Rattle.krl_server.proofs.Outputs.Numbers.{all_end}
-use Rattle.krl_server.proofs.Code.NudgeMessages.{few_nudges}
+use Rattle.krl_server.proofs.Functions.NudgeMessages.{few_nudges}
 use Rattle.krl_server.proofs.server.Server.nudge.Goals as goal
 
 pub returns-clause-few : goal.returns-clause-few

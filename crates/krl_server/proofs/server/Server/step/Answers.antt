@@ -2,11 +2,11 @@ use Rattle.std.proofs.Common.{◌≡◌, false, subst}
 use Rattle.std.specs.Prelude.{IfOk}
 use Rattle.krl_server.specs.declared.state.State.{State}
 use Rattle.krl_server.specs.Outputs.{may_change_durable, HasCallbacks, AnswersWrite}
-use Rattle.krl_server.proofs.Code.Started.{server_kept, few_sent}
+use Rattle.krl_server.proofs.Functions.Started.{server_kept, few_sent}
 use Rattle.std.proofs.lemmas.Result.{IfOk-weaker}
 use Rattle.krl_server.specs.StateMeaning.{meaning}
-use Rattle.krl_server.proofs.Code.StepClauses.{durable_said, calls_said, answers_said}
-use Rattle.krl_server.proofs.Code.Standing.{pushes_stand}
+use Rattle.krl_server.proofs.Functions.StepClauses.{durable_said, calls_said, answers_said}
+use Rattle.krl_server.proofs.Functions.Standing.{pushes_stand}
 use Rattle.krl_durable.specs.Changes.{IsChange}
 use Rattle.krl_server.proofs.Outputs.Replayed.{change_said}
 use Rattle.krl_server.proofs.server.Server.step.Goals as goal

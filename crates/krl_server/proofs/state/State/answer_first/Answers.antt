@@ -8,7 +8,7 @@ use Rattle.krl_server.specs.declared.state.State.{State}
 use Rattle.krl_server.specs.Answering.{can_push}
 use Rattle.krl_server.specs.CodeSteps.{HasTurned}
 use Rattle.krl_server.proofs.Outputs.Numbers.{sixty_four}
-use Rattle.krl_server.proofs.Code.FirstTurn.{front_in, if_some, not_answerable, turned_grant, turned_absent}
+use Rattle.krl_server.proofs.Functions.FirstTurn.{front_in, if_some, not_answerable, turned_grant, turned_absent}
 use Rattle.krl_server.proofs.state.State.answer_first.Goals as goal
 
 own : (st : State) (n : _) (u : Waiter) → IsSound (meaning st) → front_of (rows_of st.table n).queue ≡ Some u → u.client < 64

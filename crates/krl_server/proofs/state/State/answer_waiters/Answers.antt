@@ -3,9 +3,9 @@ use Rattle.std.proofs.Math.ListN.{drop_of_length-le}
 use Rattle.std.proofs.lemmas.List.{drop_more}
 use Rattle.krl_server.specs.StateMeaning.{meaning}
 use Rattle.krl_server.specs.CodeSteps.{HaveWaiters}
-use Rattle.krl_server.proofs.Code.Boxes.{sends_more, sends_length}
-use Rattle.krl_server.proofs.Code.Rounds.{HasBegun, one_more, all_told}
-use Rattle.krl_server.proofs.Code.Listed.{round_here, left_after_turn, none_left_at_all, still_listed}
+use Rattle.krl_server.proofs.Functions.Boxes.{sends_more, sends_length}
+use Rattle.krl_server.proofs.Functions.Rounds.{HasBegun, one_more, all_told}
+use Rattle.krl_server.proofs.Functions.Listed.{round_here, left_after_turn, none_left_at_all, still_listed}
 use Rattle.krl_server.proofs.state.State.answer_waiters.Goals as goal
 
 pub send-requires : goal.send-requires

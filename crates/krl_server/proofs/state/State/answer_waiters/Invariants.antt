@@ -7,8 +7,8 @@ use Rattle.krl_server.specs.Sound.{IsSound}
 use Rattle.krl_server.specs.StateMeaning.{meaning, IsFormed}
 use Rattle.krl_server.specs.Outboxes.{Sends}
 use Rattle.krl_server.specs.CodeSteps.{HaveWaiters}
-use Rattle.krl_server.proofs.Code.Rounds.{HasBegun}
-use Rattle.krl_server.proofs.Code.Listed.{AreLeft}
+use Rattle.krl_server.proofs.Functions.Rounds.{HasBegun}
+use Rattle.krl_server.proofs.Functions.Listed.{AreLeft}
 use Rattle.krl_server.proofs.state.State.answer_waiters.Given as goal
 
 abbrev pub invariant-loop-i : goal.invariant-loop-i

@@ -3,7 +3,7 @@ use Rattle.std.proofs.Math.ListN.{drop_of_length-le}
 use Rattle.std.proofs.lemmas.List.{drop_more}
 use Rattle.krl_server.specs.StateMeaning.{meaning}
 use Rattle.krl_server.specs.CodeSteps.{HaveWaiters}
-use Rattle.krl_server.proofs.Code.CallbackLoop.{nobody_called, room_for_slot, slot_called, slots_called}
+use Rattle.krl_server.proofs.Functions.CallbackLoop.{nobody_called, room_for_slot, slot_called, slots_called}
 use Rattle.krl_server.proofs.state.State.call_back.Goals as goal
 
 pub loop-slot-init : goal.loop-slot-init

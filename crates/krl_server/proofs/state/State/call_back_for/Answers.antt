@@ -3,8 +3,8 @@ use Rattle.krl_modes.specs.Modes.{join}
 use Rattle.krl_server.specs.StateMeaning.{meaning}
 use Rattle.krl_server.specs.Outboxes.{as_list, Sends}
 use Rattle.krl_server.specs.CodeSteps.{callback_if}
-use Rattle.krl_server.proofs.Code.CallbackLoop.{IsCalled, callback_is, none_called, room_for_one, one_called}
-use Rattle.krl_server.proofs.Code.CallbackLoop.{all_called, for_is}
+use Rattle.krl_server.proofs.Functions.CallbackLoop.{IsCalled, callback_is, none_called, room_for_one, one_called}
+use Rattle.krl_server.proofs.Functions.CallbackLoop.{all_called, for_is}
 use Rattle.krl_server.proofs.state.State.call_back_for.Goals as goal
 
 -- the callback to one client is the one of the rules

@@ -1,5 +1,5 @@
 use Rattle.krl_server.specs.StateMeaning.{meaning}
-use Rattle.krl_server.proofs.Code.CallbackLoop.{IsCalled}
+use Rattle.krl_server.proofs.Functions.CallbackLoop.{IsCalled}
 use Rattle.krl_server.proofs.state.State.call_back_for.Given as goal
 
 abbrev pub invariant-loop-client : goal.invariant-loop-client

@@ -1,5 +1,5 @@
 use Rattle.std.proofs.Common.{sym, ◌∙◌}
-use Rattle.krl_server.proofs.Code.WaitersByClient.{not_malformed}
+use Rattle.krl_server.proofs.Functions.WaitersByClient.{not_malformed}
 use Rattle.krl_server.proofs.state.State.case_of.Goals as goal
 
 pub case_of_record-requires-clause-client : goal.case_of_record-requires-clause-client

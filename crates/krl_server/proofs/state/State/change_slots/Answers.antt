@@ -7,7 +7,7 @@ use Rattle.krl_table.specs.Calls.{split}
 use Rattle.krl_durable.specs.Index.{slot_of}
 use Rattle.krl_durable.specs.Writes.{index_after, written}
 use Rattle.krl_server.specs.Effects.{rows_written, rows_after}
-use Rattle.krl_server.proofs.Code.Changed.{insert_asks, delete_asks, put_after}
+use Rattle.krl_server.proofs.Functions.Changed.{insert_asks, delete_asks, put_after}
 use Rattle.krl_server.proofs.state.State.change_slots.Goals as goal
 
 -- the point of the key

@@ -1,6 +1,6 @@
 use Rattle.std.proofs.Common.{◌<◌, sym, subst, arith}
 use Rattle.krl_queue.specs.declared.waiter.Waiter.{Waiter}
-use Rattle.krl_server.proofs.Code.StateChanges.{queued_means}
+use Rattle.krl_server.proofs.Functions.StateChanges.{queued_means}
 use Rattle.krl_server.proofs.state.State.enqueue.Goals as goal
 
 pub returns-clause-queues : goal.returns-clause-queues

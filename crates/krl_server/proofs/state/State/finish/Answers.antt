@@ -2,8 +2,8 @@ use Rattle.std.proofs.Common.{sym, subst}
 use Rattle.krl_server.specs.StateMeaning.{meaning}
 use Rattle.krl_server.specs.CodeSteps.{HaveWaiters}
 use Rattle.krl_server.proofs.Invariant.AnswersSound.{answering_sound}
-use Rattle.krl_server.proofs.Code.Listed.{listed}
-use Rattle.krl_server.proofs.Code.Finishing.{finish_rests, finish_recovers, finish_answers, finish_calls, room_for_calls}
+use Rattle.krl_server.proofs.Functions.Listed.{listed}
+use Rattle.krl_server.proofs.Functions.Finishing.{finish_rests, finish_recovers, finish_answers, finish_calls, room_for_calls}
 use Rattle.krl_server.proofs.state.State.finish.Goals as goal
 
 pub returns-then-not-answers-clause-finished : goal.returns-then-not-answers-clause-finished

@@ -1,7 +1,7 @@
 use Rattle.std.proofs.Common.{sym, ◌∙◌}
 use Rattle.krl_durable.specs.Index.{slots}
 use Rattle.krl_server.specs.StateMeaning.{meaning}
-use Rattle.krl_server.proofs.Code.NudgeMessages.{one_nudged, none_nudged}
+use Rattle.krl_server.proofs.Functions.NudgeMessages.{one_nudged, none_nudged}
 use Rattle.krl_server.proofs.state.State.first_waiter_of.Goals as goal
 
 pub returns-in-Some-clause-calls : goal.returns-in-Some-clause-calls

@@ -1,7 +1,7 @@
 use Rattle.std.proofs.Common.{refl, ◌∙◌}
 use Rattle.krl_server.specs.StateMeaning.{meaning}
 use Rattle.krl_server.proofs.Grants.{taken_told}
-use Rattle.krl_server.proofs.Code.FirstTurn.{front_is}
+use Rattle.krl_server.proofs.Functions.FirstTurn.{front_is}
 use Rattle.krl_server.proofs.state.State.grant.Goals as goal
 
 pub holdings-holdings-requires-clause-slots : goal.holdings-holdings-requires-clause-slots

@@ -8,8 +8,8 @@ use Rattle.krl_server.specs.Effects.{acknowledged, queues}
 use Rattle.krl_server.specs.CodeSteps.{HasTurned}
 use Rattle.krl_server.specs.StateMeaning.{meaning}
 use Rattle.krl_server.proofs.Grants.{slot_always, taken_told}
-use Rattle.krl_server.proofs.Code.FirstTurn.{if_some, always_if_some}
-use Rattle.krl_server.proofs.Code.AtOnce.{free_here, queue_here, granted_means, granted_push, granted_turn}
+use Rattle.krl_server.proofs.Functions.FirstTurn.{if_some, always_if_some}
+use Rattle.krl_server.proofs.Functions.AtOnce.{free_here, queue_here, granted_means, granted_push, granted_turn}
 use Rattle.krl_server.proofs.state.State.grant_at_once.Goals as goal
 
 pub holdings-holdings-requires-clause-slots : goal.holdings-holdings-requires-clause-slots

@@ -1,6 +1,6 @@
 use Rattle.std.proofs.Common.{sym, ap, ◌∙◌}
 use Rattle.krl_server.specs.CodeSteps.{is_registered}
-use Rattle.krl_server.proofs.Code.NudgeMessages.{known_low}
+use Rattle.krl_server.proofs.Functions.NudgeMessages.{known_low}
 use Rattle.krl_server.proofs.state.State.is_registered.Goals as goal
 
 pub returns-in-Some-clause-client : goal.returns-in-Some-clause-client

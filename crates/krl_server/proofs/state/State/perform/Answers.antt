@@ -8,7 +8,7 @@ use Rattle.krl_server.specs.declared.case.Performed.{Performed}
 use Rattle.krl_server.specs.CodeSteps.{IsPerformed}
 use Rattle.krl_server.specs.Cases.{Judges}
 use Rattle.krl_table.specs.Waiters.{WaitsNowhere}
-use Rattle.krl_server.proofs.Code.Facts.{facts_of, waits_nowhere, performed_write, performed_again}
+use Rattle.krl_server.proofs.Functions.Facts.{facts_of, waits_nowhere, performed_write, performed_again}
 use Rattle.krl_server.proofs.state.State.perform.Goals as goal
 
 pub register-requires-clause-client : goal.register-requires-clause-client

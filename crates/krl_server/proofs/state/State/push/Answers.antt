@@ -1,5 +1,5 @@
 use Rattle.std.proofs.Common.{arith}
-use Rattle.krl_server.proofs.Code.StateChanges.{pushed_means}
+use Rattle.krl_server.proofs.Functions.StateChanges.{pushed_means}
 use Rattle.krl_server.proofs.state.State.push.Goals as goal
 
 pub returns-clause-server : goal.returns-clause-server

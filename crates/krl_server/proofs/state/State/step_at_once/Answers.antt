@@ -7,10 +7,10 @@ use Rattle.krl_server.specs.CodeSteps.{HaveWaiters}
 use Rattle.krl_server.specs.Outboxes.{Sent}
 use Rattle.krl_server.specs.StateMeaning.{meaning, meant}
 use Rattle.krl_server.specs.Steps.{ServerStep}
-use Rattle.krl_server.proofs.Code.Boxes.{sends_length}
-use Rattle.krl_server.proofs.Code.Facts.{facts_of}
-use Rattle.krl_server.proofs.Code.Listed.{listed}
-use Rattle.krl_server.proofs.Code.AtOnce.{made_at_once}
+use Rattle.krl_server.proofs.Functions.Boxes.{sends_length}
+use Rattle.krl_server.proofs.Functions.Facts.{facts_of}
+use Rattle.krl_server.proofs.Functions.Listed.{listed}
+use Rattle.krl_server.proofs.Functions.AtOnce.{made_at_once}
 use Rattle.krl_server.proofs.state.State.step_at_once.Goals as goal
 
 pub grant_at_once-requires-clause-client : goal.grant_at_once-requires-clause-client

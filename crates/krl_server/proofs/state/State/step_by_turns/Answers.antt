@@ -6,7 +6,7 @@ use Rattle.krl_server.specs.Steps.{ServerStep}
 use Rattle.krl_server.specs.Outboxes.{Sent}
 use Rattle.krl_server.proofs.Invariant.Kept.{effect_table}
 use Rattle.krl_server.proofs.Invariant.Sounds.{effect_sound}
-use Rattle.krl_server.proofs.Code.Stepped.{room_left, step_is, alarm_said}
+use Rattle.krl_server.proofs.Functions.Stepped.{room_left, step_is, alarm_said}
 use Rattle.krl_server.proofs.state.State.step_by_turns.Goals as goal
 
 pub finish-requires-clause-sound : goal.finish-requires-clause-sound

@@ -1,5 +1,5 @@
 use Rattle.krl_server.specs.StateMeaning.{meaning}
-use Rattle.krl_server.proofs.Code.Facts.{reporter}
+use Rattle.krl_server.proofs.Functions.Facts.{reporter}
 use Rattle.krl_server.proofs.state.State.take_report.Goals as goal
 
 pub report-requires-clause-client : goal.report-requires-clause-client

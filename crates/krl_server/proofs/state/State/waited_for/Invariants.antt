@@ -1,5 +1,5 @@
 use Rattle.krl_server.specs.StateMeaning.{meaning}
-use Rattle.krl_server.proofs.Code.WaitsFor.{AreFound}
+use Rattle.krl_server.proofs.Functions.WaitsFor.{AreFound}
 use Rattle.krl_server.proofs.state.State.waited_for.Given as goal
 
 abbrev pub invariant-loop-other : goal.invariant-loop-other

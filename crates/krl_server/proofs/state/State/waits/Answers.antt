@@ -1,7 +1,7 @@
 use Rattle.std.proofs.Common.{ap, ◌∙◌}
 use Rattle.std.specs.Prelude.{is_some}
 use Rattle.krl_table.specs.Kept.{rows_of}
-use Rattle.krl_server.proofs.Code.WaitersByClient.{waiter_waits}
+use Rattle.krl_server.proofs.Functions.WaitersByClient.{waiter_waits}
 use Rattle.krl_server.proofs.state.State.waits.Goals as goal
 
 pub returns : goal.returns

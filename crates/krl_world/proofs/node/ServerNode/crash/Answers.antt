@@ -1,5 +1,5 @@
 use Rattle.std.proofs.Common.{◌∙◌}
-use Rattle.krl_world.proofs.Code.Server.{crashed_at, crash_down_at}
+use Rattle.krl_world.proofs.Functions.Server.{crashed_at, crash_down_at}
 use Rattle.krl_world.proofs.node.ServerNode.crash.Goals as goal
 
 pub returns-in-Up : goal.returns-in-Up

@@ -1,5 +1,5 @@
 use Rattle.std.proofs.Common.{◌∙◌}
-use Rattle.krl_world.proofs.Code.Server.{started_at, start_refused_at, start_running_at}
+use Rattle.krl_world.proofs.Functions.Server.{started_at, start_refused_at, start_running_at}
 use Rattle.krl_world.proofs.node.ServerNode.start.Goals as goal
 
 pub returns-in-Up : goal.returns-in-Up

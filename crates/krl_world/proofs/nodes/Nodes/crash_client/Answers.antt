@@ -3,8 +3,8 @@ use Rattle.krl_steps.specs.declared.step.Step.TheVariants as step
 use Rattle.krl_steps.specs.declared.refused.Refused.TheVariants as refused
 use Rattle.krl_world.specs.Fields.{meaning}
 use Rattle.krl_world.specs.contracts.nodes.Nodes.{the_view}
-use Rattle.krl_world.proofs.Code.Lifts.{refuses, is_no_client}
-use Rattle.krl_world.proofs.Code.Places.{IsAt, is_at, crash_at, crash_none_at}
+use Rattle.krl_world.proofs.Functions.Lifts.{refuses, is_no_client}
+use Rattle.krl_world.proofs.Functions.Places.{IsAt, is_at, crash_at, crash_none_at}
 use Rattle.krl_world.proofs.nodes.Nodes.crash_client.Goals.{in-Some, in-None}
 use Rattle.krl_world.proofs.nodes.Nodes.crash_client.Goals as goal
 

@@ -4,7 +4,7 @@ use Rattle.std.specs.Prelude.{slice_get}
 use Rattle.krl_world.specs.declared.message.Message.TheVariants as message
 use Rattle.krl_world.specs.Fields.{Fields}
 use Rattle.krl_world.specs.contracts.nodes.Nodes.{the_view}
-use Rattle.krl_world.proofs.Code.Places.{is_at, read_at, read_memory_at, read_none_at, read_past}
+use Rattle.krl_world.proofs.Functions.Places.{is_at, read_at, read_memory_at, read_none_at, read_past}
 use Rattle.krl_world.proofs.nodes.Nodes.deliver_to_client.Goals as goal
 
 pub returns-then-message-len : goal.returns-then-message-len

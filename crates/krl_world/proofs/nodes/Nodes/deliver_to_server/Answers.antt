@@ -6,7 +6,7 @@ use Rattle.krl_world.specs.SeatSteps.{HasArrived}
 use Rattle.krl_world.specs.Steps.{server_down}
 use Rattle.krl_world.specs.Fields.{Fields, server_there, node_of}
 use Rattle.krl_world.specs.contracts.nodes.Nodes.{the_view}
-use Rattle.krl_world.proofs.Code.Server.{arrived_at, arrival_memory_at, lost_at}
+use Rattle.krl_world.proofs.Functions.Server.{arrived_at, arrival_memory_at, lost_at}
 use Rattle.krl_world.proofs.nodes.Nodes.deliver_to_server.Goals as goal
 
 pub returns-in_default : goal.returns-in_default

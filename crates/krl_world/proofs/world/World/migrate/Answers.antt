@@ -1,7 +1,7 @@
 use Rattle.std.proofs.Common.{sym, subst}
 use Rattle.krl_durable.specs.Migrations.{migrated}
 use Rattle.krl_world.specs.Steps.{IsReachable}
-use Rattle.krl_world.proofs.Code.Shapes.{reachable_stays}
+use Rattle.krl_world.proofs.Functions.Shapes.{reachable_stays}
 use Rattle.krl_world.proofs.world.World.migrate.Goals as goal
 
 pub invariant_of-result : goal.invariant_of-result

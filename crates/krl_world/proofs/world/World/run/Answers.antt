@@ -1,7 +1,7 @@
 use Rattle.std.proofs.Common.{arith, subst}
 use Rattle.krl_world.specs.Fields.{meaning}
 use Rattle.krl_world.specs.Steps.{Steps}
-use Rattle.krl_world.proofs.Code.Runs.{run_steps, run_ends}
+use Rattle.krl_world.proofs.Functions.Runs.{run_steps, run_ends}
 use Rattle.krl_world.proofs.world.World.run.Goals as goal
 
 pub loop-step-preserved : goal.loop-step-preserved

@@ -1,6 +1,6 @@
 use Rattle.std.proofs.Common.{◌≡◌, ◌≤◌, length, drop, vec_len, vec_capacity}
 use Rattle.krl_world.specs.Fields.{meaning}
-use Rattle.krl_world.proofs.Code.Runs.{GoesOn}
+use Rattle.krl_world.proofs.Functions.Runs.{GoesOn}
 use Rattle.krl_world.proofs.world.World.run.Given as goal
 
 -- the steps so far were taken, and there is room for the results of the others

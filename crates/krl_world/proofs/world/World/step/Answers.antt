@@ -1,4 +1,4 @@
-use Rattle.krl_world.proofs.Code.Runs.{reachable_after, compatible_after, scans_before, writes_after, bounded_after, restarts_after, goes_on_after}
+use Rattle.krl_world.proofs.Functions.Runs.{reachable_after, compatible_after, scans_before, writes_after, bounded_after, restarts_after, goes_on_after}
 use Rattle.krl_world.proofs.world.World.step.Goals as goal
 
 pub invariant_of-self : goal.invariant_of-self

@@ -16,7 +16,7 @@ use Rattle.krl_world.specs.Steps.{Steps, refusal_of, if_runs, named, command_ref
 use Rattle.krl_steps.specs.Refusals.{refused_by_client}
 use Rattle.krl_world.specs.Fields.{Fields, meaning, seats_of, kept_nobody, client_there}
 use Rattle.krl_world.specs.SeatSteps.{Does, Commanded, CommandedAt}
-use Rattle.krl_world.proofs.Code.Lifts.{takes, refuses, refuses_by, is_client, same_seat, seats_set}
+use Rattle.krl_world.proofs.Functions.Lifts.{takes, refuses, refuses_by, is_client, same_seat, seats_set}
 
 -- the client of c goes on as this one, and this was sent
 abbrev pub gone : State → ℕ → Option Client → List Message → State

@@ -10,8 +10,8 @@ use Rattle.krl_server.specs.Steps.{Acts}
 use Rattle.krl_server.specs.Sound.{IsSound}
 use Rattle.krl_server.specs.Outboxes.{Sent, Sends}
 use Rattle.krl_server.specs.CodeSteps.{HasAnswered, calls_after, rests, still_recovering, served, HasFinished, HasRoom}
-use Rattle.krl_server.proofs.Code.Boxes.{sends_more, sends_length}
-use Rattle.krl_server.proofs.Code.CallbackLoop.{same_box}
+use Rattle.krl_server.proofs.Functions.Boxes.{sends_more, sends_length}
+use Rattle.krl_server.proofs.Functions.CallbackLoop.{same_box}
 use Rattle.krl_server.proofs.Outputs.Ends.{answered_less}
 use Rattle.krl_server.proofs.Outputs.Numbers.{calls_few}
 

@@ -16,8 +16,8 @@ use Rattle.krl_world.specs.States.{State, Seat, client_of, set_seat, from_client
 use Rattle.krl_world.specs.Steps.{Steps, if_runs, refusal_of, Delivers, ClientReads, Arrives}
 use Rattle.krl_world.specs.Fields.{seats_of, seat_of, kept_nobody}
 use Rattle.krl_world.specs.SeatSteps.{IsRefused, Started, Ticked, HasRead, starting_refusal}
-use Rattle.krl_world.proofs.Code.Lifts.{takes, refuses, refuses_by, lacks_memory, is_client, same_seat}
-use Rattle.krl_world.proofs.Code.Commands.{gone, gone_by, gone_nowhere}
+use Rattle.krl_world.proofs.Functions.Lifts.{takes, refuses, refuses_by, lacks_memory, is_client, same_seat}
+use Rattle.krl_world.proofs.Functions.Commands.{gone, gone_by, gone_nowhere}
 
 -- Ticks
 

@@ -20,10 +20,10 @@ use Rattle.krl_server.specs.Outboxes.{Sent, Sends}
 use Rattle.krl_server.specs.CodeSteps.{callback_if}
 use Rattle.std.specs.FinMap as fin
 use Rattle.krl_server.proofs.Invariant.Tabled.{slots_have}
-use Rattle.krl_server.proofs.Code.Boxes.{sends_more, sends_length}
+use Rattle.krl_server.proofs.Functions.Boxes.{sends_more, sends_length}
 use Rattle.krl_server.proofs.Outputs.Numbers.{sixty_four}
-use Rattle.krl_server.proofs.Code.FirstTurn.{front_is}
-use Rattle.krl_server.proofs.Code.Rounds.{Ascends, slots_ascend}
+use Rattle.krl_server.proofs.Functions.FirstTurn.{front_is}
+use Rattle.krl_server.proofs.Functions.Rounds.{Ascends, slots_ascend}
 
 -- the callback to one client, by what was looked up
 pub callback_is : (s : Server) (n : ℕ) (u : Waiter) (d : ℕ) (w held : Mode) (span : Bounds) (more : List ToClient)

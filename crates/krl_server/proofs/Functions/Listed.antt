@@ -12,7 +12,7 @@ use Rattle.krl_table.specs.Sound.{IsTable}
 use Rattle.krl_messages.specs.declared.to_client.ToClient.{ToClient}
 use Rattle.krl_server.specs.CodeSteps.{HasTurned, HaveWaiters}
 use Rattle.krl_server.proofs.Outputs.Ends.{turn_durable, turn_empties}
-use Rattle.krl_server.proofs.Code.Rounds.{NoneBelow, IsRound, round, none_at_all}
+use Rattle.krl_server.proofs.Functions.Rounds.{NoneBelow, IsRound, round, none_at_all}
 
 -- as the table finds them
 pub listed : (st : State) (from : ℕ) (ns : List ℕ) → AreWaiting (meaning st).rows from ns → AllByRecursion (λ n. is_slot st.durable.index n ≡ true) ns → HaveWaiters (meaning st) from ns

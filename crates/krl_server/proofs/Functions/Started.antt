@@ -25,7 +25,7 @@ use Rattle.krl_server.proofs.Outputs.Numbers.{all_end}
 use Rattle.krl_server.specs.Ranges.{IsWithin, AreRegistered}
 use Rattle.krl_server.proofs.Invariant.Kept.{server_keeps}
 use Rattle.krl_server.proofs.Invariant.Within.{all_within}
-use Rattle.krl_server.proofs.Code.Known.{durable_within}
+use Rattle.krl_server.proofs.Functions.Known.{durable_within}
 
 module _ (d : Durable) (st : State) (lt : d.epoch < END) (durable : st.durable ≡ record d { epoch = suc d.epoch }) (rows : (n : ℕ) → rows_of st.table n ≡ blank_row) (over : IsOver d.index st.table) (full : length st.sessions ≡ 64) (sessions : (c : ℕ) → sessions_of st.sessions c ≡ blank_session) (missing : st.missing ≡ missing_order d.register) where
   means_start : meaning st ≡ start d

@@ -19,7 +19,7 @@ use Rattle.krl_server.specs.Effects.{with_rows, holdings, push_to}
 use Rattle.krl_server.specs.Answering.{Turn, can_push, is_answerable, turn_at, tells_absent, grants}
 use Rattle.krl_server.specs.Outboxes.{as_list}
 use Rattle.krl_server.specs.CodeSteps.{turn_here, HasTurned}
-use Rattle.krl_server.proofs.Code.StateChanges.{pushes_next}
+use Rattle.krl_server.proofs.Functions.StateChanges.{pushes_next}
 
 -- the first of a list
 pub front_is : (us : List Waiter) (u : Waiter) → front_of us ≡ Some u → us ≡ u ∷ behind_first us

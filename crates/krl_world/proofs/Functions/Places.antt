@@ -18,9 +18,9 @@ use Rattle.krl_world.specs.States.{client_of}
 use Rattle.krl_world.specs.Steps.{Steps}
 use Rattle.krl_world.specs.Fields.{Fields, meaning, seat_of, kept_nobody, client_there}
 use Rattle.krl_world.specs.SeatSteps.{IsRefused, CommandedAt, Started, Ticked, HasRead, starting_refusal}
-use Rattle.krl_world.proofs.Code.Lifts.{seats_set, unchanged_by}
-use Rattle.krl_world.proofs.Code.Commands.{gone, gone_fields, command_steps}
-use Rattle.krl_world.proofs.Code.Seats as seats
+use Rattle.krl_world.proofs.Functions.Lifts.{seats_set, unchanged_by}
+use Rattle.krl_world.proofs.Functions.Commands.{gone, gone_fields, command_steps}
+use Rattle.krl_world.proofs.Functions.Seats as seats
 
 -- the seat of a client number
 pub record IsAt (w : Fields) (c : ℕ) (x : KeptSeat) : Type 0 where

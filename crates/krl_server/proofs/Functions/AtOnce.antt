@@ -38,16 +38,16 @@ use Rattle.krl_server.specs.Sound.{IsSound}
 use Rattle.krl_server.specs.Outboxes.{as_list}
 use Rattle.krl_server.specs.CodeSteps.{turn_here, HasTurned, IsServer, waiting_clients}
 use Rattle.krl_server.proofs.Updates.{row_here, row_other, session_here, session_other}
-use Rattle.krl_server.proofs.Code.StateChanges.{sessions_set, set_twice}
+use Rattle.krl_server.proofs.Functions.StateChanges.{sessions_set, set_twice}
 use Rattle.krl_server.proofs.Grants.{slot_always}
-use Rattle.krl_server.proofs.Code.FirstTurn.{turned_grant}
-use Rattle.krl_server.proofs.Code.Rounds.{IsRound, round, empty_none, none_among, none_here, still_none, turn_can, turn_row_beside}
+use Rattle.krl_server.proofs.Functions.FirstTurn.{turned_grant}
+use Rattle.krl_server.proofs.Functions.Rounds.{IsRound, round, empty_none, none_among, none_here, still_none, turn_can, turn_row_beside}
 use Rattle.krl_server.proofs.Outputs.Ends.{turn_durable, turn_empties, turn_empties_here}
 use Rattle.krl_server.proofs.Invariant.Sounds.{effect_sound}
 use Rattle.krl_server.proofs.Invariant.Kept.{effect_table}
 use Rattle.krl_server.proofs.Invariant.WaitersAfter.{all_came}
-use Rattle.krl_server.proofs.Code.Facts.{facts_of, waits_nowhere}
-use Rattle.krl_server.proofs.Code.Rooms.{in_first, few_waiting, one_more_client}
+use Rattle.krl_server.proofs.Functions.Facts.{facts_of, waits_nowhere}
+use Rattle.krl_server.proofs.Functions.Rooms.{in_first, few_waiting, one_more_client}
 use Rattle.krl_server.proofs.Outputs.Numbers.{calls_few}
 
 not_true : (b : Bool) → true ≡ not b → b ≡ false

@@ -22,9 +22,9 @@ use Rattle.krl_server.specs.Sound.{IsSound}
 use Rattle.krl_server.specs.Outboxes.{Sent, Sends}
 use Rattle.krl_server.specs.CodeSteps.{own_of, room_for, waiting_clients, calls_after, Finished, rests, still_recovering, served, HasRoom, alarm_of}
 use Rattle.krl_server.proofs.Outputs.Numbers.{answers_few}
-use Rattle.krl_server.proofs.Code.Boxes.{sends_length}
+use Rattle.krl_server.proofs.Functions.Boxes.{sends_length}
 use Rattle.krl_server.proofs.Invariant.WaitersAfter.{asks, all_came}
-use Rattle.krl_server.proofs.Code.Rooms.{few_waiting, no_more_clients, one_more_client}
+use Rattle.krl_server.proofs.Functions.Rooms.{few_waiting, no_more_clients, one_more_client}
 use Rattle.krl_server.proofs.Invariant.Sounds.{effect_sound}
 use Rattle.krl_server.proofs.Invariant.Kept.{effect_table}
 

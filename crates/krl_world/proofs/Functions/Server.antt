@@ -26,8 +26,8 @@ use Rattle.krl_steps.specs.declared.refused.Refused.TheVariants as refused
 use Rattle.krl_world.specs.States.{State, ServerNode, Up, Down, from_server, served}
 use Rattle.krl_world.specs.Steps.{Steps, message_at, refused_by_server, refusal_of, server_down, server_start, nudged, started, crashed, ServerReads}
 use Rattle.krl_world.specs.SeatSteps.{HasServed, HasArrived}
-use Rattle.krl_world.proofs.Code.Lifts.{takes, refuses, lacks_memory, is_client}
-use Rattle.krl_world.proofs.Code.Seats.{delivered, delivery_memory}
+use Rattle.krl_world.proofs.Functions.Lifts.{takes, refuses, lacks_memory, is_client}
+use Rattle.krl_world.proofs.Functions.Seats.{delivered, delivery_memory}
 
 -- Messages
 

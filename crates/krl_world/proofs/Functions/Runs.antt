@@ -13,7 +13,7 @@ use Rattle.krl_world.specs.Promises.{IsCompatible, ScansIndex, WritesOnce}
 use Rattle.krl_world.specs.Bounds.{Bound, HasBound, IsBounded, HoldsOverRestarts}
 use Rattle.krl_world.proofs.Promises.Kept.{headline_holds, bounded_holds, restarts_holds}
 use Rattle.krl_world.specs.Laws.{CanGoOn}
-use Rattle.krl_world.proofs.Code.Shapes.{reachable_stays}
+use Rattle.krl_world.proofs.Functions.Shapes.{reachable_stays}
 use Rattle.krl_world.proofs.Progress.CanGoOn.{can_go_on}
 
 -- a step from one world to the next, of which the first is reachable

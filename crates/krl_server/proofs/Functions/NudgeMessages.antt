@@ -26,7 +26,7 @@ use Rattle.krl_server.specs.Termination.{most_messages}
 use Rattle.krl_server.specs.CodeSteps.{is_registered, calls_at_first}
 use Rattle.krl_server.proofs.Outputs.Numbers.{nudge_few}
 use Rattle.krl_server.proofs.Outputs.Counted.{slots_apart}
-use Rattle.krl_server.proofs.Code.FirstTurn.{front_is, front_none}
+use Rattle.krl_server.proofs.Functions.FirstTurn.{front_is, front_none}
 
 -- a first waiter that is not the client's
 other_first : (s : Server) (c n : ℕ) (us : List Waiter) → first_of c us ≡ None → callbacks_of c s n us ≡ []
