@@ -31,7 +31,7 @@ use Rattle.krl_server.specs.Answering.{Turn, turn_at, answer_first, Answered}
 use Rattle.krl_queue.specs.declared.waiter.Waiter.{Waiter}
 use Rattle.krl_server.specs.Callbacks.{is_compatible, callbacks_for, callbacks_of, callbacks}
 use Rattle.krl_server.specs.Steps.{ServerStep, IsSettled, alarms, start, can_start}
-use Rattle.krl_server.specs.Sound.{IsSound}
+use Rattle.krl_server.specs.Soundness.{IsSound}
 use Rattle.krl_server.specs.Invariant.{IsOrdered}
 use Rattle.krl_server.specs.Ranges.{IsWithin, AreRegistered}
 

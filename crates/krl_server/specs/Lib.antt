@@ -8,7 +8,7 @@ pub mod Changes
 pub mod Answering
 pub mod Callbacks
 pub mod Steps
-pub mod Sound
+pub mod Soundness
 pub mod CodeSteps
 pub mod Replays
 pub mod Invariant

@@ -16,7 +16,7 @@ use Rattle.krl_server.specs.Cases.{case_of}
 use Rattle.krl_server.specs.Effects.{effect}
 use Rattle.krl_server.specs.Answering.{Turn, answer_first}
 use Rattle.krl_server.specs.Steps.{ServerStep, start, can_start}
-use Rattle.krl_server.specs.Sound.{IsSound}
+use Rattle.krl_server.specs.Soundness.{IsSound}
 
 -- no number stands twice
 abbrev pub AreApart : List ℕ → Type 0

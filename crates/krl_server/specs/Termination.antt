@@ -8,7 +8,7 @@ use Rattle.krl_table.specs.Sound.{IsTable}
 use Rattle.krl_server.specs.Servers.{Server, is_recovering}
 use Rattle.krl_server.specs.Answering.{Answered}
 use Rattle.krl_server.specs.Steps.{ServerStep, IsSettled, nudge}
-use Rattle.krl_server.specs.Sound.{IsSound}
+use Rattle.krl_server.specs.Soundness.{IsSound}
 
 -- how many wait on these slots
 abbrev pub waiting_on : Rows → List ℕ → ℕ

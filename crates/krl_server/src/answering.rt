@@ -8,7 +8,7 @@ ghost use Rattle.krl_server.specs.Outboxes.{as_list};
 ghost use Rattle.krl_server.specs.Answering.{grants, tells_absent};
 ghost use Rattle.krl_server.specs.StateMeaning.{meaning, IsFormed};
 ghost use Rattle.krl_server.specs.Termination.{waiting};
-ghost use Rattle.krl_server.specs.Sound.{IsSound};
+ghost use Rattle.krl_server.specs.Soundness.{IsSound};
 ghost use Rattle.krl_server.specs.CodeSteps.{turn_here, HasTurned, HasAnswered, HaveWaiters};
 
 use crate::out::Outbox;

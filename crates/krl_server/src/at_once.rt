@@ -4,7 +4,7 @@ ghost use Rattle.krl_durable.specs.Index.{slot_of};
 ghost use Rattle.krl_server.specs.Cases.{case_of};
 ghost use Rattle.krl_server.specs.Effects.{acknowledged, queues};
 ghost use Rattle.krl_server.specs.CodeSteps.{IsServer, HasTurned, HasStepped};
-ghost use Rattle.krl_server.specs.Sound.{IsSound};
+ghost use Rattle.krl_server.specs.Soundness.{IsSound};
 ghost use Rattle.krl_server.specs.StateMeaning.{meaning, meant, IsFormed};
 
 use crate::case::Case;

@@ -3,7 +3,7 @@ ghost use Rattle.std.specs.Prelude.{◌≡◌, ◌≤◌, ◌<◌, ◌+◌, ◌|
 ghost use Rattle.std.specs.Prelude.{if◌then◌else◌};
 ghost use Rattle.krl_table.specs.Replies.{asks_absent};
 ghost use Rattle.krl_server.specs.Callbacks.{callbacks_for, callbacks_at, callbacks};
-ghost use Rattle.krl_server.specs.Sound.{IsSound};
+ghost use Rattle.krl_server.specs.Soundness.{IsSound};
 ghost use Rattle.krl_modes.specs.Modes.{compatible, cap};
 ghost use Rattle.krl_table.specs.Kept.{mode_of};
 ghost use Rattle.krl_server.specs.Effects.{callback_to};

@@ -4,7 +4,7 @@ ghost use Rattle.std.specs.Prelude.{IsSome, IfSome};
 ghost use Rattle.std.specs.FinMap as map;
 ghost use Rattle.krl_server.specs.StateMeaning.{meaning, meant, case_of_pieces, after_of, IsFormed};
 ghost use Rattle.krl_table.specs.Sound.{IsTable};
-ghost use Rattle.krl_server.specs.Sound.{IsSound};
+ghost use Rattle.krl_server.specs.Soundness.{IsSound};
 ghost use Rattle.krl_server.specs.Cases.{case_of};
 ghost use Rattle.krl_server.specs.Effects.{effect};
 ghost use Rattle.krl_server.specs.Changes.{change_of};

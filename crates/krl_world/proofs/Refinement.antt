@@ -1,6 +1,5 @@
 -- Each step of a world is some steps of the machine.
 pub mod Mirrors
-pub mod Letters
 pub mod Growing
 pub mod Calling
 pub mod Serves

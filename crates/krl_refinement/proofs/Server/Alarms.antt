@@ -25,7 +25,7 @@ use Rattle.krl_protocol.proofs.Runs.{never_alarms}
 use Rattle.krl_protocol.proofs.Tables.{slots_agree}
 use Rattle.krl_protocol.specs.Tables as machine
 use Rattle.krl_server.specs.Servers.{Server, lists}
-use Rattle.krl_server.specs.Sound.{IsSound}
+use Rattle.krl_server.specs.Soundness.{IsSound}
 use Rattle.krl_refinement.specs.Messages.{report_of, Stands}
 use Rattle.krl_refinement.specs.Server.AsLinks.{IsRecord, machine_phase, view, Shows, world_of}
 use Rattle.krl_refinement.proofs.Server.Follows.{listed_phase}

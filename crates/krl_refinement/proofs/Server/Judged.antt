@@ -25,7 +25,7 @@ use Rattle.krl_protocol.specs.Links as links
 use Rattle.krl_protocol.proofs.Refines as refines
 use Rattle.krl_server.specs.Servers.{Server}
 use Rattle.krl_server.specs.Effects.{shown, holding, holdings, acknowledged, answers}
-use Rattle.krl_server.specs.Sound.{IsSound}
+use Rattle.krl_server.specs.Soundness.{IsSound}
 use Rattle.krl_server.proofs.Slots.{slot_here, slot_high, span_here}
 use Rattle.krl_server.proofs.Updates.{session_here}
 use Rattle.krl_server.proofs.Invariant.AnswersSound.{pushes_serve, acknowledged_sound}

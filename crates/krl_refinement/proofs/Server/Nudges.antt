@@ -16,7 +16,7 @@ use Rattle.krl_server.specs.Servers.{Server, is_recovering, lists}
 use Rattle.krl_server.specs.Effects.{epoch_to, push_to}
 use Rattle.krl_server.specs.Callbacks.{callbacks_for, callbacks_of, callbacks_of_among}
 use Rattle.krl_server.specs.Steps.{nudge_served, nudge_missing, nudge_known}
-use Rattle.krl_server.specs.Sound.{IsSound}
+use Rattle.krl_server.specs.Soundness.{IsSound}
 use Rattle.krl_refinement.specs.Messages.{WasSent}
 use Rattle.krl_refinement.specs.Server.AsLinks.{Shows, world_of}
 use Rattle.krl_refinement.specs.Server.Simulation.{Follows, BoundStays, NudgeFollows}

@@ -17,7 +17,7 @@ use Rattle.krl_protocol.specs.Tables as machine
 use Rattle.krl_server.specs.Servers.{Server, lists}
 use Rattle.krl_server.specs.Cases.{Rebuilds}
 use Rattle.krl_server.specs.Effects.{effect, adopts}
-use Rattle.krl_server.specs.Sound.{IsSound}
+use Rattle.krl_server.specs.Soundness.{IsSound}
 use Rattle.krl_server.proofs.Points.{same_range, same_key}
 use Rattle.krl_server.proofs.Updates.{unlist_here, unlist_other}
 use Rattle.krl_server.proofs.Invariant.RowsSound.{adopted_others, adopted_queue}

@@ -16,7 +16,7 @@ use Rattle.krl_protocol.proofs.Steps.{put, put_changed, heard_kept, link_steps}
 use Rattle.krl_server.specs.declared.session.Session.{Session}
 use Rattle.krl_server.specs.Servers.{Server, lists, set_session}
 use Rattle.krl_server.specs.Effects.{acknowledged, writes, answers}
-use Rattle.krl_server.specs.Sound.{IsSound}
+use Rattle.krl_server.specs.Soundness.{IsSound}
 use Rattle.krl_server.proofs.Updates.{session_here, record_here, record_other}
 use Rattle.krl_server.proofs.Invariant.AnswersSound.{pushes_serve}
 use Rattle.krl_server.proofs.Invariant.WritesSound.{with_noted, refusal_is}

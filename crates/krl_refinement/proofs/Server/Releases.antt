@@ -23,7 +23,7 @@ use Rattle.krl_protocol.specs.Tables as machine
 use Rattle.krl_server.specs.declared.session.Session.{Session}
 use Rattle.krl_server.specs.Servers.{Server, is_recovering, lists, set_session}
 use Rattle.krl_server.specs.Effects.{silent, acknowledged, lowers}
-use Rattle.krl_server.specs.Sound.{IsSound}
+use Rattle.krl_server.specs.Soundness.{IsSound}
 use Rattle.krl_server.proofs.Slots.{span_here}
 use Rattle.krl_server.proofs.Points.{same_range, same_key}
 use Rattle.krl_server.proofs.Updates.{mode_here, session_here}

@@ -11,7 +11,7 @@ use Rattle.krl_protocol.specs.Links.{Link, no_range, no_key}
 use Rattle.krl_protocol.specs.Worlds.{Logged, IsMissing, crash, start, finish, Steps, none, more}
 use Rattle.krl_server.specs.Servers.{Server, blank_session, is_recovering, lists}
 use Rattle.krl_server.specs.Steps.{can_start}
-use Rattle.krl_server.specs.Sound.{IsSound}
+use Rattle.krl_server.specs.Soundness.{IsSound}
 use Rattle.krl_server.proofs.Points.{blank_range, blank_key}
 use Rattle.krl_server.proofs.Tests.{not_truth}
 use Rattle.krl_server.proofs.Invariant.RowsSound.{start_sound}

@@ -11,7 +11,7 @@ use Rattle.krl_protocol.proofs.Worlds.{eq_cases, WorldInv}
 use Rattle.krl_protocol.proofs.Steps.{steps_on, world_steps}
 use Rattle.krl_server.specs.Servers.{Server, is_recovering}
 use Rattle.krl_server.specs.Answering.{answer_first, Answered, stops, goes_on}
-use Rattle.krl_server.specs.Sound.{IsSound}
+use Rattle.krl_server.specs.Soundness.{IsSound}
 use Rattle.krl_server.proofs.Tests.{not_truth}
 use Rattle.krl_server.proofs.Invariant.AnswersSound.{turn_sound, turn_missing, answered_up}
 use Rattle.krl_refinement.specs.Messages.{WasSent}

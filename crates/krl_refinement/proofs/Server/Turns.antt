@@ -28,7 +28,7 @@ use Rattle.krl_protocol.specs.Tables as machine
 use Rattle.krl_server.specs.Servers.{Server, lists}
 use Rattle.krl_server.specs.Effects.{with_rows, holdings, pushes}
 use Rattle.krl_server.specs.Answering.{can_push, Turn, next_turn, answer_first}
-use Rattle.krl_server.specs.Sound.{IsSound}
+use Rattle.krl_server.specs.Soundness.{IsSound}
 use Rattle.krl_server.proofs.Slots.{slot_here, slot_high, is_slot_true, is_slot_false}
 use Rattle.krl_server.proofs.Points.{same_range, same_key}
 use Rattle.krl_server.proofs.Updates.{row_here, row_other, mode_here, mode_other, row_modes}

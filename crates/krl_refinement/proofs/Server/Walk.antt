@@ -22,7 +22,7 @@ use Rattle.krl_protocol.proofs.Runs.{reachable_inv}
 use Rattle.krl_server.specs.Servers.{Server, lists}
 use Rattle.krl_server.specs.Cases.{Case, Ignored, Registers, Leaves, Tells, Rebuilds, Repeats, Acknowledges, Lowers, Waits, Judges, AnswersAgain, judged, case_of, is_alarm, clears}
 use Rattle.krl_server.specs.Effects.{effect}
-use Rattle.krl_server.specs.Sound.{IsSound}
+use Rattle.krl_server.specs.Soundness.{IsSound}
 use Rattle.krl_server.proofs.Tests.{not_truth}
 use Rattle.krl_server.proofs.Cased.{IsFrom, IsAsked, by_said}
 use Rattle.krl_refinement.specs.Messages.{head_of, RequestStands, Stands}

@@ -14,7 +14,7 @@ use Rattle.krl_server.specs.Servers.{Server, is_recovering}
 use Rattle.krl_server.specs.Cases.{case_of, clears}
 use Rattle.krl_server.specs.Effects.{effect}
 use Rattle.krl_server.specs.Steps.{calls_of, kind_of, at_once, recovers, serves, ServerStep}
-use Rattle.krl_server.specs.Sound.{IsSound}
+use Rattle.krl_server.specs.Soundness.{IsSound}
 use Rattle.krl_server.proofs.Tests.{not_truth}
 use Rattle.krl_server.proofs.Invariant.AnswersSound.{answering_sound, answered_up}
 use Rattle.krl_server.proofs.Invariant.Sounds.{effect_sound}

@@ -31,7 +31,7 @@ use Rattle.krl_server.specs.declared.session.Session.{Session}
 use Rattle.krl_server.specs.Servers.{Server, lists, set_session}
 use Rattle.krl_server.specs.Effects.{acknowledged, rows_written, answers, effect}
 use Rattle.krl_server.specs.Cases.{Judges, judged}
-use Rattle.krl_server.specs.Sound.{IsSound}
+use Rattle.krl_server.specs.Soundness.{IsSound}
 use Rattle.krl_server.proofs.Updates.{session_here}
 use Rattle.krl_server.proofs.Invariant.AnswersSound.{pushes_serve, acknowledged_sound}
 use Rattle.krl_server.proofs.Tests.{none_some, some_of}

@@ -14,7 +14,7 @@ use Rattle.krl_durable.specs.Registers.{Durable, missing_order}
 use Rattle.krl_server.specs.Servers.{Server, is_recovering}
 use Rattle.krl_server.specs.Cases.{case_of, clears}
 use Rattle.krl_server.specs.Steps.{ServerStep, alarms, nudge, start, can_start}
-use Rattle.krl_server.specs.Sound.{IsSound}
+use Rattle.krl_server.specs.Soundness.{IsSound}
 use Rattle.krl_refinement.specs.Messages.{Stands, WasSent}
 use Rattle.krl_refinement.specs.Server.AsLinks.{Shows, world_of, DurableShows, down_world_of, logged}
 

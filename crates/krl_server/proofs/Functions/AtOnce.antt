@@ -34,7 +34,7 @@ use Rattle.krl_server.specs.Effects.{with_rows, acknowledged, queues, holdings, 
 use Rattle.krl_server.specs.Answering.{can_push, next_turn, answer_first, grants, Answered, stops, goes_on}
 use Rattle.krl_server.specs.Callbacks.{callbacks}
 use Rattle.krl_server.specs.Steps.{Acts, Ends, serves, kind_of, ServerStep}
-use Rattle.krl_server.specs.Sound.{IsSound}
+use Rattle.krl_server.specs.Soundness.{IsSound}
 use Rattle.krl_server.specs.Outboxes.{as_list}
 use Rattle.krl_server.specs.CodeSteps.{turn_here, HasTurned, IsServer, waiting_clients}
 use Rattle.krl_server.proofs.Updates.{row_here, row_other, session_here, session_other}

@@ -7,7 +7,7 @@ use Rattle.krl_server.specs.Afters.{does_answer, does_call}
 use Rattle.krl_server.specs.Servers.{Server, is_recovering}
 use Rattle.krl_server.specs.Callbacks.{callbacks}
 use Rattle.krl_server.specs.Steps.{Acts}
-use Rattle.krl_server.specs.Sound.{IsSound}
+use Rattle.krl_server.specs.Soundness.{IsSound}
 use Rattle.krl_server.specs.Outboxes.{Sent, Sends}
 use Rattle.krl_server.specs.CodeSteps.{HasAnswered, calls_after, rests, still_recovering, served, HasFinished, HasRoom}
 use Rattle.krl_server.proofs.Functions.Boxes.{sends_more, sends_length}

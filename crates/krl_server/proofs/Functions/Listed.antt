@@ -7,7 +7,7 @@ use Rattle.krl_server.specs.declared.state.State.{State}
 use Rattle.krl_server.specs.StateMeaning.{meaning}
 use Rattle.krl_server.specs.Servers.{Server}
 use Rattle.krl_server.specs.Answering.{Turn, next_turn, answer_first}
-use Rattle.krl_server.specs.Sound.{IsSound}
+use Rattle.krl_server.specs.Soundness.{IsSound}
 use Rattle.krl_table.specs.Sound.{IsTable}
 use Rattle.krl_messages.specs.declared.to_client.ToClient.{ToClient}
 use Rattle.krl_server.specs.CodeSteps.{HasTurned, HaveWaiters}

@@ -21,7 +21,7 @@ use Rattle.std.proofs.lemmas.Option.{none-some}
 use Rattle.krl_durable.specs.declared.record.Record.{Record}
 use Rattle.krl_durable.specs.Registers.{Register, record_of}
 use Rattle.krl_server.specs.Steps.{nudge, nudge_known, nudge_missing, nudge_served}
-use Rattle.krl_server.specs.Sound.{IsSound}
+use Rattle.krl_server.specs.Soundness.{IsSound}
 use Rattle.krl_server.specs.Termination.{most_messages}
 use Rattle.krl_server.specs.CodeSteps.{is_registered, calls_at_first}
 use Rattle.krl_server.proofs.Outputs.Numbers.{nudge_few}

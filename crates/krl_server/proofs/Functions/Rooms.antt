@@ -14,7 +14,7 @@ use Rattle.krl_table.specs.Sound.{IsTable}
 use Rattle.krl_server.specs.Servers.{Server}
 use Rattle.krl_server.specs.Cases.{Case}
 use Rattle.krl_server.specs.Effects.{effect}
-use Rattle.krl_server.specs.Sound.{IsSound}
+use Rattle.krl_server.specs.Soundness.{IsSound}
 use Rattle.krl_server.specs.Termination.{waiting}
 use Rattle.krl_server.specs.CodeSteps.{count_below, waiting_clients}
 use Rattle.krl_server.proofs.Invariant.Tabled.{slots_have}

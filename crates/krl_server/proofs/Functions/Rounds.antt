@@ -25,7 +25,7 @@ use Rattle.krl_server.specs.Servers.{Server, set_session}
 use Rattle.krl_server.specs.Effects.{Done, with_session, with_rows, push_to, pushes, silent, holdings}
 use Rattle.krl_server.specs.Answering.{Turn, can_push, is_answerable, turn_at, turn_among, next_turn, tells_absent, grants, answer_first, Answered, goes_on, stops}
 use Rattle.krl_server.specs.Termination.{waiting}
-use Rattle.krl_server.specs.Sound.{IsSound}
+use Rattle.krl_server.specs.Soundness.{IsSound}
 use Rattle.krl_server.specs.CodeSteps.{turn_here, HasTurned}
 use Rattle.krl_durable.proofs.Slots.{Rises}
 use Rattle.krl_durable.proofs.SlotLaws.{from_above, keys_of_map_rise}

@@ -16,7 +16,7 @@ use Rattle.krl_server.specs.declared.out.ServerOut.{ServerOut}
 use Rattle.krl_server.specs.Servers.{Server, blank_session}
 use Rattle.krl_server.specs.StateMeaning.{meaning, sessions_of, IsFormed}
 use Rattle.krl_server.specs.Steps.{ServerStep, start, IsSettled}
-use Rattle.krl_server.specs.Sound.{IsSound}
+use Rattle.krl_server.specs.Soundness.{IsSound}
 use Rattle.krl_server.specs.Invariant.{IsOrdered}
 use Rattle.std.specs.Prelude.{Result, Ok, Err, IfOk, OnOk, OnErr}
 use Rattle.krl_server.specs.Termination.{most_messages}

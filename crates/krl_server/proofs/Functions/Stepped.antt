@@ -18,7 +18,7 @@ use Rattle.krl_server.specs.Effects.{Done, effect, acknowledged, writes}
 use Rattle.krl_server.specs.Steps.{Kind, Idle, Quiet, Acts, kind_of, calls_of, Ends, at_once, recovers, serves}
 use Rattle.krl_server.specs.StateMeaning.{meant, case_of_pieces, after_of}
 use Rattle.krl_server.specs.Termination.{waiting}
-use Rattle.krl_server.specs.Sound.{IsSound}
+use Rattle.krl_server.specs.Soundness.{IsSound}
 use Rattle.krl_server.specs.Outboxes.{Sent, Sends}
 use Rattle.krl_server.specs.CodeSteps.{own_of, room_for, waiting_clients, calls_after, Finished, rests, still_recovering, served, HasRoom, alarm_of}
 use Rattle.krl_server.proofs.Outputs.Numbers.{answers_few}

@@ -13,7 +13,7 @@ use Rattle.krl_table.specs.Grants.{taken_after, taken, granted, most_more}
 use Rattle.krl_table.specs.Replies.{asks_absent}
 use Rattle.krl_server.specs.Servers.{Server, is_recovering}
 use Rattle.krl_server.specs.Effects.{Done, acknowledged, pushes, with_rows, holdings}
-use Rattle.krl_server.specs.Sound.{IsSound}
+use Rattle.krl_server.specs.Soundness.{IsSound}
 use Rattle.krl_server.proofs.Tests.{if_both}
 use Rattle.krl_server.specs.Answering.{Turn, next_turn, tells_absent, grants, answer_first, Answered, stops, goes_on}
 use Rattle.krl_server.proofs.Updates.{mode_other, row_modes}

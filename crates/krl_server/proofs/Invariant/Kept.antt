@@ -30,7 +30,7 @@ use Rattle.krl_server.specs.Effects as effects
 use Rattle.krl_server.specs.Effects.{Done, acknowledged, rows_after, pushes, effect}
 use Rattle.krl_server.specs.Answering.{Turn, turn_among, next_turn, answer_first, tells_absent, grants, can_push, Answered, stops, goes_on}
 use Rattle.krl_server.specs.Steps.{Kind, Idle, kind_of, Ends, at_once, recovers, serves, IsSettled, start}
-use Rattle.krl_server.specs.Sound.{IsSound}
+use Rattle.krl_server.specs.Soundness.{IsSound}
 use Rattle.krl_server.specs.Invariant.{ServerKeeps}
 use Rattle.krl_server.proofs.Updates.{record_here, record_other}
 use Rattle.krl_server.proofs.Tests.{not_truth, if_case}

@@ -22,7 +22,7 @@ use Rattle.krl_server.specs.Effects as effects
 use Rattle.krl_server.specs.Effects.{Done, acknowledged, effect}
 use Rattle.krl_server.specs.Answering.{Turn, answer_first, tells_absent, grants, Answered, stops, goes_on}
 use Rattle.krl_server.specs.Steps.{Kind, kind_of, Ends, at_once, recovers, serves, ServerStep}
-use Rattle.krl_server.specs.Sound.{IsSound}
+use Rattle.krl_server.specs.Soundness.{IsSound}
 use Rattle.krl_server.specs.Ranges.{IsRegistered, AreRegistered}
 use Rattle.krl_server.proofs.Updates.{record_here, record_other}
 use Rattle.krl_server.proofs.Tests.{if_both}

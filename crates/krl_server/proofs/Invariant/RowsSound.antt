@@ -15,7 +15,7 @@ use Rattle.krl_table.specs.Calls.{with_mode, lowered}
 use Rattle.krl_table.specs.Reports.{rebuilt, adopted}
 use Rattle.krl_server.specs.Servers.{Server}
 use Rattle.krl_server.specs.Effects.{lowers, adopts}
-use Rattle.krl_server.specs.Sound.{IsSound}
+use Rattle.krl_server.specs.Soundness.{IsSound}
 use Rattle.krl_server.proofs.Updates.{mode_other}
 use Rattle.krl_server.specs.Steps as steps
 

@@ -21,7 +21,7 @@ use Rattle.krl_server.specs.Servers.{Server}
 use Rattle.krl_server.specs.Cases.{Judges, judged, case_of}
 use Rattle.krl_server.specs.Effects as effects
 use Rattle.krl_server.specs.Effects.{effect, acknowledged, queues, departs}
-use Rattle.krl_server.specs.Sound.{IsSound}
+use Rattle.krl_server.specs.Soundness.{IsSound}
 use Rattle.krl_server.proofs.Updates.{row_modes, mode_here, mode_other}
 use Rattle.krl_server.proofs.Invariant.AnswersSound.{acknowledged_sound, pushes_sound}
 use Rattle.krl_server.proofs.Invariant.WritesSound.{with_noted, refusal_is, writes_sound}

@@ -17,7 +17,7 @@ use Rattle.krl_table.proofs.Invariant.Stands.{in_unqueue, in_queue_with}
 use Rattle.krl_server.specs.Servers.{Server}
 use Rattle.krl_server.specs.Cases.{Case, Ignored, Registers, Leaves, Tells, Alarms, Rebuilds, Repeats, Acknowledges, Lowers, Waits, Judges, AnswersAgain, case_of, judged}
 use Rattle.krl_server.specs.Effects.{acknowledged, writes, rows_after, holding, effect}
-use Rattle.krl_server.specs.Sound.{IsSound}
+use Rattle.krl_server.specs.Soundness.{IsSound}
 use Rattle.krl_server.proofs.Tests.{if_both}
 use Rattle.krl_server.proofs.Cased.{by_case}
 use Rattle.krl_server.proofs.Turns.{in_row}

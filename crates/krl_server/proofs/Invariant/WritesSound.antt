@@ -18,7 +18,7 @@ use Rattle.krl_table.specs.Rows.{Rows, most_clients, mode_at}
 use Rattle.krl_server.specs.Servers.{Server}
 use Rattle.krl_server.specs.Effects.{rows_after, writes, acknowledged, rows_written, answers, effect}
 use Rattle.krl_server.specs.Cases.{Judges, judged}
-use Rattle.krl_server.specs.Sound.{IsSound}
+use Rattle.krl_server.specs.Soundness.{IsSound}
 use Rattle.krl_server.proofs.Invariant.AnswersSound.{pushes_sound}
 use Rattle.krl_server.proofs.Tests.{none_some, some_of}
 use Rattle.krl_server.proofs.Updates.{get_other, gone_other}

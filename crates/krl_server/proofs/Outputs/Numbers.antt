@@ -25,7 +25,7 @@ use Rattle.krl_server.specs.Effects.{callback_to, epoch_to, holding, acknowledge
 use Rattle.krl_server.specs.Answering.{stops}
 use Rattle.krl_server.specs.Callbacks.{is_compatible, callbacks_from, callbacks_for, callbacks_at, callbacks_among, callbacks_of, callbacks_of_among}
 use Rattle.krl_server.specs.Steps.{Kind, Idle, Quiet, Acts, kind_of, calls_of, at_once, recovers, serves, ServerStep, nudge_served, nudge_missing, nudge_known, nudge}
-use Rattle.krl_server.specs.Sound.{IsSound}
+use Rattle.krl_server.specs.Soundness.{IsSound}
 use Rattle.krl_server.specs.Termination.{waiting_on, waiting, most_messages, StepsEnd}
 use Rattle.krl_server.proofs.Invariant.AnswersSound.{answering_sound}
 use Rattle.krl_server.proofs.Outputs.Ends.{pushes_few, answered_less, step_ends, one_end}

@@ -24,7 +24,7 @@ use Rattle.krl_server.specs.Servers.{Server, is_recovering, lists, unlist}
 use Rattle.krl_refinement.specs.Messages.{report_of}
 use Rattle.krl_refinement.specs.Server.AsLinks.{machine_phase, view, IsRecord, Shows}
 use Rattle.krl_modes.specs.Spans.{IsWhole}
-use Rattle.krl_server.specs.Sound.{IsSound}
+use Rattle.krl_server.specs.Soundness.{IsSound}
 use Rattle.krl_refinement.proofs.Server.Meaning.{range_is, key_is}
 use Rattle.krl_server.proofs.Points.{same_range, same_key}
 use Rattle.krl_refinement.proofs.Server.Follows.{at_put}

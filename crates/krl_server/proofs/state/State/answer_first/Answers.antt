@@ -3,7 +3,7 @@ use Rattle.krl_queue.specs.declared.waiter.Waiter.{Waiter}
 use Rattle.krl_table.specs.Rows.{front_of}
 use Rattle.krl_table.specs.Kept.{rows_of}
 use Rattle.krl_server.specs.StateMeaning.{meaning}
-use Rattle.krl_server.specs.Sound.{IsSound}
+use Rattle.krl_server.specs.Soundness.{IsSound}
 use Rattle.krl_server.specs.declared.state.State.{State}
 use Rattle.krl_server.specs.Answering.{can_push}
 use Rattle.krl_server.specs.CodeSteps.{HasTurned}

@@ -3,7 +3,7 @@ use Rattle.krl_messages.specs.declared.to_client.ToClient.{ToClient}
 use Rattle.krl_table.specs.Kept.{rows_of}
 use Rattle.krl_table.specs.Sound.{IsTable}
 use Rattle.krl_server.specs.Termination.{waiting}
-use Rattle.krl_server.specs.Sound.{IsSound}
+use Rattle.krl_server.specs.Soundness.{IsSound}
 use Rattle.krl_server.specs.StateMeaning.{meaning, IsFormed}
 use Rattle.krl_server.specs.Outboxes.{Sends}
 use Rattle.krl_server.specs.CodeSteps.{HaveWaiters}

@@ -1,7 +1,7 @@
 use Rattle.std.proofs.Common.{◌++◌, [], sym, ap, subst, ◌∙◌}
 use Rattle.krl_table.specs.Sound.{IsTable}
 use Rattle.krl_server.specs.StateMeaning.{meaning}
-use Rattle.krl_server.specs.Sound.{IsSound}
+use Rattle.krl_server.specs.Soundness.{IsSound}
 use Rattle.krl_server.specs.Steps.{ServerStep}
 use Rattle.krl_server.specs.Outboxes.{Sent}
 use Rattle.krl_server.proofs.Invariant.Kept.{effect_table}
