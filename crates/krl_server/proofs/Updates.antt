@@ -15,8 +15,6 @@ use Rattle.krl_table.specs.Rows.{Row, Rows, mode_at, set_row, set_mode, column}
 use Rattle.krl_server.specs.declared.session.Session.{Session}
 use Rattle.krl_server.specs.Servers.{set_session, lists, unlist}
 
--- Look-ups
-
 pub row_here : (rows : Rows) (n : ℕ) (row : Row) → set_row rows n row n ≡ row
 row_here rows n row = ap (λ b. if b then row else rows n) (eq-eqb n n refl)
 

@@ -1,4 +1,4 @@
--- What the table gives at each point is what the machine reads from a column of it; and look-ups after a change.
+-- What the table gives at each point is what the machine reads from a column of it.
 use Rattle.std.proofs.Common.{◌≡◌, ℕ, ◌≤◌, None, refl, ap, ◌∙◌}
 use Rattle.std.specs.Prelude.{if◌then◌else◌}
 use Rattle.std.specs.FinMap as map
@@ -10,12 +10,14 @@ use Rattle.krl_durable.specs.Index.{Index, slot_of, is_slot}
 use Rattle.krl_table.specs.Rows.{Rows, mode_at, column}
 use Rattle.krl_table.specs.Points.{key_off_slot, range_at, key_at}
 use Rattle.krl_protocol.specs.Modes.{off_slot}
-use Rattle.krl_protocol.specs.Links.{Phase}
+use Rattle.krl_protocol.specs.Links.{Phase, Shared}
 use Rattle.krl_protocol.proofs.Tables.{range_by_slots, key_by_slots}
 use Rattle.krl_protocol.specs.Tables as machine
 use Rattle.krl_server.proofs.Slots.{slot_here, is_slot_true, is_slot_false}
 
--- Points
+-- what the machine sees of an index
+abbrev pub seen_in : Index → ℕ → Phase → Shared
+seen_in m epoch phase = record { epoch = epoch; phase = phase; index = map.get m; end = END }
 
 off_same : (r : RangePart) → key_off_slot r ≡ off_slot r
 off_same range.N = refl

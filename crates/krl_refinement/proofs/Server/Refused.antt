@@ -25,7 +25,7 @@ use Rattle.krl_refinement.specs.Server.AsLinks.{IsRecord, LinkIs, Shows, view}
 use Rattle.krl_refinement.proofs.Server.Follows.{Goes, steps_then, not_recovering, put_client, put_shows, session_rest}
 use Rattle.krl_refinement.proofs.Server.Judged.{answers_on}
 
--- its record then
+-- the client's record after a new write
 pub noted_known : (es : Register) (c : ℕ) (o : Outcome) (r : Record) (l m : Link) → IsRecord (Some r) l → m.reg ≡ l.reg → m.left ≡ l.left → m.done ≡ suc l.done → m.applied ≡ is_applied o → IsRecord (record_of (with_record es c (noted r o)) c) m
 noted_known es c o r l m k reg left done applied =
     subst (λ x. IsRecord x m) (sym (record_here es c (noted r o)))

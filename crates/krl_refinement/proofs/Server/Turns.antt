@@ -119,7 +119,7 @@ raises_more s of log u lt inv serving rows n there may r =
       clients = λ d. x.clients d ∙ r.clients d;
     }
 
--- what the machine does then
+-- the first waiter of a slot is told Absent, or has its grant
 module _ (s : Server) (i : IsSound s) (n : ℕ) (u : Waiter) (us : List Waiter) (queue : (s.rows n).queue ≡ u ∷ us) where
   abbrev drop_row : Row
   drop_row = with_queue (s.rows n) us
