@@ -1,5 +1,5 @@
 -- What a client reports stands in its link, and whatever stands in a link stays there while no message goes.
-use Rattle.std.proofs.Common.{◌≡◌, ℕ, suc, ◌<◌, ◌∙◌, Bool, true, false, None, List, [], ◌∷◌, refl, sym, ap, subst, arith, nat_eq, if◌then◌else◌, eqb-true}
+use Rattle.std.proofs.Common.{◌≡◌, ℕ, suc, ◌<◌, ◌∙◌, Bool, true, false, None, List, [], ◌∷◌, inl, refl, sym, ap, arith, nat_eq, if◌then◌else◌, eqb-true}
 use Rattle.std.proofs.lemmas.Bool.{eqb-false}
 use mathlib.Core.Path.{fun_ext}
 use Rattle.std.specs.List.{AllByRecursion}
@@ -21,7 +21,6 @@ use Rattle.krl_messages.specs.declared.to_client.ToClientBody.{ToClientBody}
 use Rattle.krl_messages.specs.declared.to_client.ToClientBody.TheVariants as told
 use Rattle.krl_messages.specs.declared.to_client.PushBody.{PushBody}
 use Rattle.krl_messages.specs.declared.to_client.PushBody.TheVariants as push
-use Rattle.krl_messages.specs.Members.{In}
 use Rattle.krl_protocol.specs.Links as links
 use Rattle.krl_protocol.specs.Links.{Head, Link}
 use Rattle.krl_table.specs.Reports.{range_said, reported_key}
@@ -88,9 +87,9 @@ report_is r inc epoch ps i e d =
     let keys : r.key ≡ reported_key ps.keys = fun_ext (λ q. sym (keys_agree ps.keys 0 q d.keys_in_order ∙ d.keys q)) in
     λ t. record { inc = i t; epoch = e t; range = ranges t; key = keys t }
 
--- a report of pieces that describe what the machine's client believes
-pub report_stands : (l : Link) (r : links.Report) (inc epoch : ℕ) (ps : Pieces) → In r l.reports → r.inc ≡ inc → r.epoch ≡ epoch → Describes ps (record { range_at = r.range; key_at = r.key; value_at = λ p. None }) → Stands l inc (said.Report epoch ps)
-report_stands l r inc epoch ps at i e d = (subst (λ x. In x l.reports) (report_is r inc epoch ps i e d) at, all_whole ps.ranges 0 d.ranges_in_order)
+-- the last report, of pieces that describe what it says
+pub report_stands : (l : Link) (r : links.Report) (inc epoch : ℕ) (ps : Pieces) → r.inc ≡ inc → r.epoch ≡ epoch → Describes ps (record { range_at = r.range; key_at = r.key; value_at = λ p. None }) → Stands (record l { reports = r ∷ l.reports }) inc (said.Report epoch ps)
+report_stands l r inc epoch ps i e d = (inl (sym (report_is r inc epoch ps i e d)), all_whole ps.ranges 0 d.ranges_in_order)
 
 -- What a push bears
 

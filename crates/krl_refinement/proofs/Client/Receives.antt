@@ -211,7 +211,7 @@ adopts_shows s l c g k ps inc epoch d h at e later = took s l _ c g _ _ h.1.numb
     (joins (record { inc = inc; epoch = epoch }) at h.1.up (cc (e, h.1.inc)) (let i = h.1.epoch in omega arith))
     (record { hellos = λ y i. i; byes = λ y i. i; heads = λ y i. i; releases = λ y i. i; writes = λ y i. i; reports = λ y i. inr i; notices = λ y i. i; pushes = λ y i. i })
     (h.0, record { number = h.1.number; up = h.1.up; inc = h.1.inc; epoch = refl; seen = refl; issued = h.1.issued; out = h.1.out; numbered = h.1.numbered; range = h.1.range; key = h.1.key; value = h.1.value; at_end = h.1.at_end })
-    (report_stands _ _ k.incarnation epoch ps (inl refl) h.1.inc refl (describes_it ps k.belief _ h.1.range h.1.key d))
+    (let r : Links.Report = record { inc = l.inc; epoch = epoch; range = l.range; key = l.key } in report_stands l r k.incarnation epoch ps h.1.inc refl (describes_it ps k.belief _ h.1.range h.1.key d))
 
 -- Messages
 

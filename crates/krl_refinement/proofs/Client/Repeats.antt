@@ -5,7 +5,7 @@ use Rattle.krl_messages.specs.declared.pieces.Pieces.{Pieces}
 use Rattle.krl_messages.specs.declared.to_server.ToServer.{ToServer}
 use Rattle.krl_messages.specs.Members.{In}
 use Rattle.krl_messages.proofs.Members.{in_both}
-use Rattle.krl_protocol.specs.Links.{Link, Shared, LinkSteps, idle, next, head_of, hellos_again, reports_again, speaks, writes_again}
+use Rattle.krl_protocol.specs.Links.{Link, Report, Shared, LinkSteps, idle, next, head_of, hellos_again, reports_again, speaks, writes_again}
 use Rattle.krl_cache.specs.Beliefs.{Belief}
 use Rattle.krl_cache.specs.Kept.{Describes}
 use Rattle.krl_client.specs.Clients.{Client, LockRequest, NotAsked, Granted, NoEntry, Dropped, Waiting, outstanding, has_joined}
@@ -50,7 +50,7 @@ describes_it ps b d r k h = record { ranges_in_order = h.ranges_in_order; merged
 report_shows : (s : Shared) (l : Link) (c g : ℕ) (k : Client) (ps : Pieces) → Describes ps k.belief → ShowsSeat c g (Some k) l → 1 ≤ l.epoch → Leads s l c g (Some k) (says_report ps k ∷ [])
 report_shows s l c g k ps d h old = took s l _ c g _ _ h.1.number refl (reports_again h.1.up old)
     (record { hellos = λ x i. i; byes = λ x i. i; heads = λ x i. i; releases = λ x i. i; writes = λ x i. i; reports = λ x i. inr i; notices = λ x i. i; pushes = λ x i. i })
-    h (report_stands _ _ k.incarnation k.epoch ps (inl refl) h.1.inc h.1.epoch (describes_it ps k.belief _ h.1.range h.1.key d))
+    h (let r : Report = record { inc = l.inc; epoch = l.epoch; range = l.range; key = l.key } in report_stands l r k.incarnation k.epoch ps h.1.inc h.1.epoch (describes_it ps k.belief _ h.1.range h.1.key d))
 
 first_shows : (s : Shared) (l : Link) (c g : ℕ) (k : Client) (ps : Pieces) (b : Bool) → Describes ps k.belief → ShowsSeat c g (Some k) l → 1 ≤ l.epoch → Leads s l c g (Some k) ((if b then says_report ps k else says_ack k) ∷ [])
 first_shows s l c g k ps true d h old = report_shows s l c g k ps d h old

@@ -70,7 +70,7 @@ change_may true false e = absurd (cc)
 change_may false may e = absurd (cc)
 
 -- the server after the write
-writes_is : (s : Server) (c : ℕ) (op : WriteOp) (r : Record) → record_of s.durable.register c ≡ Some r → with_write s c r (written s.durable.index op) (rows_written s.durable.index s.rows c op) ≡ writes (acknowledged s c) c op outcome.Applied
+pub writes_is : (s : Server) (c : ℕ) (op : WriteOp) (r : Record) → record_of s.durable.register c ≡ Some r → with_write s c r (written s.durable.index op) (rows_written s.durable.index s.rows c op) ≡ writes (acknowledged s c) c op outcome.Applied
 writes_is s c op r known = ap (λ d. record (acknowledged s c) { durable = d; rows = rows_written s.durable.index s.rows c op }) (sym (applied_is s.durable c op outcome.Applied r known))
 
 -- the index and the rows after the write are again those of a server
@@ -109,7 +109,7 @@ lasts s c (write.Delete k) i own under e =
       strangers = merge_strangers s.durable.index s.rows k i.strangers;
     }
 
-lasts_sound : (s : Server) (c : ℕ) (op : WriteOp) (r : Record) → IsSound s → Lasts s c op → IsSound (with_write s c r (written s.durable.index op) (rows_written s.durable.index s.rows c op))
+pub lasts_sound : (s : Server) (c : ℕ) (op : WriteOp) (r : Record) → IsSound s → Lasts s c op → IsSound (with_write s c r (written s.durable.index op) (rows_written s.durable.index s.rows c op))
 lasts_sound s c op r i l = record { near = l.near; begun = i.begun; strangers = l.strangers; placed = l.placed; clients = λ n u at. let f = l.from n u at in i.clients f.0 u f.1 }
 
 pub writes_sound : (s : Server) (m : ToServer) (number : ℕ) (op : WriteOp) (r : Record) → record_of s.durable.register m.client ≡ Some r → IsSound s → m.client < most_clients → op_key op < END → judged s m.client op ≡ outcome.Applied → IsSound (effect s m (Judges number op outcome.Applied)).server
