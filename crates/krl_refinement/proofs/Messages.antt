@@ -1,4 +1,5 @@
--- What a client reports stands in its link, and whatever stands in a link stays there while no message goes.
+-- What a client reports stands in its link; what the server sends is what a client takes; and whatever stands in a link
+-- stays there while no message goes.
 use Rattle.std.proofs.Common.{◌≡◌, ℕ, suc, ◌<◌, ◌∙◌, Bool, true, false, None, List, [], ◌∷◌, inl, refl, sym, ap, arith, nat_eq, if◌then◌else◌, eqb-true}
 use Rattle.std.proofs.lemmas.Bool.{eqb-false}
 use mathlib.Core.Path.{fun_ext}
@@ -24,10 +25,11 @@ use Rattle.krl_messages.specs.declared.to_client.PushBody.TheVariants as push
 use Rattle.krl_protocol.specs.Links as links
 use Rattle.krl_protocol.specs.Links.{Head, Link}
 use Rattle.krl_table.specs.Reports.{range_said, reported_key}
+use Rattle.krl_cache.specs.Beliefs.{Belief}
 use Rattle.krl_cache.specs.Kept as cache
 use Rattle.krl_cache.specs.Kept.{AreInOrder, AreAscending, Describes}
-use Rattle.krl_refinement.specs.Messages.{report_of, push_of, RequestStands, Stands, WasSent}
-use Rattle.krl_refinement.specs.Client.Shows.{Grows}
+use Rattle.krl_refinement.specs.Messages.{report_of, push_of, RequestStands, Stands, IsTold, WasSent}
+use Rattle.krl_refinement.specs.Client.Shows.{Grows, IsFrom, Tells, IsTo}
 
 -- Reports. Where pieces stand apart, the first that speaks of a point is the join of all that do
 
@@ -87,9 +89,13 @@ report_is r inc epoch ps i e d =
     let keys : r.key ≡ reported_key ps.keys = fun_ext (λ q. sym (keys_agree ps.keys 0 q d.keys_in_order ∙ d.keys q)) in
     λ t. record { inc = i t; epoch = e t; range = ranges t; key = keys t }
 
+-- pieces that describe something describe what they say
+described : (ps : Pieces) (b : Belief) → Describes ps b → Describes ps (record { range_at = range_said ps.ranges; key_at = reported_key ps.keys; value_at = λ p. None })
+described ps b d = record { ranges_in_order = d.ranges_in_order; merged = d.merged; keys_in_order = d.keys_in_order; ranges = λ q. sym (ranges_agree ps.ranges 0 q d.ranges_in_order); keys = λ q. sym (keys_agree ps.keys 0 q d.keys_in_order) }
+
 -- the last report, of pieces that describe what it says
-pub report_stands : (l : Link) (r : links.Report) (inc epoch : ℕ) (ps : Pieces) → r.inc ≡ inc → r.epoch ≡ epoch → Describes ps (record { range_at = r.range; key_at = r.key; value_at = λ p. None }) → Stands (record l { reports = r ∷ l.reports }) inc (said.Report epoch ps)
-report_stands l r inc epoch ps i e d = (inl (sym (report_is r inc epoch ps i e d)), all_whole ps.ranges 0 d.ranges_in_order)
+pub report_stands : (l : Link) (r : links.Report) (inc epoch : ℕ) (ps : Pieces) → r.inc ≡ inc → r.epoch ≡ epoch → Describes ps (record { range_at = r.range; key_at = r.key; value_at = λ p. None }) → IsFrom (record l { reports = r ∷ l.reports }) inc (said.Report epoch ps)
+report_stands l r inc epoch ps i e d = ((inl (sym (report_is r inc epoch ps i e d)), all_whole ps.ranges 0 d.ranges_in_order), described ps _ d)
 
 -- What a push bears
 
@@ -108,6 +114,24 @@ push_number inc epoch number (push.Grant req hs) = refl
 push_number inc epoch number (push.Absent req point) = refl
 push_number inc epoch number (push.Answer w o h) = refl
 
+-- What a client sends and is told
+
+pub from_stands : (l : Link) (inc : ℕ) (b : ToServerBody) → IsFrom l inc b → Stands l inc b
+from_stands l inc said.Hello h = h
+from_stands l inc said.Bye h = h
+from_stands l inc (said.Report epoch ps) h = h.0
+from_stands l inc (said.Request r) h = h
+
+push_tells : (inc epoch number : ℕ) (b : PushBody) → IsTold b → Tells b (push_of inc epoch number b)
+push_tells inc epoch number (push.Grant req hs) t = (refl, λ q. refl)
+push_tells inc epoch number (push.Absent req point) t = (refl, λ q. refl)
+push_tells inc epoch number (push.Answer w o h) t = (refl, (λ q. refl), refl, t)
+
+pub sent_tells : (l : Link) (inc : ℕ) (b : ToClientBody) → WasSent l inc b → IsTo l inc b
+sent_tells l inc (told.Epoch epoch) h = h
+sent_tells l inc (told.Push epoch number b) h = (push_of inc epoch number b, h.0, push_inc inc epoch number b, push_epoch inc epoch number b, push_number inc epoch number b, h.1, push_tells inc epoch number b h.2)
+sent_tells l inc (told.Callback epoch s keep) h = h
+
 -- No message goes
 
 request_stays : (l m : Link) → Grows l m → (a : Head) (b : RequestBody) → RequestStands l a b → RequestStands m a b
@@ -121,6 +145,12 @@ stands_stays l m g inc said.Hello h = g.hellos _ h
 stands_stays l m g inc said.Bye h = g.byes _ h
 stands_stays l m g inc (said.Report epoch ps) h = (g.reports _ h.0, h.1)
 stands_stays l m g inc (said.Request r) h = (g.heads _ h.0, request_stays l m g _ r.body h.1)
+
+pub from_stays : (l m : Link) → Grows l m → (inc : ℕ) (b : ToServerBody) → IsFrom l inc b → IsFrom m inc b
+from_stays l m g inc said.Hello h = g.hellos _ h
+from_stays l m g inc said.Bye h = g.byes _ h
+from_stays l m g inc (said.Report epoch ps) h = (stands_stays l m g inc (said.Report epoch ps) h.0, h.1)
+from_stays l m g inc (said.Request r) h = stands_stays l m g inc (said.Request r) h
 
 pub sent_stays : (l m : Link) → Grows l m → (inc : ℕ) (b : ToClientBody) → WasSent l inc b → WasSent m inc b
 sent_stays l m g inc (told.Epoch epoch) h = g.notices _ h

@@ -25,33 +25,15 @@ use Rattle.krl_modes.specs.Parts.{reads_key}
 use Rattle.krl_messages.specs.Holdings.{ends_at_end, has_its_value}
 use Rattle.krl_messages.specs.Several.{have_values}
 use Rattle.krl_messages.specs.Members.{In}
-use Rattle.krl_messages.specs.Writes.{is_applied}
 use Rattle.krl_cache.specs.Beliefs.{Belief, is_last, adopt, adopt_all}
 use Rattle.krl_cache.specs.Kept.{Describes}
 use Rattle.krl_cache.proofs.Calls.{same_of, last_not_end, none_at_end}
 use Rattle.krl_client.specs.Clients.{Client, LockRequest, Granted, NoEntry, LastWrite, Unwritten, Outstanding, Judged, outstanding, is_writing_in, meets_pin}
 use Rattle.krl_client.specs.Messages.{asked_after, says_ack, says_report, joined, accepted, judged_as, fits, Case, Ignores, AcksAgain, Adopts, Accepts, Lowers, case_of, case_of_body, after, sends}
-use Rattle.krl_refinement.specs.Client.Shows.{op_shown, ShowsClient, ShowsSeat, Leads}
-use Rattle.krl_refinement.specs.Messages.{push_of, IsTold, WasSent}
-use Rattle.krl_refinement.proofs.Messages.{report_stands, push_inc, push_epoch, push_number}
+use Rattle.krl_refinement.specs.Client.Shows.{op_shown, Says, Tells, IsTo, ShowsClient, ShowsSeat, Leads}
+use Rattle.krl_refinement.proofs.Messages.{report_stands}
 use Rattle.krl_refinement.proofs.Client.Steps.{rests, took, lowers_show}
 use Rattle.krl_refinement.proofs.Client.Repeats.{ack_shows, describes_it}
-
--- What a push says
-
--- the machine's push says what these holdings say
-abbrev Says : List Holding → Links.Push → Type 0
-Says hs p = (q : ℕ) → p.says q ≡ said_by hs q
-
-abbrev Tells : PushBody → Links.Push → Type 0
-Tells (push.Grant req hs) p = (p.answers ≡ 0) × Says hs p
-Tells (push.Absent req point) p = (p.answers ≡ 0) × Says [] p
-Tells (push.Answer number o h) p = (p.answers ≡ number) × Says (h ∷ []) p × (p.applied ≡ is_applied o) × (1 ≤ number)
-
-push_tells : (inc epoch number : ℕ) (b : PushBody) → IsTold b → Tells b (push_of inc epoch number b)
-push_tells inc epoch number (push.Grant req hs) t = (refl, λ q. refl)
-push_tells inc epoch number (push.Absent req point) t = (refl, λ q. refl)
-push_tells inc epoch number (push.Answer w o h) t = (refl, (λ q. refl), refl, t)
 
 -- Accepted holdings
 
@@ -206,7 +188,7 @@ accept_shows s l c g k p (push.Answer number o h) x rule d tells = takes_push s 
 
 -- Epochs
 
-adopts_shows : (s : Shared) (l : Link) (c g : ℕ) (k : Client) (ps : Pieces) (inc epoch : ℕ) → Describes ps k.belief → ShowsSeat c g (Some k) l → WasSent l inc (told.Epoch epoch) → inc ≡ k.incarnation → k.epoch < epoch → Leads s l c g (Some (joined k epoch)) (says_report ps (joined k epoch) ∷ [])
+adopts_shows : (s : Shared) (l : Link) (c g : ℕ) (k : Client) (ps : Pieces) (inc epoch : ℕ) → Describes ps k.belief → ShowsSeat c g (Some k) l → IsTo l inc (told.Epoch epoch) → inc ≡ k.incarnation → k.epoch < epoch → Leads s l c g (Some (joined k epoch)) (says_report ps (joined k epoch) ∷ [])
 adopts_shows s l c g k ps inc epoch d h at e later = took s l _ c g _ _ h.1.number refl
     (joins (record { inc = inc; epoch = epoch }) at h.1.up (cc (e, h.1.inc)) (let i = h.1.epoch in omega arith))
     (record { hellos = λ y i. i; byes = λ y i. i; heads = λ y i. i; releases = λ y i. i; writes = λ y i. i; reports = λ y i. inr i; notices = λ y i. i; pushes = λ y i. i })
@@ -226,7 +208,7 @@ makes_either s l c g k ps false x y f h = h refl
 own_epoch : (c : ℕ) (k : Client) (l : Link) (epoch : ℕ) → ShowsClient c k l.client → 1 ≤ epoch → nat_eq epoch k.epoch ≡ true → 1 ≤ l.epoch
 own_epoch c k l epoch h old e = let i = eqb-true epoch k.epoch e in let j = h.epoch in omega arith
 
-body_shows : (s : Shared) (l : Link) (c g : ℕ) (k : Client) (ps : Pieces) (inc : ℕ) (what : ToClientBody) → Describes ps k.belief → ShowsSeat c g (Some k) l → inc ≡ k.incarnation → WasSent l inc what → Makes s l c g k ps (case_of_body k what)
+body_shows : (s : Shared) (l : Link) (c g : ℕ) (k : Client) (ps : Pieces) (inc : ℕ) (what : ToClientBody) → Describes ps k.belief → ShowsSeat c g (Some k) l → inc ≡ k.incarnation → IsTo l inc what → Makes s l c g k ps (case_of_body k what)
 body_shows s l c g k ps inc (told.Epoch epoch) d h e at = makes_either s l c g k ps (nat_lt k.epoch epoch) (Adopts epoch) Ignores
     (λ t. adopts_shows s l c g k ps inc epoch d h at e (ltb-true k.epoch epoch t))
     (λ f. rests s l c g (Some k) h)
@@ -234,9 +216,9 @@ body_shows s l c g k ps inc (told.Push epoch number what) d h e at = makes_eithe
     (λ t. let own = and_parts (nat_eq epoch k.epoch) (fits what) t in makes_either s l c g k ps (nat_eq number (suc k.seen) && nat_le number END) (Accepts what) _
     (λ u. let n = eqb-true number (suc k.seen) (and_parts (nat_eq number (suc k.seen)) (nat_le number END) u).0 in
     let o = eqb-true epoch k.epoch own.0 in
-    accept_shows s l c g k (push_of inc epoch number what) what h own.1 (record { sent = at.0; inc = push_inc inc epoch number what ∙ e; epoch = push_epoch inc epoch number what ∙ o; number = push_number inc epoch number what ∙ n }) (push_tells inc epoch number what at.2))
+    accept_shows s l c g k at.0 what h own.1 (record { sent = at.1; inc = cc (at.2, e); epoch = cc (at.3, o); number = cc (at.4, n) }) at.6)
     (λ u. makes_either s l c g k ps (nat_eq number k.seen) AcksAgain Ignores
-    (λ w. ack_shows s l c g k h (own_epoch c k l epoch h.1 at.1 own.0))
+    (λ w. ack_shows s l c g k h (own_epoch c k l epoch h.1 at.5 own.0))
     (λ w. rests s l c g (Some k) h)))
     (λ f. rests s l c g (Some k) h)
 body_shows s l c g k ps inc (told.Callback epoch span keep) d h e at = makes_either s l c g k ps (nat_eq epoch k.epoch && not (is_writing_in k span || meets_pin k span)) (Lowers span keep) Ignores
@@ -244,7 +226,7 @@ body_shows s l c g k ps inc (told.Callback epoch span keep) d h e at = makes_eit
     lowers_show s l c g k span keep h (own_epoch c k l epoch h.1 at.0 x.0) at.1 (or_parts (is_writing_in k span) (meets_pin k span) (not-true _ x.1)).0)
     (λ f. rests s l c g (Some k) h)
 
-pub receives_show : (s : Shared) (l : Link) (c g : ℕ) (k : Client) (ps : Pieces) (m : ToClient) → Describes ps k.belief → ShowsSeat c g (Some k) l → (m.client ≡ c → WasSent l m.incarnation m.body) → Makes s l c g k ps (case_of k m)
+pub receives_show : (s : Shared) (l : Link) (c g : ℕ) (k : Client) (ps : Pieces) (m : ToClient) → Describes ps k.belief → ShowsSeat c g (Some k) l → (m.client ≡ c → IsTo l m.incarnation m.body) → Makes s l c g k ps (case_of k m)
 receives_show s l c g k ps m d h at = makes_either s l c g k ps (nat_eq m.client k.number && nat_eq m.incarnation k.incarnation) (case_of_body k m.body) Ignores
     (λ t. let x = and_parts (nat_eq m.client k.number) (nat_eq m.incarnation k.incarnation) t in
     let n = eqb-true m.client k.number x.0 in

@@ -11,9 +11,9 @@ use Rattle.krl_cache.specs.Kept.{Describes}
 use Rattle.krl_client.specs.Clients.{Client, LockRequest, NotAsked, Granted, NoEntry, Dropped, Waiting, outstanding, has_joined}
 use Rattle.krl_client.specs.Messages.{says_report, says_ack}
 use Rattle.krl_client.specs.Ticks.{lock_again, write_again, says_hello, tick}
-use Rattle.krl_refinement.specs.Messages.{op_of, Stands}
-use Rattle.krl_refinement.specs.Client.Shows.{op_shown, ShowsSeat, Leads}
-use Rattle.krl_refinement.proofs.Messages.{report_stands, stands_stays}
+use Rattle.krl_refinement.specs.Messages.{op_of}
+use Rattle.krl_refinement.specs.Client.Shows.{op_shown, IsFrom, ShowsSeat, Leads}
+use Rattle.krl_refinement.proofs.Messages.{report_stands, from_stays}
 use Rattle.krl_refinement.proofs.Client.Basics.{grows_on}
 use Rattle.krl_refinement.proofs.Client.Steps.{rests, took, head_is, joined_epoch, more_heads}
 
@@ -28,7 +28,7 @@ goes_on s l c g k ms ns a f = let b = f a.link a.seat in record {
   steps = steps_on s l a.link b.link a.steps b.steps;
   grows = grows_on l a.link b.link a.grows b.grows;
   seat = b.seat;
-  told = λ m i. ⊎_elim (λ (x : In m ms). stands_stays a.link b.link b.grows m.incarnation m.body (a.told m x)) (λ (y : In m ns). b.told m y) (in_both ms ns m i);
+  told = λ m i. ⊎_elim (λ (x : In m ms). from_stays a.link b.link b.grows m.incarnation m.body (a.told m x)) (λ (y : In m ns). b.told m y) (in_both ms ns m i);
   same = cc (a.same, b.same);
   mine = λ m i. ⊎_elim (λ (x : In m ms). a.mine m x) (λ (y : In m ns). b.mine m y) (in_both ms ns m i);
 }
@@ -37,7 +37,7 @@ goes_either : (s : Shared) (l : Link) (c g : ℕ) (k : Option Client) (b : Bool)
 goes_either s l c g k true xs ys f h = f refl
 goes_either s l c g k false xs ys f h = h refl
 
-speaks_shows : (s : Shared) (l : Link) (c g : ℕ) (k : Client) (x : ToServer) → x.client ≡ c → ShowsSeat c g (Some k) l → 1 ≤ l.epoch → ((m : Link) → In (record { inc = k.incarnation; epoch = k.epoch; seen = k.seen }) m.heads → Stands m x.incarnation x.body) → Leads s l c g (Some k) (x ∷ [])
+speaks_shows : (s : Shared) (l : Link) (c g : ℕ) (k : Client) (x : ToServer) → x.client ≡ c → ShowsSeat c g (Some k) l → 1 ≤ l.epoch → ((m : Link) → In (record { inc = k.incarnation; epoch = k.epoch; seen = k.seen }) m.heads → IsFrom m x.incarnation x.body) → Leads s l c g (Some k) (x ∷ [])
 speaks_shows s l c g k x own h old f = took s l _ c g _ _ own refl (speaks h.1.up old) (more_heads l) h (f (record l { heads = head_of l ∷ l.heads }) (inl (sym (head_is c k l h.1))))
 
 pub ack_shows : (s : Shared) (l : Link) (c g : ℕ) (k : Client) → ShowsSeat c g (Some k) l → 1 ≤ l.epoch → Leads s l c g (Some k) (says_ack k ∷ [])

@@ -26,8 +26,8 @@ use Rattle.krl_client.specs.Clients.{Client, begun, LockRequest, Waiting, outsta
 use Rattle.krl_modes.proofs.PartLaws.{range_is_X}
 use Rattle.krl_client.specs.Commands.{holds_for, lock_refusal, write_refusal, forget_refusal, locked, wrote, lowered, forgot, says_lock, says_write, says_release, says_bye}
 use Rattle.krl_client.specs.Ticks.{says_hello}
-use Rattle.krl_refinement.specs.Messages.{op_of, Stands}
-use Rattle.krl_refinement.specs.Client.Shows.{op_shown, Grows, server_part, ShowsClient, ShowsSeat, Leads}
+use Rattle.krl_refinement.specs.Messages.{op_of}
+use Rattle.krl_refinement.specs.Client.Shows.{op_shown, Grows, server_part, IsFrom, ShowsClient, ShowsSeat, Leads}
 use Rattle.krl_refinement.proofs.Client.Basics.{grows_not, passed, lowered_at, before_last}
 
 -- nothing is sent, and no step is taken
@@ -35,14 +35,14 @@ pub rests : (s : Shared) (l : Link) (c g : ℕ) (k : Option Client) → ShowsSea
 rests s l c g k h = record { link = l; steps = idle; grows = grows_not l; seat = h; told = λ m i. absurd i; mine = λ m i. absurd i; same = refl }
 
 -- one step and one message
-pub took : (s : Shared) (l m : Link) (c g : ℕ) (k : Option Client) (x : ToServer) → x.client ≡ c → server_part m ≡ server_part l → LinkStep s l m → Grows l m → ShowsSeat c g k m → Stands m x.incarnation x.body → Leads s l c g k (x ∷ [])
+pub took : (s : Shared) (l m : Link) (c g : ℕ) (k : Option Client) (x : ToServer) → x.client ≡ c → server_part m ≡ server_part l → LinkStep s l m → Grows l m → ShowsSeat c g k m → IsFrom m x.incarnation x.body → Leads s l c g k (x ∷ [])
 took s l m c g k x own part step grows h f = record {
   same = part;
   link = m;
   steps = next step idle;
   grows = grows;
   seat = h;
-  told = λ y i. ⊎_elim (λ (e : y ≡ x). subst (λ (z : ToServer). Stands m z.incarnation z.body) (sym e) f) (λ (e : ⊥). absurd e) i;
+  told = λ y i. ⊎_elim (λ (e : y ≡ x). subst (λ (z : ToServer). IsFrom m z.incarnation z.body) (sym e) f) (λ (e : ⊥). absurd e) i;
   mine = λ y i. ⊎_elim (λ (e : y ≡ x). subst (λ (z : ToServer). z.client ≡ c) (sym e) own) (λ (e : ⊥). absurd e) i;
 }
 

@@ -1,21 +1,62 @@
--- How a client shows in a link of the machine.
-use Rattle.std.specs.Prelude.{◌≡◌, ◌≢◌, ℕ, ◌≤◌, ◌⊎◌, Bool, true, false, Option, Some, None, List}
+-- How a client, and the messages of its number, show in a link of the machine.
+use Rattle.std.specs.Prelude.{◌≡◌, ◌≢◌, ℕ, ◌≤◌, ◌⊎◌, Bool, true, false, Option, Some, None, List, [], ◌∷◌}
 use Rattle.krl_modes.specs.declared.point.TheConstants.{END}
 use Rattle.krl_modes.specs.declared.part.RangePart.{RangePart}
 use Rattle.krl_modes.specs.declared.part.KeyPart.{KeyPart}
+use Rattle.krl_messages.specs.declared.holding.Holding.{Holding}
 use Rattle.krl_messages.specs.declared.write_op.WriteOp.{WriteOp}
 use Rattle.krl_messages.specs.declared.to_server.ToServer.{ToServer}
+use Rattle.krl_messages.specs.declared.to_server.ToServerBody.{ToServerBody}
+use Rattle.krl_messages.specs.declared.to_server.ToServerBody.TheVariants as body
+use Rattle.krl_messages.specs.declared.to_client.ToClientBody.{ToClientBody}
+use Rattle.krl_messages.specs.declared.to_client.ToClientBody.TheVariants as told
+use Rattle.krl_messages.specs.declared.to_client.PushBody.{PushBody}
+use Rattle.krl_messages.specs.declared.to_client.PushBody.TheVariants as push
 use Rattle.krl_messages.specs.Members.{In}
+use Rattle.krl_messages.specs.Writes.{is_applied}
 use Rattle.krl_protocol.specs.Links
 use Rattle.krl_protocol.specs.Links.{Op, Link, Shared, LinkSteps, Head}
+use Rattle.krl_protocol.specs.Holdings.{said_by}
 use Rattle.krl_protocol.specs.Worlds.{row_of}
+use Rattle.krl_table.specs.Reports.{range_said, reported_key}
+use Rattle.krl_cache.specs.Kept.{Describes}
 use Rattle.krl_client.specs.Clients.{Client, outstanding}
-use Rattle.krl_refinement.specs.Messages.{op_of, Stands}
+use Rattle.krl_refinement.specs.Messages.{op_of, Stands, WasSent}
 
 -- the machine's outstanding write
 abbrev pub op_shown : Option WriteOp → Option Op
 op_shown None = None
 op_shown (Some change) = Some (op_of change)
+
+-- Messages
+
+-- the message from this incarnation stands in the link, and the pieces of a report are in order and merged
+abbrev pub IsFrom : Link → ℕ → ToServerBody → Type 0
+IsFrom l incarnation body.Hello = Stands l incarnation body.Hello
+IsFrom l incarnation body.Bye = Stands l incarnation body.Bye
+IsFrom l incarnation (body.Report epoch ps) =
+    Stands l incarnation (body.Report epoch ps)
+    × Describes ps (record { range_at = range_said ps.ranges; key_at = reported_key ps.keys; value_at = λ p. None })
+IsFrom l incarnation (body.Request r) = Stands l incarnation (body.Request r)
+
+-- the machine's push says what these holdings say
+abbrev pub Says : List Holding → Links.Push → Type 0
+Says hs p = (q : ℕ) → p.says q ≡ said_by hs q
+
+abbrev pub Tells : PushBody → Links.Push → Type 0
+Tells (push.Grant req hs) p = (p.answers ≡ 0) × Says hs p
+Tells (push.Absent req point) p = (p.answers ≡ 0) × Says [] p
+Tells (push.Answer number o h) p = (p.answers ≡ number) × Says (h ∷ []) p × (p.applied ≡ is_applied o) × (1 ≤ number)
+
+-- the message to this incarnation stands in the link. Of a push the client asks less than the server says by WasSent
+abbrev pub IsTo : Link → ℕ → ToClientBody → Type 0
+IsTo l incarnation (told.Epoch epoch) = WasSent l incarnation (told.Epoch epoch)
+IsTo l incarnation (told.Push epoch number what) =
+    (p : Links.Push) × In p l.pushes × (p.inc ≡ incarnation) × (p.epoch ≡ epoch) × (p.number ≡ number) × (1 ≤ epoch)
+    × Tells what p
+IsTo l incarnation (told.Callback epoch s keep) = WasSent l incarnation (told.Callback epoch s keep)
+
+-- Clients
 
 -- what the machine keeps of a client that runs
 pub record ShowsClient (c : ℕ) (k : Client) (a : Links.Client) : Type 0 where
@@ -36,6 +77,8 @@ pub record ShowsClient (c : ℕ) (k : Client) (a : Links.Client) : Type 0 where
 abbrev pub ShowsSeat : ℕ → ℕ → Option Client → Link → Type 0
 ShowsSeat c greatest None l = (l.inc ≡ greatest) × (l.up ≡ false)
 ShowsSeat c greatest (Some k) l = (l.inc ≡ greatest) × ShowsClient c k l.client
+
+-- Steps
 
 -- no message goes
 pub record Grows (l m : Link) : Type 0 where
@@ -85,6 +128,6 @@ pub record Leads (s : Shared) (l : Link) (c greatest : ℕ) (k : Option Client) 
   pub steps : LinkSteps s l link
   pub grows : Grows l link
   pub seat : ShowsSeat c greatest k link
-  pub told : (m : ToServer) → In m ms → Stands link m.incarnation m.body
+  pub told : (m : ToServer) → In m ms → IsFrom link m.incarnation m.body
   pub mine : (m : ToServer) → In m ms → m.client ≡ c
   pub same : server_part link ≡ server_part l

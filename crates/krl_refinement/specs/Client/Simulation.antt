@@ -12,8 +12,7 @@ use Rattle.krl_client.specs.Clients.{Client, begun}
 use Rattle.krl_client.specs.Commands.{lock_refusal, locked, says_lock, write_refusal, wrote, says_write, forget_refusal, forgot, says_release, pinned, unpinned, says_bye}
 use Rattle.krl_client.specs.Messages.{case_of, after, sends}
 use Rattle.krl_client.specs.Ticks.{tick, says_hello}
-use Rattle.krl_refinement.specs.Messages.{WasSent}
-use Rattle.krl_refinement.specs.Client.Shows.{ShowsSeat, Leads}
+use Rattle.krl_refinement.specs.Client.Shows.{IsTo, ShowsSeat, Leads}
 use Rattle.krl_modes.specs.declared.mode.Mode.TheVariants as mode
 
 -- a client that runs, and shows in the link, leaves this and sends these
@@ -51,5 +50,5 @@ TicksShow = (k : Client) (ps : Pieces) → Describes ps k.belief → Shown k (So
 abbrev pub MessagesShow : Type 0
 MessagesShow =
     (k : Client) (ps : Pieces) (m : ToClient) → Describes ps k.belief → (s : Shared) (l : Link) (c g : ℕ) →
-    ShowsSeat c g (Some k) l → (m.client ≡ c → WasSent l m.incarnation m.body) →
+    ShowsSeat c g (Some k) l → (m.client ≡ c → IsTo l m.incarnation m.body) →
     Leads s l c g (Some (after k (case_of k m))) (sends ps k (case_of k m))

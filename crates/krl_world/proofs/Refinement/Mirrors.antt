@@ -28,7 +28,7 @@ use Rattle.krl_steps.specs.declared.applied_write.AppliedWrite.{AppliedWrite}
 use Rattle.krl_world.specs.States.{ServerNode, Up, Down, Seat, State, durable_of, is_serving, from_clients, from_server, seated}
 use Rattle.krl_refinement.specs.Server.Simulation.{BoundStays}
 use Rattle.krl_world.proofs.Refinement.Calling.{epoch_called}
-use Rattle.krl_refinement.proofs.Messages.{stands_stays, sent_stays}
+use Rattle.krl_refinement.proofs.Messages.{from_stands, stands_stays, sent_stays}
 
 -- The machine's world
 
@@ -159,7 +159,7 @@ seat_goes w of log c x ms h g = record {
     same d = eq_cases d c (λ e. subst (λ y. server_part (to y) ≡ server_part (of y)) (sym e) (subst (λ l. server_part l ≡ server_part (of c)) (sym ch.here) g.same)) (λ ne. ap server_part (ch.rest d ne))
 
     told_by : (m : ToServer) → In m ms → Stands (to m.client) m.incarnation m.body
-    told_by m i = subst (λ d. Stands (to d) m.incarnation m.body) (sym (g.mine m i)) (subst (λ l. Stands l m.incarnation m.body) (sym ch.here) (g.told m i))
+    told_by m i = subst (λ d. Stands (to d) m.incarnation m.body) (sym (g.mine m i)) (subst (λ l. Stands l m.incarnation m.body) (sym ch.here) (from_stands g.link m.incarnation m.body (g.told m i)))
 
     seat_by : (d : ℕ) (t : Bool) → nat_eq d c ≡ t → ShowsSeat d (if t then x else w.seats d).greatest (if t then x else w.seats d).client (cond t g.link (of d))
     seat_by d true e = subst (λ y. ShowsSeat y x.greatest x.client g.link) (sym (eqb-true d c e)) g.seat

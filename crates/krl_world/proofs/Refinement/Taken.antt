@@ -11,6 +11,7 @@ use Rattle.krl_protocol.specs.Worlds.{Logged, Reachable, none}
 use Rattle.krl_server.specs.Steps.{can_start}
 use Rattle.krl_client.specs.Clients.{Client, begun}
 use Rattle.krl_refinement.specs.Client.Shows.{ShowsSeat, Leads}
+use Rattle.krl_refinement.proofs.Messages.{sent_tells}
 use Rattle.krl_refinement.proofs.Client.Simulation.{start_shows, crash_shows, commands_show, ticks_show_all, messages_show}
 use Rattle.krl_world.specs.declared.message.Message.{Message}
 use Rattle.krl_world.specs.declared.message.Message.TheVariants as message
@@ -89,7 +90,7 @@ at_in ms (suc i) m e = nth_in ms i m e
 client_reads : (w v : State) (of : ℕ → Link) (log : List Logged) (m : ToClient) (gone : ℕ → Bool) (o : Option Client) → Mirrors w of log → In (message.ToClient m) w.sent → ((c : ℕ) → gone c ≡ false) → client_of w m.client ≡ o → ClientReads w o m v → Goes w.server v gone of log
 client_reads w v of log m gone None h at e i d = subst (λ x. Goes w.server x gone of log) (sym d) (rests w gone of log e h)
 client_reads w v of log m gone (Some k) h at e i d =
-    let g = client_goes w v of log m.client _ _ h (messages_show k d.0 m d.1 (shared_of w.server) (of m.client) m.client (w.seats m.client).greatest (seat_at w of log m.client (Some k) h i) (λ own. h.to m at)) d.2 in
+    let g = client_goes w v of log m.client _ _ h (messages_show k d.0 m d.1 (shared_of w.server) (of m.client) m.client (w.seats m.client).greatest (seat_at w of log m.client (Some k) h i) (λ own. sent_tells (of m.client) m.incarnation m.body (h.to m at))) d.2 in
     record { after = g.after; log_after = g.log_after; steps = g.steps; mirrors = g.mirrors; bound = λ n c. subst (λ b. BoundStays b (of c) (g.after c)) (sym (e c)) (g.bound n c) }
 
 -- a message reaches the server, or is lost
