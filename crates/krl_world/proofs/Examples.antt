@@ -1,6 +1,8 @@
--- The laws `scans_somewhere`, `writes_somewhere` and `comes_through_somewhere`: some runs, step by step.
+-- The laws `scans_somewhere`, `scans_while_down`, `writes_somewhere` and `comes_through_somewhere`: some runs, step by
+-- step.
 pub mod Worked
 pub mod Running
+pub mod DownRun
 pub mod InsertAtServer
 pub mod InsertRun
 pub mod Acting

@@ -4,7 +4,8 @@ ghost use Rattle.krl_world.specs.Steps.{IsReachable};
 ghost use Rattle.krl_world.specs.Promises.{Headline};
 ghost use Rattle.krl_world.specs.Laws.{ReachableStays, NobodyAbove63};
 ghost use Rattle.krl_world.specs.Laws.{CanGoOn, ServesOn, RecoveriesEnd};
-ghost use Rattle.krl_world.specs.Runs.{ScansSomewhere, WritesSomewhere, ComesThroughSomewhere};
+ghost use Rattle.krl_world.specs.Runs.{ScansSomewhere, ScansWhileDown, WritesSomewhere};
+ghost use Rattle.krl_world.specs.Runs.{ComesThroughSomewhere};
 ghost use Rattle.krl_world.specs.Bounds.{Bound, HasBound, BoundIsTable};
 ghost use Rattle.krl_world.specs.Bounds.{IsBounded, HoldsOverRestarts};
 
@@ -64,13 +65,18 @@ pub fn scans_somewhere()
     ensures { ScansSomewhere }
 {}
 
+/// Some run comes to a world in which no server runs, and a scan from a cache gives an entry.
+pub fn scans_while_down()
+    ensures { ScansWhileDown }
+{}
+
 /// Some run comes to a world in which a client was told that its insert is Applied, and it stands
 /// in the list of writes.
 pub fn writes_somewhere()
     ensures { WritesSomewhere }
 {}
 
-/// Some run passes through a callback, a crash and a start of the server, Reports that are taken,
+/// Some run passes through a callback, a crash and a start of the server, Reports of both clients,
 /// and a delete that is Applied.
 pub fn comes_through_somewhere()
     ensures { ComesThroughSomewhere }

@@ -114,7 +114,8 @@ impl World {
         self.nodes.step(step)
     }
 
-    /// Takes steps one after another, and gives what each answered, refusals too.
+    /// Takes steps one after another, and gives what each answered, refusals too. Each step keeps
+    /// what [`World::step`] promises; what is promised of the last world of a run is said here too.
     ///
     /// # Errors
     ///
@@ -127,7 +128,12 @@ impl World {
         ensures runs { IfOk result
             (λ answers. RunsWith (meaning self.old) steps.now answers.items (meaning self.new)) }
         ensures no_step { OnErr result (self.new ≡ self.old) }
+        ensures compatible { IsCompatible (meaning self.new) }
+        ensures writes { WritesOnce (meaning self.new) }
+        ensures reachable { IsReachable (meaning self.new) }
     {
+        // What holds of every world is known where its field is named.
+        let _ = &self.nodes;
         let mut answers = Vec::with_capacity(alloc, steps.len())?;
         for step in steps {
             answers.push_reserved(self.step(*step));

@@ -1,6 +1,6 @@
 -- On from there: the server crashes and starts again, both clients report, it serves, and a client that holds a key and the
 -- gaps at both of its sides alone deletes it, and is told Applied.
-use Rattle.std.proofs.Common.{◌≡◌, ℕ, ◌∙◌, Bool, true, false, cond, Some, None, List, [], ◌∷◌, ◌++◌, inl, inr, refl, sym, ap, arith}
+use Rattle.std.proofs.Common.{◌≡◌, ◌≤◌, ℕ, zero, suc, ◌∙◌, Bool, true, false, cond, Some, None, List, [], ◌∷◌, ◌++◌, inl, inr, refl, sym, ap, arith}
 use Rattle.std.specs.Ordering.{nat_cmp, eq_by_cmp}
 use Rattle.std.specs.Cmp.{nat_cmp_total}
 use Rattle.std.specs.FinMap as map
@@ -322,6 +322,12 @@ resumed = (opens, run ++ (called.more ++ last), runs_on (fresh two) w6 c27 run (
 pub told_back : In (message.ToClient callback) c27.sent
 unfolding opened
 told_back = inr (inr (inr (inr (inr (inr (inr (inr (inr (inr (inl refl))))))))))
+
+pub reported : (c : ℕ) → c ≤ 1 → (pieces : Pieces) × In (message.ToServer (report c pieces)) c27.sent
+unfolding opened
+reported zero le = (no_pieces, inr (inr (inr (inr (inr (inr (inr (inr (inr (inr (inr (inr (inr (inr (inr (inr (inl refl)))))))))))))))))
+reported (suc zero) le = (alone, inr (inr (inr (inr (inr (inr (inr (inr (inr (inr (inr (inr (inr (inr (inr (inr (inr (inl refl))))))))))))))))))
+reported (suc (suc c)) le = absurd (omega (arith, le))
 
 pub serves : is_serving c27.server ≡ true
 serves = refl

@@ -150,7 +150,7 @@ covered_by true true e = refl
 covered_by true false e = refl
 covered_by false u e = absurd (cc)
 
-covers : CoversAll k3.belief (span 0 11)
+pub covers : CoversAll k3.belief (span 0 11)
 covers p at = let h = at.1 in covered_by (contains (span 0 11) p) (nat_eq (suc p) 11) (inside p h)
   where
     inside : (p : ℕ) → p < 11 → contains (span 0 11) p ≡ true
@@ -161,7 +161,7 @@ row_by v p true true e f = let i : p ≡ 10 = grind (arith, nat_tests) in subst 
 row_by v p true false e f = let i : eq_by_cmp nat_cmp p 10 ≡ false = grind (arith, nat_tests) in rw i refl
 row_by v p false u e f = let i : eq_by_cmp nat_cmp p 10 ≡ false = grind (arith, nat_tests) in rw i refl
 
-rows : AreRows k3.belief (span 0 11) ((10, 1 ∷ []) ∷ [])
+pub rows : AreRows k3.belief (span 0 11) ((10, 1 ∷ []) ∷ [])
 rows = record { sorted = refl; at = λ p. row_by (1 ∷ []) p (contains (span 0 11) p) (nat_eq (suc p) 11) refl refl }
 
 pub scans : Steps w6 (step.Command 0 (command.Scan 0 11)) (Ok (told.Rows ((10, 1 ∷ []) ∷ []))) w6

@@ -16,19 +16,25 @@ use Rattle.krl_world.specs.Laws.{CanGoOn}
 use Rattle.krl_world.proofs.Functions.Shapes.{reachable_stays}
 use Rattle.krl_world.proofs.Progress.CanGoOn.{can_go_on}
 
+pub compatible_at : (v : State) → IsReachable v → IsCompatible v
+compatible_at v h = (headline_holds all_follow v h).compatible
+
+pub writes_at : (v : State) → IsReachable v → WritesOnce v
+writes_at v h = (headline_holds all_follow v h).writes
+
 -- a step from one world to the next, of which the first is reachable
 module _ (w v : State) (s : Step) (r : Result Answer Refused) (h : IsReachable w) (t : Steps w s r v) where
   pub reachable_after : IsReachable v
   reachable_after = reachable_stays.step w v s r h t
 
   pub compatible_after : IsCompatible v
-  compatible_after = (headline_holds all_follow v reachable_after).compatible
+  compatible_after = compatible_at v reachable_after
 
   pub scans_before : ScansIndex (index_of w) s r
   scans_before = (headline_holds all_follow w h).scans s r v t
 
   pub writes_after : WritesOnce v
-  writes_after = (headline_holds all_follow v reachable_after).writes
+  writes_after = writes_at v reachable_after
 
   pub bounded_after : (b : Bound) → HasBound v b → IsBounded v b
   bounded_after b x = bounded_holds all_follow v b x

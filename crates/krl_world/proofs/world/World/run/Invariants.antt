@@ -1,5 +1,6 @@
 use Rattle.std.proofs.Common.{◌≡◌, ◌≤◌, length, drop, vec_len, vec_capacity}
 use Rattle.krl_world.specs.Fields.{meaning}
+use Rattle.krl_world.specs.Steps.{IsReachable}
 use Rattle.krl_world.proofs.Functions.Runs.{GoesOn}
 use Rattle.krl_world.proofs.world.World.run.Given as goal
 
@@ -8,5 +9,6 @@ abbrev pub invariant-loop-step : goal.invariant-loop-step
 invariant-loop-step l = record {
   goes : GoesOn (meaning l.fn.self) (meaning l.self) l.steps (drop l.step-index l.steps) l.answers.items;
   counted : vec_len l.answers ≡ l.step-index;
+  reached : IsReachable (meaning l.self);
   room : length l.steps ≤ vec_capacity l.answers;
 }
