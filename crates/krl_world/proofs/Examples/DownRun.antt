@@ -24,9 +24,11 @@ crashes = (refl, (refl, refl))
 
 pub reached : IsReachable w7
 unfolding opened
-reached =
-    (opens, run ++ (step.CrashServer ∷ []),
-        runs_on (fresh two) w6 w7 run (step.CrashServer ∷ []) runs (told.Done, w7, crashes, refl))
+reached = (
+  opens,
+  run ++ (step.CrashServer ∷ []),
+  runs_on (fresh two) w6 w7 run (step.CrashServer ∷ []) runs (told.Done, w7, crashes, refl),
+)
 
 pub down : w7.server ≡ Down left
 down = refl
