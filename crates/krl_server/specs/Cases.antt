@@ -118,30 +118,11 @@ case_of s m = if is_malformed m then Ignored else case_of_record s m (record_of 
 
 -- the step says Alarm
 abbrev pub is_alarm : Case → Bool
-is_alarm Ignored = false
-is_alarm Registers = false
-is_alarm Leaves = false
-is_alarm Tells = false
 is_alarm Alarms = true
-is_alarm (Rebuilds pieces) = false
-is_alarm (Repeats body) = false
-is_alarm Acknowledges = false
-is_alarm (Lowers span keep) = false
-is_alarm (Waits req point hi g) = false
-is_alarm (Judges number op o) = false
-is_alarm (AnswersAgain number op o) = false
+is_alarm other = false
 
 -- the case registers the message's client anew, or marks it left
 abbrev pub clears : Case → Bool
-clears Ignored = false
 clears Registers = true
 clears Leaves = true
-clears Tells = false
-clears Alarms = false
-clears (Rebuilds pieces) = false
-clears (Repeats body) = false
-clears Acknowledges = false
-clears (Lowers span keep) = false
-clears (Waits req point hi g) = false
-clears (Judges number op o) = false
-clears (AnswersAgain number op o) = false
+clears other = false

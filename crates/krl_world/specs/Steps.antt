@@ -134,26 +134,13 @@ refusal_of w step.CrashServer = server_down w.server
 
 abbrev pub if_applied : Outcome → AppliedWrite → List AppliedWrite
 if_applied outcome.Applied x = x ∷ []
-if_applied outcome.Exists x = []
-if_applied outcome.Absent x = []
-if_applied outcome.NotHeld x = []
-if_applied outcome.Full x = []
+if_applied other x = []
 
 -- the write that the server applies with a message of this case, if it applies one
 abbrev pub applies : ToServer → Case → List AppliedWrite
-applies m Ignored = []
-applies m Registers = []
-applies m Leaves = []
-applies m Tells = []
-applies m Alarms = []
-applies m (Rebuilds pieces) = []
-applies m (Repeats body) = []
-applies m Acknowledges = []
-applies m (Lowers s keep) = []
-applies m (Waits req point hi g) = []
 applies m (Judges number op o) =
     if_applied o (record { client = m.client; incarnation = m.incarnation; number = number; op = op })
-applies m (AnswersAgain number op o) = []
+applies m other = []
 
 -- the server reads the message; one that is down loses it
 abbrev pub ServerReads : State → ServerNode → ToServer → State → Type 0
