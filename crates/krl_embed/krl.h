@@ -366,8 +366,8 @@ krl_reply krl_client_delete(krl_handle *handle, uint64_t key);
 
 /* Answers from the client's own cache, with no message, the entries with keys from `lo` on below `hi`, in key order:
  * that range of the server's index at this moment. They go into `rows`, and the detail is their count. Else
- * KRL_MISS, KRL_PENDING, or KRL_TOO_SHORT where there are more than `room`. Refused by KRL_BAD_SPAN,
- * KRL_OUT_OF_MEMORY. */
+ * KRL_MISS, KRL_PENDING, or KRL_TOO_SHORT where there are more than `room`. Refused by KRL_BAD_SPAN. It takes no
+ * memory. */
 krl_reply krl_client_scan(krl_handle *handle, uint64_t lo, uint64_t hi, krl_row *rows, size_t room);
 
 /* Gives back what the client holds of the points from `lo` on below `hi`. Refused, in this order, by KRL_BAD_SPAN,

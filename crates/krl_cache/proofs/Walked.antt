@@ -29,7 +29,7 @@ stands_free : (f : ℕ → Option Entry) (p hi end : ℕ) (es : List (ℕ × Ent
 stands_free f p hi end [] l h s = λ q a b. h q a (omega (arith, l, b))
 stands_free f p hi end (e ∷ es) l h s = λ q a b. h.0.free q a (omega (arith, s, b))
 
-gap_read : (part : RangePart) (f : ℕ → Option Entry) (lo hi : ℕ) → reads_gap part ≡ true → AreKnown part f lo hi
+pub gap_read : (part : RangePart) (f : ℕ → Option Entry) (lo hi : ℕ) → reads_gap part ≡ true → AreKnown part f lo hi
 gap_read part f lo hi r = λ q a b. or_right (reads_key (part_of (f q))) (reads_gap part) r
 
 -- an entry at p that is read, where each point before is known

@@ -8,3 +8,4 @@ pub mod Plans
 pub mod Several
 pub mod Sifts
 pub mod Walks
+pub mod Founds

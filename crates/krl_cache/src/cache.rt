@@ -7,6 +7,7 @@ ghost use Rattle.std.specs.BTreeMap.Range.{entries_between};
 ghost use Rattle.std.specs.declared.ops.Bound.TheVariants.{Included, Excluded};
 ghost use Rattle.krl_modes.specs.declared.point.TheConstants.{TOP};
 ghost use Rattle.krl_cache.specs.Beliefs as beliefs;
+ghost use Rattle.krl_cache.specs.Founds.{scanned_of};
 ghost use Rattle.krl_cache.specs.Kept.{range_said, AreMerged};
 ghost use Rattle.krl_cache.specs.Lists.{key_piece, StandWithin};
 ghost use Rattle.krl_cache.specs.Maps.{Maps, maps_believe, at, part_at, IsPast, AreStartsMerged};
@@ -14,6 +15,7 @@ ghost use Rattle.krl_cache.specs.Maps.{row_of, piece_of, is_held};
 
 use crate::belief::Belief;
 use crate::entry::Entry;
+use crate::found::{Found, RowsInPlace};
 use crate::maps::part_at;
 use crate::parts::{part_of, value_of};
 use crate::rows::Rows;
@@ -156,6 +158,19 @@ impl Cache {
         Cache {
             starts: BTreeMap::new(alloc),
             entries: BTreeMap::new(alloc),
+        }
+    }
+
+    /// The entries of the span, where each of its points is known; else the least point that is
+    /// not. They are read where they stand, so that it takes no memory.
+    pub fn find(&self, span: Span) -> Found<'_>
+        ensures { beliefs.Scans (maps_believe self.now) span (scanned_of result) }
+    {
+        let lo = span.lo();
+        let hi = span.hi();
+        match first_unknown(&self.starts, &self.entries, lo, hi) {
+            Some(p) => Found::Miss(p),
+            None => Found::Rows(RowsInPlace::of(self.entries.range(lo..hi))),
         }
     }
 }

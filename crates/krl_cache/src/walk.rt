@@ -1,8 +1,11 @@
 //! A walk over a span, from its first point on: which of its points are known.
-ghost use Rattle.std.specs.Prelude.{◌≡◌, ◌≤◌, ◌<◌, ◌&&◌, ◌||◌, nat_eq, MatchOption};
+ghost use Rattle.std.specs.Prelude.{◌≡◌, ◌≤◌, ◌<◌, ◌&&◌, ◌||◌, ℕ, true, nat_eq};
+ghost use Rattle.std.specs.Prelude.{Option, MatchOption};
 ghost use Rattle.krl_modes.specs.Parts.{reads_gap, reads_key};
 ghost use Rattle.krl_cache.specs.Beliefs as beliefs;
-ghost use Rattle.krl_cache.specs.Maps.{Maps, maps_believe, at, AreNext};
+ghost use Rattle.krl_cache.specs.declared.entry.Entry.{Entry};
+ghost use Rattle.krl_cache.specs.Lists.{belief_by};
+ghost use Rattle.krl_cache.specs.Maps.{Maps, maps_believe, at, part_at, AreNext};
 ghost use Rattle.krl_cache.specs.Walks.{list_of, left_of, TakesBelow, Walks};
 
 use crate::entry::Entry;
@@ -79,8 +82,27 @@ fn first_gap(left: &mut Left<'_>, part: RangePart, lo: u64, hi: u64) -> Option<u
     if p < hi { Some(p) } else { None }
 }
 
+// Whether each part that holds from `lo` on below `hi` reads the gap. Each point is known then,
+// whatever entries there are.
+fn reads_gaps(starts: &BTreeMap<u64, RangePart>, lo: u64, hi: u64) -> bool
+    requires { lo < hi }
+    ensures { result ≡ true → (g : ℕ → Option Entry)
+        → beliefs.CoversAll (belief_by (part_at (at starts.now.entries)) g)
+        (record { lo = lo; hi = hi }) }
+{
+    let mut part = part_at(starts, lo);
+    for (_, next) in starts.range(lo + 1..hi) {
+        if !reads_gap(part) {
+            return false;
+        }
+        part = *next;
+    }
+    reads_gap(part)
+}
+
 // The least point from `lo` on below `hi` that is not known. The maps are searched where the span
-// begins alone; what lies in it is walked over once.
+// begins alone. Where each part reads the gap, the parts are walked over once, and no entry is;
+// else the entries once, and the parts twice.
 pub fn first_unknown(
     starts: &BTreeMap<u64, RangePart>,
     entries: &BTreeMap<u64, Entry>,
@@ -96,6 +118,9 @@ pub fn first_unknown(
         (maps_believe (record { starts = starts.now.entries; entries = entries.now.entries }))
         (record { lo = lo; hi = hi })) }
 {
+    if reads_gaps(starts, lo, hi) {
+        return None;
+    }
     let mut left = left_between(entries, lo, hi);
     let mut p = lo;
     let mut part = part_at(starts, lo);

@@ -5,4 +5,5 @@ pub mod Ticks
 pub mod Laws
 pub mod Keeps
 pub mod Fields
+pub mod Finds
 pub mod Names

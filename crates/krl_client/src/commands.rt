@@ -6,12 +6,14 @@ ghost use Rattle.krl_client.specs.declared.scan_answer.ScanAnswer.TheVariants.{P
 ghost use Rattle.krl_client.specs.Clients as clients;
 ghost use Rattle.krl_client.specs.Commands as commands;
 ghost use Rattle.krl_client.specs.Fields.{meaning, IsDue};
+ghost use Rattle.krl_client.specs.Finds.{answer_of};
 
 use crate::client::Client;
+use crate::find_answer::FindAnswer;
 use crate::pins::MOST_PINS;
 use crate::refused::CommandRefused;
 use crate::scan_answer::ScanAnswer;
-use krl_cache::{Belief, Scanned};
+use krl_cache::{Belief, Found, Scanned};
 use krl_modes::Span;
 
 impl Client {
@@ -105,6 +107,32 @@ impl Client {
         match self.cache.scan(self.alloc, span)? {
             Scanned::Rows(rows) => Ok(ScanAnswer::Rows(rows)),
             Scanned::Miss(p) => Ok(ScanAnswer::Miss(p)),
+        }
+    }
+
+    /// What a scan of these points answers, with the entries where they stand in the cache. It
+    /// takes no memory.
+    ///
+    /// # Errors
+    ///
+    /// `BadSpan` where `lo` is not below `hi`, or `hi` is above TOP.
+    pub fn find(&self, lo: u64, hi: u64) -> Result<FindAnswer<'_>, CommandRefused>
+        ensures due { IfErr result
+            (λ r. commands.scan_refusal (record { lo = lo; hi = hi }) ≡ Some r) }
+        ensures none_due { OnOk result
+            (commands.scan_refusal (record { lo = lo; hi = hi }) ≡ None) }
+        ensures answer { IfOk result
+            (λ x. commands.Answers (meaning self.now) (record { lo = lo; hi = hi }) (answer_of x)) }
+    {
+        let Ok(span) = Span::new(lo, hi) else {
+            return Err(CommandRefused::BadSpan);
+        };
+        if let Some(key) = self.pending(span) {
+            return Ok(FindAnswer::Pending(key));
+        }
+        match self.cache.find(span) {
+            Found::Rows(rows) => Ok(FindAnswer::Rows(rows)),
+            Found::Miss(p) => Ok(FindAnswer::Miss(p)),
         }
     }
 }

@@ -9,6 +9,7 @@
 
 mod client;
 mod commands;
+mod find_answer;
 mod last_write;
 pub mod laws;
 mod lock_request;
@@ -23,6 +24,7 @@ mod ticks;
 mod view;
 
 pub use client::Client;
+pub use find_answer::FindAnswer;
 pub use refused::{CommandRefused, StartRefused};
 pub use scan_answer::ScanAnswer;
 pub use status::{LockStatus, Status, WriteStatus};

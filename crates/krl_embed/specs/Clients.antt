@@ -155,7 +155,6 @@ Finds k s was now r (Some code.TooShort) = FindsRows k s was now r
 Finds k s was now r (Some code.Miss) = commands.Answers k s (answer.Miss r.detail) × (now ≡ was)
 Finds k s was now r (Some code.Pending) = commands.Answers k s (answer.Pending r.detail) × (now ≡ was)
 Finds k s was now r (Some code.BadSpan) = (commands.scan_refusal s ≡ Some refused.BadSpan) × (now ≡ was)
-Finds k s was now r (Some code.OutOfMemory) = (commands.scan_refusal s ≡ None) × (now ≡ was)
 Finds k s was now r _ = ⊥
 
 abbrev pub Scans : Bounds → List Row → List Row → Fields → Reply → Type 0

@@ -40,7 +40,7 @@ fn write_row(op: &WriteOp) -> Row
     ensures { result ≡ changes.write_row op.now }
 {
     match op {
-        WriteOp::Insert { key, value } | WriteOp::Put { key, value } => Row::of(&(*key, *value)),
+        WriteOp::Insert { key, value } | WriteOp::Put { key, value } => Row::of(*key, value),
         WriteOp::Delete { key } => Row::of_key(*key),
     }
 }

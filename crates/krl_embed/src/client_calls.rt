@@ -12,7 +12,7 @@ use crate::endpoint::{Endpoint, Role};
 use crate::frames::Frames;
 use crate::reply::Reply;
 use crate::rows::{Row, copy_rows};
-use krl_client::{Client, CommandRefused, ScanAnswer};
+use krl_client::{Client, CommandRefused, FindAnswer};
 use krl_messages::{Items, ToServer, WriteOp};
 use krl_modes::Mode;
 use krl_wire::to_client_of;
@@ -217,10 +217,10 @@ pub(crate) fn unpin(endpoint: &mut Endpoint, id: u64) -> Reply
 fn find(client: &Client, lo: u64, hi: u64, rows: &mut [Row]) -> Reply
     ensures { calls.Scans (record { lo = lo; hi = hi }) rows.old rows.new client.now result }
 {
-    match client.scan(lo, hi) {
-        Ok(ScanAnswer::Rows(found)) => copy_rows(found.as_slice(), rows),
-        Ok(ScanAnswer::Miss(point)) => Reply::with(Code::Miss, point),
-        Ok(ScanAnswer::Pending(key)) => Reply::with(Code::Pending, key),
+    match client.find(lo, hi) {
+        Ok(FindAnswer::Rows(found)) => copy_rows(found, rows),
+        Ok(FindAnswer::Miss(point)) => Reply::with(Code::Miss, point),
+        Ok(FindAnswer::Pending(key)) => Reply::with(Code::Pending, key),
         Err(refused) => Reply::of(refusal_code(refused)),
     }
 }

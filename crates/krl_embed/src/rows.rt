@@ -5,6 +5,7 @@ ghost use Rattle.krl_embed.specs.Rows.{row_of, entry_of, most_bytes, HasValue, R
 
 use crate::code::Code;
 use crate::reply::Reply;
+use krl_cache::RowsInPlace;
 use krl_messages::Value;
 use std::alloc::Global;
 
@@ -43,24 +44,15 @@ impl Row {
     }
 
     /// The entry's row: zeros stand behind the value's bytes.
-    pub(crate) fn of(entry: &(u64, Value)) -> Row
-        ensures { result ≡ row_of entry.now }
+    #[inline(always)]
+    pub(crate) fn of(key: u64, value: &Value) -> Row
+        ensures { result ≡ row_of (key, value.now) }
     {
-        let mut row = Row::blank();
-        row.put(entry);
-        row
-    }
-
-    // Becomes the entry's row. The bytes go to where they stay: a copy of what was written just now
-    // waits for it.
-    fn put(&mut self, entry: &(u64, Value))
-        ensures { self.new ≡ row_of entry.now }
-    {
-        let bytes = entry.1.bytes();
-        self.key = entry.0;
-        self.length = bytes.len() as u64;
-        self.bytes = [0; 32];
-        self.bytes[..bytes.len()].copy_from_slice(bytes);
+        Row {
+            key,
+            length: value.bytes().len() as u64,
+            bytes: value.padded(),
+        }
     }
 
     /// The entry, where its value has at most 32 bytes.
@@ -102,15 +94,18 @@ pub(crate) fn entries_of(alloc: Global, rows: &[Row]) -> Result<Vec<(u64, Value)
 }
 
 /// The entries go into `rows`: Done, and their count; or TooShort with that, and none goes there.
-pub(crate) fn copy_rows(found: &[(u64, Value)], rows: &mut [Row]) -> Reply
-    ensures { Copies found.now rows.old rows.new result }
+pub(crate) fn copy_rows(found: RowsInPlace<'_>, rows: &mut [Row]) -> Reply
+    ensures { Copies found.entry rows.old rows.new result }
 {
-    let count = found.len();
+    let count = found.count();
     if rows.len() < count {
         return Reply::with(Code::TooShort, count as u64);
     }
-    for i in 0..count {
-        rows[i].put(&found[i]);
+    let mut left = found;
+    let mut i = 0;
+    while let Some((key, value)) = left.pop_first() {
+        rows[i] = Row::of(key, value);
+        i += 1;
     }
     Reply::with(Code::Done, count as u64)
 }

@@ -1,6 +1,7 @@
 //! The values of entries.
 ghost use Rattle.std.specs.Prelude.{◌≡◌, ◌≤◌, ◌↔◌, length, IsSome, IfSome};
 ghost use Rattle.std.specs.Int.{w64, to_be_bytes};
+ghost use Rattle.krl_messages.specs.Padded.{padded};
 ghost use Rattle.krl_messages.specs.Values.{number_of};
 
 use std::marker::Model;
@@ -82,5 +83,12 @@ impl Value {
         ensures few { length result.now ≤ 32 }
     {
         &self.bytes[..self.len as usize]
+    }
+
+    /// The bytes, and zeros behind them: 32 in all.
+    pub fn padded(&self) -> [u8; 32]
+        ensures { result ≡ padded self.now }
+    {
+        self.bytes
     }
 }

@@ -1,7 +1,25 @@
-use Rattle.krl_embed.proofs.RowsLemmas.{copied_one}
+use Rattle.std.proofs.Common.{◌≡◌, ℕ, ◌∙◌, arith}
+use Rattle.krl_messages.specs.Values.{Value}
+use Rattle.krl_embed.proofs.RowsLemmas.{popped, copied_one, copied_all}
 use Rattle.krl_embed.proofs.rows.copy_rows.Goals as goal
 
-pub loop-i-preserved : goal.loop-i-preserved
-loop-i-preserved c =
-    copied_one c.args.found.now c.args.rows.now c.loop-i.rows c.loop-i.i c.index-found-i.result c.put.new.self
-    c.loop-i-test.true c.if-rows-count.false c.index-found-i.is c.put.ensures c.loop-i.invariant
+pub loop-key-preserved : goal.loop-key-preserved
+loop-key-preserved c =
+    let found = c.args.found in
+    let e : ℕ × Value = (c.in-Some.key, c.in-Some.value.now) in
+    let p = popped found c.loop-key.i e c.pop_first.new.self (c.loop-key.invariant.left ∙ c.in-Some.ensures) in
+    record {
+      within = omega (arith, p.0);
+      left = p.2;
+      rows = copied_one found c.args.rows.now c.loop-key.rows c.loop-key.i e c.of.result p.0
+          (omega (arith, c.if-rows-count.false, c.count-count.ensures)) p.1 c.of.ensures c.loop-key.invariant.rows;
+    }
+
+pub returns : goal.returns
+returns c = (
+  c.with-2.ensures.detail ∙ c.count-count.ensures,
+  rw c.with-2.ensures.code (
+      copied_all c.args.found c.args.rows.now c.loop-key.rows c.loop-key.i
+      (c.loop-key.invariant.left ∙ c.in_default.ensures.0) c.loop-key.invariant.within c.loop-key.invariant.rows
+      ),
+)

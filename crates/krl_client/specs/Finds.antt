@@ -1,0 +1,10 @@
+-- What a client answers to a look into its cache, as a scan would say it.
+use Rattle.krl_client.specs.declared.find_answer.FindAnswer.{FindAnswer}
+use Rattle.krl_client.specs.declared.find_answer.FindAnswer.TheVariants as find
+use Rattle.krl_client.specs.declared.scan_answer.ScanAnswer.{ScanAnswer}
+use Rattle.krl_client.specs.declared.scan_answer.ScanAnswer.TheVariants as answer
+
+abbrev pub answer_of : FindAnswer → ScanAnswer
+answer_of (find.Rows rows) = answer.Rows rows
+answer_of (find.Miss p) = answer.Miss p
+answer_of (find.Pending key) = answer.Pending key
