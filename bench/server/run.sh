@@ -15,4 +15,4 @@
 #                      others back
 #   start              a start on what survives, which registers 64 clients
 #   report-of-1000     one of the 64 reports of 1,000 ranges each that follow
-exec "$(dirname -- "$0")/../both_sizes" server krl_modes krl_messages krl_queue krl_blocks krl_store krl_durable krl_table krl_protocol krl_server
+exec "$(dirname -- "$0")/../both_sizes" server krl_modes krl_messages krl_queue krl_blocks krl_store krl_durable krl_table krl_server

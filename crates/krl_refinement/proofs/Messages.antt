@@ -22,8 +22,8 @@ use Rattle.krl_messages.specs.declared.to_client.ToClientBody.{ToClientBody}
 use Rattle.krl_messages.specs.declared.to_client.ToClientBody.TheVariants as told
 use Rattle.krl_messages.specs.declared.to_client.PushBody.{PushBody}
 use Rattle.krl_messages.specs.declared.to_client.PushBody.TheVariants as push
-use Rattle.krl_protocol.specs.Links as links
-use Rattle.krl_protocol.specs.Links.{Head, Link}
+use Rattle.krl_machine.specs.Links as links
+use Rattle.krl_machine.specs.Links.{Head, Link}
 use Rattle.krl_table.specs.Reports.{range_said, reported_key}
 use Rattle.krl_cache.specs.Beliefs.{Belief}
 use Rattle.krl_cache.specs.Kept as cache

@@ -19,9 +19,9 @@ use Rattle.krl_messages.specs.declared.to_client.PushBody.{PushBody}
 use Rattle.krl_messages.specs.declared.to_client.PushBody.TheVariants as push
 use Rattle.krl_messages.specs.Members.{In}
 use Rattle.krl_messages.specs.Writes.{is_applied}
-use Rattle.krl_protocol.specs.Links as links
-use Rattle.krl_protocol.specs.Links.{Op, Insert, Put, Delete, Head, Link}
-use Rattle.krl_protocol.specs.Holdings.{said_by}
+use Rattle.krl_machine.specs.Links as links
+use Rattle.krl_machine.specs.Links.{Op, Insert, Put, Delete, Head, Link}
+use Rattle.krl_machine.specs.Holdings.{said_by}
 use Rattle.krl_table.specs.Reports.{range_said, reported_key}
 
 -- the last point of a span

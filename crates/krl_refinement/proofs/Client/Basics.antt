@@ -6,7 +6,7 @@ use Rattle.krl_modes.specs.declared.mode.Mode.{Mode}
 use Rattle.krl_modes.specs.Parts.{range_meet, key_meet}
 use Rattle.krl_modes.specs.Modes.{range_of, key_of}
 use Rattle.krl_modes.specs.Spans.{Bounds, contains}
-use Rattle.krl_protocol.specs.Links.{Link, Lowered, untouched, lowered}
+use Rattle.krl_machine.specs.Links.{Link, Lowered, untouched, lowered}
 use Rattle.krl_cache.proofs.Truths.{outside_span}
 use Rattle.krl_client.specs.declared.refused.CommandRefused.{CommandRefused}
 use Rattle.krl_modes.proofs.SpanLaws.{inside_span}

@@ -17,10 +17,10 @@ use Rattle.krl_messages.specs.declared.to_client.PushBody.{PushBody}
 use Rattle.krl_messages.specs.declared.to_client.PushBody.TheVariants as push
 use Rattle.std.specs.List.{AllByRecursion}
 use Rattle.krl_messages.specs.Values.{Value}
-use Rattle.krl_protocol.specs.Worlds.{row_of}
-use Rattle.krl_protocol.specs.Links
-use Rattle.krl_protocol.specs.Links.{Op, Said, Link, Shared, belief, adopted, OutAfter, joins, accepts}
-use Rattle.krl_protocol.specs.Holdings.{said_at, or_by, said_by}
+use Rattle.krl_machine.specs.Worlds.{row_of}
+use Rattle.krl_machine.specs.Links
+use Rattle.krl_machine.specs.Links.{Op, Said, Link, Shared, belief, adopted, OutAfter, joins, accepts}
+use Rattle.krl_machine.specs.Holdings.{said_at, or_by, said_by}
 use Rattle.krl_modes.specs.Parts.{reads_key}
 use Rattle.krl_messages.specs.Holdings.{ends_at_end, has_its_value}
 use Rattle.krl_messages.specs.Several.{have_values}

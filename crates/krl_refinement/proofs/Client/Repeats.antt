@@ -5,7 +5,7 @@ use Rattle.krl_messages.specs.declared.pieces.Pieces.{Pieces}
 use Rattle.krl_messages.specs.declared.to_server.ToServer.{ToServer}
 use Rattle.krl_messages.specs.Members.{In}
 use Rattle.krl_messages.proofs.Members.{in_both}
-use Rattle.krl_protocol.specs.Links.{Link, Report, Shared, LinkSteps, idle, next, head_of, hellos_again, reports_again, speaks, writes_again}
+use Rattle.krl_machine.specs.Links.{Link, Report, Shared, LinkSteps, idle, next, head_of, hellos_again, reports_again, speaks, writes_again}
 use Rattle.krl_cache.specs.Beliefs.{Belief}
 use Rattle.krl_cache.specs.Kept.{Describes}
 use Rattle.krl_client.specs.Clients.{Client, LockRequest, NotAsked, Granted, NoEntry, Dropped, Waiting, outstanding, has_joined}

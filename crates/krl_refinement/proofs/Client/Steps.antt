@@ -13,10 +13,10 @@ use Rattle.krl_messages.specs.declared.write_op.WriteOp.{WriteOp}
 use Rattle.krl_messages.specs.declared.write_op.WriteOp.TheVariants as op
 use Rattle.krl_messages.specs.declared.to_server.ToServer.{ToServer}
 use Rattle.krl_messages.specs.Values.{Value}
-use Rattle.krl_protocol.specs.Worlds.{row_of}
-use Rattle.krl_protocol.specs.Links
-use Rattle.krl_protocol.specs.Links.{Op, op_key, Link, Shared, LinkStep, idle, next, MayIssue, head_of, starts, crashes, leaves, lowers, issues, speaks}
-use Rattle.krl_protocol.proofs.Modes.{mode_parts}
+use Rattle.krl_machine.specs.Worlds.{row_of}
+use Rattle.krl_machine.specs.Links
+use Rattle.krl_machine.specs.Links.{Op, op_key, Link, Shared, LinkStep, idle, next, MayIssue, head_of, starts, crashes, leaves, lowers, issues, speaks}
+use Rattle.krl_machine.proofs.Modes.{mode_parts}
 use Rattle.krl_cache.specs.Beliefs.{lower, is_span}
 use Rattle.krl_client.specs.declared.refused.CommandRefused.TheVariants as refused
 use Rattle.krl_cache.proofs.Truths.{none_left, outside_span}

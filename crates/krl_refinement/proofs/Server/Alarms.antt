@@ -18,12 +18,12 @@ use Rattle.krl_durable.specs.Index.{is_slot}
 use Rattle.krl_durable.specs.Registers.{record_of}
 use Rattle.krl_table.specs.Rows.{most_clients, mode_at, column, all_below, is_compatible_there}
 use Rattle.krl_table.specs.Reports.{rebuilt, adopted, conflicts}
-use Rattle.krl_protocol.specs.Modes.{RangesAgree, KeysAgree}
-use Rattle.krl_protocol.specs.Links.{Recovering, Link, IsSlot}
-use Rattle.krl_protocol.specs.Worlds.{Logged, Reachable, MayTake}
-use Rattle.krl_protocol.proofs.Runs.{never_alarms}
-use Rattle.krl_protocol.proofs.Tables.{slots_agree}
-use Rattle.krl_protocol.specs.Tables as machine
+use Rattle.krl_machine.specs.Modes.{RangesAgree, KeysAgree}
+use Rattle.krl_machine.specs.Links.{Recovering, Link, IsSlot}
+use Rattle.krl_machine.specs.Worlds.{Logged, Reachable, MayTake}
+use Rattle.krl_machine.proofs.Runs.{never_alarms}
+use Rattle.krl_machine.proofs.Tables.{slots_agree}
+use Rattle.krl_machine.specs.Tables as machine
 use Rattle.krl_server.specs.Servers.{Server, lists}
 use Rattle.krl_server.specs.Soundness.{IsSound}
 use Rattle.krl_refinement.specs.Messages.{report_of, Stands}

@@ -11,7 +11,7 @@ use Rattle.krl_table.specs.Rows.{most_clients}
 use Rattle.krl_table.specs.Calls.{wanted}
 use Rattle.krl_table.specs.Replies.{asks_absent}
 use Rattle.krl_table.proofs.Rows.Slots.{low_under}
-use Rattle.krl_protocol.specs.Links.{Link}
+use Rattle.krl_machine.specs.Links.{Link}
 use Rattle.krl_server.specs.Servers.{Server}
 use Rattle.krl_server.specs.Effects.{callback_to}
 use Rattle.krl_server.specs.Callbacks.{is_compatible, callbacks_from, callbacks_for, callbacks_at, callbacks_among}

@@ -8,11 +8,11 @@ use Rattle.krl_queue.specs.declared.waiter.Waiter.{Waiter}
 use Rattle.krl_durable.specs.declared.record.Record.{Record}
 use Rattle.krl_durable.specs.Registers.{record_of}
 use Rattle.krl_table.specs.Points.{range_at, key_at}
-use Rattle.krl_protocol.specs.Links.{Shared, Link, LinkSteps}
-use Rattle.krl_protocol.specs.Worlds.{Logged, Steps, none}
-use Rattle.krl_protocol.proofs.Worlds.{eq_cases}
-use Rattle.krl_protocol.proofs.Steps.{steps_on, put, put_changed, link_steps}
-use Rattle.krl_protocol.specs.Links as links
+use Rattle.krl_machine.specs.Links.{Shared, Link, LinkSteps}
+use Rattle.krl_machine.specs.Worlds.{Logged, Steps, none}
+use Rattle.krl_machine.proofs.Worlds.{eq_cases}
+use Rattle.krl_machine.proofs.Steps.{steps_on, put, put_changed, link_steps}
+use Rattle.krl_machine.specs.Links as links
 use Rattle.krl_server.specs.declared.session.Session.{Session}
 use Rattle.krl_server.specs.Servers.{Server, is_recovering, lists, incarnation_or_0}
 use Rattle.krl_server.specs.Effects.{Done, silent, with_session}

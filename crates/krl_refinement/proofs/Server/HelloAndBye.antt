@@ -9,9 +9,9 @@ use Rattle.krl_table.specs.Rows.{mode_at}
 use Rattle.krl_table.specs.Points.{range_at, key_at}
 use Rattle.krl_table.specs.Calls.{cleared}
 use Rattle.krl_table.proofs.Invariant.Stands.{in_unqueue}
-use Rattle.krl_protocol.specs.Links.{Notice, Link, next, idle, registers, sees_off, no_range, no_key}
-use Rattle.krl_protocol.specs.Worlds.{Logged}
-use Rattle.krl_protocol.proofs.Steps.{put, put_changed}
+use Rattle.krl_machine.specs.Links.{Notice, Link, next, idle, registers, sees_off, no_range, no_key}
+use Rattle.krl_machine.specs.Worlds.{Logged}
+use Rattle.krl_machine.proofs.Steps.{put, put_changed}
 use Rattle.krl_server.specs.declared.session.Session.{Session}
 use Rattle.krl_server.specs.Servers.{Server, blank_session, lists, unlist, incarnation_or_0}
 use Rattle.krl_server.specs.Effects.{silent, epoch_to, departs}

@@ -16,13 +16,13 @@ use Rattle.krl_messages.specs.declared.write_op.WriteOp.TheVariants as write
 use Rattle.krl_messages.specs.declared.to_client.PushBody.TheVariants as push
 use Rattle.krl_durable.specs.Index.{slot_of}
 use Rattle.krl_table.specs.Rows.{column, mode_at}
-use Rattle.krl_protocol.specs.Links.{Head, Write, Link, Passes, IsSlot, MaySay}
-use Rattle.krl_protocol.specs.Worlds.{Logged}
-use Rattle.krl_protocol.specs.Holdings.{said_at, said_by}
-use Rattle.krl_protocol.proofs.Holdings.{slot_holding, said_each, speaks_at}
-use Rattle.krl_protocol.proofs.Steps.{put, put_changed}
-use Rattle.krl_protocol.specs.Links as links
-use Rattle.krl_protocol.proofs.Refines as refines
+use Rattle.krl_machine.specs.Links.{Head, Write, Link, Passes, IsSlot, MaySay}
+use Rattle.krl_machine.specs.Worlds.{Logged}
+use Rattle.krl_machine.specs.Holdings.{said_at, said_by}
+use Rattle.krl_machine.proofs.Holdings.{slot_holding, said_each, speaks_at}
+use Rattle.krl_machine.proofs.Steps.{put, put_changed}
+use Rattle.krl_machine.specs.Links as links
+use Rattle.krl_machine.proofs.Refines as refines
 use Rattle.krl_server.specs.Servers.{Server}
 use Rattle.krl_server.specs.Effects.{shown, holding, holdings, acknowledged, answers}
 use Rattle.krl_server.specs.Soundness.{IsSound}

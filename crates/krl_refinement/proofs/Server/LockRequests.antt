@@ -10,10 +10,10 @@ use Rattle.krl_table.specs.Rows.{Row, set_row}
 use Rattle.krl_table.specs.Points.{range_at, key_at}
 use Rattle.krl_table.specs.Calls.{with_queue, queue_with}
 use Rattle.krl_table.proofs.Invariant.Stands.{in_queue_with}
-use Rattle.krl_protocol.specs.Links.{Head, Link, Passes}
-use Rattle.krl_protocol.specs.Worlds.{Logged}
-use Rattle.krl_protocol.proofs.Worlds.{eq_cases}
-use Rattle.krl_protocol.proofs.Steps.{put, put_changed}
+use Rattle.krl_machine.specs.Links.{Head, Link, Passes}
+use Rattle.krl_machine.specs.Worlds.{Logged}
+use Rattle.krl_machine.proofs.Worlds.{eq_cases}
+use Rattle.krl_machine.proofs.Steps.{put, put_changed}
 use Rattle.krl_server.specs.declared.session.Session.{Session}
 use Rattle.krl_server.specs.Servers.{Server, is_recovering, lists, set_session}
 use Rattle.krl_server.specs.Effects.{silent, acknowledged, queues}

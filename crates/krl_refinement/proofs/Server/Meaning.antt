@@ -9,10 +9,10 @@ use Rattle.krl_modes.specs.declared.part.RangePart.TheVariants as range
 use Rattle.krl_durable.specs.Index.{Index, slot_of, is_slot}
 use Rattle.krl_table.specs.Rows.{Rows, mode_at, column}
 use Rattle.krl_table.specs.Points.{key_off_slot, range_at, key_at}
-use Rattle.krl_protocol.specs.Modes.{off_slot}
-use Rattle.krl_protocol.specs.Links.{Phase, Shared}
-use Rattle.krl_protocol.proofs.Tables.{range_by_slots, key_by_slots}
-use Rattle.krl_protocol.specs.Tables as machine
+use Rattle.krl_machine.specs.Modes.{off_slot}
+use Rattle.krl_machine.specs.Links.{Phase, Shared}
+use Rattle.krl_machine.proofs.Tables.{range_by_slots, key_by_slots}
+use Rattle.krl_machine.specs.Tables as machine
 use Rattle.krl_server.proofs.Slots.{slot_here, is_slot_true, is_slot_false}
 
 -- what the machine sees of an index

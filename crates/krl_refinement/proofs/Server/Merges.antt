@@ -9,11 +9,11 @@ use Rattle.krl_messages.specs.Values.{Value}
 use Rattle.krl_durable.specs.Index.{Index, slot_of}
 use Rattle.krl_table.specs.Rows.{Rows, column}
 use Rattle.krl_table.specs.Calls.{merged}
-use Rattle.krl_protocol.specs.Links.{Phase, Delete, Link}
-use Rattle.krl_protocol.specs.Worlds.{Logged}
-use Rattle.krl_protocol.proofs.Worlds.{WorldInv}
-use Rattle.krl_protocol.proofs.Refines.{Shows}
-use Rattle.krl_protocol.proofs.Written.{Written, delete_written}
+use Rattle.krl_machine.specs.Links.{Phase, Delete, Link}
+use Rattle.krl_machine.specs.Worlds.{Logged}
+use Rattle.krl_machine.proofs.Worlds.{WorldInv}
+use Rattle.krl_machine.proofs.Refines.{Shows}
+use Rattle.krl_machine.proofs.Written.{Written, delete_written}
 use Rattle.krl_server.proofs.Updates.{set_modes, gone_here, gone_other}
 use Rattle.krl_server.proofs.Slots.{slot_here}
 use Rattle.krl_refinement.proofs.Server.Splits.{its_key_X}

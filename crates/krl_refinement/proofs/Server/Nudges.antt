@@ -10,8 +10,8 @@ use Rattle.krl_queue.specs.declared.waiter.Waiter.{Waiter}
 use Rattle.krl_durable.specs.declared.record.Record.{Record}
 use Rattle.krl_durable.specs.Index.{slots}
 use Rattle.krl_durable.specs.Registers.{record_of}
-use Rattle.krl_protocol.specs.Links.{Link}
-use Rattle.krl_protocol.specs.Worlds.{Logged, none}
+use Rattle.krl_machine.specs.Links.{Link}
+use Rattle.krl_machine.specs.Worlds.{Logged, none}
 use Rattle.krl_server.specs.Servers.{Server, is_recovering, lists}
 use Rattle.krl_server.specs.Effects.{epoch_to, push_to}
 use Rattle.krl_server.specs.Callbacks.{callbacks_for, callbacks_of, callbacks_of_among}

@@ -8,10 +8,10 @@ use Rattle.krl_messages.specs.Members.{In}
 use Rattle.krl_messages.specs.declared.to_client.ToClientBody.TheVariants as told
 use Rattle.krl_durable.specs.declared.record.Record.{Record}
 use Rattle.krl_durable.specs.Registers.{record_of}
-use Rattle.krl_protocol.specs.Links.{Head, Notice, Shared, Link, Passes, MaySay, AnswersLast, next, idle, notifies, takes_head}
-use Rattle.krl_protocol.specs.Worlds.{Logged, Steps, none}
-use Rattle.krl_protocol.proofs.Steps.{put, put_changed, heard_kept, link_steps}
-use Rattle.krl_protocol.specs.Links as links
+use Rattle.krl_machine.specs.Links.{Head, Notice, Shared, Link, Passes, MaySay, AnswersLast, next, idle, notifies, takes_head}
+use Rattle.krl_machine.specs.Worlds.{Logged, Steps, none}
+use Rattle.krl_machine.proofs.Steps.{put, put_changed, heard_kept, link_steps}
+use Rattle.krl_machine.specs.Links as links
 use Rattle.krl_server.specs.declared.session.Session.{Session}
 use Rattle.krl_server.specs.Servers.{Server, is_recovering}
 use Rattle.krl_server.specs.Effects.{silent, epoch_to, push_to, with_session, acknowledged, pushes}

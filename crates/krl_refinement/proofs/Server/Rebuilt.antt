@@ -9,11 +9,11 @@ use Rattle.krl_durable.specs.Registers.{record_of}
 use Rattle.krl_table.specs.Rows.{column}
 use Rattle.krl_table.specs.Points.{range_at, key_at}
 use Rattle.krl_table.specs.Reports.{adopted}
-use Rattle.krl_protocol.specs.Links.{Link, next, idle, takes_report}
-use Rattle.krl_protocol.specs.Worlds.{Logged}
-use Rattle.krl_protocol.proofs.Steps.{put, put_changed, heard_kept}
-use Rattle.krl_protocol.specs.Links as links
-use Rattle.krl_protocol.specs.Tables as machine
+use Rattle.krl_machine.specs.Links.{Link, next, idle, takes_report}
+use Rattle.krl_machine.specs.Worlds.{Logged}
+use Rattle.krl_machine.proofs.Steps.{put, put_changed, heard_kept}
+use Rattle.krl_machine.specs.Links as links
+use Rattle.krl_machine.specs.Tables as machine
 use Rattle.krl_server.specs.Servers.{Server, lists}
 use Rattle.krl_server.specs.Cases.{Rebuilds}
 use Rattle.krl_server.specs.Effects.{effect, adopts}

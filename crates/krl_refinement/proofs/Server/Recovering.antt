@@ -8,10 +8,10 @@ use Rattle.krl_queue.specs.declared.waiter.Waiter.{Waiter}
 use Rattle.krl_durable.specs.declared.record.Record.{Record}
 use Rattle.krl_durable.specs.Registers.{record_of}
 use Rattle.krl_table.specs.Points.{range_at, key_at}
-use Rattle.krl_protocol.specs.Links.{Link, LinkSteps}
-use Rattle.krl_protocol.specs.Worlds.{Logged, Steps, more, finish}
-use Rattle.krl_protocol.proofs.Steps.{put, put_changed, link_steps}
-use Rattle.krl_protocol.specs.Links as links
+use Rattle.krl_machine.specs.Links.{Link, LinkSteps}
+use Rattle.krl_machine.specs.Worlds.{Logged, Steps, more, finish}
+use Rattle.krl_machine.proofs.Steps.{put, put_changed, link_steps}
+use Rattle.krl_machine.specs.Links as links
 use Rattle.krl_server.specs.Servers.{Server, is_recovering, lists, unlist}
 use Rattle.krl_server.proofs.Tests.{not_truth}
 use Rattle.krl_refinement.specs.Messages.{WasSent}

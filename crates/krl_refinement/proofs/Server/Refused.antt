@@ -10,9 +10,9 @@ use Rattle.krl_durable.specs.declared.record.Record.{Record}
 use Rattle.krl_durable.specs.Registers.{Register, record_of, with_record}
 use Rattle.krl_durable.specs.Writes.{noted, applied}
 use Rattle.krl_table.specs.Points.{range_at, key_at}
-use Rattle.krl_protocol.specs.Links.{Head, Write, Shared, Link, Passes, next, idle, takes_head, refuses}
-use Rattle.krl_protocol.specs.Worlds.{Logged}
-use Rattle.krl_protocol.proofs.Steps.{put, put_changed, heard_kept, link_steps}
+use Rattle.krl_machine.specs.Links.{Head, Write, Shared, Link, Passes, next, idle, takes_head, refuses}
+use Rattle.krl_machine.specs.Worlds.{Logged}
+use Rattle.krl_machine.proofs.Steps.{put, put_changed, heard_kept, link_steps}
 use Rattle.krl_server.specs.declared.session.Session.{Session}
 use Rattle.krl_server.specs.Servers.{Server, lists, set_session}
 use Rattle.krl_server.specs.Effects.{acknowledged, writes, answers}

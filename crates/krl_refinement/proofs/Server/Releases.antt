@@ -15,11 +15,11 @@ use Rattle.krl_durable.specs.Registers.{record_of}
 use Rattle.krl_table.specs.Rows.{most_clients, mode_at, column}
 use Rattle.krl_table.specs.Points.{range_at, key_at}
 use Rattle.krl_table.specs.Calls.{lowered}
-use Rattle.krl_protocol.specs.Links.{Head, Release, Link, Passes, IsSlot, InSpan, SlotLowered, next, idle, takes_head, takes_release}
-use Rattle.krl_protocol.specs.Worlds.{Logged}
-use Rattle.krl_protocol.proofs.Tables.{slot_near, table_row, release_lowers}
-use Rattle.krl_protocol.proofs.Steps.{put, put_changed, heard_kept, link_steps}
-use Rattle.krl_protocol.specs.Tables as machine
+use Rattle.krl_machine.specs.Links.{Head, Release, Link, Passes, IsSlot, InSpan, SlotLowered, next, idle, takes_head, takes_release}
+use Rattle.krl_machine.specs.Worlds.{Logged}
+use Rattle.krl_machine.proofs.Tables.{slot_near, table_row, release_lowers}
+use Rattle.krl_machine.proofs.Steps.{put, put_changed, heard_kept, link_steps}
+use Rattle.krl_machine.specs.Tables as machine
 use Rattle.krl_server.specs.declared.session.Session.{Session}
 use Rattle.krl_server.specs.Servers.{Server, is_recovering, lists, set_session}
 use Rattle.krl_server.specs.Effects.{silent, acknowledged, lowers}

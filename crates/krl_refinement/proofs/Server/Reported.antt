@@ -14,11 +14,11 @@ use Rattle.krl_messages.specs.declared.pieces.Pieces.{Pieces}
 use Rattle.krl_durable.specs.Index.{Index, span_of, is_slot}
 use Rattle.krl_table.specs.Rows.{Rows, Row, column, set_mode}
 use Rattle.krl_table.specs.Reports.{reported_range, rebuilt, adopted, range_said}
-use Rattle.krl_protocol.specs.Modes.{RangeAtMost}
-use Rattle.krl_protocol.specs.Links.{Phase, IsSlot, IsRebuilt}
-use Rattle.krl_protocol.proofs.Modes.{join_left, join_right, join_least}
-use Rattle.krl_protocol.proofs.Tables.{slot_near, report_rebuilds}
-use Rattle.krl_protocol.specs.Tables as machine
+use Rattle.krl_machine.specs.Modes.{RangeAtMost}
+use Rattle.krl_machine.specs.Links.{Phase, IsSlot, IsRebuilt}
+use Rattle.krl_machine.proofs.Modes.{join_left, join_right, join_least}
+use Rattle.krl_machine.proofs.Tables.{slot_near, report_rebuilds}
+use Rattle.krl_machine.specs.Tables as machine
 use Rattle.krl_server.proofs.Slots.{span_here, is_slot_false}
 use Rattle.krl_refinement.specs.Messages.{report_of}
 use Rattle.krl_refinement.proofs.Server.Meaning.{seen_in}

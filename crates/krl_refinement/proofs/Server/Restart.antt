@@ -7,8 +7,8 @@ use Rattle.krl_modes.specs.declared.point.TheConstants.{END}
 use Rattle.krl_durable.specs.declared.record.Record.{Record}
 use Rattle.krl_durable.specs.Registers.{Register, Durable, record_of, missing_order}
 use Rattle.krl_table.specs.Rows.{blank_rows}
-use Rattle.krl_protocol.specs.Links.{Link, no_range, no_key}
-use Rattle.krl_protocol.specs.Worlds.{Logged, IsMissing, crash, start, finish, Steps, none, more}
+use Rattle.krl_machine.specs.Links.{Link, no_range, no_key}
+use Rattle.krl_machine.specs.Worlds.{Logged, IsMissing, crash, start, finish, Steps, none, more}
 use Rattle.krl_server.specs.Servers.{Server, blank_session, is_recovering, lists}
 use Rattle.krl_server.specs.Steps.{can_start}
 use Rattle.krl_server.specs.Soundness.{IsSound}

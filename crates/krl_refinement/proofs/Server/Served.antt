@@ -5,10 +5,10 @@ use Rattle.krl_messages.specs.declared.to_client.ToClientBody.{ToClientBody}
 use Rattle.krl_messages.specs.Members.{In}
 use Rattle.krl_messages.proofs.Members.{in_both}
 use Rattle.krl_messages.specs.declared.to_client.ToClientBody.TheVariants as told
-use Rattle.krl_protocol.specs.Links.{Notice, Push, Shared, Link, LinkStep, registers, notifies, pushes}
-use Rattle.krl_protocol.specs.Worlds.{Logged, World, Changed, Step, at_link, raises, applies, crash, start, finish, Steps, none, more}
-use Rattle.krl_protocol.proofs.Worlds.{eq_cases, WorldInv}
-use Rattle.krl_protocol.proofs.Steps.{steps_on, world_steps}
+use Rattle.krl_machine.specs.Links.{Notice, Push, Shared, Link, LinkStep, registers, notifies, pushes}
+use Rattle.krl_machine.specs.Worlds.{Logged, World, Changed, Step, at_link, raises, applies, crash, start, finish, Steps, none, more}
+use Rattle.krl_machine.proofs.Worlds.{eq_cases, WorldInv}
+use Rattle.krl_machine.proofs.Steps.{steps_on, world_steps}
 use Rattle.krl_server.specs.Servers.{Server, is_recovering}
 use Rattle.krl_server.specs.Answering.{answer_first, Answered, stops, goes_on}
 use Rattle.krl_server.specs.Soundness.{IsSound}

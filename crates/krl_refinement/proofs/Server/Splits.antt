@@ -13,11 +13,11 @@ use Rattle.krl_messages.specs.Values.{Value}
 use Rattle.krl_durable.specs.Index.{Index, slot_of}
 use Rattle.krl_table.specs.Rows.{Rows, Row, column, set_row}
 use Rattle.krl_table.specs.Calls.{mode_beside, split}
-use Rattle.krl_protocol.specs.Links.{Phase, Insert, Put, Link}
-use Rattle.krl_protocol.specs.Worlds.{Logged}
-use Rattle.krl_protocol.proofs.Worlds.{WorldInv}
-use Rattle.krl_protocol.proofs.Refines.{Shows}
-use Rattle.krl_protocol.proofs.Written.{Written, insert_written, put_written}
+use Rattle.krl_machine.specs.Links.{Phase, Insert, Put, Link}
+use Rattle.krl_machine.specs.Worlds.{Logged}
+use Rattle.krl_machine.proofs.Worlds.{WorldInv}
+use Rattle.krl_machine.proofs.Refines.{Shows}
+use Rattle.krl_machine.proofs.Written.{Written, insert_written, put_written}
 use Rattle.krl_server.proofs.Updates.{row_here, get_here, get_other, set_modes}
 use Rattle.krl_server.proofs.Slots.{slot_here}
 use Rattle.krl_refinement.proofs.Server.Meaning.{seen_in}

@@ -17,14 +17,14 @@ use Rattle.krl_table.specs.Calls.{with_mode, with_queue, wanted, behind_first, d
 use Rattle.krl_table.specs.Grants.{taken_after, taken, granted, most_more}
 use Rattle.krl_table.specs.Replies.{asks_absent, is_wanted_compatible}
 use Rattle.krl_table.proofs.Invariant.Compatible.{or_true}
-use Rattle.krl_protocol.specs.Modes.{RangeAtMost, KeyAtMost, RangesAgree, KeysAgree}
-use Rattle.krl_protocol.specs.Links.{Link, IsSlot}
-use Rattle.krl_protocol.specs.Worlds.{Logged, Steps, none, more}
-use Rattle.krl_protocol.proofs.Worlds.{WorldInv}
-use Rattle.krl_protocol.proofs.Refines.{grant_raises}
-use Rattle.krl_protocol.proofs.Steps.{put, put_changed, heard_kept, steps_on, world_steps}
-use Rattle.krl_protocol.specs.Links as links
-use Rattle.krl_protocol.specs.Tables as machine
+use Rattle.krl_machine.specs.Modes.{RangeAtMost, KeyAtMost, RangesAgree, KeysAgree}
+use Rattle.krl_machine.specs.Links.{Link, IsSlot}
+use Rattle.krl_machine.specs.Worlds.{Logged, Steps, none, more}
+use Rattle.krl_machine.proofs.Worlds.{WorldInv}
+use Rattle.krl_machine.proofs.Refines.{grant_raises}
+use Rattle.krl_machine.proofs.Steps.{put, put_changed, heard_kept, steps_on, world_steps}
+use Rattle.krl_machine.specs.Links as links
+use Rattle.krl_machine.specs.Tables as machine
 use Rattle.krl_server.specs.Servers.{Server, lists}
 use Rattle.krl_server.specs.Effects.{with_rows, holdings, pushes}
 use Rattle.krl_server.specs.Answering.{can_push, Turn, next_turn, answer_first}

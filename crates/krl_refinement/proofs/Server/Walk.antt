@@ -16,9 +16,9 @@ use Rattle.krl_messages.specs.declared.to_server.ToServerBody.TheVariants as sai
 use Rattle.krl_messages.specs.declared.to_server.RequestBody.TheVariants as asked
 use Rattle.krl_durable.specs.declared.record.Record.{Record}
 use Rattle.krl_table.specs.Reports.{conflicts}
-use Rattle.krl_protocol.specs.Links.{Link, Passes}
-use Rattle.krl_protocol.specs.Worlds.{Logged, Reachable}
-use Rattle.krl_protocol.proofs.Runs.{reachable_inv}
+use Rattle.krl_machine.specs.Links.{Link, Passes}
+use Rattle.krl_machine.specs.Worlds.{Logged, Reachable}
+use Rattle.krl_machine.proofs.Runs.{reachable_inv}
 use Rattle.krl_server.specs.Servers.{Server, lists}
 use Rattle.krl_server.specs.Cases.{Case, Ignored, Registers, Leaves, Tells, Rebuilds, Repeats, Acknowledges, Lowers, Waits, Judges, AnswersAgain, judged, case_of, is_alarm, clears}
 use Rattle.krl_server.specs.Effects.{effect}

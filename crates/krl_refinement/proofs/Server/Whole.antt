@@ -6,10 +6,10 @@ use Rattle.krl_messages.specs.declared.to_server.ToServer.{ToServer}
 use Rattle.krl_messages.specs.declared.to_client.ToClient.{ToClient}
 use Rattle.krl_messages.specs.Members.{In}
 use Rattle.krl_messages.proofs.Members.{in_both}
-use Rattle.krl_protocol.specs.Links.{Link}
-use Rattle.krl_protocol.specs.Worlds.{Logged, Reachable}
-use Rattle.krl_protocol.proofs.Steps.{steps_on, world_steps}
-use Rattle.krl_protocol.proofs.Runs.{reachable_inv}
+use Rattle.krl_machine.specs.Links.{Link}
+use Rattle.krl_machine.specs.Worlds.{Logged, Reachable}
+use Rattle.krl_machine.proofs.Steps.{steps_on, world_steps}
+use Rattle.krl_machine.proofs.Runs.{reachable_inv}
 use Rattle.krl_server.specs.Servers.{Server, is_recovering}
 use Rattle.krl_server.specs.Cases.{case_of, clears}
 use Rattle.krl_server.specs.Effects.{effect}

@@ -20,13 +20,13 @@ use Rattle.krl_durable.specs.Registers.{record_of, with_record}
 use Rattle.krl_durable.specs.Writes.{noted, written}
 use Rattle.krl_table.specs.Rows.{Rows, most_clients, column}
 use Rattle.krl_table.specs.Points.{range_at, key_at}
-use Rattle.krl_protocol.specs.Links.{Head, Write, Shared, Link, Passes}
-use Rattle.krl_protocol.specs.Worlds.{Logged, Changed, Applies, Step, applies, wrote_by, none, more}
-use Rattle.krl_protocol.proofs.Steps.{steps_on, world_steps, put, put_changed, changed_twice, heard_kept}
-use Rattle.krl_protocol.proofs.Worlds.{WorldInv}
-use Rattle.krl_protocol.proofs.Written.{Written}
-use Rattle.krl_protocol.specs.Tables as machine
-use Rattle.krl_protocol.proofs.Refines as refines
+use Rattle.krl_machine.specs.Links.{Head, Write, Shared, Link, Passes}
+use Rattle.krl_machine.specs.Worlds.{Logged, Changed, Applies, Step, applies, wrote_by, none, more}
+use Rattle.krl_machine.proofs.Steps.{steps_on, world_steps, put, put_changed, changed_twice, heard_kept}
+use Rattle.krl_machine.proofs.Worlds.{WorldInv}
+use Rattle.krl_machine.proofs.Written.{Written}
+use Rattle.krl_machine.specs.Tables as machine
+use Rattle.krl_machine.proofs.Refines as refines
 use Rattle.krl_server.specs.declared.session.Session.{Session}
 use Rattle.krl_server.specs.Servers.{Server, lists, set_session}
 use Rattle.krl_server.specs.Effects.{acknowledged, rows_written, answers, effect}

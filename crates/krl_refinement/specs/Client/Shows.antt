@@ -14,10 +14,10 @@ use Rattle.krl_messages.specs.declared.to_client.PushBody.{PushBody}
 use Rattle.krl_messages.specs.declared.to_client.PushBody.TheVariants as push
 use Rattle.krl_messages.specs.Members.{In}
 use Rattle.krl_messages.specs.Writes.{is_applied}
-use Rattle.krl_protocol.specs.Links
-use Rattle.krl_protocol.specs.Links.{Op, Link, Shared, LinkSteps, Head}
-use Rattle.krl_protocol.specs.Holdings.{said_by}
-use Rattle.krl_protocol.specs.Worlds.{row_of}
+use Rattle.krl_machine.specs.Links
+use Rattle.krl_machine.specs.Links.{Op, Link, Shared, LinkSteps, Head}
+use Rattle.krl_machine.specs.Holdings.{said_by}
+use Rattle.krl_machine.specs.Worlds.{row_of}
 use Rattle.krl_table.specs.Reports.{range_said, reported_key}
 use Rattle.krl_cache.specs.Kept.{Describes}
 use Rattle.krl_client.specs.Clients.{Client, outstanding}

@@ -6,7 +6,7 @@ use Rattle.krl_messages.specs.declared.write_op.WriteOp.{WriteOp}
 use Rattle.krl_messages.specs.declared.pieces.Pieces.{Pieces}
 use Rattle.krl_messages.specs.declared.to_client.ToClient.{ToClient}
 use Rattle.krl_messages.specs.declared.to_server.ToServer.{ToServer}
-use Rattle.krl_protocol.specs.Links.{Link, Shared}
+use Rattle.krl_machine.specs.Links.{Link, Shared}
 use Rattle.krl_cache.specs.Kept.{Describes}
 use Rattle.krl_client.specs.Clients.{Client, begun}
 use Rattle.krl_client.specs.Commands.{lock_refusal, locked, says_lock, write_refusal, wrote, says_write, forget_refusal, forgot, says_release, pinned, unpinned, says_bye}

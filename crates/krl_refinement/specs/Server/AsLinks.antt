@@ -11,9 +11,9 @@ use Rattle.krl_messages.specs.declared.to_client.PushBody.{PushBody}
 use Rattle.krl_messages.specs.Members.{In}
 use Rattle.krl_messages.specs.Writes.{is_applied}
 use Rattle.krl_queue.specs.declared.waiter.Waiter.{Waiter}
-use Rattle.krl_protocol.specs.Links as links
-use Rattle.krl_protocol.specs.Links.{Head, Shared, Link}
-use Rattle.krl_protocol.specs.Worlds.{Logged, World}
+use Rattle.krl_machine.specs.Links as links
+use Rattle.krl_machine.specs.Links.{Head, Shared, Link}
+use Rattle.krl_machine.specs.Worlds.{Logged, World}
 use Rattle.krl_durable.specs.declared.record.Record.{Record}
 use Rattle.krl_durable.specs.Registers.{Durable, record_of}
 use Rattle.krl_table.specs.Points.{range_at, key_at}

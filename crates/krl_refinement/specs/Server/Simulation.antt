@@ -8,8 +8,8 @@ use Rattle.krl_messages.specs.Values.{Value}
 use Rattle.krl_messages.specs.declared.to_server.ToServer.{ToServer}
 use Rattle.krl_messages.specs.declared.to_client.ToClient.{ToClient}
 use Rattle.krl_messages.specs.Members.{In}
-use Rattle.krl_protocol.specs.Links.{Link}
-use Rattle.krl_protocol.specs.Worlds.{Logged, World, Steps, Reachable}
+use Rattle.krl_machine.specs.Links.{Link}
+use Rattle.krl_machine.specs.Worlds.{Logged, World, Steps, Reachable}
 use Rattle.krl_durable.specs.Registers.{Durable, missing_order}
 use Rattle.krl_server.specs.Servers.{Server, is_recovering}
 use Rattle.krl_server.specs.Cases.{case_of, clears}

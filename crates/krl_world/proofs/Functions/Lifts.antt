@@ -4,7 +4,7 @@ use Rattle.std.proofs.lemmas.Bool.{lt-ltb, le-ltb}
 use Rattle.std.proofs.Math.Path.{fun_ext}
 use Rattle.std.proofs.lemmas.List.{get_or-set_same, get_or-set_other}
 use Rattle.std.specs.Prelude.{if◌then◌else◌, Ok, Err}
-use Rattle.krl_protocol.proofs.Worlds.{eq_cases}
+use Rattle.krl_machine.proofs.Worlds.{eq_cases}
 use Rattle.krl_messages.specs.declared.to_server.ToServer.{ToServer}
 use Rattle.krl_world.specs.declared.node.Seat.{Seat as KeptSeat}
 use Rattle.krl_world.specs.declared.message.Message.{Message}

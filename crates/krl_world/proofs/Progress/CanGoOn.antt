@@ -10,7 +10,7 @@ use Rattle.krl_messages.specs.declared.pieces.Pieces.{Pieces}
 use Rattle.krl_messages.specs.declared.to_server.ToServer.{ToServer}
 use Rattle.krl_messages.specs.declared.to_client.ToClient.{ToClient}
 use Rattle.krl_messages.specs.Writes.{op_key}
-use Rattle.krl_protocol.proofs.Runs.{always_bounded, restarts_hold, scans_are_index}
+use Rattle.krl_machine.proofs.Runs.{always_bounded, restarts_hold, scans_are_index}
 use Rattle.krl_server.specs.Cases.{case_of}
 use Rattle.krl_refinement.specs.Server.Simulation.{ServerFollows}
 use Rattle.krl_server.proofs.Outputs.Ends.{step_ends}

@@ -9,11 +9,11 @@ use Rattle.krl_modes.specs.declared.part.KeyPart.TheVariants as key
 use Rattle.krl_modes.specs.Parts.{range_at_most, key_at_most, reads_key}
 use Rattle.krl_messages.specs.Values.{Value}
 use Rattle.krl_messages.specs.declared.pieces.Pieces.{Pieces}
-use Rattle.krl_protocol.specs.Modes.{RangeAtMost, KeyAtMost}
-use Rattle.krl_protocol.specs.Links.{Link}
-use Rattle.krl_protocol.specs.Worlds as machine
-use Rattle.krl_protocol.specs.Worlds.{Logged}
-use Rattle.krl_protocol.proofs.Modes.{ranges_by_table, keys_by_table}
+use Rattle.krl_machine.specs.Modes.{RangeAtMost, KeyAtMost}
+use Rattle.krl_machine.specs.Links.{Link}
+use Rattle.krl_machine.specs.Worlds as machine
+use Rattle.krl_machine.specs.Worlds.{Logged}
+use Rattle.krl_machine.proofs.Modes.{ranges_by_table, keys_by_table}
 use Rattle.krl_durable.proofs.SlotLaws.{end_test}
 use Rattle.krl_cache.specs.Beliefs.{Belief, IsBelief}
 use Rattle.krl_cache.specs.Kept.{Describes}

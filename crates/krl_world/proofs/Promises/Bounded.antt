@@ -14,19 +14,19 @@ use Rattle.krl_messages.specs.declared.to_client.ToClientBody.{ToClientBody}
 use Rattle.krl_messages.specs.declared.to_client.ToClientBody.TheVariants as told
 use Rattle.krl_messages.specs.declared.to_client.PushBody.{PushBody}
 use Rattle.krl_messages.specs.declared.to_client.PushBody.TheVariants as push
-use Rattle.krl_protocol.specs.Modes.{RangeAtMost, KeyAtMost}
-use Rattle.krl_protocol.specs.Links as links
-use Rattle.krl_protocol.specs.Links.{Link}
-use Rattle.krl_protocol.specs.Worlds as machine
-use Rattle.krl_protocol.specs.Worlds.{Logged}
-use Rattle.krl_protocol.proofs.Modes.{ranges_by_table, keys_by_table}
+use Rattle.krl_machine.specs.Modes.{RangeAtMost, KeyAtMost}
+use Rattle.krl_machine.specs.Links as links
+use Rattle.krl_machine.specs.Links.{Link}
+use Rattle.krl_machine.specs.Worlds as machine
+use Rattle.krl_machine.specs.Worlds.{Logged}
+use Rattle.krl_machine.proofs.Modes.{ranges_by_table, keys_by_table}
 use Rattle.std.specs.List.{AllByRecursion}
 use Rattle.std.proofs.lemmas.Bool.Decides.{nat_tests}
 use Rattle.krl_messages.specs.Several.{IsBefore, Ascend}
 use Rattle.krl_messages.specs.Members.{In}
 use Rattle.krl_messages.proofs.Members.{in_to_all}
-use Rattle.krl_protocol.specs.Holdings.{said_at, or_by, said_by}
-use Rattle.krl_protocol.proofs.Holdings.{says_here}
+use Rattle.krl_machine.specs.Holdings.{said_at, or_by, said_by}
+use Rattle.krl_machine.proofs.Holdings.{says_here}
 use Rattle.krl_refinement.specs.Messages.{push_of, push_with, IsTold, Stands, WasSent}
 use Rattle.krl_modes.specs.Spans.{IsWhole}
 use Rattle.krl_client.specs.Clients.{Client}

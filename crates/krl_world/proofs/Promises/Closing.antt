@@ -42,7 +42,7 @@ use Rattle.krl_world.proofs.Refinement.Openings.{first_of}
 use Rattle.krl_world.proofs.Refinement.Reached.{reached_step, bound_reached}
 use Rattle.krl_world.proofs.Promises.Bounded.{bounded_world}
 use Rattle.krl_world.proofs.Promises.Kept.{restarts_holds}
-use Rattle.krl_protocol.proofs.Runs.{always_bounded, restarts_hold}
+use Rattle.krl_machine.proofs.Runs.{always_bounded, restarts_hold}
 use Rattle.krl_world.proofs.Promises.Unbroken.{none_missing, effect_serves}
 use Rattle.krl_world.proofs.Refinement.ServerMoves.{Way, stays, reads, stops, begins, way}
 use Rattle.krl_world.proofs.Examples.Worked.{no_turn}

@@ -15,10 +15,10 @@ use Rattle.krl_modes.specs.Parts.{ranges_compatible, keys_compatible, reads_key,
 use Rattle.krl_modes.specs.Spans.{Bounds, IsPointOf, contains}
 use Rattle.krl_messages.specs.Values.{Value}
 use Rattle.krl_modes.specs.Weights.{rank, reads}
-use Rattle.krl_protocol.specs.Links.{Op, op_key, Link}
-use Rattle.krl_protocol.specs.Worlds as machine
-use Rattle.krl_protocol.specs.Worlds.{Logged}
-use Rattle.krl_protocol.proofs.Modes.{ranges_agree_by_table, keys_agree_by_table}
+use Rattle.krl_machine.specs.Links.{Op, op_key, Link}
+use Rattle.krl_machine.specs.Worlds as machine
+use Rattle.krl_machine.specs.Worlds.{Logged}
+use Rattle.krl_machine.proofs.Modes.{ranges_agree_by_table, keys_agree_by_table}
 use Rattle.krl_durable.specs.Index as index
 use Rattle.krl_durable.specs.Index.{Index}
 use Rattle.krl_durable.proofs.Slots.{is_true}

@@ -1,10 +1,10 @@
 -- What holds in each reachable world, by what the server's side owes.
 use Rattle.std.proofs.Common.{subst}
 use Rattle.krl_modes.specs.declared.point.TheConstants.{END}
-use Rattle.krl_protocol.specs.Worlds as machine
-use Rattle.krl_protocol.specs.Worlds.{Reachable}
-use Rattle.krl_protocol.proofs.Runs.{always_compatible, always_bounded, scans_are_index, restarts_hold}
-use Rattle.krl_protocol.proofs.Writes.{writes_once}
+use Rattle.krl_machine.specs.Worlds as machine
+use Rattle.krl_machine.specs.Worlds.{Reachable}
+use Rattle.krl_machine.proofs.Runs.{always_compatible, always_bounded, scans_are_index, restarts_hold}
+use Rattle.krl_machine.proofs.Writes.{writes_once}
 use Rattle.krl_refinement.specs.Server.Simulation.{ServerFollows}
 use Rattle.krl_world.specs.States.{State}
 use Rattle.krl_world.specs.Steps.{IsReachable}

@@ -8,14 +8,14 @@ use Rattle.std.specs.List.{AllByRecursion}
 use Rattle.krl_messages.specs.Values.{Value}
 use Rattle.krl_messages.specs.declared.pieces.Pieces.{Pieces}
 use Rattle.krl_messages.specs.Members.{In}
-use Rattle.krl_protocol.specs.Modes.{RangeAtMost, KeyAtMost}
-use Rattle.krl_protocol.specs.Links as links
-use Rattle.krl_protocol.specs.Links.{Link, takes_report}
-use Rattle.krl_protocol.specs.Tables as tables
-use Rattle.krl_protocol.specs.Worlds as machine
-use Rattle.krl_protocol.specs.Worlds.{Logged, MayTake, Reachable, stepped, at_link}
-use Rattle.krl_protocol.proofs.Steps.{put, put_changed}
-use Rattle.krl_protocol.proofs.Runs.{restarts_hold}
+use Rattle.krl_machine.specs.Modes.{RangeAtMost, KeyAtMost}
+use Rattle.krl_machine.specs.Links as links
+use Rattle.krl_machine.specs.Links.{Link, takes_report}
+use Rattle.krl_machine.specs.Tables as tables
+use Rattle.krl_machine.specs.Worlds as machine
+use Rattle.krl_machine.specs.Worlds.{Logged, MayTake, Reachable, stepped, at_link}
+use Rattle.krl_machine.proofs.Steps.{put, put_changed}
+use Rattle.krl_machine.proofs.Runs.{restarts_hold}
 use Rattle.krl_durable.specs.declared.record.Record.{Record}
 use Rattle.krl_durable.specs.Index.{Index}
 use Rattle.krl_table.specs.Rows.{Rows, column}

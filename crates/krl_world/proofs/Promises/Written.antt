@@ -11,10 +11,10 @@ use Rattle.krl_messages.specs.declared.write_op.WriteOp.{WriteOp}
 use Rattle.krl_messages.specs.declared.write_op.WriteOp.TheVariants as write
 use Rattle.krl_messages.specs.Members.{In}
 use Rattle.krl_messages.proofs.Members.{in_both}
-use Rattle.krl_protocol.specs.Links as links
-use Rattle.krl_protocol.specs.Links.{Op, Link}
-use Rattle.krl_protocol.specs.Worlds as machine
-use Rattle.krl_protocol.specs.Worlds.{Logged, entry_after}
+use Rattle.krl_machine.specs.Links as links
+use Rattle.krl_machine.specs.Links.{Op, Link}
+use Rattle.krl_machine.specs.Worlds as machine
+use Rattle.krl_machine.specs.Worlds.{Logged, entry_after}
 use Rattle.krl_durable.specs.Index.{Index}
 use Rattle.krl_durable.specs.Writes.{written}
 use Rattle.krl_refinement.specs.Messages.{op_of}

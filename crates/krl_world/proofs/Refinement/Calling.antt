@@ -12,8 +12,8 @@ use Rattle.krl_messages.specs.declared.to_client.PushBody.TheVariants as push
 use Rattle.krl_messages.specs.declared.write_op.WriteOp.{WriteOp}
 use Rattle.krl_messages.specs.declared.outcome.Outcome.{Outcome}
 use Rattle.krl_queue.specs.declared.waiter.Waiter.{Waiter}
-use Rattle.krl_protocol.specs.Worlds as machine
-use Rattle.krl_protocol.specs.Worlds.{Step, at_link, raises, applies, crash, start, finish, Steps, none, more}
+use Rattle.krl_machine.specs.Worlds as machine
+use Rattle.krl_machine.specs.Worlds.{Step, at_link, raises, applies, crash, start, finish, Steps, none, more}
 use Rattle.krl_durable.specs.declared.record.Record.{Record}
 use Rattle.krl_durable.specs.Index.{slot_of, span_of, slots}
 use Rattle.krl_durable.specs.Registers.{record_of}

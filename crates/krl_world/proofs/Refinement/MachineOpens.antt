@@ -7,11 +7,11 @@ use Rattle.std.proofs.lemmas.Option.{none-some, same_Some}
 use Rattle.std.specs.Map.{keys_of}
 use Rattle.krl_modes.specs.declared.point.TheConstants.{END}
 use Rattle.krl_messages.specs.Values.{Value}
-use Rattle.krl_protocol.specs.Links as links
-use Rattle.krl_protocol.specs.Links.{Shared, Link, Notice, LinkSteps, starts, crashes, leaves, registers, sees_off, idle, next}
-use Rattle.krl_protocol.specs.Worlds as machine
-use Rattle.krl_protocol.specs.Worlds.{Changed, crash, start, finish, Steps, none, more, Reachable, begun, blank_link}
-use Rattle.krl_protocol.proofs.Steps.{steps_reachable, steps_on, link_steps}
+use Rattle.krl_machine.specs.Links as links
+use Rattle.krl_machine.specs.Links.{Shared, Link, Notice, LinkSteps, starts, crashes, leaves, registers, sees_off, idle, next}
+use Rattle.krl_machine.specs.Worlds as machine
+use Rattle.krl_machine.specs.Worlds.{Changed, crash, start, finish, Steps, none, more, Reachable, begun, blank_link}
+use Rattle.krl_machine.proofs.Steps.{steps_reachable, steps_on, link_steps}
 use Rattle.krl_durable.specs.declared.record.Record.{Record}
 use Rattle.krl_durable.specs.Registers.{Register, record_of, missing_order, HasIncarnations}
 use Rattle.krl_server.specs.Servers.{incarnation_or_0}

@@ -10,12 +10,12 @@ use Rattle.krl_modes.specs.declared.part.KeyPart.{KeyPart}
 use Rattle.krl_messages.specs.Members.{In}
 use Rattle.krl_messages.proofs.Members.{in_both}
 use Rattle.krl_durable.specs.declared.record.Record.{Record}
-use Rattle.krl_protocol.specs.Links as links
-use Rattle.krl_protocol.specs.Links.{Op, Shared, Link}
-use Rattle.krl_protocol.specs.Worlds as machine
-use Rattle.krl_protocol.specs.Worlds.{Logged, Steps}
-use Rattle.krl_protocol.proofs.Worlds.{eq_cases}
-use Rattle.krl_protocol.proofs.Steps.{put, put_changed, link_steps}
+use Rattle.krl_machine.specs.Links as links
+use Rattle.krl_machine.specs.Links.{Op, Shared, Link}
+use Rattle.krl_machine.specs.Worlds as machine
+use Rattle.krl_machine.specs.Worlds.{Logged, Steps}
+use Rattle.krl_machine.proofs.Worlds.{eq_cases}
+use Rattle.krl_machine.proofs.Steps.{put, put_changed, link_steps}
 use Rattle.krl_server.specs.declared.session.Session.{Session}
 use Rattle.krl_server.specs.Steps.{start}
 use Rattle.krl_refinement.specs.Messages.{Stands, WasSent}

@@ -6,10 +6,10 @@ use Rattle.krl_modes.specs.declared.part.RangePart.TheVariants as range
 use Rattle.krl_modes.specs.declared.part.KeyPart.{KeyPart}
 use Rattle.krl_modes.specs.declared.part.KeyPart.TheVariants as key
 use Rattle.krl_durable.specs.Registers.{Durable}
-use Rattle.krl_protocol.specs.Links as links
-use Rattle.krl_protocol.specs.Links.{Link}
-use Rattle.krl_protocol.specs.Worlds.{Logged, Reachable}
-use Rattle.krl_protocol.proofs.Steps.{steps_reachable}
+use Rattle.krl_machine.specs.Links as links
+use Rattle.krl_machine.specs.Links.{Link}
+use Rattle.krl_machine.specs.Worlds.{Logged, Reachable}
+use Rattle.krl_machine.proofs.Steps.{steps_reachable}
 use Rattle.krl_server.specs.Servers.{Server, is_recovering}
 use Rattle.krl_server.specs.Steps.{start}
 use Rattle.krl_refinement.specs.Server.AsLinks.{machine_phase, Shows}

@@ -6,8 +6,8 @@ use Rattle.krl_messages.specs.Values.{Value}
 use Rattle.krl_messages.specs.declared.to_server.ToServer.{ToServer}
 use Rattle.krl_messages.specs.declared.to_client.ToClient.{ToClient}
 use Rattle.krl_messages.specs.Members.{In}
-use Rattle.krl_protocol.specs.Links.{Link}
-use Rattle.krl_protocol.specs.Worlds.{Logged, Reachable, none}
+use Rattle.krl_machine.specs.Links.{Link}
+use Rattle.krl_machine.specs.Worlds.{Logged, Reachable, none}
 use Rattle.krl_server.specs.Steps.{can_start}
 use Rattle.krl_client.specs.Clients.{Client, begun}
 use Rattle.krl_refinement.specs.Client.Shows.{ShowsSeat, Leads}
