@@ -54,7 +54,7 @@ alarmed m s t old out client r stepped alarm is detail told =
     )
 
 pub no_room : (read : Result ToServer Fault) (s t : State) (old new : List ℕ) (r : Stepped)
-    → code_of r.reply ≡ Some code.OutOfMemory → t ≡ s → new ≡ old → r.change ≡ unchanged
+    → code_of r.reply ≡ Some code.OutOfMemory → r.reply.detail ≡ 0 → t ≡ s → new ≡ old → r.change ≡ unchanged
     → HearsRead read s old t new r
-no_room (Ok m) s t old new r is same kept told = rw is (same, kept, told)
-no_room (Err f) s t old new r is same kept told = rw is (same, kept, told)
+no_room (Ok m) s t old new r is detail same kept told = rw is (same, kept, told, detail)
+no_room (Err f) s t old new r is detail same kept told = rw is (same, kept, told, detail)

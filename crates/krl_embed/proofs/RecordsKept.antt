@@ -14,7 +14,7 @@ use Rattle.krl_embed.specs.declared.records.RecordRow.{RecordRow}
 use Rattle.krl_embed.specs.declared.reply.Reply.{Reply}
 use Rattle.krl_embed.specs.Replies.{code_of}
 use Rattle.krl_embed.specs.Records.{AreRows, RefusesRow, record_of}
-use Rattle.krl_embed.specs.Opening.{RefusesRecords, RefusesRecordsAs}
+use Rattle.krl_embed.specs.Opening.{RefusesRecords, RefusesRecordsAs, place_said}
 
 all_push : {X : Type 0} (P : X → Type 0) (xs : List X) (x : X) → AllByRecursion P xs → P x → AllByRecursion P (xs ++ x ∷ [])
 all_push P [] x h p = (p, tt)
@@ -35,14 +35,14 @@ rows_none = (tt, tt)
 
 refuses : (rows : List RecordRow) (i : ℕ) (row : RecordRow) (c : Code) → slice_get rows i ≡ Some row
     → AreRows (map record_of (take i rows)) → RefusesRow (map record_of (take i rows)) row c
-    → RefusesRecordsAs rows i (Some c)
+    → RefusesRecordsAs rows (place_said c i) (Some c)
 refuses rows i row code.BadRecord here before why = record { before = before; row = row; here = here; bad = why }
-refuses rows i row code.OutOfMemory here before why = tt
+refuses rows i row code.OutOfMemory here before why = refl
 refuses rows i row _ here before why = absurd why
 
 pub refused : (rows : List RecordRow) (i : ℕ) (row : RecordRow) (kept : List (ℕ × Record)) (c : Code) (r : Reply)
     → slice_get rows i ≡ Some row → AreRows kept → kept ≡ map record_of (take i rows) → RefusesRow kept row c
-    → code_of r ≡ Some c → r.detail ≡ i → RefusesRecords rows r
+    → code_of r ≡ Some c → r.detail ≡ place_said c i → RefusesRecords rows r
 refused rows i row kept c r here before made why is at =
     let made_before = subst (λ (k : List (ℕ × Record)). AreRows k) made before in
     let made_why = subst (λ (k : List (ℕ × Record)). RefusesRow k row c) made why in

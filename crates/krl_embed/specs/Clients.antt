@@ -73,14 +73,16 @@ abbrev pub HearsRead : Result ToClient Fault → Fields → List ℕ → Fields 
 HearsRead (Err f) k old l new r =
     Refused code.BadMessage k old l new (code_of r) × (r.detail ≡ fault_number f)
 HearsRead (Ok m) k old l new r =
-    Did (λ x list. Follows (meaning k) (case_of (meaning k) m) (meaning x) list) k old l new (code_of r)
+    (r.detail ≡ 0)
+    × Did (λ x list. Follows (meaning k) (case_of (meaning k) m) (meaning x) list) k old l new (code_of r)
 
 abbrev pub Hears : List ℕ → Fields → List ℕ → Fields → List ℕ → Reply → Type 0
 Hears bytes k old l new r = HearsRead (reading.to_client_of bytes) k old l new r
 
 -- it says again what is not answered
 abbrev pub Ticks : Fields → List ℕ → Fields → List ℕ → Reply → Type 0
-Ticks k old l new r = Did (λ x list. (x ≡ k) × IsTick (meaning k) list) k old l new (code_of r)
+Ticks k old l new r =
+    (r.detail ≡ 0) × Did (λ x list. (x ≡ k) × IsTick (meaning k) list) k old l new (code_of r)
 
 -- what a command says waits, or it is refused and nothing more waits
 abbrev pub SaidOr : Result (Vec ToServer) CommandRefused → List ℕ → List ℕ → Option Code → Type 0
@@ -104,14 +106,16 @@ LocksIn (Some m) point hi k old l new r =
 
 -- the mode is given by its place among all modes
 abbrev pub Locks : ℕ → ℕ → ℕ → Fields → List ℕ → Fields → List ℕ → Reply → Type 0
-Locks point hi place k old l new r = LocksIn (slice_get all_modes place) point hi k old l new r
+Locks point hi place k old l new r =
+    (r.detail ≡ 0) × LocksIn (slice_get all_modes place) point hi k old l new r
 
 -- a write; there is none where its value is too long
 abbrev pub Writes : Option WriteOp → Fields → List ℕ → Fields → List ℕ → Reply → Type 0
-Writes None k old l new r = Refused code.BadValue k old l new (code_of r)
+Writes None k old l new r = (r.detail ≡ 0) × Refused code.BadValue k old l new (code_of r)
 Writes (Some op) k old l new r =
     let next = commands.wrote (meaning k) op in
-    Commanded (commands.write_refusal (meaning k) op) next (commands.says_write next op) k old l new (code_of r)
+    (r.detail ≡ 0)
+    × Commanded (commands.write_refusal (meaning k) op) next (commands.says_write next op) k old l new (code_of r)
 
 -- a value has at most 32 bytes
 abbrev pub insert_of : ℕ → List ℕ → Option WriteOp
@@ -122,12 +126,13 @@ put_of key bytes = if nat_le (length bytes) most_bytes then Some (write.Put key 
 
 abbrev pub Forgets : Bounds → Fields → List ℕ → Fields → List ℕ → Reply → Type 0
 Forgets s k old l new r =
-    Commanded (commands.forget_refusal (meaning k) s) (commands.forgot (meaning k) s)
+    (r.detail ≡ 0)
+    × Commanded (commands.forget_refusal (meaning k) s) (commands.forgot (meaning k) s)
     (commands.says_release (meaning k) s N) k old l new (code_of r)
 
 -- a pin is refused for what is due; else the detail is the pin
 abbrev pub PinsAs : Option CommandRefused → Bounds → Fields → List ℕ → Fields → List ℕ → Reply → Type 0
-PinsAs (Some due) s k old l new r = Refused (refusal_code due) k old l new (code_of r)
+PinsAs (Some due) s k old l new r = (r.detail ≡ 0) × Refused (refusal_code due) k old l new (code_of r)
 PinsAs None s k old l new r =
     (code_of r ≡ Some code.Done) × (new ≡ old) × (free_pin (meaning k) ≡ Some r.detail)
     × (meaning l ≡ commands.pinned (meaning k) s r.detail)
@@ -141,7 +146,7 @@ UnpinsAs None id k old l new r =
     (code_of r ≡ Some code.Done) × (new ≡ old) × (meaning l ≡ commands.unpinned (meaning k) id)
 
 abbrev pub Unpins : ℕ → Fields → List ℕ → Fields → List ℕ → Reply → Type 0
-Unpins id k old l new r = UnpinsAs (commands.unpin_refusal (meaning k) id) id k old l new r
+Unpins id k old l new r = (r.detail ≡ 0) × UnpinsAs (commands.unpin_refusal (meaning k) id) id k old l new r
 
 -- the client's answer, where it finds rows: they are copied into the room, or it is too short
 abbrev pub FindsRows : Client → Bounds → List Row → List Row → Reply → Type 0
@@ -154,7 +159,7 @@ Finds k s was now r (Some code.Done) = FindsRows k s was now r
 Finds k s was now r (Some code.TooShort) = FindsRows k s was now r
 Finds k s was now r (Some code.Miss) = commands.Answers k s (answer.Miss r.detail) × (now ≡ was)
 Finds k s was now r (Some code.Pending) = commands.Answers k s (answer.Pending r.detail) × (now ≡ was)
-Finds k s was now r (Some code.BadSpan) = (commands.scan_refusal s ≡ Some refused.BadSpan) × (now ≡ was)
+Finds k s was now r (Some code.BadSpan) = (commands.scan_refusal s ≡ Some refused.BadSpan) × (now ≡ was) × (r.detail ≡ 0)
 Finds k s was now r _ = ⊥
 
 abbrev pub Scans : Bounds → List Row → List Row → Fields → Reply → Type 0

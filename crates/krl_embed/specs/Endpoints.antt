@@ -14,6 +14,10 @@ use Rattle.krl_embed.specs.Replies.{code_of}
 abbrev pub IsCode : Code → Reply → Type 0
 IsCode c r = (code_of r ≡ Some c) × (r.detail ≡ 0)
 
+-- this code, and the room is as it was
+abbrev pub IsUntold : {X : Type 0} → List X → List X → Code → Reply → Type 0
+IsUntold was now c r = IsCode c r × (now ≡ was)
+
 -- what is closed stays closed, and the answer says so; to what is open the call does this
 abbrev pub OnHandle : {R : Type 0} → (Code → R → Type 0) → (Endpoint → Endpoint → R → Type 0)
     → Option Endpoint → Option Endpoint → R → Type 0

@@ -1,5 +1,5 @@
 -- What opening a client or a server does.
-use Rattle.std.specs.Prelude.{◌≡◌, ◌≤◌, ◌<◌, ℕ, suc, List, [], ◌∷◌, length, map, Option, Some, None, nat_eq}
+use Rattle.std.specs.Prelude.{◌≡◌, ◌≤◌, ◌<◌, ℕ, suc, List, [], ◌∷◌, length, map, Option, Some, None, nat_eq, true}
 use Rattle.std.specs.Prelude.{if◌then◌else◌}
 use Rattle.std.specs.List.{AllByRecursion, IsDistinct}
 use Rattle.std.specs.Map.{keys_of}
@@ -10,7 +10,8 @@ use Rattle.krl_durable.specs.declared.record.Record.{Record}
 use Rattle.krl_durable.specs.declared.refused.Refused.{Refused}
 use Rattle.krl_durable.specs.declared.refused.Refused.TheVariants as refused
 use Rattle.krl_durable.specs.Registers.{Durable}
-use Rattle.krl_durable.specs.Openings.{of_parts, Refuses}
+use Rattle.krl_durable.specs.Openings.{of_parts, Refuses, AreGood}
+use Rattle.krl_durable.specs.Writes.{most_entries}
 use Rattle.krl_client.specs.Clients.{begun}
 use Rattle.krl_client.specs.Commands.{start_refusal}
 use Rattle.krl_client.specs.Ticks.{says_hello}
@@ -31,7 +32,7 @@ use Rattle.krl_embed.specs.declared.reply.Reply.{Reply}
 use Rattle.krl_embed.specs.declared.rows.Row.{Row}
 use Rattle.krl_embed.specs.Replies.{code_of}
 use Rattle.krl_embed.specs.Rows.{entry_of, HasValue, IsTooLong}
-use Rattle.krl_embed.specs.Records.{IsFirstBad, record_of}
+use Rattle.krl_embed.specs.Records.{IsFirstBad, is_record, record_of}
 use Rattle.krl_embed.specs.Frames.{said_frames}
 use Rattle.krl_embed.specs.Endpoints.{IsCode}
 
@@ -78,10 +79,15 @@ refused_code refused.BadKey = code.BadKey
 refused_code refused.Twice = code.Twice
 refused_code refused.Full = code.Full
 
+-- what is said of a record at this place that is refused: its place, where it is bad
+abbrev pub place_said : Code → ℕ → ℕ
+place_said code.BadRecord i = i
+place_said _ i = 0
+
 -- the record at the detail's place is the first bad one, or memory is refused
 abbrev pub RefusesRecordsAs : List RecordRow → ℕ → Option Code → Type 0
 RefusesRecordsAs records i (Some code.BadRecord) = IsFirstBad records i
-RefusesRecordsAs records i (Some code.OutOfMemory) = Unit {0}
+RefusesRecordsAs records i (Some code.OutOfMemory) = i ≡ 0
 RefusesRecordsAs records i _ = ⊥
 
 abbrev pub RefusesRecords : List RecordRow → Reply → Type 0
@@ -89,23 +95,32 @@ RefusesRecords records r = RefusesRecordsAs records r.detail (code_of r)
 
 -- why none starts
 abbrev pub RefusesParts : ℕ → List Row → List RecordRow → ℕ → Option Code → Type 0
-RefusesParts epoch entries records i (Some code.Spent) = END ≤ epoch
+RefusesParts epoch entries records i (Some code.Spent) = (END ≤ epoch) × (i ≡ 0)
 RefusesParts epoch entries records i (Some code.BadValue) = IsTooLong entries i
 RefusesParts epoch entries records i (Some code.BadRecord) = IsFirstBad records i
-RefusesParts epoch entries records i (Some code.Full) = Refuses (map entry_of entries) refused.Full
-RefusesParts epoch entries records i (Some code.BadKey) = Refuses (map entry_of entries) refused.BadKey
-RefusesParts epoch entries records i (Some code.Twice) = Refuses (map entry_of entries) refused.Twice
-RefusesParts epoch entries records i (Some code.OutOfMemory) = Unit {0}
+RefusesParts epoch entries records i (Some code.Full) = Refuses (map entry_of entries) refused.Full × (i ≡ 0)
+RefusesParts epoch entries records i (Some code.BadKey) = Refuses (map entry_of entries) refused.BadKey × (i ≡ 0)
+RefusesParts epoch entries records i (Some code.Twice) = Refuses (map entry_of entries) refused.Twice × (i ≡ 0)
+RefusesParts epoch entries records i (Some code.OutOfMemory) = i ≡ 0
 RefusesParts epoch entries records i _ = ⊥
 
 abbrev pub RefusesOpening : ℕ → List Row → List RecordRow → Reply → Type 0
 RefusesOpening epoch entries records r = RefusesParts epoch entries records r.detail (code_of r)
 
+-- nothing is wrong with what was kept
+pub record MayOpen (epoch : ℕ) (entries : List Row) (records : List RecordRow) : Type 0 where
+  pub below : epoch < END
+  pub values : AllByRecursion HasValue entries
+  pub each : AllByRecursion (λ r. is_record r ≡ true) records
+  pub once : IsDistinct nat_eq (keys_of (map record_of records))
+  pub few : length (map entry_of entries) ≤ most_entries
+  pub keys : AreGood (map entry_of entries) (length (map entry_of entries))
+
 abbrev pub OpensClosed : ℕ → List Row → List RecordRow → Option Endpoint → Reply → Type 0
 OpensClosed epoch entries records None r = RefusesOpening epoch entries records r
 OpensClosed epoch entries records (Some e) r =
-    (code_of r ≡ Some code.Done) × (r.detail ≡ suc epoch) × IsStartedRole (parts epoch entries records) e.role
-    × (e.outgoing ≡ [])
+    (code_of r ≡ Some code.Done) × (r.detail ≡ suc epoch) × MayOpen epoch entries records
+    × IsStartedRole (parts epoch entries records) e.role × (e.outgoing ≡ [])
 
 abbrev pub Opens : ℕ → List Row → List RecordRow → Option Endpoint → Option Endpoint → Reply → Type 0
 Opens epoch entries records None after r = OpensClosed epoch entries records after r

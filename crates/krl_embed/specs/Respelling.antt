@@ -21,7 +21,7 @@ RespellsAs read spell bytes was now r (Some code.Done) = IsSpelled read spell by
 RespellsAs read spell bytes was now r (Some code.TooShort) = IsSpelled read spell bytes × Copies bytes was now r
 RespellsAs read spell bytes was now r (Some code.BadMessage) =
     (f : Fault) × (read ≡ Err f) × (r.detail ≡ fault_number f) × (now ≡ was)
-RespellsAs read spell bytes was now r (Some code.OutOfMemory) = now ≡ was
+RespellsAs read spell bytes was now r (Some code.OutOfMemory) = (now ≡ was) × (r.detail ≡ 0)
 RespellsAs read spell bytes was now r _ = ⊥
 
 abbrev pub Respells : {M : Type 0} → (List ℕ → Result M Fault) → (M → List ℕ) → List ℕ → List ℕ → List ℕ → Reply

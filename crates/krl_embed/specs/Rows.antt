@@ -34,7 +34,7 @@ pub record IsTooLong (rows : List Row) (i : ℕ) : Type 0 where
 -- the first value that is too long, or want of memory
 abbrev pub RefusesRowsAs : List Row → ℕ → Option Code → Type 0
 RefusesRowsAs rows i (Some code.BadValue) = IsTooLong rows i
-RefusesRowsAs rows i (Some code.OutOfMemory) = Unit {0}
+RefusesRowsAs rows i (Some code.OutOfMemory) = i ≡ 0
 RefusesRowsAs rows i _ = ⊥
 
 abbrev pub RefusesRows : List Row → Reply → Type 0

@@ -28,9 +28,10 @@ use Rattle.krl_embed.specs.Endpoints.{IsCode}
 abbrev pub IsUnchanged : Code → Stepped → Type 0
 IsUnchanged c r = IsCode c r.reply × (r.change ≡ unchanged)
 
--- the server took the message, and what it changed is told
+-- the server took the message, which raised no alarm, and what it changed is told
 pub record HasActed (s : Server) (m : ToServer) (t : Server) (out : ServerOut) (r : Stepped) : Type 0 where
   pub stepped : HasStepped s m t out
+  pub calm : out.alarm ≡ None
   pub change : IsChange s.durable t.durable out.change
   pub told : r.change ≡ change_row out.change
 
@@ -46,18 +47,21 @@ pub record HasAlarmed (s : Server) (m : ToServer) (t : Server) (out : ServerOut)
 abbrev pub Acts : ToServer → State → List ℕ → State → List ℕ → Stepped → Option Code → Type 0
 Acts m s old t new r (Some code.Done) =
     (out : ServerOut) × HasActed (meaning s) m (meaning t) out r × (new ≡ old ++ told_frames out.messages)
+    × (r.reply.detail ≡ 0)
 Acts m s old t new r (Some code.Unsaid) =
-    (out : ServerOut) × HasActed (meaning s) m (meaning t) out r × (new ≡ old)
+    (out : ServerOut) × HasActed (meaning s) m (meaning t) out r × (new ≡ old) × (r.reply.detail ≡ 0)
 Acts m s old t new r (Some code.Alarm) =
     (out : ServerOut) × HasAlarmed (meaning s) m (meaning t) out r × (new ≡ old)
-Acts m s old t new r (Some code.OutOfMemory) = (t ≡ s) × (new ≡ old) × (r.change ≡ unchanged)
+Acts m s old t new r (Some code.OutOfMemory) =
+    (t ≡ s) × (new ≡ old) × (r.change ≡ unchanged) × (r.reply.detail ≡ 0)
 Acts m s old t new r _ = ⊥
 
 -- bytes that are no message change nothing; the fault is told, unless memory runs out first
 abbrev pub IsRefused : Fault → State → List ℕ → State → List ℕ → Stepped → Option Code → Type 0
 IsRefused f s old t new r (Some code.BadMessage) =
     (t ≡ s) × (new ≡ old) × (r.change ≡ unchanged) × (r.reply.detail ≡ fault_number f)
-IsRefused f s old t new r (Some code.OutOfMemory) = (t ≡ s) × (new ≡ old) × (r.change ≡ unchanged)
+IsRefused f s old t new r (Some code.OutOfMemory) =
+    (t ≡ s) × (new ≡ old) × (r.change ≡ unchanged) × (r.reply.detail ≡ 0)
 IsRefused f s old t new r _ = ⊥
 
 abbrev pub HearsRead : Result ToServer Fault → State → List ℕ → State → List ℕ → Stepped → Type 0
@@ -76,7 +80,7 @@ NudgesAs outs old new (Some code.OutOfMemory) = new ≡ old
 NudgesAs outs old new _ = ⊥
 
 abbrev pub Nudges : ℕ → State → List ℕ → State → List ℕ → Reply → Type 0
-Nudges c s old t new r = (t ≡ s) × NudgesAs (nudge (meaning s) c) old new (code_of r)
+Nudges c s old t new r = (t ≡ s) × (r.detail ≡ 0) × NudgesAs (nudge (meaning s) c) old new (code_of r)
 
 -- a call on a server, which is there before and after; nothing changes where there is none
 abbrev pub OnServerRole : {R : Type 0} → (Code → R → Type 0) → (State → List ℕ → State → List ℕ → R → Type 0)

@@ -86,7 +86,7 @@ Copies found was now r = (r.detail ≡ length found) × CopiesAs found was now (
 
 -- or memory is refused
 abbrev pub TellsMissingAs : List ℕ → List ℕ → List ℕ → Reply → Option Code → Type 0
-TellsMissingAs found was now r (Some code.OutOfMemory) = now ≡ was
+TellsMissingAs found was now r (Some code.OutOfMemory) = (now ≡ was) × (r.detail ≡ 0)
 TellsMissingAs found was now r _ = Copies found was now r
 
 abbrev pub TellsMissing : List ℕ → List ℕ → State → Reply → Type 0
@@ -106,15 +106,19 @@ record_row c r = record {
   left = flag r.left;
 }
 
+-- nobody's record
+abbrev pub no_record : RecordRow
+no_record = record { client = 0; incarnation = 0; last = 0; outcome = 0; left = 0 }
+
+abbrev pub IsNotRecorded : Code → Recorded → Type 0
+IsNotRecorded c r = IsCode c r.reply × (r.record ≡ no_record)
+
 abbrev pub TellsRecord : ℕ → Option Record → Recorded → Type 0
-TellsRecord c None r = IsCode code.BadClient r.reply
+TellsRecord c None r = IsNotRecorded code.BadClient r
 TellsRecord c (Some x) r = IsCode code.Done r.reply × (r.record ≡ record_row c x)
 
 abbrev pub IsRecorded : ℕ → State → Recorded → Type 0
 IsRecorded c s r = TellsRecord c (registers.record_of (servers.meaning s).durable.register c) r
-
-abbrev pub IsNotRecorded : Code → Recorded → Type 0
-IsNotRecorded c r = IsCode c r.reply
 
 -- Leaving
 
@@ -129,11 +133,11 @@ GoesTo (role.Server s) now c = (now ≡ role.Server s) × (c ≡ code.NoClient)
 -- the Bye waits behind all others, or is lost; a client that is gone says it again
 abbrev pub LeavesRole : Role → List ℕ → Role → List ℕ → Reply → Type 0
 LeavesRole (role.Client k) old (role.Left bye) new r =
-    (bye ≡ says_bye (clients.meaning k) ∷ []) × WaitsBy (said_frames bye) old new (code_of r)
+    (bye ≡ says_bye (clients.meaning k) ∷ []) × WaitsBy (said_frames bye) old new (code_of r) × (r.detail ≡ 0)
 LeavesRole (role.Client k) old (role.Client l) new r = (l ≡ k) × (new ≡ old) × IsCode code.OutOfMemory r
 LeavesRole (role.Client k) old (role.Server s) new r = ⊥
 LeavesRole (role.Left bye) old now new r =
-    (now ≡ role.Left bye) × WaitsBy (said_frames bye) old new (code_of r)
+    (now ≡ role.Left bye) × WaitsBy (said_frames bye) old new (code_of r) × (r.detail ≡ 0)
 LeavesRole (role.Server s) old now new r = (now ≡ role.Server s) × (new ≡ old) × IsCode code.NoClient r
 
 abbrev pub Leaves : Endpoint → Endpoint → Reply → Type 0

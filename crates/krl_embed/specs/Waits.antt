@@ -12,7 +12,7 @@ use Rattle.krl_embed.specs.declared.code.Code.TheVariants as code
 use Rattle.krl_embed.specs.declared.reply.Reply.{Reply}
 use Rattle.krl_embed.specs.declared.server_shows.Waiting.{Waiting}
 use Rattle.krl_embed.specs.Replies.{code_of}
-use Rattle.krl_embed.specs.Endpoints.{IsCode}
+use Rattle.krl_embed.specs.Endpoints.{IsCode, IsUntold}
 use Rattle.krl_embed.specs.Shown.{Copies}
 
 -- what is told of a client; a number that is no client's is refused
@@ -32,10 +32,6 @@ IsNoWait c r = IsCode c r.reply × IsWait None r
 abbrev pub TellsWait : ℕ → State → Waiting → Type 0
 TellsWait c s r =
     OfNumber IsNoWait c (λ r. IsCode code.Done r.reply × IsWait (waiter_of (meaning s) c) r) r
-
--- this code, and the room is as it was
-abbrev pub IsUntold : List ℕ → List ℕ → Code → Reply → Type 0
-IsUntold was now c r = IsCode c r × (now ≡ was)
 
 abbrev pub TellsWaited : ℕ → List ℕ → List ℕ → State → Reply → Type 0
 TellsWaited c was now s r = OfNumber (IsUntold was now) c (Copies (waited_for (meaning s) c) was now) r

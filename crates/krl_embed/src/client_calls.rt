@@ -2,7 +2,7 @@
 ghost use Rattle.std.specs.Prelude.{◌≡◌, slice_get};
 ghost use Rattle.krl_modes.specs.Modes.{all_modes};
 ghost use Rattle.krl_embed.specs.Clients as calls;
-ghost use Rattle.krl_embed.specs.Endpoints.{IsCode, OnClient, OfClient};
+ghost use Rattle.krl_embed.specs.Endpoints.{IsUntold, OnClient, OfClient};
 ghost use Rattle.krl_embed.specs.Frames.{said_frames, WaitsBy};
 ghost use Rattle.krl_embed.specs.Replies.{code_of};
 ghost use Rattle.krl_embed.specs.Shown.{GoesTo, Leaves};
@@ -39,7 +39,8 @@ fn refusal_code(refused: CommandRefused) -> Code
 
 // What these say goes out.
 fn say(alloc: Global, outgoing: &mut Frames, messages: &[ToServer]) -> Reply
-    ensures { WaitsBy (said_frames messages.now) outgoing.old outgoing.new (code_of result) }
+    ensures waits { WaitsBy (said_frames messages.now) outgoing.old outgoing.new (code_of result) }
+    ensures detail { result.detail ≡ 0 }
 {
     Reply::of(outgoing.say(alloc, messages))
 }
@@ -50,7 +51,8 @@ fn said(
     outgoing: &mut Frames,
     messages: Result<Vec<ToServer>, CommandRefused>,
 ) -> Reply
-    ensures { calls.SaidOr messages outgoing.old outgoing.new (code_of result) }
+    ensures said { calls.SaidOr messages outgoing.old outgoing.new (code_of result) }
+    ensures detail { result.detail ≡ 0 }
 {
     match messages {
         Ok(messages) => say(alloc, outgoing, messages.as_slice()),
@@ -227,8 +229,8 @@ fn find(client: &Client, lo: u64, hi: u64, rows: &mut [Row]) -> Reply
 
 /// Scans the client's cache.
 pub(crate) fn scan(endpoint: &Endpoint, lo: u64, hi: u64, rows: &mut [Row]) -> Reply
-    ensures { OfClient IsCode (calls.Scans (record { lo = lo; hi = hi }) rows.old rows.new)
-        endpoint.now.role result }
+    ensures { OfClient (IsUntold rows.old rows.new)
+        (calls.Scans (record { lo = lo; hi = hi }) rows.old rows.new) endpoint.now.role result }
 {
     match &endpoint.role {
         Role::Client(client) => find(client, lo, hi, rows),

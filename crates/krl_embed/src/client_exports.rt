@@ -6,7 +6,8 @@ ghost use Rattle.krl_embed.specs.Opening as opening;
 ghost use Rattle.krl_embed.specs.Shown as shown;
 ghost use Rattle.krl_messages.specs.declared.write_op.WriteOp.TheVariants as op;
 ghost use Rattle.krl_embed.specs.Clients as calls;
-ghost use Rattle.krl_embed.specs.Endpoints.{IsCode, OnHandle, OnClient, Shows, OfClient};
+ghost use Rattle.krl_embed.specs.Endpoints.{IsCode, IsUntold, OnHandle, OnClient, Shows};
+ghost use Rattle.krl_embed.specs.Endpoints.{OfClient};
 
 use crate::client_calls;
 use crate::client_shows::{self, ClientState, Held};
@@ -192,7 +193,7 @@ pub extern "C" fn krl_client_scan(
     rows: &mut [Row],
 ) -> Reply
     ensures unchanged { handle.new.owned.value ≡ handle.old.owned.value }
-    ensures answer { Shows IsCode (OfClient IsCode
+    ensures answer { Shows (IsUntold rows.old rows.new) (OfClient (IsUntold rows.old rows.new)
         (calls.Scans (record { lo = lo; hi = hi }) rows.old rows.new))
         handle.old.owned.value result }
 {

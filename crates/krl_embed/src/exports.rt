@@ -1,6 +1,6 @@
 //! Exports on either, and on messages alone.
 ghost use Rattle.std.specs.Prelude.{◌≡◌, None};
-ghost use Rattle.krl_embed.specs.Endpoints.{IsCode, OnHandle};
+ghost use Rattle.krl_embed.specs.Endpoints.{IsUntold, OnHandle};
 ghost use Rattle.krl_wire.specs.Reading as reading;
 ghost use Rattle.krl_wire.specs.Spelling as wire;
 ghost use Rattle.krl_embed.specs.Frames.{TakesFrames};
@@ -16,7 +16,7 @@ use std::alloc::Global;
 /// Takes the frames that wait to be sent.
 #[unsafe(no_mangle)]
 pub extern "C" fn krl_take(alloc: Global, handle: &mut Handle, bytes: &mut [u8]) -> Reply
-    ensures { OnHandle IsCode (TakesFrames bytes.old bytes.new)
+    ensures { OnHandle (IsUntold bytes.old bytes.new) (TakesFrames bytes.old bytes.new)
         handle.old.owned.value handle.new.owned.value result }
 {
     let Some(mut endpoint) = take(alloc, handle) else {

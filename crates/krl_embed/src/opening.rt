@@ -1,10 +1,12 @@
 //! Starting a server on what was kept.
-ghost use Rattle.std.specs.Prelude.{◌≡◌, Some, IfOk, IfErr, map};
+ghost use Rattle.std.specs.Prelude.{◌≡◌, true, Some, IfOk, OnOk, IfErr, map};
+ghost use Rattle.std.specs.List.{AllByRecursion};
 ghost use Rattle.krl_server.specs.StateMeaning.{meaning};
 ghost use Rattle.krl_server.specs.Steps.{start};
 ghost use Rattle.krl_embed.specs.Replies.{code_of};
-ghost use Rattle.krl_embed.specs.Opening.{parts, refused_code, RefusesOpening, RefusesRecords};
-ghost use Rattle.krl_embed.specs.Records.{AreRows, record_of};
+ghost use Rattle.krl_embed.specs.Opening.{parts, place_said, refused_code, MayOpen};
+ghost use Rattle.krl_embed.specs.Opening.{RefusesOpening, RefusesRecords};
+ghost use Rattle.krl_embed.specs.Records.{AreRows, is_record, record_of};
 
 use crate::code::Code;
 use crate::records::{RecordRow, push_record};
@@ -15,16 +17,28 @@ use krl_modes::END;
 use krl_server::{Server, StartRefused};
 use std::alloc::Global;
 
+// Why the record at this place is refused. A bad one is told by its place.
+fn record_refused(code: Code, place: u64) -> Reply
+    ensures code { code_of result ≡ Some code }
+    ensures detail { result.detail ≡ place_said code place }
+{
+    match code {
+        Code::BadRecord => Reply::with(code, place),
+        _ => Reply::of(code),
+    }
+}
+
 // The records of these rows, in their order. A bad one is told by its place.
 fn records_of(alloc: Global, rows: &[RecordRow]) -> Result<Vec<(u64, Record)>, Reply>
     ensures rows { IfOk result (λ records. AreRows records.items) }
     ensures records { IfOk result (λ records. records.items ≡ map record_of rows.now) }
+    ensures good { OnOk result (AllByRecursion (λ r. is_record r ≡ true) rows.now) }
     ensures why { IfErr result (RefusesRecords rows.now) }
 {
     let mut records = Vec::new(alloc);
     for i in 0..rows.len() {
         if let Err(code) = push_record(&mut records, &rows[i]) {
-            return Err(Reply::with(code, i as u64));
+            return Err(record_refused(code, i as u64));
         }
     }
     Ok(records)
@@ -32,7 +46,8 @@ fn records_of(alloc: Global, rows: &[RecordRow]) -> Result<Vec<(u64, Record)>, R
 
 // Why no index begins with the entries.
 fn entries_refused(refused: Refused) -> Reply
-    ensures { code_of result ≡ Some (refused_code refused) }
+    ensures code { code_of result ≡ Some (refused_code refused) }
+    ensures detail { result.detail ≡ 0 }
 {
     match refused {
         Refused::OutOfMemory => Reply::of(Code::OutOfMemory),
@@ -50,6 +65,7 @@ fn durable_of(
     records: &[RecordRow],
 ) -> Result<Durable, Reply>
     ensures durable { IfOk result (λ d. d ≡ parts epoch entries.now records.now) }
+    ensures good { OnOk result (MayOpen epoch entries.now records.now) }
     ensures why { IfErr result (RefusesOpening epoch entries.now records.now) }
 {
     if epoch >= END {
@@ -77,6 +93,7 @@ pub(crate) fn start(
     records: &[RecordRow],
 ) -> Result<Server, Reply>
     ensures server { IfOk result (λ s. meaning s ≡ start (parts epoch entries.now records.now)) }
+    ensures good { OnOk result (MayOpen epoch entries.now records.now) }
     ensures why { IfErr result (RefusesOpening epoch entries.now records.now) }
 {
     let durable = match durable_of(alloc, epoch, entries, records) {

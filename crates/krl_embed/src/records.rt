@@ -4,7 +4,7 @@ ghost use Rattle.std.specs.Prelude.{nat_eq};
 ghost use Rattle.std.specs.List.{list_any};
 ghost use Rattle.krl_durable.specs.Kept.{IsRow};
 ghost use Rattle.krl_embed.specs.Changes.{optional_outcome_number};
-ghost use Rattle.krl_embed.specs.Shown.{record_row};
+ghost use Rattle.krl_embed.specs.Shown.{record_row, no_record};
 ghost use Rattle.krl_embed.specs.Records as records;
 ghost use Rattle.krl_embed.specs.Records.{AreRows, RefusesRow};
 
@@ -50,7 +50,9 @@ fn outcome_of(number: u32) -> Option<Outcome>
 
 impl RecordRow {
     /// Nobody's record.
-    pub(crate) fn blank() -> RecordRow {
+    pub(crate) fn blank() -> RecordRow
+        ensures { result ≡ no_record }
+    {
         RecordRow {
             client: 0,
             incarnation: 0,
@@ -134,6 +136,7 @@ pub(crate) fn push_record(rows: &mut Vec<(u64, Record)>, row: &RecordRow) -> Res
     ensures rows { AreRows rows.new.items }
     ensures pushed { OnOk result
         (rows.new.items ≡ rows.old.items ++ records.record_of row.now ∷ []) }
+    ensures good { OnOk result (records.is_record row.now ≡ true) }
     ensures why { IfErr result (RefusesRow rows.old.items row.now) }
 {
     let Some(pair) = row.record() else {

@@ -1,6 +1,6 @@
 //! What the exports do with a server.
 ghost use Rattle.std.specs.Prelude.{◌≡◌};
-ghost use Rattle.krl_embed.specs.Endpoints.{IsCode, OfServer};
+ghost use Rattle.krl_embed.specs.Endpoints.{IsCode, IsUntold, OfServer};
 ghost use Rattle.krl_embed.specs.Shown as shown;
 ghost use Rattle.krl_embed.specs.Changes.{unchanged};
 ghost use Rattle.krl_embed.specs.Servers as calls;
@@ -171,8 +171,8 @@ pub(crate) fn copy_clients(found: &[u64], clients: &mut [u64]) -> Reply
 
 /// The clients that the server waits for.
 pub(crate) fn missing(alloc: Global, endpoint: &Endpoint, clients: &mut [u64]) -> Reply
-    ensures { OfServer IsCode (shown.TellsMissing clients.old clients.new)
-        endpoint.now.role result }
+    ensures { OfServer (IsUntold clients.old clients.new)
+        (shown.TellsMissing clients.old clients.new) endpoint.now.role result }
 {
     match &endpoint.role {
         Role::Server(server) => match server.missing(alloc) {

@@ -1,6 +1,6 @@
 //! Exports on servers.
 ghost use Rattle.std.specs.Prelude.{◌≡◌};
-ghost use Rattle.krl_embed.specs.Endpoints.{IsCode, OnHandle, Shows, OfServer};
+ghost use Rattle.krl_embed.specs.Endpoints.{IsCode, IsUntold, OnHandle, Shows, OfServer};
 ghost use Rattle.krl_embed.specs.Opening as opening;
 ghost use Rattle.krl_embed.specs.Shown as shown;
 ghost use Rattle.krl_embed.specs.Servers as calls;
@@ -105,7 +105,8 @@ pub extern "C" fn krl_server_missing(
     clients: &mut [u64],
 ) -> Reply
     ensures unchanged { handle.new.owned.value ≡ handle.old.owned.value }
-    ensures answer { Shows IsCode (OfServer IsCode (shown.TellsMissing clients.old clients.new))
+    ensures answer { Shows (IsUntold clients.old clients.new)
+        (OfServer (IsUntold clients.old clients.new) (shown.TellsMissing clients.old clients.new))
         handle.old.owned.value result }
 {
     let Some(endpoint) = take(alloc, handle) else {
@@ -156,8 +157,8 @@ pub extern "C" fn krl_server_waited_for(
     clients: &mut [u64],
 ) -> Reply
     ensures unchanged { handle.new.owned.value ≡ handle.old.owned.value }
-    ensures answer { Shows (waits.IsUntold clients.old clients.new)
-        (OfServer (waits.IsUntold clients.old clients.new)
+    ensures answer { Shows (IsUntold clients.old clients.new)
+        (OfServer (IsUntold clients.old clients.new)
         (waits.TellsWaited client clients.old clients.new))
         handle.old.owned.value result }
 {

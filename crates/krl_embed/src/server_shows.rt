@@ -1,8 +1,8 @@
 //! Who waits at a server, for whom, and how much clients hold, as C sees it.
 ghost use Rattle.krl_embed.specs.declared.code.Code.TheVariants as code;
-ghost use Rattle.krl_embed.specs.Endpoints.{IsCode, OfServer};
+ghost use Rattle.krl_embed.specs.Endpoints.{IsCode, IsUntold, OfServer};
 ghost use Rattle.krl_embed.specs.Waits as waits;
-ghost use Rattle.krl_embed.specs.Waits.{IsNoWait, IsUntold, IsWait};
+ghost use Rattle.krl_embed.specs.Waits.{IsNoWait, IsWait};
 
 use crate::code::Code;
 use crate::endpoint::{Endpoint, Role};

@@ -8,7 +8,8 @@ pub returns : goal.returns
 returns c =
     let k = meaning c.args.client.now in let op = c.in-Some.op in let call = c.write-messages in
     rw c.in-Some.is (
-    commanded (write_refusal k op) (wrote k op) (says_write (wrote k op) op) c.args.client.now call.new.self
-    c.args.outgoing.now c.said.new.outgoing call.result (replies.code_of c.said.result) call.ensures.due
-    call.ensures.unchanged call.ensures.none_due call.ensures.client call.ensures.says c.said.ensures
+      c.said.ensures.detail,
+      commanded (write_refusal k op) (wrote k op) (says_write (wrote k op) op) c.args.client.now call.new.self
+          c.args.outgoing.now c.said.new.outgoing call.result (replies.code_of c.said.result) call.ensures.due
+          call.ensures.unchanged call.ensures.none_due call.ensures.client call.ensures.says c.said.ensures.said,
     )
