@@ -1,5 +1,5 @@
 -- A change of what survives, as C sees it.
-use Rattle.std.specs.Prelude.{ℕ, suc, Option, Some, None, []}
+use Rattle.std.specs.Prelude.{ℕ, Option, Some, None, []}
 use Rattle.krl_messages.specs.declared.outcome.Outcome.{Outcome}
 use Rattle.krl_messages.specs.declared.outcome.Outcome.TheVariants as outcome
 use Rattle.krl_messages.specs.declared.write_op.WriteOp.{WriteOp}

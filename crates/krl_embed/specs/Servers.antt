@@ -1,5 +1,5 @@
 -- What the calls on a server do: with the server, with what waits to be sent, and what they answer.
-use Rattle.std.specs.Prelude.{◌≡◌, ℕ, List, [], ◌++◌, Option, Some, None, Result, Ok, Err}
+use Rattle.std.specs.Prelude.{None, ◌≡◌, ℕ, List, [], ◌++◌, Option, Some, Result, Ok, Err}
 use Rattle.krl_messages.specs.declared.to_server.ToServer.{ToServer}
 use Rattle.krl_messages.specs.declared.to_client.ToClient.{ToClient}
 use Rattle.krl_wire.specs.declared.fault.Fault.{Fault}
@@ -19,7 +19,7 @@ use Rattle.krl_embed.specs.declared.endpoint.Role.TheVariants as role
 use Rattle.krl_embed.specs.declared.reply.Reply.{Reply}
 use Rattle.krl_embed.specs.declared.server_calls.Stepped.{Stepped}
 use Rattle.krl_embed.specs.Replies.{code_of}
-use Rattle.krl_embed.specs.Frames.{told_frames, WaitsBy}
+use Rattle.krl_embed.specs.Frames.{told_frames}
 use Rattle.krl_embed.specs.Changes.{unchanged, change_row}
 use Rattle.krl_embed.specs.Clients.{fault_number}
 use Rattle.krl_embed.specs.Endpoints.{IsCode}

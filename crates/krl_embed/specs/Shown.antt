@@ -1,14 +1,11 @@
 -- What clients and servers show of themselves, as C sees it.
 use Rattle.std.specs.Prelude.{◌≡◌, ◌<◌, ℕ, Bool, true, false, List, [], ◌∷◌, ◌++◌, length, drop, Option, Some, None}
-use Rattle.krl_modes.specs.declared.part.RangePart.{RangePart}
-use Rattle.krl_modes.specs.declared.part.KeyPart.{KeyPart}
 use Rattle.krl_wire.specs.Spelling.{range_tag, key_tag}
 use Rattle.krl_durable.specs.declared.record.Record.{Record}
 use Rattle.krl_durable.specs.Registers as registers
 use Rattle.krl_client.specs.Clients.{Client, held, status_of}
 use Rattle.krl_client.specs.Commands.{says_bye}
 use Rattle.krl_client.specs.Fields as clients
-use Rattle.krl_client.specs.declared.status.Status.{Status}
 use Rattle.krl_client.specs.declared.status.LockStatus.{LockStatus}
 use Rattle.krl_client.specs.declared.status.LockStatus.TheVariants as lock
 use Rattle.krl_client.specs.declared.status.WriteStatus.{WriteStatus}

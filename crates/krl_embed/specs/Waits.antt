@@ -1,7 +1,6 @@
 -- Who waits at a server, for whom, and how much clients hold, as C sees it.
 use Rattle.std.specs.Prelude.{◌≡◌, ◌≤◌, ◌<◌, ℕ, List, Option, Some, None}
 use Rattle.krl_queue.specs.declared.waiter.Waiter.{Waiter}
-use Rattle.krl_table.specs.Rows.{most_clients}
 use Rattle.krl_table.specs.Holds.{HoldsAt}
 use Rattle.krl_wire.specs.Spelling.{mode_tag}
 use Rattle.krl_server.specs.declared.state.State.{State}

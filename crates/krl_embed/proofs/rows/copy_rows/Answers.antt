@@ -1,4 +1,4 @@
-use Rattle.std.proofs.Common.{◌≡◌, ℕ, ◌∙◌, arith}
+use Rattle.std.proofs.Common.{ℕ, ◌∙◌, arith}
 use Rattle.krl_messages.specs.Values.{Value}
 use Rattle.krl_embed.proofs.RowsLemmas.{popped, copied_one, copied_all}
 use Rattle.krl_embed.proofs.rows.copy_rows.Goals as goal
