@@ -1,4 +1,3 @@
-pub mod Values
 pub mod Held
 pub mod RecordsKept
 pub mod Framing

@@ -2,8 +2,8 @@
 ghost use Rattle.std.specs.Prelude.{◌≡◌, is_some, Some, None, IsNone, MatchOption};
 
 use crate::endpoint::Endpoint;
-use crate::loose::Loose;
 use crate::owned::Owned;
+use krl_queue::Loose;
 use std::alloc::Global;
 use std::mem::replace;
 

@@ -13,7 +13,6 @@ mod exports;
 mod frames;
 mod handle;
 mod laws;
-mod loose;
 mod opening;
 mod owned;
 mod records;

@@ -12,5 +12,6 @@ mod place;
 mod waiter;
 
 pub use list::WaitList;
+pub use loose::Loose;
 pub use node::WaitNode;
 pub use waiter::Waiter;

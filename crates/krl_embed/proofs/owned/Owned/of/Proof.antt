@@ -19,7 +19,7 @@ use denote.Triple.Walked.{Stays, stay_dropped, walk_of, Goes-dropped}
 use Rattle.std.proofs.raw_atomic.Walks.{proved_at, leaves}
 use Rattle.std.proofs.alloc.Global.TheLaws as heap_laws
 use Rattle.std.specs.contracts.impls.GlobalAllocator.TheImpl.{ghosts}
-use Rattle.krl_embed.proofs.Values.{both, Loose, loose_good, loose_out}
+use Rattle.krl_queue.proofs.Values.{both, Loose, loose_good, loose_out}
 use Rattle.krl_embed.proofs.Held.{Z, word_made}
 use Rattle.std_alloc.proofs.RcSteps.{word, word-Good}
 use Rattle.krl_embed.specs.contracts.endpoint.Endpoint as S
