@@ -1,3 +1,4 @@
 pub mod Messages
 pub mod Client
 pub mod Server
+mod Names

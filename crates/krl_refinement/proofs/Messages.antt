@@ -1,35 +1,21 @@
 -- What a client reports stands in its link; what the server sends is what a client takes; and whatever stands in a link
 -- stays there while no message goes.
 use Rattle.std.proofs.Common.{◌≡◌, ℕ, suc, ◌<◌, ◌∙◌, Bool, true, false, None, List, [], ◌∷◌, inl, refl, sym, ap, arith, nat_eq, if◌then◌else◌, eqb-true}
-use Rattle.std.proofs.lemmas.Bool.{eqb-false}
+use Rattle.krl_refinement.proofs.Names.{eqb-false, AllByRecursion, RangePart, KeyPart, range_join, key_join, IsWhole, contains, inside_span, Pieces, ToClientBody, PushBody, Head, Link, range_said}
+use Rattle.krl_refinement.proofs.Names.{reported_key, Belief, AreInOrder, AreAscending, Describes, report_of, push_of, RequestStands, Stands, IsTold, WasSent, Grows, IsFrom, Tells, IsTo}
 use mathlib.Core.Path.{fun_ext}
-use Rattle.std.specs.List.{AllByRecursion}
-use Rattle.krl_modes.specs.declared.part.RangePart.{RangePart}
 use Rattle.krl_modes.specs.declared.part.RangePart.TheVariants as range
-use Rattle.krl_modes.specs.declared.part.KeyPart.{KeyPart}
 use Rattle.krl_modes.specs.declared.part.KeyPart.TheVariants as key
-use Rattle.krl_modes.specs.Parts.{range_join, key_join}
-use Rattle.krl_modes.specs.Spans.{IsWhole, contains}
-use Rattle.krl_modes.proofs.SpanLaws.{inside_span}
 use Rattle.krl_messages.specs.declared.range_pieces.RangePiece.{RangePiece}
 use Rattle.krl_messages.specs.declared.key_pieces.KeyPiece.{KeyPiece}
-use Rattle.krl_messages.specs.declared.pieces.Pieces.{Pieces}
 use Rattle.krl_messages.specs.declared.to_server.ToServerBody.{ToServerBody}
 use Rattle.krl_messages.specs.declared.to_server.ToServerBody.TheVariants as said
 use Rattle.krl_messages.specs.declared.to_server.RequestBody.{RequestBody}
 use Rattle.krl_messages.specs.declared.to_server.RequestBody.TheVariants as asked
-use Rattle.krl_messages.specs.declared.to_client.ToClientBody.{ToClientBody}
 use Rattle.krl_messages.specs.declared.to_client.ToClientBody.TheVariants as told
-use Rattle.krl_messages.specs.declared.to_client.PushBody.{PushBody}
 use Rattle.krl_messages.specs.declared.to_client.PushBody.TheVariants as push
 use Rattle.krl_machine.specs.Links as links
-use Rattle.krl_machine.specs.Links.{Head, Link}
-use Rattle.krl_table.specs.Reports.{range_said, reported_key}
-use Rattle.krl_cache.specs.Beliefs.{Belief}
 use Rattle.krl_cache.specs.Kept as cache
-use Rattle.krl_cache.specs.Kept.{AreInOrder, AreAscending, Describes}
-use Rattle.krl_refinement.specs.Messages.{report_of, push_of, RequestStands, Stands, IsTold, WasSent}
-use Rattle.krl_refinement.specs.Client.Shows.{Grows, IsFrom, Tells, IsTo}
 
 -- Reports. Where pieces stand apart, the first that speaks of a point is the join of all that do
 

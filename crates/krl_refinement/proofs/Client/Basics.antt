@@ -1,16 +1,8 @@
 -- Links that grow; what a refusal that isn't due says; points of a span.
 use Rattle.std.proofs.Common.{◌≡◌, ℕ, ◌≤◌, ◌<◌, ◌-◌, Bool, true, false, Option, Some, None, ◌⊎◌, inl, inr, refl, arith, if◌then◌else◌}
-use Rattle.krl_modes.specs.declared.part.RangePart.{RangePart}
-use Rattle.krl_modes.specs.declared.part.KeyPart.{KeyPart}
-use Rattle.krl_modes.specs.declared.mode.Mode.{Mode}
-use Rattle.krl_modes.specs.Parts.{range_meet, key_meet}
-use Rattle.krl_modes.specs.Modes.{range_of, key_of}
-use Rattle.krl_modes.specs.Spans.{Bounds, contains}
-use Rattle.krl_machine.specs.Links.{Link, Lowered, untouched, lowered}
+use Rattle.krl_refinement.proofs.Names.{RangePart, KeyPart, Mode, range_meet, key_meet, range_of, key_of, Bounds, contains, Link, Lowered, untouched, lowered, inside_span, Grows}
 use Rattle.krl_cache.proofs.Truths.{outside_span}
 use Rattle.krl_client.specs.declared.refused.CommandRefused.{CommandRefused}
-use Rattle.krl_modes.proofs.SpanLaws.{inside_span}
-use Rattle.krl_refinement.specs.Client.Shows.{Grows}
 
 pub grows_not : (l : Link) → Grows l l
 grows_not l = record { hellos = λ x h. h; byes = λ x h. h; heads = λ x h. h; releases = λ x h. h; writes = λ x h. h; reports = λ x h. h; notices = λ x h. h; pushes = λ x h. h }

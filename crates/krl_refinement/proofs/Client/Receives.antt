@@ -1,36 +1,19 @@
 -- Each message that a client takes is some steps of its link.
 use Rattle.std.proofs.Common.{◌≡◌, ◌≢◌, ℕ, suc, ◌≤◌, ◌<◌, Bool, true, false, ◌&&◌, ◌||◌, not, Option, Some, None, is_some, unwrap_or, List, [], ◌∷◌, ◌⊎◌, inl, inr, refl, sym, ap, subst, ◌∙◌, ⊎_elim, arith, nat_eq, nat_lt, nat_le, if◌then◌else◌, ltb-true, eqb-true}
-use Rattle.std.proofs.lemmas.Bool.{eqb-false, and_parts, or_parts, not-true}
-use Rattle.krl_modes.specs.declared.point.TheConstants.{END}
-use Rattle.krl_modes.specs.declared.part.KeyPart.{KeyPart}
+use Rattle.krl_refinement.proofs.Names.{eqb-false, and_parts, or_parts, not-true, END, KeyPart, range_of, key_of, contains, Outcome, WriteOp, Pieces, ToClient, ToClientBody, PushBody, AllByRecursion}
+use Rattle.krl_refinement.proofs.Names.{Value, row_of, reads_key, In, Belief, is_last, adopt, adopt_all, Describes, Client, LockRequest, Granted, NoEntry, LastWrite, Unwritten, Outstanding, Judged}
+use Rattle.krl_refinement.proofs.Names.{outstanding, is_writing_in, meets_pin, op_shown, Says, Tells, IsTo, ShowsClient, ShowsSeat, Leads}
 use Rattle.krl_modes.specs.declared.part.KeyPart.TheVariants as key
-use Rattle.krl_modes.specs.Modes.{range_of, key_of}
-use Rattle.krl_modes.specs.Spans.{contains}
 use Rattle.krl_messages.specs.declared.holding.Holding.{Holding}
-use Rattle.krl_messages.specs.declared.outcome.Outcome.{Outcome}
-use Rattle.krl_messages.specs.declared.write_op.WriteOp.{WriteOp}
-use Rattle.krl_messages.specs.declared.pieces.Pieces.{Pieces}
-use Rattle.krl_messages.specs.declared.to_client.ToClient.{ToClient}
-use Rattle.krl_messages.specs.declared.to_client.ToClientBody.{ToClientBody}
 use Rattle.krl_messages.specs.declared.to_client.ToClientBody.TheVariants as told
-use Rattle.krl_messages.specs.declared.to_client.PushBody.{PushBody}
 use Rattle.krl_messages.specs.declared.to_client.PushBody.TheVariants as push
-use Rattle.std.specs.List.{AllByRecursion}
-use Rattle.krl_messages.specs.Values.{Value}
-use Rattle.krl_machine.specs.Worlds.{row_of}
 use Rattle.krl_machine.specs.Links
 use Rattle.krl_machine.specs.Links.{Op, Said, Link, Shared, belief, adopted, OutAfter, joins, accepts}
 use Rattle.krl_machine.specs.Holdings.{said_at, or_by, said_by}
-use Rattle.krl_modes.specs.Parts.{reads_key}
 use Rattle.krl_messages.specs.Holdings.{ends_at_end, has_its_value}
 use Rattle.krl_messages.specs.Several.{have_values}
-use Rattle.krl_messages.specs.Members.{In}
-use Rattle.krl_cache.specs.Beliefs.{Belief, is_last, adopt, adopt_all}
-use Rattle.krl_cache.specs.Kept.{Describes}
 use Rattle.krl_cache.proofs.Calls.{same_of, last_not_end, none_at_end}
-use Rattle.krl_client.specs.Clients.{Client, LockRequest, Granted, NoEntry, LastWrite, Unwritten, Outstanding, Judged, outstanding, is_writing_in, meets_pin}
 use Rattle.krl_client.specs.Messages.{asked_after, says_ack, says_report, joined, accepted, judged_as, fits, Case, Ignores, AcksAgain, Adopts, Accepts, Lowers, case_of, case_of_body, after, sends}
-use Rattle.krl_refinement.specs.Client.Shows.{op_shown, Says, Tells, IsTo, ShowsClient, ShowsSeat, Leads}
 use Rattle.krl_refinement.proofs.Messages.{report_stands}
 use Rattle.krl_refinement.proofs.Client.Steps.{rests, took, lowers_show}
 use Rattle.krl_refinement.proofs.Client.Repeats.{ack_shows, describes_it}

@@ -1,18 +1,9 @@
 -- A tick is steps of the client's link.
 use Rattle.std.proofs.Common.{◌≡◌, ℕ, ◌≤◌, Bool, true, false, Option, Some, None, List, [], ◌∷◌, ◌++◌, inl, inr, refl, sym, subst, ⊎_elim, nat_eq, if◌then◌else◌}
-use Rattle.krl_messages.specs.declared.write_op.WriteOp.{WriteOp}
-use Rattle.krl_messages.specs.declared.pieces.Pieces.{Pieces}
-use Rattle.krl_messages.specs.declared.to_server.ToServer.{ToServer}
-use Rattle.krl_messages.specs.Members.{In}
-use Rattle.krl_messages.proofs.Members.{in_both}
-use Rattle.krl_machine.specs.Links.{Link, Report, Shared, LinkSteps, idle, next, head_of, hellos_again, reports_again, speaks, writes_again}
-use Rattle.krl_cache.specs.Beliefs.{Belief}
-use Rattle.krl_cache.specs.Kept.{Describes}
-use Rattle.krl_client.specs.Clients.{Client, LockRequest, NotAsked, Granted, NoEntry, Dropped, Waiting, outstanding, has_joined}
+use Rattle.krl_refinement.proofs.Names.{WriteOp, Pieces, ToServer, In, in_both, Link, Report, Shared, LinkSteps, idle, next, head_of, hellos_again, reports_again, speaks, writes_again, Belief}
+use Rattle.krl_refinement.proofs.Names.{Describes, Client, LockRequest, NotAsked, Granted, NoEntry, Dropped, Waiting, outstanding, has_joined, op_of, op_shown, IsFrom, ShowsSeat, Leads}
 use Rattle.krl_client.specs.Messages.{says_report, says_ack}
 use Rattle.krl_client.specs.Ticks.{lock_again, write_again, says_hello, tick}
-use Rattle.krl_refinement.specs.Messages.{op_of}
-use Rattle.krl_refinement.specs.Client.Shows.{op_shown, IsFrom, ShowsSeat, Leads}
 use Rattle.krl_refinement.proofs.Messages.{report_stands, from_stays}
 use Rattle.krl_refinement.proofs.Client.Basics.{grows_on}
 use Rattle.krl_refinement.proofs.Client.Steps.{rests, took, head_is, joined_epoch, more_heads}

@@ -3,8 +3,7 @@ use Rattle.krl_refinement.specs.Client.Simulation.{StartShows, CrashShows, Comma
 use Rattle.krl_refinement.proofs.Client.Steps.{rests, other_parts, starting, crashing, leaving, locks_show, writes_show, forgets_show}
 use Rattle.krl_refinement.proofs.Client.Repeats.{ticks_show}
 use Rattle.krl_refinement.proofs.Client.Receives.{receives_show}
-use Rattle.krl_client.specs.Clients.{with_pin}
-use Rattle.std.proofs.Common.{None, Some}
+use Rattle.krl_refinement.proofs.Names.{with_pin, None, Some}
 
 pub start_shows : StartShows
 start_shows s l c g h = starting s l c g h

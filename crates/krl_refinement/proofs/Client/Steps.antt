@@ -1,33 +1,20 @@
 -- Starts, crashes and commands are steps of the client's link.
 use Rattle.std.proofs.Common.{◌≡◌, ℕ, suc, ◌≤◌, ◌<◌, ◌-◌, Bool, true, false, ◌&&◌, Option, Some, None, [], ◌∷◌, ◌⊎◌, inl, inr, refl, sym, subst, ◌∙◌, ⊎_elim, arith, nat_lt, nat_le, not, if◌then◌else◌, ltb-true}
-use Rattle.std.proofs.lemmas.Bool.{and_parts, not-false}
-use Rattle.krl_modes.specs.declared.point.TheConstants.{END, TOP}
-use Rattle.krl_modes.specs.declared.part.KeyPart.{KeyPart}
+use Rattle.krl_refinement.proofs.Names.{and_parts, not-false, END, TOP, KeyPart, Mode, key_meet, reads_key, is_key_X, is_range_X, range_of, key_of, Bounds, contains, WriteOp, ToServer, Value, row_of}
+use Rattle.krl_refinement.proofs.Names.{mode_parts, lower, is_span, Client, begun, LockRequest, Waiting, outstanding, has_joined, is_in, is_writing_in, op_of, op_shown, Grows, server_part, IsFrom}
+use Rattle.krl_refinement.proofs.Names.{ShowsClient, ShowsSeat, Leads}
 use Rattle.krl_modes.specs.declared.part.KeyPart.TheVariants as key
-use Rattle.krl_modes.specs.declared.mode.Mode.{Mode}
 use Rattle.krl_modes.specs.declared.mode.Mode.TheVariants as mode
-use Rattle.krl_modes.specs.Parts.{key_meet, reads_key, is_key_X, is_range_X}
-use Rattle.krl_modes.specs.Modes.{range_of, key_of}
-use Rattle.krl_modes.specs.Spans.{Bounds, contains}
-use Rattle.krl_messages.specs.declared.write_op.WriteOp.{WriteOp}
 use Rattle.krl_messages.specs.declared.write_op.WriteOp.TheVariants as op
-use Rattle.krl_messages.specs.declared.to_server.ToServer.{ToServer}
-use Rattle.krl_messages.specs.Values.{Value}
-use Rattle.krl_machine.specs.Worlds.{row_of}
 use Rattle.krl_machine.specs.Links
 use Rattle.krl_machine.specs.Links.{Op, op_key, Link, Shared, LinkStep, idle, next, MayIssue, head_of, starts, crashes, leaves, lowers, issues, speaks}
-use Rattle.krl_machine.proofs.Modes.{mode_parts}
-use Rattle.krl_cache.specs.Beliefs.{lower, is_span}
 use Rattle.krl_client.specs.declared.refused.CommandRefused.TheVariants as refused
 use Rattle.krl_cache.proofs.Truths.{none_left, outside_span}
 use Rattle.krl_cache.proofs.Calls.{either_none}
 use Rattle.krl_messages.specs.Writes.{op_key as key_of_op}
-use Rattle.krl_client.specs.Clients.{Client, begun, LockRequest, Waiting, outstanding, has_joined, is_in, is_writing_in}
 use Rattle.krl_modes.proofs.PartLaws.{range_is_X}
 use Rattle.krl_client.specs.Commands.{holds_for, lock_refusal, write_refusal, forget_refusal, locked, wrote, lowered, forgot, says_lock, says_write, says_release, says_bye}
 use Rattle.krl_client.specs.Ticks.{says_hello}
-use Rattle.krl_refinement.specs.Messages.{op_of}
-use Rattle.krl_refinement.specs.Client.Shows.{op_shown, Grows, server_part, IsFrom, ShowsClient, ShowsSeat, Leads}
 use Rattle.krl_refinement.proofs.Client.Basics.{grows_not, passed, lowered_at, before_last}
 
 -- nothing is sent, and no step is taken

@@ -1,15 +1,10 @@
 -- Compatible modes agree by their small numbers, and a mode that fits agrees with those of all others.
-use Rattle.std.proofs.Common.{◌≡◌, ◌≢◌, ℕ, ◌≤◌, ◌<◌, true, ◌||◌, sym, subst, ⊎_elim, arith, nat_eq, ne_eqb}
-use Rattle.std.proofs.lemmas.Bool.{cases_lt}
-use Rattle.krl_modes.specs.declared.mode.Mode.{Mode}
-use Rattle.krl_modes.specs.Modes.{range_of, key_of, compatible, join}
+use Rattle.krl_refinement.proofs.Names.{◌≡◌, ◌≢◌, ℕ, ◌≤◌, ◌<◌, true, ◌||◌, sym, subst, ⊎_elim, arith, nat_eq, ne_eqb, cases_lt, Mode, range_of, key_of, compatible, join, Rows, most_clients, mode_at}
+use Rattle.krl_refinement.proofs.Names.{is_compatible_there, RangeAtMost, KeyAtMost, RangesAgree, KeysAgree, modes_by_table, modes_agree_by_table}
 use Rattle.krl_modes.proofs.ModeLaws.{join_bound}
 use Rattle.krl_modes.proofs.Weights.{reads_bound, inserts_bound, rank_bound}
 use Rattle.krl_modes.specs.declared.mode.Mode.TheVariants as mode
-use Rattle.krl_table.specs.Rows.{Rows, most_clients, mode_at, is_compatible_there}
 use Rattle.krl_table.proofs.Invariant.Compatible.{or_true, all_below_at}
-use Rattle.krl_machine.specs.Modes.{RangeAtMost, KeyAtMost, RangesAgree, KeysAgree}
-use Rattle.krl_machine.proofs.Modes.{modes_by_table, modes_agree_by_table}
 
 -- the join of two modes is above the first
 pub join_above : (a b : Mode) → RangeAtMost (range_of a) (range_of (join a b)) × KeyAtMost (key_of a) (key_of (join a b))

@@ -1,33 +1,13 @@
 -- The report of a missing client contradicts nobody's modes.
-use Rattle.std.proofs.Common.{◌≡◌, ◌≢◌, ℕ, zero, suc, Bool, true, false, not, List, [], ◌∷◌, ◌++◌, map, Option, Some, None, refl, sym, ap, subst, ◌∙◌, arith, ◌||◌, cond, nat_eq}
-use Rattle.std.proofs.lemmas.Bool.{eqb-false}
-use Rattle.std.proofs.lemmas.Bool.Decides.{nat_tests}
-use Rattle.std.proofs.lemmas.Option.{none-some}
-use Rattle.std.specs.List.{list_all}
+use Rattle.krl_refinement.proofs.Names.{◌≡◌, ◌≢◌, ℕ, zero, suc, Bool, true, false, not, List, [], ◌∷◌, ◌++◌, map, Option, Some, None, refl, sym, ap, subst, ◌∙◌, arith, ◌||◌, cond, nat_eq, eqb-false}
+use Rattle.krl_refinement.proofs.Names.{nat_tests, none-some, list_all, END, compatible, Value, Pieces, ToServer, Record, is_slot, record_of, most_clients, mode_at, column, all_below}
+use Rattle.krl_refinement.proofs.Names.{is_compatible_there, rebuilt, adopted, conflicts, RangesAgree, KeysAgree, Recovering, Link, IsSlot, Logged, Reachable, MayTake, never_alarms, slots_agree}
+use Rattle.krl_refinement.proofs.Names.{Server, lists, IsSound, report_of, Stands, IsRecord, machine_phase, view, Shows, world_of}
 use Rattle.std.specs.Ordering.{nat_cmp, eq_by_cmp}
 use Rattle.std.specs.FinMap.Entries.{find}
 use Rattle.std.specs.FinMap as fin
-use Rattle.krl_modes.specs.declared.point.TheConstants.{END}
-use Rattle.krl_modes.specs.Modes.{compatible}
-use Rattle.krl_messages.specs.Values.{Value}
-use Rattle.krl_messages.specs.declared.pieces.Pieces.{Pieces}
-use Rattle.krl_messages.specs.declared.to_server.ToServer.{ToServer}
 use Rattle.krl_messages.specs.declared.to_server.ToServerBody.TheVariants as said
-use Rattle.krl_durable.specs.declared.record.Record.{Record}
-use Rattle.krl_durable.specs.Index.{is_slot}
-use Rattle.krl_durable.specs.Registers.{record_of}
-use Rattle.krl_table.specs.Rows.{most_clients, mode_at, column, all_below, is_compatible_there}
-use Rattle.krl_table.specs.Reports.{rebuilt, adopted, conflicts}
-use Rattle.krl_machine.specs.Modes.{RangesAgree, KeysAgree}
-use Rattle.krl_machine.specs.Links.{Recovering, Link, IsSlot}
-use Rattle.krl_machine.specs.Worlds.{Logged, Reachable, MayTake}
-use Rattle.krl_machine.proofs.Runs.{never_alarms}
-use Rattle.krl_machine.proofs.Tables.{slots_agree}
 use Rattle.krl_machine.specs.Tables as machine
-use Rattle.krl_server.specs.Servers.{Server, lists}
-use Rattle.krl_server.specs.Soundness.{IsSound}
-use Rattle.krl_refinement.specs.Messages.{report_of, Stands}
-use Rattle.krl_refinement.specs.Server.AsLinks.{IsRecord, machine_phase, view, Shows, world_of}
 use Rattle.krl_refinement.proofs.Server.Follows.{listed_phase}
 use Rattle.krl_refinement.proofs.Server.Meaning.{range_is, key_is}
 use Rattle.krl_refinement.proofs.Server.Reported.{adopted_at, report_shown}

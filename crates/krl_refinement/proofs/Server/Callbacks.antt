@@ -1,22 +1,9 @@
 -- Callbacks may always be sent.
-use Rattle.std.proofs.Common.{ℕ, zero, suc, ◌≤◌, Bool, true, false, List, [], ◌∷◌, inl, inr, sym, subst, ⊎_elim, arith}
-use Rattle.std.specs.Prelude.{if◌then◌else◌}
-use Rattle.krl_modes.specs.Modes.{cap}
-use Rattle.krl_messages.specs.declared.to_client.ToClient.{ToClient}
-use Rattle.krl_messages.specs.Members.{In}
-use Rattle.krl_messages.proofs.Members.{in_both}
-use Rattle.krl_queue.specs.declared.waiter.Waiter.{Waiter}
-use Rattle.krl_durable.specs.Index.{span_of, slots}
-use Rattle.krl_table.specs.Rows.{most_clients}
-use Rattle.krl_table.specs.Calls.{wanted}
+use Rattle.krl_refinement.proofs.Names.{ℕ, zero, suc, ◌≤◌, Bool, true, false, List, [], ◌∷◌, inl, inr, sym, subst, ⊎_elim, arith, if◌then◌else◌, cap, ToClient, In, in_both, Waiter, span_of, slots}
+use Rattle.krl_refinement.proofs.Names.{most_clients, wanted, Link, Server, callback_to, Kind, Idle, Quiet, Acts, calls_of, WasSent}
 use Rattle.krl_table.specs.Replies.{asks_absent}
 use Rattle.krl_table.proofs.Rows.Slots.{low_under}
-use Rattle.krl_machine.specs.Links.{Link}
-use Rattle.krl_server.specs.Servers.{Server}
-use Rattle.krl_server.specs.Effects.{callback_to}
 use Rattle.krl_server.specs.Callbacks.{is_compatible, callbacks_from, callbacks_for, callbacks_at, callbacks_among}
-use Rattle.krl_server.specs.Steps.{Kind, Idle, Quiet, Acts, calls_of}
-use Rattle.krl_refinement.specs.Messages.{WasSent}
 
 module _ (s : Server) (of : ℕ → Link) (begun : 1 ≤ s.durable.epoch) where
   abbrev Sent : ToClient → Type 0

@@ -1,25 +1,9 @@
 -- The machine follows a change of the server; and how to put such changes together.
-use Rattle.std.proofs.Common.{◌≡◌, ◌≢◌, ℕ, Bool, true, false, not, Option, Some, None, List, [], ◌∷◌, inl, inr, refl, sym, ap, subst, ◌∙◌}
-use Rattle.krl_modes.specs.declared.part.RangePart.{RangePart}
-use Rattle.krl_modes.specs.declared.part.KeyPart.{KeyPart}
-use Rattle.krl_messages.specs.declared.to_client.ToClient.{ToClient}
-use Rattle.krl_messages.specs.Members.{In}
-use Rattle.krl_queue.specs.declared.waiter.Waiter.{Waiter}
-use Rattle.krl_durable.specs.declared.record.Record.{Record}
-use Rattle.krl_durable.specs.Registers.{record_of}
-use Rattle.krl_table.specs.Points.{range_at, key_at}
-use Rattle.krl_machine.specs.Links.{Shared, Link, LinkSteps}
-use Rattle.krl_machine.specs.Worlds.{Logged, Steps, none}
-use Rattle.krl_machine.proofs.Worlds.{eq_cases}
-use Rattle.krl_machine.proofs.Steps.{steps_on, put, put_changed, link_steps}
+use Rattle.krl_refinement.proofs.Names.{◌≡◌, ◌≢◌, ℕ, Bool, true, false, not, Option, Some, None, List, [], ◌∷◌, inl, inr, refl, sym, ap, subst, ◌∙◌, RangePart, KeyPart, ToClient, In, Waiter, Record}
+use Rattle.krl_refinement.proofs.Names.{record_of, range_at, key_at, Shared, Link, LinkSteps, Logged, Steps, none, eq_cases, steps_on, put, put_changed, link_steps, Session, Server, is_recovering}
+use Rattle.krl_refinement.proofs.Names.{lists, incarnation_or_0, Done, silent, with_session, session_here, session_other, WasSent, IsRecord, LinkIs, LinkShows, IsHeardOf, Shows, machine_phase, view}
+use Rattle.krl_refinement.proofs.Names.{world_of, BoundStays}
 use Rattle.krl_machine.specs.Links as links
-use Rattle.krl_server.specs.declared.session.Session.{Session}
-use Rattle.krl_server.specs.Servers.{Server, is_recovering, lists, incarnation_or_0}
-use Rattle.krl_server.specs.Effects.{Done, silent, with_session}
-use Rattle.krl_server.proofs.Updates.{session_here, session_other}
-use Rattle.krl_refinement.specs.Messages.{WasSent}
-use Rattle.krl_refinement.specs.Server.AsLinks.{IsRecord, LinkIs, LinkShows, IsHeardOf, Shows, machine_phase, view, world_of}
-use Rattle.krl_refinement.specs.Server.Simulation.{BoundStays}
 
 -- the machine goes on to a world that shows the server after it; the bounds of those for whom cleared is true become N
 pub record Goes (s : Server) (of : ℕ → Link) (log : List Logged) (cleared : ℕ → Bool) (done : Done) (log_after : List Logged) : Type 0 where

@@ -1,27 +1,12 @@
 -- Hello of a new incarnation, and Bye.
-use Rattle.std.proofs.Common.{◌≡◌, ◌≢◌, ℕ, ◌<◌, Bool, true, false, Option, Some, List, [], ◌∷◌, inl, refl, sym, ap, subst, ◌∙◌, arith}
-use Rattle.std.proofs.lemmas.Option.{none-some}
+use Rattle.krl_refinement.proofs.Names.{◌≡◌, ◌≢◌, ℕ, ◌<◌, Bool, true, false, Option, Some, List, [], ◌∷◌, inl, refl, sym, ap, subst, ◌∙◌, arith, none-some, In, Record, record_of, with_record}
+use Rattle.krl_refinement.proofs.Names.{new_record, left_by, mode_at, range_at, key_at, cleared, Notice, Link, next, idle, registers, sees_off, no_range, no_key, Logged, put, put_changed, Session}
+use Rattle.krl_refinement.proofs.Names.{Server, blank_session, lists, unlist, incarnation_or_0, silent, epoch_to, departs, same_range, same_key, blank_range, blank_key, mode_here, mode_other}
+use Rattle.krl_refinement.proofs.Names.{session_here, session_other, record_here, record_other, unlist_here, unlist_other, not_truth, WasSent, IsRecord, LinkIs, IsHeardOf, Shows, machine_phase}
+use Rattle.krl_refinement.proofs.Names.{view_of, view, BoundStays}
 use Rattle.krl_modes.specs.declared.mode.Mode.TheVariants as mode
-use Rattle.krl_messages.specs.Members.{In}
-use Rattle.krl_durable.specs.declared.record.Record.{Record}
-use Rattle.krl_durable.specs.Registers.{record_of, with_record, new_record, left_by}
-use Rattle.krl_table.specs.Rows.{mode_at}
-use Rattle.krl_table.specs.Points.{range_at, key_at}
-use Rattle.krl_table.specs.Calls.{cleared}
 use Rattle.krl_table.proofs.Invariant.Stands.{in_unqueue}
-use Rattle.krl_machine.specs.Links.{Notice, Link, next, idle, registers, sees_off, no_range, no_key}
-use Rattle.krl_machine.specs.Worlds.{Logged}
-use Rattle.krl_machine.proofs.Steps.{put, put_changed}
-use Rattle.krl_server.specs.declared.session.Session.{Session}
-use Rattle.krl_server.specs.Servers.{Server, blank_session, lists, unlist, incarnation_or_0}
-use Rattle.krl_server.specs.Effects.{silent, epoch_to, departs}
-use Rattle.krl_server.proofs.Points.{same_range, same_key, blank_range, blank_key}
-use Rattle.krl_server.proofs.Updates.{mode_here, mode_other, session_here, session_other, record_here, record_other, unlist_here, unlist_other}
-use Rattle.krl_server.proofs.Tests.{not_truth}
 use Rattle.krl_server.specs.Effects as effects
-use Rattle.krl_refinement.specs.Messages.{WasSent}
-use Rattle.krl_refinement.specs.Server.AsLinks.{IsRecord, LinkIs, IsHeardOf, Shows, machine_phase, view_of, view}
-use Rattle.krl_refinement.specs.Server.Simulation.{BoundStays}
 use Rattle.krl_refinement.proofs.Server.Follows.{Goes, at_put, put_bound, one_out, up_phase, reg_is}
 use Rattle.krl_refinement.proofs.Server.Recovering.{regroup}
 

@@ -1,36 +1,17 @@
 -- The answer to a write, of which the durable record says already how it was judged.
-use Rattle.std.proofs.Common.{◌≡◌, ℕ, ◌≤◌, ◌<◌, Bool, true, false, Option, Some, None, List, [], ◌∷◌, inl, inr, refl, sym, ap, subst, ◌∙◌, arith}
-use Rattle.std.specs.List.{AllByRecursion}
+use Rattle.krl_refinement.proofs.Names.{◌≡◌, ℕ, ◌≤◌, ◌<◌, Bool, true, false, Option, Some, None, List, [], ◌∷◌, inl, inr, refl, sym, ap, subst, ◌∙◌, arith, AllByRecursion, END, KeyPart, key_of}
+use Rattle.krl_refinement.proofs.Names.{WriteOp, Outcome, Value, op_key, is_applied, In, slot_of, column, mode_at, Head, Write, Link, Passes, IsSlot, MaySay, Logged, put, put_changed, Server, shown}
+use Rattle.krl_refinement.proofs.Names.{holding, holdings, acknowledged, answers, IsSound, slot_here, slot_high, span_here, session_here, pushes_serve, acknowledged_sound, op_of, LinkShows, Shows}
+use Rattle.krl_refinement.proofs.Names.{view}
 use Rattle.std.specs.FinMap as map
-use Rattle.krl_modes.specs.declared.point.TheConstants.{END}
-use Rattle.krl_modes.specs.declared.part.KeyPart.{KeyPart}
-use Rattle.krl_modes.specs.Modes.{key_of}
 use Rattle.krl_modes.specs.Weights.{rank}
 use Rattle.krl_modes.specs.declared.part.KeyPart.TheVariants as key
-use Rattle.krl_messages.specs.declared.write_op.WriteOp.{WriteOp}
-use Rattle.krl_messages.specs.declared.outcome.Outcome.{Outcome}
-use Rattle.krl_messages.specs.Values.{Value}
-use Rattle.krl_messages.specs.Writes.{op_key, is_applied}
-use Rattle.krl_messages.specs.Members.{In}
 use Rattle.krl_messages.specs.declared.write_op.WriteOp.TheVariants as write
 use Rattle.krl_messages.specs.declared.to_client.PushBody.TheVariants as push
-use Rattle.krl_durable.specs.Index.{slot_of}
-use Rattle.krl_table.specs.Rows.{column, mode_at}
-use Rattle.krl_machine.specs.Links.{Head, Write, Link, Passes, IsSlot, MaySay}
-use Rattle.krl_machine.specs.Worlds.{Logged}
 use Rattle.krl_machine.specs.Holdings.{said_at, said_by}
 use Rattle.krl_machine.proofs.Holdings.{slot_holding, said_each, speaks_at}
-use Rattle.krl_machine.proofs.Steps.{put, put_changed}
 use Rattle.krl_machine.specs.Links as links
 use Rattle.krl_machine.proofs.Refines as refines
-use Rattle.krl_server.specs.Servers.{Server}
-use Rattle.krl_server.specs.Effects.{shown, holding, holdings, acknowledged, answers}
-use Rattle.krl_server.specs.Soundness.{IsSound}
-use Rattle.krl_server.proofs.Slots.{slot_here, slot_high, span_here}
-use Rattle.krl_server.proofs.Updates.{session_here}
-use Rattle.krl_server.proofs.Invariant.AnswersSound.{pushes_serve, acknowledged_sound}
-use Rattle.krl_refinement.specs.Messages.{op_of}
-use Rattle.krl_refinement.specs.Server.AsLinks.{LinkShows, Shows, view}
 use Rattle.krl_refinement.proofs.Server.Meaning.{range_is, key_is}
 use Rattle.krl_refinement.proofs.Server.Follows.{Goes, steps_then, not_recovering, put_client}
 use Rattle.krl_refinement.proofs.Server.Pushes.{pushes_on, acknowledges_steps, acknowledges_shows}

@@ -1,28 +1,11 @@
 -- A lock request that is taken.
-use Rattle.std.proofs.Common.{◌≡◌, ℕ, Bool, true, List, ◌⊎◌, refl, sym, ap, subst, ◌∙◌, ⊎_elim}
+use Rattle.krl_refinement.proofs.Names.{◌≡◌, ℕ, Bool, true, List, ◌⊎◌, refl, sym, ap, subst, ◌∙◌, ⊎_elim, In, Waiter, slot_of, record_of, Row, set_row, range_at, key_at, with_queue, queue_with, Head}
+use Rattle.krl_refinement.proofs.Names.{Link, Passes, Logged, eq_cases, put, put_changed, Session, Server, is_recovering, lists, set_session, silent, acknowledged, queues, same_range, same_key}
+use Rattle.krl_refinement.proofs.Names.{row_modes, session_here, session_other, not_truth, LinkIs, LinkShows, IsHeardOf, Shows, view, WasSent}
 use Rattle.std.specs.Prelude.{is_some, not}
-use Rattle.krl_messages.specs.Members.{In}
 use Rattle.krl_messages.specs.declared.to_client.ToClientBody.TheVariants as told
-use Rattle.krl_queue.specs.declared.waiter.Waiter.{Waiter}
-use Rattle.krl_durable.specs.Index.{slot_of}
-use Rattle.krl_durable.specs.Registers.{record_of}
-use Rattle.krl_table.specs.Rows.{Row, set_row}
-use Rattle.krl_table.specs.Points.{range_at, key_at}
-use Rattle.krl_table.specs.Calls.{with_queue, queue_with}
 use Rattle.krl_table.proofs.Invariant.Stands.{in_queue_with}
-use Rattle.krl_machine.specs.Links.{Head, Link, Passes}
-use Rattle.krl_machine.specs.Worlds.{Logged}
-use Rattle.krl_machine.proofs.Worlds.{eq_cases}
-use Rattle.krl_machine.proofs.Steps.{put, put_changed}
-use Rattle.krl_server.specs.declared.session.Session.{Session}
-use Rattle.krl_server.specs.Servers.{Server, is_recovering, lists, set_session}
-use Rattle.krl_server.specs.Effects.{silent, acknowledged, queues}
-use Rattle.krl_server.proofs.Points.{same_range, same_key}
-use Rattle.krl_server.proofs.Updates.{row_modes, session_here, session_other}
-use Rattle.krl_server.proofs.Tests.{not_truth}
 use Rattle.krl_server.proofs.Turns.{in_row}
-use Rattle.krl_refinement.specs.Server.AsLinks.{LinkIs, LinkShows, IsHeardOf, Shows, view}
-use Rattle.krl_refinement.specs.Messages.{WasSent}
 use Rattle.krl_refinement.proofs.Server.Follows.{Goes, relink, put_client, not_recovering}
 use Rattle.krl_refinement.proofs.Server.Pushes.{acknowledges_steps, acknowledges_shows}
 

@@ -1,19 +1,9 @@
 -- What the table gives at each point is what the machine reads from a column of it.
-use Rattle.std.proofs.Common.{◌≡◌, ℕ, ◌≤◌, None, refl, ap, ◌∙◌}
-use Rattle.std.specs.Prelude.{if◌then◌else◌}
+use Rattle.krl_refinement.proofs.Names.{◌≡◌, ℕ, ◌≤◌, None, refl, ap, ◌∙◌, if◌then◌else◌, END, RangePart, key_of, Index, slot_of, is_slot, Rows, mode_at, column, key_off_slot, range_at, key_at}
+use Rattle.krl_refinement.proofs.Names.{off_slot, Phase, Shared, range_by_slots, key_by_slots, slot_here, is_slot_true, is_slot_false}
 use Rattle.std.specs.FinMap as map
-use Rattle.krl_modes.specs.declared.point.TheConstants.{END}
-use Rattle.krl_modes.specs.declared.part.RangePart.{RangePart}
-use Rattle.krl_modes.specs.Modes.{key_of}
 use Rattle.krl_modes.specs.declared.part.RangePart.TheVariants as range
-use Rattle.krl_durable.specs.Index.{Index, slot_of, is_slot}
-use Rattle.krl_table.specs.Rows.{Rows, mode_at, column}
-use Rattle.krl_table.specs.Points.{key_off_slot, range_at, key_at}
-use Rattle.krl_machine.specs.Modes.{off_slot}
-use Rattle.krl_machine.specs.Links.{Phase, Shared}
-use Rattle.krl_machine.proofs.Tables.{range_by_slots, key_by_slots}
 use Rattle.krl_machine.specs.Tables as machine
-use Rattle.krl_server.proofs.Slots.{slot_here, is_slot_true, is_slot_false}
 
 -- what the machine sees of an index
 abbrev pub seen_in : Index → ℕ → Phase → Shared

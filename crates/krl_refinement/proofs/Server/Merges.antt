@@ -1,21 +1,9 @@
 -- What a Delete that is Applied makes of the table, for the machine.
-use Rattle.std.proofs.Common.{◌≡◌, ℕ, suc, ◌≤◌, ◌<◌, true, List, Some, None, refl, arith}
+use Rattle.krl_refinement.proofs.Names.{◌≡◌, ℕ, suc, ◌≤◌, ◌<◌, true, List, Some, None, refl, arith, END, range_of, key_of, is_range_X, is_key_X, Value, Index, slot_of, Rows, column, merged, Phase}
+use Rattle.krl_refinement.proofs.Names.{Delete, Link, Logged, WorldInv, Written, delete_written, set_modes, gone_here, gone_other, slot_here}
 use Rattle.std.specs.FinMap as map
-use Rattle.krl_modes.specs.declared.point.TheConstants.{END}
-use Rattle.krl_modes.specs.Modes.{range_of, key_of}
-use Rattle.krl_modes.specs.Parts.{is_range_X, is_key_X}
 use Rattle.krl_modes.proofs.PartLaws.{range_is_X}
-use Rattle.krl_messages.specs.Values.{Value}
-use Rattle.krl_durable.specs.Index.{Index, slot_of}
-use Rattle.krl_table.specs.Rows.{Rows, column}
-use Rattle.krl_table.specs.Calls.{merged}
-use Rattle.krl_machine.specs.Links.{Phase, Delete, Link}
-use Rattle.krl_machine.specs.Worlds.{Logged}
-use Rattle.krl_machine.proofs.Worlds.{WorldInv}
 use Rattle.krl_machine.proofs.Refines.{Shows}
-use Rattle.krl_machine.proofs.Written.{Written, delete_written}
-use Rattle.krl_server.proofs.Updates.{set_modes, gone_here, gone_other}
-use Rattle.krl_server.proofs.Slots.{slot_here}
 use Rattle.krl_refinement.proofs.Server.Splits.{its_key_X}
 use Rattle.krl_refinement.proofs.Server.Meaning.{seen_in}
 

@@ -1,25 +1,9 @@
 -- A nudge changes nothing, and what it sends may be sent.
-use Rattle.std.proofs.Common.{◌≡◌, ℕ, ◌≤◌, Bool, true, false, Option, Some, None, List, [], ◌∷◌, refl, subst, ⊎_elim, nat_eq}
-use Rattle.std.specs.Prelude.{if◌then◌else◌}
-use Rattle.krl_messages.specs.declared.to_client.ToClient.{ToClient}
-use Rattle.krl_messages.specs.declared.to_client.PushBody.{PushBody}
-use Rattle.krl_messages.specs.Members.{In}
-use Rattle.krl_messages.proofs.Members.{in_both}
+use Rattle.krl_refinement.proofs.Names.{◌≡◌, ℕ, ◌≤◌, Bool, true, false, Option, Some, None, List, [], ◌∷◌, refl, subst, ⊎_elim, nat_eq, if◌then◌else◌, ToClient, PushBody, In, in_both, Waiter, Record}
+use Rattle.krl_refinement.proofs.Names.{slots, record_of, Link, Logged, none, Server, is_recovering, lists, epoch_to, push_to, nudge_served, nudge_missing, nudge_known, IsSound, WasSent, Shows}
+use Rattle.krl_refinement.proofs.Names.{world_of, Follows, BoundStays, NudgeFollows}
 use Rattle.krl_messages.specs.declared.to_client.ToClientBody.TheVariants as told
-use Rattle.krl_queue.specs.declared.waiter.Waiter.{Waiter}
-use Rattle.krl_durable.specs.declared.record.Record.{Record}
-use Rattle.krl_durable.specs.Index.{slots}
-use Rattle.krl_durable.specs.Registers.{record_of}
-use Rattle.krl_machine.specs.Links.{Link}
-use Rattle.krl_machine.specs.Worlds.{Logged, none}
-use Rattle.krl_server.specs.Servers.{Server, is_recovering, lists}
-use Rattle.krl_server.specs.Effects.{epoch_to, push_to}
 use Rattle.krl_server.specs.Callbacks.{callbacks_for, callbacks_of, callbacks_of_among}
-use Rattle.krl_server.specs.Steps.{nudge_served, nudge_missing, nudge_known}
-use Rattle.krl_server.specs.Soundness.{IsSound}
-use Rattle.krl_refinement.specs.Messages.{WasSent}
-use Rattle.krl_refinement.specs.Server.AsLinks.{Shows, world_of}
-use Rattle.krl_refinement.specs.Server.Simulation.{Follows, BoundStays, NudgeFollows}
 use Rattle.krl_refinement.proofs.Server.Follows.{one_sent, reg_is}
 use Rattle.krl_refinement.proofs.Server.Pushes.{tells}
 use Rattle.krl_refinement.proofs.Server.Callbacks.{callbacks_for_sent}

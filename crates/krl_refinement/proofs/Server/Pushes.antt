@@ -1,25 +1,12 @@
 -- Acknowledging, telling the epoch, repeating a push, and the next push to a client.
-use Rattle.std.proofs.Common.{◌≡◌, ℕ, suc, ◌≤◌, Bool, true, false, not, Option, Some, None, List, [], ◌∷◌, ◌⊎◌, inl, refl, sym, ap, subst, ◌∙◌}
-use Rattle.std.proofs.lemmas.Option.{none-some, same_Some}
+use Rattle.krl_refinement.proofs.Names.{◌≡◌, ℕ, suc, ◌≤◌, Bool, true, false, not, Option, Some, None, List, [], ◌∷◌, ◌⊎◌, inl, refl, sym, ap, subst, ◌∙◌, none-some, same_Some, END, PushBody, In}
+use Rattle.krl_refinement.proofs.Names.{Record, record_of, Head, Notice, Shared, Link, Passes, MaySay, AnswersLast, next, idle, notifies, takes_head, Logged, Steps, none, put, put_changed}
+use Rattle.krl_refinement.proofs.Names.{heard_kept, link_steps, Session, Server, is_recovering, silent, epoch_to, push_to, with_session, acknowledged, pushes, if_case, not_truth, BoundStays, WasSent}
+use Rattle.krl_refinement.proofs.Names.{push_of, IsTold, IsRecord, LinkShows, IsHeardOf, Shows, view, world_of}
 use Rattle.std.specs.Prelude.{nat_lt, is_some}
-use Rattle.krl_modes.specs.declared.point.TheConstants.{END}
-use Rattle.krl_messages.specs.declared.to_client.PushBody.{PushBody}
-use Rattle.krl_messages.specs.Members.{In}
 use Rattle.krl_messages.specs.declared.to_client.ToClientBody.TheVariants as told
-use Rattle.krl_durable.specs.declared.record.Record.{Record}
-use Rattle.krl_durable.specs.Registers.{record_of}
-use Rattle.krl_machine.specs.Links.{Head, Notice, Shared, Link, Passes, MaySay, AnswersLast, next, idle, notifies, takes_head}
-use Rattle.krl_machine.specs.Worlds.{Logged, Steps, none}
-use Rattle.krl_machine.proofs.Steps.{put, put_changed, heard_kept, link_steps}
 use Rattle.krl_machine.specs.Links as links
-use Rattle.krl_server.specs.declared.session.Session.{Session}
-use Rattle.krl_server.specs.Servers.{Server, is_recovering}
-use Rattle.krl_server.specs.Effects.{silent, epoch_to, push_to, with_session, acknowledged, pushes}
-use Rattle.krl_server.proofs.Tests.{if_case, not_truth}
-use Rattle.krl_refinement.specs.Server.Simulation.{BoundStays}
-use Rattle.krl_refinement.specs.Messages.{WasSent, push_of, IsTold}
 use Rattle.krl_refinement.proofs.Server.Follows.{put_client, Goes, bound_same, put_shows, by_link, one_out, one_sent, up_phase, not_recovering, reg_is, record_kept, session_rest, at_session}
-use Rattle.krl_refinement.specs.Server.AsLinks.{IsRecord, LinkShows, IsHeardOf, Shows, view, world_of}
 use Rattle.krl_refinement.proofs.Messages.{push_inc, push_epoch, push_number}
 
 -- a link in which more is noted, by messages that the server's part does not name, is shown alike

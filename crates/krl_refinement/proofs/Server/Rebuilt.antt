@@ -1,29 +1,10 @@
 -- A report that is taken.
-use Rattle.std.proofs.Common.{◌≡◌, ℕ, Bool, true, false, Some, List, [], refl, sym, subst, ◌∙◌}
-use Rattle.krl_messages.specs.declared.pieces.Pieces.{Pieces}
-use Rattle.krl_messages.specs.declared.to_server.ToServer.{ToServer}
-use Rattle.krl_messages.specs.Members.{In}
+use Rattle.krl_refinement.proofs.Names.{◌≡◌, ℕ, Bool, true, false, Some, List, [], refl, sym, subst, ◌∙◌, Pieces, ToServer, In, Record, record_of, column, range_at, key_at, adopted, Link, next, idle}
+use Rattle.krl_refinement.proofs.Names.{takes_report, Logged, put, put_changed, heard_kept, Server, lists, Rebuilds, effect, adopts, IsSound, same_range, same_key, unlist_here, unlist_other}
+use Rattle.krl_refinement.proofs.Names.{adopted_others, adopted_queue, report_of, Stands, IsRecord, LinkIs, Shows, machine_phase, view, BoundStays}
 use Rattle.krl_messages.specs.declared.to_server.ToServerBody.TheVariants as said
-use Rattle.krl_durable.specs.declared.record.Record.{Record}
-use Rattle.krl_durable.specs.Registers.{record_of}
-use Rattle.krl_table.specs.Rows.{column}
-use Rattle.krl_table.specs.Points.{range_at, key_at}
-use Rattle.krl_table.specs.Reports.{adopted}
-use Rattle.krl_machine.specs.Links.{Link, next, idle, takes_report}
-use Rattle.krl_machine.specs.Worlds.{Logged}
-use Rattle.krl_machine.proofs.Steps.{put, put_changed, heard_kept}
 use Rattle.krl_machine.specs.Links as links
 use Rattle.krl_machine.specs.Tables as machine
-use Rattle.krl_server.specs.Servers.{Server, lists}
-use Rattle.krl_server.specs.Cases.{Rebuilds}
-use Rattle.krl_server.specs.Effects.{effect, adopts}
-use Rattle.krl_server.specs.Soundness.{IsSound}
-use Rattle.krl_server.proofs.Points.{same_range, same_key}
-use Rattle.krl_server.proofs.Updates.{unlist_here, unlist_other}
-use Rattle.krl_server.proofs.Invariant.RowsSound.{adopted_others, adopted_queue}
-use Rattle.krl_refinement.specs.Messages.{report_of, Stands}
-use Rattle.krl_refinement.specs.Server.AsLinks.{IsRecord, LinkIs, Shows, machine_phase, view}
-use Rattle.krl_refinement.specs.Server.Simulation.{BoundStays}
 use Rattle.krl_refinement.proofs.Server.Meaning.{range_is, key_is}
 use Rattle.krl_refinement.proofs.Server.Follows.{listed_phase, Goes, at_put, put_bound, not_two, record_kept}
 use Rattle.krl_refinement.proofs.Server.Recovering.{regroup}

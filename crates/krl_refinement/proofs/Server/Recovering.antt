@@ -1,22 +1,9 @@
 -- A change that takes a client out of the missing, and perhaps ends the recovery.
-use Rattle.std.proofs.Common.{◌≡◌, ℕ, Bool, Option, Some, None, List, [], ◌∷◌, refl, subst}
-use Rattle.krl_messages.specs.declared.to_client.ToClient.{ToClient}
-use Rattle.krl_messages.specs.declared.to_client.ToClientBody.{ToClientBody}
-use Rattle.krl_messages.specs.Members.{In}
+use Rattle.krl_refinement.proofs.Names.{◌≡◌, ℕ, Bool, Option, Some, None, List, [], ◌∷◌, refl, subst, ToClient, ToClientBody, In, Waiter, Record, record_of, range_at, key_at, Link, LinkSteps, Logged}
+use Rattle.krl_refinement.proofs.Names.{Steps, more, finish, put, put_changed, link_steps, Server, is_recovering, lists, unlist, not_truth, WasSent, IsRecord, LinkIs, IsHeardOf, machine_phase}
+use Rattle.krl_refinement.proofs.Names.{view_of, view, world_of, BoundStays}
 use Rattle.krl_messages.specs.declared.to_client.ToClientBody.TheVariants as told
-use Rattle.krl_queue.specs.declared.waiter.Waiter.{Waiter}
-use Rattle.krl_durable.specs.declared.record.Record.{Record}
-use Rattle.krl_durable.specs.Registers.{record_of}
-use Rattle.krl_table.specs.Points.{range_at, key_at}
-use Rattle.krl_machine.specs.Links.{Link, LinkSteps}
-use Rattle.krl_machine.specs.Worlds.{Logged, Steps, more, finish}
-use Rattle.krl_machine.proofs.Steps.{put, put_changed, link_steps}
 use Rattle.krl_machine.specs.Links as links
-use Rattle.krl_server.specs.Servers.{Server, is_recovering, lists, unlist}
-use Rattle.krl_server.proofs.Tests.{not_truth}
-use Rattle.krl_refinement.specs.Messages.{WasSent}
-use Rattle.krl_refinement.specs.Server.AsLinks.{IsRecord, LinkIs, IsHeardOf, machine_phase, view_of, view, world_of}
-use Rattle.krl_refinement.specs.Server.Simulation.{BoundStays}
 use Rattle.krl_refinement.proofs.Server.Follows.{Goes, put_client}
 
 abbrev pub with_missing : Server → List ℕ → Server

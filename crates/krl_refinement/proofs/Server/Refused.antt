@@ -1,27 +1,10 @@
 -- A new write that is not Applied; and the record of a client after any new write.
-use Rattle.std.proofs.Common.{◌≡◌, ◌≢◌, ℕ, suc, ◌<◌, Bool, true, false, Some, None, List, refl, sym, ap, subst, ◌∙◌, arith}
-use Rattle.std.proofs.lemmas.Option.{none-some, same_Some}
-use Rattle.krl_modes.specs.declared.point.TheConstants.{END}
-use Rattle.krl_messages.specs.declared.write_op.WriteOp.{WriteOp}
-use Rattle.krl_messages.specs.declared.outcome.Outcome.{Outcome}
-use Rattle.krl_messages.specs.Writes.{op_key, is_applied}
-use Rattle.krl_messages.specs.Members.{In}
-use Rattle.krl_durable.specs.declared.record.Record.{Record}
-use Rattle.krl_durable.specs.Registers.{Register, record_of, with_record}
+use Rattle.krl_refinement.proofs.Names.{◌≡◌, ◌≢◌, ℕ, suc, ◌<◌, Bool, true, false, Some, None, List, refl, sym, ap, subst, ◌∙◌, arith, none-some, same_Some, END, WriteOp, Outcome, op_key, is_applied}
+use Rattle.krl_refinement.proofs.Names.{In, Record, Register, record_of, with_record, range_at, key_at, Head, Write, Shared, Link, Passes, next, idle, takes_head, refuses, Logged, put, put_changed}
+use Rattle.krl_refinement.proofs.Names.{heard_kept, link_steps, Session, Server, lists, set_session, acknowledged, writes, answers, IsSound, session_here, record_here, record_other, pushes_serve}
+use Rattle.krl_refinement.proofs.Names.{op_of, IsRecord, LinkIs, Shows, view}
 use Rattle.krl_durable.specs.Writes.{noted, applied}
-use Rattle.krl_table.specs.Points.{range_at, key_at}
-use Rattle.krl_machine.specs.Links.{Head, Write, Shared, Link, Passes, next, idle, takes_head, refuses}
-use Rattle.krl_machine.specs.Worlds.{Logged}
-use Rattle.krl_machine.proofs.Steps.{put, put_changed, heard_kept, link_steps}
-use Rattle.krl_server.specs.declared.session.Session.{Session}
-use Rattle.krl_server.specs.Servers.{Server, lists, set_session}
-use Rattle.krl_server.specs.Effects.{acknowledged, writes, answers}
-use Rattle.krl_server.specs.Soundness.{IsSound}
-use Rattle.krl_server.proofs.Updates.{session_here, record_here, record_other}
-use Rattle.krl_server.proofs.Invariant.AnswersSound.{pushes_serve}
 use Rattle.krl_server.proofs.Invariant.WritesSound.{with_noted, refusal_is}
-use Rattle.krl_refinement.specs.Messages.{op_of}
-use Rattle.krl_refinement.specs.Server.AsLinks.{IsRecord, LinkIs, Shows, view}
 use Rattle.krl_refinement.proofs.Server.Follows.{Goes, steps_then, not_recovering, put_client, put_shows, session_rest}
 use Rattle.krl_refinement.proofs.Server.Judged.{answers_on}
 

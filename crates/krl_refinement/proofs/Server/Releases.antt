@@ -1,36 +1,14 @@
 -- A release that is obeyed.
-use Rattle.std.proofs.Common.{◌≡◌, ℕ, suc, ◌≤◌, ◌<◌, Bool, true, None, List, ◌⊎◌, inl, inr, refl, sym, ap, subst, ◌∙◌, arith}
-use Rattle.std.proofs.lemmas.Bool.Decides.{nat_tests}
-use Rattle.std.proofs.lemmas.Bool.{and_parts}
-use Rattle.std.proofs.lemmas.Option.{none-some}
+use Rattle.krl_refinement.proofs.Names.{◌≡◌, ℕ, suc, ◌≤◌, ◌<◌, Bool, true, None, List, ◌⊎◌, inl, inr, refl, sym, ap, subst, ◌∙◌, arith, nat_tests, and_parts, none-some, Mode, range_of, key_of, meet}
+use Rattle.krl_refinement.proofs.Names.{range_meet, key_meet, Bounds, within, In, Index, span_of, record_of, most_clients, mode_at, column, range_at, key_at, Head, Release, Link, Passes, IsSlot}
+use Rattle.krl_refinement.proofs.Names.{InSpan, SlotLowered, next, idle, takes_head, takes_release, Logged, slot_near, table_row, release_lowers, put, put_changed, heard_kept, link_steps, Session}
+use Rattle.krl_refinement.proofs.Names.{Server, is_recovering, lists, set_session, IsSound, span_here, same_range, same_key, mode_here, session_here, not_truth, low_row, lowered_others}
+use Rattle.krl_refinement.proofs.Names.{lowered_queue, last_of, LinkIs, Shows, view}
 use Rattle.std.specs.Prelude.{nat_le}
-use Rattle.krl_modes.specs.declared.mode.Mode.{Mode}
-use Rattle.krl_modes.specs.Modes.{range_of, key_of, meet}
-use Rattle.krl_modes.specs.Parts.{range_meet, key_meet}
-use Rattle.krl_modes.specs.Spans.{Bounds, within}
 use Rattle.krl_modes.proofs.ModeLaws.{meet-parts}
-use Rattle.krl_messages.specs.Members.{In}
-use Rattle.krl_durable.specs.Index.{Index, span_of}
-use Rattle.krl_durable.specs.Registers.{record_of}
-use Rattle.krl_table.specs.Rows.{most_clients, mode_at, column}
-use Rattle.krl_table.specs.Points.{range_at, key_at}
 use Rattle.krl_table.specs.Calls.{lowered}
-use Rattle.krl_machine.specs.Links.{Head, Release, Link, Passes, IsSlot, InSpan, SlotLowered, next, idle, takes_head, takes_release}
-use Rattle.krl_machine.specs.Worlds.{Logged}
-use Rattle.krl_machine.proofs.Tables.{slot_near, table_row, release_lowers}
-use Rattle.krl_machine.proofs.Steps.{put, put_changed, heard_kept, link_steps}
 use Rattle.krl_machine.specs.Tables as machine
-use Rattle.krl_server.specs.declared.session.Session.{Session}
-use Rattle.krl_server.specs.Servers.{Server, is_recovering, lists, set_session}
 use Rattle.krl_server.specs.Effects.{silent, acknowledged, lowers}
-use Rattle.krl_server.specs.Soundness.{IsSound}
-use Rattle.krl_server.proofs.Slots.{span_here}
-use Rattle.krl_server.proofs.Points.{same_range, same_key}
-use Rattle.krl_server.proofs.Updates.{mode_here, session_here}
-use Rattle.krl_server.proofs.Tests.{not_truth}
-use Rattle.krl_server.proofs.Invariant.RowsSound.{low_row, lowered_others, lowered_queue}
-use Rattle.krl_refinement.specs.Messages.{last_of}
-use Rattle.krl_refinement.specs.Server.AsLinks.{LinkIs, Shows, view}
 use Rattle.krl_refinement.proofs.Server.Meaning.{range_is, key_is}
 use Rattle.krl_refinement.proofs.Server.Follows.{Goes, relink, put_client, put_shows, session_rest, not_two, not_recovering, record_kept}
 use Rattle.krl_refinement.proofs.Server.Judged.{row_shows}

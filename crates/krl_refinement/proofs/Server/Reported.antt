@@ -1,26 +1,10 @@
 -- What a report makes of its client's column, for the machine.
-use Rattle.std.proofs.Common.{◌≡◌, ℕ, ◌≤◌, ◌<◌, Bool, true, false, List, [], ◌∷◌, None, refl, ap, ◌∙◌, arith, eq-eqb}
-use Rattle.std.proofs.lemmas.Bool.Decides.{nat_tests}
-use Rattle.std.specs.Prelude.{if◌then◌else◌}
-use Rattle.std.specs.List.{AllByRecursion}
+use Rattle.krl_refinement.proofs.Names.{◌≡◌, ℕ, ◌≤◌, ◌<◌, Bool, true, false, List, [], ◌∷◌, None, refl, ap, ◌∙◌, arith, eq-eqb, nat_tests, if◌then◌else◌, AllByRecursion, END, RangePart, range_join}
+use Rattle.krl_refinement.proofs.Names.{Bounds, contains, meets, IsWhole, meets-points, inside_span, in_span, Pieces, Index, span_of, is_slot, Rows, Row, column, set_mode, reported_range, rebuilt}
+use Rattle.krl_refinement.proofs.Names.{adopted, range_said, RangeAtMost, Phase, IsSlot, IsRebuilt, join_left, join_right, join_least, slot_near, report_rebuilds, span_here, is_slot_false, report_of}
 use Rattle.std.specs.FinMap as map
-use Rattle.krl_modes.specs.declared.point.TheConstants.{END}
-use Rattle.krl_modes.specs.declared.part.RangePart.{RangePart}
-use Rattle.krl_modes.specs.Parts.{range_join}
-use Rattle.krl_modes.specs.Spans.{Bounds, contains, meets, IsWhole}
-use Rattle.krl_modes.proofs.SpanLaws.{meets-points, inside_span, in_span}
 use Rattle.krl_messages.specs.declared.range_pieces.RangePiece.{RangePiece}
-use Rattle.krl_messages.specs.declared.pieces.Pieces.{Pieces}
-use Rattle.krl_durable.specs.Index.{Index, span_of, is_slot}
-use Rattle.krl_table.specs.Rows.{Rows, Row, column, set_mode}
-use Rattle.krl_table.specs.Reports.{reported_range, rebuilt, adopted, range_said}
-use Rattle.krl_machine.specs.Modes.{RangeAtMost}
-use Rattle.krl_machine.specs.Links.{Phase, IsSlot, IsRebuilt}
-use Rattle.krl_machine.proofs.Modes.{join_left, join_right, join_least}
-use Rattle.krl_machine.proofs.Tables.{slot_near, report_rebuilds}
 use Rattle.krl_machine.specs.Tables as machine
-use Rattle.krl_server.proofs.Slots.{span_here, is_slot_false}
-use Rattle.krl_refinement.specs.Messages.{report_of}
 use Rattle.krl_refinement.proofs.Server.Meaning.{seen_in}
 
 join_both : (a b d : RangePart) → RangeAtMost b d → RangeAtMost (range_join a b) (range_join a d)

@@ -1,23 +1,11 @@
 -- A crash and a start of the server.
-use Rattle.std.proofs.Common.{◌≡◌, ℕ, suc, ◌≤◌, Bool, true, false, Option, Some, None, List, [], ◌∷◌, ◌⊎◌, inl, inr, refl, sym, ap, subst, ◌∙◌, nat_eq}
-use Rattle.std.proofs.lemmas.Option.{none-some}
+use Rattle.krl_refinement.proofs.Names.{◌≡◌, ℕ, suc, ◌≤◌, Bool, true, false, Option, Some, None, List, [], ◌∷◌, ◌⊎◌, inl, inr, refl, sym, ap, subst, ◌∙◌, nat_eq, none-some, END, Record, Register}
+use Rattle.krl_refinement.proofs.Names.{Durable, record_of, missing_order, blank_rows, Link, no_range, no_key, Logged, IsMissing, crash, start, finish, Steps, none, more, Server, blank_session}
+use Rattle.krl_refinement.proofs.Names.{is_recovering, lists, can_start, IsSound, blank_range, blank_key, not_truth, start_sound, IsRecord, Shows, DurableShows, down_world_of, world_of, BoundStays}
+use Rattle.krl_refinement.proofs.Names.{CrashFollows, StartFollows, IsIdle, Opens}
 use Rattle.std.specs.Prelude.{if◌then◌else◌, ◌||◌}
 use Rattle.std.specs.FinMap as map
-use Rattle.krl_modes.specs.declared.point.TheConstants.{END}
-use Rattle.krl_durable.specs.declared.record.Record.{Record}
-use Rattle.krl_durable.specs.Registers.{Register, Durable, record_of, missing_order}
-use Rattle.krl_table.specs.Rows.{blank_rows}
-use Rattle.krl_machine.specs.Links.{Link, no_range, no_key}
-use Rattle.krl_machine.specs.Worlds.{Logged, IsMissing, crash, start, finish, Steps, none, more}
-use Rattle.krl_server.specs.Servers.{Server, blank_session, is_recovering, lists}
-use Rattle.krl_server.specs.Steps.{can_start}
-use Rattle.krl_server.specs.Soundness.{IsSound}
-use Rattle.krl_server.proofs.Points.{blank_range, blank_key}
-use Rattle.krl_server.proofs.Tests.{not_truth}
-use Rattle.krl_server.proofs.Invariant.RowsSound.{start_sound}
 use Rattle.krl_server.specs.Steps as steps
-use Rattle.krl_refinement.specs.Server.AsLinks.{IsRecord, Shows, DurableShows, down_world_of, world_of}
-use Rattle.krl_refinement.specs.Server.Simulation.{BoundStays, CrashFollows, StartFollows, IsIdle, Opens}
 use Rattle.krl_refinement.proofs.Server.Follows.{up_phase}
 
 pub crash_follows : (s : Server) (of : ℕ → Link) (log : List Logged) → Shows s of → IsSound s → CrashFollows s of log

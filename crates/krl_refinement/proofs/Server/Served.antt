@@ -1,21 +1,10 @@
 -- All answers to waiters after a step; and what was sent stays sent.
-use Rattle.std.proofs.Common.{◌≡◌, ℕ, Bool, false, List, inr, refl, sym, ap, subst, ◌∙◌, ⊎_elim}
-use Rattle.krl_messages.specs.declared.to_client.ToClient.{ToClient}
-use Rattle.krl_messages.specs.declared.to_client.ToClientBody.{ToClientBody}
-use Rattle.krl_messages.specs.Members.{In}
-use Rattle.krl_messages.proofs.Members.{in_both}
+use Rattle.krl_refinement.proofs.Names.{◌≡◌, ℕ, Bool, false, List, inr, refl, sym, ap, subst, ◌∙◌, ⊎_elim, ToClient, ToClientBody, In, in_both, Logged, World, Changed, Step, at_link, raises, applies}
+use Rattle.krl_refinement.proofs.Names.{crash, start, finish, Steps, none, more, eq_cases, WorldInv, steps_on, world_steps, Server, is_recovering, IsSound, not_truth, turn_sound, turn_missing}
+use Rattle.krl_refinement.proofs.Names.{answered_up, WasSent, Shows, world_of}
 use Rattle.krl_messages.specs.declared.to_client.ToClientBody.TheVariants as told
 use Rattle.krl_machine.specs.Links.{Notice, Push, Shared, Link, LinkStep, registers, notifies, pushes}
-use Rattle.krl_machine.specs.Worlds.{Logged, World, Changed, Step, at_link, raises, applies, crash, start, finish, Steps, none, more}
-use Rattle.krl_machine.proofs.Worlds.{eq_cases, WorldInv}
-use Rattle.krl_machine.proofs.Steps.{steps_on, world_steps}
-use Rattle.krl_server.specs.Servers.{Server, is_recovering}
 use Rattle.krl_server.specs.Answering.{answer_first, Answered, stops, goes_on}
-use Rattle.krl_server.specs.Soundness.{IsSound}
-use Rattle.krl_server.proofs.Tests.{not_truth}
-use Rattle.krl_server.proofs.Invariant.AnswersSound.{turn_sound, turn_missing, answered_up}
-use Rattle.krl_refinement.specs.Messages.{WasSent}
-use Rattle.krl_refinement.specs.Server.AsLinks.{Shows, world_of}
 use Rattle.krl_refinement.proofs.Server.Follows.{Goes, serving_phase}
 use Rattle.krl_refinement.proofs.Server.Turns.{turn_follows}
 

@@ -1,25 +1,11 @@
 -- What an Insert and a Put that are Applied make of the table, for the machine.
-use Rattle.std.proofs.Common.{◌≡◌, ℕ, ◌≤◌, ◌<◌, true, List, Some, None, refl, ap, ◌∙◌, arith, eq-eqb, ne_eqb}
-use Rattle.std.specs.Prelude.{if◌then◌else◌}
+use Rattle.krl_refinement.proofs.Names.{◌≡◌, ℕ, ◌≤◌, ◌<◌, true, List, Some, None, refl, ap, ◌∙◌, arith, eq-eqb, ne_eqb, if◌then◌else◌, END, RangePart, KeyPart, range_of, key_of, at_or_above}
+use Rattle.krl_refinement.proofs.Names.{lets_insert, is_key_X, Value, Index, slot_of, Rows, Row, column, set_row, mode_beside, split, Phase, Insert, Put, Link, Logged, WorldInv, Written}
+use Rattle.krl_refinement.proofs.Names.{insert_written, put_written, row_here, get_here, get_other, set_modes, slot_here}
 use Rattle.std.specs.FinMap as map
-use Rattle.krl_modes.specs.declared.point.TheConstants.{END}
-use Rattle.krl_modes.specs.declared.part.RangePart.{RangePart}
-use Rattle.krl_modes.specs.declared.part.KeyPart.{KeyPart}
-use Rattle.krl_modes.specs.Modes.{range_of, key_of, at_or_above}
 use Rattle.krl_modes.specs.Weights.{reads, inserts}
-use Rattle.krl_modes.specs.Parts.{lets_insert, is_key_X}
 use Rattle.krl_modes.specs.declared.part.KeyPart.TheVariants as key
-use Rattle.krl_messages.specs.Values.{Value}
-use Rattle.krl_durable.specs.Index.{Index, slot_of}
-use Rattle.krl_table.specs.Rows.{Rows, Row, column, set_row}
-use Rattle.krl_table.specs.Calls.{mode_beside, split}
-use Rattle.krl_machine.specs.Links.{Phase, Insert, Put, Link}
-use Rattle.krl_machine.specs.Worlds.{Logged}
-use Rattle.krl_machine.proofs.Worlds.{WorldInv}
 use Rattle.krl_machine.proofs.Refines.{Shows}
-use Rattle.krl_machine.proofs.Written.{Written, insert_written, put_written}
-use Rattle.krl_server.proofs.Updates.{row_here, get_here, get_other, set_modes}
-use Rattle.krl_server.proofs.Slots.{slot_here}
 use Rattle.krl_refinement.proofs.Server.Meaning.{seen_in}
 
 may_insert : (a : RangePart) → lets_insert a ≡ true → inserts a ≡ 1

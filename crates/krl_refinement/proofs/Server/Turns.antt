@@ -1,42 +1,20 @@
 -- Each answer to a first waiter.
-use Rattle.std.proofs.Common.{◌≡◌, ◌≢◌, ℕ, ◌≤◌, ◌<◌, Bool, true, false, not, ◌||◌, Some, List, [], ◌∷◌, inl, refl, sym, ap, subst, ◌∙◌, arith}
-use Rattle.std.proofs.lemmas.Bool.{and_parts}
-use Rattle.std.proofs.lemmas.Option.{none-some}
-use Rattle.std.specs.List.{AllByRecursion}
+use Rattle.krl_refinement.proofs.Names.{◌≡◌, ◌≢◌, ℕ, ◌≤◌, ◌<◌, Bool, true, false, not, ◌||◌, Some, List, [], ◌∷◌, inl, refl, sym, ap, subst, ◌∙◌, arith, and_parts, none-some, AllByRecursion, END}
+use Rattle.krl_refinement.proofs.Names.{range_of, key_of, In, Waiter, Index, is_slot, record_of, Row, Rows, most_clients, mode_at, column, set_row, set_mode, range_at, key_at, with_mode, with_queue}
+use Rattle.krl_refinement.proofs.Names.{wanted, behind_first, dropped, raised, raised_on, RangeAtMost, KeyAtMost, RangesAgree, KeysAgree, Link, IsSlot, Logged, Steps, none, more, WorldInv}
+use Rattle.krl_refinement.proofs.Names.{grant_raises, put, put_changed, heard_kept, steps_on, world_steps, Server, lists, with_rows, holdings, pushes, IsSound, slot_here, slot_high, is_slot_true}
+use Rattle.krl_refinement.proofs.Names.{is_slot_false, same_range, same_key, row_here, row_other, mode_here, mode_other, row_modes, pushes_serve, one_sound, at_first, stayed_on, dropped_is}
+use Rattle.krl_refinement.proofs.Names.{drop_modes, if_case, none_of, LinkShows, IsHeardOf, Shows, view, world_of}
 use Rattle.std.specs.Prelude.{nat_lt, is_some}
-use Rattle.krl_modes.specs.declared.point.TheConstants.{END}
-use Rattle.krl_modes.specs.Modes.{range_of, key_of}
-use Rattle.krl_messages.specs.Members.{In}
 use Rattle.krl_messages.specs.declared.to_client.PushBody.TheVariants as push
-use Rattle.krl_queue.specs.declared.waiter.Waiter.{Waiter}
-use Rattle.krl_durable.specs.Index.{Index, is_slot}
-use Rattle.krl_durable.specs.Registers.{record_of}
-use Rattle.krl_table.specs.Rows.{Row, Rows, most_clients, mode_at, column, set_row, set_mode}
-use Rattle.krl_table.specs.Points.{range_at, key_at}
-use Rattle.krl_table.specs.Calls.{with_mode, with_queue, wanted, behind_first, dropped, raised, raised_on}
 use Rattle.krl_table.specs.Grants.{taken_after, taken, granted, most_more}
 use Rattle.krl_table.specs.Replies.{asks_absent, is_wanted_compatible}
 use Rattle.krl_table.proofs.Invariant.Compatible.{or_true}
-use Rattle.krl_machine.specs.Modes.{RangeAtMost, KeyAtMost, RangesAgree, KeysAgree}
-use Rattle.krl_machine.specs.Links.{Link, IsSlot}
-use Rattle.krl_machine.specs.Worlds.{Logged, Steps, none, more}
-use Rattle.krl_machine.proofs.Worlds.{WorldInv}
-use Rattle.krl_machine.proofs.Refines.{grant_raises}
-use Rattle.krl_machine.proofs.Steps.{put, put_changed, heard_kept, steps_on, world_steps}
 use Rattle.krl_machine.specs.Links as links
 use Rattle.krl_machine.specs.Tables as machine
-use Rattle.krl_server.specs.Servers.{Server, lists}
-use Rattle.krl_server.specs.Effects.{with_rows, holdings, pushes}
 use Rattle.krl_server.specs.Answering.{can_push, Turn, next_turn, answer_first}
-use Rattle.krl_server.specs.Soundness.{IsSound}
-use Rattle.krl_server.proofs.Slots.{slot_here, slot_high, is_slot_true, is_slot_false}
-use Rattle.krl_server.proofs.Points.{same_range, same_key}
-use Rattle.krl_server.proofs.Updates.{row_here, row_other, mode_here, mode_other, row_modes}
-use Rattle.krl_server.proofs.Invariant.AnswersSound.{pushes_serve, one_sound, at_first, stayed_on, dropped_is, drop_modes}
 use Rattle.krl_server.proofs.Grants.{raised_queue, along, AreSlotsAfter, taken_slots, slot_near, slots_ascend, holdings_whole, granted_is, taken_is}
-use Rattle.krl_server.proofs.Tests.{if_case, none_of}
 use Rattle.krl_server.proofs.Turns.{turn_is}
-use Rattle.krl_refinement.specs.Server.AsLinks.{LinkShows, IsHeardOf, Shows, view, world_of}
 use Rattle.krl_refinement.proofs.Server.Meaning.{range_is, key_is}
 use Rattle.krl_refinement.proofs.Server.Follows.{Goes, steps_then, put_client, put_shows, relink, not_two, not_recovering, record_kept}
 use Rattle.krl_refinement.proofs.Server.Pushes.{pushes_on}

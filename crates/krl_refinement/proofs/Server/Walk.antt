@@ -1,32 +1,17 @@
 -- What the server does with a message that was sent, but for the answers at the end of the step, is some steps of the
 -- machine, and it does not say Alarm.
-use Rattle.std.proofs.Common.{◌≡◌, ◌≢◌, ℕ, suc, ◌<◌, Bool, true, false, not, ◌&&◌, Option, Some, List, refl, sym, subst, ◌∙◌, nat_eq, eq-eqb, ne_eqb}
-use Rattle.krl_modes.specs.declared.point.TheConstants.{END}
-use Rattle.krl_messages.specs.Values.{Value}
-use Rattle.krl_messages.specs.declared.pieces.Pieces.{Pieces}
-use Rattle.krl_messages.specs.declared.write_op.WriteOp.{WriteOp}
-use Rattle.krl_messages.specs.declared.outcome.Outcome.{Outcome}
-use Rattle.krl_messages.specs.declared.to_server.ToServer.{ToServer}
+use Rattle.krl_refinement.proofs.Names.{◌≡◌, ◌≢◌, ℕ, suc, ◌<◌, Bool, true, false, not, ◌&&◌, Option, Some, List, refl, sym, subst, ◌∙◌, nat_eq, eq-eqb, ne_eqb, END, Value, Pieces, WriteOp, Outcome}
+use Rattle.krl_refinement.proofs.Names.{ToServer, op_key, is_applied, Record, conflicts, Link, Passes, Logged, Reachable, reachable_inv, Server, lists, effect, IsSound, not_truth, IsRecord, Shows}
+use Rattle.krl_refinement.proofs.Names.{view, world_of, logged}
 use Rattle.krl_messages.specs.declared.to_server.ToServerBody.{ToServerBody}
 use Rattle.krl_messages.specs.declared.to_server.Request.{Request}
 use Rattle.krl_messages.specs.declared.to_server.RequestBody.{RequestBody}
-use Rattle.krl_messages.specs.Writes.{op_key, is_applied}
 use Rattle.krl_messages.specs.declared.outcome.Outcome.TheVariants as outcome
 use Rattle.krl_messages.specs.declared.to_server.ToServerBody.TheVariants as said
 use Rattle.krl_messages.specs.declared.to_server.RequestBody.TheVariants as asked
-use Rattle.krl_durable.specs.declared.record.Record.{Record}
-use Rattle.krl_table.specs.Reports.{conflicts}
-use Rattle.krl_machine.specs.Links.{Link, Passes}
-use Rattle.krl_machine.specs.Worlds.{Logged, Reachable}
-use Rattle.krl_machine.proofs.Runs.{reachable_inv}
-use Rattle.krl_server.specs.Servers.{Server, lists}
 use Rattle.krl_server.specs.Cases.{Case, Ignored, Registers, Leaves, Tells, Rebuilds, Repeats, Acknowledges, Lowers, Waits, Judges, AnswersAgain, judged, case_of, is_alarm, clears}
-use Rattle.krl_server.specs.Effects.{effect}
-use Rattle.krl_server.specs.Soundness.{IsSound}
-use Rattle.krl_server.proofs.Tests.{not_truth}
 use Rattle.krl_server.proofs.Cased.{IsFrom, IsAsked, by_said}
 use Rattle.krl_refinement.specs.Messages.{head_of, RequestStands, Stands}
-use Rattle.krl_refinement.specs.Server.AsLinks.{IsRecord, Shows, view, world_of, logged}
 use Rattle.krl_refinement.proofs.Server.Follows.{Goes, stays, serving_phase}
 use Rattle.krl_refinement.proofs.Server.Pushes.{tells, repeats, acknowledges}
 use Rattle.krl_refinement.proofs.Server.Judged.{answers_again}

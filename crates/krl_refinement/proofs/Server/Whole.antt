@@ -1,26 +1,8 @@
 -- Each step of the server is some steps of the machine.
-use Rattle.std.proofs.Common.{ℕ, false, ◌&&◌, Option, List, ◌++◌, refl, ◌∙◌, ⊎_elim, nat_eq}
-use Rattle.krl_modes.specs.declared.point.TheConstants.{END}
-use Rattle.krl_messages.specs.Values.{Value}
-use Rattle.krl_messages.specs.declared.to_server.ToServer.{ToServer}
-use Rattle.krl_messages.specs.declared.to_client.ToClient.{ToClient}
-use Rattle.krl_messages.specs.Members.{In}
-use Rattle.krl_messages.proofs.Members.{in_both}
-use Rattle.krl_machine.specs.Links.{Link}
-use Rattle.krl_machine.specs.Worlds.{Logged, Reachable}
-use Rattle.krl_machine.proofs.Steps.{steps_on, world_steps}
-use Rattle.krl_machine.proofs.Runs.{reachable_inv}
-use Rattle.krl_server.specs.Servers.{Server, is_recovering}
-use Rattle.krl_server.specs.Cases.{case_of, clears}
-use Rattle.krl_server.specs.Effects.{effect}
-use Rattle.krl_server.specs.Steps.{calls_of, kind_of, at_once, recovers, serves, ServerStep}
-use Rattle.krl_server.specs.Soundness.{IsSound}
-use Rattle.krl_server.proofs.Tests.{not_truth}
-use Rattle.krl_server.proofs.Invariant.AnswersSound.{answering_sound, answered_up}
+use Rattle.krl_refinement.proofs.Names.{ℕ, false, ◌&&◌, Option, List, ◌++◌, refl, ◌∙◌, ⊎_elim, nat_eq, END, Value, ToServer, ToClient, In, in_both, Link, Logged, Reachable, steps_on, world_steps}
+use Rattle.krl_refinement.proofs.Names.{reachable_inv, Server, is_recovering, case_of, clears, effect, calls_of, kind_of, at_once, recovers, serves, ServerStep, IsSound, not_truth, answering_sound}
+use Rattle.krl_refinement.proofs.Names.{answered_up, Stands, Shows, world_of, logged, StepFollows, ServerFollows}
 use Rattle.krl_server.proofs.Invariant.Sounds.{effect_sound}
-use Rattle.krl_refinement.specs.Messages.{Stands}
-use Rattle.krl_refinement.specs.Server.AsLinks.{Shows, world_of, logged}
-use Rattle.krl_refinement.specs.Server.Simulation.{StepFollows, ServerFollows}
 use Rattle.krl_refinement.proofs.Server.Follows.{Goes}
 use Rattle.krl_refinement.proofs.Server.Served.{sent_kept, answering_follows}
 use Rattle.krl_refinement.proofs.Server.Callbacks.{calls_sent}

@@ -1,43 +1,16 @@
 -- A new write that is Applied, and its answer.
-use Rattle.std.proofs.Common.{◌≡◌, ℕ, suc, ◌<◌, Bool, true, Option, Some, None, List, ◌∷◌, refl, sym, ap, subst, ◌∙◌, arith}
-use Rattle.std.proofs.lemmas.Bool.{and_parts}
-use Rattle.std.proofs.lemmas.Option.{none-some}
-use Rattle.std.specs.Prelude.{is_some}
+use Rattle.krl_refinement.proofs.Names.{◌≡◌, ℕ, suc, ◌<◌, Bool, true, Option, Some, None, List, ◌∷◌, refl, sym, ap, subst, ◌∙◌, arith, and_parts, none-some, is_some, END, KeyPart, Value, WriteOp}
+use Rattle.krl_refinement.proofs.Names.{ToServer, op_key, In, Waiter, Record, Index, record_of, with_record, Rows, most_clients, column, range_at, key_at, Head, Write, Shared, Link, Passes, Logged}
+use Rattle.krl_refinement.proofs.Names.{Changed, Applies, Step, applies, wrote_by, none, more, steps_on, world_steps, put, put_changed, changed_twice, heard_kept, WorldInv, Written, Session, Server}
+use Rattle.krl_refinement.proofs.Names.{lists, set_session, acknowledged, rows_written, answers, effect, Judges, judged, IsSound, session_here, pushes_serve, acknowledged_sound, none_some, some_of}
+use Rattle.krl_refinement.proofs.Names.{op_of, IsRecord, LinkIs, Shows, view, world_of, logged}
 use Rattle.std.specs.FinMap as map
-use Rattle.krl_modes.specs.declared.point.TheConstants.{END}
-use Rattle.krl_modes.specs.declared.part.KeyPart.{KeyPart}
-use Rattle.krl_messages.specs.Values.{Value}
-use Rattle.krl_messages.specs.declared.write_op.WriteOp.{WriteOp}
-use Rattle.krl_messages.specs.declared.to_server.ToServer.{ToServer}
-use Rattle.krl_messages.specs.Writes.{op_key}
-use Rattle.krl_messages.specs.Members.{In}
 use Rattle.krl_messages.specs.declared.write_op.WriteOp.TheVariants as write
 use Rattle.krl_messages.specs.declared.outcome.Outcome.TheVariants as outcome
-use Rattle.krl_queue.specs.declared.waiter.Waiter.{Waiter}
-use Rattle.krl_durable.specs.declared.record.Record.{Record}
-use Rattle.krl_durable.specs.Index.{Index}
-use Rattle.krl_durable.specs.Registers.{record_of, with_record}
 use Rattle.krl_durable.specs.Writes.{noted, written}
-use Rattle.krl_table.specs.Rows.{Rows, most_clients, column}
-use Rattle.krl_table.specs.Points.{range_at, key_at}
-use Rattle.krl_machine.specs.Links.{Head, Write, Shared, Link, Passes}
-use Rattle.krl_machine.specs.Worlds.{Logged, Changed, Applies, Step, applies, wrote_by, none, more}
-use Rattle.krl_machine.proofs.Steps.{steps_on, world_steps, put, put_changed, changed_twice, heard_kept}
-use Rattle.krl_machine.proofs.Worlds.{WorldInv}
-use Rattle.krl_machine.proofs.Written.{Written}
 use Rattle.krl_machine.specs.Tables as machine
 use Rattle.krl_machine.proofs.Refines as refines
-use Rattle.krl_server.specs.declared.session.Session.{Session}
-use Rattle.krl_server.specs.Servers.{Server, lists, set_session}
-use Rattle.krl_server.specs.Effects.{acknowledged, rows_written, answers, effect}
-use Rattle.krl_server.specs.Cases.{Judges, judged}
-use Rattle.krl_server.specs.Soundness.{IsSound}
-use Rattle.krl_server.proofs.Updates.{session_here}
-use Rattle.krl_server.proofs.Invariant.AnswersSound.{pushes_serve, acknowledged_sound}
-use Rattle.krl_server.proofs.Tests.{none_some, some_of}
 use Rattle.krl_server.proofs.Invariant.WritesSound.{with_write, insert_may, change_may, writes_is, lasts, lasts_sound}
-use Rattle.krl_refinement.specs.Messages.{op_of}
-use Rattle.krl_refinement.specs.Server.AsLinks.{IsRecord, LinkIs, Shows, view, world_of, logged}
 use Rattle.krl_refinement.proofs.Server.Meaning.{range_is, key_is}
 use Rattle.krl_refinement.proofs.Server.Follows.{Goes, steps_then, not_recovering, put_client, put_shows, session_rest, not_two}
 use Rattle.krl_refinement.proofs.Server.Pushes.{acknowledges_steps, acknowledges_shows}
