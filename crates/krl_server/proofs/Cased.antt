@@ -1,28 +1,14 @@
 -- What holds of the server and the message in each case: so anything is proved of the case that a message meets.
-use Rattle.std.proofs.Common.{◌≡◌, ℕ, suc, ◌≤◌, ◌<◌, true, false, not, ◌&&◌, ◌||◌, Option, Some, None, refl, sym, subst, arith}
-use Rattle.std.proofs.Common.{nat_eq, eqb-true, ltb-true, ltb-false}
-use Rattle.std.proofs.lemmas.Bool.{eqb-false, and_parts, or_parts, not-true, not-false}
-use Rattle.std.specs.Prelude.{nat_lt, nat_le}
-use Rattle.krl_modes.specs.declared.point.TheConstants.{END, TOP}
-use Rattle.krl_modes.specs.declared.mode.Mode.{Mode}
-use Rattle.krl_modes.specs.Spans.{Bounds}
-use Rattle.krl_messages.specs.declared.pieces.Pieces.{Pieces}
-use Rattle.krl_messages.specs.declared.write_op.WriteOp.{WriteOp}
-use Rattle.krl_messages.specs.declared.outcome.Outcome.{Outcome}
-use Rattle.krl_messages.specs.declared.to_server.ToServer.{ToServer}
+use Rattle.krl_server.proofs.Names.{◌≡◌, ℕ, suc, ◌≤◌, ◌<◌, true, false, not, ◌&&◌, ◌||◌, Option, Some, None, refl, sym, subst, arith, nat_eq, eqb-true, ltb-true, ltb-false, eqb-false, and_parts}
+use Rattle.krl_server.proofs.Names.{or_parts, not-true, not-false, nat_lt, nat_le, END, TOP, Mode, Bounds, Pieces, WriteOp, Outcome, ToServer, PushBody, Record, record_of, op_key, most_clients}
+use Rattle.krl_server.proofs.Names.{waits, conflicts, Server, is_recovering, lists, incarnation_or_0, Case, Ignored, Registers, Leaves, Tells, Alarms, Rebuilds, Repeats, Acknowledges, Lowers, Waits}
+use Rattle.krl_server.proofs.Names.{Judges, AnswersAgain, judged, case_of_last, is_bad_write, case_of_write, is_reach, case_of_request, case_of_late, case_of_seen, case_of_report, case_of_body}
+use Rattle.krl_server.proofs.Names.{case_of_newer, case_of_record, is_malformed, case_of}
 use Rattle.krl_messages.specs.declared.to_server.ToServerBody.{ToServerBody}
 use Rattle.krl_messages.specs.declared.to_server.ToServerBody.TheVariants as said
 use Rattle.krl_messages.specs.declared.to_server.Request.{Request}
 use Rattle.krl_messages.specs.declared.to_server.RequestBody.{RequestBody}
 use Rattle.krl_messages.specs.declared.to_server.RequestBody.TheVariants as asked
-use Rattle.krl_messages.specs.declared.to_client.PushBody.{PushBody}
-use Rattle.krl_durable.specs.declared.record.Record.{Record}
-use Rattle.krl_durable.specs.Registers.{record_of}
-use Rattle.krl_messages.specs.Writes.{op_key}
-use Rattle.krl_table.specs.Rows.{most_clients, waits}
-use Rattle.krl_table.specs.Reports.{conflicts}
-use Rattle.krl_server.specs.Servers.{Server, is_recovering, lists, incarnation_or_0}
-use Rattle.krl_server.specs.Cases.{Case, Ignored, Registers, Leaves, Tells, Alarms, Rebuilds, Repeats, Acknowledges, Lowers, Waits, Judges, AnswersAgain, judged, case_of_last, is_bad_write, case_of_write, is_reach, case_of_request, case_of_late, case_of_seen, case_of_report, case_of_body, case_of_newer, case_of_record, is_malformed, case_of}
 use Rattle.krl_server.proofs.Tests.{if_case}
 
 -- the message is the registered incarnation's, which has not left

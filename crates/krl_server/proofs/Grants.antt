@@ -1,31 +1,13 @@
 -- What a grant takes, and what each raise of it leaves as it was.
-use Rattle.std.proofs.Common.{◌≡◌, ◌≢◌, ℕ, zero, suc, ◌≤◌, ◌<◌, Bool, true, false, not, ◌&&◌, ◌||◌, None, List, [], ◌∷◌, ◌++◌, take, length, refl, sym, ap, subst, ◌∙◌, ⊎_elim, arith, nat_eq, eq-eqb, ltb-true}
-use Rattle.std.proofs.lemmas.Bool.{cases_lt, and_parts}
-use Rattle.std.proofs.lemmas.Bool.Decides.{nat_tests}
-use Rattle.std.specs.Prelude.{nat_lt, nat_le, is_some, if◌then◌else◌}
-use Rattle.std.specs.List.{filter, AllByRecursion}
-use Rattle.std.specs.Ordering.{nat_cmp}
+use Rattle.krl_server.proofs.Names.{◌≡◌, ◌≢◌, ℕ, zero, suc, ◌≤◌, ◌<◌, Bool, true, false, not, ◌&&◌, ◌||◌, None, List, [], ◌∷◌, ◌++◌, take, length, refl, sym, ap, subst, ◌∙◌, ⊎_elim, arith, nat_eq}
+use Rattle.krl_server.proofs.Names.{eq-eqb, ltb-true, cases_lt, and_parts, nat_tests, nat_lt, nat_le, is_some, if◌then◌else◌, filter, AllByRecursion, nat_cmp, find, END, needs_entry, Value, Waiter}
+use Rattle.krl_server.proofs.Names.{eq_cases, Index, first_or_end, slot_of, low_of, is_slot, Rows, mode_at, set_row, with_mode, wanted, grant_first, granted_first, raised, raised_on}
+use Rattle.krl_server.proofs.Names.{is_wanted_compatible, Durable, Server, holding, holdings, find_here, find_past, IsWhole}
 use Rattle.std.specs.FinMap as fin
-use Rattle.std.specs.FinMap.Entries.{find}
-use Rattle.krl_modes.specs.declared.point.TheConstants.{END}
-use Rattle.krl_modes.specs.Modes.{needs_entry}
-use Rattle.krl_messages.specs.Values.{Value}
-use Rattle.krl_queue.specs.declared.waiter.Waiter.{Waiter}
-use Rattle.krl_table.proofs.Rows.RowChanges.{eq_cases}
-use Rattle.krl_durable.specs.Index.{Index, first_or_end, slot_of, low_of, is_slot}
-use Rattle.krl_table.specs.Rows.{Rows, mode_at, set_row}
-use Rattle.krl_table.specs.Calls.{with_mode, wanted, grant_first, granted_first, raised, raised_on}
-use Rattle.krl_table.specs.Replies.{is_wanted_compatible}
 use Rattle.krl_table.specs.Grants.{nobody_waits, can_take, goes_on, taken_after, taken_by, taken, granted_by, granted, most_more}
 use Rattle.krl_table.proofs.Rows.Slots.{low_under}
 use Rattle.krl_messages.specs.Several.{IsBefore, Ascend, most_holdings}
-use Rattle.krl_durable.specs.Registers.{Durable}
-use Rattle.krl_server.specs.Servers.{Server}
-use Rattle.krl_server.specs.Effects.{holding, holdings}
-use Rattle.krl_durable.proofs.Slots.{find_here}
-use Rattle.krl_durable.proofs.SlotLaws.{find_past}
 use Rattle.krl_server.proofs.Slots.{is_slot_true, span_here}
-use Rattle.krl_modes.specs.Spans.{IsWhole}
 use Rattle.krl_server.proofs.Updates.{row_here, row_other, mode_other, row_modes}
 use Rattle.krl_server.proofs.Tests.{if_case}
 

@@ -10,3 +10,4 @@ pub mod Crosses
 pub mod Functions
 pub mod Invariant
 pub mod Outputs
+mod Names

@@ -1,14 +1,8 @@
 -- What the table gives a client at each point is the same where its modes are, and nothing where they are N.
-use Rattle.std.proofs.Common.{◌≡◌, ℕ, Bool, true, false, refl, ap, ◌∙◌}
-use Rattle.std.specs.Prelude.{nat_lt, if◌then◌else◌}
-use Rattle.krl_modes.specs.declared.point.TheConstants.{END}
-use Rattle.krl_modes.specs.Modes.{range_of, key_of}
+use Rattle.krl_server.proofs.Names.{◌≡◌, ℕ, Bool, true, false, refl, ap, ◌∙◌, nat_lt, if◌then◌else◌, END, range_of, key_of, Index, slot_of, is_slot, Rows, mode_at, key_off_slot, range_at, key_at}
 use Rattle.krl_modes.specs.declared.part.RangePart.TheVariants as range
 use Rattle.krl_modes.specs.declared.part.KeyPart.TheVariants as key
 use Rattle.krl_modes.specs.declared.mode.Mode.TheVariants as mode
-use Rattle.krl_durable.specs.Index.{Index, slot_of, is_slot}
-use Rattle.krl_table.specs.Rows.{Rows, mode_at}
-use Rattle.krl_table.specs.Points.{key_off_slot, range_at, key_at}
 
 -- where c's modes are the same, so is what the table gives it
 module _ (m : Index) (old new : Rows) (c : ℕ) (same : (n : ℕ) → mode_at old n c ≡ mode_at new n c) where

@@ -1,19 +1,10 @@
 -- What is set at one place is there, and every other place is as it was.
-use Rattle.std.proofs.Common.{◌≡◌, ◌≢◌, ℕ, Bool, true, false, [], ◌∷◌, Some, None, refl, sym, ap, subst, ◌∙◌, nat_eq, eq-eqb, ne_eqb, eqb-true, arith, cond, not, List}
+use Rattle.krl_server.proofs.Names.{◌≡◌, ◌≢◌, ℕ, Bool, true, false, [], ◌∷◌, Some, None, refl, sym, ap, subst, ◌∙◌, nat_eq, eq-eqb, ne_eqb, eqb-true, arith, cond, not, List, nat_tests, nat_cmp}
+use Rattle.krl_server.proofs.Names.{eq_by_cmp, Mode, Value, Record, Register, record_of, with_record, Index, eq_cases, Row, Rows, mode_at, set_row, set_mode, column, Session, set_session, lists}
+use Rattle.krl_server.proofs.Names.{unlist}
 use Rattle.std.specs.Prelude.{if◌then◌else◌, ◌||◌}
-use Rattle.std.proofs.lemmas.Bool.Decides.{nat_tests}
-use Rattle.std.specs.Ordering.{nat_cmp, eq_by_cmp}
 use Rattle.std.specs.Cmp.{nat_cmp_total}
 use Rattle.std.specs.FinMap as map
-use Rattle.krl_modes.specs.declared.mode.Mode.{Mode}
-use Rattle.krl_messages.specs.Values.{Value}
-use Rattle.krl_durable.specs.declared.record.Record.{Record}
-use Rattle.krl_durable.specs.Registers.{Register, record_of, with_record}
-use Rattle.krl_durable.specs.Index.{Index}
-use Rattle.krl_table.proofs.Rows.RowChanges.{eq_cases}
-use Rattle.krl_table.specs.Rows.{Row, Rows, mode_at, set_row, set_mode, column}
-use Rattle.krl_server.specs.declared.session.Session.{Session}
-use Rattle.krl_server.specs.Servers.{set_session, lists, unlist}
 
 pub row_here : (rows : Rows) (n : ℕ) (row : Row) → set_row rows n row n ≡ row
 row_here rows n row = ap (λ b. if b then row else rows n) (eq-eqb n n refl)

@@ -1,41 +1,19 @@
 -- Worked rows: small servers, computed.
-use Rattle.std.proofs.Common.{◌≡◌, ℕ, suc, List, [], ◌∷◌, ◌++◌, map, Option, Some, None, refl}
+use Rattle.krl_server.proofs.Names.{◌≡◌, ℕ, suc, List, [], ◌∷◌, ◌++◌, map, Option, Some, None, refl, Mode, Holding, ToServer, ToClient, PushBody, Waiter, Index, is_slot, new_record, most_entries}
+use Rattle.krl_server.proofs.Names.{END, Bounds, Value, Pieces, range_at, key_at, lowered, adopted, Row, Rows, blank_row, most_clients, mode_at, Session, Server, case_of, Judges, Ignored, Registers}
+use Rattle.krl_server.proofs.Names.{Waits, Lowers, Rebuilds, AnswersAgain, callbacks_from, Done, effect, Turn, next_turn, answer_first, crash, start}
 use Rattle.std.specs.Prelude.{nat_eq, if◌then◌else◌}
 use Rattle.std.specs.FinMap as map
 use Rattle.krl_modes.specs.declared.part.RangePart.TheVariants as range
 use Rattle.krl_modes.specs.declared.part.KeyPart.TheVariants as key
-use Rattle.krl_modes.specs.declared.mode.Mode.{Mode}
 use Rattle.krl_modes.specs.declared.mode.Mode.TheVariants as mode
-use Rattle.krl_messages.specs.declared.holding.Holding.{Holding}
 use Rattle.krl_messages.specs.declared.write_op.WriteOp.TheVariants as write
 use Rattle.krl_messages.specs.declared.outcome.Outcome.TheVariants as outcome
-use Rattle.krl_messages.specs.declared.to_server.ToServer.{ToServer}
 use Rattle.krl_messages.specs.declared.to_server.ToServerBody.TheVariants as said
 use Rattle.krl_messages.specs.declared.to_server.RequestBody.{RequestBody}
 use Rattle.krl_messages.specs.declared.to_server.RequestBody.TheVariants as asked
-use Rattle.krl_messages.specs.declared.to_client.ToClient.{ToClient}
 use Rattle.krl_messages.specs.declared.to_client.ToClientBody.TheVariants as told
-use Rattle.krl_messages.specs.declared.to_client.PushBody.{PushBody}
 use Rattle.krl_messages.specs.declared.to_client.PushBody.TheVariants as push
-use Rattle.krl_queue.specs.declared.waiter.Waiter.{Waiter}
-use Rattle.krl_durable.specs.Index.{Index, is_slot}
-use Rattle.krl_durable.specs.Registers.{new_record}
-use Rattle.krl_durable.specs.Writes.{most_entries}
-use Rattle.krl_modes.specs.declared.point.TheConstants.{END}
-use Rattle.krl_modes.specs.Spans.{Bounds}
-use Rattle.krl_messages.specs.Values.{Value}
-use Rattle.krl_messages.specs.declared.pieces.Pieces.{Pieces}
-use Rattle.krl_table.specs.Points.{range_at, key_at}
-use Rattle.krl_table.specs.Calls.{lowered}
-use Rattle.krl_table.specs.Reports.{adopted}
-use Rattle.krl_table.specs.Rows.{Row, Rows, blank_row, most_clients, mode_at}
-use Rattle.krl_server.specs.declared.session.Session.{Session}
-use Rattle.krl_server.specs.Servers.{Server}
-use Rattle.krl_server.specs.Cases.{case_of, Judges, Ignored, Registers, Waits, Lowers, Rebuilds, AnswersAgain}
-use Rattle.krl_server.specs.Callbacks.{callbacks_from}
-use Rattle.krl_server.specs.Effects.{Done, effect}
-use Rattle.krl_server.specs.Answering.{Turn, next_turn, answer_first}
-use Rattle.krl_server.specs.Steps.{crash, start}
 
 -- a value of one byte
 abbrev byte : ℕ → Value

@@ -1,42 +1,15 @@
 -- A grant at once, while nobody waits on the slot: it is what a place in the queue and a turn would give.
 use Rattle.std.proofs.Common.{◌≡◌, ◌≢◌, ℕ, suc, ◌*◌, ◌≤◌, ◌<◌, Bool, true, false, not, ◌&&◌, ◌||◌, nat_eq, Option, Some, None, List, [], ◌∷◌, ◌++◌, length, refl, sym, ap, subst, ◌∙◌, arith}
-use Rattle.std.proofs.lemmas.Bool.{lt-ltb, and_parts}
-use Rattle.std.proofs.Math.Path.{fun_ext}
-use Rattle.std.specs.Prelude.{is_some, set, if◌then◌else◌}
-use Rattle.krl_modes.specs.declared.point.TheConstants.{END}
-use Rattle.krl_modes.specs.declared.mode.Mode.{Mode}
+use Rattle.krl_server.proofs.Names.{lt-ltb, and_parts, fun_ext, is_some, set, if◌then◌else◌, END, Mode, at_most, compatible, Holding, ToClient, ToServer, In, Waiter, eq_cases, Index, slots, slot_of}
+use Rattle.krl_server.proofs.Names.{Row, Rows, front_of, all_below, most_clients, enqueued, queue_with, with_queue, wanted, granted, taken, nobody_waits, is_granted_at_once, Kept, rows_of}
+use Rattle.krl_server.proofs.Names.{asks_absent, is_wanted_compatible, first_reply, IsTable, WaitsNowhere, Session, State, Server, set_session, is_recovering, sessions_of, meaning, meant, Waits}
+use Rattle.krl_server.proofs.Names.{case_of, with_rows, acknowledged, queues, holdings, pushes, effect, can_push, next_turn, answer_first, grants, Answered, stops, goes_on, callbacks, Acts, Ends}
+use Rattle.krl_server.proofs.Names.{serves, kind_of, ServerStep, IsSound, as_list, turn_here, HasTurned, IsServer, waiting_clients}
 use Rattle.krl_modes.specs.declared.mode.Mode.TheVariants as mode
-use Rattle.krl_modes.specs.Modes.{at_most, compatible}
-use Rattle.krl_messages.specs.declared.holding.Holding.{Holding}
-use Rattle.krl_messages.specs.declared.to_client.ToClient.{ToClient}
 use Rattle.krl_messages.specs.declared.to_client.PushBody.TheVariants as push
-use Rattle.krl_messages.specs.declared.to_server.ToServer.{ToServer}
-use Rattle.krl_messages.specs.Members.{In}
-use Rattle.krl_queue.specs.declared.waiter.Waiter.{Waiter}
-use Rattle.krl_table.proofs.Rows.RowChanges.{eq_cases}
-use Rattle.krl_durable.specs.Index.{Index, slots, slot_of}
 use Rattle.krl_table.specs.declared.reply.Reply.TheVariants as reply
-use Rattle.krl_table.specs.Rows.{Row, Rows, front_of, all_below, most_clients}
-use Rattle.krl_table.specs.Calls.{enqueued, queue_with, with_queue, wanted}
-use Rattle.krl_table.specs.Grants.{granted, taken, nobody_waits, is_granted_at_once}
-use Rattle.krl_table.specs.Kept.{Kept, rows_of}
-use Rattle.krl_table.specs.Replies.{asks_absent, is_wanted_compatible, first_reply}
-use Rattle.krl_table.specs.Sound.{IsTable}
-use Rattle.krl_table.specs.Waiters.{WaitsNowhere}
-use Rattle.krl_server.specs.declared.session.Session.{Session}
-use Rattle.krl_server.specs.declared.state.State.{State}
-use Rattle.krl_server.specs.Servers.{Server, set_session, is_recovering}
-use Rattle.krl_server.specs.StateMeaning.{sessions_of, meaning, meant}
 use Rattle.krl_server.specs.declared.case.Case.{Case as Found}
 use Rattle.krl_server.specs.declared.case.Case.TheVariants as found
-use Rattle.krl_server.specs.Cases.{Waits, case_of}
-use Rattle.krl_server.specs.Effects.{with_rows, acknowledged, queues, holdings, pushes, effect}
-use Rattle.krl_server.specs.Answering.{can_push, next_turn, answer_first, grants, Answered, stops, goes_on}
-use Rattle.krl_server.specs.Callbacks.{callbacks}
-use Rattle.krl_server.specs.Steps.{Acts, Ends, serves, kind_of, ServerStep}
-use Rattle.krl_server.specs.Soundness.{IsSound}
-use Rattle.krl_server.specs.Outboxes.{as_list}
-use Rattle.krl_server.specs.CodeSteps.{turn_here, HasTurned, IsServer, waiting_clients}
 use Rattle.krl_server.proofs.Updates.{row_here, row_other, session_here, session_other}
 use Rattle.krl_server.proofs.Functions.StateChanges.{sessions_set, set_twice}
 use Rattle.krl_server.proofs.Grants.{slot_always}

@@ -1,7 +1,5 @@
 -- What is sent, one after another.
-use Rattle.std.proofs.Common.{◌≡◌, ◌+◌, List, ◌++◌, length, ap, ◌∙◌, append_assoc, arith, length-append}
-use Rattle.krl_messages.specs.declared.to_client.ToClient.{ToClient}
-use Rattle.krl_server.specs.Outboxes.{Sent, Sends}
+use Rattle.krl_server.proofs.Names.{◌≡◌, ◌+◌, List, ◌++◌, length, ap, ◌∙◌, append_assoc, arith, length-append, ToClient, Sent, Sends}
 
 pub sends_more : (a b c : Sent) (xs ys : List ToClient) → Sends a b xs → Sends b c ys → Sends a c (xs ++ ys)
 sends_more a b c xs ys h k = record {

@@ -1,23 +1,8 @@
 -- The callbacks, as the code makes them.
-use Rattle.std.proofs.Common.{◌≡◌, ◌||◌, nat_eq, ℕ, zero, suc, ◌+◌, ◌≤◌, ◌<◌, Bool, true, false, Some, None, List, [], ◌∷◌, ◌++◌, length, inl, inr, refl, sym, ap, subst, ◌∙◌, append_assoc, arith, length-append}
-use Rattle.std.proofs.lemmas.List.{append-nil}
-use Rattle.std.specs.Prelude.{if◌then◌else◌}
-use Rattle.krl_modes.specs.declared.mode.Mode.{Mode}
-use Rattle.krl_modes.specs.Spans.{Bounds}
-use Rattle.krl_modes.specs.Modes.{compatible, cap}
-use Rattle.krl_modes.specs.declared.point.TheConstants.{END}
-use Rattle.krl_messages.specs.declared.to_client.ToClient.{ToClient}
-use Rattle.krl_messages.specs.Members.{In}
-use Rattle.krl_queue.specs.declared.waiter.Waiter.{Waiter}
-use Rattle.krl_durable.specs.Index.{is_slot, slots, span_of}
-use Rattle.krl_table.specs.Rows.{front_of, most_clients, mode_at}
-use Rattle.krl_table.specs.Calls.{wanted}
-use Rattle.krl_table.specs.Replies.{asks_absent}
-use Rattle.krl_server.specs.Servers.{Server}
-use Rattle.krl_server.specs.Effects.{callback_to}
-use Rattle.krl_server.specs.Callbacks.{is_compatible, callbacks_from, callbacks_for, callbacks_at, callbacks_among, callbacks}
-use Rattle.krl_server.specs.Outboxes.{Sent, Sends}
-use Rattle.krl_server.specs.CodeSteps.{callback_if}
+use Rattle.krl_server.proofs.Names.{◌≡◌, ◌||◌, nat_eq, ℕ, zero, suc, ◌+◌, ◌≤◌, ◌<◌, Bool, true, false, Some, None, List, [], ◌∷◌, ◌++◌, length, inl, inr, refl, sym, ap, subst, ◌∙◌, append_assoc}
+use Rattle.krl_server.proofs.Names.{arith, length-append, append-nil, if◌then◌else◌, Mode, Bounds, compatible, cap, END, ToClient, In, Waiter, is_slot, slots, span_of, front_of, most_clients}
+use Rattle.krl_server.proofs.Names.{mode_at, wanted, asks_absent, Server, callback_to, is_compatible, callbacks_from, callbacks_for, callbacks_at, callbacks_among, callbacks, Sent, Sends}
+use Rattle.krl_server.proofs.Names.{callback_if}
 use Rattle.std.specs.FinMap as fin
 use Rattle.krl_server.proofs.Invariant.Tabled.{slots_have}
 use Rattle.krl_server.proofs.Functions.Boxes.{sends_more, sends_length}

@@ -1,21 +1,11 @@
 -- What a write that is Applied asks of the table, and what it leaves over the index.
-use Rattle.std.proofs.Common.{◌≡◌, ℕ, suc, ◌≤◌, ◌<◌, Bool, true, false, ◌||◌, Option, Some, None, refl, sym, ap, subst, ◌∙◌, arith, nat_eq, ltb-true}
+use Rattle.krl_server.proofs.Names.{◌≡◌, ℕ, suc, ◌≤◌, ◌<◌, Bool, true, false, ◌||◌, Option, Some, None, refl, sym, ap, subst, ◌∙◌, arith, nat_eq, ltb-true, END, Value, WriteOp, Outcome, eq_cases}
+use Rattle.krl_server.proofs.Names.{Index, slot_of, is_slot, IsSlotOf, op_key, held, judge, judged_insert, index_after, most_entries, column, Kept, rows_of, IsOver, MayInsert, MayDelete}
 use Rattle.std.specs.Prelude.{is_some, not, nat_lt, length}
 use Rattle.std.specs.FinMap as map
-use Rattle.krl_modes.specs.declared.point.TheConstants.{END}
-use Rattle.krl_messages.specs.Values.{Value}
-use Rattle.krl_messages.specs.declared.write_op.WriteOp.{WriteOp}
 use Rattle.krl_messages.specs.declared.write_op.WriteOp.TheVariants as write
-use Rattle.krl_messages.specs.declared.outcome.Outcome.{Outcome}
 use Rattle.krl_messages.specs.declared.outcome.Outcome.TheVariants as outcome
-use Rattle.krl_table.proofs.Rows.RowChanges.{eq_cases}
-use Rattle.krl_durable.specs.Index.{Index, slot_of, is_slot, IsSlotOf}
-use Rattle.krl_messages.specs.Writes.{op_key}
-use Rattle.krl_durable.specs.Writes.{held, judge, judged_insert, index_after, most_entries}
-use Rattle.krl_table.specs.Rows.{column}
-use Rattle.krl_table.specs.Kept.{Kept, rows_of, IsOver}
 use Rattle.krl_table.proofs.Rows.Slots.{slot_is, next_of}
-use Rattle.krl_table.specs.Points.{MayInsert, MayDelete}
 use Rattle.krl_server.proofs.Updates.{get_here, get_other}
 use Rattle.krl_server.proofs.Invariant.WritesSound.{insert_may, change_may}
 

@@ -1,30 +1,11 @@
 -- What holds of the message in the case that was found, and what performing it comes to.
-use Rattle.std.proofs.Common.{◌≡◌, ℕ, ◌≤◌, ◌<◌, Bool, true, false, not, ◌||◌, nat_eq, ltb-false, Option, Some, None, List, refl, sym, ap, subst, ◌∙◌, arith}
-use Rattle.std.proofs.lemmas.Bool.{eqb-false, or_parts}
-use Rattle.std.specs.Prelude.{nat_lt, is_some, IsSome, IsSomeAnd, if◌then◌else◌}
-use Rattle.krl_modes.specs.declared.point.TheConstants.{END}
-use Rattle.krl_messages.specs.declared.to_client.ToClient.{ToClient}
-use Rattle.krl_messages.specs.declared.to_server.ToServer.{ToServer}
+use Rattle.krl_server.proofs.Names.{◌≡◌, ℕ, ◌≤◌, ◌<◌, Bool, true, false, not, ◌||◌, nat_eq, ltb-false, Option, Some, None, List, refl, sym, ap, subst, ◌∙◌, arith, eqb-false, or_parts, nat_lt}
+use Rattle.krl_server.proofs.Names.{is_some, IsSome, IsSomeAnd, if◌then◌else◌, END, ToClient, ToServer, Pieces, WriteOp, Outcome, op_key, Record, Index, slots, is_slot, IsIncarnation, record_of}
+use Rattle.krl_server.proofs.Names.{first_of, Rows, most_clients, waits, conflicts, IsTable, Server, Case, Ignored, Registers, Leaves, Tells, Alarms, Rebuilds, Repeats, Acknowledges, Lowers, Waits}
+use Rattle.krl_server.proofs.Names.{Judges, AnswersAgain, is_malformed, case_of_record, case_of, acknowledged, writes, answers, effect, meant, case_of_pieces, WaitsNowhere, IsPerformed}
 use Rattle.krl_messages.specs.declared.to_server.ToServerBody.TheVariants as said
-use Rattle.krl_messages.specs.declared.pieces.Pieces.{Pieces}
-use Rattle.krl_messages.specs.declared.write_op.WriteOp.{WriteOp}
-use Rattle.krl_messages.specs.declared.outcome.Outcome.{Outcome}
-use Rattle.krl_messages.specs.Writes.{op_key}
-use Rattle.krl_durable.specs.declared.record.Record.{Record}
-use Rattle.krl_durable.specs.Index.{Index, slots, is_slot}
-use Rattle.krl_durable.specs.Registers.{IsIncarnation, record_of}
-use Rattle.krl_queue.specs.Waiting.{first_of}
-use Rattle.krl_table.specs.Rows.{Rows, most_clients, waits}
-use Rattle.krl_table.specs.Reports.{conflicts}
-use Rattle.krl_table.specs.Sound.{IsTable}
 use Rattle.krl_server.specs.declared.case.Case.{Case as Found}
 use Rattle.krl_server.specs.declared.case.After.TheVariants as after
-use Rattle.krl_server.specs.Servers.{Server}
-use Rattle.krl_server.specs.Cases.{Case, Ignored, Registers, Leaves, Tells, Alarms, Rebuilds, Repeats, Acknowledges, Lowers, Waits, Judges, AnswersAgain, is_malformed, case_of_record, case_of}
-use Rattle.krl_server.specs.Effects.{acknowledged, writes, answers, effect}
-use Rattle.krl_server.specs.StateMeaning.{meant, case_of_pieces}
-use Rattle.krl_table.specs.Waiters.{WaitsNowhere}
-use Rattle.krl_server.specs.CodeSteps.{IsPerformed}
 use Rattle.krl_server.proofs.Tests.{if_case}
 use Rattle.krl_server.proofs.Cased.{by_said}
 use Rattle.krl_server.proofs.Outputs.Numbers.{sixty_four}

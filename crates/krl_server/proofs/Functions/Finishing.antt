@@ -1,15 +1,8 @@
 -- What is left to be done after a case.
-use Rattle.std.proofs.Common.{◌≡◌, ◌+◌, ◌≤◌, Bool, true, false, [], ◌++◌, length, sym, ap, subst, ◌∙◌, arith}
-use Rattle.std.proofs.lemmas.List.{append-nil}
-use Rattle.std.specs.Prelude.{if◌then◌else◌}
+use Rattle.krl_server.proofs.Names.{◌≡◌, ◌+◌, ◌≤◌, Bool, true, false, [], ◌++◌, length, sym, ap, subst, ◌∙◌, arith, append-nil, if◌then◌else◌, Server, is_recovering, callbacks, Acts, IsSound, Sent}
+use Rattle.krl_server.proofs.Names.{Sends, HasAnswered, calls_after, rests, still_recovering, served, HasFinished, HasRoom}
 use Rattle.krl_server.specs.declared.case.After.{After}
 use Rattle.krl_server.specs.Afters.{does_answer, does_call}
-use Rattle.krl_server.specs.Servers.{Server, is_recovering}
-use Rattle.krl_server.specs.Callbacks.{callbacks}
-use Rattle.krl_server.specs.Steps.{Acts}
-use Rattle.krl_server.specs.Soundness.{IsSound}
-use Rattle.krl_server.specs.Outboxes.{Sent, Sends}
-use Rattle.krl_server.specs.CodeSteps.{HasAnswered, calls_after, rests, still_recovering, served, HasFinished, HasRoom}
 use Rattle.krl_server.proofs.Functions.Boxes.{sends_more, sends_length}
 use Rattle.krl_server.proofs.Functions.CallbackLoop.{same_box}
 use Rattle.krl_server.proofs.Outputs.Ends.{answered_less}

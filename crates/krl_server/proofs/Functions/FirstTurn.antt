@@ -1,24 +1,11 @@
 -- The turn of a slot's first waiter, as the code takes it.
-use Rattle.std.proofs.Common.{◌≡◌, ℕ, suc, ◌<◌, Bool, true, false, not, ◌&&◌, ◌||◌, Option, Some, None, List, [], ◌∷◌, refl, sym, ap, subst, ◌∙◌}
+use Rattle.krl_server.proofs.Names.{◌≡◌, ℕ, suc, ◌<◌, Bool, true, false, not, ◌&&◌, ◌||◌, Option, Some, None, List, [], ◌∷◌, refl, sym, ap, subst, ◌∙◌, nat_lt, is_some, IfSome, if◌then◌else◌, END}
+use Rattle.krl_server.proofs.Names.{ToClient, In, Waiter, Index, Rows, front_of, dropped, behind_first, taken, granted, asks_absent, is_wanted_compatible, reply_to, first_reply, answerable, Server}
+use Rattle.krl_server.proofs.Names.{with_rows, holdings, push_to, Turn, can_push, is_answerable, turn_at, tells_absent, grants, as_list, turn_here, HasTurned}
 use Rattle.std.proofs.lemmas.Bool.{ltb-true, and_parts}
-use Rattle.std.specs.Prelude.{nat_lt, is_some, IfSome, if◌then◌else◌}
-use Rattle.krl_modes.specs.declared.point.TheConstants.{END}
-use Rattle.krl_messages.specs.declared.to_client.ToClient.{ToClient}
 use Rattle.krl_messages.specs.declared.to_client.PushBody.TheVariants as push
-use Rattle.krl_messages.specs.Members.{In}
-use Rattle.krl_queue.specs.declared.waiter.Waiter.{Waiter}
-use Rattle.krl_durable.specs.Index.{Index}
 use Rattle.krl_table.specs.declared.reply.Reply.{Reply}
 use Rattle.krl_table.specs.declared.reply.Reply.TheVariants as reply
-use Rattle.krl_table.specs.Rows.{Rows, front_of}
-use Rattle.krl_table.specs.Calls.{dropped, behind_first}
-use Rattle.krl_table.specs.Grants.{taken, granted}
-use Rattle.krl_table.specs.Replies.{asks_absent, is_wanted_compatible, reply_to, first_reply, answerable}
-use Rattle.krl_server.specs.Servers.{Server}
-use Rattle.krl_server.specs.Effects.{with_rows, holdings, push_to}
-use Rattle.krl_server.specs.Answering.{Turn, can_push, is_answerable, turn_at, tells_absent, grants}
-use Rattle.krl_server.specs.Outboxes.{as_list}
-use Rattle.krl_server.specs.CodeSteps.{turn_here, HasTurned}
 use Rattle.krl_server.proofs.Functions.StateChanges.{pushes_next}
 
 -- the first of a list

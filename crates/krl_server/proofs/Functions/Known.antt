@@ -1,16 +1,8 @@
 -- What survives is within its bounds, by what its type says.
-use Rattle.std.proofs.Common.{◌≡◌, ℕ, ◌<◌, true, false, [], ◌∷◌, Some, inl, inr, sym, ap, subst, ◌∙◌, nat_eq, ltb-true}
-use Rattle.std.proofs.lemmas.Bool.{eqb-false}
+use Rattle.krl_server.proofs.Names.{◌≡◌, ℕ, ◌<◌, true, false, [], ◌∷◌, Some, inl, inr, sym, ap, subst, ◌∙◌, nat_eq, ltb-true, eqb-false, nat_lt, AllByRecursion, IsDistinct, In, Record, Register}
+use Rattle.krl_server.proofs.Names.{Durable, record_of, IsKept, most_clients, AreApart, clients_of, IsDurableWithin}
 use Rattle.std.proofs.lemmas.Map.Keys.{IsDistinct-head, IsDistinct-tail}
-use Rattle.std.specs.Prelude.{nat_lt}
-use Rattle.std.specs.List.{AllByRecursion, IsDistinct}
 use Rattle.std.specs.Map.{keys_of}
-use Rattle.krl_messages.specs.Members.{In}
-use Rattle.krl_durable.specs.declared.record.Record.{Record}
-use Rattle.krl_durable.specs.Registers.{Register, Durable, record_of}
-use Rattle.krl_durable.specs.Kept.{IsKept}
-use Rattle.krl_table.specs.Rows.{most_clients}
-use Rattle.krl_server.specs.Ranges.{AreApart, clients_of, IsDurableWithin}
 use Rattle.krl_server.proofs.Outputs.Numbers.{sixty_four}
 use Rattle.krl_server.proofs.Invariant.Within.{known_in}
 

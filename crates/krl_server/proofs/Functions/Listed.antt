@@ -1,16 +1,6 @@
 -- A list of the slots at which somebody waits, while they are answered.
-use Rattle.std.proofs.Common.{◌≡◌, ℕ, suc, ◌+◌, true, List, [], ◌∷◌, Some, None, drop, sym, ap, subst, ◌∙◌, arith}
-use Rattle.std.specs.List.{AllByRecursion}
-use Rattle.krl_durable.specs.Index.{is_slot}
-use Rattle.krl_table.specs.Waiters.{AreWaiting}
-use Rattle.krl_server.specs.declared.state.State.{State}
-use Rattle.krl_server.specs.StateMeaning.{meaning}
-use Rattle.krl_server.specs.Servers.{Server}
-use Rattle.krl_server.specs.Answering.{Turn, next_turn, answer_first}
-use Rattle.krl_server.specs.Soundness.{IsSound}
-use Rattle.krl_table.specs.Sound.{IsTable}
-use Rattle.krl_messages.specs.declared.to_client.ToClient.{ToClient}
-use Rattle.krl_server.specs.CodeSteps.{HasTurned, HaveWaiters}
+use Rattle.krl_server.proofs.Names.{◌≡◌, ℕ, suc, ◌+◌, true, List, [], ◌∷◌, Some, None, drop, sym, ap, subst, ◌∙◌, arith, AllByRecursion, is_slot, AreWaiting, State, meaning, Server, Turn, next_turn}
+use Rattle.krl_server.proofs.Names.{answer_first, IsSound, IsTable, ToClient, HasTurned, HaveWaiters}
 use Rattle.krl_server.proofs.Outputs.Ends.{turn_durable, turn_empties}
 use Rattle.krl_server.proofs.Functions.Rounds.{NoneBelow, IsRound, round, none_at_all}
 

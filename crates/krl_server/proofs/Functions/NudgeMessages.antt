@@ -1,29 +1,11 @@
 -- The callbacks of a nudge.
 use Rattle.std.proofs.Common.{◌≡◌, ◌≢◌, ℕ, ◌≤◌, ◌<◌, Bool, true, false, Option, Some, None, List, [], ◌∷◌, ◌++◌, length, inl, inr, refl, sym, ap, subst, ◌∙◌, arith, find, nat_eq, eq-eqb, eqb-true}
-use Rattle.std.proofs.lemmas.List.{append-nil}
+use Rattle.krl_server.proofs.Names.{append-nil, AllByRecursion, END, ToClient, In, Waiter, first_of, Index, slot_of, slots, Rows, front_of, waiter_at, waiter_of, IsPlaced, IsTable, Server}
+use Rattle.krl_server.proofs.Names.{is_recovering, callbacks_for, callbacks_of, callbacks_of_among, AreApart, WaitsNowhere, none-some, Record, Register, record_of, nudge, nudge_known, nudge_missing}
+use Rattle.krl_server.proofs.Names.{nudge_served, IsSound, most_messages, is_registered, calls_at_first}
 use Rattle.std.specs.Prelude.{is_some, if◌then◌else◌, nat_lt, not, Result, Ok, Err, IfOk}
-use Rattle.std.specs.List.{AllByRecursion}
 use Rattle.std.specs.FinMap as fin
-use Rattle.krl_modes.specs.declared.point.TheConstants.{END}
-use Rattle.krl_messages.specs.declared.to_client.ToClient.{ToClient}
-use Rattle.krl_messages.specs.Members.{In}
-use Rattle.krl_queue.specs.declared.waiter.Waiter.{Waiter}
-use Rattle.krl_queue.specs.Waiting.{first_of}
-use Rattle.krl_durable.specs.Index.{Index, slot_of, slots}
-use Rattle.krl_table.specs.Rows.{Rows, front_of, waiter_at, waiter_of}
-use Rattle.krl_table.specs.Sound.{IsPlaced, IsTable}
-use Rattle.krl_server.specs.Servers.{Server, is_recovering}
-use Rattle.krl_server.specs.Callbacks.{callbacks_for, callbacks_of, callbacks_of_among}
-use Rattle.krl_server.specs.Ranges.{AreApart}
-use Rattle.krl_table.specs.Waiters.{WaitsNowhere}
 use Rattle.std.proofs.lemmas.Bool.{ltb-true}
-use Rattle.std.proofs.lemmas.Option.{none-some}
-use Rattle.krl_durable.specs.declared.record.Record.{Record}
-use Rattle.krl_durable.specs.Registers.{Register, record_of}
-use Rattle.krl_server.specs.Steps.{nudge, nudge_known, nudge_missing, nudge_served}
-use Rattle.krl_server.specs.Soundness.{IsSound}
-use Rattle.krl_server.specs.Termination.{most_messages}
-use Rattle.krl_server.specs.CodeSteps.{is_registered, calls_at_first}
 use Rattle.krl_server.proofs.Outputs.Numbers.{nudge_few}
 use Rattle.krl_server.proofs.Outputs.Counted.{slots_apart}
 use Rattle.krl_server.proofs.Functions.FirstTurn.{front_is, front_none}

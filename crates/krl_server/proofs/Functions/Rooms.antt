@@ -1,22 +1,7 @@
 -- There is room for all that a step sends.
-use Rattle.std.proofs.Common.{◌≡◌, ℕ, zero, suc, ◌+◌, ◌≤◌, ◌<◌, Bool, true, false, ◌||◌, Option, Some, None, List, [], ◌∷◌, ◌⊎◌, inl, inr, refl, sym, ap, subst, ◌∙◌, ⊎_elim, arith, nat_eq, eqb-true}
-use Rattle.std.proofs.lemmas.Bool.{eqb-false}
-use Rattle.std.specs.Prelude.{is_some, if◌then◌else◌}
-use Rattle.std.specs.List.{list_any}
-use Rattle.krl_messages.specs.declared.to_server.ToServer.{ToServer}
-use Rattle.krl_messages.specs.Members.{In}
-use Rattle.krl_queue.specs.declared.waiter.Waiter.{Waiter}
-use Rattle.krl_queue.specs.Waiting.{first_of}
-use Rattle.krl_table.proofs.Rows.RowChanges.{eq_cases}
-use Rattle.krl_durable.specs.Index.{Index, slots, is_slot}
-use Rattle.krl_table.specs.Rows.{Rows, most_clients, waits}
-use Rattle.krl_table.specs.Sound.{IsTable}
-use Rattle.krl_server.specs.Servers.{Server}
-use Rattle.krl_server.specs.Cases.{Case}
-use Rattle.krl_server.specs.Effects.{effect}
-use Rattle.krl_server.specs.Soundness.{IsSound}
-use Rattle.krl_server.specs.Termination.{waiting}
-use Rattle.krl_server.specs.CodeSteps.{count_below, waiting_clients}
+use Rattle.krl_server.proofs.Names.{◌≡◌, ℕ, zero, suc, ◌+◌, ◌≤◌, ◌<◌, Bool, true, false, ◌||◌, Option, Some, None, List, [], ◌∷◌, ◌⊎◌, inl, inr, refl, sym, ap, subst, ◌∙◌, ⊎_elim, arith, nat_eq}
+use Rattle.krl_server.proofs.Names.{eqb-true, eqb-false, is_some, if◌then◌else◌, list_any, ToServer, In, Waiter, first_of, eq_cases, Index, slots, is_slot, Rows, most_clients, waits, IsTable, Server}
+use Rattle.krl_server.proofs.Names.{Case, effect, IsSound, waiting, count_below, waiting_clients}
 use Rattle.krl_server.proofs.Invariant.Tabled.{slots_have}
 use Rattle.krl_server.proofs.Tests.{not_truth}
 use Rattle.krl_server.proofs.Outputs.Counted.{sum_below, slots_are, none_on, not_found, once_on, clients_of, slots_apart, times_on}

@@ -1,34 +1,12 @@
 -- One walk upward over the slots answers all who can be answered.
-use Rattle.std.proofs.Common.{◌≡◌, ◌≢◌, ℕ, suc, ◌≤◌, ◌<◌, Bool, true, false, not, ◌&&◌, ◌||◌, Option, Some, None, List, [], ◌∷◌, ◌++◌, map, inl, inr, refl, sym, ap, subst, ◌∙◌, ⊎_elim, append_assoc, arith, nat_eq}
-use Rattle.std.proofs.lemmas.Bool.{cases_lt}
-use Rattle.std.proofs.lemmas.List.{append-nil}
-use Rattle.std.proofs.lemmas.Option.{none-some, same_Some}
-use Rattle.std.specs.Prelude.{nat_lt, is_some, if◌then◌else◌}
-use Rattle.std.specs.List.{AllByRecursion}
+use Rattle.krl_server.proofs.Names.{◌≡◌, ◌≢◌, ℕ, suc, ◌≤◌, ◌<◌, Bool, true, false, not, ◌&&◌, ◌||◌, Option, Some, None, List, [], ◌∷◌, ◌++◌, map, inl, inr, refl, sym, ap, subst, ◌∙◌, ⊎_elim}
+use Rattle.krl_server.proofs.Names.{append_assoc, arith, nat_eq, cases_lt, append-nil, none-some, same_Some, nat_lt, is_some, if◌then◌else◌, AllByRecursion, END, Value, ToClient, PushBody, In}
+use Rattle.krl_server.proofs.Names.{Waiter, eq_cases, Index, slots, is_slot, Row, all_below, most_clients, wanted, with_queue, behind_first, dropped, taken, granted, asks_absent}
+use Rattle.krl_server.proofs.Names.{is_wanted_compatible, IsTable, Session, Server, set_session, Done, with_session, with_rows, push_to, pushes, silent, holdings, Turn, can_push, is_answerable}
+use Rattle.krl_server.proofs.Names.{turn_at, turn_among, next_turn, tells_absent, grants, answer_first, Answered, goes_on, stops, waiting, IsSound, turn_here, HasTurned, Rises, from_above}
+use Rattle.krl_server.proofs.Names.{keys_of_map_rise}
 use Rattle.std.specs.FinMap as fin
-use Rattle.krl_modes.specs.declared.point.TheConstants.{END}
-use Rattle.krl_messages.specs.Values.{Value}
-use Rattle.krl_messages.specs.declared.to_client.ToClient.{ToClient}
-use Rattle.krl_messages.specs.declared.to_client.PushBody.{PushBody}
 use Rattle.krl_messages.specs.declared.to_client.PushBody.TheVariants as push
-use Rattle.krl_messages.specs.Members.{In}
-use Rattle.krl_queue.specs.declared.waiter.Waiter.{Waiter}
-use Rattle.krl_table.proofs.Rows.RowChanges.{eq_cases}
-use Rattle.krl_durable.specs.Index.{Index, slots, is_slot}
-use Rattle.krl_table.specs.Rows.{Row, all_below, most_clients}
-use Rattle.krl_table.specs.Calls.{wanted, with_queue, behind_first, dropped}
-use Rattle.krl_table.specs.Grants.{taken, granted}
-use Rattle.krl_table.specs.Replies.{asks_absent, is_wanted_compatible}
-use Rattle.krl_table.specs.Sound.{IsTable}
-use Rattle.krl_server.specs.declared.session.Session.{Session}
-use Rattle.krl_server.specs.Servers.{Server, set_session}
-use Rattle.krl_server.specs.Effects.{Done, with_session, with_rows, push_to, pushes, silent, holdings}
-use Rattle.krl_server.specs.Answering.{Turn, can_push, is_answerable, turn_at, turn_among, next_turn, tells_absent, grants, answer_first, Answered, goes_on, stops}
-use Rattle.krl_server.specs.Termination.{waiting}
-use Rattle.krl_server.specs.Soundness.{IsSound}
-use Rattle.krl_server.specs.CodeSteps.{turn_here, HasTurned}
-use Rattle.krl_durable.proofs.Slots.{Rises}
-use Rattle.krl_durable.proofs.SlotLaws.{from_above, keys_of_map_rise}
 use Rattle.krl_server.proofs.Updates.{row_other, session_here, session_other}
 use Rattle.krl_server.proofs.Tests.{if_both}
 use Rattle.krl_server.proofs.Outputs.Counted.{above_all, keys_under}

@@ -1,31 +1,11 @@
 -- Each push that a step sends is the last one to its client, and not acknowledged yet.
-use Rattle.std.proofs.Common.{◌≡◌, ◌≢◌, ℕ, suc, not, ◌||◌, Some, None, List, [], ◌∷◌, ◌++◌, inl, inr, refl, sym, ap, subst, ◌∙◌, ⊎_elim, append_assoc}
-use Rattle.std.proofs.lemmas.List.{append-nil}
-use Rattle.std.proofs.lemmas.Bool.{and_parts}
-use Rattle.std.proofs.lemmas.Option.{none-some}
-use Rattle.std.specs.Prelude.{nat_lt, is_some}
-use Rattle.krl_modes.specs.declared.point.TheConstants.{END}
-use Rattle.krl_messages.specs.declared.to_server.ToServer.{ToServer}
-use Rattle.krl_messages.specs.declared.to_client.ToClient.{ToClient}
+use Rattle.krl_server.proofs.Names.{◌≡◌, ◌≢◌, ℕ, suc, not, ◌||◌, Some, None, List, [], ◌∷◌, ◌++◌, inl, inr, refl, sym, ap, subst, ◌∙◌, ⊎_elim, append_assoc, append-nil, and_parts, none-some, nat_lt}
+use Rattle.krl_server.proofs.Names.{is_some, END, ToServer, ToClient, PushBody, op_key, In, in_both, slot_of, dropped, granted, asks_absent, is_wanted_compatible, Session, Server, case_of, Done}
+use Rattle.krl_server.proofs.Names.{holding, acknowledged, pushes, effect, callbacks, can_push, Turn, next_turn, answer_first, tells_absent, grants, Answered, stops, goes_on, Kind, Idle, Quiet, Acts}
+use Rattle.krl_server.proofs.Names.{kind_of, calls_of, Ends, at_once, recovers, serves, ServerStep, PushesStand}
 use Rattle.krl_messages.specs.declared.to_client.ToClientBody.TheVariants as told
-use Rattle.krl_messages.specs.declared.to_client.PushBody.{PushBody}
 use Rattle.krl_messages.specs.declared.to_client.PushBody.TheVariants as push
-use Rattle.krl_messages.specs.Writes.{op_key}
-use Rattle.krl_messages.specs.Members.{In}
-use Rattle.krl_messages.proofs.Members.{in_both}
-use Rattle.krl_durable.specs.Index.{slot_of}
-use Rattle.krl_table.specs.Calls.{dropped}
-use Rattle.krl_table.specs.Grants.{granted}
-use Rattle.krl_table.specs.Replies.{asks_absent, is_wanted_compatible}
-use Rattle.krl_server.specs.declared.session.Session.{Session}
-use Rattle.krl_server.specs.Servers.{Server}
-use Rattle.krl_server.specs.Cases.{case_of}
 use Rattle.krl_server.specs.Effects as effects
-use Rattle.krl_server.specs.Effects.{Done, holding, acknowledged, pushes, effect}
-use Rattle.krl_server.specs.Callbacks.{callbacks}
-use Rattle.krl_server.specs.Answering.{can_push, Turn, next_turn, answer_first, tells_absent, grants, Answered, stops, goes_on}
-use Rattle.krl_server.specs.Steps.{Kind, Idle, Quiet, Acts, kind_of, calls_of, Ends, at_once, recovers, serves, ServerStep}
-use Rattle.krl_server.specs.Outputs.{PushesStand}
 use Rattle.krl_server.proofs.Tests.{if_both, none_of}
 use Rattle.krl_server.proofs.Updates.{session_here, session_other}
 use Rattle.krl_server.proofs.Turns.{turn_is}

@@ -1,28 +1,9 @@
 -- A server that starts, and one that has taken a step.
-use Rattle.std.proofs.Math.ListN.{replicate}
-use Rattle.krl_server.specs.declared.session.Session.{Session}
-use Rattle.std.proofs.Common.{◌≡◌, ℕ, zero, suc, ◌≤◌, ◌<◌, List, length, refl, sym, ap, subst, ◌∙◌}
-use Rattle.std.proofs.Math.Path.{fun_ext}
-use Rattle.std.proofs.lemmas.Bool.{lt-ltb}
-use Rattle.krl_modes.specs.declared.point.TheConstants.{END}
-use Rattle.krl_messages.specs.declared.to_server.ToServer.{ToServer}
-use Rattle.krl_messages.specs.declared.to_client.ToClient.{ToClient}
-use Rattle.krl_durable.specs.Registers.{Durable, missing_order}
-use Rattle.krl_durable.specs.Kept.{IsKept}
-use Rattle.krl_table.specs.Rows.{blank_row}
-use Rattle.krl_table.specs.Kept.{rows_of, IsOver}
-use Rattle.krl_server.specs.declared.state.State.{State}
-use Rattle.krl_server.specs.declared.out.ServerOut.{ServerOut}
-use Rattle.krl_server.specs.Servers.{Server, blank_session}
-use Rattle.krl_server.specs.StateMeaning.{meaning, sessions_of, IsFormed}
-use Rattle.krl_server.specs.Steps.{ServerStep, start, IsSettled}
-use Rattle.krl_server.specs.Soundness.{IsSound}
+use Rattle.krl_server.proofs.Names.{replicate, Session, ◌≡◌, ℕ, zero, suc, ◌≤◌, ◌<◌, List, length, refl, sym, ap, subst, ◌∙◌, fun_ext, lt-ltb, END, ToServer, ToClient, Durable, missing_order, IsKept}
+use Rattle.krl_server.proofs.Names.{blank_row, rows_of, IsOver, State, ServerOut, Server, blank_session, meaning, sessions_of, IsFormed, ServerStep, start, IsSettled, IsSound, Result, Ok, Err, IfOk}
+use Rattle.krl_server.proofs.Names.{OnOk, OnErr, most_messages, IsServer, IsStarted, HasStepped, IsWithin, AreRegistered}
 use Rattle.krl_server.specs.Invariant.{IsOrdered}
-use Rattle.std.specs.Prelude.{Result, Ok, Err, IfOk, OnOk, OnErr}
-use Rattle.krl_server.specs.Termination.{most_messages}
-use Rattle.krl_server.specs.CodeSteps.{IsServer, IsStarted, HasStepped}
 use Rattle.krl_server.proofs.Outputs.Numbers.{all_end}
-use Rattle.krl_server.specs.Ranges.{IsWithin, AreRegistered}
 use Rattle.krl_server.proofs.Invariant.Kept.{server_keeps}
 use Rattle.krl_server.proofs.Invariant.Within.{all_within}
 use Rattle.krl_server.proofs.Functions.Known.{durable_within}

@@ -1,21 +1,7 @@
 -- What a change of the state means.
 use Rattle.std.proofs.Common.{◌≡◌, ℕ, suc, ◌+◌, ◌≤◌, ◌<◌, Bool, true, false, Some, None, List, [], ◌∷◌, length, set, refl, sym, ap, subst, ◌∙◌, nat_eq, add-one}
-use Rattle.std.proofs.lemmas.Bool.{lt-ltb, le-ltb}
-use Rattle.std.proofs.Math.Path.{fun_ext}
-use Rattle.std.proofs.lemmas.List.{get_or-set_same, get_or-set_other}
-use Rattle.std.specs.Prelude.{if◌then◌else◌}
-use Rattle.krl_modes.specs.declared.point.TheConstants.{END}
-use Rattle.krl_messages.specs.declared.to_client.PushBody.{PushBody}
-use Rattle.krl_table.proofs.Rows.RowChanges.{eq_cases}
-use Rattle.krl_queue.specs.declared.waiter.Waiter.{Waiter}
-use Rattle.krl_table.specs.Rows.{Rows}
-use Rattle.krl_table.specs.Calls.{enqueued}
-use Rattle.krl_table.specs.Kept.{Kept, rows_of}
-use Rattle.krl_server.specs.declared.session.Session.{Session}
-use Rattle.krl_server.specs.Servers.{Server, blank_session, set_session}
-use Rattle.krl_server.specs.Effects.{Done, with_session, push_to, pushes, silent, acknowledged, queues}
-use Rattle.krl_server.specs.declared.state.State.{State}
-use Rattle.krl_server.specs.StateMeaning.{sessions_of, meaning}
+use Rattle.krl_server.proofs.Names.{lt-ltb, le-ltb, fun_ext, get_or-set_same, get_or-set_other, if◌then◌else◌, END, PushBody, eq_cases, Waiter, Rows, enqueued, Kept, rows_of, Session, Server}
+use Rattle.krl_server.proofs.Names.{blank_session, set_session, Done, with_session, push_to, pushes, silent, acknowledged, queues, State, sessions_of, meaning}
 use Rattle.krl_server.proofs.Updates.{session_here, session_other}
 
 -- another session for one client

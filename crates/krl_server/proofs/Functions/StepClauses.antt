@@ -1,36 +1,15 @@
 -- What a step says of its message: what survives it, whom it calls back, which write it answers.
-use Rattle.std.proofs.Common.{◌≡◌, ◌≢◌, ℕ, suc, ◌≤◌, ◌<◌, Bool, true, false, ◌↔◌, Some, None, List, [], ◌∷◌, ◌++◌, ◌⊎◌, inl, inr, refl, sym, ap, subst, ◌∙◌, ⊎_elim, eq-eqb}
-use Rattle.std.proofs.lemmas.Bool.{lt-ltb, le-ltb}
-use Rattle.std.proofs.lemmas.List.{append-nil}
-use Rattle.std.specs.Prelude.{nat_lt, IfSome, Result, Ok, Err, IfOk, OnErr}
-use Rattle.krl_modes.specs.declared.point.TheConstants.{END}
-use Rattle.krl_messages.specs.declared.holding.Holding.{Holding}
-use Rattle.krl_messages.specs.declared.outcome.Outcome.{Outcome}
-use Rattle.krl_messages.specs.declared.to_server.ToServer.{ToServer}
-use Rattle.krl_messages.specs.declared.to_client.ToClient.{ToClient}
+use Rattle.krl_server.proofs.Names.{◌≡◌, ◌≢◌, ℕ, suc, ◌≤◌, ◌<◌, Bool, true, false, ◌↔◌, Some, None, List, [], ◌∷◌, ◌++◌, ◌⊎◌, inl, inr, refl, sym, ap, subst, ◌∙◌, ⊎_elim, eq-eqb, lt-ltb, le-ltb}
+use Rattle.krl_server.proofs.Names.{append-nil, nat_lt, IfSome, Result, Ok, Err, IfOk, OnErr, END, Holding, Outcome, ToServer, ToClient, PushBody, op_key, In, in_both, in_right, slot_of, Durable}
+use Rattle.krl_server.proofs.Names.{record_of, dropped, taken, granted, asks_absent, State, ServerOut, Server, is_recovering, incarnation_or_0, meaning, Case, Ignored, Registers, Leaves, Tells}
+use Rattle.krl_server.proofs.Names.{Alarms, Rebuilds, Repeats, Acknowledges, Lowers, Waits, Judges, AnswersAgain, case_of, Done, holding, holdings, acknowledged, push_to, pushes, effect, Turn}
+use Rattle.krl_server.proofs.Names.{answer_first, tells_absent, grants, Answered, stops, goes_on, Kind, Idle, Quiet, Acts, kind_of, calls_of, Ends, at_once, recovers, serves, ServerStep}
+use Rattle.krl_server.proofs.Names.{changes_durable, is_new_write, may_change, may_change_durable, is_callback, IsCallback, HasCallbacks, is_answer, answered_write, IsAnswered, AnswersWrite}
+use Rattle.krl_server.proofs.Names.{HasStepped}
 use Rattle.krl_messages.specs.declared.to_client.ToClientBody.{ToClientBody}
 use Rattle.krl_messages.specs.declared.to_client.ToClientBody.TheVariants as told
-use Rattle.krl_messages.specs.declared.to_client.PushBody.{PushBody}
 use Rattle.krl_messages.specs.declared.to_client.PushBody.TheVariants as push
-use Rattle.krl_messages.specs.Writes.{op_key}
-use Rattle.krl_messages.specs.Members.{In}
-use Rattle.krl_messages.proofs.Members.{in_both, in_right}
-use Rattle.krl_durable.specs.Index.{slot_of}
-use Rattle.krl_durable.specs.Registers.{Durable, record_of}
-use Rattle.krl_table.specs.Calls.{dropped}
-use Rattle.krl_table.specs.Grants.{taken, granted}
-use Rattle.krl_table.specs.Replies.{asks_absent}
-use Rattle.krl_server.specs.declared.state.State.{State}
-use Rattle.krl_server.specs.declared.out.ServerOut.{ServerOut}
-use Rattle.krl_server.specs.Servers.{Server, is_recovering, incarnation_or_0}
-use Rattle.krl_server.specs.StateMeaning.{meaning}
-use Rattle.krl_server.specs.Cases.{Case, Ignored, Registers, Leaves, Tells, Alarms, Rebuilds, Repeats, Acknowledges, Lowers, Waits, Judges, AnswersAgain, case_of}
 use Rattle.krl_server.specs.Effects as effects
-use Rattle.krl_server.specs.Effects.{Done, holding, holdings, acknowledged, push_to, pushes, effect}
-use Rattle.krl_server.specs.Answering.{Turn, answer_first, tells_absent, grants, Answered, stops, goes_on}
-use Rattle.krl_server.specs.Steps.{Kind, Idle, Quiet, Acts, kind_of, calls_of, Ends, at_once, recovers, serves, ServerStep}
-use Rattle.krl_server.specs.Outputs.{changes_durable, is_new_write, may_change, may_change_durable, is_callback, IsCallback, HasCallbacks, is_answer, answered_write, IsAnswered, AnswersWrite}
-use Rattle.krl_server.specs.CodeSteps.{HasStepped}
 use Rattle.krl_server.proofs.Tests.{if_both, not_truth}
 use Rattle.krl_server.proofs.Updates.{session_here}
 use Rattle.krl_server.proofs.Invariant.AnswersSound.{answered_up}

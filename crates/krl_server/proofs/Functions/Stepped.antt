@@ -1,26 +1,15 @@
 -- A step: there is room for it, and it ends as it should.
 use Rattle.std.proofs.Common.{◌≡◌, ◌≢◌, ℕ, suc, ◌+◌, ◌*◌, ◌≤◌, Bool, true, false, Some, None, List, [], ◌++◌, length, refl, sym, ap, subst, ◌∙◌, arith}
-use Rattle.std.proofs.lemmas.List.{append-nil}
-use Rattle.std.specs.Prelude.{if◌then◌else◌}
-use Rattle.krl_messages.specs.declared.to_client.ToClient.{ToClient}
-use Rattle.krl_messages.specs.declared.to_server.ToServer.{ToServer}
+use Rattle.krl_server.proofs.Names.{append-nil, if◌then◌else◌, ToClient, ToServer, conflicts, IsTable, Server, Case, Ignored, Registers, Leaves, Tells, Alarms, Rebuilds, Repeats, Acknowledges}
+use Rattle.krl_server.proofs.Names.{Lowers, Waits, Judges, AnswersAgain, case_of, is_alarm, judged, Done, effect, acknowledged, writes, Kind, Idle, Quiet, Acts, kind_of, calls_of, Ends, at_once}
+use Rattle.krl_server.proofs.Names.{recovers, serves, meant, case_of_pieces, after_of, waiting, IsSound, Sent, Sends, own_of, room_for, waiting_clients, calls_after, Finished, rests}
+use Rattle.krl_server.proofs.Names.{still_recovering, served, HasRoom, alarm_of}
 use Rattle.krl_messages.specs.declared.to_server.ToServerBody.{ToServerBody}
 use Rattle.krl_messages.specs.declared.to_server.ToServerBody.TheVariants as said
-use Rattle.krl_table.specs.Reports.{conflicts}
-use Rattle.krl_table.specs.Sound.{IsTable}
 use Rattle.krl_server.specs.declared.case.Case.{Case as Found}
 use Rattle.krl_server.specs.declared.case.Case.TheVariants as found
 use Rattle.krl_server.specs.declared.case.After.{After}
 use Rattle.krl_server.specs.Afters.{does_answer, does_call, does_alarm}
-use Rattle.krl_server.specs.Servers.{Server}
-use Rattle.krl_server.specs.Cases.{Case, Ignored, Registers, Leaves, Tells, Alarms, Rebuilds, Repeats, Acknowledges, Lowers, Waits, Judges, AnswersAgain, case_of, is_alarm, judged}
-use Rattle.krl_server.specs.Effects.{Done, effect, acknowledged, writes}
-use Rattle.krl_server.specs.Steps.{Kind, Idle, Quiet, Acts, kind_of, calls_of, Ends, at_once, recovers, serves}
-use Rattle.krl_server.specs.StateMeaning.{meant, case_of_pieces, after_of}
-use Rattle.krl_server.specs.Termination.{waiting}
-use Rattle.krl_server.specs.Soundness.{IsSound}
-use Rattle.krl_server.specs.Outboxes.{Sent, Sends}
-use Rattle.krl_server.specs.CodeSteps.{own_of, room_for, waiting_clients, calls_after, Finished, rests, still_recovering, served, HasRoom, alarm_of}
 use Rattle.krl_server.proofs.Outputs.Numbers.{answers_few}
 use Rattle.krl_server.proofs.Functions.Boxes.{sends_length}
 use Rattle.krl_server.proofs.Invariant.WaitersAfter.{asks, all_came}

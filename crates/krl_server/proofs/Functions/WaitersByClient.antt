@@ -1,16 +1,8 @@
 -- Who waits, by client.
 use Rattle.std.proofs.Common.{◌≡◌, ℕ, zero, suc, ◌+◌, ◌<◌, Bool, true, false, not, ◌||◌, Some, List, [], ◌∷◌, refl, ap, ◌∙◌, subst, find, arith}
-use Rattle.std.proofs.Common.{nat_eq}
+use Rattle.krl_server.proofs.Names.{nat_eq, is_some, nat_lt, if◌then◌else◌, list_any, END, ToServer, first_of, Index, slots, Rows, most_clients, waiter_at, waiter_of, waits, is_malformed}
+use Rattle.krl_server.proofs.Names.{count_below}
 use Rattle.std.proofs.lemmas.Bool.{ltb-true, or_parts, not-false}
-use Rattle.std.specs.Prelude.{is_some, nat_lt, if◌then◌else◌}
-use Rattle.std.specs.List.{list_any}
-use Rattle.krl_modes.specs.declared.point.TheConstants.{END}
-use Rattle.krl_messages.specs.declared.to_server.ToServer.{ToServer}
-use Rattle.krl_queue.specs.Waiting.{first_of}
-use Rattle.krl_durable.specs.Index.{Index, slots}
-use Rattle.krl_table.specs.Rows.{Rows, most_clients, waiter_at, waiter_of, waits}
-use Rattle.krl_server.specs.Cases.{is_malformed}
-use Rattle.krl_server.specs.CodeSteps.{count_below}
 use Rattle.krl_server.proofs.Outputs.Numbers.{sixty_four}
 
 -- who waits has a waiter

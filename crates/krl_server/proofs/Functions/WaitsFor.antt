@@ -1,9 +1,6 @@
 -- The clients that a client waits for, one after another.
-use Rattle.std.proofs.Common.{◌≡◌, ℕ, zero, suc, ◌+◌, ◌≤◌, ◌<◌, Bool, true, false, List, [], ◌∷◌, ◌++◌, length, refl, sym, ap, ◌∙◌, append_assoc, length-append, arith}
-use Rattle.std.proofs.lemmas.List.{append-nil}
-use Rattle.std.specs.Prelude.{if◌then◌else◌}
-use Rattle.krl_table.specs.Rows.{most_clients}
-use Rattle.krl_server.specs.Servers.{Server}
+use Rattle.krl_server.proofs.Names.{◌≡◌, ℕ, zero, suc, ◌+◌, ◌≤◌, ◌<◌, Bool, true, false, List, [], ◌∷◌, ◌++◌, length, refl, sym, ap, ◌∙◌, append_assoc, length-append, arith, append-nil}
+use Rattle.krl_server.proofs.Names.{if◌then◌else◌, most_clients, Server}
 use Rattle.krl_server.specs.Waits.{waits_for, waited_from, waited_for}
 use Rattle.krl_server.proofs.Outputs.Numbers.{sixty_four}
 

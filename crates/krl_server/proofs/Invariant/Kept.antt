@@ -1,36 +1,13 @@
 -- Each step of a server keeps its table and its register in order, and leaves nobody who could be answered.
-use Rattle.std.proofs.Common.{◌≡◌, ℕ, suc, ◌<◌, true, not, Some, None, List, [], ◌∷◌, refl, sym, ap, subst, ◌∙◌, arith, ne_eqb}
-use Rattle.std.proofs.lemmas.Bool.{and_parts}
-use Rattle.std.proofs.lemmas.Option.{same_Some}
-use Rattle.std.specs.Prelude.{nat_lt}
-use Rattle.krl_modes.specs.declared.point.TheConstants.{END}
-use Rattle.krl_messages.specs.declared.write_op.WriteOp.{WriteOp}
-use Rattle.krl_messages.specs.declared.outcome.Outcome.{Outcome}
+use Rattle.krl_server.proofs.Names.{◌≡◌, ℕ, suc, ◌<◌, true, not, Some, None, List, [], ◌∷◌, refl, sym, ap, subst, ◌∙◌, arith, ne_eqb, and_parts, same_Some, nat_lt, END, WriteOp, Outcome, ToServer}
+use Rattle.krl_server.proofs.Names.{ToClient, PushBody, eq_cases, Record, slot_of, slots, Durable, Register, record_of, with_record, new_record, left_by, HasOutcomes, op_key, noted, applied_by}
+use Rattle.krl_server.proofs.Names.{HasOutcome, blank_rows, most_clients, cleared, dropped, behind_first, taken, granted, asks_absent, is_wanted_compatible, IsTable, or_true, Server, is_recovering}
+use Rattle.krl_server.proofs.Names.{Case, Ignored, Registers, Leaves, Tells, Alarms, Rebuilds, Repeats, Acknowledges, Lowers, Waits, Judges, AnswersAgain, judged, case_of, Done, acknowledged}
+use Rattle.krl_server.proofs.Names.{rows_after, pushes, effect, Turn, turn_among, next_turn, answer_first, tells_absent, grants, can_push, Answered, stops, goes_on, Kind, Idle, kind_of, Ends}
+use Rattle.krl_server.proofs.Names.{at_once, recovers, serves, IsSettled, start, IsSound}
 use Rattle.krl_messages.specs.declared.outcome.Outcome.TheVariants as outcome
-use Rattle.krl_messages.specs.declared.to_server.ToServer.{ToServer}
-use Rattle.krl_messages.specs.declared.to_client.ToClient.{ToClient}
-use Rattle.krl_messages.specs.declared.to_client.PushBody.{PushBody}
 use Rattle.krl_messages.specs.declared.to_client.PushBody.TheVariants as push
-use Rattle.krl_table.proofs.Rows.RowChanges.{eq_cases}
-use Rattle.krl_durable.specs.declared.record.Record.{Record}
-use Rattle.krl_durable.specs.Index.{slot_of, slots}
-use Rattle.krl_durable.specs.Registers.{Durable, Register, record_of, with_record, new_record, left_by, HasOutcomes}
-use Rattle.krl_messages.specs.Writes.{op_key}
-use Rattle.krl_durable.specs.Writes.{noted, applied_by}
-use Rattle.krl_durable.specs.Kept.{HasOutcome}
-use Rattle.krl_table.specs.Rows.{blank_rows, most_clients}
-use Rattle.krl_table.specs.Calls.{cleared, dropped, behind_first}
-use Rattle.krl_table.specs.Grants.{taken, granted}
-use Rattle.krl_table.specs.Replies.{asks_absent, is_wanted_compatible}
-use Rattle.krl_table.specs.Sound.{IsTable}
-use Rattle.krl_table.proofs.Invariant.Compatible.{or_true}
-use Rattle.krl_server.specs.Servers.{Server, is_recovering}
-use Rattle.krl_server.specs.Cases.{Case, Ignored, Registers, Leaves, Tells, Alarms, Rebuilds, Repeats, Acknowledges, Lowers, Waits, Judges, AnswersAgain, judged, case_of}
 use Rattle.krl_server.specs.Effects as effects
-use Rattle.krl_server.specs.Effects.{Done, acknowledged, rows_after, pushes, effect}
-use Rattle.krl_server.specs.Answering.{Turn, turn_among, next_turn, answer_first, tells_absent, grants, can_push, Answered, stops, goes_on}
-use Rattle.krl_server.specs.Steps.{Kind, Idle, kind_of, Ends, at_once, recovers, serves, IsSettled, start}
-use Rattle.krl_server.specs.Soundness.{IsSound}
 use Rattle.krl_server.specs.Invariant.{ServerKeeps}
 use Rattle.krl_server.proofs.Updates.{record_here, record_other}
 use Rattle.krl_server.proofs.Tests.{not_truth, if_case}

@@ -1,22 +1,9 @@
 -- After a write each waiter still stands at the slot of its point.
-use Rattle.std.proofs.Common.{◌≡◌, ◌≢◌, ℕ, suc, ◌≤◌, ◌<◌, true, Some, None, refl, sym, ap, subst, ◌∙◌, ⊎_elim, arith, ne_eqb}
-use Rattle.std.proofs.lemmas.Bool.{cases_lt}
-use Rattle.std.proofs.lemmas.Bool.Decides.{nat_tests}
-use Rattle.std.specs.Prelude.{nat_lt, nat_le, if◌then◌else◌}
+use Rattle.krl_server.proofs.Names.{◌≡◌, ◌≢◌, ℕ, suc, ◌≤◌, ◌<◌, true, Some, None, refl, sym, ap, subst, ◌∙◌, ⊎_elim, arith, ne_eqb, cases_lt, nat_tests, nat_lt, nat_le, if◌then◌else◌, END, range_of}
+use Rattle.krl_server.proofs.Names.{at_or_above, Value, In, in_both, Waiter, Index, slot_of, eq_cases, Row, Rows, blank_row, most_clients, mode_at, set_row, mode_beside, split, merged, in_filter}
 use Rattle.std.specs.FinMap as map
-use Rattle.krl_modes.specs.declared.point.TheConstants.{END}
-use Rattle.krl_modes.specs.Modes.{range_of, at_or_above}
 use Rattle.krl_modes.specs.declared.part.KeyPart.TheVariants as key
 use Rattle.krl_modes.specs.declared.mode.Mode.TheVariants as mode
-use Rattle.krl_messages.specs.Values.{Value}
-use Rattle.krl_messages.specs.Members.{In}
-use Rattle.krl_messages.proofs.Members.{in_both}
-use Rattle.krl_queue.specs.declared.waiter.Waiter.{Waiter}
-use Rattle.krl_durable.specs.Index.{Index, slot_of}
-use Rattle.krl_table.proofs.Rows.RowChanges.{eq_cases}
-use Rattle.krl_table.specs.Rows.{Row, Rows, blank_row, most_clients, mode_at, set_row}
-use Rattle.krl_table.specs.Calls.{mode_beside, split, merged}
-use Rattle.krl_table.proofs.Invariant.Stands.{in_filter}
 use Rattle.krl_server.proofs.Slots.{IsSlot, InSpan, slot_unique, slot_here}
 use Rattle.krl_server.proofs.Updates.{row_here, row_other, get_here, get_other, set_modes, gone_here, gone_other}
 

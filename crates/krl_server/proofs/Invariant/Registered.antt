@@ -1,29 +1,10 @@
 -- Whoever waits is registered and has not left.
-use Rattle.std.proofs.Common.{◌≡◌, ◌≢◌, ℕ, true, false, List, [], ◌∷◌, ◌⊎◌, inl, inr, refl, sym, subst, ◌∙◌, ⊎_elim}
-use Rattle.krl_messages.specs.declared.to_server.ToServer.{ToServer}
-use Rattle.krl_messages.specs.declared.to_client.ToClient.{ToClient}
+use Rattle.krl_server.proofs.Names.{◌≡◌, ◌≢◌, ℕ, true, false, List, [], ◌∷◌, ◌⊎◌, inl, inr, refl, sym, subst, ◌∙◌, ⊎_elim, ToServer, ToClient, op_key, In, Waiter, eq_cases, Record, slot_of, Register}
+use Rattle.krl_server.proofs.Names.{Durable, with_record, new_record, left_by, noted, applied_by, Row, Rows, set_row, with_queue, grant_first, behind_first, dropped, cleared, granted, asks_absent}
+use Rattle.krl_server.proofs.Names.{in_unqueue, Server, Case, Rebuilds, Lowers, Waits, Judges, AnswersAgain, case_of, Done, acknowledged, effect, Turn, answer_first, tells_absent, grants, Answered}
+use Rattle.krl_server.proofs.Names.{stops, goes_on, Kind, kind_of, Ends, at_once, recovers, serves, ServerStep, IsSound, IsRegistered, AreRegistered}
 use Rattle.krl_messages.specs.declared.to_client.PushBody.TheVariants as push
-use Rattle.krl_messages.specs.Writes.{op_key}
-use Rattle.krl_messages.specs.Members.{In}
-use Rattle.krl_queue.specs.declared.waiter.Waiter.{Waiter}
-use Rattle.krl_table.proofs.Rows.RowChanges.{eq_cases}
-use Rattle.krl_durable.specs.declared.record.Record.{Record}
-use Rattle.krl_durable.specs.Index.{slot_of}
-use Rattle.krl_durable.specs.Registers.{Register, Durable, with_record, new_record, left_by}
-use Rattle.krl_durable.specs.Writes.{noted, applied_by}
-use Rattle.krl_table.specs.Rows.{Row, Rows, set_row}
-use Rattle.krl_table.specs.Calls.{with_queue, grant_first, behind_first, dropped, cleared}
-use Rattle.krl_table.specs.Grants.{granted}
-use Rattle.krl_table.specs.Replies.{asks_absent}
-use Rattle.krl_table.proofs.Invariant.Stands.{in_unqueue}
-use Rattle.krl_server.specs.Servers.{Server}
-use Rattle.krl_server.specs.Cases.{Case, Rebuilds, Lowers, Waits, Judges, AnswersAgain, case_of}
 use Rattle.krl_server.specs.Effects as effects
-use Rattle.krl_server.specs.Effects.{Done, acknowledged, effect}
-use Rattle.krl_server.specs.Answering.{Turn, answer_first, tells_absent, grants, Answered, stops, goes_on}
-use Rattle.krl_server.specs.Steps.{Kind, kind_of, Ends, at_once, recovers, serves, ServerStep}
-use Rattle.krl_server.specs.Soundness.{IsSound}
-use Rattle.krl_server.specs.Ranges.{IsRegistered, AreRegistered}
 use Rattle.krl_server.proofs.Updates.{record_here, record_other}
 use Rattle.krl_server.proofs.Tests.{if_both}
 use Rattle.krl_server.proofs.Cased.{IsFrom, by_case}

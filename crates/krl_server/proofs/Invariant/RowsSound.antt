@@ -1,21 +1,7 @@
 -- A server stays sound where it lowers a client or takes its report, and it is sound where it starts.
-use Rattle.std.proofs.Common.{◌≡◌, ◌≢◌, ℕ, ◌<◌, Bool, true, false, ◌&&◌, refl, sym, subst, ◌∙◌, arith, ◌≤◌, None}
-use Rattle.std.specs.Prelude.{if◌then◌else◌}
+use Rattle.krl_server.proofs.Names.{◌≡◌, ◌≢◌, ℕ, ◌<◌, Bool, true, false, ◌&&◌, refl, sym, subst, ◌∙◌, arith, ◌≤◌, None, if◌then◌else◌, Mode, meet, Bounds, within, END, In, Pieces, Index, span_of}
+use Rattle.krl_server.proofs.Names.{is_slot, Durable, Row, Rows, most_clients, mode_at, with_mode, lowered, rebuilt, adopted, Server, lowers, adopts, IsSound}
 use Rattle.std.specs.FinMap as map
-use Rattle.krl_modes.specs.declared.mode.Mode.{Mode}
-use Rattle.krl_modes.specs.Modes.{meet}
-use Rattle.krl_modes.specs.Spans.{Bounds, within}
-use Rattle.krl_modes.specs.declared.point.TheConstants.{END}
-use Rattle.krl_messages.specs.Members.{In}
-use Rattle.krl_messages.specs.declared.pieces.Pieces.{Pieces}
-use Rattle.krl_durable.specs.Index.{Index, span_of, is_slot}
-use Rattle.krl_durable.specs.Registers.{Durable}
-use Rattle.krl_table.specs.Rows.{Row, Rows, most_clients, mode_at}
-use Rattle.krl_table.specs.Calls.{with_mode, lowered}
-use Rattle.krl_table.specs.Reports.{rebuilt, adopted}
-use Rattle.krl_server.specs.Servers.{Server}
-use Rattle.krl_server.specs.Effects.{lowers, adopts}
-use Rattle.krl_server.specs.Soundness.{IsSound}
 use Rattle.krl_server.proofs.Updates.{mode_other}
 use Rattle.krl_server.specs.Steps as steps
 

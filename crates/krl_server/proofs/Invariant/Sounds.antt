@@ -1,27 +1,11 @@
 -- Each case leaves the server sound.
-use Rattle.std.proofs.Common.{◌≡◌, ℕ, ◌≤◌, ◌<◌, false, not, Option, Some, None, refl, sym, ap, subst, ◌∙◌, ⊎_elim}
-use Rattle.krl_modes.specs.declared.point.TheConstants.{END}
+use Rattle.krl_server.proofs.Names.{◌≡◌, ℕ, ◌≤◌, ◌<◌, false, not, Option, Some, None, refl, sym, ap, subst, ◌∙◌, ⊎_elim, END, WriteOp, Outcome, ToServer, Waiter, eq_cases, Record, slot_of, record_of}
+use Rattle.krl_server.proofs.Names.{left_by, op_key, is_applied, In, Row, Rows, most_clients, mode_at, with_queue, queue_with, cleared, in_unqueue, in_queue_with, Server, Judges, judged, case_of}
+use Rattle.krl_server.proofs.Names.{effect, acknowledged, queues, departs, IsSound}
 use Rattle.krl_modes.specs.declared.mode.Mode.TheVariants as mode
-use Rattle.krl_messages.specs.declared.write_op.WriteOp.{WriteOp}
-use Rattle.krl_messages.specs.declared.outcome.Outcome.{Outcome}
 use Rattle.krl_messages.specs.declared.outcome.Outcome.TheVariants as outcome
-use Rattle.krl_messages.specs.declared.to_server.ToServer.{ToServer}
 use Rattle.krl_messages.specs.declared.to_client.PushBody.TheVariants as push
-use Rattle.krl_queue.specs.declared.waiter.Waiter.{Waiter}
-use Rattle.krl_table.proofs.Rows.RowChanges.{eq_cases}
-use Rattle.krl_durable.specs.declared.record.Record.{Record}
-use Rattle.krl_durable.specs.Index.{slot_of}
-use Rattle.krl_durable.specs.Registers.{record_of, left_by}
-use Rattle.krl_messages.specs.Writes.{op_key, is_applied}
-use Rattle.krl_messages.specs.Members.{In}
-use Rattle.krl_table.specs.Rows.{Row, Rows, most_clients, mode_at}
-use Rattle.krl_table.specs.Calls.{with_queue, queue_with, cleared}
-use Rattle.krl_table.proofs.Invariant.Stands.{in_unqueue, in_queue_with}
-use Rattle.krl_server.specs.Servers.{Server}
-use Rattle.krl_server.specs.Cases.{Judges, judged, case_of}
 use Rattle.krl_server.specs.Effects as effects
-use Rattle.krl_server.specs.Effects.{effect, acknowledged, queues, departs}
-use Rattle.krl_server.specs.Soundness.{IsSound}
 use Rattle.krl_server.proofs.Updates.{row_modes, mode_here, mode_other}
 use Rattle.krl_server.proofs.Invariant.AnswersSound.{acknowledged_sound, pushes_sound}
 use Rattle.krl_server.proofs.Invariant.WritesSound.{with_noted, refusal_is, writes_sound}

@@ -1,36 +1,17 @@
 -- Each call keeps what holds of every table. Insert and delete are the subject of another file.
-use Rattle.std.proofs.Common.{◌≡◌, ◌≢◌, ℕ, ◌≤◌, ◌<◌, Bool, true, false, not, ◌&&◌, None, List, [], ◌∷◌, inl, inr, refl, sym, ap, subst, ◌∙◌, ⊎_elim, arith, nat_eq, ne_eqb}
-use Rattle.std.proofs.Math.Path.{fun_ext}
-use Rattle.std.proofs.lemmas.Bool.{not-false}
-use Rattle.std.specs.Prelude.{is_some, if◌then◌else◌}
+use Rattle.krl_server.proofs.Names.{◌≡◌, ◌≢◌, ℕ, ◌≤◌, ◌<◌, Bool, true, false, not, ◌&&◌, None, List, [], ◌∷◌, inl, inr, refl, sym, ap, subst, ◌∙◌, ⊎_elim, arith, nat_eq, ne_eqb, fun_ext, not-false}
+use Rattle.krl_server.proofs.Names.{is_some, if◌then◌else◌, END, Mode, compatible, meet, Bounds, within, Pieces, In, Waiter, first_of, eq_cases, Index, slot_of, slots, is_slot, span_of, Row, Rows}
+use Rattle.krl_server.proofs.Names.{most_clients, mode_at, set_row, set_mode, is_compatible_there, waits, with_mode, with_queue, lowered, unqueue, cleared, queue_with, enqueued, wanted, behind_first}
+use Rattle.krl_server.proofs.Names.{dropped, raised, granted, most_more, rebuilt, conflicts, adopted, is_wanted_compatible, IsPlaced, times, AreCompatible, one, times_more, times_fewer, times_with}
+use Rattle.krl_server.proofs.Names.{none_times, alone_fewer, alone_new, meet_compatible, none_compatible, turned, other_compatible, in_unqueue, in_queue_with}
 use Rattle.std.specs.FinMap as fin
-use Rattle.krl_modes.specs.declared.point.TheConstants.{END}
-use Rattle.krl_modes.specs.declared.mode.Mode.{Mode}
 use Rattle.krl_modes.specs.declared.mode.Mode.TheVariants as mode
-use Rattle.krl_modes.specs.Modes.{compatible, meet}
-use Rattle.krl_modes.specs.Spans.{Bounds, within}
-use Rattle.krl_messages.specs.declared.pieces.Pieces.{Pieces}
-use Rattle.krl_messages.specs.Members.{In}
-use Rattle.krl_queue.specs.declared.waiter.Waiter.{Waiter}
-use Rattle.krl_queue.specs.Waiting.{first_of}
-use Rattle.krl_table.proofs.Rows.RowChanges.{eq_cases}
-use Rattle.krl_durable.specs.Index.{Index, slot_of, slots, is_slot, span_of}
-use Rattle.krl_table.specs.Rows.{Row, Rows, most_clients, mode_at, set_row, set_mode, is_compatible_there, waits}
-use Rattle.krl_table.specs.Calls.{with_mode, with_queue, lowered, unqueue, cleared, queue_with, enqueued, wanted, behind_first, dropped, raised}
-use Rattle.krl_table.specs.Grants.{granted, most_more}
-use Rattle.krl_table.specs.Reports.{rebuilt, conflicts, adopted}
-use Rattle.krl_table.specs.Replies.{is_wanted_compatible}
-use Rattle.krl_table.specs.Sound.{IsPlaced}
 use Rattle.krl_server.proofs.Slots.{slot_here, is_slot_false}
 use Rattle.krl_server.proofs.Updates.{row_here, row_other, row_modes, mode_here, mode_other}
 use Rattle.krl_server.proofs.Invariant.RowsSound.{low_row, lowered_queue, lowered_others}
 use Rattle.krl_server.proofs.Turns.{in_row}
 use Rattle.krl_server.proofs.Tests.{not_truth, none_some, if_case}
 use Rattle.krl_server.proofs.Grants.{along, granted_is, raised_queue, raised_others}
-use Rattle.krl_table.specs.Kept.{times, AreCompatible}
-use Rattle.krl_table.proofs.Invariant.Alone.{one, times_more, times_fewer, times_with, none_times, alone_fewer, alone_new}
-use Rattle.krl_table.proofs.Invariant.Compatible.{meet_compatible, none_compatible, turned, other_compatible}
-use Rattle.krl_table.proofs.Invariant.Stands.{in_unqueue, in_queue_with}
 use Rattle.krl_server.proofs.Invariant.Tabled.{IsKept, slots_have, all_in, any_in, same_compatible, compatible_row, slot_waits}
 
 -- Modes

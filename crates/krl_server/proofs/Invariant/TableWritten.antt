@@ -1,30 +1,16 @@
 -- A write that is Applied keeps what holds of every table.
-use Rattle.std.proofs.Common.{◌≡◌, ◌≢◌, ℕ, suc, ◌+◌, ◌≤◌, ◌<◌, Bool, true, false, ◌||◌, Some, None, ◌++◌, refl, sym, ap, ◌∙◌, arith, nat_eq, ne_eqb}
-use Rattle.std.specs.Prelude.{is_some}
+use Rattle.krl_server.proofs.Names.{◌≡◌, ◌≢◌, ℕ, suc, ◌+◌, ◌≤◌, ◌<◌, Bool, true, false, ◌||◌, Some, None, ◌++◌, refl, sym, ap, ◌∙◌, arith, nat_eq, ne_eqb, is_some, END, range_of, Value, WriteOp}
+use Rattle.krl_server.proofs.Names.{up_to, beyond, eq_cases, Index, slot_of, is_slot, op_key, held, judge, written, Row, Rows, blank_row, most_clients, mode_at, column, set_row, with_queue}
+use Rattle.krl_server.proofs.Names.{split_modes, split, merged, rows_written, times, AreCompatible, times_both, times_parted, AreAlone, alone_moved, split_compatible}
 use Rattle.std.specs.FinMap as map
-use Rattle.krl_modes.specs.declared.point.TheConstants.{END}
-use Rattle.krl_modes.specs.Modes.{range_of}
-use Rattle.krl_messages.specs.Values.{Value}
-use Rattle.krl_messages.specs.declared.write_op.WriteOp.{WriteOp}
 use Rattle.krl_messages.specs.declared.write_op.WriteOp.TheVariants as write
 use Rattle.krl_messages.specs.declared.outcome.Outcome.TheVariants as outcome
-use Rattle.krl_queue.specs.Waiting.{up_to, beyond}
-use Rattle.krl_table.proofs.Rows.RowChanges.{eq_cases}
-use Rattle.krl_durable.specs.Index.{Index, slot_of, is_slot}
-use Rattle.krl_messages.specs.Writes.{op_key}
-use Rattle.krl_durable.specs.Writes.{held, judge, written}
 use Rattle.krl_modes.specs.Parts.{lets_insert}
-use Rattle.krl_table.specs.Rows.{Row, Rows, blank_row, most_clients, mode_at, column, set_row}
-use Rattle.krl_table.specs.Calls.{with_queue, split_modes, split, merged}
-use Rattle.krl_server.specs.Effects.{rows_written}
 use Rattle.krl_server.proofs.Slots.{slot_here}
 use Rattle.krl_server.proofs.Updates.{row_here, row_other, get_here, get_other, gone_other}
 use Rattle.krl_server.proofs.Invariant.Placed.{two_rows, ArePlaced, put_placed, split_from, split_placed, merge_from, merge_placed, split_strangers, merge_strangers}
 use Rattle.krl_server.proofs.Invariant.WritesSound.{insert_may, change_may}
 use Rattle.krl_server.proofs.Tests.{not_truth, none_some, some_of}
-use Rattle.krl_table.specs.Kept.{times, AreCompatible}
-use Rattle.krl_table.proofs.Invariant.Alone.{times_both, times_parted, AreAlone, alone_moved}
-use Rattle.krl_table.proofs.Invariant.Compatible.{split_compatible}
 use Rattle.krl_server.proofs.Invariant.Tabled.{IsKept}
 use Rattle.krl_server.proofs.Invariant.TableKept.{slot_there}
 

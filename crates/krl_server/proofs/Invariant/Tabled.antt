@@ -1,29 +1,11 @@
 -- What holds of every table, in a form that is easy to keep; and what keeps it.
-use Rattle.std.proofs.Common.{◌≡◌, ◌≢◌, ℕ, zero, suc, ◌+◌, ◌≤◌, ◌<◌, Bool, true, false, ◌||◌, ◌&&◌, Some, None, List, [], ◌∷◌, ◌++◌, inl, inr, map, refl, sym, ap, subst, ◌∙◌, ⊎_elim, cond, arith, nat_eq, ne_eqb}
-use Rattle.std.proofs.lemmas.Bool.{cases_lt}
-use Rattle.std.proofs.lemmas.Bool.Decides.{nat_tests}
-use Rattle.std.specs.Prelude.{is_some}
-use Rattle.std.specs.List.{AllByRecursion, list_all, list_any}
-use Rattle.std.specs.Ordering.{nat_cmp, eq_by_cmp}
+use Rattle.krl_server.proofs.Names.{◌≡◌, ◌≢◌, ℕ, zero, suc, ◌+◌, ◌≤◌, ◌<◌, Bool, true, false, ◌||◌, ◌&&◌, Some, None, List, [], ◌∷◌, ◌++◌, inl, inr, map, refl, sym, ap, subst, ◌∙◌, ⊎_elim, cond}
+use Rattle.krl_server.proofs.Names.{arith, nat_eq, ne_eqb, cases_lt, nat_tests, is_some, AllByRecursion, list_all, list_any, nat_cmp, eq_by_cmp, find, END, Mode, compatible, Value, In, in_to_all}
+use Rattle.krl_server.proofs.Names.{Waiter, first_of, eq_cases, Index, slots, is_slot, Rows, blank_row, most_clients, mode_at, is_compatible_there, IsPlaced, IsTable, times, AreCompatible}
+use Rattle.krl_server.proofs.Names.{none_times, times_none, AreAlone, alone_here, none_compatible, or_true, all_below_at}
 use Rattle.std.specs.FinMap as fin
-use Rattle.std.specs.FinMap.Entries.{find}
-use Rattle.krl_modes.specs.declared.point.TheConstants.{END}
-use Rattle.krl_modes.specs.declared.mode.Mode.{Mode}
 use Rattle.krl_modes.specs.declared.mode.Mode.TheVariants as mode
-use Rattle.krl_modes.specs.Modes.{compatible}
-use Rattle.krl_messages.specs.Values.{Value}
-use Rattle.krl_messages.specs.Members.{In}
-use Rattle.krl_messages.proofs.Members.{in_to_all}
-use Rattle.krl_queue.specs.declared.waiter.Waiter.{Waiter}
-use Rattle.krl_queue.specs.Waiting.{first_of}
-use Rattle.krl_table.proofs.Rows.RowChanges.{eq_cases}
-use Rattle.krl_durable.specs.Index.{Index, slots, is_slot}
-use Rattle.krl_table.specs.Rows.{Rows, blank_row, most_clients, mode_at, is_compatible_there}
-use Rattle.krl_table.specs.Sound.{IsPlaced, IsTable}
 use Rattle.krl_server.proofs.Tests.{not_truth, none_some}
-use Rattle.krl_table.specs.Kept.{times, AreCompatible}
-use Rattle.krl_table.proofs.Invariant.Alone.{none_times, times_none, AreAlone, alone_here}
-use Rattle.krl_table.proofs.Invariant.Compatible.{none_compatible, or_true, all_below_at}
 
 -- Slots
 

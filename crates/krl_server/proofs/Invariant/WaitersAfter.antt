@@ -1,23 +1,9 @@
 -- Who waits after a case, and how many.
-use Rattle.std.proofs.Common.{◌≡◌, ℕ, ◌<◌, Bool, true, false, ◌⊎◌, inl, inr, refl, ap, subst, ⊎_elim}
-use Rattle.std.specs.Prelude.{if◌then◌else◌}
-use Rattle.krl_messages.specs.declared.to_server.ToServer.{ToServer}
+use Rattle.krl_server.proofs.Names.{◌≡◌, ℕ, ◌<◌, Bool, true, false, ◌⊎◌, inl, inr, refl, ap, subst, ⊎_elim, if◌then◌else◌, ToServer, Outcome, WriteOp, Waiter, op_key, END, In, slot_of, is_slot, Row}
+use Rattle.krl_server.proofs.Names.{most_clients, with_mode, with_queue, queue_with, in_unqueue, in_queue_with, Server, Case, Ignored, Registers, Leaves, Tells, Alarms, Rebuilds, Repeats}
+use Rattle.krl_server.proofs.Names.{Acknowledges, Lowers, Waits, Judges, AnswersAgain, case_of, judged, acknowledged, writes, rows_after, holding, effect, IsSound}
 use Rattle.krl_messages.specs.declared.to_client.PushBody.TheVariants as push
-use Rattle.krl_messages.specs.declared.outcome.Outcome.{Outcome}
 use Rattle.krl_messages.specs.declared.outcome.Outcome.TheVariants as outcome
-use Rattle.krl_messages.specs.declared.write_op.WriteOp.{WriteOp}
-use Rattle.krl_queue.specs.declared.waiter.Waiter.{Waiter}
-use Rattle.krl_messages.specs.Writes.{op_key}
-use Rattle.krl_modes.specs.declared.point.TheConstants.{END}
-use Rattle.krl_messages.specs.Members.{In}
-use Rattle.krl_durable.specs.Index.{slot_of, is_slot}
-use Rattle.krl_table.specs.Rows.{Row, most_clients}
-use Rattle.krl_table.specs.Calls.{with_mode, with_queue, queue_with}
-use Rattle.krl_table.proofs.Invariant.Stands.{in_unqueue, in_queue_with}
-use Rattle.krl_server.specs.Servers.{Server}
-use Rattle.krl_server.specs.Cases.{Case, Ignored, Registers, Leaves, Tells, Alarms, Rebuilds, Repeats, Acknowledges, Lowers, Waits, Judges, AnswersAgain, case_of, judged}
-use Rattle.krl_server.specs.Effects.{acknowledged, writes, rows_after, holding, effect}
-use Rattle.krl_server.specs.Soundness.{IsSound}
 use Rattle.krl_server.proofs.Tests.{if_both}
 use Rattle.krl_server.proofs.Cased.{by_case}
 use Rattle.krl_server.proofs.Turns.{in_row}

@@ -1,38 +1,17 @@
 -- Numbers stay within END, and lists within their bounds.
-use Rattle.std.proofs.Common.{◌≡◌, ◌≢◌, ℕ, suc, ◌+◌, ◌-◌, ◌≤◌, ◌<◌, Bool, true, false, not, cond, ◌||◌, Some, None, List, [], ◌∷◌, length, ◌⊎◌, inl, inr, refl, sym, ap, subst, ◌∙◌, ⊎_elim, arith, nat_eq, eq-eqb, eqb-true, ltb-true, ltb-false}
-use Rattle.std.proofs.lemmas.Bool.{eqb-false, or_parts, not-false}
-use Rattle.std.proofs.lemmas.Option.{none-some, same_Some}
-use Rattle.std.specs.Prelude.{nat_lt, is_some, if◌then◌else◌}
+use Rattle.krl_server.proofs.Names.{◌≡◌, ◌≢◌, ℕ, suc, ◌+◌, ◌-◌, ◌≤◌, ◌<◌, Bool, true, false, not, cond, ◌||◌, Some, None, List, [], ◌∷◌, length, ◌⊎◌, inl, inr, refl, sym, ap, subst, ◌∙◌, ⊎_elim}
+use Rattle.krl_server.proofs.Names.{arith, nat_eq, eq-eqb, eqb-true, ltb-true, ltb-false, eqb-false, or_parts, not-false, none-some, same_Some, nat_lt, is_some, if◌then◌else◌, END, WriteOp, Outcome}
+use Rattle.krl_server.proofs.Names.{ToServer, ToClient, PushBody, eq_cases, Record, Index, slot_of, Register, Durable, record_of, with_record, new_record, left_by, missing_order, op_key, In}
+use Rattle.krl_server.proofs.Names.{most_entries, judge, judged_insert, noted, index_after, applied_by, Rows, most_clients, dropped, granted, asks_absent, Session, Server, is_recovering, lists}
+use Rattle.krl_server.proofs.Names.{unlist, set_session, blank_session, Ignored, judged, case_of, case_of_record, is_malformed, Done, acknowledged, pushes, effect, Turn, answer_first, tells_absent}
+use Rattle.krl_server.proofs.Names.{grants, Answered, stops, goes_on, Ends, Kind, at_once, recovers, serves, start, can_start, kind_of, AreApart, clients_of, IsEntry, IsDurableWithin, IsWithin}
+use Rattle.krl_server.proofs.Names.{ServerWithin}
 use Rattle.std.specs.Cmp.{nat_cmp_total}
 use Rattle.std.specs.FinMap as map
-use Rattle.krl_modes.specs.declared.point.TheConstants.{END}
-use Rattle.krl_messages.specs.declared.write_op.WriteOp.{WriteOp}
 use Rattle.krl_messages.specs.declared.write_op.WriteOp.TheVariants as write
-use Rattle.krl_messages.specs.declared.outcome.Outcome.{Outcome}
 use Rattle.krl_messages.specs.declared.outcome.Outcome.TheVariants as outcome
-use Rattle.krl_messages.specs.declared.to_server.ToServer.{ToServer}
-use Rattle.krl_messages.specs.declared.to_client.ToClient.{ToClient}
-use Rattle.krl_messages.specs.declared.to_client.PushBody.{PushBody}
 use Rattle.krl_messages.specs.declared.to_client.PushBody.TheVariants as push
-use Rattle.krl_table.proofs.Rows.RowChanges.{eq_cases}
-use Rattle.krl_durable.specs.declared.record.Record.{Record}
-use Rattle.krl_durable.specs.Index.{Index, slot_of}
-use Rattle.krl_durable.specs.Registers.{Register, Durable, record_of, with_record, new_record, left_by, missing_order}
-use Rattle.krl_messages.specs.Writes.{op_key}
-use Rattle.krl_messages.specs.Members.{In}
-use Rattle.krl_durable.specs.Writes.{most_entries, judge, judged_insert, noted, index_after, applied_by}
-use Rattle.krl_table.specs.Rows.{Rows, most_clients}
-use Rattle.krl_table.specs.Calls.{dropped}
-use Rattle.krl_table.specs.Grants.{granted}
-use Rattle.krl_table.specs.Replies.{asks_absent}
-use Rattle.krl_server.specs.declared.session.Session.{Session}
-use Rattle.krl_server.specs.Servers.{Server, is_recovering, lists, unlist, set_session, blank_session}
-use Rattle.krl_server.specs.Cases.{Ignored, judged, case_of, case_of_record, is_malformed}
 use Rattle.krl_server.specs.Effects as effects
-use Rattle.krl_server.specs.Effects.{Done, acknowledged, pushes, effect}
-use Rattle.krl_server.specs.Answering.{Turn, answer_first, tells_absent, grants, Answered, stops, goes_on}
-use Rattle.krl_server.specs.Steps.{Ends, Kind, at_once, recovers, serves, start, can_start, kind_of}
-use Rattle.krl_server.specs.Ranges.{AreApart, clients_of, IsEntry, IsDurableWithin, IsWithin, ServerWithin}
 use Rattle.krl_server.proofs.Invariant.Registered.{step_here}
 use Rattle.krl_server.proofs.Updates.{session_here, session_other, record_here, record_other, unlist_here, unlist_other}
 use Rattle.krl_server.proofs.Tests.{not_truth, if_both, if_case}

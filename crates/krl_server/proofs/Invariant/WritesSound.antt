@@ -1,24 +1,11 @@
 -- A server stays sound where it judges a new write.
-use Rattle.std.proofs.Common.{◌≡◌, ℕ, false, Some, refl, sym, ap, ◌∙◌, ◌≤◌, ◌<◌, Bool, true, None, subst, arith}
-use Rattle.std.specs.Prelude.{is_some}
+use Rattle.krl_server.proofs.Names.{◌≡◌, ℕ, false, Some, refl, sym, ap, ◌∙◌, ◌≤◌, ◌<◌, Bool, true, None, subst, arith, is_some, END, WriteOp, Outcome, is_applied, op_key, ToServer, Record, Index}
+use Rattle.krl_server.proofs.Names.{Durable, record_of, with_record, noted, index_after, applied_by, applied, written, judged_insert, judged_change, Rows, most_clients, mode_at, Server, rows_after}
+use Rattle.krl_server.proofs.Names.{writes, acknowledged, rows_written, answers, effect, Judges, judged, IsSound}
 use Rattle.std.specs.FinMap as map
-use Rattle.krl_modes.specs.declared.point.TheConstants.{END}
 use Rattle.krl_modes.specs.declared.mode.Mode.TheVariants as mode
-use Rattle.krl_messages.specs.declared.write_op.WriteOp.{WriteOp}
-use Rattle.krl_messages.specs.declared.outcome.Outcome.{Outcome}
-use Rattle.krl_messages.specs.Writes.{is_applied, op_key}
-use Rattle.krl_messages.specs.declared.to_server.ToServer.{ToServer}
 use Rattle.krl_messages.specs.declared.outcome.Outcome.TheVariants as outcome
 use Rattle.krl_messages.specs.declared.write_op.WriteOp.TheVariants as write
-use Rattle.krl_durable.specs.declared.record.Record.{Record}
-use Rattle.krl_durable.specs.Index.{Index}
-use Rattle.krl_durable.specs.Registers.{Durable, record_of, with_record}
-use Rattle.krl_durable.specs.Writes.{noted, index_after, applied_by, applied, written, judged_insert, judged_change}
-use Rattle.krl_table.specs.Rows.{Rows, most_clients, mode_at}
-use Rattle.krl_server.specs.Servers.{Server}
-use Rattle.krl_server.specs.Effects.{rows_after, writes, acknowledged, rows_written, answers, effect}
-use Rattle.krl_server.specs.Cases.{Judges, judged}
-use Rattle.krl_server.specs.Soundness.{IsSound}
 use Rattle.krl_server.proofs.Invariant.AnswersSound.{pushes_sound}
 use Rattle.krl_server.proofs.Tests.{none_some, some_of}
 use Rattle.krl_server.proofs.Updates.{get_other, gone_other}

@@ -1,26 +1,9 @@
 -- Few wait, and so few are answered and few are called back.
-use Rattle.std.proofs.Common.{◌≡◌, ℕ, zero, suc, ◌+◌, ◌≤◌, ◌<◌, Bool, true, false, cond, Some, None, List, [], ◌∷◌, ◌++◌, map, length, inl, inr, refl, sym, ap, subst, ◌∙◌, ⊎_elim, arith, nat_eq, eq-eqb, ne_eqb, eqb-true}
-use Rattle.std.proofs.lemmas.Bool.{cases_lt, eqb-false}
+use Rattle.krl_server.proofs.Names.{◌≡◌, ℕ, zero, suc, ◌+◌, ◌≤◌, ◌<◌, Bool, true, false, cond, Some, None, List, [], ◌∷◌, ◌++◌, map, length, inl, inr, refl, sym, ap, subst, ◌∙◌, ⊎_elim, arith}
+use Rattle.krl_server.proofs.Names.{nat_eq, eq-eqb, ne_eqb, eqb-true, cases_lt, eqb-false, none-some, is_some, AllByRecursion, nat_cmp, find, END, Value, In, Waiter, first_of, eq_cases, Index, slots}
+use Rattle.krl_server.proofs.Names.{Rows, most_clients, IsPlaced, IsTable, waiting_on, AreApart, Rises, find_here, From, from_above, find_past, keys_of_map_rise}
 use Rattle.std.proofs.lemmas.List.Recursion.{is_count_by}
-use Rattle.std.proofs.lemmas.Option.{none-some}
-use Rattle.std.specs.Prelude.{is_some}
-use Rattle.std.specs.List.{AllByRecursion}
-use Rattle.std.specs.Ordering.{nat_cmp}
 use Rattle.std.specs.FinMap as map
-use Rattle.std.specs.FinMap.Entries.{find}
-use Rattle.krl_modes.specs.declared.point.TheConstants.{END}
-use Rattle.krl_messages.specs.Values.{Value}
-use Rattle.krl_messages.specs.Members.{In}
-use Rattle.krl_queue.specs.declared.waiter.Waiter.{Waiter}
-use Rattle.krl_queue.specs.Waiting.{first_of}
-use Rattle.krl_table.proofs.Rows.RowChanges.{eq_cases}
-use Rattle.krl_durable.specs.Index.{Index, slots}
-use Rattle.krl_table.specs.Rows.{Rows, most_clients}
-use Rattle.krl_table.specs.Sound.{IsPlaced, IsTable}
-use Rattle.krl_server.specs.Termination.{waiting_on}
-use Rattle.krl_server.specs.Ranges.{AreApart}
-use Rattle.krl_durable.proofs.Slots.{Rises, find_here}
-use Rattle.krl_durable.proofs.SlotLaws.{From, from_above, find_past, keys_of_map_rise}
 
 -- Slots stand once in their list
 

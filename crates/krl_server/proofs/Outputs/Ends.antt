@@ -1,25 +1,9 @@
 -- The answering of first waiters ends, in one way.
-use Rattle.std.proofs.Common.{◌≡◌, ◌≢◌, ℕ, zero, suc, ◌+◌, ◌≤◌, Bool, true, false, Option, Some, None, List, [], ◌∷◌, ◌++◌, length, ◌⊎◌, inl, inr, refl, sym, ap, subst, ◌∙◌, ⊎_elim, arith, length-append}
-use Rattle.std.proofs.lemmas.Option.{none-some, same_Some}
-use Rattle.std.specs.Prelude.{nat_lt, if◌then◌else◌}
-use Rattle.krl_modes.specs.declared.point.TheConstants.{END}
-use Rattle.krl_messages.specs.declared.to_client.ToClient.{ToClient}
-use Rattle.krl_messages.specs.declared.to_client.PushBody.{PushBody}
-use Rattle.krl_messages.specs.declared.to_server.ToServer.{ToServer}
-use Rattle.krl_messages.specs.Members.{In}
-use Rattle.krl_queue.specs.declared.waiter.Waiter.{Waiter}
-use Rattle.krl_table.proofs.Rows.RowChanges.{eq_cases}
-use Rattle.krl_durable.specs.Index.{slots}
-use Rattle.krl_table.specs.Rows.{Row, Rows, set_row}
-use Rattle.krl_table.specs.Calls.{with_queue, grant_first, granted_first, behind_first, dropped}
-use Rattle.krl_table.specs.Grants.{granted}
-use Rattle.krl_table.specs.Replies.{asks_absent}
-use Rattle.krl_server.specs.Servers.{Server, is_recovering}
-use Rattle.krl_server.specs.Cases.{case_of}
-use Rattle.krl_server.specs.Effects.{Done, with_rows, pushes, effect}
-use Rattle.krl_server.specs.Answering.{Turn, is_answerable, turn_at, turn_among, next_turn, tells_absent, grants, answer_first, Answered, stops, goes_on}
-use Rattle.krl_server.specs.Steps.{Kind, Idle, Quiet, Acts, kind_of, calls_of, Ends, at_once, recovers, serves, ServerStep}
-use Rattle.krl_server.specs.Termination.{waiting_on, waiting}
+use Rattle.krl_server.proofs.Names.{◌≡◌, ◌≢◌, ℕ, zero, suc, ◌+◌, ◌≤◌, Bool, true, false, Option, Some, None, List, [], ◌∷◌, ◌++◌, length, ◌⊎◌, inl, inr, refl, sym, ap, subst, ◌∙◌, ⊎_elim, arith}
+use Rattle.krl_server.proofs.Names.{length-append, none-some, same_Some, nat_lt, if◌then◌else◌, END, ToClient, PushBody, ToServer, In, Waiter, eq_cases, slots, Row, Rows, set_row, with_queue}
+use Rattle.krl_server.proofs.Names.{grant_first, granted_first, behind_first, dropped, granted, asks_absent, Server, is_recovering, case_of, Done, with_rows, pushes, effect, Turn, is_answerable}
+use Rattle.krl_server.proofs.Names.{turn_at, turn_among, next_turn, tells_absent, grants, answer_first, Answered, stops, goes_on, Kind, Idle, Quiet, Acts, kind_of, calls_of, Ends, at_once, recovers}
+use Rattle.krl_server.proofs.Names.{serves, ServerStep, waiting_on, waiting}
 use Rattle.krl_server.proofs.Updates.{row_here, row_other}
 use Rattle.krl_server.proofs.Tests.{not_truth, if_both}
 use Rattle.krl_server.proofs.Grants.{granted_queue}

@@ -1,32 +1,11 @@
 -- A step or nudge sends few messages; and all that holds of the end of a step.
 use Rattle.std.proofs.Common.{◌≡◌, ℕ, zero, suc, ◌+◌, ◌*◌, ◌≤◌, ◌<◌, Bool, true, false, ◌||◌, Option, Some, None, List, [], ◌∷◌, ◌++◌, length, inl, refl, sym, ap, subst, arith, length-append, nat_eq, eq-eqb}
-use Rattle.std.specs.Prelude.{if◌then◌else◌}
-use Rattle.krl_modes.specs.Modes.{compatible, cap}
-use Rattle.krl_messages.specs.declared.to_client.ToClient.{ToClient}
-use Rattle.krl_messages.specs.declared.to_client.PushBody.{PushBody}
-use Rattle.krl_messages.specs.declared.to_server.ToServer.{ToServer}
+use Rattle.krl_server.proofs.Names.{if◌then◌else◌, compatible, cap, ToClient, PushBody, ToServer, WriteOp, Outcome, Waiter, eq_cases, Record, slot_of, slots, span_of, op_key, In, record_of}
+use Rattle.krl_server.proofs.Names.{most_clients, mode_at, wanted, asks_absent, IsTable, Server, is_recovering, lists, Case, Ignored, Registers, Leaves, Tells, Alarms, Rebuilds, Repeats}
+use Rattle.krl_server.proofs.Names.{Acknowledges, Lowers, Waits, Judges, AnswersAgain, case_of, callback_to, epoch_to, holding, acknowledged, writes, answers, effect, stops, is_compatible}
+use Rattle.krl_server.proofs.Names.{callbacks_from, callbacks_for, callbacks_at, callbacks_among, callbacks_of, callbacks_of_among, Kind, Idle, Quiet, Acts, kind_of, calls_of, at_once, recovers}
+use Rattle.krl_server.proofs.Names.{serves, ServerStep, nudge_served, nudge_missing, nudge_known, nudge, IsSound, waiting_on, waiting, most_messages, StepsEnd}
 use Rattle.krl_messages.specs.declared.to_client.PushBody.TheVariants as push
-use Rattle.krl_messages.specs.declared.write_op.WriteOp.{WriteOp}
-use Rattle.krl_messages.specs.declared.outcome.Outcome.{Outcome}
-use Rattle.krl_queue.specs.declared.waiter.Waiter.{Waiter}
-use Rattle.krl_table.proofs.Rows.RowChanges.{eq_cases}
-use Rattle.krl_durable.specs.declared.record.Record.{Record}
-use Rattle.krl_durable.specs.Index.{slot_of, slots, span_of}
-use Rattle.krl_messages.specs.Writes.{op_key}
-use Rattle.krl_messages.specs.Members.{In}
-use Rattle.krl_durable.specs.Registers.{record_of}
-use Rattle.krl_table.specs.Rows.{most_clients, mode_at}
-use Rattle.krl_table.specs.Calls.{wanted}
-use Rattle.krl_table.specs.Replies.{asks_absent}
-use Rattle.krl_table.specs.Sound.{IsTable}
-use Rattle.krl_server.specs.Servers.{Server, is_recovering, lists}
-use Rattle.krl_server.specs.Cases.{Case, Ignored, Registers, Leaves, Tells, Alarms, Rebuilds, Repeats, Acknowledges, Lowers, Waits, Judges, AnswersAgain, case_of}
-use Rattle.krl_server.specs.Effects.{callback_to, epoch_to, holding, acknowledged, writes, answers, effect}
-use Rattle.krl_server.specs.Answering.{stops}
-use Rattle.krl_server.specs.Callbacks.{is_compatible, callbacks_from, callbacks_for, callbacks_at, callbacks_among, callbacks_of, callbacks_of_among}
-use Rattle.krl_server.specs.Steps.{Kind, Idle, Quiet, Acts, kind_of, calls_of, at_once, recovers, serves, ServerStep, nudge_served, nudge_missing, nudge_known, nudge}
-use Rattle.krl_server.specs.Soundness.{IsSound}
-use Rattle.krl_server.specs.Termination.{waiting_on, waiting, most_messages, StepsEnd}
 use Rattle.krl_server.proofs.Invariant.AnswersSound.{answering_sound}
 use Rattle.krl_server.proofs.Outputs.Ends.{pushes_few, answered_less, step_ends, one_end}
 use Rattle.krl_server.proofs.Invariant.Sounds.{effect_sound}

@@ -1,25 +1,11 @@
 -- What a step says of its change: it makes what survives, and so do the changes of many steps.
-use Rattle.std.proofs.Common.{◌≡◌, ℕ, suc, ◌<◌, Bool, true, false, Option, Some, None, List, [], ◌∷◌, refl, sym, ap, subst, ◌∙◌, arith}
-use Rattle.krl_messages.specs.declared.write_op.WriteOp.{WriteOp}
-use Rattle.krl_messages.specs.declared.outcome.Outcome.{Outcome}
-use Rattle.krl_messages.specs.declared.to_server.ToServer.{ToServer}
-use Rattle.krl_messages.specs.declared.to_client.ToClient.{ToClient}
+use Rattle.krl_server.proofs.Names.{◌≡◌, ℕ, suc, ◌<◌, Bool, true, false, Option, Some, None, List, [], ◌∷◌, refl, sym, ap, subst, ◌∙◌, arith, WriteOp, Outcome, ToServer, ToClient, op_key, Record}
+use Rattle.krl_server.proofs.Names.{slot_of, Durable, record_of, with_record, new_record, registered, left_by, departed, index_after, applied, ServerOut, Server, incarnation_or_0, Case, case_of}
+use Rattle.krl_server.proofs.Names.{holding, acknowledged, effect, kind_of, ServerStep, HasStepped, last_of}
 use Rattle.krl_messages.specs.declared.to_client.PushBody.TheVariants as push
-use Rattle.krl_messages.specs.Writes.{op_key}
-use Rattle.krl_durable.specs.declared.record.Record.{Record}
-use Rattle.krl_durable.specs.Index.{slot_of}
-use Rattle.krl_durable.specs.Registers.{Durable, record_of, with_record, new_record, registered, left_by, departed}
-use Rattle.krl_durable.specs.Writes.{index_after, applied}
 use Rattle.krl_durable.specs.Changes.{judged_in, judged_of, judged, changed_by, IsChange}
-use Rattle.krl_server.specs.declared.out.ServerOut.{ServerOut}
-use Rattle.krl_server.specs.Servers.{Server, incarnation_or_0}
-use Rattle.krl_server.specs.Cases.{Case, case_of}
 use Rattle.krl_server.specs.Effects as effects
-use Rattle.krl_server.specs.Effects.{holding, acknowledged, effect}
-use Rattle.krl_server.specs.Steps.{kind_of, ServerStep}
 use Rattle.krl_server.specs.Changes.{change_of}
-use Rattle.krl_server.specs.CodeSteps.{HasStepped}
-use Rattle.krl_server.specs.Outputs.{last_of}
 use Rattle.krl_server.specs.Replays.{Event, Took, Restarted, Lives, LivesThrough, written_down, replayed, ChangesReplay}
 use Rattle.krl_server.proofs.Cased.{IsFrom, by_case}
 use Rattle.krl_server.proofs.Outputs.Ends.{pushes_durable}

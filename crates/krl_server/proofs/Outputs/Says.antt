@@ -1,32 +1,11 @@
 -- What a step changes and sends.
-use Rattle.std.proofs.Common.{◌≡◌, ◌≢◌, ℕ, zero, suc, ◌+◌, ◌≤◌, ◌<◌, Bool, true, false, not, ◌||◌, ◌↔◌, Some, List, [], ◌∷◌, inl, inr, refl, sym, ap, subst, ◌∙◌, ⊎_elim, arith, nat_eq, ne_eqb}
-use Rattle.std.proofs.lemmas.Bool.{eqb-false, and_parts, or_parts}
-use Rattle.std.proofs.lemmas.Option.{none-some, same_Some}
-use Rattle.std.specs.Prelude.{nat_lt, is_some, if◌then◌else◌}
-use Rattle.krl_modes.specs.declared.point.TheConstants.{END}
-use Rattle.krl_modes.specs.Modes.{compatible, cap}
-use Rattle.krl_messages.specs.declared.to_server.ToServer.{ToServer}
-use Rattle.krl_messages.specs.declared.to_client.ToClient.{ToClient}
-use Rattle.krl_messages.specs.declared.to_client.PushBody.{PushBody}
+use Rattle.krl_server.proofs.Names.{◌≡◌, ◌≢◌, ℕ, zero, suc, ◌+◌, ◌≤◌, ◌<◌, Bool, true, false, not, ◌||◌, ◌↔◌, Some, List, [], ◌∷◌, inl, inr, refl, sym, ap, subst, ◌∙◌, ⊎_elim, arith, nat_eq, ne_eqb}
+use Rattle.krl_server.proofs.Names.{eqb-false, and_parts, or_parts, none-some, same_Some, nat_lt, is_some, if◌then◌else◌, END, compatible, cap, ToServer, ToClient, PushBody, Waiter, eq_cases}
+use Rattle.krl_server.proofs.Names.{slot_of, span_of, slots, op_key, In, in_both, in_left, in_right, most_clients, mode_at, front_of, wanted, dropped, taken, granted, asks_absent}
+use Rattle.krl_server.proofs.Names.{is_wanted_compatible, Session, Server, Case, Ignored, Registers, Leaves, Tells, Alarms, Rebuilds, Repeats, Acknowledges, Lowers, Waits, Judges, AnswersAgain}
+use Rattle.krl_server.proofs.Names.{case_of, Done, silent, with_session, with_rows, holding, holdings, acknowledged, push_to, callback_to, pushes, effect, can_push, Turn, next_turn, tells_absent}
+use Rattle.krl_server.proofs.Names.{grants, is_compatible, callbacks_from, callbacks_for, callbacks_at, callbacks_among, callbacks, changes_durable, IsCallback, IsNextPush, ServerSays, kind_of}
 use Rattle.krl_messages.specs.declared.to_client.PushBody.TheVariants as push
-use Rattle.krl_queue.specs.declared.waiter.Waiter.{Waiter}
-use Rattle.krl_table.proofs.Rows.RowChanges.{eq_cases}
-use Rattle.krl_durable.specs.Index.{slot_of, span_of, slots}
-use Rattle.krl_messages.specs.Writes.{op_key}
-use Rattle.krl_messages.specs.Members.{In}
-use Rattle.krl_messages.proofs.Members.{in_both, in_left, in_right}
-use Rattle.krl_table.specs.Rows.{most_clients, mode_at, front_of}
-use Rattle.krl_table.specs.Calls.{wanted, dropped}
-use Rattle.krl_table.specs.Grants.{taken, granted}
-use Rattle.krl_table.specs.Replies.{asks_absent, is_wanted_compatible}
-use Rattle.krl_server.specs.declared.session.Session.{Session}
-use Rattle.krl_server.specs.Servers.{Server}
-use Rattle.krl_server.specs.Cases.{Case, Ignored, Registers, Leaves, Tells, Alarms, Rebuilds, Repeats, Acknowledges, Lowers, Waits, Judges, AnswersAgain, case_of}
-use Rattle.krl_server.specs.Effects.{Done, silent, with_session, with_rows, holding, holdings, acknowledged, push_to, callback_to, pushes, effect}
-use Rattle.krl_server.specs.Answering.{can_push, Turn, next_turn, tells_absent, grants}
-use Rattle.krl_server.specs.Callbacks.{is_compatible, callbacks_from, callbacks_for, callbacks_at, callbacks_among, callbacks}
-use Rattle.krl_server.specs.Outputs.{changes_durable, IsCallback, IsNextPush, ServerSays}
-use Rattle.krl_server.specs.Steps.{kind_of}
 use Rattle.krl_server.proofs.Updates.{session_here}
 use Rattle.krl_server.proofs.Turns.{turn_is}
 use Rattle.krl_server.proofs.Outputs.Ends.{pushes_durable}

@@ -1,7 +1,6 @@
-use Rattle.std.proofs.Common.{nat_eq, ap, ◌∙◌, rules}
+use Rattle.krl_server.proofs.Names.{nat_eq, ap, ◌∙◌, rules, unlist}
 use Rattle.std.specs.Prelude.{not}
 use Rattle.std.proofs.lemmas.Fn.{filter_same}
-use Rattle.krl_server.specs.Servers.{unlist}
 use Rattle.krl_server.proofs.missing.Missing.remove.Goals as goal
 
 pub returns : goal.returns

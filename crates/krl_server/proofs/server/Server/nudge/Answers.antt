@@ -1,8 +1,4 @@
-use Rattle.std.proofs.Common.{◌≡◌, false, [], subst}
-use Rattle.krl_server.specs.declared.state.State.{State}
-use Rattle.krl_server.specs.Servers.{is_recovering}
-use Rattle.krl_server.specs.Answering.{Answered}
-use Rattle.krl_server.specs.StateMeaning.{meaning}
+use Rattle.krl_server.proofs.Names.{◌≡◌, false, [], subst, State, is_recovering, Answered, meaning}
 use Rattle.krl_server.proofs.Outputs.Numbers.{all_end}
 use Rattle.krl_server.proofs.Functions.NudgeMessages.{few_nudges}
 use Rattle.krl_server.proofs.server.Server.nudge.Goals as goal

@@ -1,5 +1,4 @@
-use Rattle.std.proofs.Common.{◌<◌, subst}
-use Rattle.krl_modes.specs.declared.point.TheConstants.{END}
+use Rattle.krl_server.proofs.Names.{◌<◌, subst, END}
 use Rattle.krl_server.proofs.Functions.Started.{is_started, is_server}
 use Rattle.krl_server.proofs.server.Server.start.Goals as goal
 

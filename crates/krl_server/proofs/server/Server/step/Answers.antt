@@ -1,10 +1,6 @@
-use Rattle.std.proofs.Common.{◌≡◌, false, subst}
-use Rattle.std.specs.Prelude.{IfOk}
-use Rattle.krl_server.specs.declared.state.State.{State}
-use Rattle.krl_server.specs.Outputs.{may_change_durable, HasCallbacks, AnswersWrite}
+use Rattle.krl_server.proofs.Names.{◌≡◌, false, subst, IfOk, State, may_change_durable, HasCallbacks, AnswersWrite, meaning}
 use Rattle.krl_server.proofs.Functions.Started.{server_kept, few_sent}
 use Rattle.std.proofs.lemmas.Result.{IfOk-weaker}
-use Rattle.krl_server.specs.StateMeaning.{meaning}
 use Rattle.krl_server.proofs.Functions.StepClauses.{durable_said, calls_said, answers_said}
 use Rattle.krl_server.proofs.Functions.Standing.{pushes_stand}
 use Rattle.krl_durable.specs.Changes.{IsChange}

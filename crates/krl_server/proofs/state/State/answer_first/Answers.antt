@@ -1,12 +1,4 @@
-use Rattle.std.proofs.Common.{◌≡◌, ◌<◌, Some, sym, subst, ◌∙◌, ap}
-use Rattle.krl_queue.specs.declared.waiter.Waiter.{Waiter}
-use Rattle.krl_table.specs.Rows.{front_of}
-use Rattle.krl_table.specs.Kept.{rows_of}
-use Rattle.krl_server.specs.StateMeaning.{meaning}
-use Rattle.krl_server.specs.Soundness.{IsSound}
-use Rattle.krl_server.specs.declared.state.State.{State}
-use Rattle.krl_server.specs.Answering.{can_push}
-use Rattle.krl_server.specs.CodeSteps.{HasTurned}
+use Rattle.krl_server.proofs.Names.{◌≡◌, ◌<◌, Some, sym, subst, ◌∙◌, ap, Waiter, front_of, rows_of, meaning, IsSound, State, can_push, HasTurned}
 use Rattle.krl_server.proofs.Outputs.Numbers.{sixty_four}
 use Rattle.krl_server.proofs.Functions.FirstTurn.{front_in, if_some, not_answerable, turned_grant, turned_absent}
 use Rattle.krl_server.proofs.state.State.answer_first.Goals as goal

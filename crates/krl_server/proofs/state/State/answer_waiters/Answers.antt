@@ -1,8 +1,4 @@
-use Rattle.std.proofs.Common.{◌++◌, ◌∷◌, [], sym, subst, arith}
-use Rattle.std.proofs.Math.ListN.{drop_of_length-le}
-use Rattle.std.proofs.lemmas.List.{drop_more}
-use Rattle.krl_server.specs.StateMeaning.{meaning}
-use Rattle.krl_server.specs.CodeSteps.{HaveWaiters}
+use Rattle.krl_server.proofs.Names.{◌++◌, ◌∷◌, [], sym, subst, arith, drop_of_length-le, drop_more, meaning, HaveWaiters}
 use Rattle.krl_server.proofs.Functions.Boxes.{sends_more, sends_length}
 use Rattle.krl_server.proofs.Functions.Rounds.{HasBegun, one_more, all_told}
 use Rattle.krl_server.proofs.Functions.Listed.{round_here, left_after_turn, none_left_at_all, still_listed}

@@ -1,12 +1,4 @@
-use Rattle.std.proofs.Common.{◌≤◌, ◌+◌, ◌-◌, List, length}
-use Rattle.krl_messages.specs.declared.to_client.ToClient.{ToClient}
-use Rattle.krl_table.specs.Kept.{rows_of}
-use Rattle.krl_table.specs.Sound.{IsTable}
-use Rattle.krl_server.specs.Termination.{waiting}
-use Rattle.krl_server.specs.Soundness.{IsSound}
-use Rattle.krl_server.specs.StateMeaning.{meaning, IsFormed}
-use Rattle.krl_server.specs.Outboxes.{Sends}
-use Rattle.krl_server.specs.CodeSteps.{HaveWaiters}
+use Rattle.krl_server.proofs.Names.{◌≤◌, ◌+◌, ◌-◌, List, length, ToClient, rows_of, IsTable, waiting, IsSound, meaning, IsFormed, Sends, HaveWaiters}
 use Rattle.krl_server.proofs.Functions.Rounds.{HasBegun}
 use Rattle.krl_server.proofs.Functions.Listed.{AreLeft}
 use Rattle.krl_server.proofs.state.State.answer_waiters.Given as goal

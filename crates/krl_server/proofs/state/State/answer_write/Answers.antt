@@ -1,8 +1,5 @@
-use Rattle.std.proofs.Common.{◌∙◌, ap, arith}
+use Rattle.krl_server.proofs.Names.{◌∙◌, ap, arith, slot_of, meaning, pushes, holding}
 use Rattle.krl_messages.specs.declared.to_client.PushBody.TheVariants as push
-use Rattle.krl_durable.specs.Index.{slot_of}
-use Rattle.krl_server.specs.StateMeaning.{meaning}
-use Rattle.krl_server.specs.Effects.{pushes, holding}
 use Rattle.krl_server.proofs.state.State.answer_write.Goals as goal
 
 pub holding-holding-requires-clause-slot : goal.holding-holding-requires-clause-slot

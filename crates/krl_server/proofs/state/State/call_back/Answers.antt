@@ -1,8 +1,4 @@
-use Rattle.std.proofs.Common.{subst, arith}
-use Rattle.std.proofs.Math.ListN.{drop_of_length-le}
-use Rattle.std.proofs.lemmas.List.{drop_more}
-use Rattle.krl_server.specs.StateMeaning.{meaning}
-use Rattle.krl_server.specs.CodeSteps.{HaveWaiters}
+use Rattle.krl_server.proofs.Names.{subst, arith, drop_of_length-le, drop_more, meaning, HaveWaiters}
 use Rattle.krl_server.proofs.Functions.CallbackLoop.{nobody_called, room_for_slot, slot_called, slots_called}
 use Rattle.krl_server.proofs.state.State.call_back.Goals as goal
 

@@ -1,6 +1,4 @@
-use Rattle.std.proofs.Common.{ℕ, drop}
-use Rattle.krl_server.specs.StateMeaning.{meaning}
-use Rattle.krl_server.specs.CodeSteps.{HaveWaiters}
+use Rattle.krl_server.proofs.Names.{ℕ, drop, meaning, HaveWaiters}
 use Rattle.krl_server.proofs.Functions.CallbackLoop.{AreCalled}
 use Rattle.krl_server.proofs.state.State.call_back.Given as goal
 

@@ -1,8 +1,4 @@
-use Rattle.std.proofs.Common.{◌≡◌, ◌≤◌, ◌+◌, length, sym, ap, subst, ◌∙◌, add-one, arith}
-use Rattle.krl_modes.specs.Modes.{join}
-use Rattle.krl_server.specs.StateMeaning.{meaning}
-use Rattle.krl_server.specs.Outboxes.{as_list, Sends}
-use Rattle.krl_server.specs.CodeSteps.{callback_if}
+use Rattle.krl_server.proofs.Names.{◌≡◌, ◌≤◌, ◌+◌, length, sym, ap, subst, ◌∙◌, add-one, arith, join, meaning, as_list, Sends, callback_if}
 use Rattle.krl_server.proofs.Functions.CallbackLoop.{IsCalled, callback_is, none_called, room_for_one, one_called}
 use Rattle.krl_server.proofs.Functions.CallbackLoop.{all_called, for_is}
 use Rattle.krl_server.proofs.state.State.call_back_for.Goals as goal

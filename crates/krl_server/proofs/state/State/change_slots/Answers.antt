@@ -1,12 +1,5 @@
 use Rattle.std.proofs.Common.{◌≡◌, ◌≤◌, ℕ, suc, Option, Some, None, IfSome, sym, ap, subst, ◌∙◌, arith}
-use Rattle.std.proofs.Math.Path.{fun_ext}
-use Rattle.krl_modes.specs.declared.point.TheConstants.{END}
-use Rattle.krl_table.specs.Kept.{rows_of, IsOver}
-use Rattle.krl_table.specs.Points.{MayInsert}
-use Rattle.krl_table.specs.Calls.{split}
-use Rattle.krl_durable.specs.Index.{slot_of}
-use Rattle.krl_durable.specs.Writes.{index_after, written}
-use Rattle.krl_server.specs.Effects.{rows_written, rows_after}
+use Rattle.krl_server.proofs.Names.{fun_ext, END, rows_of, IsOver, MayInsert, split, slot_of, index_after, written, rows_written, rows_after}
 use Rattle.krl_server.proofs.Functions.Changed.{insert_asks, delete_asks, put_after}
 use Rattle.krl_server.proofs.state.State.change_slots.Goals as goal
 

@@ -1,7 +1,4 @@
-use Rattle.std.proofs.Common.{◌≡◌, sym, ap, ◌∙◌, arith}
-use Rattle.krl_table.specs.Kept.{rows_of}
-use Rattle.krl_table.specs.Rows.{waits, most_clients}
-use Rattle.krl_server.specs.CodeSteps.{count_below}
+use Rattle.krl_server.proofs.Names.{◌≡◌, sym, ap, ◌∙◌, arith, rows_of, waits, most_clients, count_below}
 use Rattle.krl_server.proofs.Outputs.Numbers.{sixty_four}
 use Rattle.krl_server.proofs.Functions.WaitersByClient.{none_count}
 use Rattle.krl_server.proofs.state.State.count_waiting.Goals as goal

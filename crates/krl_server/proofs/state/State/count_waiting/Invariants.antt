@@ -1,7 +1,4 @@
-use Rattle.std.proofs.Common.{◌≡◌, ◌≤◌}
-use Rattle.krl_table.specs.Kept.{rows_of}
-use Rattle.krl_table.specs.Rows.{waits}
-use Rattle.krl_server.specs.CodeSteps.{count_below}
+use Rattle.krl_server.proofs.Names.{◌≡◌, ◌≤◌, rows_of, waits, count_below}
 use Rattle.krl_server.proofs.state.State.count_waiting.Given as goal
 
 abbrev pub invariant-loop-client : goal.invariant-loop-client

@@ -1,5 +1,4 @@
-use Rattle.std.proofs.Common.{◌<◌, sym, subst, arith}
-use Rattle.krl_queue.specs.declared.waiter.Waiter.{Waiter}
+use Rattle.krl_server.proofs.Names.{◌<◌, sym, subst, arith, Waiter}
 use Rattle.krl_server.proofs.Functions.StateChanges.{queued_means}
 use Rattle.krl_server.proofs.state.State.enqueue.Goals as goal
 

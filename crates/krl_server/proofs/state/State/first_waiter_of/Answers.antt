@@ -1,6 +1,4 @@
-use Rattle.std.proofs.Common.{sym, ◌∙◌}
-use Rattle.krl_durable.specs.Index.{slots}
-use Rattle.krl_server.specs.StateMeaning.{meaning}
+use Rattle.krl_server.proofs.Names.{sym, ◌∙◌, slots, meaning}
 use Rattle.krl_server.proofs.Functions.NudgeMessages.{one_nudged, none_nudged}
 use Rattle.krl_server.proofs.state.State.first_waiter_of.Goals as goal
 

@@ -1,5 +1,4 @@
-use Rattle.std.proofs.Common.{refl, ◌∙◌}
-use Rattle.krl_server.specs.StateMeaning.{meaning}
+use Rattle.krl_server.proofs.Names.{refl, ◌∙◌, meaning}
 use Rattle.krl_server.proofs.Grants.{taken_told}
 use Rattle.krl_server.proofs.Functions.FirstTurn.{front_is}
 use Rattle.krl_server.proofs.state.State.grant.Goals as goal

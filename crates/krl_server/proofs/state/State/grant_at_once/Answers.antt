@@ -1,12 +1,4 @@
-use Rattle.std.proofs.Common.{◌<◌, None, subst, ap, ◌∙◌, refl, arith}
-use Rattle.std.specs.Prelude.{set}
-use Rattle.krl_durable.specs.Index.{slot_of}
-use Rattle.krl_server.specs.declared.session.Session.{Session}
-use Rattle.krl_server.specs.declared.state.State.{State}
-use Rattle.krl_modes.specs.declared.point.TheConstants.{END}
-use Rattle.krl_server.specs.Effects.{acknowledged, queues}
-use Rattle.krl_server.specs.CodeSteps.{HasTurned}
-use Rattle.krl_server.specs.StateMeaning.{meaning}
+use Rattle.krl_server.proofs.Names.{◌<◌, None, subst, ap, ◌∙◌, refl, arith, set, slot_of, Session, State, END, acknowledged, queues, HasTurned, meaning}
 use Rattle.krl_server.proofs.Grants.{slot_always, taken_told}
 use Rattle.krl_server.proofs.Functions.FirstTurn.{if_some, always_if_some}
 use Rattle.krl_server.proofs.Functions.AtOnce.{free_here, queue_here, granted_means, granted_push, granted_turn}

@@ -1,10 +1,5 @@
-use Rattle.std.proofs.Common.{◌≡◌, ◌<◌, ◌+◌, ℕ, List, [], ◌∷◌, ◌++◌, length, take, get_or, sym, ap, subst, ◌∙◌, arith}
-use Rattle.std.proofs.lemmas.List.{take_more, length-take-le}
-use Rattle.krl_messages.specs.declared.holding.Holding.{Holding}
+use Rattle.krl_server.proofs.Names.{◌≡◌, ◌<◌, ◌+◌, ℕ, List, [], ◌∷◌, ◌++◌, length, take, get_or, sym, ap, subst, ◌∙◌, arith, take_more, length-take-le, Holding, Server, meaning, holding, holdings}
 use Rattle.krl_messages.specs.Several.{Ascend}
-use Rattle.krl_server.specs.Servers.{Server}
-use Rattle.krl_server.specs.StateMeaning.{meaning}
-use Rattle.krl_server.specs.Effects.{holding, holdings}
 use Rattle.krl_server.proofs.Grants.{ascend_take, holdings_on, holdings_long}
 use Rattle.krl_server.proofs.state.State.holdings.Goals as goal
 

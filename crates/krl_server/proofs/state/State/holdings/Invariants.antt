@@ -1,6 +1,4 @@
-use Rattle.std.proofs.Common.{◌≡◌, take}
-use Rattle.krl_server.specs.StateMeaning.{meaning}
-use Rattle.krl_server.specs.Effects.{holdings}
+use Rattle.krl_server.proofs.Names.{◌≡◌, take, meaning, holdings}
 use Rattle.krl_server.proofs.state.State.holdings.Given as goal
 
 abbrev pub invariant-loop-i : goal.invariant-loop-i

@@ -1,5 +1,4 @@
-use Rattle.std.proofs.Common.{sym, ap, ◌∙◌}
-use Rattle.krl_server.specs.CodeSteps.{is_registered}
+use Rattle.krl_server.proofs.Names.{sym, ap, ◌∙◌, is_registered}
 use Rattle.krl_server.proofs.Functions.NudgeMessages.{known_low}
 use Rattle.krl_server.proofs.state.State.is_registered.Goals as goal
 

@@ -1,6 +1,4 @@
-use Rattle.std.proofs.Common.{◌<◌, length, ap, arith}
-use Rattle.krl_table.specs.Rows.{most_clients}
-use Rattle.krl_server.specs.StateMeaning.{meaning}
+use Rattle.krl_server.proofs.Names.{◌<◌, length, ap, arith, most_clients, meaning}
 use Rattle.krl_server.proofs.Outputs.Numbers.{sixty_four, for_few}
 use Rattle.krl_server.proofs.state.State.nudge_served.Goals as goal
 

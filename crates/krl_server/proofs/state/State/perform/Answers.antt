@@ -1,13 +1,5 @@
-use Rattle.std.proofs.Common.{◌<◌, sym, ap, subst, ◌∙◌}
-use Rattle.krl_queue.specs.declared.waiter.Waiter.{Waiter}
-use Rattle.krl_table.specs.Kept.{rows_of}
-use Rattle.krl_server.specs.StateMeaning.{meaning, meant}
-use Rattle.krl_server.specs.Effects.{acknowledged, answers}
-use Rattle.krl_server.specs.Outboxes.{as_list}
+use Rattle.krl_server.proofs.Names.{◌<◌, sym, ap, subst, ◌∙◌, Waiter, rows_of, meaning, meant, acknowledged, answers, as_list, IsPerformed, Judges, WaitsNowhere}
 use Rattle.krl_server.specs.declared.case.Performed.{Performed}
-use Rattle.krl_server.specs.CodeSteps.{IsPerformed}
-use Rattle.krl_server.specs.Cases.{Judges}
-use Rattle.krl_table.specs.Waiters.{WaitsNowhere}
 use Rattle.krl_server.proofs.Functions.Facts.{facts_of, waits_nowhere, performed_write, performed_again}
 use Rattle.krl_server.proofs.state.State.perform.Goals as goal
 

@@ -1,12 +1,5 @@
-use Rattle.std.proofs.Common.{◌++◌, ◌∷◌, [], length, Some, None, sym, ap, subst, ◌∙◌, arith}
-use Rattle.std.specs.Prelude.{if◌then◌else◌}
-use Rattle.krl_server.specs.Callbacks.{callbacks}
-use Rattle.krl_server.specs.Cases.{is_alarm}
+use Rattle.krl_server.proofs.Names.{◌++◌, ◌∷◌, [], length, Some, None, sym, ap, subst, ◌∙◌, arith, if◌then◌else◌, callbacks, is_alarm, HaveWaiters, Sent, meaning, meant, ServerStep}
 use Rattle.krl_server.specs.Changes.{change_of}
-use Rattle.krl_server.specs.CodeSteps.{HaveWaiters}
-use Rattle.krl_server.specs.Outboxes.{Sent}
-use Rattle.krl_server.specs.StateMeaning.{meaning, meant}
-use Rattle.krl_server.specs.Steps.{ServerStep}
 use Rattle.krl_server.proofs.Functions.Boxes.{sends_length}
 use Rattle.krl_server.proofs.Functions.Facts.{facts_of}
 use Rattle.krl_server.proofs.Functions.Listed.{listed}

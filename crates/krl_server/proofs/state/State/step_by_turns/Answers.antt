@@ -1,9 +1,4 @@
-use Rattle.std.proofs.Common.{◌++◌, [], sym, ap, subst, ◌∙◌}
-use Rattle.krl_table.specs.Sound.{IsTable}
-use Rattle.krl_server.specs.StateMeaning.{meaning}
-use Rattle.krl_server.specs.Soundness.{IsSound}
-use Rattle.krl_server.specs.Steps.{ServerStep}
-use Rattle.krl_server.specs.Outboxes.{Sent}
+use Rattle.krl_server.proofs.Names.{◌++◌, [], sym, ap, subst, ◌∙◌, IsTable, meaning, IsSound, ServerStep, Sent}
 use Rattle.krl_server.proofs.Invariant.Kept.{effect_table}
 use Rattle.krl_server.proofs.Invariant.Sounds.{effect_sound}
 use Rattle.krl_server.proofs.Functions.Stepped.{room_left, step_is, alarm_said}

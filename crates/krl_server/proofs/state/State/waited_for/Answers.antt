@@ -1,5 +1,4 @@
-use Rattle.std.proofs.Common.{suc, sym, ap, subst, ◌∙◌, add-one}
-use Rattle.krl_server.specs.StateMeaning.{meaning}
+use Rattle.krl_server.proofs.Names.{suc, sym, ap, subst, ◌∙◌, add-one, meaning}
 use Rattle.krl_server.proofs.Functions.WaitsFor.{AreFound, none_found, one_found, none_more}
 use Rattle.krl_server.proofs.state.State.waited_for.Goals as goal
 use Rattle.krl_server.proofs.state.State.waited_for.Goals.{then-waits_for, else-waits_for}

@@ -1,6 +1,4 @@
-use Rattle.std.proofs.Common.{ap, ◌∙◌}
-use Rattle.std.specs.Prelude.{is_some}
-use Rattle.krl_table.specs.Kept.{rows_of}
+use Rattle.krl_server.proofs.Names.{ap, ◌∙◌, is_some, rows_of}
 use Rattle.krl_server.proofs.Functions.WaitersByClient.{waiter_waits}
 use Rattle.krl_server.proofs.state.State.waits.Goals as goal
 
