@@ -1,5 +1,5 @@
 -- What adopting and lowering do, by what they do to the range parts and to the entries.
-use Rattle.std.proofs.Common.{◌≡◌, ℕ, Bool, true, false, cond, Option, None, Some, refl, sym, ap, ◌∙◌, arith}
+use Rattle.std.proofs.Common.{◌≡◌, ℕ, Bool, true, false, cond, Option, None, Some, refl, sym, ap, ◌∙◌}
 use Rattle.std.specs.Option.{option_and_then}
 use Rattle.krl_modes.specs.declared.part.RangePart.{RangePart}
 use Rattle.krl_modes.specs.declared.part.KeyPart.{KeyPart}
@@ -14,6 +14,7 @@ use Rattle.krl_cache.specs.declared.entry.Entry.{Entry}
 use Rattle.krl_messages.specs.Holdings.{has_its_value}
 use Rattle.krl_cache.specs.Beliefs.{Belief, is_last, adopt, lower}
 use Rattle.krl_cache.specs.Lists.{part_of, value_of, belief_by, entry_of, entry_lowered, own_entry}
+use Rattle.krl_cache.proofs.Calls.{no_held}
 
 -- two beliefs that agree at each point are one
 pub same_belief : (a b : Belief) → ((p : ℕ) → a.range_at p ≡ b.range_at p) → ((p : ℕ) → a.key_at p ≡ b.key_at p) → ((p : ℕ) → a.value_at p ≡ b.value_at p) → a ≡ b
@@ -37,10 +38,6 @@ no_value key.S value h = refl
 no_value key.U value h = refl
 no_value key.X value h = refl
 
--- a holding that doesn't read its entry brings no value
-own_value : (h : Holding) → has_its_value h ≡ true → reads_key (key_of h.mode) ≡ false → h.value ≡ None
-own_value h rule e = grind arith
-
 through : {A : Type 0} (f : Option Entry → A) (b c : Bool) (o p : Option Entry) → f (cond b (cond c o None) p) ≡ cond b (cond c (f o) (f None)) (f p)
 through f true true o p = refl
 through f true false o p = refl
@@ -52,7 +49,7 @@ adopts h old new was is rule r e =
     r
     (λ p. ap part_of (e p) ∙ through part_of (contains h.span p) (is_last h.span p) (own_entry h) (was p) ∙ ap (λ (k : KeyPart). cond (contains h.span p) (cond (is_last h.span p) k key.N) (part_of (was p))) (part_of_own (key_of h.mode) h.value))
     (λ p. ap value_of (e p) ∙ through value_of (contains h.span p) (is_last h.span p) (own_entry h) (was p)
-    ∙ ap (λ (v : Option Value). cond (contains h.span p) (cond (is_last h.span p) v None) (value_of (was p))) (value_of_own (key_of h.mode) h.value ∙ no_value (key_of h.mode) h.value (own_value h rule)))
+    ∙ ap (λ (v : Option Value). cond (contains h.span p) (cond (is_last h.span p) v None) (value_of (was p))) (value_of_own (key_of h.mode) h.value ∙ no_value (key_of h.mode) h.value (no_held h rule)))
 
 part_lowered : (keep : KeyPart) (o : Option Entry) → part_of (option_and_then (entry_lowered keep) o) ≡ key_meet (part_of o) keep
 part_lowered keep None = refl
