@@ -1,11 +1,8 @@
 -- The invariants of one link, in groups by what they speak of.
-use Rattle.std.proofs.Common.{◌≡◌, ◌≢◌, ℕ, suc, ◌≤◌, ◌<◌, true, false, Some, None, ◌⊎◌}
+use Rattle.krl_machine.proofs.Names.{◌≡◌, ◌≢◌, ℕ, suc, ◌≤◌, ◌<◌, true, false, Some, None, ◌⊎◌, In, reads, rank, RangeAtMost, KeyAtMost, Recovering, Serving, Op, Delete, op_key, Head, Notice, Said}
+use Rattle.krl_machine.proofs.Names.{Push, Release, Write, Report, Shared, Link, IsLive, belief, IsRow}
 use Rattle.krl_modes.specs.declared.part.RangePart.TheVariants as range
 use Rattle.krl_modes.specs.declared.part.KeyPart.TheVariants as key
-use Rattle.krl_messages.specs.Members.{In}
-use Rattle.krl_modes.specs.Weights.{reads, rank}
-use Rattle.krl_machine.specs.Modes.{RangeAtMost, KeyAtMost}
-use Rattle.krl_machine.specs.Links.{Recovering, Serving, Op, Delete, op_key, Head, Notice, Said, Push, Release, Write, Report, Shared, Link, IsLive, belief, IsRow}
 
 -- who is who: incarnations, epochs, the phase
 abbrev pub Standing : Shared → Link → Type 0

@@ -1,16 +1,10 @@
 -- The groups Belief and Released last.
-use Rattle.std.proofs.Common.{◌≡◌, ◌≢◌, ℕ, ◌-◌, ◌≤◌, ◌<◌, Option, Some, None, unwrap_or, ◌⊎◌, inl, inr, refl, sym, subst, ◌∙◌, ⊎_elim, true≢false, arith}
-use Rattle.std.proofs.lemmas.Bool.{cases_lt}
-use Rattle.krl_modes.specs.declared.part.RangePart.{RangePart}
+use Rattle.krl_machine.proofs.Names.{◌≡◌, ◌≢◌, ℕ, ◌-◌, ◌≤◌, ◌<◌, Option, Some, None, unwrap_or, ◌⊎◌, inl, inr, refl, sym, subst, ◌∙◌, ⊎_elim, true≢false, arith, cases_lt, RangePart, KeyPart, In}
+use Rattle.krl_machine.proofs.Names.{rank, RangeAtMost, KeyAtMost, off_slot, Head, Push, Release, Shared, Link, LinkStep, Said, IsLive, belief, adopted, Passes, IsSlot, InSpan, IsRow, SlotLowered}
+use Rattle.krl_machine.proofs.Names.{kept, cut, starts, crashes, leaves, joins, accepts, lowers, registers, sees_off, takes_release, rank_bound, reads-range_meet, inserts-range_meet, rank-key_meet}
+use Rattle.krl_machine.proofs.Names.{each_more}
 use Rattle.krl_modes.specs.declared.part.RangePart.TheVariants as range
-use Rattle.krl_modes.specs.declared.part.KeyPart.{KeyPart}
 use Rattle.krl_modes.specs.declared.part.KeyPart.TheVariants as key
-use Rattle.krl_messages.specs.Members.{In}
-use Rattle.krl_modes.specs.Weights.{rank}
-use Rattle.krl_machine.specs.Modes.{RangeAtMost, KeyAtMost, off_slot}
-use Rattle.krl_machine.specs.Links.{Head, Push, Release, Shared, Link, LinkStep, Said, IsLive, belief, adopted, Passes, IsSlot, InSpan, IsRow, SlotLowered, kept, cut, starts, crashes, leaves, joins, accepts, lowers, registers, sees_off, takes_release}
-use Rattle.krl_modes.proofs.Weights.{rank_bound, reads-range_meet, inserts-range_meet, rank-key_meet}
-use Rattle.krl_messages.proofs.Members.{each_more}
 use Rattle.krl_machine.proofs.Modes.{is_X}
 use Rattle.krl_machine.proofs.Basics.{Standing, Counting, IsBlank, Belief, Released, Known, Inv}
 use Rattle.krl_machine.proofs.Points.{lowered_below, lowered_within, slot_of_point, epoch_cases}

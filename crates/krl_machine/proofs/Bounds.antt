@@ -1,7 +1,6 @@
 -- While nobody serves, the index and the bounds stand still.
-use Rattle.std.proofs.Common.{◌≡◌, ◌≢◌, inl, inr, refl, sym, ap, subst}
-use Rattle.krl_machine.specs.Links.{Serving, Shared, Link, LinkStep, registers, sees_off, takes_release}
-use Rattle.krl_machine.specs.Worlds.{World, Step, at_link, raises, applies, crash, start, finish, BoundAfter, stays, blanked, BoundStays}
+use Rattle.krl_machine.proofs.Names.{◌≡◌, ◌≢◌, inl, inr, refl, sym, ap, subst, Serving, Shared, Link, LinkStep, registers, sees_off, takes_release, World, Step, at_link, raises, applies, crash}
+use Rattle.krl_machine.proofs.Names.{start, finish, BoundAfter, stays, blanked, BoundStays}
 use Rattle.krl_machine.proofs.Worlds.{eq_cases}
 
 same_bound : (l m : Link) → m ≡ l → BoundAfter l m

@@ -1,8 +1,6 @@
 -- The group Counting lasts.
-use Rattle.std.proofs.Common.{◌≡◌, ℕ, suc, ◌≤◌, List, ◌∷◌, inl, inr, refl, sym, subst, ◌∙◌, true≢false, arith}
-use Rattle.krl_messages.specs.Members.{In}
-use Rattle.krl_messages.proofs.Members.{each_more}
-use Rattle.krl_machine.specs.Links.{Head, Shared, Link, LinkStep, head_of, starts, joins, accepts, lowers, issues, speaks, writes_again, registers, takes_head, pushes}
+use Rattle.krl_machine.proofs.Names.{◌≡◌, ℕ, suc, ◌≤◌, List, ◌∷◌, inl, inr, refl, sym, subst, ◌∙◌, true≢false, arith, In, each_more, Head, Shared, Link, LinkStep, head_of, starts, joins, accepts}
+use Rattle.krl_machine.proofs.Names.{lowers, issues, speaks, writes_again, registers, takes_head, pushes}
 use Rattle.krl_machine.proofs.Basics.{Standing, Counting, HeadOk, PushOk}
 
 -- a new head that is the client's own

@@ -1,23 +1,16 @@
 -- What the holdings of a message say, as a push may say it.
-use Rattle.std.proofs.Common.{◌≡◌, ◌≢◌, ℕ, suc, ◌≤◌, ◌<◌, Bool, true, false, Option, Some, None, List, [], ◌∷◌, inl, inr, refl, sym, ap, subst, ◌∙◌, arith}
-use Rattle.std.proofs.Common.{nat_eq, eq-eqb, ne_eqb}
-use Rattle.std.proofs.lemmas.Option.{none-some, same_Some}
+use Rattle.krl_machine.proofs.Names.{◌≡◌, ◌≢◌, ℕ, suc, ◌≤◌, ◌<◌, Bool, true, false, Option, Some, None, List, [], ◌∷◌, inl, inr, refl, sym, ap, subst, ◌∙◌, arith, nat_eq, eq-eqb, ne_eqb, none-some}
+use Rattle.krl_machine.proofs.Names.{same_Some, Mode, range_of, key_of, In, rank, Said, Shared, Link, IsSlot, InSpan, MaySay, at_slot, off_slots, key_at}
 use Rattle.std.specs.Prelude.{if◌then◌else◌}
 use Rattle.std.specs.List.{AllByRecursion}
 use Rattle.krl_modes.specs.declared.part.KeyPart.TheVariants as key
-use Rattle.krl_modes.specs.declared.mode.Mode.{Mode}
-use Rattle.krl_modes.specs.Modes.{range_of, key_of}
 use Rattle.krl_modes.specs.Spans.{contains}
 use Rattle.krl_messages.specs.declared.holding.Holding.{Holding}
-use Rattle.krl_messages.specs.Members.{In}
-use Rattle.krl_modes.specs.Weights.{rank}
 use Rattle.krl_modes.proofs.SpanLaws.{inside_span, in_span}
-use Rattle.krl_machine.specs.Links.{Said, Shared, Link, IsSlot, InSpan, MaySay, at_slot, off_slots}
 use Rattle.krl_machine.specs.Holdings.{said_at, or_by, said_by}
 use Rattle.krl_machine.proofs.Worlds.{eq_cases}
 use Rattle.krl_machine.proofs.Tables.{KeysNear, key_slot, range_span}
 use Rattle.krl_machine.proofs.Refines.{Shows}
-use Rattle.krl_machine.specs.Tables.{key_at}
 
 or_either : (P : Said → Type 0) (o : Option Said) (h : Holding) (q : ℕ) (t : Said) → (o ≡ Some t → P t) → (h.span.lo ≤ q → q < h.span.hi → P (said_at h q)) → or_by o h q ≡ Some t → P t
 or_either P (Some x) h q t said one e = said e

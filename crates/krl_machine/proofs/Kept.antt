@@ -1,15 +1,10 @@
 -- The groups Pushed, Known and Writing last.
-use Rattle.std.proofs.Common.{◌≡◌, ◌≢◌, ℕ, suc, ◌≤◌, ◌<◌, min, Option, Some, None, ◌⊎◌, inl, inr, refl, sym, ap, subst, ◌∙◌, ⊎_elim, true≢false, arith}
-use Rattle.std.proofs.lemmas.Option.{none-some, same_Some}
-use Rattle.krl_modes.specs.declared.part.RangePart.{RangePart}
+use Rattle.krl_machine.proofs.Names.{◌≡◌, ◌≢◌, ℕ, suc, ◌≤◌, ◌<◌, min, Option, Some, None, ◌⊎◌, inl, inr, refl, sym, ap, subst, ◌∙◌, ⊎_elim, true≢false, arith, none-some, same_Some, RangePart}
+use Rattle.krl_machine.proofs.Names.{KeyPart, reads, rank, RangeAtMost, IsMode, Op, Insert, Put, Delete, op_key, Push, Said, Shared, Link, LinkStep, IsLive, adopted, Lowered, untouched, lowered}
+use Rattle.krl_machine.proofs.Names.{MaySay, at_slot, off_slots, AnswersLast, OutAfter, MayIssue, starts, crashes, leaves, joins, accepts, lowers, issues, writes_again, registers, sees_off}
+use Rattle.krl_machine.proofs.Names.{takes_release, refuses, pushes, reads-range_meet, rank-key_meet, each_more}
 use Rattle.krl_modes.specs.declared.part.RangePart.TheVariants as range
-use Rattle.krl_modes.specs.declared.part.KeyPart.{KeyPart}
 use Rattle.krl_modes.specs.declared.part.KeyPart.TheVariants as key
-use Rattle.krl_modes.specs.Weights.{reads, rank}
-use Rattle.krl_machine.specs.Modes.{RangeAtMost, IsMode}
-use Rattle.krl_machine.specs.Links.{Op, Insert, Put, Delete, op_key, Push, Said, Shared, Link, LinkStep, IsLive, adopted, Lowered, untouched, lowered, MaySay, at_slot, off_slots, AnswersLast, OutAfter, MayIssue, starts, crashes, leaves, joins, accepts, lowers, issues, writes_again, registers, sees_off, takes_release, refuses, pushes}
-use Rattle.krl_modes.proofs.Weights.{reads-range_meet, rank-key_meet}
-use Rattle.krl_messages.proofs.Members.{each_more}
 use Rattle.krl_machine.proofs.Modes.{is_X, is_KN}
 use Rattle.krl_machine.proofs.Basics.{IsBlank, IsTrueOf, LiveAt, LiveOk, Pushed, NotAt, Known, Writing, Inv}
 use Rattle.krl_machine.proofs.Points.{lowered_below, epoch_cases}

@@ -1,14 +1,9 @@
 -- The groups Gathered and Rows last, and so all of Inv.
-use Rattle.std.proofs.Common.{◌≡◌, ◌≢◌, ℕ, ◌-◌, ◌≤◌, ◌<◌, None, refl, sym, subst, ◌∙◌, ⊎_elim, true≢false, arith}
-use Rattle.std.proofs.lemmas.Bool.{cases_lt}
-use Rattle.krl_modes.specs.declared.part.RangePart.{RangePart}
+use Rattle.krl_machine.proofs.Names.{◌≡◌, ◌≢◌, ℕ, ◌-◌, ◌≤◌, ◌<◌, None, refl, sym, subst, ◌∙◌, ⊎_elim, true≢false, arith, cases_lt, RangePart, KeyPart, In, each_more, RangeAtMost, KeyAtMost, Phase}
+use Rattle.krl_machine.proofs.Names.{Recovering, Serving, Notice, Push, Report, Shared, Link, LinkStep, IsSlot, InSpan, IsRow, IsRebuilt, no_range, no_key, starts, crashes, leaves, joins, accepts}
+use Rattle.krl_machine.proofs.Names.{lowers, reports_again, registers, sees_off, takes_report, takes_release}
 use Rattle.krl_modes.specs.declared.part.RangePart.TheVariants as range
-use Rattle.krl_modes.specs.declared.part.KeyPart.{KeyPart}
 use Rattle.krl_modes.specs.declared.part.KeyPart.TheVariants as key
-use Rattle.krl_messages.specs.Members.{In}
-use Rattle.krl_messages.proofs.Members.{each_more}
-use Rattle.krl_machine.specs.Modes.{RangeAtMost, KeyAtMost}
-use Rattle.krl_machine.specs.Links.{Phase, Recovering, Serving, Notice, Push, Report, Shared, Link, LinkStep, IsSlot, InSpan, IsRow, IsRebuilt, no_range, no_key, starts, crashes, leaves, joins, accepts, lowers, reports_again, registers, sees_off, takes_report, takes_release}
 use Rattle.krl_machine.proofs.Modes.{rank-off_slot}
 use Rattle.krl_machine.proofs.Basics.{IsBlank, Recovery, Rows, Inv}
 use Rattle.krl_machine.proofs.Points.{lowered_below, slot_of_point, row_span, epoch_cases}

@@ -1,16 +1,10 @@
 -- What the parts' numbers say, and that they say what the tables of the modes say.
 use Rattle.std.proofs.Common.{◌≡◌, ◌*◌, ◌≤◌, min, Some, ◌↔◌, arith}
-use Rattle.std.specs.Prelude.{IsTrue}
-use Rattle.std.proofs.lemmas.Bool.{and_parts, and_from}
-use Rattle.krl_modes.specs.declared.part.RangePart.{RangePart}
+use Rattle.krl_machine.proofs.Names.{IsTrue, and_parts, and_from, RangePart, KeyPart, Mode, range_of, key_of, at_or_above, mode_of, at_most, compatible, reads, inserts, rank, RangeAtMost, KeyAtMost}
+use Rattle.krl_machine.proofs.Names.{RangesAgree, KeysAgree, IsMode, off_slot}
 use Rattle.krl_modes.specs.declared.part.RangePart.TheVariants as range
-use Rattle.krl_modes.specs.declared.part.KeyPart.{KeyPart}
 use Rattle.krl_modes.specs.declared.part.KeyPart.TheVariants as key
-use Rattle.krl_modes.specs.declared.mode.Mode.{Mode}
 use Rattle.krl_modes.specs.Parts.{range_at_most, key_at_most, ranges_compatible, keys_compatible, range_join}
-use Rattle.krl_modes.specs.Modes.{range_of, key_of, at_or_above, mode_of, at_most, compatible}
-use Rattle.krl_modes.specs.Weights.{reads, inserts, rank}
-use Rattle.krl_machine.specs.Modes.{RangeAtMost, KeyAtMost, RangesAgree, KeysAgree, IsMode, off_slot}
 
 pub rank-off_slot : (a : RangePart) → rank (off_slot a) ≡ 3 * min (reads a) (inserts a)
 rank-off_slot a = grind arith

@@ -1,13 +1,6 @@
 -- Points, slots and lowering.
-use Rattle.std.proofs.Common.{◌≡◌, ℕ, zero, suc, ◌+◌, ◌≤◌, ◌<◌, Option, Some, None, refl, sym, ap, ◌∙◌, ⊎_elim, arith}
-use Rattle.std.proofs.lemmas.Bool.{cases_lt}
-use Rattle.std.proofs.lemmas.Option.{none-some}
-use Rattle.krl_modes.specs.declared.part.RangePart.{RangePart}
-use Rattle.krl_modes.specs.declared.part.KeyPart.{KeyPart}
-use Rattle.krl_messages.specs.Values.{Value}
-use Rattle.krl_machine.specs.Modes.{RangeAtMost, KeyAtMost}
-use Rattle.krl_machine.specs.Links.{Shared, Lowered, untouched, lowered, IsSlot, InSpan, IsRow}
-use Rattle.krl_modes.proofs.Weights.{reads-range_meet, inserts-range_meet, rank-key_meet}
+use Rattle.krl_machine.proofs.Names.{◌≡◌, ℕ, zero, suc, ◌+◌, ◌≤◌, ◌<◌, Option, Some, None, refl, sym, ap, ◌∙◌, ⊎_elim, arith, cases_lt, none-some, RangePart, KeyPart, Value, RangeAtMost, KeyAtMost}
+use Rattle.krl_machine.proofs.Names.{Shared, Lowered, untouched, lowered, IsSlot, InSpan, IsRow, reads-range_meet, inserts-range_meet, rank-key_meet}
 
 -- what a lowering leaves is at most what was there
 pub lowered_below : (lo last : ℕ) (kr : RangePart) (kk : KeyPart) (r0 : RangePart) (k0 : KeyPart) (r : RangePart) (k : KeyPart) (q : ℕ) → Lowered lo last kr kk r0 k0 r k q → RangeAtMost r r0 × KeyAtMost k k0

@@ -1,18 +1,11 @@
 -- The changes of a table of modes by slot are steps of the world on rows.
-use Rattle.std.proofs.Common.{◌≡◌, ◌≢◌, ℕ, suc, ◌<◌, Option, Some, None, sym, ap, subst, ◌∙◌, arith}
+use Rattle.krl_machine.proofs.Names.{◌≡◌, ◌≢◌, ℕ, suc, ◌<◌, Option, Some, None, sym, ap, subst, ◌∙◌, arith, Mode, range_of, key_of, Value, reads, inserts, RangeAtMost, KeyAtMost, RangesAgree}
+use Rattle.krl_machine.proofs.Names.{KeysAgree, off_slot, Serving, Insert, Shared, Link, IsSlot, range_at, key_at, World, Changed, Applies, inserted, Step, raises}
 use Rattle.krl_modes.specs.declared.part.RangePart.TheVariants as range
 use Rattle.krl_modes.specs.declared.part.KeyPart.TheVariants as key
-use Rattle.krl_modes.specs.declared.mode.Mode.{Mode}
-use Rattle.krl_modes.specs.Modes.{range_of, key_of}
-use Rattle.krl_messages.specs.Values.{Value}
-use Rattle.krl_modes.specs.Weights.{reads, inserts}
-use Rattle.krl_machine.specs.Modes.{RangeAtMost, KeyAtMost, RangesAgree, KeysAgree, off_slot}
-use Rattle.krl_machine.specs.Links.{Serving, Insert, Shared, Link, IsSlot}
 use Rattle.krl_machine.proofs.Modes.{rank-off_slot, is_KN}
 use Rattle.krl_machine.proofs.Worlds.{eq_cases, WorldInv}
 use Rattle.krl_machine.proofs.Tables.{KeysNear, table_row, table_below, table_agree, range_slot, key_slot, key_off, split_range, split_key, split_here, merge_range, merge_key}
-use Rattle.krl_machine.specs.Tables.{range_at, key_at}
-use Rattle.krl_machine.specs.Worlds.{World, Changed, Applies, inserted, Step, raises}
 
 -- the row of the link is that of this column of modes
 pub record Shows (s : Shared) (l : Link) (modes : ℕ → Mode) : Type 0 where

@@ -1,22 +1,16 @@
 -- The invariant holds in every reachable world, and what follows.
-use Rattle.std.proofs.Common.{◌≡◌, ◌≢◌, ℕ, zero, ◌+◌, suc, ◌≤◌, ◌<◌, Bool, true, false, Option, ◌⊎◌, inl, inr, refl, sym, ap, subst, ◌∙◌, ⊎_elim, true≢false, arith}
-use Rattle.std.proofs.lemmas.Option.{none-some}
-use Rattle.krl_modes.specs.declared.part.RangePart.{RangePart}
+use Rattle.krl_machine.proofs.Names.{◌≡◌, ◌≢◌, ℕ, zero, ◌+◌, suc, ◌≤◌, ◌<◌, Bool, true, false, Option, ◌⊎◌, inl, inr, refl, sym, ap, subst, ◌∙◌, ⊎_elim, true≢false, arith, none-some, RangePart}
+use Rattle.krl_machine.proofs.Names.{KeyPart, Value, In, reads, rank, RangeAtMost, KeyAtMost, RangesAgree, KeysAgree, Down, Recovering, Serving, op_key, Notice, Shared, Link, IsRow, no_range, no_key}
+use Rattle.krl_machine.proofs.Names.{takes_report, World, Changed, IsMissing, Step, at_link, raises, applies, crash, start, finish, blank_link, Reachable, begun, stepped, IsCompatible, IsBounded}
+use Rattle.krl_machine.proofs.Names.{IsCovered, row_of, ScanIsIndex, NoAlarm, with_entry, entries, ScanIsRange, Restarts}
 use Rattle.krl_modes.specs.declared.part.RangePart.TheVariants as range
-use Rattle.krl_modes.specs.declared.part.KeyPart.{KeyPart}
 use Rattle.krl_modes.specs.declared.part.KeyPart.TheVariants as key
-use Rattle.krl_messages.specs.Values.{Value}
-use Rattle.krl_messages.specs.Members.{In}
-use Rattle.krl_modes.specs.Weights.{reads, rank}
-use Rattle.krl_machine.specs.Modes.{RangeAtMost, KeyAtMost, RangesAgree, KeysAgree}
-use Rattle.krl_machine.specs.Links.{Down, Recovering, Serving, op_key, Notice, Shared, Link, IsRow, no_range, no_key, takes_report}
 use Rattle.krl_machine.proofs.Basics.{IsBlank, Inv}
 use Rattle.krl_machine.proofs.Points.{epoch_cases}
 use Rattle.krl_machine.proofs.Belief.{blank_below, live_registered}
 use Rattle.krl_machine.proofs.Kept.{known_blank}
 use Rattle.krl_machine.proofs.Links.{not_both, link_kept, row_none}
 use Rattle.krl_machine.proofs.Worlds.{eq_cases, Agree, WorldInv, aside, aside_inv, own_inv, own_agrees, top_falls}
-use Rattle.krl_machine.specs.Worlds.{World, Changed, IsMissing, Step, at_link, raises, applies, crash, start, finish, blank_link, Reachable, begun, stepped, IsCompatible, IsBounded, IsCovered, row_of, ScanIsIndex, NoAlarm, with_entry, entries, ScanIsRange, Restarts}
 
 -- parts below parts that agree, agree
 pub agree_below : (a b c d : RangePart) (e f g h : KeyPart) → RangeAtMost a b × KeyAtMost e f → RangeAtMost c d × KeyAtMost g h → RangesAgree b d × KeysAgree f h → RangesAgree a c × KeysAgree e g

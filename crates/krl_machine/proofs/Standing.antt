@@ -1,8 +1,6 @@
 -- The group Standing lasts.
-use Rattle.std.proofs.Common.{◌≡◌, suc, ◌≤◌, ◌<◌, false, inl, inr, refl, sym, ◌∙◌, ⊎_elim, true≢false, arith}
-use Rattle.std.proofs.lemmas.Bool.{cases_lt}
-use Rattle.krl_messages.proofs.Members.{each_more}
-use Rattle.krl_machine.specs.Links.{Shared, Link, LinkStep, starts, crashes, leaves, joins, hellos_again, reports_again, registers, notifies, sees_off, takes_report}
+use Rattle.krl_machine.proofs.Names.{◌≡◌, suc, ◌≤◌, ◌<◌, false, inl, inr, refl, sym, ◌∙◌, ⊎_elim, true≢false, arith, cases_lt, each_more, Shared, Link, LinkStep, starts, crashes, leaves, joins}
+use Rattle.krl_machine.proofs.Names.{hellos_again, reports_again, registers, notifies, sees_off, takes_report}
 use Rattle.krl_machine.proofs.Basics.{Standing}
 
 pub standing_kept : (s : Shared) (l l' : Link) → LinkStep s l l' → Standing s l → Standing s l'

@@ -1,11 +1,7 @@
 -- Several steps, and links of which one is another.
-use Rattle.std.proofs.Common.{◌≡◌, ℕ, false, Option, List, refl, sym, ap, subst, ◌∙◌}
-use Rattle.std.proofs.Common.{cond, nat_eq, eq-eqb, ne_eqb}
+use Rattle.krl_machine.proofs.Names.{◌≡◌, ℕ, false, Option, List, refl, sym, ap, subst, ◌∙◌, cond, nat_eq, eq-eqb, ne_eqb, Value, In, Head, Shared, Link, LinkStep, LinkSteps, idle, next, Logged}
+use Rattle.krl_machine.proofs.Names.{World, Changed, Step, at_link, Steps, none, more, Reachable, stepped}
 use mathlib.Core.Path.{fun_ext}
-use Rattle.krl_messages.specs.Values.{Value}
-use Rattle.krl_messages.specs.Members.{In}
-use Rattle.krl_machine.specs.Links.{Head, Shared, Link, LinkStep, LinkSteps, idle, next}
-use Rattle.krl_machine.specs.Worlds.{Logged, World, Changed, Step, at_link, Steps, none, more, Reachable, stepped}
 use Rattle.krl_machine.proofs.Worlds.{eq_cases, WorldInv}
 use Rattle.krl_machine.proofs.Runs.{world_kept}
 

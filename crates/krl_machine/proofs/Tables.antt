@@ -1,25 +1,15 @@
 -- A table of modes by slot gives rows, and its changes are those that the steps ask for.
-use Rattle.std.proofs.Common.{◌≡◌, ◌≢◌, ℕ, zero, suc, ◌+◌, ◌-◌, ◌≤◌, ◌<◌, Option, Some, None, ◌⊎◌, inl, inr, refl, sym, ap, subst, ◌∙◌, ⊎_elim, arith}
-use Rattle.std.proofs.lemmas.Bool.{cases_lt}
-use Rattle.krl_modes.specs.declared.part.RangePart.{RangePart}
+use Rattle.krl_machine.proofs.Names.{◌≡◌, ◌≢◌, ℕ, zero, suc, ◌+◌, ◌-◌, ◌≤◌, ◌<◌, Option, Some, None, ◌⊎◌, inl, inr, refl, sym, ap, subst, ◌∙◌, ⊎_elim, arith, cases_lt, RangePart, KeyPart, Mode}
+use Rattle.krl_machine.proofs.Names.{range_of, key_of, at_or_above, compatible, Value, RangeAtMost, KeyAtMost, RangesAgree, KeysAgree, IsMode, off_slot, Release, Report, Shared, Link, IsSlot, InSpan}
+use Rattle.krl_machine.proofs.Names.{IsRow, SlotLowered, kept, cut, IsRebuilt, reads_bound, inserts_bound, IsTrue, Bool, true, false, if◌then◌else◌, nat_lt, eq-eqb, ne_eqb, lt-ltb, le-ltb, none-some}
+use Rattle.krl_machine.proofs.Names.{first_of_two, slot_from, slot_of, range_at, key_or_off, key_at}
 use Rattle.krl_modes.specs.declared.part.RangePart.TheVariants as range
-use Rattle.krl_modes.specs.declared.part.KeyPart.{KeyPart}
 use Rattle.krl_modes.specs.declared.part.KeyPart.TheVariants as key
 use Rattle.krl_modes.specs.Parts.{range_meet, key_meet}
-use Rattle.krl_modes.specs.declared.mode.Mode.{Mode}
 use Rattle.krl_modes.specs.declared.mode.Mode.TheVariants as mode
-use Rattle.krl_modes.specs.Modes.{range_of, key_of, at_or_above, compatible}
-use Rattle.krl_messages.specs.Values.{Value}
-use Rattle.krl_machine.specs.Modes.{RangeAtMost, KeyAtMost, RangesAgree, KeysAgree, IsMode, off_slot}
-use Rattle.krl_machine.specs.Links.{Release, Report, Shared, Link, IsSlot, InSpan, IsRow, SlotLowered, kept, cut, IsRebuilt}
-use Rattle.krl_modes.proofs.Weights.{reads_bound, inserts_bound}
 use Rattle.krl_machine.proofs.Modes.{mode_parts, modes_agree_by_table, rank-off_slot}
-use Rattle.std.specs.Prelude.{IsTrue}
-use Rattle.std.proofs.Common.{Bool, true, false, if◌then◌else◌, nat_lt, eq-eqb, ne_eqb, lt-ltb, le-ltb}
-use Rattle.std.proofs.lemmas.Option.{none-some}
 use Rattle.krl_machine.proofs.Points.{row_span}
 use Rattle.krl_machine.proofs.Worlds.{eq_cases}
-use Rattle.krl_machine.specs.Tables.{first_of_two, slot_from, slot_of, range_at, key_or_off, key_at}
 
 above_range : (a : RangePart) (k : KeyPart) → RangeAtMost a (range_of (at_or_above a k))
 above_range a k = grind arith

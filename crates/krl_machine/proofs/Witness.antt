@@ -1,23 +1,16 @@
 -- A run in which a client comes to hold a lock: the steps' conditions can be met.
-use Rattle.std.proofs.Common.{◌≡◌, ◌≢◌, ◌≤◌, ◌<◌, true, false, None, [], ◌∷◌, inl, refl, sym, ap, subst, ◌∙◌, ⊎_elim, arith}
-use Rattle.std.proofs.lemmas.Bool.{cases_lt}
+use Rattle.krl_machine.proofs.Names.{◌≡◌, ◌≢◌, ◌≤◌, ◌<◌, true, false, None, [], ◌∷◌, inl, refl, sym, ap, subst, ◌∙◌, ⊎_elim, arith, cases_lt, Mode, RangesAgree, KeysAgree, off_slot, Down, Serving}
+use Rattle.krl_machine.proofs.Names.{Said, Push, Shared, Link, LinkStep, LinkSteps, idle, next, adopted, MaySay, IsLive, IsSlot, InSpan, no_range, no_key, starts, joins, accepts, speaks, registers}
+use Rattle.krl_machine.proofs.Names.{pushes, reads_bound, inserts_bound, rank_bound, ℕ, Some, In, range_at, key_at, World, raises, crash, Reachable, begun, stepped, first, blank_link}
 use Rattle.krl_modes.specs.declared.part.RangePart.TheVariants as range
-use Rattle.krl_modes.specs.declared.mode.Mode.{Mode}
 use Rattle.krl_modes.specs.declared.mode.Mode.TheVariants as mode
-use Rattle.krl_machine.specs.Modes.{RangesAgree, KeysAgree, off_slot}
-use Rattle.krl_machine.specs.Links.{Down, Serving, Said, Push, Shared, Link, LinkStep, LinkSteps, idle, next, adopted, MaySay, IsLive, IsSlot, InSpan, no_range, no_key, starts, joins, accepts, speaks, registers, pushes}
-use Rattle.krl_modes.proofs.Weights.{reads_bound, inserts_bound, rank_bound}
-use Rattle.std.proofs.Common.{ℕ, Some}
 use Rattle.krl_machine.proofs.Worlds.{eq_cases}
 use Rattle.krl_machine.proofs.Steps.{put, put_changed, steps_reachable, link_steps}
 use Rattle.krl_machine.proofs.Refines.{Shows}
 use Rattle.krl_machine.proofs.Holdings.{slot_holding, said_each}
 use Rattle.krl_machine.specs.Holdings.{said_by}
 use Rattle.krl_messages.specs.declared.holding.Holding.{Holding}
-use Rattle.krl_messages.specs.Members.{In}
 use Rattle.krl_machine.proofs.Tables.{KeysNear, table_row, key_slot, range_near, range_far, key_off}
-use Rattle.krl_machine.specs.Tables.{range_at, key_at}
-use Rattle.krl_machine.specs.Worlds.{World, raises, crash, Reachable, begun, stepped, first, blank_link}
 
 abbrev pub shared : Shared
 shared = record { epoch = 1; phase = Serving; index = λ q. None; end = 9 }

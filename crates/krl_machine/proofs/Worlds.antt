@@ -1,23 +1,15 @@
 -- The world's steps keep the invariant.
-use Rattle.std.proofs.Common.{◌≡◌, ◌≢◌, ℕ, suc, ◌-◌, ◌≤◌, ◌<◌, Bool, true, false, Option, Some, None, ◌∷◌, ◌⊎◌, inl, inr, refl, sym, ap, subst, ◌∙◌, ⊎_elim, arith}
-use Rattle.std.proofs.lemmas.Bool.{cases_lt}
-use Rattle.std.proofs.lemmas.Option.{none-some}
-use Rattle.krl_modes.specs.declared.part.RangePart.{RangePart}
+use Rattle.krl_machine.proofs.Names.{◌≡◌, ◌≢◌, ℕ, suc, ◌-◌, ◌≤◌, ◌<◌, Bool, true, false, Option, Some, None, ◌∷◌, ◌⊎◌, inl, inr, refl, sym, ap, subst, ◌∙◌, ⊎_elim, arith, cases_lt, none-some}
+use Rattle.krl_machine.proofs.Names.{RangePart, KeyPart, Value, In, reads, inserts, rank, RangeAtMost, KeyAtMost, RangesAgree, KeysAgree, IsMode, off_slot, Serving, Op, Delete, op_key, Said, Release}
+use Rattle.krl_machine.proofs.Names.{Write, Shared, Link, belief, LinkStep, Passes, IsSlot, InSpan, IsRow, SlotLowered, kept, cut, registers, sees_off, takes_release, reads_bound, rank_bound}
+use Rattle.krl_machine.proofs.Names.{reads-range_meet, inserts-range_meet, rank-key_meet, World, Applies, inserted, replaced, deleted, wrote_by}
 use Rattle.krl_modes.specs.declared.part.RangePart.TheVariants as range
-use Rattle.krl_modes.specs.declared.part.KeyPart.{KeyPart}
-use Rattle.krl_messages.specs.Values.{Value}
-use Rattle.krl_messages.specs.Members.{In}
-use Rattle.krl_modes.specs.Weights.{reads, inserts, rank}
-use Rattle.krl_machine.specs.Modes.{RangeAtMost, KeyAtMost, RangesAgree, KeysAgree, IsMode, off_slot}
-use Rattle.krl_machine.specs.Links.{Serving, Op, Delete, op_key, Said, Release, Write, Shared, Link, belief, LinkStep, Passes, IsSlot, InSpan, IsRow, SlotLowered, kept, cut, registers, sees_off, takes_release}
-use Rattle.krl_modes.proofs.Weights.{reads_bound, rank_bound, reads-range_meet, inserts-range_meet, rank-key_meet}
 use Rattle.krl_machine.proofs.Modes.{rank-off_slot, is_N, is_KN}
 use Rattle.krl_machine.proofs.Basics.{IsBlank, IsTrueOf, Known, Inv}
 use Rattle.krl_machine.proofs.Points.{slot_of_point, epoch_cases}
 use Rattle.krl_machine.proofs.Belief.{blank_below, none_live}
 use Rattle.krl_machine.proofs.Kept.{known_blank}
 use Rattle.krl_machine.proofs.Links.{not_both}
-use Rattle.krl_machine.specs.Worlds.{World, Applies, inserted, replaced, deleted, wrote_by}
 
 pub eq_cases : {A : Type 0} (m n : ℕ) → (m ≡ n → A) → (m ≢ n → A) → A
 eq_cases m n f g = ⊎_elim (λ (a : m < n). g (λ e. omega (arith, e))) (λ (a : n ≤ m). ⊎_elim (λ (b : n < m). g (λ e. omega (arith, e))) (λ (b : m ≤ n). f (omega arith)) (cases_lt n m)) (cases_lt m n)

@@ -1,15 +1,11 @@
 -- Each write is done once, and what clients are told of it is so.
-use Rattle.std.proofs.Common.{◌≡◌, ◌≢◌, ℕ, suc, ◌≤◌, true, false, Option, Some, None, List, ◌∷◌, ◌⊎◌, inl, inr, refl, sym, ap, subst, ◌∙◌, ⊎_elim, true≢false, arith}
-use Rattle.krl_modes.specs.declared.part.KeyPart.{KeyPart}
-use Rattle.krl_messages.specs.Values.{Value}
-use Rattle.krl_messages.specs.Members.{In}
-use Rattle.krl_messages.proofs.Members.{each_more}
-use Rattle.krl_machine.specs.Links.{Op, Insert, Put, Delete, op_key, Push, Write, Wrote, Shared, Link, LinkStep, Passes, AnswersLast, starts, issues, writes_again, registers, refuses, pushes}
+use Rattle.krl_machine.proofs.Names.{◌≡◌, ◌≢◌, ℕ, suc, ◌≤◌, true, false, Option, Some, None, List, ◌∷◌, ◌⊎◌, inl, inr, refl, sym, ap, subst, ◌∙◌, ⊎_elim, true≢false, arith, KeyPart, Value, In}
+use Rattle.krl_machine.proofs.Names.{each_more, Op, Insert, Put, Delete, op_key, Push, Write, Wrote, Shared, Link, LinkStep, Passes, AnswersLast, starts, issues, writes_again, registers, refuses}
+use Rattle.krl_machine.proofs.Names.{pushes, if◌then◌else◌, eq-eqb, ne_eqb, Logged, World, Changed, Applies, inserted, replaced, deleted, wrote_by, Step, at_link, raises, applies, crash, start}
+use Rattle.krl_machine.proofs.Names.{finish, blank_link, Reachable, begun, stepped, IsOnce, entry_after, replay, IsDue, IsProper, WritesOnce}
 use Rattle.krl_machine.proofs.Basics.{Inv}
-use Rattle.std.proofs.Common.{if◌then◌else◌, eq-eqb, ne_eqb}
 use Rattle.krl_machine.proofs.Worlds.{eq_cases, WorldInv}
 use Rattle.krl_machine.proofs.Runs.{reachable_inv}
-use Rattle.krl_machine.specs.Worlds.{Logged, World, Changed, Applies, inserted, replaced, deleted, wrote_by, Step, at_link, raises, applies, crash, start, finish, blank_link, Reachable, begun, stepped, IsOnce, entry_after, replay, IsDue, IsProper, WritesOnce}
 
 -- what one link knows of its applied writes
 abbrev pub Wrotes : Link → Type 0

@@ -1,17 +1,8 @@
 -- What a write that is Applied makes of a table of modes by slot: its condition, and every row after it.
-use Rattle.std.proofs.Common.{◌≡◌, ◌≢◌, ℕ, suc, ◌<◌, Option, Some, None, sym, ap, subst, ◌∙◌, arith}
-use Rattle.std.proofs.lemmas.Option.{none-some}
+use Rattle.krl_machine.proofs.Names.{◌≡◌, ◌≢◌, ℕ, suc, ◌<◌, Option, Some, None, sym, ap, subst, ◌∙◌, arith, none-some, Mode, range_of, key_of, at_or_above, Value, reads, inserts, rank, RangesAgree}
+use Rattle.krl_machine.proofs.Names.{KeysAgree, off_slot, Op, Insert, Put, Delete, IsSlot, InSpan, range_at, key_at, World, Applies, replaced, deleted, reads_bound}
 use Rattle.krl_modes.specs.declared.part.RangePart.TheVariants as range
 use Rattle.krl_modes.specs.declared.part.KeyPart.TheVariants as key
-use Rattle.krl_modes.specs.declared.mode.Mode.{Mode}
-use Rattle.krl_modes.specs.Modes.{range_of, key_of, at_or_above}
-use Rattle.krl_messages.specs.Values.{Value}
-use Rattle.krl_modes.specs.Weights.{reads, inserts, rank}
-use Rattle.krl_machine.specs.Modes.{RangesAgree, KeysAgree, off_slot}
-use Rattle.krl_machine.specs.Links.{Op, Insert, Put, Delete, IsSlot, InSpan}
-use Rattle.krl_machine.specs.Tables.{range_at, key_at}
-use Rattle.krl_machine.specs.Worlds.{World, Applies, replaced, deleted}
-use Rattle.krl_modes.proofs.Weights.{reads_bound}
 use Rattle.krl_machine.proofs.Modes.{range_of-has_mode, key_of-has_mode, is_N, is_KN}
 use Rattle.krl_machine.proofs.Worlds.{WorldInv}
 use Rattle.krl_machine.proofs.Tables.{KeysNear, range_slot, key_slot, range_span, table_same, same_slots, split_range, merge_range, merge_key}
