@@ -3,3 +3,4 @@ pub mod Refinement
 pub mod Promises
 pub mod Progress
 pub mod Examples
+mod Names

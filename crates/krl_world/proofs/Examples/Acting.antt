@@ -1,12 +1,6 @@
 -- A server's step, by what its parts come to.
-use Rattle.std.proofs.Common.{◌≡◌, ◌≢◌, ◌∙◌, true, false, Some, None, List, [], ◌++◌, sym, subst}
-use Rattle.krl_messages.specs.declared.to_server.ToServer.{ToServer}
-use Rattle.krl_messages.specs.declared.to_client.ToClient.{ToClient}
-use Rattle.krl_server.specs.Servers.{Server, is_recovering}
-use Rattle.krl_server.specs.Cases.{Case, case_of}
-use Rattle.krl_server.specs.Effects.{Done, effect}
-use Rattle.krl_server.specs.Answering.{Turn, next_turn, answer_first, Answered, stops, goes_on}
-use Rattle.krl_server.specs.Steps.{Kind, Idle, kind_of, calls_of, Ends, recovers, serves, ServerStep}
+use Rattle.krl_world.proofs.Names.{◌≡◌, ◌≢◌, ◌∙◌, true, false, Some, None, List, [], ◌++◌, sym, subst, ToServer, ToClient, Server, is_recovering, Case, case_of, Done, effect, Turn, next_turn}
+use Rattle.krl_world.proofs.Names.{answer_first, Answered, stops, goes_on, Kind, Idle, kind_of, calls_of, Ends, recovers, serves, ServerStep}
 use Rattle.krl_world.proofs.Refinement.Serves.{nil_right}
 
 -- these are sent, one after another

@@ -1,34 +1,20 @@
 -- On from the first run: another client wants the same gap alone, so the first is called back, and the other is granted it.
-use Rattle.std.proofs.Common.{◌≡◌, Some, None, List, [], ◌∷◌, refl, sym, ap}
+use Rattle.krl_world.proofs.Names.{◌≡◌, Some, None, List, [], ◌∷◌, refl, sym, ap, ToServer, ToClient, Index, most_clients, Server, Registers, Waits, Lowers, case_of, effect, Turn, next_turn}
+use Rattle.krl_world.proofs.Names.{answer_first, callbacks, ServerStep, Client, locked, lowered, says_report, says_ack, accepted, Step, Up, State, fresh, seated, served, with_client, opened, span}
+use Rattle.krl_world.proofs.Names.{applies, Takes, Runs}
 use Rattle.std.specs.FinMap as map
 use Rattle.krl_modes.specs.declared.part.RangePart.TheVariants as range
 use Rattle.krl_modes.specs.declared.part.KeyPart.TheVariants as key
 use Rattle.krl_modes.specs.declared.mode.Mode.TheVariants as mode
-use Rattle.krl_messages.specs.declared.to_server.ToServer.{ToServer}
 use Rattle.krl_messages.specs.declared.to_server.ToServerBody.TheVariants as said
 use Rattle.krl_messages.specs.declared.to_server.RequestBody.TheVariants as asked
-use Rattle.krl_messages.specs.declared.to_client.ToClient.{ToClient}
 use Rattle.krl_messages.specs.declared.to_client.ToClientBody.TheVariants as heard
 use Rattle.krl_messages.specs.declared.to_client.PushBody.TheVariants as push
-use Rattle.krl_durable.specs.Index.{Index}
-use Rattle.krl_table.specs.Rows.{most_clients}
-use Rattle.krl_server.specs.Servers.{Server}
-use Rattle.krl_server.specs.Cases.{Registers, Waits, Lowers, case_of}
-use Rattle.krl_server.specs.Effects.{effect}
-use Rattle.krl_server.specs.Answering.{Turn, next_turn, answer_first}
-use Rattle.krl_server.specs.Callbacks.{callbacks}
-use Rattle.krl_server.specs.Steps.{ServerStep}
-use Rattle.krl_client.specs.Clients.{Client}
 use Rattle.krl_client.specs.Clients as clients
-use Rattle.krl_client.specs.Commands.{locked, lowered}
 use Rattle.krl_client.specs.Messages as messages
-use Rattle.krl_client.specs.Messages.{says_report, says_ack, accepted}
-use Rattle.krl_steps.specs.declared.step.Step.{Step}
 use Rattle.krl_steps.specs.declared.step.Step.TheVariants as step
 use Rattle.krl_steps.specs.declared.step.Command.TheVariants as command
 use Rattle.krl_steps.specs.declared.answer.Answer.TheVariants as told
-use Rattle.krl_world.specs.States.{Up, State, fresh, seated, served, with_client, opened}
-use Rattle.krl_world.specs.Steps.{span, applies, Takes, Runs}
 use Rattle.krl_world.proofs.Examples.Acting.{answers_none, answers_one}
 use Rattle.krl_world.proofs.Examples.Worked.{two, granted}
 use Rattle.krl_world.proofs.Examples.Running.{m, index_entries, k3, no_pieces, told_nothing, w6}

@@ -1,13 +1,8 @@
 -- On from the first run: the server crashes, and a scan of the client's cache gives the entry still.
-use Rattle.std.proofs.Common.{◌≡◌, [], ◌∷◌, ◌++◌, Some, refl}
-use Rattle.std.specs.Prelude.{Ok}
-use Rattle.krl_durable.specs.Registers.{Durable}
-use Rattle.krl_client.specs.Commands.{finds_rows}
+use Rattle.krl_world.proofs.Names.{◌≡◌, [], ◌∷◌, ◌++◌, Some, refl, Ok, Durable, finds_rows, Down, State, fresh, opened, served, Takes, Steps, IsReachable}
 use Rattle.krl_steps.specs.declared.step.Step.TheVariants as step
 use Rattle.krl_steps.specs.declared.step.Command.TheVariants as command
 use Rattle.krl_steps.specs.declared.answer.Answer.TheVariants as told
-use Rattle.krl_world.specs.States.{Down, State, fresh, opened, served}
-use Rattle.krl_world.specs.Steps.{Takes, Steps, IsReachable}
 use Rattle.krl_world.proofs.Examples.Worked.{two, granted}
 use Rattle.krl_world.proofs.Examples.Running.{m, k3, w6, opens, run, runs, covers, rows}
 use Rattle.krl_world.proofs.Examples.Several.{runs_on}

@@ -1,28 +1,15 @@
 -- What the server does in another short run: a client may insert into the gap below 20, and inserts 15.
-use Rattle.std.proofs.Common.{◌≡◌, ℕ, Some, None, List, [], ◌∷◌, ◌++◌, refl, sym, subst}
+use Rattle.krl_world.proofs.Names.{◌≡◌, ℕ, Some, None, List, [], ◌∷◌, ◌++◌, refl, sym, subst, Value, Holding, ToServer, ToClient, PushBody, Index, most_entries, most_clients, Server, Waits, Judges}
+use Rattle.krl_world.proofs.Names.{case_of, effect, Turn, next_turn, answer_first, Answered, stops, goes_on, callbacks, Acts, kind_of, Ends, serves, ServerStep}
 use Rattle.std.specs.FinMap as map
 use Rattle.krl_modes.specs.declared.mode.Mode.TheVariants as mode
-use Rattle.krl_messages.specs.Values.{Value}
-use Rattle.krl_messages.specs.declared.holding.Holding.{Holding}
 use Rattle.krl_messages.specs.declared.outcome.Outcome.TheVariants as outcome
 use Rattle.krl_messages.specs.declared.write_op.WriteOp.TheVariants as write
-use Rattle.krl_messages.specs.declared.to_server.ToServer.{ToServer}
 use Rattle.krl_messages.specs.declared.to_server.ToServerBody.TheVariants as said
 use Rattle.krl_messages.specs.declared.to_server.RequestBody.{RequestBody}
 use Rattle.krl_messages.specs.declared.to_server.RequestBody.TheVariants as asked
-use Rattle.krl_messages.specs.declared.to_client.ToClient.{ToClient}
 use Rattle.krl_messages.specs.declared.to_client.ToClientBody.TheVariants as told
-use Rattle.krl_messages.specs.declared.to_client.PushBody.{PushBody}
 use Rattle.krl_messages.specs.declared.to_client.PushBody.TheVariants as push
-use Rattle.krl_durable.specs.Index.{Index}
-use Rattle.krl_durable.specs.Writes.{most_entries}
-use Rattle.krl_table.specs.Rows.{most_clients}
-use Rattle.krl_server.specs.Servers.{Server}
-use Rattle.krl_server.specs.Cases.{Waits, Judges, case_of}
-use Rattle.krl_server.specs.Effects.{effect}
-use Rattle.krl_server.specs.Answering.{Turn, next_turn, answer_first, Answered, stops, goes_on}
-use Rattle.krl_server.specs.Callbacks.{callbacks}
-use Rattle.krl_server.specs.Steps.{Acts, kind_of, Ends, serves, ServerStep}
 use Rattle.krl_world.proofs.Examples.Worked.{two, joined}
 
 abbrev pub three : List (ℕ × Value)

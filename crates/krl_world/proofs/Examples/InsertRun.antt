@@ -1,26 +1,14 @@
 -- Another run, step by step: a client locks the gap below 20, inserts 15 there, and is told Applied.
-use Rattle.std.proofs.Common.{◌≡◌, ◌∙◌, Some, List, [], ◌∷◌, refl, sym, ap, inl, inr}
-use Rattle.std.specs.Ordering.{nat_cmp}
-use Rattle.std.specs.Cmp.{nat_cmp_total}
+use Rattle.krl_world.proofs.Names.{◌≡◌, ◌∙◌, Some, List, [], ◌∷◌, refl, sym, ap, inl, inr, nat_cmp, nat_cmp_total, put, In, case_of, Client, locked, wrote, says_ack, accepted, AppliedWrite, Step, Up}
+use Rattle.krl_world.proofs.Names.{State, fresh, served, with_client, opened, applies, Takes, IsReachable, answer_message}
 use Rattle.std.specs.FinMap as map
-use Rattle.std.specs.FinMap.Entries.{put}
 use Rattle.krl_modes.specs.declared.mode.Mode.TheVariants as mode
 use Rattle.krl_messages.specs.declared.outcome.Outcome.TheVariants as outcome
 use Rattle.krl_messages.specs.declared.write_op.WriteOp.TheVariants as write
 use Rattle.krl_messages.specs.declared.to_client.PushBody.TheVariants as push
-use Rattle.krl_messages.specs.Members.{In}
-use Rattle.krl_server.specs.Cases.{case_of}
-use Rattle.krl_client.specs.Clients.{Client}
-use Rattle.krl_client.specs.Commands.{locked, wrote}
-use Rattle.krl_client.specs.Messages.{says_ack, accepted}
-use Rattle.krl_steps.specs.declared.applied_write.AppliedWrite.{AppliedWrite}
-use Rattle.krl_steps.specs.declared.step.Step.{Step}
 use Rattle.krl_steps.specs.declared.step.Step.TheVariants as step
 use Rattle.krl_steps.specs.declared.step.Command.TheVariants as command
 use Rattle.krl_steps.specs.declared.answer.Answer.TheVariants as told
-use Rattle.krl_world.specs.States.{Up, State, fresh, served, with_client, opened}
-use Rattle.krl_world.specs.Steps.{applies, Takes, IsReachable}
-use Rattle.krl_world.specs.Promises.{answer_message}
 use Rattle.krl_world.proofs.Examples.Worked.{joined}
 use Rattle.krl_world.proofs.Examples.Running.{m, index_entries, k1, no_pieces, told_nothing, w1, w2, w3, starts, hears_hello, joins, opens}
 use Rattle.krl_world.proofs.Examples.InsertAtServer.{three, lock, gap, grant, insert, entry, answer, granted, inserted, lock_case, reads_lock, insert_case, reads_insert}

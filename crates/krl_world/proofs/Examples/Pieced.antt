@@ -1,18 +1,9 @@
 -- Pieces that describe what the clients of these runs believe.
-use Rattle.std.proofs.Common.{◌≡◌, Bool, true, false, Some, [], ◌∷◌, refl, if◌then◌else◌, nat_eq, ℕ, suc, arith}
-use Rattle.std.proofs.lemmas.Bool.Decides.{nat_tests}
-use Rattle.krl_modes.specs.declared.part.RangePart.{RangePart}
+use Rattle.krl_world.proofs.Names.{◌≡◌, Bool, true, false, Some, [], ◌∷◌, refl, if◌then◌else◌, nat_eq, ℕ, suc, arith, nat_tests, RangePart, KeyPart, range_meet, key_meet, contains, Pieces, Holding}
+use Rattle.krl_world.proofs.Names.{adopt, lower, no_belief, Describes, span}
 use Rattle.krl_modes.specs.declared.part.RangePart.TheVariants as range
-use Rattle.krl_modes.specs.declared.part.KeyPart.{KeyPart}
 use Rattle.krl_modes.specs.declared.part.KeyPart.TheVariants as key
 use Rattle.krl_modes.specs.declared.mode.Mode.TheVariants as mode
-use Rattle.krl_modes.specs.Parts.{range_meet, key_meet}
-use Rattle.krl_modes.specs.Spans.{contains}
-use Rattle.krl_messages.specs.declared.pieces.Pieces.{Pieces}
-use Rattle.krl_messages.specs.declared.holding.Holding.{Holding}
-use Rattle.krl_cache.specs.Beliefs.{adopt, lower, no_belief}
-use Rattle.krl_cache.specs.Kept.{Describes}
-use Rattle.krl_world.specs.Steps.{span}
 use Rattle.krl_world.proofs.Examples.Worked.{gap}
 use Rattle.krl_world.proofs.Examples.Running.{no_pieces}
 

@@ -1,51 +1,26 @@
 -- On from there: the server crashes and starts again, both clients report, it serves, and a client that holds a key and the
 -- gaps at both of its sides alone deletes it, and is told Applied.
-use Rattle.std.proofs.Common.{◌≡◌, ◌≤◌, ℕ, zero, suc, ◌∙◌, Bool, true, false, cond, Some, None, List, [], ◌∷◌, ◌++◌, inl, inr, refl, sym, ap, arith}
-use Rattle.std.specs.Ordering.{nat_cmp, eq_by_cmp}
-use Rattle.std.specs.Cmp.{nat_cmp_total}
+use Rattle.krl_world.proofs.Names.{◌≡◌, ◌≤◌, ℕ, zero, suc, ◌∙◌, Bool, true, false, cond, Some, None, List, [], ◌∷◌, ◌++◌, inl, inr, refl, sym, ap, arith, nat_cmp, eq_by_cmp, nat_cmp_total, put}
+use Rattle.krl_world.proofs.Names.{nat_tests, Value, Holding, Pieces, ToServer, ToClient, PushBody, In, Index, is_slot, most_entries, most_clients, Server, Rebuilds, Waits, Judges, case_of, effect}
+use Rattle.krl_world.proofs.Names.{Turn, next_turn, answer_first, callbacks, ServerStep, start, Client, locked, wrote, says_ack, accepted, AppliedWrite, Step, Up, Down, State, fresh, served}
+use Rattle.krl_world.proofs.Names.{with_client, durable_of, index_of, is_serving, opened, span, applies, Takes, Runs, IsReachable, answer_message}
 use Rattle.std.specs.FinMap as map
-use Rattle.std.specs.FinMap.Entries.{put}
-use Rattle.std.proofs.lemmas.Bool.Decides.{nat_tests}
 use Rattle.krl_modes.specs.declared.part.RangePart.TheVariants as range
 use Rattle.krl_modes.specs.declared.part.KeyPart.TheVariants as key
 use Rattle.krl_modes.specs.declared.mode.Mode.TheVariants as mode
-use Rattle.krl_messages.specs.Values.{Value}
-use Rattle.krl_messages.specs.declared.holding.Holding.{Holding}
-use Rattle.krl_messages.specs.declared.pieces.Pieces.{Pieces}
 use Rattle.krl_messages.specs.declared.outcome.Outcome.TheVariants as outcome
 use Rattle.krl_messages.specs.declared.write_op.WriteOp.TheVariants as write
-use Rattle.krl_messages.specs.declared.to_server.ToServer.{ToServer}
 use Rattle.krl_messages.specs.declared.to_server.ToServerBody.TheVariants as said
 use Rattle.krl_messages.specs.declared.to_server.RequestBody.{RequestBody}
 use Rattle.krl_messages.specs.declared.to_server.RequestBody.TheVariants as asked
-use Rattle.krl_messages.specs.declared.to_client.ToClient.{ToClient}
 use Rattle.krl_messages.specs.declared.to_client.ToClientBody.TheVariants as heard
-use Rattle.krl_messages.specs.declared.to_client.PushBody.{PushBody}
 use Rattle.krl_messages.specs.declared.to_client.PushBody.TheVariants as push
-use Rattle.krl_messages.specs.Members.{In}
-use Rattle.krl_durable.specs.Index.{Index, is_slot}
-use Rattle.krl_durable.specs.Writes.{most_entries}
-use Rattle.krl_table.specs.Rows.{most_clients}
 use Rattle.krl_table.specs.Reports.{adopted}
-use Rattle.krl_server.specs.Servers.{Server}
-use Rattle.krl_server.specs.Cases.{Rebuilds, Waits, Judges, case_of}
-use Rattle.krl_server.specs.Effects.{effect}
-use Rattle.krl_server.specs.Answering.{Turn, next_turn, answer_first}
-use Rattle.krl_server.specs.Callbacks.{callbacks}
-use Rattle.krl_server.specs.Steps.{ServerStep, start}
-use Rattle.krl_client.specs.Clients.{Client}
-use Rattle.krl_client.specs.Commands.{locked, wrote}
 use Rattle.krl_client.specs.Messages as messages
-use Rattle.krl_client.specs.Messages.{says_ack, accepted}
 use Rattle.krl_world.specs.declared.message.Message.TheVariants as message
-use Rattle.krl_steps.specs.declared.applied_write.AppliedWrite.{AppliedWrite}
-use Rattle.krl_steps.specs.declared.step.Step.{Step}
 use Rattle.krl_steps.specs.declared.step.Step.TheVariants as step
 use Rattle.krl_steps.specs.declared.step.Command.TheVariants as command
 use Rattle.krl_steps.specs.declared.answer.Answer.TheVariants as told
-use Rattle.krl_world.specs.States.{Up, Down, State, fresh, served, with_client, durable_of, index_of, is_serving, opened}
-use Rattle.krl_world.specs.Steps.{span, applies, Takes, Runs, IsReachable}
-use Rattle.krl_world.specs.Promises.{answer_message}
 use Rattle.krl_world.proofs.Examples.Acting.{still_recovers, answers_none, answers_one}
 use Rattle.krl_world.proofs.Examples.Worked.{two}
 use Rattle.krl_world.proofs.Examples.Running.{m, no_entries, index_entries, no_pieces, w6, opens, run, runs}

@@ -1,39 +1,19 @@
 -- A run, step by step: a client locks the gap below 10 and the entry there, and a scan of its cache gives the entry.
-use Rattle.std.proofs.Common.{◌≡◌, ℕ, suc, ◌<◌, ◌≤◌, ◌∙◌, Bool, true, false, ◌||◌, cond, Some, None, List, [], ◌∷◌, length, refl, sym, ap, subst, arith, nat_eq, if◌then◌else◌}
-use Rattle.std.specs.Prelude.{Ok}
-use Rattle.std.proofs.lemmas.Bool.Decides.{nat_tests}
-use Rattle.std.proofs.lemmas.List.{nil_from_length}
-use Rattle.std.proofs.lemmas.Option.{none-some}
-use Rattle.std.specs.Ordering.{nat_cmp, eq_by_cmp}
-use Rattle.std.specs.Cmp.{nat_cmp_total}
+use Rattle.krl_world.proofs.Names.{◌≡◌, ℕ, suc, ◌<◌, ◌≤◌, ◌∙◌, Bool, true, false, ◌||◌, cond, Some, None, List, [], ◌∷◌, length, refl, sym, ap, subst, arith, nat_eq, if◌then◌else◌, Ok, nat_tests}
+use Rattle.krl_world.proofs.Names.{nil_from_length, none-some, nat_cmp, eq_by_cmp, nat_cmp_total, put, contains, Pieces, Index, Value, IsDistinct, most_entries, reads_key, reads_gap, no_belief}
+use Rattle.krl_world.proofs.Names.{CoversAll, AreRows, Describes, Client, locked, finds_rows, says_report, says_ack, accepted, Step, Up, State, unused, opened, fresh, seated, served, with_client}
+use Rattle.krl_world.proofs.Names.{CanOpen, span, applies, Takes, Steps, Runs, IsReachable, case_of}
 use Rattle.std.specs.FinMap as map
-use Rattle.std.specs.FinMap.Entries.{put}
 use Rattle.krl_modes.specs.declared.part.RangePart.TheVariants as range
 use Rattle.krl_modes.specs.declared.part.KeyPart.TheVariants as key
 use Rattle.krl_modes.specs.declared.mode.Mode.TheVariants as mode
-use Rattle.krl_modes.specs.Spans.{contains}
 use Rattle.krl_messages.specs.declared.to_client.PushBody.TheVariants as push
-use Rattle.krl_messages.specs.declared.pieces.Pieces.{Pieces}
-use Rattle.krl_durable.specs.Index.{Index}
 use Rattle.krl_durable.specs.Kept.{AreBelowEnd, IsKept}
-use Rattle.krl_messages.specs.Values.{Value}
-use Rattle.std.specs.List.{IsDistinct}
-use Rattle.krl_durable.specs.Writes.{most_entries}
-use Rattle.krl_modes.specs.Parts.{reads_key, reads_gap}
-use Rattle.krl_cache.specs.Beliefs.{no_belief, CoversAll, AreRows}
-use Rattle.krl_cache.specs.Kept.{Describes}
-use Rattle.krl_client.specs.Clients.{Client}
 use Rattle.krl_client.specs.Clients as clients
-use Rattle.krl_client.specs.Commands.{locked, finds_rows}
 use Rattle.krl_client.specs.Messages as messages
-use Rattle.krl_client.specs.Messages.{says_report, says_ack, accepted}
-use Rattle.krl_steps.specs.declared.step.Step.{Step}
 use Rattle.krl_steps.specs.declared.step.Step.TheVariants as step
 use Rattle.krl_steps.specs.declared.step.Command.TheVariants as command
 use Rattle.krl_steps.specs.declared.answer.Answer.TheVariants as told
-use Rattle.krl_world.specs.States.{Up, State, unused, opened, fresh, seated, served, with_client}
-use Rattle.krl_world.specs.Steps.{CanOpen, span, applies, Takes, Steps, Runs, IsReachable}
-use Rattle.krl_server.specs.Cases.{case_of}
 use Rattle.krl_world.proofs.Examples.Worked.{two, begun, hello, lock, epoch, gap, grant, joined, granted, hello_case, reads_hello, lock_case, reads_lock}
 
 -- The index

@@ -1,8 +1,5 @@
 -- One run after another.
-use Rattle.std.proofs.Common.{List, [], ◌∷◌, ◌++◌, subst}
-use Rattle.krl_steps.specs.declared.step.Step.{Step}
-use Rattle.krl_world.specs.States.{State}
-use Rattle.krl_world.specs.Steps.{Runs}
+use Rattle.krl_world.proofs.Names.{List, [], ◌∷◌, ◌++◌, subst, Step, State, Runs}
 
 pub runs_on : (w v u : State) (steps more : List Step) → Runs w steps v → Runs v more u → Runs w (steps ++ more) u
 runs_on w v u [] more h g = subst (λ x. Runs x more u) h g

@@ -1,24 +1,14 @@
 -- What the server does in a short run: a client says Hello, and locks the gap below 10 and the entry there.
-use Rattle.std.proofs.Common.{◌≡◌, ℕ, Option, Some, None, List, [], ◌∷◌, ◌++◌, refl, sym, subst}
+use Rattle.krl_world.proofs.Names.{◌≡◌, ℕ, Option, Some, None, List, [], ◌∷◌, ◌++◌, refl, sym, subst, Value, Holding, ToServer, ToClient, Index, slots, most_clients, Server, Registers, Waits}
+use Rattle.krl_world.proofs.Names.{case_of, effect, Turn, turn_at, turn_among, next_turn, answer_first, Answered, stops, goes_on, callbacks_at, callbacks_among, callbacks, Acts, kind_of, Ends}
+use Rattle.krl_world.proofs.Names.{serves, ServerStep, start}
 use Rattle.std.specs.FinMap as map
 use Rattle.krl_modes.specs.declared.mode.Mode.TheVariants as mode
-use Rattle.krl_messages.specs.Values.{Value}
-use Rattle.krl_messages.specs.declared.holding.Holding.{Holding}
-use Rattle.krl_messages.specs.declared.to_server.ToServer.{ToServer}
 use Rattle.krl_messages.specs.declared.to_server.ToServerBody.TheVariants as said
 use Rattle.krl_messages.specs.declared.to_server.RequestBody.TheVariants as asked
-use Rattle.krl_messages.specs.declared.to_client.ToClient.{ToClient}
 use Rattle.krl_messages.specs.declared.to_client.ToClientBody.TheVariants as told
 use Rattle.krl_messages.specs.declared.to_client.PushBody.TheVariants as push
 use Rattle.krl_queue.specs.declared.waiter.Waiter.{Waiter}
-use Rattle.krl_durable.specs.Index.{Index, slots}
-use Rattle.krl_table.specs.Rows.{most_clients}
-use Rattle.krl_server.specs.Servers.{Server}
-use Rattle.krl_server.specs.Cases.{Registers, Waits, case_of}
-use Rattle.krl_server.specs.Effects.{effect}
-use Rattle.krl_server.specs.Answering.{Turn, turn_at, turn_among, next_turn, answer_first, Answered, stops, goes_on}
-use Rattle.krl_server.specs.Callbacks.{callbacks_at, callbacks_among, callbacks}
-use Rattle.krl_server.specs.Steps.{Acts, kind_of, Ends, serves, ServerStep, start}
 
 abbrev pub two : List (ℕ × Value)
 two = (10, 1 ∷ []) ∷ (20, 2 ∷ []) ∷ []

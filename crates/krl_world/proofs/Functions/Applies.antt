@@ -1,17 +1,8 @@
 -- The write that is noted is the one that the server applied: the step says it.
-use Rattle.std.proofs.Common.{◌≡◌, ℕ, zero, suc, get_or, Option, Some, None, List, [], ◌∷◌, ◌++◌, refl, ap, ◌∙◌}
-use Rattle.std.specs.Prelude.{slice_get}
-use Rattle.krl_messages.specs.declared.to_server.ToServer.{ToServer}
+use Rattle.krl_world.proofs.Names.{◌≡◌, ℕ, zero, suc, get_or, Option, Some, None, List, [], ◌∷◌, ◌++◌, refl, ap, ◌∙◌, slice_get, ToServer, Server, Case, Ignored, Registers, Leaves, Tells, Alarms}
+use Rattle.krl_world.proofs.Names.{Rebuilds, Repeats, Acknowledges, Lowers, Waits, Judges, AnswersAgain, case_of, HasStepped, AppliedWrite, applies, applied_in, HasServed, Message, from_server}
 use Rattle.krl_server.specs.declared.out.ServerOut.{ServerOut}
-use Rattle.krl_server.specs.Servers.{Server}
-use Rattle.krl_server.specs.Cases.{Case, Ignored, Registers, Leaves, Tells, Alarms, Rebuilds, Repeats, Acknowledges, Lowers, Waits, Judges, AnswersAgain, case_of}
 use Rattle.krl_server.specs.Changes.{change_of}
-use Rattle.krl_server.specs.CodeSteps.{HasStepped}
-use Rattle.krl_steps.specs.declared.applied_write.AppliedWrite.{AppliedWrite}
-use Rattle.krl_world.specs.Steps.{applies}
-use Rattle.krl_world.specs.SeatSteps.{applied_in, HasServed}
-use Rattle.krl_world.specs.declared.message.Message.{Message}
-use Rattle.krl_world.specs.States.{from_server}
 
 -- what is noted of a case's change is what the case applies
 noted_is_applied : (m : ToServer) (k : Case) → applied_in m (change_of m k) ≡ applies m k

@@ -1,20 +1,11 @@
 -- A command that a client obeys or refuses is a step of the world.
-use Rattle.std.proofs.Common.{◌≡◌, ℕ, ◌≤◌, ◌<◌, Some, None, Option, List, [], ◌++◌, length, set, get_or, sym, ap, subst, ◌∙◌}
-use Rattle.std.proofs.lemmas.List.{append-nil}
-use Rattle.std.specs.Prelude.{Result, Ok, Err}
-use Rattle.krl_client.specs.Clients.{Client}
+use Rattle.krl_world.proofs.Names.{◌≡◌, ℕ, ◌≤◌, ◌<◌, Some, None, Option, List, [], ◌++◌, length, set, get_or, sym, ap, subst, ◌∙◌, append-nil, Result, Ok, Err, Client, Message, Command, Answer}
+use Rattle.krl_world.proofs.Names.{Refused, State, client_of, set_seat, with_client, Steps, refusal_of, if_runs, named, command_refusal, CommandTakesMemory, Obeys, refused_by_client, Fields, meaning}
+use Rattle.krl_world.proofs.Names.{seats_of, kept_nobody, client_there}
 use Rattle.krl_world.specs.declared.node.Seat.{Seat as KeptSeat}
-use Rattle.krl_world.specs.declared.message.Message.{Message}
 use Rattle.krl_steps.specs.declared.step.Step.TheVariants as step
-use Rattle.krl_steps.specs.declared.step.Command.{Command}
 use Rattle.krl_steps.specs.declared.step.Command.TheVariants as command
-use Rattle.krl_steps.specs.declared.answer.Answer.{Answer}
-use Rattle.krl_steps.specs.declared.refused.Refused.{Refused}
 use Rattle.krl_steps.specs.declared.refused.Refused.TheVariants as refused
-use Rattle.krl_world.specs.States.{State, client_of, set_seat, with_client}
-use Rattle.krl_world.specs.Steps.{Steps, refusal_of, if_runs, named, command_refusal, CommandTakesMemory, Obeys}
-use Rattle.krl_steps.specs.Refusals.{refused_by_client}
-use Rattle.krl_world.specs.Fields.{Fields, meaning, seats_of, kept_nobody, client_there}
 use Rattle.krl_world.specs.SeatSteps.{Does, Commanded, CommandedAt}
 use Rattle.krl_world.proofs.Functions.Lifts.{takes, refuses, refuses_by, is_client, same_seat, seats_set}
 

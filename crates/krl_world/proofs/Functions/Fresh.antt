@@ -1,23 +1,14 @@
 -- The world in which nothing has happened since it was opened.
-use Rattle.std.proofs.Common.{◌≡◌, ℕ, suc, ◌<◌, ◌≤◌, ◌+◌, ◌∙◌, Bool, true, false, Option, Some, None, List, [], ◌∷◌, ◌++◌, length, get_or, refl, sym, ap, subst, arith, nat_eq, nat_lt, if◌then◌else◌, length-append}
-use Rattle.std.proofs.Math.ListN.{get_or-append, get_or-eq_default}
+use Rattle.krl_world.proofs.Names.{◌≡◌, ℕ, suc, ◌<◌, ◌≤◌, ◌+◌, ◌∙◌, Bool, true, false, Option, Some, None, List, [], ◌∷◌, ◌++◌, length, get_or, refl, sym, ap, subst, arith, nat_eq, nat_lt}
+use Rattle.krl_world.proofs.Names.{if◌then◌else◌, length-append, get_or-append, get_or-eq_default, nat_tests, AllByRecursion, Record, Register, Durable, record_of, incarnation_or_0, start, Message}
+use Rattle.krl_world.proofs.Names.{AppliedWrite, Up, nobody, opened, meaning, seats_of, seat_of, kept_nobody, AreUnstarted}
 use Rattle.std.proofs.Math.Seq.{get_or-append_seam}
-use Rattle.std.proofs.lemmas.Bool.Decides.{nat_tests}
 use Rattle.std.proofs.Math.Path.{fun_ext}
-use Rattle.std.specs.List.{AllByRecursion}
-use Rattle.krl_durable.specs.declared.record.Record.{Record}
-use Rattle.krl_durable.specs.Registers.{Register, Durable, record_of}
 use Rattle.krl_durable.specs.Kept.{IsKept}
 use Rattle.krl_server.specs.declared.state.State.{State as Kept}
 use Rattle.krl_server.specs.StateMeaning as server_state
-use Rattle.krl_server.specs.Servers.{incarnation_or_0}
-use Rattle.krl_server.specs.Steps.{start}
 use Rattle.krl_world.specs.declared.node.Seat.{Seat as KeptSeat}
 use Rattle.krl_world.specs.declared.node.ServerNode.TheVariants as kept
-use Rattle.krl_world.specs.declared.message.Message.{Message}
-use Rattle.krl_steps.specs.declared.applied_write.AppliedWrite.{AppliedWrite}
-use Rattle.krl_world.specs.States.{Up, nobody, opened}
-use Rattle.krl_world.specs.Fields.{meaning, seats_of, seat_of, kept_nobody, AreUnstarted}
 
 -- nobody above 63 is registered
 unknown : (es : Register) (c : ℕ) → AllByRecursion (λ e. nat_lt e.0 64 ≡ true) es → 64 ≤ c → record_of es c ≡ None

@@ -1,22 +1,12 @@
 -- What a seat or the server does is a step of the world.
 use Rattle.std.proofs.Common.{◌≡◌, ◌≢◌, ℕ, ◌≤◌, ◌<◌, cond, Some, None, Option, inl, inr, List, [], ◌++◌, length, set, refl, sym, ap, subst, ◌∙◌, ⊎_elim, eq-eqb, ne_eqb, append-nil}
-use Rattle.std.proofs.lemmas.Bool.{lt-ltb, le-ltb}
+use Rattle.krl_world.proofs.Names.{lt-ltb, le-ltb, get_or-set_same, get_or-set_other, eq_cases, ToServer, Message, Step, Answer, Refused, State, Seat, set_seat, seated, from_clients, Steps, Takes}
+use Rattle.krl_world.proofs.Names.{TakesMemory, refusal_of, of_client, if_runs, named, command_refusal, CommandTakesMemory, Obeys, Fields, meaning, seats_of, seat_of, kept_nobody, IsRefused}
 use Rattle.std.proofs.Math.Path.{fun_ext}
-use Rattle.std.proofs.lemmas.List.{get_or-set_same, get_or-set_other}
 use Rattle.std.specs.Prelude.{if◌then◌else◌, Ok, Err}
-use Rattle.krl_machine.proofs.Worlds.{eq_cases}
-use Rattle.krl_messages.specs.declared.to_server.ToServer.{ToServer}
 use Rattle.krl_world.specs.declared.node.Seat.{Seat as KeptSeat}
-use Rattle.krl_world.specs.declared.message.Message.{Message}
-use Rattle.krl_steps.specs.declared.step.Step.{Step}
-use Rattle.krl_steps.specs.declared.answer.Answer.{Answer}
-use Rattle.krl_steps.specs.declared.refused.Refused.{Refused}
 use Rattle.krl_steps.specs.declared.refused.Refused.TheVariants as refused
-use Rattle.krl_world.specs.States.{State, Seat, set_seat, seated, from_clients}
 use Rattle.krl_world.specs.Steps as steps
-use Rattle.krl_world.specs.Steps.{Steps, Takes, TakesMemory, refusal_of, of_client, if_runs, named, command_refusal, CommandTakesMemory, Obeys}
-use Rattle.krl_world.specs.Fields.{Fields, meaning, seats_of, seat_of, kept_nobody}
-use Rattle.krl_world.specs.SeatSteps.{IsRefused}
 
 -- Steps
 

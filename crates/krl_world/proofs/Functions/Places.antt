@@ -1,23 +1,13 @@
 -- The steps at a seat, over what a world keeps.
-use Rattle.std.proofs.Common.{◌≡◌, ℕ, suc, ◌≤◌, ◌<◌, Some, None, Option, List, length, set, get_or, refl, sym, ap, subst, ◌∙◌, arith}
-use Rattle.std.proofs.lemmas.List.{get_or_default}
-use Rattle.std.specs.Prelude.{Result, Ok, Err, slice_get}
-use Rattle.krl_messages.specs.declared.to_client.ToClient.{ToClient}
-use Rattle.krl_client.specs.Clients.{Client}
+use Rattle.krl_world.proofs.Names.{◌≡◌, ℕ, suc, ◌≤◌, ◌<◌, Some, None, Option, List, length, set, get_or, refl, sym, ap, subst, ◌∙◌, arith, get_or_default, Result, Ok, Err, slice_get, ToClient}
+use Rattle.krl_world.proofs.Names.{Client, Message, Command, Answer, Refused, client_of, Steps, Fields, meaning, seat_of, kept_nobody, client_there, IsRefused, CommandedAt, Started, Ticked, HasRead}
+use Rattle.krl_world.proofs.Names.{starting_refusal}
 use Rattle.krl_client.specs.Fields as client_fields
 use Rattle.krl_world.specs.declared.node.Seat.{Seat as KeptSeat}
-use Rattle.krl_world.specs.declared.message.Message.{Message}
 use Rattle.krl_world.specs.declared.message.Message.TheVariants as message
 use Rattle.krl_steps.specs.declared.step.Step.TheVariants as step
-use Rattle.krl_steps.specs.declared.step.Command.{Command}
-use Rattle.krl_steps.specs.declared.answer.Answer.{Answer}
 use Rattle.krl_steps.specs.declared.answer.Answer.TheVariants as told
-use Rattle.krl_steps.specs.declared.refused.Refused.{Refused}
 use Rattle.krl_steps.specs.declared.refused.Refused.TheVariants as refused
-use Rattle.krl_world.specs.States.{client_of}
-use Rattle.krl_world.specs.Steps.{Steps}
-use Rattle.krl_world.specs.Fields.{Fields, meaning, seat_of, kept_nobody, client_there}
-use Rattle.krl_world.specs.SeatSteps.{IsRefused, CommandedAt, Started, Ticked, HasRead, starting_refusal}
 use Rattle.krl_world.proofs.Functions.Lifts.{seats_set, unchanged_by}
 use Rattle.krl_world.proofs.Functions.Commands.{gone, gone_fields, command_steps}
 use Rattle.krl_world.proofs.Functions.Seats as seats

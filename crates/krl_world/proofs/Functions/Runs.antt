@@ -1,18 +1,8 @@
 -- What a step of a reachable world keeps, and what a run of steps is.
-use Rattle.std.proofs.Common.{◌≡◌, ℕ, ◌+◌, ◌<◌, ◌≤◌, List, [], ◌∷◌, ◌++◌, length, drop, get_or, refl, sym, ap, subst, ◌∙◌, drop-cons, add-one}
-use Rattle.std.proofs.Math.ListN.{drop_of_length-le}
-use Rattle.std.proofs.lemmas.List.{append-nil, append_assoc}
-use Rattle.std.specs.Prelude.{Result}
-use Rattle.krl_refinement.proofs.Server.Whole.{all_follow}
-use Rattle.krl_steps.specs.declared.step.Step.{Step}
-use Rattle.krl_steps.specs.declared.answer.Answer.{Answer}
-use Rattle.krl_steps.specs.declared.refused.Refused.{Refused}
-use Rattle.krl_world.specs.States.{State, index_of}
-use Rattle.krl_world.specs.Steps.{Steps, RunsWith, IsReachable}
-use Rattle.krl_world.specs.Promises.{IsCompatible, ScansIndex, WritesOnce}
-use Rattle.krl_world.specs.Bounds.{Bound, HasBound, IsBounded, HoldsOverRestarts}
+use Rattle.krl_world.proofs.Names.{◌≡◌, ℕ, ◌+◌, ◌<◌, ◌≤◌, List, [], ◌∷◌, ◌++◌, length, drop, get_or, refl, sym, ap, subst, ◌∙◌, drop-cons, add-one, drop_of_length-le, append-nil, append_assoc}
+use Rattle.krl_world.proofs.Names.{Result, all_follow, Step, Answer, Refused, State, index_of, Steps, RunsWith, IsReachable, IsCompatible, ScansIndex, WritesOnce, Bound, HasBound, IsBounded}
+use Rattle.krl_world.proofs.Names.{HoldsOverRestarts, CanGoOn}
 use Rattle.krl_world.proofs.Promises.Kept.{headline_holds, bounded_holds, restarts_holds}
-use Rattle.krl_world.specs.Laws.{CanGoOn}
 use Rattle.krl_world.proofs.Functions.Shapes.{reachable_stays}
 use Rattle.krl_world.proofs.Progress.CanGoOn.{can_go_on}
 

@@ -1,21 +1,12 @@
 -- A tick, a message, a start and a crash at a seat are steps of the world.
-use Rattle.std.proofs.Common.{◌≡◌, ℕ, suc, ◌≤◌, Some, None, Option, is_some, List, [], ◌++◌, length, refl, sym, ap, subst, ◌∙◌, cond}
-use Rattle.std.proofs.lemmas.List.{append-nil}
-use Rattle.std.proofs.Math.ListN.{get_or-eq_default}
-use Rattle.std.specs.Prelude.{Ok, Err, slice_get}
-use Rattle.krl_messages.specs.declared.to_client.ToClient.{ToClient}
-use Rattle.krl_client.specs.Clients.{Client}
+use Rattle.krl_world.proofs.Names.{◌≡◌, ℕ, suc, ◌≤◌, Some, None, Option, is_some, List, [], ◌++◌, length, refl, sym, ap, subst, ◌∙◌, cond, append-nil, get_or-eq_default, Ok, Err, slice_get, ToClient}
+use Rattle.krl_world.proofs.Names.{Client, Message, Refused, State, Seat, client_of, set_seat, from_clients, Steps, if_runs, refusal_of, Delivers, ClientReads, Arrives, seats_of, seat_of}
+use Rattle.krl_world.proofs.Names.{kept_nobody, IsRefused, Started, Ticked, HasRead, starting_refusal}
 use Rattle.krl_world.specs.declared.node.Seat.{Seat as KeptSeat}
-use Rattle.krl_world.specs.declared.message.Message.{Message}
 use Rattle.krl_world.specs.declared.message.Message.TheVariants as message
 use Rattle.krl_steps.specs.declared.step.Step.TheVariants as step
 use Rattle.krl_steps.specs.declared.answer.Answer.TheVariants as told
-use Rattle.krl_steps.specs.declared.refused.Refused.{Refused}
 use Rattle.krl_steps.specs.declared.refused.Refused.TheVariants as refused
-use Rattle.krl_world.specs.States.{State, Seat, client_of, set_seat, from_clients}
-use Rattle.krl_world.specs.Steps.{Steps, if_runs, refusal_of, Delivers, ClientReads, Arrives}
-use Rattle.krl_world.specs.Fields.{seats_of, seat_of, kept_nobody}
-use Rattle.krl_world.specs.SeatSteps.{IsRefused, Started, Ticked, HasRead, starting_refusal}
 use Rattle.krl_world.proofs.Functions.Lifts.{takes, refuses, refuses_by, lacks_memory, is_client, same_seat}
 use Rattle.krl_world.proofs.Functions.Commands.{gone, gone_by, gone_nowhere}
 

@@ -1,31 +1,19 @@
 -- What the server does is a step of the world.
-use Rattle.std.proofs.Common.{◌≡◌, ℕ, zero, suc, ◌≤◌, ◌<◌, ◌⊎◌, inl, inr, true, false, Some, None, is_some, List, [], ◌++◌, length, get_or, refl, sym, ap, subst, ◌∙◌, cond, arith, ◌-◌}
-use Rattle.std.proofs.lemmas.Option.{slice_get_past, slice_get_read}
-use Rattle.std.proofs.lemmas.List.{append-nil}
-use Rattle.std.specs.Prelude.{Result, Ok, Err, slice_get}
-use Rattle.krl_messages.specs.declared.to_server.ToServer.{ToServer}
-use Rattle.krl_durable.specs.Registers.{Durable}
-use Rattle.krl_server.specs.Servers.{Server}
+use Rattle.krl_world.proofs.Names.{◌≡◌, ℕ, zero, suc, ◌≤◌, ◌<◌, ◌⊎◌, inl, inr, true, false, Some, None, is_some, List, [], ◌++◌, length, get_or, refl, sym, ap, subst, ◌∙◌, cond, arith, ◌-◌}
+use Rattle.krl_world.proofs.Names.{slice_get_past, slice_get_read, append-nil, Result, Ok, Err, slice_get, ToServer, Durable, Server, IsStarted, IsReason, Fields, meaning, node_of, Message}
+use Rattle.krl_world.proofs.Names.{AppliedWrite, Answer, Refused, State, ServerNode, Up, Down, from_server, served, Steps, message_at, refused_by_server, refusal_of, server_down, server_start}
+use Rattle.krl_world.proofs.Names.{nudged, started, crashed, ServerReads, HasServed, HasArrived}
 use Rattle.krl_server.specs.Steps as server
 use Rattle.krl_server.specs.StateMeaning.{meaning as server_of}
-use Rattle.krl_server.specs.CodeSteps.{IsStarted, IsReason}
 use Rattle.krl_server.specs.declared.state.State.{State as Kept}
 use Rattle.krl_server.specs.declared.start_refused.StartRefused.{StartRefused}
 use Rattle.krl_server.specs.declared.start_refused.StartRefused.TheVariants as beginner
 use Rattle.krl_world.specs.declared.node.ServerNode.{ServerNode as KeptNode}
 use Rattle.krl_world.specs.declared.node.ServerNode.TheVariants as kept
-use Rattle.krl_world.specs.Fields.{Fields, meaning, node_of}
-use Rattle.krl_world.specs.declared.message.Message.{Message}
 use Rattle.krl_world.specs.declared.message.Message.TheVariants as message
-use Rattle.krl_steps.specs.declared.applied_write.AppliedWrite.{AppliedWrite}
 use Rattle.krl_steps.specs.declared.step.Step.TheVariants as step
-use Rattle.krl_steps.specs.declared.answer.Answer.{Answer}
 use Rattle.krl_steps.specs.declared.answer.Answer.TheVariants as told
-use Rattle.krl_steps.specs.declared.refused.Refused.{Refused}
 use Rattle.krl_steps.specs.declared.refused.Refused.TheVariants as refused
-use Rattle.krl_world.specs.States.{State, ServerNode, Up, Down, from_server, served}
-use Rattle.krl_world.specs.Steps.{Steps, message_at, refused_by_server, refusal_of, server_down, server_start, nudged, started, crashed, ServerReads}
-use Rattle.krl_world.specs.SeatSteps.{HasServed, HasArrived}
 use Rattle.krl_world.proofs.Functions.Lifts.{takes, refuses, lacks_memory, is_client}
 use Rattle.krl_world.proofs.Functions.Seats.{delivered, delivery_memory}
 

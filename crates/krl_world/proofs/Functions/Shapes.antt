@@ -1,25 +1,14 @@
 -- A step changes one seat, or the server, and what was sent; so it keeps what the world began with, and seats nobody above 63.
-use Rattle.std.proofs.Common.{◌≡◌, ℕ, ◌≤◌, ◌∙◌, Bool, true, false, cond, Option, Some, None, List, [], ◌∷◌, refl, sym, ap, subst, arith, nat_eq, nat_lt, if◌then◌else◌, ltb-false, eqb-true}
-use Rattle.std.specs.Prelude.{Result, Ok, Err}
+use Rattle.krl_world.proofs.Names.{◌≡◌, ℕ, ◌≤◌, ◌∙◌, Bool, true, false, cond, Option, Some, None, List, [], ◌∷◌, refl, sym, ap, subst, arith, nat_eq, nat_lt, if◌then◌else◌, ltb-false, eqb-true}
+use Rattle.krl_world.proofs.Names.{Result, Ok, Err, Durable, ToServer, ToClient, Client, Message, AppliedWrite, Step, Command, Answer, Refused, ServerNode, Up, Down, Seat, State, client_of}
+use Rattle.krl_world.proofs.Names.{range_believed, key_believed, set_seat, opened, message_at, of_client, CanOpen, ServerReads, ClientReads, Delivers, Obeys, nudged, started, crashed, Takes, Steps}
+use Rattle.krl_world.proofs.Names.{Runs, RunsWith, IsReachable, ReachableStays, NobodyAbove63}
 use Rattle.krl_modes.specs.declared.part.RangePart.TheVariants as range
 use Rattle.krl_modes.specs.declared.part.KeyPart.TheVariants as key
-use Rattle.krl_durable.specs.Registers.{Durable}
-use Rattle.krl_messages.specs.declared.to_server.ToServer.{ToServer}
-use Rattle.krl_messages.specs.declared.to_client.ToClient.{ToClient}
-use Rattle.krl_client.specs.Clients.{Client}
-use Rattle.krl_world.specs.declared.message.Message.{Message}
 use Rattle.krl_world.specs.declared.message.Message.TheVariants as message
-use Rattle.krl_steps.specs.declared.applied_write.AppliedWrite.{AppliedWrite}
-use Rattle.krl_steps.specs.declared.step.Step.{Step}
 use Rattle.krl_steps.specs.declared.step.Step.TheVariants as step
-use Rattle.krl_steps.specs.declared.step.Command.{Command}
 use Rattle.krl_steps.specs.declared.step.Command.TheVariants as command
-use Rattle.krl_steps.specs.declared.answer.Answer.{Answer}
-use Rattle.krl_steps.specs.declared.refused.Refused.{Refused}
 use Rattle.krl_steps.specs.declared.refused.Refused.TheVariants as refused
-use Rattle.krl_world.specs.States.{ServerNode, Up, Down, Seat, State, client_of, range_believed, key_believed, set_seat, opened}
-use Rattle.krl_world.specs.Steps.{message_at, of_client, CanOpen, ServerReads, ClientReads, Delivers, Obeys, nudged, started, crashed, Takes, Steps, Runs, RunsWith, IsReachable}
-use Rattle.krl_world.specs.Laws.{ReachableStays, NobodyAbove63}
 
 -- nobody runs with a number above 63
 abbrev pub HasNobody : State → Type 0

@@ -1,8 +1,5 @@
 -- No message has a client send more than three.
-use Rattle.std.proofs.Common.{◌≡◌, ◌≤◌, List, length, subst, sym}
-use Rattle.krl_messages.specs.declared.to_server.ToServer.{ToServer}
-use Rattle.krl_messages.specs.declared.pieces.Pieces.{Pieces}
-use Rattle.krl_client.specs.Clients.{Client}
+use Rattle.krl_world.proofs.Names.{◌≡◌, ◌≤◌, List, length, subst, sym, ToServer, Pieces, Client}
 use Rattle.krl_client.specs.Messages.{Case, sends}
 use Rattle.krl_client.proofs.Always.{few_sent}
 

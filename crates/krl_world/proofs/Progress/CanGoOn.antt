@@ -1,41 +1,19 @@
 -- Each step that is not refused can be taken.
-use Rattle.std.proofs.Common.{◌≡◌, ℕ, zero, suc, ◌+◌, ◌-◌, ◌≤◌, ◌<◌, Bool, true, false, cond, Option, Some, None, List, [], ◌∷◌, ◌⊎◌, inl, inr, refl, sym, subst, arith, is_some, nat_lt, nat_le, ltb-true}
-use Rattle.std.proofs.lemmas.Bool.Decides.{eqb_tells}
-use Rattle.std.proofs.lemmas.Bool.{and_parts, not-false}
-use Rattle.std.specs.Prelude.{not}
-use Rattle.krl_modes.specs.declared.point.TheConstants.{END, TOP}
-use Rattle.krl_messages.specs.Values.{Value}
-use Rattle.krl_messages.specs.declared.write_op.WriteOp.{WriteOp}
-use Rattle.krl_messages.specs.declared.pieces.Pieces.{Pieces}
-use Rattle.krl_messages.specs.declared.to_server.ToServer.{ToServer}
-use Rattle.krl_messages.specs.declared.to_client.ToClient.{ToClient}
-use Rattle.krl_messages.specs.Writes.{op_key}
-use Rattle.krl_machine.proofs.Runs.{always_bounded, restarts_hold, scans_are_index}
-use Rattle.krl_server.specs.Cases.{case_of}
-use Rattle.krl_refinement.specs.Server.Simulation.{ServerFollows}
+use Rattle.krl_world.proofs.Names.{◌≡◌, ℕ, zero, suc, ◌+◌, ◌-◌, ◌≤◌, ◌<◌, Bool, true, false, cond, Option, Some, None, List, [], ◌∷◌, ◌⊎◌, inl, inr, refl, sym, subst, arith, is_some, nat_lt, nat_le}
+use Rattle.krl_world.proofs.Names.{ltb-true, eqb_tells, and_parts, not-false, not, END, TOP, Value, WriteOp, Pieces, ToServer, ToClient, op_key, always_bounded, restarts_hold, scans_are_index}
+use Rattle.krl_world.proofs.Names.{case_of, ServerFollows, Belief, is_span, is_covered, CoversAll, AreRows, Describes, Client, outstanding, is_in, is_writing_in, free_pin, begun, is_pending}
+use Rattle.krl_world.proofs.Names.{finds_rows, misses, locked, says_lock, wrote, says_write, says_release, forgot, pinned, unpinned, says_bye, passed, Message, Step, Command, Answer, Refused}
+use Rattle.krl_world.proofs.Names.{ServerNode, Up, Down, State, index_of, client_of, with_client, seated, served, span, message_at, command_refusal, if_runs, refusal_of, applies, ServerReads}
+use Rattle.krl_world.proofs.Names.{ClientReads, Delivers, ScanAnswers, Obeys, nudged, started, crashed, Takes, IsReachable, refused_by_client, CanGoOn}
 use Rattle.krl_server.proofs.Outputs.Ends.{step_ends}
-use Rattle.krl_cache.specs.Beliefs.{Belief, is_span, is_covered, CoversAll, AreRows}
-use Rattle.krl_cache.specs.Kept.{Describes}
-use Rattle.krl_client.specs.Clients.{Client, outstanding, is_in, is_writing_in, free_pin, begun}
-use Rattle.krl_client.specs.Commands.{is_pending, finds_rows, misses, locked, says_lock, wrote, says_write, says_release, forgot, pinned, unpinned, says_bye}
 use Rattle.krl_client.specs.Messages as receiver
 use Rattle.krl_client.specs.Ticks.{tick, says_hello}
 use Rattle.krl_modes.specs.declared.mode.Mode.TheVariants as mode
-use Rattle.krl_refinement.proofs.Client.Basics.{passed}
-use Rattle.krl_world.specs.declared.message.Message.{Message}
 use Rattle.krl_world.specs.declared.message.Message.TheVariants as message
-use Rattle.krl_steps.specs.declared.step.Step.{Step}
 use Rattle.krl_steps.specs.declared.step.Step.TheVariants as step
-use Rattle.krl_steps.specs.declared.step.Command.{Command}
 use Rattle.krl_steps.specs.declared.step.Command.TheVariants as command
-use Rattle.krl_steps.specs.declared.answer.Answer.{Answer}
 use Rattle.krl_steps.specs.declared.answer.Answer.TheVariants as told
-use Rattle.krl_steps.specs.declared.refused.Refused.{Refused}
 use Rattle.krl_steps.specs.declared.refused.Refused.TheVariants as refused
-use Rattle.krl_world.specs.States.{ServerNode, Up, Down, State, index_of, client_of, with_client, seated, served}
-use Rattle.krl_world.specs.Steps.{span, message_at, command_refusal, if_runs, refusal_of, applies, ServerReads, ClientReads, Delivers, ScanAnswers, Obeys, nudged, started, crashed, Takes, IsReachable}
-use Rattle.krl_steps.specs.Refusals.{refused_by_client}
-use Rattle.krl_world.specs.Laws.{CanGoOn}
 use Rattle.krl_durable.specs.Index as index
 use Rattle.krl_world.proofs.Refinement.Mirrors.{machine_of}
 use Rattle.krl_world.proofs.Refinement.Openings.{first_of}

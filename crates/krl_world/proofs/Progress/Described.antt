@@ -1,26 +1,12 @@
 -- Some pieces describe what each client of a reachable world believes.
-use Rattle.std.proofs.Common.{◌≡◌, ℕ, ◌<◌, ◌∙◌, Bool, true, false, Option, Some, None, List, [], refl, sym, subst}
+use Rattle.krl_world.proofs.Names.{◌≡◌, ℕ, ◌<◌, ◌∙◌, Bool, true, false, Option, Some, None, List, [], refl, sym, subst, END, RangePart, KeyPart, range_at_most, key_at_most, reads_key, Value, Pieces}
+use Rattle.krl_world.proofs.Names.{RangeAtMost, KeyAtMost, Link, Logged, ranges_by_table, keys_by_table, Belief, IsBelief, Describes, Client, ShowsClient, ShowsSeat, State, client_of}
 use Rattle.std.specs.Prelude.{nat_eq}
-use Rattle.krl_modes.specs.declared.point.TheConstants.{END}
-use Rattle.krl_modes.specs.declared.part.RangePart.{RangePart}
 use Rattle.krl_modes.specs.declared.part.RangePart.TheVariants as range
-use Rattle.krl_modes.specs.declared.part.KeyPart.{KeyPart}
 use Rattle.krl_modes.specs.declared.part.KeyPart.TheVariants as key
-use Rattle.krl_modes.specs.Parts.{range_at_most, key_at_most, reads_key}
-use Rattle.krl_messages.specs.Values.{Value}
-use Rattle.krl_messages.specs.declared.pieces.Pieces.{Pieces}
-use Rattle.krl_machine.specs.Modes.{RangeAtMost, KeyAtMost}
-use Rattle.krl_machine.specs.Links.{Link}
 use Rattle.krl_machine.specs.Worlds as machine
-use Rattle.krl_machine.specs.Worlds.{Logged}
-use Rattle.krl_machine.proofs.Modes.{ranges_by_table, keys_by_table}
 use Rattle.krl_durable.proofs.SlotLaws.{end_test}
-use Rattle.krl_cache.specs.Beliefs.{Belief, IsBelief}
-use Rattle.krl_cache.specs.Kept.{Describes}
 use Rattle.krl_cache.proofs.Described.{beliefs_are_described}
-use Rattle.krl_client.specs.Clients.{Client}
-use Rattle.krl_refinement.specs.Client.Shows.{ShowsClient, ShowsSeat}
-use Rattle.krl_world.specs.States.{State, client_of}
 use Rattle.krl_world.proofs.Refinement.Mirrors.{machine_of, Mirrors}
 use Rattle.krl_world.proofs.Promises.CompatibilityAndScans.{end_is}
 

@@ -1,41 +1,22 @@
 -- What clients believe and live pushes lie within the bound of each run, and no message has an epoch above the durable one.
-use Rattle.std.proofs.Common.{◌≡◌, ℕ, suc, ◌≤◌, ◌<◌, ◌&&◌, Bool, true, false, nat_le, nat_lt, inl, inr, Option, Some, None, List, [], ◌∷◌, refl, sym, ap, subst, ◌∙◌, arith, if◌then◌else◌}
-use Rattle.krl_modes.specs.declared.part.RangePart.{RangePart}
-use Rattle.krl_modes.specs.declared.part.KeyPart.{KeyPart}
+use Rattle.krl_world.proofs.Names.{◌≡◌, ℕ, suc, ◌≤◌, ◌<◌, ◌&&◌, Bool, true, false, nat_le, nat_lt, inl, inr, Option, Some, None, List, [], ◌∷◌, refl, sym, ap, subst, ◌∙◌, arith, if◌then◌else◌}
+use Rattle.krl_world.proofs.Names.{RangePart, KeyPart, key_of, Holding, ToServer, ToClient, PushBody, RangeAtMost, KeyAtMost, Link, Logged, ranges_by_table, keys_by_table, AllByRecursion, nat_tests}
+use Rattle.krl_world.proofs.Names.{In, in_to_all, push_of, push_with, IsTold, Stands, WasSent, IsWhole, Client, ShowsClient, ShowsSeat, ServerNode, Up, Down, State, durable_of, index_of, client_of}
+use Rattle.krl_world.proofs.Names.{range_believed, key_believed, Bound, IsRangeWithin, IsKeyWithin, IsHoldingWithin, IsPushWithin, IsBounded, epoch_said, epoch_told, push_epoch}
 use Rattle.krl_modes.specs.declared.part.KeyPart.TheVariants as key
-use Rattle.krl_modes.specs.Modes.{key_of}
 use Rattle.krl_modes.proofs.SpanLaws.{inside_span}
-use Rattle.krl_messages.specs.declared.holding.Holding.{Holding}
-use Rattle.krl_messages.specs.declared.to_server.ToServer.{ToServer}
 use Rattle.krl_messages.specs.declared.to_server.ToServerBody.{ToServerBody}
 use Rattle.krl_messages.specs.declared.to_server.ToServerBody.TheVariants as said
-use Rattle.krl_messages.specs.declared.to_client.ToClient.{ToClient}
 use Rattle.krl_messages.specs.declared.to_client.ToClientBody.{ToClientBody}
 use Rattle.krl_messages.specs.declared.to_client.ToClientBody.TheVariants as told
-use Rattle.krl_messages.specs.declared.to_client.PushBody.{PushBody}
 use Rattle.krl_messages.specs.declared.to_client.PushBody.TheVariants as push
-use Rattle.krl_machine.specs.Modes.{RangeAtMost, KeyAtMost}
 use Rattle.krl_machine.specs.Links as links
-use Rattle.krl_machine.specs.Links.{Link}
 use Rattle.krl_machine.specs.Worlds as machine
-use Rattle.krl_machine.specs.Worlds.{Logged}
-use Rattle.krl_machine.proofs.Modes.{ranges_by_table, keys_by_table}
-use Rattle.std.specs.List.{AllByRecursion}
-use Rattle.std.proofs.lemmas.Bool.Decides.{nat_tests}
 use Rattle.krl_messages.specs.Several.{IsBefore, Ascend}
-use Rattle.krl_messages.specs.Members.{In}
-use Rattle.krl_messages.proofs.Members.{in_to_all}
 use Rattle.krl_machine.specs.Holdings.{said_at, or_by, said_by}
 use Rattle.krl_machine.proofs.Holdings.{says_here}
-use Rattle.krl_refinement.specs.Messages.{push_of, push_with, IsTold, Stands, WasSent}
-use Rattle.krl_modes.specs.Spans.{IsWhole}
-use Rattle.krl_client.specs.Clients.{Client}
-use Rattle.krl_refinement.specs.Client.Shows.{ShowsClient, ShowsSeat}
 use Rattle.krl_world.specs.declared.message.Message.TheVariants as message
-use Rattle.krl_world.specs.States.{ServerNode, Up, Down, State, durable_of, index_of, client_of, range_believed, key_believed}
-use Rattle.krl_world.specs.Bounds.{Bound, IsRangeWithin, IsKeyWithin, IsHoldingWithin, IsPushWithin, IsBounded, epoch_said, epoch_told}
 use Rattle.krl_world.proofs.Refinement.Calling.{epoch_called}
-use Rattle.krl_refinement.proofs.Messages.{push_epoch}
 use Rattle.krl_world.proofs.Refinement.Mirrors.{machine_of, shared_of, Mirrors}
 use Rattle.krl_world.proofs.Refinement.Reached.{HaveBound}
 

@@ -1,48 +1,27 @@
 -- The end of a recovery: nobody waits until then, so the table of the server that serves from then on is what was
 -- rebuilt, which lies within the bound.
-use Rattle.std.proofs.Common.{◌≡◌, ℕ, ◌∙◌, Bool, true, false, Option, Some, None, List, [], ◌∷◌, refl, sym, ap, subst, nat_eq, if◌then◌else◌}
+use Rattle.krl_world.proofs.Names.{◌≡◌, ℕ, ◌∙◌, Bool, true, false, Option, Some, None, List, [], ◌∷◌, refl, sym, ap, subst, nat_eq, if◌then◌else◌, END, RangePart, range_of, key_of, Value, Pieces}
+use Rattle.krl_world.proofs.Names.{ToServer, ToClient, In, Record, Index, slot_of, is_slot, Durable, record_of, left_by, Rows, Server, is_recovering, case_of, Done, effect, Answered, stops, goes_on}
+use Rattle.krl_world.proofs.Names.{Kind, kind_of, Ends, at_once, recovers, serves, ServerFollows, answered_up, Step, ServerNode, Up, Down, State, opened, range_held, key_held, Runs, IsReachable}
+use Rattle.krl_world.proofs.Names.{RecoveriesEnd, always_bounded, restarts_hold}
 use Rattle.std.specs.Prelude.{nat_lt}
-use Rattle.krl_modes.specs.declared.point.TheConstants.{END}
-use Rattle.krl_modes.specs.declared.part.RangePart.{RangePart}
 use Rattle.krl_modes.specs.declared.part.RangePart.TheVariants as range
 use Rattle.krl_modes.specs.declared.part.KeyPart.TheVariants as key
 use Rattle.krl_modes.specs.declared.mode.Mode.{Mode}
 use Rattle.krl_modes.specs.declared.mode.Mode.TheVariants as mode
-use Rattle.krl_modes.specs.Modes.{range_of, key_of}
-use Rattle.krl_messages.specs.Values.{Value}
-use Rattle.krl_messages.specs.declared.pieces.Pieces.{Pieces}
-use Rattle.krl_messages.specs.declared.to_server.ToServer.{ToServer}
 use Rattle.krl_messages.specs.declared.to_server.ToServerBody.TheVariants as said
-use Rattle.krl_messages.specs.declared.to_client.ToClient.{ToClient}
-use Rattle.krl_messages.specs.Members.{In}
-use Rattle.krl_durable.specs.declared.record.Record.{Record}
-use Rattle.krl_durable.specs.Index.{Index, slot_of, is_slot}
-use Rattle.krl_durable.specs.Registers.{Durable, record_of, left_by}
-use Rattle.krl_table.specs.Rows.{Rows}
 use Rattle.krl_table.specs.Calls.{cleared, unqueue}
 use Rattle.krl_table.specs.Points as table
-use Rattle.krl_server.specs.Servers.{Server, is_recovering}
-use Rattle.krl_server.specs.Cases.{case_of}
-use Rattle.krl_server.specs.Effects.{Done, effect}
-use Rattle.krl_server.specs.Answering.{Answered, stops, goes_on}
-use Rattle.krl_server.specs.Steps.{Kind, kind_of, Ends, at_once, recovers, serves}
-use Rattle.krl_refinement.specs.Server.Simulation.{ServerFollows}
 use Rattle.krl_server.proofs.Cased.{by_said}
 use Rattle.krl_server.proofs.Tests.{not_truth}
 use Rattle.krl_server.proofs.Invariant.RowsSound.{adopted_queue}
-use Rattle.krl_server.proofs.Invariant.AnswersSound.{answered_up}
 use Rattle.krl_world.specs.declared.message.Message.TheVariants as message
-use Rattle.krl_steps.specs.declared.step.Step.{Step}
-use Rattle.krl_world.specs.States.{ServerNode, Up, Down, State, opened, range_held, key_held}
-use Rattle.krl_world.specs.Steps.{Runs, IsReachable}
 use Rattle.krl_world.specs.Bounds.{Bound, table_of, first_bound, step_clears, cleared as cleared_bound, bound_at, bound_after, RunsWithin, IsRangeWithin, IsKeyWithin, report_message, IsRecoveryWithin}
-use Rattle.krl_world.specs.Laws.{RecoveriesEnd}
 use Rattle.krl_world.proofs.Refinement.Mirrors.{machine_of}
 use Rattle.krl_world.proofs.Refinement.Openings.{first_of}
 use Rattle.krl_world.proofs.Refinement.Reached.{reached_step, bound_reached}
 use Rattle.krl_world.proofs.Promises.Bounded.{bounded_world}
 use Rattle.krl_world.proofs.Promises.Kept.{restarts_holds}
-use Rattle.krl_machine.proofs.Runs.{always_bounded, restarts_hold}
 use Rattle.krl_world.proofs.Promises.Unbroken.{none_missing, effect_serves}
 use Rattle.krl_world.proofs.Refinement.ServerMoves.{Way, stays, reads, stops, begins, way}
 use Rattle.krl_world.proofs.Examples.Worked.{no_turn}

@@ -1,49 +1,29 @@
 -- What the machine promises of compatibility and scans holds in each world that shows in it.
-use Rattle.std.proofs.Common.{◌≡◌, ◌≢◌, ℕ, ◌≤◌, ◌<◌, ◌∙◌, Bool, true, false, ◌||◌, ◌&&◌, cond, Option, Some, None, List, ◌⊎◌, inl, inr, refl, sym, ap, subst, ⊎_elim, arith, nat_eq, leb-true, eqb-true}
-use Rattle.std.proofs.lemmas.Bool.{eqb-false, and_parts, not-false}
+use Rattle.krl_world.proofs.Names.{◌≡◌, ◌≢◌, ℕ, ◌≤◌, ◌<◌, ◌∙◌, Bool, true, false, ◌||◌, ◌&&◌, cond, Option, Some, None, List, ◌⊎◌, inl, inr, refl, sym, ap, subst, ⊎_elim, arith, nat_eq, leb-true}
+use Rattle.krl_world.proofs.Names.{eqb-true, eqb-false, and_parts, not-false, nat_cmp, find-where_key, is_sorted-where_key, END, TOP, RangePart, KeyPart, ranges_compatible, keys_compatible}
+use Rattle.krl_world.proofs.Names.{reads_key, reads_gap, Bounds, IsPointOf, contains, Value, Logged, ranges_agree_by_table, keys_agree_by_table, Index, Belief, is_covered, is_span, CoversAll}
+use Rattle.krl_world.proofs.Names.{AreRows, Client, is_writing_in, Answers, is_pending, finds_rows, misses, scan_refusal, ShowsClient, ShowsSeat, passed, Step, Command, Answer, Refused, ServerNode}
+use Rattle.krl_world.proofs.Names.{Up, Down, State, durable_of, index_of, client_of, range_believed, key_believed, span, command_refusal, Steps, Obeys, refused_by_client, IsCompatible}
+use Rattle.krl_world.proofs.Names.{CommandIsRange, ScansIndex}
 use Rattle.std.specs.Prelude.{if◌then◌else◌, nat_lt, nat_le, Result, Ok, Err}
-use Rattle.std.specs.Ordering.{nat_cmp}
 use Rattle.std.specs.declared.cmp.Ordering.TheVariants.{Equal}
 use Rattle.std.specs.FinMap as map
-use Rattle.std.specs.FinMap.Entries.{find-where_key, is_sorted-where_key}
-use Rattle.krl_modes.specs.declared.point.TheConstants.{END, TOP}
-use Rattle.krl_modes.specs.declared.part.RangePart.{RangePart}
 use Rattle.krl_modes.specs.declared.part.RangePart.TheVariants as range
-use Rattle.krl_modes.specs.declared.part.KeyPart.{KeyPart}
 use Rattle.krl_modes.specs.declared.part.KeyPart.TheVariants as key
-use Rattle.krl_modes.specs.Parts.{ranges_compatible, keys_compatible, reads_key, reads_gap}
-use Rattle.krl_modes.specs.Spans.{Bounds, IsPointOf, contains}
-use Rattle.krl_messages.specs.Values.{Value}
 use Rattle.krl_modes.specs.Weights.{rank, reads}
 use Rattle.krl_machine.specs.Links.{Op, op_key, Link}
 use Rattle.krl_machine.specs.Worlds as machine
-use Rattle.krl_machine.specs.Worlds.{Logged}
-use Rattle.krl_machine.proofs.Modes.{ranges_agree_by_table, keys_agree_by_table}
 use Rattle.krl_durable.specs.Index as index
-use Rattle.krl_durable.specs.Index.{Index}
 use Rattle.krl_durable.proofs.Slots.{is_true}
-use Rattle.krl_cache.specs.Beliefs.{Belief, is_covered, is_span, CoversAll, AreRows}
 use Rattle.krl_cache.proofs.Calls.{past_end}
 use Rattle.krl_cache.proofs.OneScan.{rows_are_determined}
 use Rattle.krl_modes.proofs.SpanLaws.{inside_span}
 use Rattle.krl_client.specs.declared.scan_answer.ScanAnswer.{ScanAnswer}
 use Rattle.krl_client.specs.declared.scan_answer.ScanAnswer.TheVariants as scanned
-use Rattle.krl_client.specs.Clients.{Client, is_writing_in}
-use Rattle.krl_client.specs.Commands.{Answers, is_pending, finds_rows, misses, scan_refusal}
-use Rattle.krl_refinement.specs.Client.Shows.{ShowsClient, ShowsSeat}
-use Rattle.krl_refinement.proofs.Client.Basics.{passed}
 use Rattle.krl_refinement.proofs.Client.Steps.{not_in}
-use Rattle.krl_steps.specs.declared.step.Step.{Step}
 use Rattle.krl_steps.specs.declared.step.Step.TheVariants as step
-use Rattle.krl_steps.specs.declared.step.Command.{Command}
 use Rattle.krl_steps.specs.declared.step.Command.TheVariants as command
-use Rattle.krl_steps.specs.declared.answer.Answer.{Answer}
 use Rattle.krl_steps.specs.declared.answer.Answer.TheVariants as told
-use Rattle.krl_steps.specs.declared.refused.Refused.{Refused}
-use Rattle.krl_world.specs.States.{ServerNode, Up, Down, State, durable_of, index_of, client_of, range_believed, key_believed}
-use Rattle.krl_world.specs.Steps.{span, command_refusal, Steps, Obeys}
-use Rattle.krl_steps.specs.Refusals.{refused_by_client}
-use Rattle.krl_world.specs.Promises.{IsCompatible, CommandIsRange, ScansIndex}
 use Rattle.krl_world.proofs.Refinement.Mirrors.{machine_of, shared_of, ServerShows, Mirrors}
 use Rattle.krl_world.proofs.Refinement.Taken.{client_ok, not_named, runs_ok}
 

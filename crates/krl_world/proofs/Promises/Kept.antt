@@ -1,15 +1,8 @@
 -- What holds in each reachable world, by what the server's side owes.
-use Rattle.std.proofs.Common.{subst}
-use Rattle.krl_modes.specs.declared.point.TheConstants.{END}
+use Rattle.krl_world.proofs.Names.{subst, END, Reachable, always_compatible, always_bounded, scans_are_index, restarts_hold, ServerFollows, State, IsReachable, Headline, Bound, HasBound, IsBounded}
+use Rattle.krl_world.proofs.Names.{HoldsOverRestarts}
 use Rattle.krl_machine.specs.Worlds as machine
-use Rattle.krl_machine.specs.Worlds.{Reachable}
-use Rattle.krl_machine.proofs.Runs.{always_compatible, always_bounded, scans_are_index, restarts_hold}
 use Rattle.krl_machine.proofs.Writes.{writes_once}
-use Rattle.krl_refinement.specs.Server.Simulation.{ServerFollows}
-use Rattle.krl_world.specs.States.{State}
-use Rattle.krl_world.specs.Steps.{IsReachable}
-use Rattle.krl_world.specs.Promises.{Headline}
-use Rattle.krl_world.specs.Bounds.{Bound, HasBound, IsBounded, HoldsOverRestarts}
 use Rattle.krl_world.proofs.Refinement.Mirrors.{machine_of, ServerShows}
 use Rattle.krl_world.proofs.Refinement.Openings.{first_of}
 use Rattle.krl_world.proofs.Refinement.Reached.{Reached, world_reached, bound_reached}

@@ -1,29 +1,14 @@
 -- While a server recovers, what it has heard and may still hear lies within the bound of the run; and so does what it
 -- rebuilds.
-use Rattle.std.proofs.Common.{◌≡◌, ℕ, ◌∙◌, true, false, Option, Some, None, List, [], ◌∷◌, refl, sym, subst}
-use Rattle.krl_modes.specs.declared.point.TheConstants.{END}
-use Rattle.krl_modes.specs.declared.part.RangePart.{RangePart}
-use Rattle.krl_modes.specs.declared.part.KeyPart.{KeyPart}
-use Rattle.std.specs.List.{AllByRecursion}
-use Rattle.krl_messages.specs.Values.{Value}
-use Rattle.krl_messages.specs.declared.pieces.Pieces.{Pieces}
-use Rattle.krl_messages.specs.Members.{In}
-use Rattle.krl_machine.specs.Modes.{RangeAtMost, KeyAtMost}
+use Rattle.krl_world.proofs.Names.{◌≡◌, ℕ, ◌∙◌, true, false, Option, Some, None, List, [], ◌∷◌, refl, sym, subst, END, RangePart, KeyPart, AllByRecursion, Value, Pieces, In, RangeAtMost, KeyAtMost}
+use Rattle.krl_world.proofs.Names.{Link, takes_report, Logged, MayTake, Reachable, stepped, at_link, restarts_hold, Record, Index, Rows, column, Server, is_recovering, lists, unlist, report_of}
+use Rattle.krl_world.proofs.Names.{machine_phase, view, IsRecord, Shows, IsWhole, Client, ShowsSeat, Up, State, client_of, range_believed, key_believed, Bound, table_with, IsRangeWithin, IsKeyWithin}
+use Rattle.krl_world.proofs.Names.{IsAwaited, IsRecoveryWithin}
 use Rattle.krl_machine.specs.Links as links
-use Rattle.krl_machine.specs.Links.{Link, takes_report}
 use Rattle.krl_machine.specs.Tables as tables
 use Rattle.krl_machine.specs.Worlds as machine
-use Rattle.krl_machine.specs.Worlds.{Logged, MayTake, Reachable, stepped, at_link}
 use Rattle.krl_machine.proofs.Steps.{put, put_changed}
-use Rattle.krl_machine.proofs.Runs.{restarts_hold}
-use Rattle.krl_durable.specs.declared.record.Record.{Record}
-use Rattle.krl_durable.specs.Index.{Index}
-use Rattle.krl_table.specs.Rows.{Rows, column}
 use Rattle.krl_table.specs.Reports.{reported_key, adopted, range_said}
-use Rattle.krl_server.specs.Servers.{Server, is_recovering, lists, unlist}
-use Rattle.krl_refinement.specs.Messages.{report_of}
-use Rattle.krl_refinement.specs.Server.AsLinks.{machine_phase, view, IsRecord, Shows}
-use Rattle.krl_modes.specs.Spans.{IsWhole}
 use Rattle.krl_server.specs.Soundness.{IsSound}
 use Rattle.krl_refinement.proofs.Server.Meaning.{range_is, key_is}
 use Rattle.krl_server.proofs.Points.{same_range, same_key}
@@ -31,10 +16,6 @@ use Rattle.krl_refinement.proofs.Server.Follows.{at_put}
 use Rattle.krl_server.proofs.Updates.{unlist_here, unlist_other}
 use Rattle.krl_refinement.proofs.Server.Reported.{report_shown}
 use Rattle.krl_server.proofs.Invariant.RowsSound.{adopted_others}
-use Rattle.krl_client.specs.Clients.{Client}
-use Rattle.krl_refinement.specs.Client.Shows.{ShowsSeat}
-use Rattle.krl_world.specs.States.{Up, State, client_of, range_believed, key_believed}
-use Rattle.krl_world.specs.Bounds.{Bound, table_with, IsRangeWithin, IsKeyWithin, IsAwaited, IsRecoveryWithin}
 use Rattle.krl_world.proofs.Refinement.Mirrors.{machine_of, shared_of, ServerShows, Mirrors}
 use Rattle.krl_world.proofs.Refinement.Reached.{HaveBound}
 use Rattle.krl_world.proofs.Refinement.Serves.{seat_stays}

@@ -1,10 +1,6 @@
 -- While it serves, the bound of a run is the server's table.
-use Rattle.std.proofs.Common.{◌≡◌, ℕ, Bool, true, false, List, [], ◌∷◌, refl, sym, subst, if◌then◌else◌}
-use Rattle.krl_durable.specs.Registers.{Durable}
-use Rattle.krl_server.specs.Servers.{is_recovering}
-use Rattle.krl_steps.specs.declared.step.Step.{Step}
-use Rattle.krl_world.specs.States.{ServerNode, Up, Down, State, opened}
-use Rattle.krl_world.specs.Bounds.{Bound, table_of, first_bound, step_clears, cleared, bound_at, bound_after, RunsWithin, BoundIsTable}
+use Rattle.krl_world.proofs.Names.{◌≡◌, ℕ, Bool, true, false, List, [], ◌∷◌, refl, sym, subst, if◌then◌else◌, Durable, is_recovering, Step, ServerNode, Up, Down, State, opened, Bound, table_of}
+use Rattle.krl_world.proofs.Names.{first_bound, step_clears, cleared, bound_at, bound_after, RunsWithin, BoundIsTable}
 
 abbrev IsItsTable : ServerNode → Bound → Type 0
 IsItsTable (Up s) b = is_recovering s.missing ≡ false → b ≡ table_of s

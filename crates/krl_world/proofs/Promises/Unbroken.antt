@@ -1,19 +1,8 @@
 -- A server that serves serves on, as long as it does not crash.
-use Rattle.std.proofs.Common.{◌≡◌, ◌≢◌, ℕ, ◌∙◌, Bool, true, false, List, [], ◌∷◌, inl, inr, refl, sym, ap, subst, if◌then◌else◌}
-use Rattle.krl_durable.specs.Registers.{Durable}
-use Rattle.krl_messages.specs.declared.to_server.ToServer.{ToServer}
-use Rattle.krl_messages.specs.declared.to_client.ToClient.{ToClient}
-use Rattle.krl_messages.specs.Members.{In}
-use Rattle.krl_server.specs.Servers.{Server, is_recovering, unlist}
-use Rattle.krl_server.specs.Cases.{Case, Ignored, Registers, Leaves, Tells, Alarms, Rebuilds, Repeats, Acknowledges, Lowers, Waits, Judges, AnswersAgain, case_of}
-use Rattle.krl_server.specs.Effects.{Done, acknowledged, writes, effect}
-use Rattle.krl_server.specs.Steps.{Kind, kind_of, Ends, at_once, recovers, serves, ServerStep}
-use Rattle.krl_server.proofs.Invariant.AnswersSound.{pushes_missing, answered_up}
-use Rattle.krl_steps.specs.declared.step.Step.{Step}
+use Rattle.krl_world.proofs.Names.{◌≡◌, ◌≢◌, ℕ, ◌∙◌, Bool, true, false, List, [], ◌∷◌, inl, inr, refl, sym, ap, subst, if◌then◌else◌, Durable, ToServer, ToClient, In, Server, is_recovering, unlist}
+use Rattle.krl_world.proofs.Names.{Case, Ignored, Registers, Leaves, Tells, Alarms, Rebuilds, Repeats, Acknowledges, Lowers, Waits, Judges, AnswersAgain, case_of, Done, acknowledged, writes, effect}
+use Rattle.krl_world.proofs.Names.{Kind, kind_of, Ends, at_once, recovers, serves, ServerStep, pushes_missing, answered_up, Step, Up, Down, State, is_serving, opened, CanOpen, Runs, ServesOn}
 use Rattle.krl_steps.specs.declared.step.Step.TheVariants as step
-use Rattle.krl_world.specs.States.{Up, Down, State, is_serving, opened}
-use Rattle.krl_world.specs.Steps.{CanOpen, Runs}
-use Rattle.krl_world.specs.Laws.{ServesOn}
 use Rattle.krl_world.proofs.Refinement.ServerMoves.{Way, stays, reads, stops, begins, way}
 
 -- One message

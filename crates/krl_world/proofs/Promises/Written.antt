@@ -1,27 +1,12 @@
 -- What the machine promises of writes holds in each world that shows in it.
-use Rattle.std.proofs.Common.{◌≡◌, ◌≢◌, ℕ, ◌∙◌, false, cond, Option, Some, None, List, [], ◌∷◌, ◌++◌, ◌⊎◌, inl, inr, refl, sym, ap, subst, ⊎_elim, arith, ◌==◌}
-use Rattle.std.proofs.lemmas.Bool.Decides.{nat_tests}
-use Rattle.std.specs.Ordering.{nat_cmp, eq_by_cmp}
-use Rattle.std.specs.Cmp.{nat_cmp_total}
+use Rattle.krl_world.proofs.Names.{◌≡◌, ◌≢◌, ℕ, ◌∙◌, false, cond, Option, Some, None, List, [], ◌∷◌, ◌++◌, ◌⊎◌, inl, inr, refl, sym, ap, subst, ⊎_elim, arith, ◌==◌, nat_tests, nat_cmp, eq_by_cmp}
+use Rattle.krl_world.proofs.Names.{nat_cmp_total, Value, Outcome, WriteOp, In, in_both, Op, Link, Logged, entry_after, Index, written, op_of, is_applied, AppliedWrite, State, index_of, IsListed}
+use Rattle.krl_world.proofs.Names.{IsOnce, fold, IsDue, AreDue, WritesOnce}
 use Rattle.std.specs.FinMap as map
-use Rattle.krl_messages.specs.Values.{Value}
-use Rattle.krl_messages.specs.declared.outcome.Outcome.{Outcome}
 use Rattle.krl_messages.specs.declared.outcome.Outcome.TheVariants as outcome
-use Rattle.krl_messages.specs.declared.write_op.WriteOp.{WriteOp}
 use Rattle.krl_messages.specs.declared.write_op.WriteOp.TheVariants as write
-use Rattle.krl_messages.specs.Members.{In}
-use Rattle.krl_messages.proofs.Members.{in_both}
 use Rattle.krl_machine.specs.Links as links
-use Rattle.krl_machine.specs.Links.{Op, Link}
 use Rattle.krl_machine.specs.Worlds as machine
-use Rattle.krl_machine.specs.Worlds.{Logged, entry_after}
-use Rattle.krl_durable.specs.Index.{Index}
-use Rattle.krl_durable.specs.Writes.{written}
-use Rattle.krl_refinement.specs.Messages.{op_of}
-use Rattle.krl_messages.specs.Writes.{is_applied}
-use Rattle.krl_steps.specs.declared.applied_write.AppliedWrite.{AppliedWrite}
-use Rattle.krl_world.specs.States.{State, index_of}
-use Rattle.krl_world.specs.Promises.{IsListed, IsOnce, fold, IsDue, AreDue, WritesOnce}
 use Rattle.krl_world.proofs.Refinement.Mirrors.{machine_of, op_back, as_applied, oldest_first, Mirrors}
 use Rattle.krl_world.proofs.Refinement.Openings.{first_of}
 use Rattle.krl_world.proofs.Promises.CompatibilityAndScans.{index_is}

@@ -1,35 +1,20 @@
 -- A callback has the epoch of the server that sends it.
-use Rattle.std.proofs.Common.{ℕ, zero, suc, ◌≤◌, Bool, true, false, Option, Some, None, List, [], ◌∷◌, ◌++◌, inl, inr, sym, subst, ⊎_elim, arith, nat_eq, if◌then◌else◌}
+use Rattle.krl_world.proofs.Names.{ℕ, zero, suc, ◌≤◌, Bool, true, false, Option, Some, None, List, [], ◌∷◌, ◌++◌, inl, inr, sym, subst, ⊎_elim, arith, nat_eq, if◌then◌else◌, END, cap, ToServer}
+use Rattle.krl_world.proofs.Names.{ToClient, PushBody, WriteOp, Outcome, Record, slot_of, span_of, slots, record_of, op_key, In, in_both, most_clients, Server, is_recovering, lists, Case, Ignored}
+use Rattle.krl_world.proofs.Names.{Registers, Leaves, Tells, Alarms, Rebuilds, Repeats, Acknowledges, Lowers, Waits, Judges, AnswersAgain, case_of, Done, callback_to, with_rows, holding, holdings}
+use Rattle.krl_world.proofs.Names.{acknowledged, writes, answers, pushes, effect, Turn, tells_absent, grants, answer_first, Answered, stops, goes_on, is_compatible, callbacks_from, callbacks_for}
+use Rattle.krl_world.proofs.Names.{callbacks_at, callbacks_among, callbacks_of, callbacks_of_among, Kind, Idle, Quiet, Acts, kind_of, calls_of, Ends, at_once, recovers, serves, ServerStep}
+use Rattle.krl_world.proofs.Names.{nudge_served, nudge_known, nudge}
 use Rattle.std.specs.Prelude.{nat_lt}
-use Rattle.krl_modes.specs.declared.point.TheConstants.{END}
-use Rattle.krl_modes.specs.Modes.{cap}
-use Rattle.krl_messages.specs.declared.to_server.ToServer.{ToServer}
-use Rattle.krl_messages.specs.declared.to_client.ToClient.{ToClient}
 use Rattle.krl_messages.specs.declared.to_client.ToClientBody.{ToClientBody}
 use Rattle.krl_messages.specs.declared.to_client.ToClientBody.TheVariants as told
-use Rattle.krl_messages.specs.declared.to_client.PushBody.{PushBody}
 use Rattle.krl_messages.specs.declared.to_client.PushBody.TheVariants as push
-use Rattle.krl_messages.specs.declared.write_op.WriteOp.{WriteOp}
-use Rattle.krl_messages.specs.declared.outcome.Outcome.{Outcome}
 use Rattle.krl_queue.specs.declared.waiter.Waiter.{Waiter}
 use Rattle.krl_machine.specs.Worlds as machine
 use Rattle.krl_machine.specs.Worlds.{Step, at_link, raises, applies, crash, start, finish, Steps, none, more}
-use Rattle.krl_durable.specs.declared.record.Record.{Record}
-use Rattle.krl_durable.specs.Index.{slot_of, span_of, slots}
-use Rattle.krl_durable.specs.Registers.{record_of}
-use Rattle.krl_messages.specs.Writes.{op_key}
-use Rattle.krl_messages.specs.Members.{In}
-use Rattle.krl_messages.proofs.Members.{in_both}
-use Rattle.krl_table.specs.Rows.{most_clients}
 use Rattle.krl_table.specs.Calls.{wanted, dropped}
 use Rattle.krl_table.specs.Grants.{taken, granted}
 use Rattle.krl_table.specs.Replies.{asks_absent}
-use Rattle.krl_server.specs.Servers.{Server, is_recovering, lists}
-use Rattle.krl_server.specs.Cases.{Case, Ignored, Registers, Leaves, Tells, Alarms, Rebuilds, Repeats, Acknowledges, Lowers, Waits, Judges, AnswersAgain, case_of}
-use Rattle.krl_server.specs.Effects.{Done, callback_to, with_rows, holding, holdings, acknowledged, writes, answers, pushes, effect}
-use Rattle.krl_server.specs.Answering.{Turn, tells_absent, grants, answer_first, Answered, stops, goes_on}
-use Rattle.krl_server.specs.Callbacks.{is_compatible, callbacks_from, callbacks_for, callbacks_at, callbacks_among, callbacks_of, callbacks_of_among}
-use Rattle.krl_server.specs.Steps.{Kind, Idle, Quiet, Acts, kind_of, calls_of, Ends, at_once, recovers, serves, ServerStep, nudge_served, nudge_known, nudge}
 
 -- the epoch of a callback, else 0
 abbrev pub epoch_called : ToClientBody → ℕ

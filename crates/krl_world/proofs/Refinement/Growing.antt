@@ -1,10 +1,7 @@
 -- No message goes: each step of the machine leaves every message that stands.
-use Rattle.std.proofs.Common.{ℕ, inr, sym, subst}
+use Rattle.krl_world.proofs.Names.{ℕ, inr, sym, subst, eq_cases, Grows, grows_not, grows_on}
 use Rattle.krl_machine.specs.Links.{Shared, Link, LinkStep, starts, crashes, leaves, joins, accepts, lowers, issues, hellos_again, reports_again, speaks, writes_again, registers, notifies, sees_off, takes_report, takes_head, takes_release, refuses, pushes}
 use Rattle.krl_machine.specs.Worlds.{World, Step, at_link, raises, applies, crash, start, finish, Steps, none, more, Changed}
-use Rattle.krl_machine.proofs.Worlds.{eq_cases}
-use Rattle.krl_refinement.specs.Client.Shows.{Grows}
-use Rattle.krl_refinement.proofs.Client.Basics.{grows_not, grows_on}
 
 link_grows : (s : Shared) (l m : Link) → LinkStep s l m → Grows l m
 link_grows s l _ (starts down) = record { hellos = λ x i. inr i; byes = λ x i. i; heads = λ x i. i; releases = λ x i. i; writes = λ x i. i; reports = λ x i. i; notices = λ x i. i; pushes = λ x i. i }

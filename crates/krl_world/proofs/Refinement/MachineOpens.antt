@@ -1,22 +1,13 @@
 -- The machine comes to a world that shows any opening: each client that was registered started up to its incarnation, was
 -- registered with it and left, and the server crashed and started up to the epoch. It wrote nothing.
-use Rattle.std.proofs.Common.{◌≡◌, ◌≢◌, ℕ, zero, suc, ◌≤◌, ◌∙◌, Bool, true, false, Option, Some, None, List, [], ◌∷◌, ◌⊎◌, inl, inr, refl, sym, ap, subst, arith, nat_eq, if◌then◌else◌, eq-eqb, ne_eqb, eqb-true}
-use Rattle.std.specs.List.{AllByRecursion, IsDistinct}
+use Rattle.krl_world.proofs.Names.{◌≡◌, ◌≢◌, ℕ, zero, suc, ◌≤◌, ◌∙◌, Bool, true, false, Option, Some, None, List, [], ◌∷◌, ◌⊎◌, inl, inr, refl, sym, ap, subst, arith, nat_eq, if◌then◌else◌, eq-eqb}
+use Rattle.krl_world.proofs.Names.{ne_eqb, eqb-true, AllByRecursion, IsDistinct, none-some, same_Some, END, Value, Shared, Link, Notice, LinkSteps, starts, crashes, leaves, registers, sees_off, idle}
+use Rattle.krl_world.proofs.Names.{next, steps_reachable, steps_on, link_steps, Record, Register, record_of, missing_order, HasIncarnations, incarnation_or_0, IsRecord, IsIdle}
 use Rattle.std.proofs.lemmas.Map.Keys.{IsDistinct-head, IsDistinct-tail}
-use Rattle.std.proofs.lemmas.Option.{none-some, same_Some}
 use Rattle.std.specs.Map.{keys_of}
-use Rattle.krl_modes.specs.declared.point.TheConstants.{END}
-use Rattle.krl_messages.specs.Values.{Value}
 use Rattle.krl_machine.specs.Links as links
-use Rattle.krl_machine.specs.Links.{Shared, Link, Notice, LinkSteps, starts, crashes, leaves, registers, sees_off, idle, next}
 use Rattle.krl_machine.specs.Worlds as machine
 use Rattle.krl_machine.specs.Worlds.{Changed, crash, start, finish, Steps, none, more, Reachable, begun, blank_link}
-use Rattle.krl_machine.proofs.Steps.{steps_reachable, steps_on, link_steps}
-use Rattle.krl_durable.specs.declared.record.Record.{Record}
-use Rattle.krl_durable.specs.Registers.{Register, record_of, missing_order, HasIncarnations}
-use Rattle.krl_server.specs.Servers.{incarnation_or_0}
-use Rattle.krl_refinement.specs.Server.AsLinks.{IsRecord}
-use Rattle.krl_refinement.specs.Server.Simulation.{IsIdle}
 use Rattle.krl_server.proofs.Tests.{not_truth}
 
 -- One link

@@ -1,34 +1,18 @@
 -- A world, and the machine's world that shows it. A client's step is steps of the machine.
-use Rattle.std.proofs.Common.{◌≡◌, ℕ, ◌≤◌, ◌∙◌, Bool, true, false, cond, Option, Some, None, List, [], ◌∷◌, ◌++◌, inl, inr, refl, sym, ap, subst, ⊎_elim, nat_eq, if◌then◌else◌, eqb-true}
-use Rattle.krl_messages.specs.declared.to_server.ToServer.{ToServer}
-use Rattle.krl_messages.specs.declared.to_client.ToClient.{ToClient}
+use Rattle.krl_world.proofs.Names.{◌≡◌, ℕ, ◌≤◌, ◌∙◌, Bool, true, false, cond, Option, Some, None, List, [], ◌∷◌, ◌++◌, inl, inr, refl, sym, ap, subst, ⊎_elim, nat_eq, if◌then◌else◌, eqb-true}
+use Rattle.krl_world.proofs.Names.{ToServer, ToClient, WriteOp, RangePart, KeyPart, In, in_both, Record, Op, Shared, Link, eq_cases, start, Stands, WasSent, IsRecord, LinkIs, Shows, view, view_of}
+use Rattle.krl_world.proofs.Names.{DurableShows, Grows, server_part, ShowsSeat, Leads, grows_not, AppliedWrite, ServerNode, Up, Down, Seat, State, durable_of, is_serving, from_clients, from_server}
+use Rattle.krl_world.proofs.Names.{seated, BoundStays, from_stands, stands_stays, sent_stays}
 use Rattle.krl_messages.specs.declared.to_client.ToClientBody.TheVariants as told
-use Rattle.krl_messages.specs.declared.write_op.WriteOp.{WriteOp}
 use Rattle.krl_messages.specs.declared.write_op.WriteOp.TheVariants as write
-use Rattle.krl_modes.specs.declared.part.RangePart.{RangePart}
-use Rattle.krl_modes.specs.declared.part.KeyPart.{KeyPart}
-use Rattle.krl_messages.specs.Members.{In}
-use Rattle.krl_messages.proofs.Members.{in_both}
-use Rattle.krl_durable.specs.declared.record.Record.{Record}
 use Rattle.krl_machine.specs.Links as links
-use Rattle.krl_machine.specs.Links.{Op, Shared, Link}
 use Rattle.krl_machine.specs.Worlds as machine
 use Rattle.krl_machine.specs.Worlds.{Logged, Steps}
-use Rattle.krl_machine.proofs.Worlds.{eq_cases}
 use Rattle.krl_machine.proofs.Steps.{put, put_changed, link_steps}
 use Rattle.krl_server.specs.declared.session.Session.{Session}
-use Rattle.krl_server.specs.Steps.{start}
-use Rattle.krl_refinement.specs.Messages.{Stands, WasSent}
-use Rattle.krl_refinement.specs.Server.AsLinks.{IsRecord, LinkIs, Shows, view, view_of, DurableShows}
 use Rattle.krl_server.specs.Soundness.{IsSound}
-use Rattle.krl_refinement.specs.Client.Shows.{Grows, server_part, ShowsSeat, Leads}
-use Rattle.krl_refinement.proofs.Client.Basics.{grows_not}
 use Rattle.krl_world.specs.declared.message.Message.TheVariants as message
-use Rattle.krl_steps.specs.declared.applied_write.AppliedWrite.{AppliedWrite}
-use Rattle.krl_world.specs.States.{ServerNode, Up, Down, Seat, State, durable_of, is_serving, from_clients, from_server, seated}
-use Rattle.krl_refinement.specs.Server.Simulation.{BoundStays}
 use Rattle.krl_world.proofs.Refinement.Calling.{epoch_called}
-use Rattle.krl_refinement.proofs.Messages.{from_stands, stands_stays, sent_stays}
 
 -- The machine's world
 

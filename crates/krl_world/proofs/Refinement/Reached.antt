@@ -1,24 +1,10 @@
 -- Each world that a run reaches shows in a machine's world that can be reached, and the run's bound is the machine's.
-use Rattle.std.proofs.Common.{◌≡◌, ℕ, ◌∙◌, Bool, true, false, List, [], ◌∷◌, refl, sym, ap, subst, if◌then◌else◌}
-use Rattle.krl_modes.specs.declared.point.TheConstants.{END}
-use Rattle.krl_modes.specs.declared.part.RangePart.{RangePart}
+use Rattle.krl_world.proofs.Names.{◌≡◌, ℕ, ◌∙◌, Bool, true, false, List, [], ◌∷◌, refl, sym, ap, subst, if◌then◌else◌, END, RangePart, KeyPart, Durable, Link, Logged, Reachable, steps_reachable}
+use Rattle.krl_world.proofs.Names.{Server, is_recovering, start, machine_phase, Shows, BoundStays, ServerFollows, Step, Answer, ServerNode, Up, Down, State, durable_of, index_of, is_serving, opened}
+use Rattle.krl_world.proofs.Names.{CanOpen, Takes, Runs, IsReachable, Bound, table_of, first_bound, step_clears, cleared, bound_at, bound_after, RunsWithin, HasBound}
 use Rattle.krl_modes.specs.declared.part.RangePart.TheVariants as range
-use Rattle.krl_modes.specs.declared.part.KeyPart.{KeyPart}
 use Rattle.krl_modes.specs.declared.part.KeyPart.TheVariants as key
-use Rattle.krl_durable.specs.Registers.{Durable}
 use Rattle.krl_machine.specs.Links as links
-use Rattle.krl_machine.specs.Links.{Link}
-use Rattle.krl_machine.specs.Worlds.{Logged, Reachable}
-use Rattle.krl_machine.proofs.Steps.{steps_reachable}
-use Rattle.krl_server.specs.Servers.{Server, is_recovering}
-use Rattle.krl_server.specs.Steps.{start}
-use Rattle.krl_refinement.specs.Server.AsLinks.{machine_phase, Shows}
-use Rattle.krl_refinement.specs.Server.Simulation.{BoundStays, ServerFollows}
-use Rattle.krl_steps.specs.declared.step.Step.{Step}
-use Rattle.krl_steps.specs.declared.answer.Answer.{Answer}
-use Rattle.krl_world.specs.States.{ServerNode, Up, Down, State, durable_of, index_of, is_serving, opened}
-use Rattle.krl_world.specs.Steps.{CanOpen, Takes, Runs, IsReachable}
-use Rattle.krl_world.specs.Bounds.{Bound, table_of, first_bound, step_clears, cleared, bound_at, bound_after, RunsWithin, HasBound}
 use Rattle.krl_world.proofs.Refinement.Mirrors.{machine_of, ServerShows, Mirrors}
 use Rattle.krl_world.proofs.Refinement.MachineOpens.{links_of}
 use Rattle.krl_world.proofs.Refinement.Openings.{first_of, first_reached, first_mirrors}

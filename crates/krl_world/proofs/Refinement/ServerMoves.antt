@@ -1,21 +1,9 @@
 -- What a step makes of the server: it stays, or reads a message, crashes or starts.
-use Rattle.std.proofs.Common.{◌≡◌, ℕ, ◌∙◌, Option, Some, None, List, refl, sym, ap}
-use Rattle.krl_messages.specs.declared.to_server.ToServer.{ToServer}
-use Rattle.krl_messages.specs.declared.to_client.ToClient.{ToClient}
-use Rattle.krl_messages.specs.Members.{In}
-use Rattle.krl_durable.specs.Registers.{Durable}
-use Rattle.krl_server.specs.Servers.{Server}
-use Rattle.krl_server.specs.Steps.{ServerStep, start}
-use Rattle.krl_client.specs.Clients.{Client}
-use Rattle.krl_world.specs.declared.message.Message.{Message}
+use Rattle.krl_world.proofs.Names.{◌≡◌, ℕ, ◌∙◌, Option, Some, None, List, refl, sym, ap, ToServer, ToClient, In, Durable, Server, ServerStep, start, Client, Message, Step, Command, Answer}
+use Rattle.krl_world.proofs.Names.{ServerNode, Up, Down, State, client_of, message_at, ServerReads, ClientReads, Delivers, Obeys, nudged, started, crashed, Does}
 use Rattle.krl_world.specs.declared.message.Message.TheVariants as message
-use Rattle.krl_steps.specs.declared.step.Step.{Step}
 use Rattle.krl_steps.specs.declared.step.Step.TheVariants as step
-use Rattle.krl_steps.specs.declared.step.Command.{Command}
 use Rattle.krl_steps.specs.declared.step.Command.TheVariants as command
-use Rattle.krl_steps.specs.declared.answer.Answer.{Answer}
-use Rattle.krl_world.specs.States.{ServerNode, Up, Down, State, client_of}
-use Rattle.krl_world.specs.Steps.{message_at, ServerReads, ClientReads, Delivers, Obeys, nudged, started, crashed, Does}
 use Rattle.krl_world.proofs.Refinement.Taken.{at_in}
 
 pub data Way (w v : State) (s : Step) : Type 0 where

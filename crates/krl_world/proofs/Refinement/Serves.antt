@@ -1,34 +1,15 @@
 -- Each step at the server's side is steps of the machine, by what that side owes.
-use Rattle.std.proofs.Common.{arith, ◌≡◌, ℕ, ◌∙◌, Bool, true, false, Option, Some, None, List, [], ◌∷◌, ◌++◌, refl, sym, ap, subst, ⊎_elim, nat_eq, if◌then◌else◌, ◌&&◌}
-use Rattle.krl_modes.specs.declared.point.TheConstants.{END}
-use Rattle.krl_messages.specs.Values.{Value}
-use Rattle.krl_messages.specs.declared.to_server.ToServer.{ToServer}
-use Rattle.krl_messages.specs.declared.to_client.ToClient.{ToClient}
-use Rattle.krl_messages.specs.declared.outcome.Outcome.{Outcome}
+use Rattle.krl_world.proofs.Names.{arith, ◌≡◌, ℕ, ◌∙◌, Bool, true, false, Option, Some, None, List, [], ◌∷◌, ◌++◌, refl, sym, ap, subst, ⊎_elim, nat_eq, if◌then◌else◌, ◌&&◌, END, Value, ToServer}
+use Rattle.krl_world.proofs.Names.{ToClient, Outcome, WriteOp, In, in_both, Durable, Link, Server, is_recovering, Case, Ignored, Registers, Leaves, Tells, Alarms, Rebuilds, Repeats, Acknowledges}
+use Rattle.krl_world.proofs.Names.{Lowers, Waits, Judges, AnswersAgain, case_of, clears, ServerStep, nudge, start, can_start, op_of, WasSent, logged, Client, Grows, ShowsClient, ShowsSeat}
+use Rattle.krl_world.proofs.Names.{AppliedWrite, ServerNode, Up, Down, State, durable_of, is_serving, from_server, served, applies, ServerFollows, stands_stays, sent_stays}
 use Rattle.krl_messages.specs.declared.outcome.Outcome.TheVariants as outcome
-use Rattle.krl_messages.specs.declared.write_op.WriteOp.{WriteOp}
 use Rattle.krl_messages.specs.declared.write_op.WriteOp.TheVariants as write
-use Rattle.krl_messages.specs.Members.{In}
-use Rattle.krl_messages.proofs.Members.{in_both}
-use Rattle.krl_durable.specs.Registers.{Durable}
-use Rattle.krl_machine.specs.Links.{Link}
 use Rattle.krl_machine.specs.Worlds as machine
 use Rattle.krl_machine.specs.Worlds.{Logged, Steps, Reachable}
-use Rattle.krl_server.specs.Servers.{Server, is_recovering}
-use Rattle.krl_server.specs.Cases.{Case, Ignored, Registers, Leaves, Tells, Alarms, Rebuilds, Repeats, Acknowledges, Lowers, Waits, Judges, AnswersAgain, case_of, clears}
-use Rattle.krl_server.specs.Steps.{ServerStep, nudge, start, can_start}
-use Rattle.krl_refinement.specs.Messages.{op_of, WasSent}
-use Rattle.krl_refinement.specs.Server.AsLinks.{logged}
-use Rattle.krl_client.specs.Clients.{Client}
-use Rattle.krl_refinement.specs.Client.Shows.{Grows, ShowsClient, ShowsSeat}
 use Rattle.krl_world.specs.declared.message.Message.TheVariants as message
-use Rattle.krl_steps.specs.declared.applied_write.AppliedWrite.{AppliedWrite}
-use Rattle.krl_world.specs.States.{ServerNode, Up, Down, State, durable_of, is_serving, from_server, served}
-use Rattle.krl_world.specs.Steps.{applies}
-use Rattle.krl_refinement.specs.Server.Simulation.{ServerFollows}
 use Rattle.krl_world.proofs.Refinement.Growing.{steps_grow}
 use Rattle.krl_world.proofs.Refinement.Calling.{AreCalled, step_called, nudge_called, epoch_rises}
-use Rattle.krl_refinement.proofs.Messages.{stands_stays, sent_stays}
 use Rattle.krl_world.proofs.Refinement.Mirrors.{machine_of, ServerShows, op_back, oldest_first, Mirrors, Goes, in_from_server, not_from_server}
 
 -- a seat shows in whatever has the same client

@@ -1,23 +1,10 @@
 -- While nobody serves, the index stands still.
-use Rattle.std.proofs.Common.{◌≡◌, ℕ, ◌∙◌, Bool, true, false, Option, Some, None, List, ◌⊎◌, inl, inr, refl, sym, ap, subst, ⊎_elim, if◌then◌else◌}
+use Rattle.krl_world.proofs.Names.{◌≡◌, ℕ, ◌∙◌, Bool, true, false, Option, Some, None, List, ◌⊎◌, inl, inr, refl, sym, ap, subst, ⊎_elim, if◌then◌else◌, END, ToServer, ToClient, PushBody, Record}
+use Rattle.krl_world.proofs.Names.{slot_of, Durable, record_of, left_by, op_key, Server, is_recovering, Case, case_of, Done, holding, acknowledged, writes, pushes, effect, Kind, Idle, kind_of, Ends}
+use Rattle.krl_world.proofs.Names.{at_once, recovers, serves, ServerStep, pushes_missing, answered_up, Step, ServerNode, Up, Down, State, durable_of, index_of, is_serving}
 use Rattle.std.specs.Prelude.{nat_lt}
-use Rattle.krl_modes.specs.declared.point.TheConstants.{END}
-use Rattle.krl_messages.specs.declared.to_server.ToServer.{ToServer}
-use Rattle.krl_messages.specs.declared.to_client.ToClient.{ToClient}
-use Rattle.krl_messages.specs.declared.to_client.PushBody.{PushBody}
 use Rattle.krl_messages.specs.declared.to_client.PushBody.TheVariants as push
-use Rattle.krl_durable.specs.declared.record.Record.{Record}
-use Rattle.krl_durable.specs.Index.{slot_of}
-use Rattle.krl_durable.specs.Registers.{Durable, record_of, left_by}
-use Rattle.krl_messages.specs.Writes.{op_key}
-use Rattle.krl_server.specs.Servers.{Server, is_recovering}
-use Rattle.krl_server.specs.Cases.{Case, case_of}
-use Rattle.krl_server.specs.Effects.{Done, holding, acknowledged, writes, pushes, effect}
-use Rattle.krl_server.specs.Steps.{Kind, Idle, kind_of, Ends, at_once, recovers, serves, ServerStep}
 use Rattle.krl_server.proofs.Cased.{by_case}
-use Rattle.krl_server.proofs.Invariant.AnswersSound.{pushes_missing, answered_up}
-use Rattle.krl_steps.specs.declared.step.Step.{Step}
-use Rattle.krl_world.specs.States.{ServerNode, Up, Down, State, durable_of, index_of, is_serving}
 use Rattle.krl_world.proofs.Refinement.Serves.{not_serving}
 use Rattle.krl_world.proofs.Refinement.ServerMoves.{Way, stays, reads, stops, begins}
 

@@ -1,32 +1,13 @@
 -- Each step that is taken is steps of the machine.
-use Rattle.std.proofs.Common.{◌≡◌, ℕ, zero, suc, Bool, true, false, cond, Option, Some, None, List, [], ◌∷◌, inl, inr, refl, sym, subst, nat_lt, is_some}
-use Rattle.std.specs.Prelude.{slice_get}
-use Rattle.krl_modes.specs.declared.point.TheConstants.{END}
-use Rattle.krl_messages.specs.Values.{Value}
-use Rattle.krl_messages.specs.declared.to_server.ToServer.{ToServer}
-use Rattle.krl_messages.specs.declared.to_client.ToClient.{ToClient}
-use Rattle.krl_messages.specs.Members.{In}
-use Rattle.krl_machine.specs.Links.{Link}
-use Rattle.krl_machine.specs.Worlds.{Logged, Reachable, none}
-use Rattle.krl_server.specs.Steps.{can_start}
-use Rattle.krl_client.specs.Clients.{Client, begun}
-use Rattle.krl_refinement.specs.Client.Shows.{ShowsSeat, Leads}
-use Rattle.krl_refinement.proofs.Messages.{sent_tells}
+use Rattle.krl_world.proofs.Names.{◌≡◌, ℕ, zero, suc, Bool, true, false, cond, Option, Some, None, List, [], ◌∷◌, inl, inr, refl, sym, subst, nat_lt, is_some, slice_get, END, Value, ToServer}
+use Rattle.krl_world.proofs.Names.{ToClient, In, Link, Logged, Reachable, none, can_start, Client, begun, ShowsSeat, Leads, sent_tells, Message, Step, Command, Answer, Refused, ServerNode, Up, Down}
+use Rattle.krl_world.proofs.Names.{State, client_of, with_client, span, message_at, command_refusal, named, of_client, if_runs, server_start, refusal_of, ServerReads, ClientReads, Delivers, Obeys}
+use Rattle.krl_world.proofs.Names.{nudged, started, crashed, Does, refused_by_client, clears_in, step_clears, BoundStays, ServerFollows}
 use Rattle.krl_refinement.proofs.Client.Simulation.{start_shows, crash_shows, commands_show, ticks_show_all, messages_show}
-use Rattle.krl_world.specs.declared.message.Message.{Message}
 use Rattle.krl_world.specs.declared.message.Message.TheVariants as message
-use Rattle.krl_steps.specs.declared.step.Step.{Step}
 use Rattle.krl_steps.specs.declared.step.Step.TheVariants as step
-use Rattle.krl_steps.specs.declared.step.Command.{Command}
 use Rattle.krl_steps.specs.declared.step.Command.TheVariants as command
-use Rattle.krl_steps.specs.declared.answer.Answer.{Answer}
-use Rattle.krl_steps.specs.declared.refused.Refused.{Refused}
 use Rattle.krl_steps.specs.declared.refused.Refused.TheVariants as refused
-use Rattle.krl_world.specs.States.{ServerNode, Up, Down, State, client_of, with_client}
-use Rattle.krl_world.specs.Steps.{span, message_at, command_refusal, named, of_client, if_runs, server_start, refusal_of, ServerReads, ClientReads, Delivers, Obeys, nudged, started, crashed, Does}
-use Rattle.krl_steps.specs.Refusals.{refused_by_client}
-use Rattle.krl_world.specs.Bounds.{clears_in, step_clears}
-use Rattle.krl_refinement.specs.Server.Simulation.{BoundStays, ServerFollows}
 use Rattle.krl_world.proofs.Refinement.Mirrors.{machine_of, shared_of, Mirrors, Goes, seat_goes}
 use Rattle.krl_world.proofs.Refinement.Serves.{reads_goes, nudge_goes, crash_goes, start_goes}
 

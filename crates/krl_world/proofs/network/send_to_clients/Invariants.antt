@@ -1,6 +1,5 @@
-use Rattle.std.proofs.Common.{◌≡◌, ◌≤◌, ◌+◌, ◌++◌, length, vec_len, vec_capacity}
+use Rattle.krl_world.proofs.Names.{◌≡◌, ◌≤◌, ◌+◌, ◌++◌, length, vec_len, vec_capacity, from_server}
 use Rattle.std.specs.Vec.Iter.{into_iter_items, into_iter_len}
-use Rattle.krl_world.specs.States.{from_server}
 use Rattle.krl_world.proofs.network.send_to_clients.Given as goal
 
 -- what is sent already, and what is still to come

@@ -1,6 +1,5 @@
-use Rattle.std.proofs.Common.{◌≡◌, ◌≤◌, ◌+◌, ◌++◌, length, vec_len, vec_capacity}
+use Rattle.krl_world.proofs.Names.{◌≡◌, ◌≤◌, ◌+◌, ◌++◌, length, vec_len, vec_capacity, from_clients}
 use Rattle.std.specs.Vec.Iter.{into_iter_items, into_iter_len}
-use Rattle.krl_world.specs.States.{from_clients}
 use Rattle.krl_world.proofs.network.send_to_server.Given as goal
 
 -- what is sent already, and what is still to come

@@ -1,10 +1,6 @@
-use Rattle.std.proofs.Common.{◌≡◌, arith, Some, ◌++◌, sym, ap, subst, ◌∙◌}
-use Rattle.krl_messages.specs.declared.to_server.ToServer.{ToServer}
-use Rattle.std.specs.Prelude.{slice_get}
+use Rattle.krl_world.proofs.Names.{◌≡◌, arith, Some, ◌++◌, sym, ap, subst, ◌∙◌, ToServer, slice_get, from_server, HasServed, applied_in, as_list}
 use Rattle.krl_world.specs.declared.message.Message.TheVariants as sent_message
 use Rattle.krl_server.specs.StateMeaning.{meaning}
-use Rattle.krl_world.specs.States.{from_server}
-use Rattle.krl_world.specs.SeatSteps.{HasServed, applied_in, as_list}
 use Rattle.krl_world.proofs.Functions.Applies.{served_by, got}
 use Rattle.krl_server.specs.Termination.{most_messages}
 use Rattle.krl_world.proofs.server_steps.read.Goals as goal

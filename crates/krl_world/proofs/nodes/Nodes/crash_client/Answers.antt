@@ -1,8 +1,6 @@
-use Rattle.std.proofs.Common.{refl, sym, ◌∙◌}
+use Rattle.krl_world.proofs.Names.{refl, sym, ◌∙◌, meaning, the_view}
 use Rattle.krl_steps.specs.declared.step.Step.TheVariants as step
 use Rattle.krl_steps.specs.declared.refused.Refused.TheVariants as refused
-use Rattle.krl_world.specs.Fields.{meaning}
-use Rattle.krl_world.specs.contracts.nodes.Nodes.{the_view}
 use Rattle.krl_world.proofs.Functions.Lifts.{refuses, is_no_client}
 use Rattle.krl_world.proofs.Functions.Places.{IsAt, is_at, crash_at, crash_none_at}
 use Rattle.krl_world.proofs.nodes.Nodes.crash_client.Goals.{in-Some, in-None}

@@ -1,6 +1,5 @@
-use Rattle.std.proofs.Common.{◌≡◌, ◌<◌, ◌⊎◌, inl, inr, length, ◌-◌, arith}
+use Rattle.krl_world.proofs.Names.{◌≡◌, ◌<◌, ◌⊎◌, inl, inr, length, ◌-◌, arith, the_view}
 use Rattle.krl_world.specs.declared.message.Message.TheVariants as message
-use Rattle.krl_world.specs.contracts.nodes.Nodes.{the_view}
 use Rattle.krl_world.proofs.Functions.Server.{no_message, nth_delivered}
 use Rattle.krl_world.proofs.nodes.Nodes.deliver.Goals.{then-number-eq0-via-then-number-eq0, then-number-eq0-via-else-number-eq0+then-number-len}
 use Rattle.krl_world.proofs.nodes.Nodes.deliver.Goals as goal

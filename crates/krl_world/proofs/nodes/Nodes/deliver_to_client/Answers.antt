@@ -1,9 +1,5 @@
-use Rattle.std.proofs.Common.{◌≡◌, ◌≤◌, Some, length, refl, sym, subst, arith}
-use Rattle.std.proofs.lemmas.Result.{err_from_is_err_and}
-use Rattle.std.specs.Prelude.{slice_get}
+use Rattle.krl_world.proofs.Names.{◌≡◌, ◌≤◌, Some, length, refl, sym, subst, arith, err_from_is_err_and, slice_get, Fields, the_view}
 use Rattle.krl_world.specs.declared.message.Message.TheVariants as message
-use Rattle.krl_world.specs.Fields.{Fields}
-use Rattle.krl_world.specs.contracts.nodes.Nodes.{the_view}
 use Rattle.krl_world.proofs.Functions.Places.{is_at, read_at, read_memory_at, read_none_at, read_past}
 use Rattle.krl_world.proofs.nodes.Nodes.deliver_to_client.Goals as goal
 

@@ -1,11 +1,5 @@
-use Rattle.std.proofs.Common.{◌≡◌, Some, sym, subst, ap, ◌∙◌}
-use Rattle.std.proofs.lemmas.Result.{err_from_is_err_and}
-use Rattle.std.specs.Prelude.{slice_get}
+use Rattle.krl_world.proofs.Names.{◌≡◌, Some, sym, subst, ap, ◌∙◌, err_from_is_err_and, slice_get, HasArrived, server_down, Fields, server_there, node_of, the_view}
 use Rattle.krl_world.specs.declared.message.Message.TheVariants as message
-use Rattle.krl_world.specs.SeatSteps.{HasArrived}
-use Rattle.krl_world.specs.Steps.{server_down}
-use Rattle.krl_world.specs.Fields.{Fields, server_there, node_of}
-use Rattle.krl_world.specs.contracts.nodes.Nodes.{the_view}
 use Rattle.krl_world.proofs.Functions.Server.{arrived_at, arrival_memory_at, lost_at}
 use Rattle.krl_world.proofs.nodes.Nodes.deliver_to_server.Goals as goal
 

@@ -1,9 +1,6 @@
-use Rattle.std.proofs.Common.{refl, ap, ◌∙◌}
-use Rattle.std.proofs.lemmas.Result.{err_from_is_err_and}
+use Rattle.krl_world.proofs.Names.{refl, ap, ◌∙◌, err_from_is_err_and, meaning, server_there, the_view}
 use Rattle.krl_steps.specs.declared.step.Step.TheVariants as step
 use Rattle.krl_steps.specs.declared.refused.Refused.TheVariants as refused
-use Rattle.krl_world.specs.Fields.{meaning, server_there}
-use Rattle.krl_world.specs.contracts.nodes.Nodes.{the_view}
 use Rattle.krl_world.proofs.Functions.Lifts.{refuses, is_no_client}
 use Rattle.krl_world.proofs.Functions.Server.{nudged_at, nudge_down_at, nudge_memory_at}
 use Rattle.krl_world.proofs.nodes.Nodes.nudge.Goals as goal

@@ -1,6 +1,4 @@
-use Rattle.std.proofs.Common.{◌≡◌, subst, true}
-use Rattle.krl_server.specs.CodeSteps.{IsStarted}
-use Rattle.krl_server.specs.Steps.{can_start}
+use Rattle.krl_world.proofs.Names.{◌≡◌, subst, true, IsStarted, can_start}
 use Rattle.krl_world.proofs.Functions.Fresh.{opened_fields}
 use Rattle.krl_world.proofs.nodes.Nodes.open.Goals as goal
 

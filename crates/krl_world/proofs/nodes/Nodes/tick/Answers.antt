@@ -1,9 +1,6 @@
-use Rattle.std.proofs.Common.{refl}
-use Rattle.std.proofs.lemmas.Result.{err_from_is_err_and}
+use Rattle.krl_world.proofs.Names.{refl, err_from_is_err_and, meaning, the_view}
 use Rattle.krl_steps.specs.declared.step.Step.TheVariants as step
 use Rattle.krl_steps.specs.declared.refused.Refused.TheVariants as refused
-use Rattle.krl_world.specs.Fields.{meaning}
-use Rattle.krl_world.specs.contracts.nodes.Nodes.{the_view}
 use Rattle.krl_world.proofs.Functions.Lifts.{refuses, is_no_client}
 use Rattle.krl_world.proofs.Functions.Places.{is_at, tick_at, tick_memory_at, tick_none_at}
 use Rattle.krl_world.proofs.nodes.Nodes.tick.Goals as goal

@@ -1,6 +1,5 @@
-use Rattle.std.proofs.Common.{sym, subst}
+use Rattle.krl_world.proofs.Names.{sym, subst, IsReachable}
 use Rattle.krl_durable.specs.Migrations.{migrated}
-use Rattle.krl_world.specs.Steps.{IsReachable}
 use Rattle.krl_world.proofs.Functions.Shapes.{reachable_stays}
 use Rattle.krl_world.proofs.world.World.migrate.Goals as goal
 

@@ -1,6 +1,4 @@
-use Rattle.std.proofs.Common.{sym, subst}
-use Rattle.krl_world.specs.States.{unused}
-use Rattle.krl_world.specs.Steps.{IsReachable}
+use Rattle.krl_world.proofs.Names.{sym, subst, unused, IsReachable}
 use Rattle.krl_world.proofs.Functions.Shapes.{reachable_stays}
 use Rattle.krl_world.proofs.world.World.new.Goals as goal
 

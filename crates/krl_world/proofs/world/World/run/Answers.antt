@@ -1,6 +1,4 @@
-use Rattle.std.proofs.Common.{arith, subst}
-use Rattle.krl_world.specs.Fields.{meaning}
-use Rattle.krl_world.specs.Steps.{Steps}
+use Rattle.krl_world.proofs.Names.{arith, subst, meaning, Steps}
 use Rattle.krl_world.proofs.Functions.Runs.{run_steps, run_ends, compatible_at, writes_at}
 use Rattle.krl_world.proofs.world.World.run.Goals as goal
 

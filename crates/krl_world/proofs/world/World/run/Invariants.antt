@@ -1,6 +1,4 @@
-use Rattle.std.proofs.Common.{◌≡◌, ◌≤◌, length, drop, vec_len, vec_capacity}
-use Rattle.krl_world.specs.Fields.{meaning}
-use Rattle.krl_world.specs.Steps.{IsReachable}
+use Rattle.krl_world.proofs.Names.{◌≡◌, ◌≤◌, length, drop, vec_len, vec_capacity, meaning, IsReachable}
 use Rattle.krl_world.proofs.Functions.Runs.{GoesOn}
 use Rattle.krl_world.proofs.world.World.run.Given as goal
 
