@@ -5,6 +5,7 @@ use Rattle.std.proofs.lemmas.Bool.Decides.{nat_tests}
 use Rattle.std.specs.Ordering.{nat_cmp, eq_by_cmp, is_lt}
 use Rattle.std.specs.FinMap.Entries.{find}
 use Rattle.krl_blocks.specs.Entries.{KeysAbove, KeysRise, AreBelow, AreFrom, NoKey, HasEntry, IsInserted, IsRemoved}
+use Rattle.krl_blocks.proofs.Edits.{below_none}
 
 -- Keys
 
@@ -48,10 +49,6 @@ none_no k (e ∷ es) h = eq_cases e.0 k
 pub above_no : {V : Type 0} (k : ℕ) (es : List (ℕ × V)) → KeysAbove k es → NoKey k es
 above_no k [] h = tt
 above_no k (e ∷ es) h = ((λ f. omega (arith, f, h.0)), above_no k es h.1)
-
-below_no : {V : Type 0} (k : ℕ) (es : List (ℕ × V)) → AreBelow k es → NoKey k es
-below_no k [] h = tt
-below_no k (e ∷ es) h = ((λ f. let lt : e.0 < k = grind (arith, nat_tests, h.0) in omega (arith, f, lt)), below_no k es h.1)
 
 -- behind keys that do not have it
 pub find_behind : {V : Type 0} (q : ℕ) (front back : List (ℕ × V)) → NoKey q front → find nat_cmp q (front ++ back) ≡ find nat_cmp q back
@@ -113,7 +110,7 @@ module _ {V : Type 0} (es fs : List (ℕ × V)) (k : ℕ) (v : V) where
         (from_above k h.back h.from (no_back k h.front h.back (subst (NoKey k) h.old (none_no k es none)))) (subst KeysRise h.old r))
 
     pub inserted_here : find nat_cmp k fs ≡ Some v
-    inserted_here = ap (find nat_cmp k) h.new ∙ find_behind k h.front ((k, v) ∷ h.back) (below_no k h.front h.below) ∙ find_here k v h.back
+    inserted_here = ap (find nat_cmp k) h.new ∙ find_behind k h.front ((k, v) ∷ h.back) (below_none k h.front h.below) ∙ find_here k v h.back
 
     pub inserted_other : (q : ℕ) → q ≢ k → find nat_cmp q fs ≡ find nat_cmp q es
     inserted_other q ne = ap (find nat_cmp q) h.new ∙ find_around q k v h.front h.back ne ∙ ap (find nat_cmp q) (sym h.old)
@@ -130,10 +127,10 @@ module _ {V : Type 0} (es fs : List (ℕ × V)) (k : ℕ) (v : V) where
     removed_rises = subst KeysRise (sym h.new) (rise_without h.front k v h.back (subst KeysRise h.old r))
 
     pub removed_was : find nat_cmp k es ≡ Some v
-    removed_was = ap (find nat_cmp k) h.old ∙ find_behind k h.front ((k, v) ∷ h.back) (below_no k h.front h.below) ∙ find_here k v h.back
+    removed_was = ap (find nat_cmp k) h.old ∙ find_behind k h.front ((k, v) ∷ h.back) (below_none k h.front h.below) ∙ find_here k v h.back
 
     pub removed_here : find nat_cmp k fs ≡ None
-    removed_here = ap (find nat_cmp k) h.new ∙ find_behind k h.front h.back (below_no k h.front h.below)
+    removed_here = ap (find nat_cmp k) h.new ∙ find_behind k h.front h.back (below_none k h.front h.below)
         ∙ find_none k h.back (above_no k h.back (rise_back h.front ((k, v) ∷ h.back) (subst KeysRise h.old r)).0)
 
     pub removed_other : (q : ℕ) → q ≢ k → find nat_cmp q fs ≡ find nat_cmp q es
