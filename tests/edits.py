@@ -1,0 +1,86 @@
+"""Wrong bodies: the changes that each makes, the functions that these change, and which are tried together."""
+import re
+from collections import namedtuple
+
+from crates import functions_in, names_of
+
+CONSTANT = re.compile(r"(?m)^ *(?:pub(?:\([a-z]+\))? )?(?:const|static) (\w+):")
+
+# A wrong body: its changes, each a path in the crate, the old text and the new one, and the prover's names of
+# the functions that they change. `why` says what is wrong with the edit itself.
+Edit = namedtuple("Edit", "label changes functions why")
+# Edits of one crate that are tried in one check.
+Round = namedtuple("Round", "crate edits")
+
+
+def changed_by(crate, path, at):
+    """The functions that a change of the file changes at this place: the one around it; or, where a constant or
+    a table stands there, those that name it."""
+    text = crate.source[path]
+    around = [it for begin, end, it in functions_in(path, text) if begin <= at < end]
+    if around:
+        return names_of(crate, around[-1])
+    constants = [it[1] for it in CONSTANT.finditer(text) if it.start() <= at]
+    if not constants:
+        return set()
+    word = re.compile(rf"\b{constants[-1]}\b")
+    return {
+        name
+        for file, other in crate.source.items()
+        for begin, end, function in functions_in(file, other)
+        if word.search(other, begin, end)
+        for name in names_of(crate, function)
+    }
+
+
+def read_edit(crate, file):
+    """Reads an edit, and finds out whose it is."""
+    label, path, old, changes, functions = f"{crate.name}/{file.name}", "", "", [], set()
+    bad = lambda why: Edit(label, [], set(), why)
+    for line in file.read_text(encoding="utf-8").split("\n"):
+        word, _, rest = line.partition(":")
+        rest = rest[rest[:1] == " " :]
+        if word == "file":
+            path = rest.strip()
+        elif word == "old":
+            old = rest
+        elif word == "new":
+            if path not in crate.source:
+                return bad(f"there is no file {path} in src/")
+            found = crate.source[path].count(old) if old else 0
+            if found != 1:
+                return bad(f"its old text stands in {path} {found} times: {old}")
+            changes.append((path, old, rest))
+            functions |= changed_by(crate, path, crate.source[path].index(old))
+    return Edit(label, changes, functions, None) if functions else bad("it changes no proved function")
+
+
+def edited(source, edit):
+    """The files with this edit made too, or None where one before it took its old text away."""
+    texts = dict(source)
+    for path, old, new in edit.changes:
+        if texts[path].count(old) != 1:
+            return None
+        texts[path] = texts[path].replace(old, new)
+    return texts
+
+
+def first_round(crate, edits):
+    """As many of the edits as change different functions."""
+    taken, changed, source = [], set(), crate.source
+    for edit in edits:
+        texts = None if changed & edit.functions else edited(source, edit)
+        if texts:
+            taken, changed, source = [*taken, edit], changed | edit.functions, texts
+    return taken
+
+
+def rounds_of(crate):
+    """The crate's edits by the check that tries them, and those that can't be tried."""
+    read = [read_edit(crate, it) for it in sorted((crate.folder / "wrong").glob("*.edit"))]
+    left, rounds = [it for it in read if not it.why], []
+    while left:
+        taken = first_round(crate, left)
+        rounds.append(Round(crate, taken))
+        left = [it for it in left if it not in taken]
+    return rounds, [it for it in read if it.why]

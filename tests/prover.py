@@ -1,0 +1,161 @@
+"""The checks of wrong bodies: the copy that each reads, how the prover is asked, and what it said."""
+import pathlib
+import re
+import shutil
+import subprocess
+import tempfile
+
+from crates import HEAD, functions_in, libraries, names_of
+from edits import edited
+
+# A line of a contract, whose braces are not those of a body.
+CLAUSE = re.compile(r" *(requires|ensures|ghost)\b")
+
+# What a proof says where it cites a name that is not there, or another proof that cites one.
+NAME_GONE = re.compile(r"has no field|is not in scope|has no `|was not admitted")
+
+
+def write_copy(crate, edits, changed, room):
+    """Writes a copy of the crate with the edits, in which the proof of each function not changed is a hole, and its
+    body is empty, where it can be."""
+    for part in ("src", "specs", "proofs"):
+        if (crate.folder / part).is_dir():
+            shutil.copytree(crate.folder / part, room / part)
+    source = crate.source
+    for edit in edits:
+        source = edited(source, edit)
+    for path, text in source.items():
+        (room / path).write_text(emptied(crate, path, text, changed, room), encoding="utf-8")
+    for function in crate.functions:
+        if function not in changed:
+            make_hole(crate, function, room)
+
+
+def body_at(text, begin, end):
+    """Where the braces of the body there open and close. None where it is empty, or there is none."""
+    depth = 0
+    for at in range(begin, end):
+        if depth == 0 and text[at] == "{" and not CLAUSE.match(text, text.rfind("\n", 0, at) + 1):
+            return None if text[at + 1] == "}" else (at, text.rindex("}", at, end))
+        if depth == 0 and text[at] == ";":
+            return None
+        depth += (text[at] in "([{") - (text[at] in ")]}")
+    return None
+
+
+def emptied(crate, path, text, changed, room):
+    """The text, in which the body of each function that is not changed does nothing and never ends: its callers see
+    its contract alone, and the prover has no model of the body to make. A constant function keeps its body, since
+    others compute with it."""
+    for begin, end, function in sorted(functions_in(path, text), reverse=True):
+        names, body = names_of(crate, function), body_at(text, begin, end)
+        is_kept = names & changed or any(is_recursive(it, room) for it in names)
+        if names and body and not is_kept and "const" not in HEAD.match(text, begin)[0].split():
+            text = f"{text[:body[0]]}{{ loop {{}} }}{text[body[1] + 1:]}"
+    return text
+
+
+def is_recursive(function, room):
+    """Whether the function calls itself: then its folder begins with a plus."""
+    folder = room.joinpath("proofs", *function.split("::")[1:])
+    return folder.with_name(f"+{folder.name}").is_dir()
+
+
+def make_hole(crate, function, room):
+    """Puts a hole for the proof of the function. A closure keeps its proof, and so does a function that calls
+    itself: more is said there than the function's contract."""
+    path = function.split("::")[1:]
+    folder = room.joinpath("proofs", *path)
+    if "fn" in path or "+" in function or is_recursive(function, room):
+        return
+    shutil.rmtree(folder, ignore_errors=True)
+    folder.mkdir(parents=True)
+    statement = f"Rattle.{crate.name}.proofs.{'.'.join(path)}.Statement.{{statement}}"
+    proof = f"{path[-1]}_spec"
+    text = f"use {statement}\n\npub {proof} : {{M : Type 1}} → statement M\n{proof} = ?\n"
+    (folder / "Proof.antt").write_text(text, encoding="utf-8")
+
+
+def prover_words(crate, functions, kit, kept):
+    """Asks the prover about these functions as `rt ci` asks it about the whole crate, but that holes may stay."""
+    words = [kit / "bin/rattle", "check", "--crate-name", crate.name, crate.root]
+    words += libraries(crate.name, crate.uses, kit)
+    words += ["--links", f"{crate.name}=", "--jobs", "1", "--allow-holes"]
+    if kept:
+        words += ["--incremental", kept]
+    for it in sorted(functions):
+        words += ["--only", it]
+    return words
+
+
+def check(crate, edits, changed, kit, log, kept):
+    """Checks the functions of a copy of the crate with these edits, and returns what the prover said. Checks with one
+    folder `kept` share what no edit changes."""
+    with tempfile.TemporaryDirectory(prefix="wrong-bodies-") as room:
+        write_copy(crate, edits, changed, pathlib.Path(room))
+        words = prover_words(crate, changed, kit, kept)
+        how = {"cwd": room, "stdin": subprocess.DEVNULL, "text": True, "errors": "replace"}
+        ran = subprocess.run(words, stdout=subprocess.PIPE, stderr=subprocess.STDOUT, **how)
+    killed = "error: the check was killed, most likely for memory\n" if ran.returncode < 0 else ""
+    said = killed + ran.stdout
+    if log:
+        with open(log, "a", encoding="utf-8") as it:
+            it.write(f"== {crate.name}\n{said}")
+    return said
+
+
+# ---- What the prover said
+
+
+def is_read(said):
+    """Whether the prover read the crate."""
+    return bool(re.search(r"(?m)^only=", said))
+
+
+def first_error(said):
+    """The first line that may say why the prover did not read the crate."""
+    lines = [it for it in said.split("\n") if "error" in it] or said.split("\n")
+    return lines[0][:200]
+
+
+def verdict(function, said):
+    """What was said of the function: 'proved', 'open' where a goal of it is open, 'gone' where only names are
+    gone that its proof cites, or else the prover's own words."""
+    found = re.search(rf"(?m)^fn {re.escape(function)}: (.*)$", said)
+    line = found[1] if found else "nothing was said of it"
+    if re.match("no holes|depends on a hole", line):
+        return "proved"
+    if re.match("no proof: .*`search` did not prove", line):
+        return "open"
+    *above, name = [re.escape(it) for it in function.split("::")[1:]]
+    folder = "/".join([*above, rf"\+?{name}"])
+    errors = re.findall(rf"(?m)^(?:\./)?proofs/{folder}/[^:]*:\d+:\d+: error: (.*)$", said)
+    if not line.startswith("not proved") or not errors:
+        return line[:200]
+    return "gone" if all(NAME_GONE.search(it) for it in errors) else "open"
+
+
+def judge(edit, said, is_control):
+    """Whether all is well with the edit, and the words that say so."""
+    found = {it: verdict(it, said) for it in sorted(edit.functions)}
+    if is_control:
+        well = all(it == "proved" for it in found.values())
+        return well, "proved as it stands" if well else f"NOT PROVED AS IT STANDS: {found}"
+    if "open" in found.values():
+        return True, "refused"
+    if "gone" in found.values():
+        return False, "REFUSED ONLY SINCE A NAME IS GONE: change a value, and keep what the proof cites"
+    return False, f"NOT REFUSED: {found}"
+
+
+def tried(crate, edits, kit, is_control, log, kept):
+    """Tries these edits, and returns each with its judgement: in one check, if the prover can read them together.
+    Edits that are read alone may not be read together, as where they make two functions call each other."""
+    changed = {it for edit in edits for it in edit.functions}
+    said = check(crate, [] if is_control else edits, changed, kit, log, kept)
+    if is_read(said):
+        return [(it, *judge(it, said, is_control)) for it in edits]
+    if len(edits) == 1 or is_control:
+        return [(it, False, f"BAD EDIT: the prover can't read it: {first_error(said)}") for it in edits]
+    half = len(edits) // 2
+    return [it for part in (edits[:half], edits[half:]) for it in tried(crate, part, kit, is_control, log, kept)]
