@@ -9,6 +9,7 @@ use Rattle.std.specs.FinMap as map
 use Rattle.std.specs.FinMap.Entries.{find, is_sorted, below_all}
 use Rattle.slab.specs.Slab.{Slab, get, slab_len, Updates}
 use Rattle.krl_blocks.specs.Entries.{Entries, KeysAbove, KeysRise, AreBelow, AreFrom, NoKey, IsRun, IsInserted, IsRemoved}
+use Rattle.krl_blocks.proofs.Edits.{above_none}
 use Rattle.krl_store.specs.Stores.{IsNextKey, with_value, listed, kept, IsStored}
 use Rattle.krl_store.proofs.Finding.{less, test_is, eq_cases, find_here, find_past, find_none, above_no, find_behind, rise_back, rise_front, inserted_rises, inserted_here, inserted_other, inserted_length, removed_rises, removed_was, removed_here, removed_other, removed_length}
 
@@ -225,10 +226,6 @@ from_no : {V : Type 0} (q p : ℕ) (es : List (ℕ × V)) → AreBelow p es → 
 from_no q p [] h le = tt
 from_no q p (e ∷ es) h le = ((λ f. let lt : e.0 < p = grind (arith, nat_tests, h.0) in omega (arith, f, lt, le)), from_no q p es h.1 le)
 
-above_more : {V : Type 0} (q k : ℕ) (es : List (ℕ × V)) → KeysAbove k es → q ≤ k → NoKey q es
-above_more q k [] h le = tt
-above_more q k (e ∷ es) h le = ((λ f. omega (arith, f, h.0, le)), above_more q k es h.1 le)
-
 no_first : {X : Type 0} (xs : List X) → None ≡ slice_get xs 0 → xs ≡ []
 no_first [] e = refl
 no_first (x ∷ xs) e = absurd (let bad : None ≡ Some x = e in cc)
@@ -254,5 +251,5 @@ module _ {V : Type 0} (s : Slab V) (es : Entries ℕ) (room : ℕ) (h : IsStored
             there = subst IsSome (sym (stored_get s es room h e.0 ∙ ap (via (get s)) place)) (h.full e.0 e.1 place);
             above = let le : from ≤ e.0 = grind (arith, nat_tests, at_least.0) in le;
             least = λ n le lt. stored_get s es room h n ∙ ap (via (get s)) (ap (find nat_cmp n) whole ∙ find_behind n r.front (e ∷ (xs ++ r.rest)) (from_no n from r.front r.below le)
-                ∙ find_past n e.0 e.1 (xs ++ r.rest) (λ g. omega (arith, g, lt)) ∙ find_none n (xs ++ r.rest) (above_more n e.0 (xs ++ r.rest) (rise_back r.front (e ∷ (xs ++ r.rest)) rises).0 (omega (arith, lt))));
+                ∙ find_past n e.0 e.1 (xs ++ r.rest) (λ g. omega (arith, g, lt)) ∙ find_none n (xs ++ r.rest) (above_none n e.0 (xs ++ r.rest) (omega (arith, lt)) (rise_back r.front (e ∷ (xs ++ r.rest)) rises).0));
           }
