@@ -3,3 +3,4 @@ pub mod Rows
 pub mod Invariant
 pub mod Calls
 pub mod ReportRows
+mod Names

@@ -1,19 +1,8 @@
 -- What a slot's first waiter can be told, by the slot's row alone.
-use Rattle.std.proofs.Common.{◌≡◌, ℕ, ◌≤◌, ◌<◌, Bool, true, false, not, ◌&&◌, ◌||◌, List, [], ◌∷◌, Some, None, IfSome, inl, refl, sym, ap, subst, ◌∙◌, arith}
-use Rattle.std.proofs.Common.{nat_eq, eq-eqb, ne_eqb, ltb-true, ltb-false}
-use Rattle.std.specs.Prelude.{is_some, nat_lt, if◌then◌else◌}
-use Rattle.std.specs.FinMap.{get}
-use Rattle.krl_modes.specs.declared.point.TheConstants.{END}
-use Rattle.krl_modes.specs.Modes.{needs_entry}
-use Rattle.krl_messages.specs.Members.{In}
-use Rattle.krl_queue.specs.declared.waiter.Waiter.{Waiter}
-use Rattle.krl_durable.specs.Index.{Index, IsSlotOf}
+use Rattle.krl_table.proofs.Names.{◌≡◌, ℕ, ◌≤◌, ◌<◌, Bool, true, false, not, ◌&&◌, ◌||◌, List, [], ◌∷◌, Some, None, IfSome, inl, refl, sym, ap, subst, ◌∙◌, arith, nat_eq, eq-eqb, ne_eqb, ltb-true}
+use Rattle.krl_table.proofs.Names.{ltb-false, is_some, nat_lt, if◌then◌else◌, get, END, needs_entry, In, Waiter, Index, IsSlotOf, Row, is_compatible_in_row, front_of, wanted, asks_absent}
+use Rattle.krl_table.proofs.Names.{lacks_entry, is_wanted_compatible, first_reply, first_reply_on, row_reply, Kept, rows_of, IsOver}
 use Rattle.krl_table.specs.declared.reply.Reply.TheVariants as reply
-use Rattle.krl_table.specs.Rows.{Row, is_compatible_in_row, front_of}
-use Rattle.krl_table.specs.Calls.{wanted}
-use Rattle.krl_table.specs.Replies.{asks_absent, lacks_entry, is_wanted_compatible, first_reply, first_reply_on}
-use Rattle.krl_table.specs.Replies.{row_reply}
-use Rattle.krl_table.specs.Kept.{Kept, rows_of, IsOver}
 use Rattle.krl_table.proofs.Rows.RowChanges.{eq_cases}
 use Rattle.krl_table.proofs.Rows.Slots.{none_false, next_of}
 

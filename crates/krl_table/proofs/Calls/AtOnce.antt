@@ -1,16 +1,8 @@
 -- A waiter that goes to a slot where nobody waits, and is granted there.
-use Rattle.std.proofs.Common.{◌≡◌, ℕ, Bool, true, false, not, ◌&&◌, List, [], ◌∷◌, ◌++◌, Some, refl, sym, ap, ◌∙◌}
-use Rattle.std.proofs.Common.{nat_eq, eq-eqb}
-use Rattle.std.proofs.Math.Path.{fun_ext}
-use Rattle.std.specs.Prelude.{if◌then◌else◌}
-use Rattle.krl_modes.specs.Modes.{at_most}
+use Rattle.krl_table.proofs.Names.{◌≡◌, ℕ, Bool, true, false, not, ◌&&◌, List, [], ◌∷◌, ◌++◌, Some, refl, sym, ap, ◌∙◌, nat_eq, eq-eqb, fun_ext, if◌then◌else◌, at_most, Waiter, Index, slot_of, Row}
+use Rattle.krl_table.proofs.Names.{Rows, front_of, set_row, set_mode, with_mode, with_queue, wanted, queue_with, enqueued, grant_first, granted_first, raised, raised_on, asks_absent}
+use Rattle.krl_table.proofs.Names.{is_wanted_compatible, nobody_waits, is_granted_at_once, taken_after, taken, granted, most_more}
 use Rattle.krl_modes.specs.declared.mode.Mode.TheVariants as mode
-use Rattle.krl_queue.specs.declared.waiter.Waiter.{Waiter}
-use Rattle.krl_durable.specs.Index.{Index, slot_of}
-use Rattle.krl_table.specs.Rows.{Row, Rows, front_of, set_row, set_mode}
-use Rattle.krl_table.specs.Calls.{with_mode, with_queue, wanted, queue_with, enqueued, grant_first, granted_first, raised, raised_on}
-use Rattle.krl_table.specs.Replies.{asks_absent, is_wanted_compatible}
-use Rattle.krl_table.specs.Grants.{nobody_waits, is_granted_at_once, taken_after, taken, granted, most_more}
 use Rattle.krl_table.proofs.Calls.Raises.{granted_from, taken_from}
 
 no_queue : (us : List Waiter) → nobody_waits us ≡ true → us ≡ []

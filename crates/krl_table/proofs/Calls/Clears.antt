@@ -1,24 +1,9 @@
 -- Changes of many rows: a client is cleared, or lowered on a span.
-use Rattle.std.proofs.Common.{◌≡◌, ℕ, suc, ◌+◌, ◌≤◌, ◌<◌, Bool, true, false, not, cond, ◌&&◌, List, [], ◌∷◌, Option, Some, None, IsSome, set, refl, sym, ap, subst, ◌∙◌, ⊎_elim, arith}
-use Rattle.std.proofs.Common.{nat_eq}
-use Rattle.std.proofs.lemmas.Bool.{cases_lt}
-use Rattle.std.proofs.lemmas.Bool.Decides.{nat_tests}
-use Rattle.std.proofs.lemmas.List.Sums.{sum_by-cons}
-use Rattle.std.specs.Prelude.{nat_le, nat_lt, if◌then◌else◌}
-use Rattle.std.specs.FinMap.{get}
-use Rattle.krl_modes.specs.declared.point.TheConstants.{END}
-use Rattle.krl_modes.specs.declared.mode.Mode.{Mode}
+use Rattle.krl_table.proofs.Names.{◌≡◌, ℕ, suc, ◌+◌, ◌≤◌, ◌<◌, Bool, true, false, not, cond, ◌&&◌, List, [], ◌∷◌, Option, Some, None, IsSome, set, refl, sym, ap, subst, ◌∙◌, ⊎_elim, arith, nat_eq}
+use Rattle.krl_table.proofs.Names.{cases_lt, nat_tests, sum_by-cons, nat_le, nat_lt, if◌then◌else◌, get, END, Mode, meet, Bounds, within, In, Waiter, without_first, Index, low_of, span_of, is_slot}
+use Rattle.krl_table.proofs.Names.{IsSlotOf, SlotRow, Row, blank_row, set_mode, mode_at, with_mode, unqueue, cleared, lowered, Kept, row_there, rows_of, cleared_row, lowered_between, IsAll, IsOver}
+use Rattle.krl_table.proofs.Names.{IsSound, AreCompatible, AreListed, times}
 use Rattle.krl_modes.specs.declared.mode.Mode.TheVariants as mode
-use Rattle.krl_modes.specs.Modes.{meet}
-use Rattle.krl_modes.specs.Spans.{Bounds, within}
-use Rattle.krl_messages.specs.Members.{In}
-use Rattle.krl_queue.specs.declared.waiter.Waiter.{Waiter}
-use Rattle.krl_queue.specs.Waiting.{without_first}
-use Rattle.krl_durable.specs.Index.{Index, low_of, span_of, is_slot, IsSlotOf}
-use Rattle.krl_table.specs.declared.row.SlotRow.{SlotRow}
-use Rattle.krl_table.specs.Rows.{Row, blank_row, set_mode, mode_at}
-use Rattle.krl_table.specs.Calls.{with_mode, unqueue, cleared, lowered}
-use Rattle.krl_table.specs.Kept.{Kept, row_there, rows_of, cleared_row, lowered_between, IsAll, IsOver, IsSound, AreCompatible, AreListed, times}
 use Rattle.krl_table.proofs.Rows.RowChanges.{eq_cases}
 use Rattle.krl_table.proofs.Invariant.Alone.{alone_here, times_fewer}
 use Rattle.krl_table.proofs.Invariant.Compatible.{cleared_compatible, lowered_compatible}

@@ -1,15 +1,7 @@
 -- The first waiter of a slot goes, or a waiter more comes.
-use Rattle.std.proofs.Common.{◌≡◌, ◌≢◌, ℕ, suc, ◌+◌, ◌≤◌, ◌<◌, Bool, true, false, List, [], ◌∷◌, Option, Some, None, IsSome, IfSome, ◌⊎◌, inl, inr, set, refl, sym, ap, subst, ◌∙◌, ⊎_elim, arith}
-use Rattle.std.proofs.Common.{nat_eq, eq-eqb, ne_eqb}
-use Rattle.krl_modes.specs.declared.point.TheConstants.{END}
-use Rattle.krl_messages.specs.Members.{In}
-use Rattle.krl_queue.specs.declared.waiter.Waiter.{Waiter}
-use Rattle.krl_queue.specs.Waiting.{first_of}
-use Rattle.krl_durable.specs.Index.{Index, slot_of, is_slot}
-use Rattle.krl_table.specs.Rows.{Row, front_of}
-use Rattle.krl_table.specs.Calls.{with_queue, queue_with, grant_first, behind_first, wanted}
-use Rattle.krl_table.specs.Replies.{is_wanted_compatible}
-use Rattle.krl_table.specs.Kept.{Kept, rows_of, IsSet, IsOver, IsSound, AreCompatible, AreListed, times, unlisted}
+use Rattle.krl_table.proofs.Names.{◌≡◌, ◌≢◌, ℕ, suc, ◌+◌, ◌≤◌, ◌<◌, Bool, true, false, List, [], ◌∷◌, Option, Some, None, IsSome, IfSome, ◌⊎◌, inl, inr, set, refl, sym, ap, subst, ◌∙◌, ⊎_elim, arith}
+use Rattle.krl_table.proofs.Names.{nat_eq, eq-eqb, ne_eqb, END, In, Waiter, first_of, Index, slot_of, is_slot, Row, front_of, with_queue, queue_with, grant_first, behind_first, wanted}
+use Rattle.krl_table.proofs.Names.{is_wanted_compatible, Kept, rows_of, IsSet, IsOver, IsSound, AreCompatible, AreListed, times, unlisted}
 use Rattle.krl_table.proofs.Rows.RowChanges.{eq_cases}
 use Rattle.krl_table.proofs.Rows.Below.{clients_are}
 use Rattle.krl_table.proofs.Invariant.Alone.{one, times_more, times_with, none_times, in_times}

@@ -1,28 +1,11 @@
 -- Two slots become one.
-use Rattle.std.proofs.Common.{◌≡◌, ◌≢◌, ℕ, suc, ◌≤◌, ◌<◌, Bool, true, false, ◌&&◌, ◌||◌, List, ◌++◌, Option, Some, None, IsSome, inl, inr, refl, sym, ap, subst, ◌∙◌, ⊎_elim, arith}
-use Rattle.std.proofs.Common.{nat_eq, ne_eqb, ltb-true, ltb-false}
-use Rattle.std.proofs.lemmas.Bool.{cases_lt}
-use Rattle.std.specs.Prelude.{is_some, nat_lt, if◌then◌else◌}
-use Rattle.std.specs.FinMap.{get, remove}
-use Rattle.krl_modes.specs.declared.point.TheConstants.{END}
-use Rattle.krl_modes.specs.declared.part.RangePart.{RangePart}
+use Rattle.krl_table.proofs.Names.{◌≡◌, ◌≢◌, ℕ, suc, ◌≤◌, ◌<◌, Bool, true, false, ◌&&◌, ◌||◌, List, ◌++◌, Option, Some, None, IsSome, inl, inr, refl, sym, ap, subst, ◌∙◌, ⊎_elim, arith, nat_eq}
+use Rattle.krl_table.proofs.Names.{ne_eqb, ltb-true, ltb-false, cases_lt, is_some, nat_lt, if◌then◌else◌, get, remove, END, RangePart, KeyPart, Mode, ranges_compatible, keys_compatible, is_key_X}
+use Rattle.krl_table.proofs.Names.{range_of, key_of, compatible, Value, In, in_both, in_left, in_right, Waiter, Index, slot_of, is_slot, IsSlotOf, SlotRow, Row, blank_row, mode_at, with_queue}
+use Rattle.krl_table.proofs.Names.{merged, merge_into, key_off_slot, range_at, key_at, MayDelete, Kept, row_there, rows_of, AreSet, IsOver, IsSound, AreCompatible, AreListed, times}
 use Rattle.krl_modes.specs.declared.part.RangePart.TheVariants as range
-use Rattle.krl_modes.specs.declared.part.KeyPart.{KeyPart}
 use Rattle.krl_modes.specs.declared.part.KeyPart.TheVariants as key
-use Rattle.krl_modes.specs.declared.mode.Mode.{Mode}
-use Rattle.krl_modes.specs.Parts.{ranges_compatible, keys_compatible, is_key_X}
-use Rattle.krl_modes.specs.Modes.{range_of, key_of, compatible}
 use Rattle.krl_modes.proofs.PartLaws.{range_is_X}
-use Rattle.krl_messages.specs.Values.{Value}
-use Rattle.krl_messages.specs.Members.{In}
-use Rattle.krl_messages.proofs.Members.{in_both, in_left, in_right}
-use Rattle.krl_queue.specs.declared.waiter.Waiter.{Waiter}
-use Rattle.krl_durable.specs.Index.{Index, slot_of, is_slot, IsSlotOf}
-use Rattle.krl_table.specs.declared.row.SlotRow.{SlotRow}
-use Rattle.krl_table.specs.Rows.{Row, blank_row, mode_at}
-use Rattle.krl_table.specs.Calls.{with_queue, merged, merge_into}
-use Rattle.krl_table.specs.Points.{key_off_slot, range_at, key_at, MayDelete}
-use Rattle.krl_table.specs.Kept.{Kept, row_there, rows_of, AreSet, IsOver, IsSound, AreCompatible, AreListed, times}
 use Rattle.krl_table.proofs.Rows.RowChanges.{eq_cases, both_rows, by_two, remove_at, remove_past}
 use Rattle.krl_table.proofs.Invariant.Alone.{AreAlone, alone_moved, times_both}
 use Rattle.krl_table.proofs.Rows.Slots.{next_of, slot_is, slot_self, slot_end}

@@ -1,18 +1,10 @@
 -- A client's mode on one slot rises to what a waiter wants; and so on slot after slot.
-use Rattle.std.proofs.Common.{◌≡◌, ℕ, zero, suc, ◌-◌, ◌≤◌, ◌<◌, Bool, true, false, ◌&&◌, ◌||◌, List, [], ◌∷◌, ◌++◌, Option, Some, None, IfSome, length, refl, sym, ap, subst, ◌∙◌, append_assoc, arith}
-use Rattle.std.proofs.Math.Path.{fun_ext}
+use Rattle.krl_table.proofs.Names.{◌≡◌, ℕ, zero, suc, ◌-◌, ◌≤◌, ◌<◌, Bool, true, false, ◌&&◌, ◌||◌, List, [], ◌∷◌, ◌++◌, Option, Some, None, IfSome, length, refl, sym, ap, subst, ◌∙◌, append_assoc}
+use Rattle.krl_table.proofs.Names.{arith, fun_ext, END, Mode, compatible, Waiter, Index, slot_of, is_slot, Row, Rows, blank_row, front_of, all_below, most_clients, is_compatible_in_row, with_mode}
+use Rattle.krl_table.proofs.Names.{wanted, raised, raised_on, granted_first, is_wanted_compatible, can_take, goes_on, taken_after, taken_by, granted_by, most_more, Kept, rows_of, IsSet, IsOver}
+use Rattle.krl_table.proofs.Names.{IsSound, AreListed}
 use Rattle.std.specs.Prelude.{nat_eq, nat_lt, if◌then◌else◌}
-use Rattle.krl_modes.specs.declared.point.TheConstants.{END}
-use Rattle.krl_modes.specs.declared.mode.Mode.{Mode}
 use Rattle.krl_modes.specs.declared.mode.Mode.TheVariants as mode
-use Rattle.krl_modes.specs.Modes.{compatible}
-use Rattle.krl_queue.specs.declared.waiter.Waiter.{Waiter}
-use Rattle.krl_durable.specs.Index.{Index, slot_of, is_slot}
-use Rattle.krl_table.specs.Rows.{Row, Rows, blank_row, front_of, all_below, most_clients, is_compatible_in_row}
-use Rattle.krl_table.specs.Calls.{with_mode, wanted, raised, raised_on, granted_first}
-use Rattle.krl_table.specs.Replies.{is_wanted_compatible}
-use Rattle.krl_table.specs.Grants.{can_take, goes_on, taken_after, taken_by, granted_by, most_more}
-use Rattle.krl_table.specs.Kept.{Kept, rows_of, IsSet, IsOver, IsSound, AreListed}
 use Rattle.krl_table.proofs.Rows.Below.{clients_are}
 use Rattle.krl_table.proofs.Invariant.Compatible.{none_compatible, set_compatible, compatible_row}
 use Rattle.krl_table.proofs.Invariant.Sounds.{set_strangers, modes_sound, same_queue, fewer_over, listed_same}

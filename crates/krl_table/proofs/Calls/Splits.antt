@@ -1,25 +1,10 @@
 -- A slot is parted in two.
-use Rattle.std.proofs.Common.{◌≡◌, ◌≢◌, ℕ, ◌≤◌, ◌<◌, Bool, true, false, ◌||◌, List, Option, Some, None, IsSome, ◌⊎◌, inl, inr, refl, sym, ap, subst, ◌∙◌, ⊎_elim, arith}
-use Rattle.std.proofs.Common.{nat_eq, ne_eqb, ltb-true, ltb-false}
-use Rattle.std.proofs.lemmas.Bool.{cases_lt, leb-true}
-use Rattle.std.proofs.lemmas.Bool.Decides.{nat_tests}
-use Rattle.std.specs.Prelude.{is_some, nat_le, nat_lt, if◌then◌else◌}
-use Rattle.std.specs.FinMap.{get, insert}
-use Rattle.krl_modes.specs.declared.point.TheConstants.{END}
+use Rattle.krl_table.proofs.Names.{◌≡◌, ◌≢◌, ℕ, ◌≤◌, ◌<◌, Bool, true, false, ◌||◌, List, Option, Some, None, IsSome, ◌⊎◌, inl, inr, refl, sym, ap, subst, ◌∙◌, ⊎_elim, arith, nat_eq, ne_eqb, ltb-true}
+use Rattle.krl_table.proofs.Names.{ltb-false, cases_lt, leb-true, nat_tests, is_some, nat_le, nat_lt, if◌then◌else◌, get, insert, END, lets_insert, range_of, key_of, compatible, at_or_above, Value}
+use Rattle.krl_table.proofs.Names.{In, Waiter, up_to, beyond, Index, slot_of, is_slot, IsSlotOf, SlotRow, Row, blank_row, mode_at, with_queue, split_modes, mode_beside, split, split_at, key_off_slot}
+use Rattle.krl_table.proofs.Names.{range_at, key_at, Kept, row_there, rows_of, AreSet, IsOver, IsSound, AreCompatible, AreListed, times}
 use Rattle.krl_modes.specs.declared.part.RangePart.TheVariants as range
 use Rattle.krl_modes.specs.declared.part.KeyPart.TheVariants as key
-use Rattle.krl_modes.specs.Parts.{lets_insert}
-use Rattle.krl_modes.specs.Modes.{range_of, key_of, compatible, at_or_above}
-use Rattle.krl_messages.specs.Values.{Value}
-use Rattle.krl_messages.specs.Members.{In}
-use Rattle.krl_queue.specs.declared.waiter.Waiter.{Waiter}
-use Rattle.krl_queue.specs.Waiting.{up_to, beyond}
-use Rattle.krl_durable.specs.Index.{Index, slot_of, is_slot, IsSlotOf}
-use Rattle.krl_table.specs.declared.row.SlotRow.{SlotRow}
-use Rattle.krl_table.specs.Rows.{Row, blank_row, mode_at}
-use Rattle.krl_table.specs.Calls.{with_queue, split_modes, mode_beside, split, split_at}
-use Rattle.krl_table.specs.Points.{key_off_slot, range_at, key_at}
-use Rattle.krl_table.specs.Kept.{Kept, row_there, rows_of, AreSet, IsOver, IsSound, AreCompatible, AreListed, times}
 use Rattle.krl_table.proofs.Rows.RowChanges.{eq_cases, both_rows, by_two, insert_at, insert_past}
 use Rattle.krl_table.proofs.Invariant.Alone.{AreAlone, alone_moved, times_parted}
 use Rattle.krl_table.proofs.Invariant.Compatible.{split_compatible}

@@ -1,16 +1,6 @@
 -- How often a client waits: in one queue, and in two.
-use Rattle.std.proofs.Common.{◌≡◌, ◌≢◌, ℕ, suc, ◌+◌, ◌≤◌, Bool, true, false, not, Some, None, List, [], ◌∷◌, ◌++◌, refl, sym, ap, subst, ◌∙◌, cond, inl, inr, arith}
-use Rattle.std.proofs.Common.{nat_eq}
-use Rattle.std.proofs.lemmas.Bool.Decides.{nat_tests}
-use Rattle.std.proofs.lemmas.List.Sums.{sum_by-cons, sum_by-append}
-use Rattle.std.specs.Prelude.{nat_le, nat_lt, if◌then◌else◌}
-use Rattle.std.specs.List.{filter}
-use Rattle.krl_messages.specs.Members.{In}
-use Rattle.krl_queue.specs.declared.waiter.Waiter.{Waiter}
-use Rattle.krl_queue.specs.Waiting.{first_of, up_to, beyond}
-use Rattle.krl_table.specs.Rows.{Row}
-use Rattle.krl_table.specs.Calls.{queue_with}
-use Rattle.krl_table.specs.Kept.{times}
+use Rattle.krl_table.proofs.Names.{◌≡◌, ◌≢◌, ℕ, suc, ◌+◌, ◌≤◌, Bool, true, false, not, Some, None, List, [], ◌∷◌, ◌++◌, refl, sym, ap, subst, ◌∙◌, cond, inl, inr, arith, nat_eq, nat_tests}
+use Rattle.krl_table.proofs.Names.{sum_by-cons, sum_by-append, nat_le, nat_lt, if◌then◌else◌, filter, In, Waiter, first_of, up_to, beyond, Row, queue_with, times}
 use Rattle.krl_table.proofs.Rows.RowChanges.{eq_cases}
 
 -- one or none

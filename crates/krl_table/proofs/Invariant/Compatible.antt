@@ -1,19 +1,11 @@
 -- Modes that are not in each other's way.
-use Rattle.std.proofs.Common.{◌≡◌, ◌≢◌, ℕ, zero, suc, ◌≤◌, ◌<◌, Bool, true, false, ◌||◌, refl, sym, ap, subst, ◌∙◌, ⊎_elim, arith}
-use Rattle.std.proofs.Common.{nat_eq, eq-eqb, ne_eqb}
-use Rattle.std.proofs.lemmas.Bool.{cases_lt, and_parts}
-use Rattle.std.specs.Prelude.{if◌then◌else◌}
-use Rattle.krl_modes.specs.declared.part.RangePart.{RangePart}
+use Rattle.krl_table.proofs.Names.{◌≡◌, ◌≢◌, ℕ, zero, suc, ◌≤◌, ◌<◌, Bool, true, false, ◌||◌, refl, sym, ap, subst, ◌∙◌, ⊎_elim, arith, nat_eq, eq-eqb, ne_eqb, cases_lt, and_parts, if◌then◌else◌}
+use Rattle.krl_table.proofs.Names.{RangePart, Mode, lets_insert, range_of, at_or_above, compatible, meet, Row, most_clients, all_below, is_compatible_in_row, set_mode, mode_beside, split_modes}
+use Rattle.krl_table.proofs.Names.{AreCompatible}
 use Rattle.krl_modes.specs.declared.part.KeyPart.TheVariants as key
-use Rattle.krl_modes.specs.declared.mode.Mode.{Mode}
 use Rattle.krl_modes.specs.declared.mode.Mode.TheVariants as mode
-use Rattle.krl_modes.specs.Parts.{lets_insert}
-use Rattle.krl_modes.specs.Modes.{range_of, at_or_above, compatible, meet}
 use Rattle.krl_modes.proofs.Tables.{implies, implies_use, by_table_2, by_table_3}
 use Rattle.krl_modes.proofs.ModeLaws.{mode_compatibility}
-use Rattle.krl_table.specs.Rows.{Row, most_clients, all_below, is_compatible_in_row, set_mode}
-use Rattle.krl_table.specs.Calls.{mode_beside, split_modes}
-use Rattle.krl_table.specs.Kept.{AreCompatible}
 use Rattle.krl_table.proofs.Rows.RowChanges.{eq_cases}
 
 pub or_true : (a b : Bool) → (a || b) ≡ true → a ≡ false → b ≡ true

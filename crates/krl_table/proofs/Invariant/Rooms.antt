@@ -1,16 +1,9 @@
 -- There is room for a row at each slot: rows stand at slots of the index, and those are few.
-use Rattle.std.proofs.Common.{◌≡◌, ◌≢◌, ℕ, suc, ◌≤◌, ◌<◌, Bool, true, false, T, ◌&&◌, ◌||◌, cond, List, [], ◌∷◌, ◌++◌, Some, None, IsSome, ◌⊎◌, inl, inr, length, map, refl, sym, ap, subst, ◌∙◌, ⊎_elim, arith}
-use Rattle.std.proofs.Common.{nat_eq, eq-eqb, ne_eqb}
-use Rattle.std.proofs.lemmas.Bool.Decides.{nat_tests}
-use Rattle.std.specs.Prelude.{is_some, if◌then◌else◌}
-use Rattle.std.specs.Ordering.{nat_cmp, eq_by_cmp, is_lt}
+use Rattle.krl_table.proofs.Names.{◌≡◌, ◌≢◌, ℕ, suc, ◌≤◌, ◌<◌, Bool, true, false, T, ◌&&◌, ◌||◌, cond, List, [], ◌∷◌, ◌++◌, Some, None, IsSome, ◌⊎◌, inl, inr, length, map, refl, sym, ap, subst, ◌∙◌}
+use Rattle.krl_table.proofs.Names.{⊎_elim, arith, nat_eq, eq-eqb, ne_eqb, nat_tests, is_some, if◌then◌else◌, nat_cmp, eq_by_cmp, is_lt, END, Value, Index, slots, is_slot, Kept, IsOver, most_rows}
 use Rattle.std.specs.FinMap as fin
 use Rattle.std.specs.FinMap.Entries as entries
-use Rattle.krl_modes.specs.declared.point.TheConstants.{END}
-use Rattle.krl_messages.specs.Values.{Value}
-use Rattle.krl_durable.specs.Index.{Index, slots, is_slot}
 use Rattle.krl_durable.specs.Writes.{most_entries}
-use Rattle.krl_table.specs.Kept.{Kept, IsOver, most_rows}
 use Rattle.krl_table.proofs.Rows.RowChanges.{eq_cases}
 
 -- Members

@@ -1,22 +1,9 @@
 -- What holds of every table, after one row is set.
-use Rattle.std.proofs.Common.{◌≡◌, ◌≢◌, ℕ, ◌≤◌, ◌<◌, true, false, List, Option, Some, None, IsSome, ◌⊎◌, set, refl, sym, ap, subst, ◌∙◌, ⊎_elim, arith}
-use Rattle.std.proofs.Common.{ne_eqb}
-use Rattle.std.proofs.lemmas.Bool.{cases_lt}
-use Rattle.std.proofs.lemmas.List.{length-set, get_or-set_same, get_or-set_other}
-use Rattle.std.specs.Prelude.{is_some, if◌then◌else◌}
-use Rattle.std.specs.FinMap.{get}
-use Rattle.krl_modes.specs.declared.point.TheConstants.{END}
-use Rattle.krl_modes.specs.declared.mode.Mode.{Mode}
+use Rattle.krl_table.proofs.Names.{◌≡◌, ◌≢◌, ℕ, ◌≤◌, ◌<◌, true, false, List, Option, Some, None, IsSome, ◌⊎◌, set, refl, sym, ap, subst, ◌∙◌, ⊎_elim, arith, ne_eqb, cases_lt, length-set}
+use Rattle.krl_table.proofs.Names.{get_or-set_same, get_or-set_other, is_some, if◌then◌else◌, get, END, Mode, In, in_to_all, Waiter, first_of, Index, slot_of, is_slot, SlotRow, Row, blank_row}
+use Rattle.krl_table.proofs.Names.{mode_at, set_mode, Kept, row_there, rows_of, IsSet, IsOver, IsSound, AreCompatible, AreListed, times, waiter_in}
 use Rattle.krl_modes.specs.declared.mode.Mode.TheVariants as mode
-use Rattle.krl_messages.specs.Members.{In}
-use Rattle.krl_messages.proofs.Members.{in_to_all}
-use Rattle.krl_queue.specs.declared.waiter.Waiter.{Waiter}
-use Rattle.krl_queue.specs.Waiting.{first_of}
-use Rattle.krl_durable.specs.Index.{Index, slot_of, is_slot}
-use Rattle.krl_table.specs.declared.row.SlotRow.{SlotRow}
-use Rattle.krl_table.specs.Rows.{Row, blank_row, mode_at, set_mode}
 use Rattle.krl_table.specs.Sound.{IsPlaced, IsTable}
-use Rattle.krl_table.specs.Kept.{Kept, row_there, rows_of, IsSet, IsOver, IsSound, AreCompatible, AreListed, times, waiter_in}
 use Rattle.krl_table.proofs.Rows.RowChanges.{eq_cases}
 use Rattle.krl_table.proofs.Rows.Below.{clients_are}
 use Rattle.krl_table.proofs.Invariant.Alone.{AreAlone, alone_here, times_none, in_times}

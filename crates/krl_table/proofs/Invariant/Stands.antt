@@ -1,17 +1,7 @@
 -- Who stands in a queue.
-use Rattle.std.proofs.Common.{◌≡◌, ◌≢◌, ℕ, Bool, true, false, not, cond, List, [], ◌∷◌, ◌++◌, Some, None, ◌⊎◌, inl, inr, refl, sym, ap, ◌∙◌, ⊎_elim}
-use Rattle.std.proofs.Common.{nat_eq, eqb-true, eq-eqb, ne_eqb}
-use Rattle.std.proofs.lemmas.Bool.{eqb-false}
-use Rattle.std.specs.Prelude.{if◌then◌else◌}
-use Rattle.std.specs.List.{filter}
+use Rattle.krl_table.proofs.Names.{◌≡◌, ◌≢◌, ℕ, Bool, true, false, not, cond, List, [], ◌∷◌, ◌++◌, Some, None, ◌⊎◌, inl, inr, refl, sym, ap, ◌∙◌, ⊎_elim, nat_eq, eqb-true, eq-eqb, ne_eqb, eqb-false}
+use Rattle.krl_table.proofs.Names.{if◌then◌else◌, filter, at_most, In, in_both, in_left, in_right, Waiter, first_of, Row, unqueue, queue_with}
 use Rattle.krl_modes.specs.declared.mode.Mode.TheVariants as mode
-use Rattle.krl_modes.specs.Modes.{at_most}
-use Rattle.krl_messages.specs.Members.{In}
-use Rattle.krl_messages.proofs.Members.{in_both, in_left, in_right}
-use Rattle.krl_queue.specs.declared.waiter.Waiter.{Waiter}
-use Rattle.krl_queue.specs.Waiting.{first_of}
-use Rattle.krl_table.specs.Rows.{Row}
-use Rattle.krl_table.specs.Calls.{unqueue, queue_with}
 
 pub in_filter : (f : Waiter → Bool) (us : List Waiter) (u : Waiter) → In u (filter f us) → In u us × (f u ≡ true)
 in_filter f [] u h = absurd h

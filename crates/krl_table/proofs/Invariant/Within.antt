@@ -1,27 +1,11 @@
 -- Each client holds and waits in its extent alone.
-use Rattle.std.proofs.Common.{◌≡◌, ◌≢◌, ℕ, ◌+◌, ◌≤◌, ◌<◌, Bool, true, false, not, ◌&&◌, cond, List, [], ◌∷◌, ◌++◌, None, ◌⊎◌, inl, inr, length, set, refl, sym, ap, subst, ◌∙◌, ⊎_elim, arith}
-use Rattle.std.proofs.Common.{nat_eq, eq-eqb, ne_eqb}
-use Rattle.std.proofs.lemmas.Bool.{cases_lt}
-use Rattle.std.proofs.lemmas.Bool.Decides.{nat_tests}
-use Rattle.std.proofs.lemmas.List.{get_or-set_same, get_or-set_other}
-use Rattle.std.proofs.Math.Path.{fun_ext}
-use Rattle.std.specs.Prelude.{nat_le, nat_lt, if◌then◌else◌}
-use Rattle.std.specs.FinMap.{get}
-use Rattle.krl_modes.specs.declared.point.TheConstants.{TOP}
+use Rattle.krl_table.proofs.Names.{◌≡◌, ◌≢◌, ℕ, ◌+◌, ◌≤◌, ◌<◌, Bool, true, false, not, ◌&&◌, cond, List, [], ◌∷◌, ◌++◌, None, ◌⊎◌, inl, inr, length, set, refl, sym, ap, subst, ◌∙◌, ⊎_elim, arith}
+use Rattle.krl_table.proofs.Names.{nat_eq, eq-eqb, ne_eqb, cases_lt, nat_tests, get_or-set_same, get_or-set_other, fun_ext, nat_le, nat_lt, if◌then◌else◌, get, TOP, Mode, lets_insert, range_of}
+use Rattle.krl_table.proofs.Names.{at_or_above, meet, Waiter, without_first, up_to, beyond, Index, is_slot, Pieces, Extent, Row, blank_row, set_mode, with_mode, with_queue, queue_with, unqueue}
+use Rattle.krl_table.proofs.Names.{behind_first, split_modes, mode_beside, wanted, grant_first, Kept, row_there, rows_of, cleared_row, lowered_between, times, IsSet, AreSet, IsAll, IsSound, nowhere}
+use Rattle.krl_table.proofs.Names.{extent_in, Lies, AreWider, IsFreeOf, AreWithin, cleared_within}
 use Rattle.krl_modes.specs.declared.part.KeyPart.TheVariants as key
-use Rattle.krl_modes.specs.declared.mode.Mode.{Mode}
 use Rattle.krl_modes.specs.declared.mode.Mode.TheVariants as mode
-use Rattle.krl_modes.specs.Parts.{lets_insert}
-use Rattle.krl_modes.specs.Modes.{range_of, at_or_above, meet}
-use Rattle.krl_queue.specs.declared.waiter.Waiter.{Waiter}
-use Rattle.krl_queue.specs.Waiting.{without_first, up_to, beyond}
-use Rattle.krl_durable.specs.Index.{Index, is_slot}
-use Rattle.krl_messages.specs.declared.pieces.Pieces.{Pieces}
-use Rattle.krl_table.specs.declared.extent.Extent.{Extent}
-use Rattle.krl_table.specs.Rows.{Row, blank_row, set_mode}
-use Rattle.krl_table.specs.Calls.{with_mode, with_queue, queue_with, unqueue, behind_first, split_modes, mode_beside, wanted, grant_first}
-use Rattle.krl_table.specs.Kept.{Kept, row_there, rows_of, cleared_row, lowered_between, times, IsSet, AreSet, IsAll, IsSound}
-use Rattle.krl_table.specs.Extents.{nowhere, extent_in, Lies, AreWider, IsFreeOf, AreWithin, cleared_within}
 use Rattle.krl_table.proofs.Rows.RowChanges.{eq_cases}
 use Rattle.krl_table.proofs.Invariant.Alone.{one, times_more, times_both, times_fewer, times_parted, times_with}
 use Rattle.krl_table.proofs.Invariant.Alone.{alone_here}

@@ -1,36 +1,16 @@
 -- What is reported of a slot, piece after piece; and what a report makes of the rows, slot after slot.
-use Rattle.std.proofs.Common.{◌≡◌, ◌≢◌, ℕ, zero, suc, ◌+◌, ◌≤◌, ◌<◌, Bool, true, false, not, ◌&&◌, List, [], ◌∷◌, Option, Some, None, IsSome, ◌⊎◌, ◌||◌, inl, inr, drop, slice_index_or, length, refl, sym, ap, subst, ◌∙◌, ⊎_elim, arith}
+use Rattle.krl_table.proofs.Names.{◌≡◌, ◌≢◌, ℕ, zero, suc, ◌+◌, ◌≤◌, ◌<◌, Bool, true, false, not, ◌&&◌, List, [], ◌∷◌, Option, Some, None, IsSome, ◌⊎◌, ◌||◌, inl, inr, drop, slice_index_or, length}
+use Rattle.krl_table.proofs.Names.{refl, sym, ap, subst, ◌∙◌, ⊎_elim, arith, cases_lt, eq-eqb, ne_eqb, nat_tests, fun_ext, drop_all, list_all, get, END, TOP, RangePart, KeyPart, Mode, range_join}
+use Rattle.krl_table.proofs.Names.{key_join, at_or_above, compatible, meet, Bounds, meets, Pieces, In, Index, low_of, slots, is_slot, IsSlotOf, SlotRow, Row, Rows, blank_row, is_compatible_there}
+use Rattle.krl_table.proofs.Names.{mode_at, set_mode, all_below, most_clients, is_compatible_in_row, with_mode, reported_range, reported_key, rebuilt, conflicts, adopted, RangesOff, KeysOff}
+use Rattle.krl_table.proofs.Names.{BeginsSpan, NothingFrom, IsNextReported, Kept, row_of, row_there, rows_of, IsSet, IsAll, IsOver, IsSound, AreCompatible, times, lowered_between}
 use Rattle.std.proofs.Math.Seq.{drop-cons}
-use Rattle.std.proofs.lemmas.Bool.{cases_lt}
-use Rattle.std.proofs.Common.{eq-eqb, ne_eqb}
-use Rattle.std.proofs.lemmas.Bool.Decides.{nat_tests}
-use Rattle.std.proofs.Math.Path.{fun_ext}
-use Rattle.std.proofs.lemmas.List.{drop_all}
 use Rattle.std.specs.Prelude.{nat_eq, nat_lt, if◌then◌else◌}
-use Rattle.std.specs.List.{list_all}
-use Rattle.std.specs.FinMap.{get}
-use Rattle.krl_modes.specs.declared.point.TheConstants.{END, TOP}
-use Rattle.krl_modes.specs.declared.part.RangePart.{RangePart}
 use Rattle.krl_modes.specs.declared.part.RangePart.TheVariants as range
-use Rattle.krl_modes.specs.declared.part.KeyPart.{KeyPart}
 use Rattle.krl_modes.specs.declared.part.KeyPart.TheVariants as key
-use Rattle.krl_modes.specs.declared.mode.Mode.{Mode}
 use Rattle.krl_modes.specs.declared.mode.Mode.TheVariants as mode
-use Rattle.krl_modes.specs.Parts.{range_join, key_join}
-use Rattle.krl_modes.specs.Modes.{at_or_above, compatible, meet}
-use Rattle.krl_modes.specs.Spans.{Bounds, meets}
 use Rattle.krl_messages.specs.declared.range_pieces.RangePiece.{RangePiece}
 use Rattle.krl_messages.specs.declared.key_pieces.KeyPiece.{KeyPiece}
-use Rattle.krl_messages.specs.declared.pieces.Pieces.{Pieces}
-use Rattle.krl_messages.specs.Members.{In}
-use Rattle.krl_durable.specs.Index.{Index, low_of, slots, is_slot, IsSlotOf}
-use Rattle.krl_table.specs.declared.row.SlotRow.{SlotRow}
-use Rattle.krl_table.specs.Rows.{Row, Rows, blank_row, is_compatible_there, mode_at, set_mode, all_below, most_clients}
-use Rattle.krl_table.specs.Rows.{is_compatible_in_row}
-use Rattle.krl_table.specs.Calls.{with_mode}
-use Rattle.krl_table.specs.Reports.{reported_range, reported_key, rebuilt, conflicts, adopted}
-use Rattle.krl_table.specs.ReportSweep.{RangesOff, KeysOff, BeginsSpan, NothingFrom, IsNextReported}
-use Rattle.krl_table.specs.Kept.{Kept, row_of, row_there, rows_of, IsSet, IsAll, IsOver, IsSound, AreCompatible, times, lowered_between}
 use Rattle.krl_table.proofs.Rows.RowChanges.{eq_cases}
 use Rattle.krl_table.proofs.Rows.Below.{clients_are}
 use Rattle.krl_table.proofs.Invariant.Compatible.{set_compatible, compatible_row}

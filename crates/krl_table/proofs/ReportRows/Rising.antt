@@ -1,24 +1,11 @@
 -- Lists of pieces that rise, and what is left of a report behind a point.
-use Rattle.std.proofs.Common.{◌≡◌, ℕ, zero, suc, ◌+◌, ◌≤◌, ◌<◌, Bool, true, false, ◌&&◌, List, [], ◌∷◌, None, inl, inr, drop, slice_index_or, length, refl, sym, ap, subst, ◌∙◌, arith}
-use Rattle.std.proofs.Common.{ne_eqb}
-use Rattle.std.proofs.lemmas.Bool.Decides.{nat_tests}
-use Rattle.std.proofs.lemmas.List.{drop_all}
-use Rattle.std.specs.Prelude.{nat_lt, if◌then◌else◌}
-use Rattle.std.specs.FinMap.{get}
-use Rattle.krl_modes.specs.declared.point.TheConstants.{END}
-use Rattle.krl_modes.specs.declared.part.RangePart.{RangePart}
+use Rattle.krl_table.proofs.Names.{◌≡◌, ℕ, zero, suc, ◌+◌, ◌≤◌, ◌<◌, Bool, true, false, ◌&&◌, List, [], ◌∷◌, None, inl, inr, drop, slice_index_or, length, refl, sym, ap, subst, ◌∙◌, arith, ne_eqb}
+use Rattle.krl_table.proofs.Names.{nat_tests, drop_all, nat_lt, if◌then◌else◌, get, END, RangePart, KeyPart, range_join, key_join, at_or_above, Bounds, meets, Pieces, Index, span_of, reported_range}
+use Rattle.krl_table.proofs.Names.{reported_key, RangesOff, KeysOff, RangesRise, KeysRise, SameRanges, SameKeys, ReportsSame, BeginsSpan, IsNextReported, NothingFrom}
 use Rattle.krl_modes.specs.declared.part.RangePart.TheVariants as range
-use Rattle.krl_modes.specs.declared.part.KeyPart.{KeyPart}
 use Rattle.krl_modes.specs.declared.part.KeyPart.TheVariants as key
-use Rattle.krl_modes.specs.Parts.{range_join, key_join}
-use Rattle.krl_modes.specs.Modes.{at_or_above}
-use Rattle.krl_modes.specs.Spans.{Bounds, meets}
 use Rattle.krl_messages.specs.declared.range_pieces.RangePiece.{RangePiece}
 use Rattle.krl_messages.specs.declared.key_pieces.KeyPiece.{KeyPiece}
-use Rattle.krl_messages.specs.declared.pieces.Pieces.{Pieces}
-use Rattle.krl_durable.specs.Index.{Index, span_of}
-use Rattle.krl_table.specs.Reports.{reported_range, reported_key}
-use Rattle.krl_table.specs.ReportSweep.{RangesOff, KeysOff, RangesRise, KeysRise, SameRanges, SameKeys, ReportsSame, BeginsSpan, IsNextReported, NothingFrom}
 use Rattle.krl_table.proofs.ReportRows.PieceByPiece.{range_right, key_right, from_item, from_place, low_from}
 
 -- Ranges

@@ -1,11 +1,6 @@
 -- How many clients wait.
-use Rattle.std.proofs.Common.{◌≡◌, ℕ, zero, suc, List, [], ◌∷◌, length, Option, Some, None, inl, refl, sym, ◌∙◌, arith}
-use Rattle.std.specs.Prelude.{is_some}
-use Rattle.std.specs.List.{count_by, filter}
-use Rattle.std.proofs.lemmas.List.Sums.{length-filter}
-use Rattle.krl_messages.specs.Members.{In}
-use Rattle.krl_queue.specs.declared.waiter.Waiter.{Waiter}
-use Rattle.krl_table.specs.Kept.{Kept, rows_of, waiter_in, AreListed}
+use Rattle.krl_table.proofs.Names.{◌≡◌, ℕ, zero, suc, List, [], ◌∷◌, length, Option, Some, None, inl, refl, sym, ◌∙◌, arith, is_some, count_by, filter, length-filter, In, Waiter, Kept, rows_of}
+use Rattle.krl_table.proofs.Names.{waiter_in, AreListed}
 use Rattle.krl_table.proofs.Invariant.Sounds.{some_none}
 
 none_kept : (ws : List (Option Waiter)) → length (filter is_some ws) ≡ 0 → (c : ℕ) → waiter_in ws c ≡ None

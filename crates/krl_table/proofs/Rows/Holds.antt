@@ -1,13 +1,9 @@
 -- The slots at which a client holds something, one after another.
-use Rattle.std.proofs.Common.{◌≡◌, ◌≢◌, ℕ, ◌+◌, ◌≤◌, ◌<◌, List, [], ◌∷◌, ◌++◌, length, None, refl, sym, ap, subst, ⊎_elim, append_assoc, length-append, arith}
-use Rattle.std.proofs.lemmas.List.{append-nil}
-use Rattle.std.proofs.lemmas.Bool.{cases_lt}
-use Rattle.std.specs.FinMap.{get}
+use Rattle.krl_table.proofs.Names.{◌≡◌, ◌≢◌, ℕ, ◌+◌, ◌≤◌, ◌<◌, List, [], ◌∷◌, ◌++◌, length, None, refl, sym, ap, subst, ⊎_elim, append_assoc, length-append, arith, append-nil, cases_lt, get, mode_at}
+use Rattle.krl_table.proofs.Names.{Kept, rows_of, row_there}
 use Rattle.krl_modes.specs.declared.mode.Mode.TheVariants as mode
 use Rattle.krl_store.specs.Stores.{IsNextKey}
-use Rattle.krl_table.specs.Rows.{mode_at}
 use Rattle.krl_table.specs.Holds.{AreHeld, HoldsAt}
-use Rattle.krl_table.specs.Kept.{Kept, rows_of, row_there}
 
 -- no more slots than points were counted below this one
 pub record AreCounted (t : Kept) (c at count : ℕ) : Type 0 where

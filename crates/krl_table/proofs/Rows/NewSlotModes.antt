@@ -1,17 +1,8 @@
 -- The modes on a new slot, one client after another.
-use Rattle.std.proofs.Common.{◌≡◌, ◌≢◌, ℕ, zero, suc, ◌+◌, ◌<◌, ◌≤◌, List, [], ◌∷◌, refl, ⊎_elim, length, set, sym, ap, subst, ◌∙◌, arith}
-use Rattle.std.proofs.Common.{eq-eqb, ne_eqb}
-use Rattle.std.proofs.lemmas.Bool.{cases_lt}
-use Rattle.std.proofs.Math.Path.{fun_ext}
-use Rattle.std.proofs.lemmas.List.{get_or-set_same, get_or-set_other}
-use Rattle.std.specs.Prelude.{if◌then◌else◌}
-use Rattle.krl_modes.specs.declared.part.RangePart.{RangePart}
+use Rattle.krl_table.proofs.Names.{◌≡◌, ◌≢◌, ℕ, zero, suc, ◌+◌, ◌<◌, ◌≤◌, List, [], ◌∷◌, refl, ⊎_elim, length, set, sym, ap, subst, ◌∙◌, arith, eq-eqb, ne_eqb, cases_lt, fun_ext, get_or-set_same}
+use Rattle.krl_table.proofs.Names.{get_or-set_other, if◌then◌else◌, RangePart, Mode, range_of, at_or_above, split_modes, mode_beside, mode_of}
 use Rattle.krl_modes.specs.declared.part.KeyPart.TheVariants as key
-use Rattle.krl_modes.specs.declared.mode.Mode.{Mode}
 use Rattle.krl_modes.specs.declared.mode.Mode.TheVariants as mode
-use Rattle.krl_modes.specs.Modes.{range_of, at_or_above}
-use Rattle.krl_table.specs.Calls.{split_modes, mode_beside}
-use Rattle.krl_table.specs.Kept.{mode_of}
 use Rattle.krl_table.proofs.Rows.RowChanges.{eq_cases}
 
 pub split_writer : (f : ℕ → Mode) (c k : ℕ) (r : RangePart) (x : Mode) → k ≡ c → r ≡ range_of (f k) → x ≡ at_or_above r key.X → x ≡ split_modes f c k

@@ -1,15 +1,8 @@
 -- The parts of the modes on a new slot.
-use Rattle.std.proofs.Common.{◌≡◌, ◌≢◌, ℕ, Bool, true, false, ◌&&◌, refl, sym, ap, subst, ◌∙◌}
-use Rattle.std.proofs.Common.{eq-eqb, ne_eqb}
-use Rattle.std.specs.Prelude.{if◌then◌else◌}
-use Rattle.krl_modes.specs.declared.part.RangePart.{RangePart}
+use Rattle.krl_table.proofs.Names.{◌≡◌, ◌≢◌, ℕ, Bool, true, false, ◌&&◌, refl, sym, ap, subst, ◌∙◌, eq-eqb, ne_eqb, if◌then◌else◌, RangePart, Mode, ranges_compatible, lets_insert, range_of, key_of}
+use Rattle.krl_table.proofs.Names.{at_or_above, compatible, split_modes, mode_beside, key_off_slot}
 use Rattle.krl_modes.specs.declared.part.RangePart.TheVariants as range
 use Rattle.krl_modes.specs.declared.part.KeyPart.TheVariants as key
-use Rattle.krl_modes.specs.declared.mode.Mode.{Mode}
-use Rattle.krl_modes.specs.Parts.{ranges_compatible, lets_insert}
-use Rattle.krl_modes.specs.Modes.{range_of, key_of, at_or_above, compatible}
-use Rattle.krl_table.specs.Calls.{split_modes, mode_beside}
-use Rattle.krl_table.specs.Points.{key_off_slot}
 use Rattle.krl_table.proofs.Rows.RowChanges.{eq_cases}
 
 first_true : (a b : Bool) → (a && b) ≡ true → a ≡ true

@@ -1,17 +1,9 @@
 -- The slots at which somebody waits, one after another.
-use Rattle.std.proofs.Common.{◌≡◌, ℕ, zero, suc, ◌+◌, ◌≤◌, ◌<◌, min, Bool, true, false, List, [], ◌∷◌, ◌++◌, length, Option, Some, None, MatchOption, inl, refl, sym, ap, subst, ◌∙◌, ⊎_elim, append_assoc, length-append, arith}
-use Rattle.std.proofs.Common.{ltb-true, ltb-false}
-use Rattle.std.proofs.lemmas.List.{append-nil}
-use Rattle.std.specs.List.{AllByRecursion}
+use Rattle.krl_table.proofs.Names.{◌≡◌, ℕ, zero, suc, ◌+◌, ◌≤◌, ◌<◌, min, Bool, true, false, List, [], ◌∷◌, ◌++◌, length, Option, Some, None, MatchOption, inl, refl, sym, ap, subst, ◌∙◌, ⊎_elim}
+use Rattle.krl_table.proofs.Names.{append_assoc, length-append, arith, ltb-true, ltb-false, append-nil, AllByRecursion, cases_lt, nat_lt, if◌then◌else◌, In, Waiter, Index, is_slot, IsSlotOf, Kept}
+use Rattle.krl_table.proofs.Names.{rows_of, IsOver, IsSound, waiter_in, AreListed, AllWaitBelow, IsLeastPoint, lesser_point, lesser}
 use Rattle.std.proofs.Math.Nat.{min-le_left, min-le_right, min-eq_left, min-eq_right}
-use Rattle.std.proofs.lemmas.Bool.{cases_lt}
-use Rattle.std.specs.Prelude.{nat_lt, if◌then◌else◌}
-use Rattle.krl_messages.specs.Members.{In}
-use Rattle.krl_queue.specs.declared.waiter.Waiter.{Waiter}
 use Rattle.krl_table.specs.Waiters.{IsNextWaiting, AreWaiting}
-use Rattle.krl_durable.specs.Index.{Index, is_slot, IsSlotOf}
-use Rattle.krl_table.specs.Kept.{Kept, rows_of, IsOver, IsSound}
-use Rattle.krl_table.specs.Kept.{waiter_in, AreListed, AllWaitBelow, IsLeastPoint, lesser_point, lesser}
 use Rattle.krl_table.proofs.Rows.RowChanges.{eq_cases}
 use Rattle.krl_table.proofs.Rows.Slots.{next_of, slot_same, slot_twice}
 use Rattle.krl_table.proofs.Invariant.Sounds.{some_same, some_none, has_row}

@@ -1,12 +1,6 @@
 -- A table without rows.
-use Rattle.std.proofs.Common.{◌≡◌, ◌≤◌, ℕ, List, Option, None, IsSome, length, refl, sym, ap, subst, arith}
-use Rattle.std.specs.FinMap.{get}
-use Rattle.krl_modes.specs.declared.point.TheConstants.{END}
-use Rattle.krl_messages.specs.Members.{In}
-use Rattle.krl_queue.specs.declared.waiter.Waiter.{Waiter}
-use Rattle.krl_durable.specs.Index.{Index}
-use Rattle.krl_table.specs.Rows.{Row, blank_row}
-use Rattle.krl_table.specs.Kept.{Kept, row_there, rows_of, IsOver, IsSound, AreCompatible, AreListed, times, waiter_in}
+use Rattle.krl_table.proofs.Names.{◌≡◌, ◌≤◌, ℕ, List, Option, None, IsSome, length, refl, sym, ap, subst, arith, get, END, In, Waiter, Index, Row, blank_row, Kept, row_there, rows_of, IsOver}
+use Rattle.krl_table.proofs.Names.{IsSound, AreCompatible, AreListed, times, waiter_in}
 use Rattle.krl_table.proofs.Invariant.Sounds.{some_none}
 
 module _ (t : Kept) (none : (n : ℕ) → get t n ≡ None) where

@@ -1,20 +1,10 @@
 -- What a change of the kept rows means.
-use Rattle.std.proofs.Common.{◌≡◌, ◌≢◌, ℕ, zero, suc, ◌<◌, Bool, true, false, cond, List, [], ◌∷◌, Option, Some, None, IsSome, length, set, refl, sym, ap, subst, ◌∙◌, arith, ⊎_elim}
-use Rattle.std.proofs.Common.{nat_eq, eq-eqb, ne_eqb}
+use Rattle.krl_table.proofs.Names.{◌≡◌, ◌≢◌, ℕ, zero, suc, ◌<◌, Bool, true, false, cond, List, [], ◌∷◌, Option, Some, None, IsSome, length, set, refl, sym, ap, subst, ◌∙◌, arith, ⊎_elim, nat_eq}
+use Rattle.krl_table.proofs.Names.{eq-eqb, ne_eqb, get_or-set_same, get_or-set_other, nat_tests, fun_ext, slice_get, if◌then◌else◌, nat_cmp, eq_by_cmp, FinMap, get, insert, remove, get-insert}
+use Rattle.krl_table.proofs.Names.{get-remove, Mode, Waiter, SlotRow, Row, Rows, blank_row, set_row, set_mode, front_of, Kept, mode_of, row_of, row_there, rows_of, IsSet, AreSet}
 use Rattle.std.proofs.Math.ListN.{replicate}
-use Rattle.std.proofs.lemmas.List.{get_or-set_same, get_or-set_other}
-use Rattle.std.proofs.lemmas.Bool.Decides.{nat_tests}
-use Rattle.std.proofs.Math.Path.{fun_ext}
-use Rattle.std.specs.Prelude.{slice_get, if◌then◌else◌}
-use Rattle.std.specs.Ordering.{nat_cmp, eq_by_cmp}
 use Rattle.std.specs.Cmp.{nat_cmp_total}
-use Rattle.std.specs.FinMap.{FinMap, get, insert, remove, get-insert, get-remove}
-use Rattle.krl_modes.specs.declared.mode.Mode.{Mode}
 use Rattle.krl_modes.specs.declared.mode.Mode.TheVariants as mode
-use Rattle.krl_queue.specs.declared.waiter.Waiter.{Waiter}
-use Rattle.krl_table.specs.declared.row.SlotRow.{SlotRow}
-use Rattle.krl_table.specs.Rows.{Row, Rows, blank_row, set_row, set_mode, front_of}
-use Rattle.krl_table.specs.Kept.{Kept, mode_of, row_of, row_there, rows_of, IsSet, AreSet}
 
 pub eq_cases : {A : Type 0} (a b : ℕ) → (a ≡ b → A) → (a ≢ b → A) → A
 eq_cases {A = A} a b f g = by_eq (nat_eq a b) refl

@@ -1,14 +1,9 @@
 -- The slots of an index: the least at or above a point, and the first point of a slot's span.
-use Rattle.std.proofs.Common.{◌≡◌, ◌≢◌, ℕ, suc, ◌≤◌, ◌<◌, Bool, true, false, Option, Some, None, refl, sym, ◌∙◌, ⊎_elim, arith, ◌||◌}
-use Rattle.std.proofs.Common.{nat_eq}
-use Rattle.std.proofs.lemmas.Bool.{cases_lt, eqb-false}
+use Rattle.krl_table.proofs.Names.{◌≡◌, ◌≢◌, ℕ, suc, ◌≤◌, ◌<◌, Bool, true, false, Option, Some, None, refl, sym, ◌∙◌, ⊎_elim, arith, ◌||◌, nat_eq, cases_lt, eqb-false, nat_cmp, END, Value, Index}
+use Rattle.krl_table.proofs.Names.{slot_of, low_of, is_slot, IsSlotOf}
 use Rattle.std.specs.Prelude.{is_some, IsSome}
-use Rattle.std.specs.Ordering.{nat_cmp}
 use Rattle.std.specs.FinMap as map
 use Rattle.std.specs.FinMap.Entries.{find}
-use Rattle.krl_modes.specs.declared.point.TheConstants.{END}
-use Rattle.krl_messages.specs.Values.{Value}
-use Rattle.krl_durable.specs.Index.{Index, slot_of, low_of, is_slot, IsSlotOf}
 use Rattle.krl_durable.proofs.Slots.{Rises}
 use Rattle.krl_durable.proofs.SlotLaws.{from_zero, first_is, low_is, keys_of_map_rise, end_test}
 

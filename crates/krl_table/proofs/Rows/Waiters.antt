@@ -1,12 +1,6 @@
 -- How a client waits.
-use Rattle.std.proofs.Common.{◌≡◌, ℕ, Bool, true, false, cond, List, [], ◌∷◌, Option, Some, None, inl, inr, refl, sym, ap, ◌∙◌}
-use Rattle.std.specs.Prelude.{is_some, find}
-use Rattle.krl_messages.specs.Members.{In}
-use Rattle.krl_queue.specs.declared.waiter.Waiter.{Waiter}
-use Rattle.krl_queue.specs.Waiting.{first_of}
-use Rattle.krl_durable.specs.Index.{Index, slots}
-use Rattle.krl_table.specs.Rows.{waiter_at, waiter_of}
-use Rattle.krl_table.specs.Kept.{Kept, rows_of, IsOver, IsSound, AreListed, waiter_in}
+use Rattle.krl_table.proofs.Names.{◌≡◌, ℕ, Bool, true, false, cond, List, [], ◌∷◌, Option, Some, None, inl, inr, refl, sym, ap, ◌∙◌, is_some, find, In, Waiter, first_of, Index, slots, waiter_at}
+use Rattle.krl_table.proofs.Names.{waiter_of, Kept, rows_of, IsOver, IsSound, AreListed, waiter_in}
 use Rattle.krl_table.proofs.Invariant.Rooms.{Lists, slots_have}
 use Rattle.krl_table.proofs.Invariant.Sounds.{some_none, has_row}
 use Rattle.krl_table.proofs.Invariant.Stands.{first_in, none_in, first_none}

@@ -1,20 +1,9 @@
 -- A walk over the kept rows, in the order of their slots.
-use Rattle.std.proofs.Common.{◌≡◌, ◌≢◌, ℕ, ◌≤◌, ◌<◌, ◌+◌, Bool, true, false, ◌&&◌, [], Option, Some, None, IsSome, refl, sym, ap, subst, ◌∙◌, arith, ⊎_elim}
-use Rattle.std.proofs.lemmas.Bool.{cases_lt}
-use Rattle.std.proofs.lemmas.Bool.Decides.{nat_tests}
-use Rattle.std.proofs.Math.Path.{fun_ext}
+use Rattle.krl_table.proofs.Names.{◌≡◌, ◌≢◌, ℕ, ◌≤◌, ◌<◌, ◌+◌, Bool, true, false, ◌&&◌, [], Option, Some, None, IsSome, refl, sym, ap, subst, ◌∙◌, arith, ⊎_elim, cases_lt, nat_tests, fun_ext, get}
+use Rattle.krl_table.proofs.Names.{Mode, meet, SlotRow, Row, blank_row, set_mode, Extent, Kept, row_of, row_there, rows_of, IsSet, IsAll, lowered_between, cleared_row, cleared_within, with_mode}
 use Rattle.std.specs.Prelude.{nat_lt, nat_le, nat_eq, if◌then◌else◌}
-use Rattle.std.specs.FinMap.{get}
-use Rattle.krl_modes.specs.declared.mode.Mode.{Mode}
 use Rattle.krl_modes.specs.declared.mode.Mode.TheVariants as mode
-use Rattle.krl_modes.specs.Modes.{meet}
 use Rattle.krl_store.specs.Stores.{IsNextKey}
-use Rattle.krl_table.specs.declared.row.SlotRow.{SlotRow}
-use Rattle.krl_table.specs.Rows.{Row, blank_row, set_mode}
-use Rattle.krl_table.specs.declared.extent.Extent.{Extent}
-use Rattle.krl_table.specs.Kept.{Kept, row_of, row_there, rows_of, IsSet, IsAll, lowered_between, cleared_row}
-use Rattle.krl_table.specs.Extents.{cleared_within}
-use Rattle.krl_table.specs.Calls.{with_mode}
 use Rattle.krl_table.proofs.Rows.RowChanges.{eq_cases}
 
 -- the rows below the point are changed, and the others are as they were

@@ -1,6 +1,4 @@
-use Rattle.std.proofs.Common.{refl, ◌∙◌, sym, arith}
-use Rattle.krl_table.specs.Kept.{rows_of}
-use Rattle.krl_table.specs.Extents.{cleared_within}
+use Rattle.krl_table.proofs.Names.{refl, ◌∙◌, sym, arith, rows_of, cleared_within}
 use Rattle.krl_table.proofs.Rows.RowChanges.{set_after}
 use Rattle.krl_table.proofs.Rows.Walk.{none_walked, walk_step, walk_ends, walk_stops, clears_keep, clears_before, clears_past, clears_here}
 use Rattle.krl_table.proofs.all_rows.clear.Goals as goal

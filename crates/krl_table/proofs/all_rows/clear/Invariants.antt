@@ -1,6 +1,4 @@
-use Rattle.std.proofs.Common.{◌≡◌, ◌-◌, ◌+◌, ◌≤◌}
-use Rattle.krl_modes.specs.declared.point.TheConstants.{END}
-use Rattle.krl_table.specs.Extents.{cleared_within}
+use Rattle.krl_table.proofs.Names.{◌≡◌, ◌-◌, ◌+◌, ◌≤◌, END, cleared_within}
 use Rattle.krl_table.proofs.Rows.Walk.{IsWalked}
 use Rattle.krl_table.proofs.all_rows.clear.Given as goal
 

@@ -1,5 +1,4 @@
-use Rattle.std.proofs.Common.{refl, sym, ◌∙◌, arith}
-use Rattle.krl_table.specs.Kept.{rows_of, lowered_between}
+use Rattle.krl_table.proofs.Names.{refl, sym, ◌∙◌, arith, rows_of, lowered_between}
 use Rattle.krl_table.proofs.Rows.RowChanges.{set_after}
 use Rattle.krl_table.proofs.Rows.Walk.{none_walked, walk_step, walk_ends, walk_stops, lower_keeps, lower_before, lower_past, lower_here}
 use Rattle.krl_table.proofs.all_rows.lower.Goals as goal

@@ -1,5 +1,4 @@
-use Rattle.std.proofs.Common.{◌≡◌, ◌-◌, ◌≤◌}
-use Rattle.krl_table.specs.Kept.{lowered_between}
+use Rattle.krl_table.proofs.Names.{◌≡◌, ◌-◌, ◌≤◌, lowered_between}
 use Rattle.krl_table.proofs.Rows.Walk.{IsWalked}
 use Rattle.krl_table.proofs.all_rows.lower.Given as goal
 

@@ -1,6 +1,4 @@
-use Rattle.std.proofs.Common.{sym, ap, subst, ◌∙◌}
-use Rattle.krl_table.specs.Reports.{reported_key}
-use Rattle.krl_table.specs.ReportSweep.{KeysRise}
+use Rattle.krl_table.proofs.Names.{sym, ap, subst, ◌∙◌, reported_key, KeysRise}
 use Rattle.krl_table.proofs.ReportRows.Rising.{key_passed, keys_tail}
 use Rattle.krl_table.proofs.pieces.keys_from.Goals as goal
 

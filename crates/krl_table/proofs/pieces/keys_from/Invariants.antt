@@ -1,5 +1,4 @@
-use Rattle.std.proofs.Common.{length}
-use Rattle.krl_table.specs.ReportSweep.{KeysRise, SameKeys}
+use Rattle.krl_table.proofs.Names.{length, KeysRise, SameKeys}
 use Rattle.krl_table.proofs.pieces.keys_from.Given as goal
 
 abbrev pub invariant-loop-first : goal.invariant-loop-first

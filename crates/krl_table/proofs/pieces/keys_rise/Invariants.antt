@@ -1,5 +1,4 @@
-use Rattle.std.proofs.Common.{drop}
-use Rattle.krl_table.specs.ReportSweep.{KeysRise}
+use Rattle.krl_table.proofs.Names.{drop, KeysRise}
 use Rattle.krl_table.proofs.pieces.keys_rise.Given as goal
 
 -- where the others rise from here on, all do

@@ -1,5 +1,4 @@
-use Rattle.std.proofs.Common.{ℕ, ◌≤◌, drop}
-use Rattle.krl_table.specs.ReportSweep.{KeysOff}
+use Rattle.krl_table.proofs.Names.{ℕ, ◌≤◌, drop, KeysOff}
 use Rattle.krl_table.proofs.pieces.next_key.Given as goal
 
 -- no piece so far has a point before the next

@@ -1,6 +1,4 @@
-use Rattle.std.proofs.Common.{sym, ap, subst, ◌∙◌, arith}
-use Rattle.krl_table.specs.Reports.{reported_range}
-use Rattle.krl_table.specs.ReportSweep.{RangesRise}
+use Rattle.krl_table.proofs.Names.{sym, ap, subst, ◌∙◌, arith, reported_range, RangesRise}
 use Rattle.krl_table.proofs.ReportRows.Rising.{range_passed, ranges_tail}
 use Rattle.krl_table.proofs.pieces.ranges_from.Goals as goal
 

@@ -1,5 +1,4 @@
-use Rattle.std.proofs.Common.{drop}
-use Rattle.krl_table.specs.ReportSweep.{RangesRise}
+use Rattle.krl_table.proofs.Names.{drop, RangesRise}
 use Rattle.krl_table.proofs.pieces.ranges_rise.Given as goal
 
 -- where the others rise from here on, all do

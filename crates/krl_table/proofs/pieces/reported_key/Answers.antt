@@ -1,6 +1,4 @@
-use Rattle.std.proofs.Common.{◌+◌, drop, sym, ap, ◌∙◌, arith}
-use Rattle.krl_modes.specs.Parts.{key_join}
-use Rattle.krl_table.specs.Reports.{reported_key}
+use Rattle.krl_table.proofs.Names.{◌+◌, drop, sym, ap, ◌∙◌, arith, key_join, reported_key}
 use Rattle.krl_table.proofs.ReportRows.PieceByPiece.{key_begins, key_goes, key_ends}
 use Rattle.krl_table.proofs.ReportRows.Rising.{key_stops}
 use Rattle.krl_table.proofs.pieces.reported_key.Goals as goal

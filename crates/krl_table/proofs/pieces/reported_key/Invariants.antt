@@ -1,6 +1,4 @@
-use Rattle.std.proofs.Common.{◌≡◌, drop}
-use Rattle.krl_modes.specs.Parts.{key_join}
-use Rattle.krl_table.specs.Reports.{reported_key}
+use Rattle.krl_table.proofs.Names.{◌≡◌, drop, key_join, reported_key}
 use Rattle.krl_table.proofs.pieces.reported_key.Given as goal
 
 -- what was joined, and what is left to join

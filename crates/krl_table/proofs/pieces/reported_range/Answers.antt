@@ -1,6 +1,4 @@
-use Rattle.std.proofs.Common.{◌+◌, drop, sym, ap, ◌∙◌, arith}
-use Rattle.krl_modes.specs.Parts.{range_join}
-use Rattle.krl_table.specs.Reports.{reported_range}
+use Rattle.krl_table.proofs.Names.{◌+◌, drop, sym, ap, ◌∙◌, arith, range_join, reported_range}
 use Rattle.krl_table.proofs.ReportRows.PieceByPiece.{range_begins, range_goes, range_ends}
 use Rattle.krl_table.proofs.ReportRows.Rising.{range_stops}
 use Rattle.krl_table.proofs.pieces.reported_range.Goals as goal

@@ -1,6 +1,4 @@
-use Rattle.std.proofs.Common.{◌≡◌, drop}
-use Rattle.krl_modes.specs.Parts.{range_join}
-use Rattle.krl_table.specs.Reports.{reported_range}
+use Rattle.krl_table.proofs.Names.{◌≡◌, drop, range_join, reported_range}
 use Rattle.krl_table.proofs.pieces.reported_range.Given as goal
 
 -- what was joined, and what is left to join

@@ -1,9 +1,4 @@
-use Rattle.std.proofs.Common.{◌≡◌, ◌≤◌, ◌<◌, ◌+◌, true, false, refl, sym, ap, subst, ◌∙◌, ⊎_elim, arith}
-use Rattle.std.proofs.lemmas.Bool.{cases_lt}
-use Rattle.krl_table.specs.Rows.{is_compatible_there}
-use Rattle.krl_table.specs.Reports.{rebuilt}
-use Rattle.krl_table.specs.ReportSweep.{ReportsSame}
-use Rattle.krl_table.specs.Kept.{rows_of}
+use Rattle.krl_table.proofs.Names.{◌≡◌, ◌≤◌, ◌<◌, ◌+◌, true, false, refl, sym, ap, subst, ◌∙◌, ⊎_elim, arith, cases_lt, is_compatible_there, rebuilt, ReportsSame, rows_of}
 use Rattle.krl_table.proofs.Rows.Slots.{slot_end}
 use Rattle.krl_table.proofs.ReportRows.PieceByPiece.{begins_zero, begins_past_slot, one_further, none_is_compatible}
 use Rattle.krl_table.proofs.ReportRows.Rising.{same_begins, same_goes, next_same, nothing_same}

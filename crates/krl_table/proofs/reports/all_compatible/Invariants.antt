@@ -1,10 +1,4 @@
-use Rattle.std.proofs.Common.{◌≡◌, ◌<◌, ◌≤◌, ◌-◌, ◌+◌, ℕ, true}
-use Rattle.krl_modes.specs.declared.point.TheConstants.{END}
-use Rattle.krl_durable.specs.Index.{is_slot}
-use Rattle.krl_table.specs.Rows.{is_compatible_there}
-use Rattle.krl_table.specs.Reports.{rebuilt}
-use Rattle.krl_table.specs.ReportSweep.{BeginsSpan, ReportsSame}
-use Rattle.krl_table.specs.Kept.{rows_of}
+use Rattle.krl_table.proofs.Names.{◌≡◌, ◌<◌, ◌≤◌, ◌-◌, ◌+◌, ℕ, true, END, is_slot, is_compatible_there, rebuilt, BeginsSpan, ReportsSame, rows_of}
 use Rattle.krl_table.proofs.reports.all_compatible.Given as goal
 
 abbrev pub invariant-loop-reported : goal.invariant-loop-reported

@@ -1,6 +1,4 @@
-use Rattle.std.proofs.Common.{sym, ap, ◌∙◌}
-use Rattle.krl_table.specs.Rows.{is_compatible_in_row}
-use Rattle.krl_table.specs.Kept.{row_there}
+use Rattle.krl_table.proofs.Names.{sym, ap, ◌∙◌, is_compatible_in_row, row_there}
 use Rattle.krl_table.proofs.Calls.Raises.{blank_is_compatible}
 use Rattle.krl_table.proofs.reports.is_compatible_there.Goals as goal
 

@@ -1,7 +1,4 @@
-use Rattle.std.proofs.Common.{◌≤◌, ◌+◌, refl, sym, subst, ◌∙◌, arith}
-use Rattle.krl_table.specs.Calls.{with_mode}
-use Rattle.krl_table.specs.Kept.{most_rows, rows_of, IsSet}
-use Rattle.krl_table.specs.ReportSweep.{ReportsSame}
+use Rattle.krl_table.proofs.Names.{◌≤◌, ◌+◌, refl, sym, subst, ◌∙◌, arith, with_mode, most_rows, rows_of, IsSet, ReportsSame}
 use Rattle.krl_table.proofs.Invariant.Rooms.{room_at}
 use Rattle.krl_table.proofs.ReportRows.PieceByPiece.{begins_past_slot, settle_begins, settle_goes, settle_ends}
 use Rattle.krl_table.proofs.ReportRows.Rising.{same_begins, same_goes, next_same, nothing_same}

@@ -1,7 +1,4 @@
-use Rattle.std.proofs.Common.{◌≡◌, ◌-◌, ◌+◌}
-use Rattle.krl_modes.specs.declared.point.TheConstants.{END}
-use Rattle.krl_table.specs.ReportSweep.{ReportsSame}
-use Rattle.krl_table.specs.Extents.{AreWithin}
+use Rattle.krl_table.proofs.Names.{◌≡◌, ◌-◌, ◌+◌, END, ReportsSame, AreWithin}
 use Rattle.krl_table.proofs.ReportRows.PieceByPiece.{IsSettled}
 use Rattle.krl_table.proofs.reports.settle.Given as goal
 

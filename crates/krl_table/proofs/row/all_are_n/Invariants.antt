@@ -1,6 +1,5 @@
-use Rattle.std.proofs.Common.{◌≡◌, ◌↔◌, ◌<◌, ℕ, true}
+use Rattle.krl_table.proofs.Names.{◌≡◌, ◌↔◌, ◌<◌, ℕ, true, mode_of}
 use Rattle.krl_modes.specs.declared.mode.Mode.TheVariants as mode
-use Rattle.krl_table.specs.Kept.{mode_of}
 use Rattle.krl_table.proofs.row.all_are_n.Given as goal
 
 -- so far all are

@@ -1,9 +1,4 @@
-use Rattle.std.proofs.Common.{◌≡◌, ◌≢◌, ◌++◌, ℕ, Some, IsSome, refl, sym, ap, subst, ◌∙◌}
-use Rattle.std.specs.FinMap.{get}
-use Rattle.krl_table.specs.declared.row.SlotRow.{SlotRow}
-use Rattle.krl_table.specs.Calls.{with_queue}
-use Rattle.krl_table.specs.Rows.{Row, blank_row}
-use Rattle.krl_table.specs.Kept.{Kept, row_of, row_there, rows_of}
+use Rattle.krl_table.proofs.Names.{◌≡◌, ◌≢◌, ◌++◌, ℕ, Some, IsSome, refl, sym, ap, subst, ◌∙◌, get, SlotRow, with_queue, Row, blank_row, Kept, row_of, row_there, rows_of}
 use Rattle.krl_table.proofs.Rows.RowChanges.{gone_set, both_as, remove_past}
 use Rattle.krl_table.proofs.row_ops.join.Goals as goal
 

@@ -1,9 +1,4 @@
-use Rattle.std.proofs.Common.{◌≡◌, sym, ap, subst, ◌∙◌, arith}
-use Rattle.std.specs.FinMap.{get}
-use Rattle.krl_queue.specs.Waiting.{up_to, beyond}
-use Rattle.krl_table.specs.Calls.{split_modes, with_queue}
-use Rattle.krl_table.specs.Rows.{Row}
-use Rattle.krl_table.specs.Kept.{row_of, rows_of, AreSet}
+use Rattle.krl_table.proofs.Names.{◌≡◌, sym, ap, subst, ◌∙◌, arith, get, up_to, beyond, split_modes, with_queue, Row, row_of, rows_of, AreSet}
 use Rattle.krl_table.proofs.Rows.RowChanges.{both_set, both_after, both_as, there_not}
 use Rattle.krl_table.proofs.Invariant.Rooms.{rows_less}
 use Rattle.krl_table.proofs.row_ops.part.Goals as goal

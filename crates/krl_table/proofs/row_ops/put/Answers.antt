@@ -1,5 +1,4 @@
-use Rattle.std.proofs.Common.{◌≡◌, true, false, ap, ◌∙◌, sym}
-use Rattle.krl_table.specs.Kept.{row_of}
+use Rattle.krl_table.proofs.Names.{◌≡◌, true, false, ap, ◌∙◌, sym, row_of}
 use Rattle.krl_table.proofs.Rows.RowChanges.{set_kept, set_blank}
 use Rattle.krl_table.proofs.row_ops.put.Goals as goal
 

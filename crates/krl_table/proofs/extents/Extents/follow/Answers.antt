@@ -1,7 +1,4 @@
-use Rattle.std.proofs.Common.{ℕ, sym, subst, ◌∙◌}
-use Rattle.std.proofs.lemmas.List.{length-set}
-use Rattle.krl_table.specs.declared.extent.Extent.{Extent}
-use Rattle.krl_table.specs.Extents.{Lies, extent_in}
+use Rattle.krl_table.proofs.Names.{ℕ, sym, subst, ◌∙◌, length-set, Extent, Lies, extent_in}
 use Rattle.krl_table.proofs.Invariant.Within.{follow_wider, follow_there}
 use Rattle.krl_table.proofs.extents.Extents.follow.Goals as goal
 

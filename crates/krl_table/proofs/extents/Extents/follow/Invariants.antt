@@ -1,5 +1,4 @@
-use Rattle.std.proofs.Common.{◌≡◌, ℕ, ◌<◌, length}
-use Rattle.krl_table.specs.Extents.{Lies, AreWider, extent_in}
+use Rattle.krl_table.proofs.Names.{◌≡◌, ℕ, ◌<◌, length, Lies, AreWider, extent_in}
 use Rattle.krl_table.proofs.extents.Extents.follow.Given as goal
 
 abbrev pub invariant-loop-client : goal.invariant-loop-client

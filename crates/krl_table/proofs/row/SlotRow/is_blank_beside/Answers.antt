@@ -1,8 +1,5 @@
-use Rattle.std.proofs.Common.{◌≡◌, set, ap, ◌∙◌, sym, arith}
+use Rattle.krl_table.proofs.Names.{◌≡◌, set, ap, ◌∙◌, sym, arith, Row, with_mode, row_of}
 use Rattle.krl_modes.specs.declared.mode.Mode.TheVariants as mode
-use Rattle.krl_table.specs.Rows.{Row}
-use Rattle.krl_table.specs.Calls.{with_mode}
-use Rattle.krl_table.specs.Kept.{row_of}
 use Rattle.krl_table.proofs.Rows.RowChanges.{blank_is, modes-set}
 use Rattle.krl_table.proofs.row.SlotRow.is_blank_beside.Goals as goal
 

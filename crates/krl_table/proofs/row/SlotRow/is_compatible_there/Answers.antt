@@ -1,8 +1,4 @@
-use Rattle.std.proofs.Common.{ℕ, ◌||◌, nat_eq, arith, sym, ap, ◌∙◌}
-use Rattle.std.proofs.Common.{ne_eqb}
-use Rattle.std.proofs.lemmas.Bool.{or_from}
-use Rattle.krl_modes.specs.Modes.{compatible}
-use Rattle.krl_table.specs.Kept.{mode_of}
+use Rattle.krl_table.proofs.Names.{ℕ, ◌||◌, nat_eq, arith, sym, ap, ◌∙◌, ne_eqb, or_from, compatible, mode_of}
 use Rattle.krl_table.proofs.Rows.Below.{all_clients, not_all_clients}
 use Rattle.krl_table.proofs.row.SlotRow.is_compatible_there.Goals as goal
 

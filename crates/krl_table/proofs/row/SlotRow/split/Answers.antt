@@ -1,8 +1,4 @@
-use Rattle.std.proofs.Common.{◌≡◌, ap, ◌∙◌, arith}
-use Rattle.std.proofs.lemmas.List.{length-set}
-use Rattle.krl_modes.specs.Modes.{range_of}
-use Rattle.krl_table.specs.Calls.{split_modes}
-use Rattle.krl_table.specs.Kept.{mode_of}
+use Rattle.krl_table.proofs.Names.{◌≡◌, ap, ◌∙◌, arith, length-set, range_of, split_modes, mode_of}
 use Rattle.krl_table.proofs.Rows.NewSlotModes.{split_all, split_writer, split_other, split_more}
 use Rattle.krl_table.proofs.row.SlotRow.split.Goals as goal
 use Rattle.krl_table.proofs.row.SlotRow.split.Goals.{then-other-client, else-other-client}

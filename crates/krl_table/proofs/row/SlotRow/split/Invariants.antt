@@ -1,6 +1,4 @@
-use Rattle.std.proofs.Common.{◌≡◌, ◌<◌, ℕ, [], length}
-use Rattle.krl_table.specs.Calls.{split_modes}
-use Rattle.krl_table.specs.Kept.{mode_of}
+use Rattle.krl_table.proofs.Names.{◌≡◌, ◌<◌, ℕ, [], length, split_modes, mode_of}
 use Rattle.krl_table.proofs.row.SlotRow.split.Given as goal
 
 abbrev pub invariant-loop-other : goal.invariant-loop-other

@@ -1,6 +1,4 @@
-use Rattle.std.proofs.Common.{subst, arith}
-use Rattle.krl_messages.specs.declared.pieces.Pieces.{Pieces}
-use Rattle.krl_table.specs.ReportSweep.{NothingFrom, IsNextReported}
+use Rattle.krl_table.proofs.Names.{subst, arith, Pieces, NothingFrom, IsNextReported}
 use Rattle.krl_table.proofs.ReportRows.PieceByPiece.{ranges_nearer, next_reported, nothing_more}
 use Rattle.krl_table.proofs.sweep.Sweep.next.Goals as goal
 

@@ -1,8 +1,5 @@
-use Rattle.std.proofs.Common.{◌≡◌, ◌≤◌, true, false, refl, sym, ap, subst, ◌∙◌, arith}
-use Rattle.krl_modes.specs.declared.point.TheConstants.{TOP}
+use Rattle.krl_table.proofs.Names.{◌≡◌, ◌≤◌, true, false, refl, sym, ap, subst, ◌∙◌, arith, TOP, conflicts, adopted, most_rows, rows_of, IsOver}
 use Rattle.krl_modes.specs.declared.mode.Mode.TheVariants as mode
-use Rattle.krl_table.specs.Reports.{conflicts, adopted}
-use Rattle.krl_table.specs.Kept.{most_rows, rows_of, IsOver}
 use Rattle.krl_table.proofs.Invariant.Sounds.{listed_same}
 use Rattle.krl_table.proofs.Calls.Clears.{lowered_sound, lowered_queue, lowered_over}
 use Rattle.krl_table.proofs.ReportRows.PieceByPiece.{no_conflict, compatible_all, adopted_queue, adopted_sound, adopted_same, emptied_at, emptied_off, emptied_is_compatible}

@@ -1,9 +1,4 @@
-use Rattle.std.proofs.Common.{◌≡◌, ◌<◌, true, Some, IfSome, sym, ap, subst, ◌∙◌, arith}
-use Rattle.std.specs.FinMap.{get}
-use Rattle.krl_table.specs.Rows.{is_compatible_in_row, front_of}
-use Rattle.krl_table.specs.Calls.{wanted}
-use Rattle.krl_table.specs.Replies.{answerable, row_reply}
-use Rattle.krl_table.specs.Kept.{row_of, row_there, rows_of, IsOver}
+use Rattle.krl_table.proofs.Names.{◌≡◌, ◌<◌, true, Some, IfSome, sym, ap, subst, ◌∙◌, arith, get, is_compatible_in_row, front_of, wanted, answerable, row_reply, row_of, row_there, rows_of, IsOver}
 use Rattle.krl_table.proofs.Calls.Fronts.{front_client}
 use Rattle.krl_table.proofs.Calls.Answering.{reply_is, reply_grants}
 use Rattle.krl_table.proofs.table.Table.answerable.Goals as goal

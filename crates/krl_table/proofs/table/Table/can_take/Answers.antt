@@ -1,12 +1,5 @@
-use Rattle.std.proofs.Common.{◌≡◌, Bool, true, false, not, ◌&&◌, Some, None, nat_eq, refl, sym, ap, subst, ◌∙◌}
-use Rattle.std.specs.Prelude.{option_copied}
-use Rattle.std.specs.FinMap.{get}
-use Rattle.krl_modes.specs.declared.point.TheConstants.{END}
-use Rattle.krl_modes.specs.Modes.{needs_entry}
-use Rattle.krl_table.specs.Rows.{is_compatible_in_row, blank_row}
-use Rattle.krl_table.specs.Calls.{wanted}
-use Rattle.krl_table.specs.Grants.{nobody_waits}
-use Rattle.krl_table.specs.Kept.{row_of, row_there, row_takes}
+use Rattle.krl_table.proofs.Names.{◌≡◌, Bool, true, false, not, ◌&&◌, Some, None, nat_eq, refl, sym, ap, subst, ◌∙◌, option_copied, get, END, needs_entry, is_compatible_in_row, blank_row, wanted}
+use Rattle.krl_table.proofs.Names.{nobody_waits, row_of, row_there, row_takes}
 use Rattle.krl_table.proofs.Calls.Raises.{blank_is_compatible}
 use Rattle.krl_table.proofs.table.Table.can_take.Goals as goal
 

@@ -1,6 +1,4 @@
-use Rattle.std.proofs.Common.{◌≤◌, sym, ap, subst, ◌∙◌}
-use Rattle.krl_table.specs.Calls.{cleared}
-use Rattle.krl_table.specs.Kept.{most_rows, rows_of, cleared_row, IsAll, IsOver, AreListed}
+use Rattle.krl_table.proofs.Names.{◌≤◌, sym, ap, subst, ◌∙◌, cleared, most_rows, rows_of, cleared_row, IsAll, IsOver, AreListed}
 use Rattle.krl_table.proofs.Calls.Clears.{cleared_is, cleared_sound, cleared_over, cleared_listed}
 use Rattle.krl_table.proofs.Invariant.Within.{all_cleared, cleared_free}
 use Rattle.krl_table.proofs.table.Table.clear.Goals as goal

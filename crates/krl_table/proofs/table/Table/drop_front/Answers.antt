@@ -1,8 +1,4 @@
-use Rattle.std.proofs.Common.{◌≡◌, ◌≤◌, ◌<◌, Some, None, true, IsSome, IfSome, Option, sym, ap, subst, refl, ◌∙◌}
-use Rattle.std.specs.Prelude.{is_some}
-use Rattle.std.specs.FinMap.{get}
-use Rattle.krl_table.specs.declared.row.SlotRow.{SlotRow}
-use Rattle.krl_table.specs.Kept.{most_rows, rows_of, IsOver, AreListed}
+use Rattle.krl_table.proofs.Names.{◌≡◌, ◌≤◌, ◌<◌, Some, None, true, IsSome, IfSome, Option, sym, ap, subst, refl, ◌∙◌, is_some, get, SlotRow, most_rows, rows_of, IsOver, AreListed}
 use Rattle.krl_table.proofs.Calls.Fronts.{front_client, dropped_sound, dropped_listed, dropped_over}
 use Rattle.krl_table.proofs.Invariant.Sounds.{row_end}
 use Rattle.krl_table.proofs.Invariant.Within.{same_wider, within_less, free_behind}

@@ -1,8 +1,4 @@
-use Rattle.std.proofs.Common.{◌≡◌, ◌≤◌, ℕ, Some, None, sym, ap, subst, ◌∙◌}
-use Rattle.krl_modes.specs.declared.point.TheConstants.{END}
-use Rattle.krl_queue.specs.Waiting.{first_of}
-use Rattle.krl_table.specs.Kept.{most_rows, rows_of, IsOver, AreListed}
-use Rattle.krl_table.specs.Extents.{extent_in, Lies}
+use Rattle.krl_table.proofs.Names.{◌≡◌, ◌≤◌, ℕ, Some, None, sym, ap, subst, ◌∙◌, END, first_of, most_rows, rows_of, IsOver, AreListed, extent_in, Lies}
 use Rattle.krl_table.proofs.Invariant.Rooms.{room_at}
 use Rattle.krl_table.proofs.Rows.Slots.{slot_end}
 use Rattle.krl_table.proofs.Calls.Fronts.{more_sound, more_listed, more_over}

@@ -1,8 +1,5 @@
 use Rattle.std.proofs.Common.{◌≡◌, ◌<◌, Some, None, IfSome, IfNone, List, [], ◌∷◌, slice_get, refl, sym, ap, subst, ◌∙◌}
-use Rattle.std.specs.FinMap.{get}
-use Rattle.krl_queue.specs.declared.waiter.Waiter.{Waiter}
-use Rattle.krl_table.specs.Rows.{front_of}
-use Rattle.krl_table.specs.Kept.{row_there, rows_of}
+use Rattle.krl_table.proofs.Names.{get, Waiter, front_of, row_there, rows_of}
 use Rattle.krl_table.proofs.Rows.RowChanges.{front-is}
 use Rattle.krl_table.proofs.Calls.Fronts.{front_client}
 use Rattle.krl_table.proofs.table.Table.first.Goals as goal

@@ -1,7 +1,4 @@
-use Rattle.std.proofs.Common.{◌≡◌, ◌<◌, Some, IfSome, sym, ap, subst, ◌∙◌}
-use Rattle.std.specs.FinMap.{get}
-use Rattle.krl_table.specs.Rows.{front_of}
-use Rattle.krl_table.specs.Kept.{row_there}
+use Rattle.krl_table.proofs.Names.{◌≡◌, ◌<◌, Some, IfSome, sym, ap, subst, ◌∙◌, get, front_of, row_there}
 use Rattle.krl_table.proofs.Rows.RowChanges.{front-is}
 use Rattle.krl_table.proofs.Calls.Fronts.{front_client}
 use Rattle.krl_table.proofs.table.Table.front.Goals as goal

@@ -1,9 +1,4 @@
-use Rattle.std.proofs.Common.{◌≡◌, ◌≤◌, ◌<◌, ℕ, Bool, true, false, ◌==◌, length, sym, subst, arith}
-use Rattle.std.proofs.lemmas.Bool.Decides.{nat_tests}
-use Rattle.krl_durable.specs.Index.{is_slot}
-use Rattle.krl_table.specs.Calls.{raised}
-use Rattle.krl_table.specs.Replies.{is_wanted_compatible}
-use Rattle.krl_table.specs.Kept.{rows_of}
+use Rattle.krl_table.proofs.Names.{◌≡◌, ◌≤◌, ◌<◌, ℕ, Bool, true, false, ◌==◌, length, sym, subst, arith, nat_tests, is_slot, raised, is_wanted_compatible, rows_of}
 use Rattle.krl_table.proofs.Calls.Raises.{IsGoing, begins, ends_rows, ends_taken, test_ends, goes}
 use Rattle.krl_table.proofs.table.Table.go_on.Goals as goal
 

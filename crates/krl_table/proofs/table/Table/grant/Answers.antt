@@ -1,9 +1,4 @@
-use Rattle.std.proofs.Common.{◌≡◌, ◌-◌, ◌++◌, [], ◌∷◌, IfSome, ◌<◌, length, sym, ap, subst, ◌∙◌}
-use Rattle.std.proofs.Math.Path.{fun_ext}
-use Rattle.krl_table.specs.Rows.{Rows}
-use Rattle.krl_table.specs.Calls.{raised_on, granted_first}
-use Rattle.krl_table.specs.Grants.{taken_after}
-use Rattle.krl_table.specs.Kept.{rows_of}
+use Rattle.krl_table.proofs.Names.{◌≡◌, ◌-◌, ◌++◌, [], ◌∷◌, IfSome, ◌<◌, length, sym, ap, subst, ◌∙◌, fun_ext, Rows, raised_on, granted_first, taken_after, rows_of}
 use Rattle.krl_table.proofs.Calls.Raises.{granted_from, taken_from, one_noted, unwrapped}
 use Rattle.krl_table.proofs.Calls.Fronts.{front_there}
 use Rattle.krl_table.proofs.table.Table.grant.Goals as goal

@@ -1,11 +1,5 @@
-use Rattle.std.proofs.Common.{◌≡◌, ◌-◌, ◌++◌, ◌∷◌, [], Bool, true, false, ◌&&◌, length, refl, sym, ap, subst, ◌∙◌, arith}
-use Rattle.std.proofs.Math.Path.{fun_ext}
-use Rattle.krl_durable.specs.Index.{slot_of, IsSlotOf}
-use Rattle.krl_table.specs.Rows.{Rows}
-use Rattle.krl_table.specs.Calls.{raised_on}
-use Rattle.krl_table.specs.Replies.{is_wanted_compatible}
-use Rattle.krl_table.specs.Grants.{nobody_waits, taken_after}
-use Rattle.krl_table.specs.Kept.{rows_of}
+use Rattle.krl_table.proofs.Names.{◌≡◌, ◌-◌, ◌++◌, ◌∷◌, [], Bool, true, false, ◌&&◌, length, refl, sym, ap, subst, ◌∙◌, arith, fun_ext, slot_of, IsSlotOf, Rows, raised_on, is_wanted_compatible}
+use Rattle.krl_table.proofs.Names.{nobody_waits, taken_after, rows_of}
 use Rattle.krl_table.proofs.Calls.Answering.{lacks_is}
 use Rattle.krl_table.proofs.Calls.Raises.{one_noted, unwrapped}
 use Rattle.krl_table.proofs.Calls.AtOnce.{at_once_is, at_once_granted, at_once_taken}

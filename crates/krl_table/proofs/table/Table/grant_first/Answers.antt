@@ -1,9 +1,4 @@
-use Rattle.std.proofs.Common.{◌≡◌, ◌≤◌, ◌<◌, true, IsSome, IfSome, sym, ap, subst, ◌∙◌}
-use Rattle.std.specs.FinMap.{get}
-use Rattle.krl_table.specs.Rows.{front_of}
-use Rattle.krl_table.specs.Replies.{is_wanted_compatible}
-use Rattle.krl_table.specs.Calls.{granted_first}
-use Rattle.krl_table.specs.Kept.{most_rows, rows_of, IsOver, AreListed}
+use Rattle.krl_table.proofs.Names.{◌≡◌, ◌≤◌, ◌<◌, true, IsSome, IfSome, sym, ap, subst, ◌∙◌, get, front_of, is_wanted_compatible, granted_first, most_rows, rows_of, IsOver, AreListed}
 use Rattle.krl_table.proofs.Rows.RowChanges.{set_rows}
 use Rattle.krl_table.proofs.Calls.Fronts.{front_client, granted_sound, granted_listed, granted_over}
 use Rattle.krl_table.proofs.Invariant.Sounds.{row_end}

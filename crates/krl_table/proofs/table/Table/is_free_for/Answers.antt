@@ -1,10 +1,4 @@
-use Rattle.std.proofs.Common.{◌≡◌, ◌&&◌, None, sym, ap, ◌∙◌}
-use Rattle.std.specs.Prelude.{option_copied}
-use Rattle.std.specs.FinMap.{get}
-use Rattle.krl_table.specs.Rows.{is_compatible_in_row, blank_row}
-use Rattle.krl_table.specs.Calls.{wanted}
-use Rattle.krl_table.specs.Grants.{nobody_waits}
-use Rattle.krl_table.specs.Kept.{row_there}
+use Rattle.krl_table.proofs.Names.{◌≡◌, ◌&&◌, None, sym, ap, ◌∙◌, option_copied, get, is_compatible_in_row, blank_row, wanted, nobody_waits, row_there}
 use Rattle.krl_table.proofs.Calls.Raises.{blank_is_compatible}
 use Rattle.krl_table.proofs.table.Table.is_free_for.Goals as goal
 

@@ -1,7 +1,4 @@
-use Rattle.std.proofs.Common.{◌≡◌, ◌≤◌, ◌<◌, ℕ, true, sym, ap, subst, ◌∙◌, arith}
-use Rattle.krl_durable.specs.Index.{Index, low_of, is_slot, IsSlotOf}
-use Rattle.krl_table.specs.Calls.{lowered}
-use Rattle.krl_table.specs.Kept.{most_rows, rows_of, IsOver}
+use Rattle.krl_table.proofs.Names.{◌≡◌, ◌≤◌, ◌<◌, ℕ, true, sym, ap, subst, ◌∙◌, arith, Index, low_of, is_slot, IsSlotOf, lowered, most_rows, rows_of, IsOver}
 use Rattle.krl_table.proofs.Invariant.Sounds.{listed_same}
 use Rattle.krl_table.proofs.Calls.Clears.{lowered_sound, lowered_queue, lowered_over, lowered_is, begins_past}
 use Rattle.krl_table.proofs.Calls.Clears.{begins_at}

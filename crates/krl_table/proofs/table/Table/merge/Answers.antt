@@ -1,14 +1,7 @@
-use Rattle.std.proofs.Common.{◌≡◌, ◌≤◌, ◌<◌, ℕ, suc, ◌+◌, sym, ap, subst, ◌∙◌, add-one, arith}
-use Rattle.krl_modes.specs.declared.point.TheConstants.{END}
-use Rattle.krl_modes.specs.declared.mode.Mode.{Mode}
+use Rattle.krl_table.proofs.Names.{◌≡◌, ◌≤◌, ◌<◌, ℕ, suc, ◌+◌, sym, ap, subst, ◌∙◌, add-one, arith, END, Mode, range_of, Index, slot_of, IsSlotOf, mode_at, merged, range_at, key_at, MayDelete}
+use Rattle.krl_table.proofs.Names.{most_rows, Kept, rows_of, IsOver}
 use Rattle.krl_modes.specs.declared.mode.Mode.TheVariants as mode
 use Rattle.krl_modes.specs.declared.part.RangePart.TheVariants as range
-use Rattle.krl_modes.specs.Modes.{range_of}
-use Rattle.krl_durable.specs.Index.{Index, slot_of, IsSlotOf}
-use Rattle.krl_table.specs.Rows.{mode_at}
-use Rattle.krl_table.specs.Calls.{merged}
-use Rattle.krl_table.specs.Points.{range_at, key_at, MayDelete}
-use Rattle.krl_table.specs.Kept.{most_rows, Kept, rows_of, IsOver}
 use Rattle.krl_table.proofs.Invariant.Sounds.{held_row}
 use Rattle.krl_table.proofs.Calls.Merges.{its_gap, its_next, under, merge_rows, merge_listed, merge_sound, merge_over, merge_ranges, merge_keys}
 use Rattle.krl_table.proofs.Invariant.Within.{merge_within}

@@ -1,7 +1,4 @@
-use Rattle.std.proofs.Common.{◌≤◌, ℕ, sym, ap, subst, ◌∙◌, arith}
-use Rattle.std.specs.FinMap.{get, get-empty}
-use Rattle.std.specs.Ordering.{nat_cmp}
-use Rattle.krl_table.specs.Kept.{most_rows}
+use Rattle.krl_table.proofs.Names.{◌≤◌, ℕ, sym, ap, subst, ◌∙◌, arith, get, get-empty, nat_cmp, most_rows}
 use Rattle.krl_table.proofs.Rows.Nothing.{nothing_sound, nothing_over, nothing_listed, nothing_rows}
 use Rattle.krl_table.proofs.Invariant.Rooms.{rows_are}
 use Rattle.krl_table.proofs.Invariant.Within.{none_within}

@@ -1,9 +1,4 @@
-use Rattle.std.proofs.Common.{◌≡◌, ℕ, suc, true, false, Option, Some, None, IfSome, sym, ap, subst, add-one, ◌∙◌, arith}
-use Rattle.std.proofs.lemmas.Bool.Decides.{nat_tests}
-use Rattle.std.specs.Prelude.{nat_lt}
-use Rattle.krl_modes.specs.declared.point.TheConstants.{END}
-use Rattle.krl_durable.specs.Index.{slot_of}
-use Rattle.krl_table.specs.Kept.{rows_of, IsTaken}
+use Rattle.krl_table.proofs.Names.{◌≡◌, ℕ, suc, true, false, Option, Some, None, IfSome, sym, ap, subst, add-one, ◌∙◌, arith, nat_tests, nat_lt, END, slot_of, rows_of, IsTaken}
 use Rattle.krl_table.proofs.Calls.Raises.{by_take}
 use Rattle.krl_table.proofs.table.Table.next_taken.Goals as goal
 

@@ -1,5 +1,4 @@
-use Rattle.std.proofs.Common.{◌≡◌, [], sym, subst}
-use Rattle.krl_table.specs.Kept.{rows_of}
+use Rattle.krl_table.proofs.Names.{◌≡◌, [], sym, subst, rows_of}
 use Rattle.krl_table.proofs.Rows.Counted.{no_queues, no_waiters}
 use Rattle.krl_table.proofs.table.Table.nobody_waits.Goals as goal
 

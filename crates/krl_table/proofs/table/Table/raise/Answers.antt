@@ -1,7 +1,4 @@
-use Rattle.std.proofs.Common.{◌≡◌, ◌≤◌, true, sym, ap, subst, ◌∙◌}
-use Rattle.krl_table.specs.Calls.{raised}
-use Rattle.krl_table.specs.Replies.{is_wanted_compatible}
-use Rattle.krl_table.specs.Kept.{most_rows, rows_of, IsOver}
+use Rattle.krl_table.proofs.Names.{◌≡◌, ◌≤◌, true, sym, ap, subst, ◌∙◌, raised, is_wanted_compatible, most_rows, rows_of, IsOver}
 use Rattle.krl_table.proofs.Rows.RowChanges.{set_rows}
 use Rattle.krl_table.proofs.Invariant.Rooms.{room_at}
 use Rattle.krl_table.proofs.Rows.Slots.{slot_end}

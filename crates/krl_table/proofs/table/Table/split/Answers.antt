@@ -1,15 +1,6 @@
-use Rattle.std.proofs.Common.{◌≡◌, ◌≤◌, ℕ, true, [], sym, ap, subst, ◌∙◌}
-use Rattle.krl_modes.specs.declared.point.TheConstants.{END}
-use Rattle.krl_modes.specs.declared.mode.Mode.{Mode}
+use Rattle.krl_table.proofs.Names.{◌≡◌, ◌≤◌, ℕ, true, [], sym, ap, subst, ◌∙◌, END, Mode, lets_insert, range_of, Index, slot_of, IsSlotOf, mode_at, split, range_at, key_at, MayInsert, most_rows}
+use Rattle.krl_table.proofs.Names.{Kept, rows_of, IsOver, extent_in, Lies}
 use Rattle.krl_modes.specs.declared.mode.Mode.TheVariants as mode
-use Rattle.krl_modes.specs.Parts.{lets_insert}
-use Rattle.krl_modes.specs.Modes.{range_of}
-use Rattle.krl_durable.specs.Index.{Index, slot_of, IsSlotOf}
-use Rattle.krl_table.specs.Rows.{mode_at}
-use Rattle.krl_table.specs.Calls.{split}
-use Rattle.krl_table.specs.Points.{range_at, key_at, MayInsert}
-use Rattle.krl_table.specs.Kept.{most_rows, Kept, rows_of, IsOver}
-use Rattle.krl_table.specs.Extents.{extent_in, Lies}
 use Rattle.krl_table.proofs.Invariant.Sounds.{held_row}
 use Rattle.krl_table.proofs.Invariant.Rooms.{room_new}
 use Rattle.krl_table.proofs.Calls.Splits.{apart, split_rows, split_listed, split_sound, split_over, split_ranges, split_keys, split_own}

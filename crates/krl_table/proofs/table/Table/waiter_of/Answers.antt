@@ -1,6 +1,4 @@
-use Rattle.std.proofs.Common.{◌≡◌, None, sym, ap, subst, ◌∙◌}
-use Rattle.krl_table.specs.Kept.{rows_of, IsOver}
-use Rattle.krl_table.specs.Rows.{waiter_of}
+use Rattle.krl_table.proofs.Names.{◌≡◌, None, sym, ap, subst, ◌∙◌, rows_of, IsOver, waiter_of}
 use Rattle.krl_table.specs.Sound.{IsTable}
 use Rattle.krl_table.proofs.Rows.Waiters.{none_waits, listed_waiter}
 use Rattle.krl_table.proofs.Invariant.Sounds.{sound_table}

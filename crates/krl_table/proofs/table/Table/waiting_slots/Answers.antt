@@ -1,7 +1,4 @@
-use Rattle.std.proofs.Common.{◌≡◌, ◌+◌, ◌≤◌, ◌++◌, ◌∷◌, [], suc, ℕ, sym, subst, add-one, arith}
-use Rattle.krl_durable.specs.Index.{Index, IsSlotOf}
-use Rattle.krl_modes.specs.declared.point.TheConstants.{END}
-use Rattle.krl_table.specs.Kept.{IsSound, AreListed}
+use Rattle.krl_table.proofs.Names.{◌≡◌, ◌+◌, ◌≤◌, ◌++◌, ◌∷◌, [], suc, ℕ, sym, subst, add-one, arith, Index, IsSlotOf, END, IsSound, AreListed}
 use Rattle.krl_table.proofs.Rows.NextWaiting.{AreFound, count_from, none_found, all_found, fewer_left, room_for_slot, one_found}
 use Rattle.krl_table.proofs.table.Table.waiting_slots.Goals as goal
 

@@ -1,5 +1,4 @@
-use Rattle.std.proofs.Common.{◌-◌, ◌+◌}
-use Rattle.krl_modes.specs.declared.point.TheConstants.{END}
+use Rattle.krl_table.proofs.Names.{◌-◌, ◌+◌, END}
 use Rattle.krl_table.proofs.Rows.Holds.{AreCounted}
 use Rattle.krl_table.proofs.table.shown.count_held.Given as goal
 

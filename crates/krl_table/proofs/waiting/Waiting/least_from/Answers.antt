@@ -1,5 +1,4 @@
-use Rattle.std.proofs.Common.{None, arith}
-use Rattle.std.proofs.lemmas.List.{get_or_default}
+use Rattle.krl_table.proofs.Names.{None, arith, get_or_default}
 use Rattle.krl_table.proofs.Rows.NextWaiting.{none_least, next_least, all_least}
 use Rattle.krl_table.proofs.waiting.Waiting.least_from.Goals as goal
 

@@ -1,6 +1,5 @@
-use Rattle.std.proofs.Common.{◌≡◌, ℕ, zero, suc, None, refl}
+use Rattle.krl_table.proofs.Names.{◌≡◌, ℕ, zero, suc, None, refl, waiter_in}
 use Rattle.std.proofs.Math.ListN.{replicate}
-use Rattle.krl_table.specs.Kept.{waiter_in}
 use Rattle.krl_table.proofs.waiting.Waiting.nobody.Goals as goal
 
 none_all : (n c : ℕ) → waiter_in (replicate n None) c ≡ None

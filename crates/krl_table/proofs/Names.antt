@@ -1,0 +1,42 @@
+-- The names that most proofs of this crate cite, passed on from one place. Declares nothing.
+pub use Rattle.std.proofs.Common.{slice_index_or, IsSome, T, nat_eq, ◌⊎◌, ◌||◌, ◌↔◌, suc, refl, ne_eqb, ◌≢◌, length, ◌∷◌, cond, arith, ⊎_elim, append_assoc, ◌∙◌, eq-eqb, drop, ◌&&◌, MatchOption, sym}
+pub use Rattle.std.proofs.Common.{◌++◌, ◌==◌, ltb-true, IfSome, Option, List, min, false, None, ◌≤◌, ◌-◌, inl, subst, length-append, ltb-false, Bool, ◌<◌, zero, ap, ℕ, add-one, eqb-true, not, inr}
+pub use Rattle.std.proofs.Common.{◌+◌, Some, map, ◌≡◌, set, [], true}
+pub use Rattle.std.proofs.Math.Path.{fun_ext}
+pub use Rattle.std.proofs.lemmas.Bool.{leb-true, eqb-false, or_from, cases_lt, and_parts}
+pub use Rattle.std.proofs.lemmas.Bool.Decides.{nat_tests}
+pub use Rattle.std.proofs.lemmas.List.{get_or-set_same, append-nil, get_or-set_other, get_or_default, length-set, drop_all}
+pub use Rattle.std.proofs.lemmas.List.Sums.{length-filter, sum_by-cons, sum_by-append}
+pub use Rattle.std.specs.FinMap.{get-empty, remove, insert, get-insert, get, get-remove, FinMap}
+pub use Rattle.std.specs.List.{count_by, list_all, filter, AllByRecursion}
+pub use Rattle.std.specs.Ordering.{is_lt, eq_by_cmp, nat_cmp}
+pub use Rattle.std.specs.Prelude.{nat_le, slice_get, if◌then◌else◌, nat_lt, find, is_some, option_copied}
+pub use Rattle.krl_durable.specs.Index.{slot_of, Index, low_of, IsSlotOf, span_of, is_slot, slots}
+pub use Rattle.krl_messages.proofs.Members.{in_right, in_both, in_left, in_to_all}
+pub use Rattle.krl_messages.specs.Members.{In}
+pub use Rattle.krl_messages.specs.Values.{Value}
+pub use Rattle.krl_messages.specs.declared.pieces.Pieces.{Pieces}
+pub use Rattle.krl_modes.specs.Modes.{range_of, needs_entry, key_of, at_most, compatible, meet, at_or_above}
+pub use Rattle.krl_modes.specs.Parts.{ranges_compatible, is_key_X, keys_compatible, range_join, key_join, lets_insert}
+pub use Rattle.krl_modes.specs.Spans.{Bounds, meets, within}
+pub use Rattle.krl_modes.specs.declared.mode.Mode.{Mode}
+pub use Rattle.krl_modes.specs.declared.part.KeyPart.{KeyPart}
+pub use Rattle.krl_modes.specs.declared.part.RangePart.{RangePart}
+pub use Rattle.krl_modes.specs.declared.point.TheConstants.{END, TOP}
+pub use Rattle.krl_queue.specs.Waiting.{first_of, up_to, without_first, beyond}
+pub use Rattle.krl_queue.specs.declared.waiter.Waiter.{Waiter}
+pub use Rattle.krl_table.specs.Calls.{split, with_queue, wanted, behind_first, raised, granted_first, mode_beside, split_at, merged, queue_with, cleared, merge_into, split_modes, unqueue, lowered}
+pub use Rattle.krl_table.specs.Calls.{enqueued, with_mode, raised_on, grant_first}
+pub use Rattle.krl_table.specs.Extents.{IsFreeOf, AreWithin, cleared_within, Lies, nowhere, AreWider, extent_in}
+pub use Rattle.krl_table.specs.Grants.{taken_after, taken_by, can_take, granted, granted_by, nobody_waits, is_granted_at_once, most_more, goes_on, taken}
+pub use Rattle.krl_table.specs.Kept.{IsLeastPoint, row_takes, lesser_point, IsSound, rows_of, IsOver, AreCompatible, IsAll, IsTaken, Kept, times, row_there, AreSet, mode_of, cleared_row}
+pub use Rattle.krl_table.specs.Kept.{lowered_between, lesser, unlisted, waiter_in, IsSet, AreListed, row_of, AllWaitBelow}
+unfoldable pub use Rattle.krl_table.specs.Kept.{most_rows}
+pub use Rattle.krl_table.specs.Points.{MayInsert, key_off_slot, range_at, key_at, MayDelete}
+pub use Rattle.krl_table.specs.Replies.{first_reply, lacks_entry, answerable, row_reply, is_wanted_compatible, asks_absent, first_reply_on}
+pub use Rattle.krl_table.specs.ReportSweep.{IsNextReported, ReportsSame, NothingFrom, BeginsSpan, SameKeys, RangesRise, SameRanges, RangesOff, KeysRise, KeysOff}
+pub use Rattle.krl_table.specs.Reports.{reported_key, rebuilt, adopted, conflicts, reported_range}
+pub use Rattle.krl_table.specs.Rows.{Rows, mode_at, Row, front_of, is_compatible_in_row, waiter_at, all_below, waiter_of, blank_row, set_row, set_mode, is_compatible_there}
+unfoldable pub use Rattle.krl_table.specs.Rows.{most_clients}
+pub use Rattle.krl_table.specs.declared.extent.Extent.{Extent}
+pub use Rattle.krl_table.specs.declared.row.SlotRow.{SlotRow}
