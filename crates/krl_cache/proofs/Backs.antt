@@ -1,20 +1,8 @@
 -- A walk back over the starts of a map, step by step.
-use Rattle.std.proofs.Common.{◌≡◌, ℕ, suc, ◌+◌, ◌-◌, ◌≤◌, ◌<◌, inl, inr, Bool, true, false, cond, not, ◌&&◌, length, List, [], ◌∷◌, ◌++◌, Option, None, Some, refl, sym, ap, subst, ◌∙◌, arith}
-use Rattle.std.specs.Ordering.{nat_cmp, is_lt}
-use Rattle.std.specs.List.{filter}
-use Rattle.std.specs.List.Sorted.{IsStrictlySortedBy}
-use Rattle.std.specs.Map.{keys_of}
-use Rattle.std.specs.BTreeMap.{is_at}
-use Rattle.std.specs.BTreeMap.Range.{entries_between}
-use Rattle.std.specs.declared.ops.Bound.TheVariants.{Included, Unbounded}
-use Rattle.std.proofs.lemmas.List.{length_push}
+use Rattle.krl_cache.proofs.Names.{◌≡◌, ℕ, suc, ◌+◌, ◌-◌, ◌≤◌, ◌<◌, inl, inr, Bool, true, false, cond, not, ◌&&◌, length, List, [], ◌∷◌, ◌++◌, Option, None, Some, refl, sym, ap, subst, ◌∙◌, arith}
+use Rattle.krl_cache.proofs.Names.{nat_cmp, is_lt, filter, IsStrictlySortedBy, keys_of, is_at, entries_between, Included, Unbounded, length_push, nat_tests, leb_tells, eqb_tells, RangePart, list_to}
+use Rattle.krl_cache.proofs.Names.{part_last, IsBelow, AreBefore, lies_in, at, IsFree, AreNext, HoldsBefore, Rise}
 use Rattle.std.proofs.lemmas.List.Elements.{filter_agree}
-use Rattle.std.proofs.lemmas.Bool.Decides.{nat_tests, leb_tells, eqb_tells}
-use Rattle.krl_modes.specs.declared.part.RangePart.{RangePart}
-use Rattle.krl_cache.specs.Backs.{list_to, part_last, IsBelow, AreBefore}
-use Rattle.krl_cache.specs.Lists.{lies_in}
-use Rattle.krl_cache.specs.Maps.{at, IsFree, AreNext, HoldsBefore}
-use Rattle.krl_cache.specs.Sifts.{Rise}
 use Rattle.krl_cache.proofs.Rests.{rise_of, at_before, apart, apart_after, alike, chosen_are_next}
 use Rattle.krl_cache.proofs.Starts.{part_none, part_holds, part_begins}
 

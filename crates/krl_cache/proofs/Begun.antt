@@ -1,17 +1,8 @@
 -- The pairs of a map in a span, where a walk over them begins.
-use Rattle.std.proofs.Common.{◌≡◌, ℕ, suc, ◌+◌, ◌≤◌, Bool, true, false, cond, length, take, drop, List, [], ◌∷◌, ◌++◌, append-nil, refl, sym, ap, subst, ◌∙◌, arith}
+use Rattle.krl_cache.proofs.Names.{◌≡◌, ℕ, suc, ◌+◌, ◌≤◌, Bool, true, false, cond, length, take, drop, List, [], ◌∷◌, ◌++◌, append-nil, refl, sym, ap, subst, ◌∙◌, arith, Less, Equal, Greater, filter}
+use Rattle.krl_cache.proofs.Names.{IsStrictlySortedBy, nat_cmp, keys_of, entries_between, Included, Excluded, take-append-drop, lies_in, RiseWithin, AreOut, Rise, Stands}
 use Rattle.std.specs.declared.cmp.Ordering.{Ordering}
-use Rattle.std.specs.declared.cmp.Ordering.TheVariants.{Less, Equal, Greater}
-use Rattle.std.specs.List.{filter}
-use Rattle.std.specs.List.Sorted.{IsStrictlySortedBy}
-use Rattle.std.specs.Ordering.{nat_cmp}
-use Rattle.std.specs.Map.{keys_of}
-use Rattle.std.specs.BTreeMap.Range.{entries_between}
-use Rattle.std.specs.declared.ops.Bound.TheVariants.{Included, Excluded}
 use Rattle.std_collections.specs.Btree.Order.{by, until, past}
-use Rattle.std.proofs.lemmas.List.{take-append-drop}
-use Rattle.krl_cache.specs.Lists.{lies_in, RiseWithin}
-use Rattle.krl_cache.specs.Sifts.{AreOut, Rise, Stands}
 use Rattle.krl_cache.proofs.Rests.{rise_of, between}
 use Rattle.krl_cache.proofs.Windows.{inside_window}
 

@@ -1,20 +1,7 @@
 -- Holdings side by side whose range parts agree, taken over at once.
-use Rattle.std.proofs.Common.{◌≡◌, ◌≢◌, inl, inr, ℕ, suc, ◌-◌, ◌≤◌, ◌<◌, Bool, true, false, cond, List, [], ◌∷◌, Option, None, IsSome, refl, sym, ap, subst, ◌∙◌, arith}
-use Rattle.std.specs.Prelude.{nat_eq}
-use Rattle.std.proofs.lemmas.Bool.Decides.{nat_tests, eqb_tells}
-use Rattle.std.proofs.lemmas.Bool.{or_parts}
-use Rattle.krl_modes.specs.declared.point.TheConstants.{TOP}
-use Rattle.krl_modes.specs.declared.part.RangePart.{RangePart}
-use Rattle.krl_modes.specs.declared.part.KeyPart.{KeyPart}
-use Rattle.krl_modes.specs.Parts.{reads_key}
-use Rattle.krl_modes.specs.Modes.{range_of, key_of}
-use Rattle.krl_modes.specs.Spans.{contains}
-use Rattle.krl_messages.specs.declared.holding.Holding.{Holding}
-use Rattle.krl_messages.specs.Several.{Ascend}
-use Rattle.krl_cache.specs.declared.entry.Entry.{Entry}
-use Rattle.krl_cache.specs.Beliefs.{is_span, is_last}
-use Rattle.krl_cache.specs.Lists.{lies_in, own_entry}
-use Rattle.krl_cache.specs.Several.{parts_after, entries_after, is_slot_of}
+use Rattle.krl_cache.proofs.Names.{◌≡◌, ◌≢◌, inl, inr, ℕ, suc, ◌-◌, ◌≤◌, ◌<◌, Bool, true, false, cond, List, [], ◌∷◌, Option, None, IsSome, refl, sym, ap, subst, ◌∙◌, arith, nat_eq, nat_tests}
+use Rattle.krl_cache.proofs.Names.{eqb_tells, or_parts, TOP, RangePart, KeyPart, reads_key, range_of, key_of, contains, Holding, Ascend, Entry, is_span, is_last, lies_in, own_entry, parts_after}
+use Rattle.krl_cache.proofs.Names.{entries_after, is_slot_of}
 use Rattle.krl_cache.specs.Joined.{AreJoined, AreHeld, HoldsAll}
 use Rattle.krl_cache.proofs.Rooms.{AreSpans, AreFrom, from_first, outside_entry}
 

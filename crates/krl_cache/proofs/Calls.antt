@@ -1,23 +1,10 @@
 -- Calls leave a belief.
 use Rattle.std.proofs.Common.{◌≡◌, ◌≢◌, ℕ, suc, ◌≤◌, ◌<◌, Bool, true, false, ◌&&◌, not, List, [], ◌∷◌, Option, Some, None, is_some, refl, sym, subst, arith, nat_lt, nat_le, if◌then◌else◌, leb-true, eqb-true}
-use Rattle.std.proofs.lemmas.Bool.{eqb-false, and_parts}
-use Rattle.std.proofs.lemmas.Bool.Decides.{nat_tests}
-use Rattle.krl_modes.specs.declared.point.TheConstants.{END, TOP}
-use Rattle.krl_modes.specs.declared.part.RangePart.{RangePart}
+use Rattle.krl_cache.proofs.Names.{eqb-false, and_parts, nat_tests, END, TOP, RangePart, KeyPart, Mode, range_meet, key_meet, reads_key, range_of, key_of, Bounds, contains, Value, Holding}
+use Rattle.krl_cache.proofs.Names.{AllByRecursion, has_its_value, same, ends_at_end, have_values, Belief, IsBelief, is_span, is_last, adopt, adopt_all, lower, CallsKeepBelief}
 use Rattle.krl_modes.specs.declared.part.RangePart.TheVariants as range
-use Rattle.krl_modes.specs.declared.part.KeyPart.{KeyPart}
 use Rattle.krl_modes.specs.declared.part.KeyPart.TheVariants as key
-use Rattle.krl_modes.specs.declared.mode.Mode.{Mode}
-use Rattle.krl_modes.specs.Parts.{range_meet, key_meet, reads_key}
-use Rattle.krl_modes.specs.Modes.{range_of, key_of}
-use Rattle.krl_modes.specs.Spans.{Bounds, contains}
 use Rattle.krl_modes.proofs.SpanLaws.{inside_span}
-use Rattle.krl_messages.specs.Values.{Value}
-use Rattle.krl_messages.specs.declared.holding.Holding.{Holding}
-use Rattle.std.specs.List.{AllByRecursion}
-use Rattle.krl_messages.specs.Holdings.{has_its_value, same, ends_at_end}
-use Rattle.krl_messages.specs.Several.{have_values}
-use Rattle.krl_cache.specs.Beliefs.{Belief, IsBelief, is_span, is_last, adopt, adopt_all, lower, CallsKeepBelief}
 use Rattle.krl_cache.proofs.Truths.{none_left, some_left}
 
 -- Points of the last slot

@@ -1,18 +1,10 @@
 -- Some pieces describe each belief, put together from its last point down. No call makes them.
-use Rattle.std.proofs.Common.{◌≡◌, ◌≢◌, ◌⊎◌, ℕ, zero, suc, ◌+◌, ◌≤◌, ◌<◌, inl, inr, Bool, true, false, ◌||◌, cond, List, [], ◌∷◌, refl, sym, ap, ◌∙◌, arith}
-use Rattle.std.specs.Prelude.{nat_eq}
-use Rattle.std.proofs.lemmas.Bool.Decides.{nat_tests, leb_tells, eqb_tells}
-use Rattle.krl_modes.specs.declared.point.TheConstants.{END, TOP}
-use Rattle.krl_modes.specs.declared.part.RangePart.{RangePart}
+use Rattle.krl_cache.proofs.Names.{◌≡◌, ◌≢◌, ◌⊎◌, ℕ, zero, suc, ◌+◌, ◌≤◌, ◌<◌, inl, inr, Bool, true, false, ◌||◌, cond, List, [], ◌∷◌, refl, sym, ap, ◌∙◌, arith, nat_eq, nat_tests, leb_tells}
+use Rattle.krl_cache.proofs.Names.{eqb_tells, END, TOP, RangePart, KeyPart, reads_key, contains, RangePiece, Belief, IsBelief, range_said, key_said, AreInOrder, DiffersFromNext, AreMerged}
+use Rattle.krl_cache.proofs.Names.{AreAscending, Describes, BeliefsAreDescribed}
 use Rattle.krl_modes.specs.declared.part.RangePart.TheVariants as range
-use Rattle.krl_modes.specs.declared.part.KeyPart.{KeyPart}
 use Rattle.krl_modes.specs.declared.part.KeyPart.TheVariants as key
-use Rattle.krl_modes.specs.Parts.{reads_key}
-use Rattle.krl_modes.specs.Spans.{contains}
-use Rattle.krl_messages.specs.declared.range_pieces.RangePiece.{RangePiece}
 use Rattle.krl_messages.specs.declared.key_pieces.KeyPiece.{KeyPiece}
-use Rattle.krl_cache.specs.Beliefs.{Belief, IsBelief}
-use Rattle.krl_cache.specs.Kept.{range_said, key_said, AreInOrder, DiffersFromNext, AreMerged, AreAscending, Describes, BeliefsAreDescribed}
 use Rattle.krl_messages.specs.declared.pieces.Pieces.{Pieces}
 use Rattle.krl_cache.proofs.Calls.{past_end}
 use Rattle.krl_cache.proofs.Windows.{before_window}

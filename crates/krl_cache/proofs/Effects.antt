@@ -1,19 +1,7 @@
 -- What adopting and lowering do, by what they do to the range parts and to the entries.
-use Rattle.std.proofs.Common.{◌≡◌, ℕ, Bool, true, false, cond, Option, None, Some, refl, sym, ap, ◌∙◌}
-use Rattle.std.specs.Option.{option_and_then}
-use Rattle.krl_modes.specs.declared.part.RangePart.{RangePart}
-use Rattle.krl_modes.specs.declared.part.KeyPart.{KeyPart}
+use Rattle.krl_cache.proofs.Names.{◌≡◌, ℕ, Bool, true, false, cond, Option, None, Some, refl, sym, ap, ◌∙◌, option_and_then, RangePart, KeyPart, Mode, range_meet, key_meet, reads_key, range_of}
+use Rattle.krl_cache.proofs.Names.{key_of, Bounds, contains, Value, Holding, Entry, has_its_value, Belief, is_last, adopt, lower, part_of, value_of, belief_by, entry_of, entry_lowered, own_entry}
 use Rattle.krl_modes.specs.declared.part.KeyPart.TheVariants as key
-use Rattle.krl_modes.specs.declared.mode.Mode.{Mode}
-use Rattle.krl_modes.specs.Parts.{range_meet, key_meet, reads_key}
-use Rattle.krl_modes.specs.Modes.{range_of, key_of}
-use Rattle.krl_modes.specs.Spans.{Bounds, contains}
-use Rattle.krl_messages.specs.Values.{Value}
-use Rattle.krl_messages.specs.declared.holding.Holding.{Holding}
-use Rattle.krl_cache.specs.declared.entry.Entry.{Entry}
-use Rattle.krl_messages.specs.Holdings.{has_its_value}
-use Rattle.krl_cache.specs.Beliefs.{Belief, is_last, adopt, lower}
-use Rattle.krl_cache.specs.Lists.{part_of, value_of, belief_by, entry_of, entry_lowered, own_entry}
 use Rattle.krl_cache.proofs.Calls.{no_held}
 
 -- two beliefs that agree at each point are one

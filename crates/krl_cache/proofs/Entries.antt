@@ -1,18 +1,8 @@
 -- Entries in the order of their points, picked, and what is made of them.
-use Rattle.std.proofs.Common.{◌≡◌, ℕ, suc, ◌≤◌, ◌<◌, Bool, true, false, cond, max, List, [], ◌∷◌, map, Option, None, Some, refl, sym, ap, subst, ◌∙◌, arith}
-use Rattle.std.specs.Prelude.{nat_eq}
-use Rattle.std.specs.List.{filter_map, cons_option}
-use Rattle.std.specs.Option.{option_and_then}
-use Rattle.std.specs.Ordering.{nat_cmp, eq_by_cmp, is_lt}
-use Rattle.std.specs.FinMap.{find, is_sorted}
+use Rattle.krl_cache.proofs.Names.{◌≡◌, ℕ, suc, ◌≤◌, ◌<◌, Bool, true, false, cond, max, List, [], ◌∷◌, map, Option, None, Some, refl, sym, ap, subst, ◌∙◌, arith, nat_eq, filter_map, cons_option}
+use Rattle.krl_cache.proofs.Names.{option_and_then, nat_cmp, eq_by_cmp, is_lt, find, is_sorted, nat_tests, and_from, END, KeyPart, Entry, key_said, AreAscending, part_of, lies_in, pick, tagged}
+use Rattle.krl_cache.proofs.Names.{key_piece, RiseWithin, AreRead}
 use Rattle.std.specs.FinMap.Entries.{below_all}
-use Rattle.std.proofs.lemmas.Bool.Decides.{nat_tests}
-use Rattle.std.proofs.lemmas.Bool.{and_from}
-use Rattle.krl_modes.specs.declared.point.TheConstants.{END}
-use Rattle.krl_modes.specs.declared.part.KeyPart.{KeyPart}
-use Rattle.krl_cache.specs.declared.entry.Entry.{Entry}
-use Rattle.krl_cache.specs.Kept.{key_said, AreAscending}
-use Rattle.krl_cache.specs.Lists.{part_of, lies_in, pick, tagged, key_piece, RiseWithin, AreRead}
 use Rattle.krl_cache.proofs.Windows.{inside_window}
 
 pub rise_le : {A : Type 0} (a b : ℕ) (es : List (ℕ × A)) → RiseWithin a b es → a ≤ b

@@ -1,10 +1,5 @@
 -- The first pair of a map in a span.
-use Rattle.std.proofs.Common.{◌≡◌, ℕ, suc, ◌≤◌, ◌<◌, false, List, ◌∷◌, Option, Some, IsSome, IfSome, subst, arith}
-use Rattle.std.specs.Prelude.{slice_get}
-use Rattle.std.specs.declared.cmp.Ordering.TheVariants.{Less}
-use Rattle.std.specs.Ordering.{nat_cmp, is_gt}
-use Rattle.std.proofs.lemmas.Bool.Decides.{nat_tests}
-use Rattle.krl_cache.specs.Maps.{IsFirst}
+use Rattle.krl_cache.proofs.Names.{◌≡◌, ℕ, suc, ◌≤◌, ◌<◌, false, List, ◌∷◌, Option, Some, IsSome, IfSome, subst, arith, slice_get, Less, nat_cmp, is_gt, nat_tests, IsFirst}
 use Rattle.krl_cache.proofs.Starts.{none_unless}
 
 abbrev pub InRange : ℕ → ℕ → ℕ → Type 0

@@ -25,3 +25,4 @@ pub mod Merges
 pub mod Plans
 pub mod Crosses
 pub mod Windows
+mod Names

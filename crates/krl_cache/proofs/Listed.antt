@@ -1,14 +1,6 @@
 -- The entries of a span are the rows of a scan.
-use Rattle.std.proofs.Common.{◌≡◌, ℕ, ◌<◌, cond, List, Option, None, Some, refl, sym, ap, ◌∙◌, arith}
-use Rattle.std.specs.List.{filter_map}
-use Rattle.std.specs.Option.{option_and_then}
-use Rattle.std.specs.Ordering.{nat_cmp}
-use Rattle.std.specs.FinMap.{find, is_sorted}
-use Rattle.krl_modes.specs.Spans.{Bounds, contains}
-use Rattle.krl_messages.specs.Values.{Value}
-use Rattle.krl_cache.specs.declared.entry.Entry.{Entry}
-use Rattle.krl_cache.specs.Beliefs.{Belief, AreRows}
-use Rattle.krl_cache.specs.Lists.{value_of, pick, row_value, RiseWithin}
+use Rattle.krl_cache.proofs.Names.{◌≡◌, ℕ, ◌<◌, cond, List, Option, None, Some, refl, sym, ap, ◌∙◌, arith, filter_map, option_and_then, nat_cmp, find, is_sorted, Bounds, contains, Value, Entry}
+use Rattle.krl_cache.proofs.Names.{Belief, AreRows, value_of, pick, row_value, RiseWithin}
 use Rattle.krl_cache.proofs.Entries.{find-pick, rise-pick, rise_sorted}
 
 row_is_value : (o : Option Entry) → option_and_then row_value o ≡ value_of o

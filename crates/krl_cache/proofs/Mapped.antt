@@ -1,34 +1,13 @@
 -- What the maps of a cache stand for, after each call.
-use Rattle.std.proofs.Common.{◌≡◌, ℕ, suc, ◌≤◌, ◌<◌, inl, inr, Bool, true, false, cond, List, [], ◌∷◌, map, Option, None, Some, refl, sym, ap, subst, ◌∙◌, arith}
-use Rattle.std.specs.List.{filter, filter_map, cons_option}
-use Rattle.std.specs.List.Sorted.{IsStrictlySortedBy}
-use Rattle.std.specs.Option.{option_and_then}
-use Rattle.std.specs.Ordering.{nat_cmp, is_eq}
-use Rattle.std.specs.Map.{keys_of}
-use Rattle.std.specs.FinMap.{find}
-use Rattle.std.specs.BTreeMap.Range.{entries_between}
-use Rattle.std.specs.declared.ops.Bound.TheVariants.{Included, Excluded}
-use Rattle.std.proofs.lemmas.Bool.Decides.{nat_tests, eqb_tells}
-use Rattle.krl_modes.specs.declared.point.TheConstants.{TOP}
-use Rattle.krl_modes.specs.declared.part.RangePart.{RangePart}
-use Rattle.krl_modes.specs.declared.part.KeyPart.{KeyPart}
+use Rattle.krl_cache.proofs.Names.{◌≡◌, ℕ, suc, ◌≤◌, ◌<◌, inl, inr, Bool, true, false, cond, List, [], ◌∷◌, map, Option, None, Some, refl, sym, ap, subst, ◌∙◌, arith, filter, filter_map, cons_option}
+use Rattle.krl_cache.proofs.Names.{IsStrictlySortedBy, option_and_then, nat_cmp, is_eq, keys_of, find, entries_between, Included, Excluded, nat_tests, eqb_tells, TOP, RangePart, KeyPart, Mode}
+use Rattle.krl_cache.proofs.Names.{range_meet, key_meet, reads_key, range_of, key_of, Bounds, contains, Value, Holding, RangePiece, Entry, is_last, no_belief, AreRows, range_said, key_said}
+use Rattle.krl_cache.proofs.Names.{AreMerged, AreAscending, Describes, part_of, value_of, lies_in, pick, tagged, row_value, key_piece, entry_of, own_entry, entry_lowered, StandWithin, RiseWithin}
+use Rattle.krl_cache.proofs.Names.{AreRead, at, part_at, Maps, maps_believe, AreMapsKept, AreStartsMerged, EndsAlike, row_of, Rise}
 use Rattle.krl_modes.specs.declared.part.KeyPart.TheVariants as key
-use Rattle.krl_modes.specs.declared.mode.Mode.{Mode}
-use Rattle.krl_modes.specs.Parts.{range_meet, key_meet, reads_key}
-use Rattle.krl_modes.specs.Modes.{range_of, key_of}
-use Rattle.krl_modes.specs.Spans.{Bounds, contains}
-use Rattle.krl_messages.specs.Values.{Value}
-use Rattle.krl_messages.specs.declared.holding.Holding.{Holding}
-use Rattle.krl_messages.specs.declared.range_pieces.RangePiece.{RangePiece}
 use Rattle.krl_messages.specs.declared.key_pieces.KeyPiece.{KeyPiece}
-use Rattle.krl_cache.specs.declared.entry.Entry.{Entry}
-use Rattle.krl_cache.specs.Beliefs.{is_last, no_belief, AreRows}
-use Rattle.krl_cache.specs.Kept.{range_said, key_said, AreMerged, AreAscending, Describes}
-use Rattle.krl_cache.specs.Lists.{part_of, value_of, lies_in, pick, tagged, row_value, key_piece, entry_of, own_entry, entry_lowered, StandWithin, RiseWithin, AreRead}
-use Rattle.krl_cache.specs.Maps.{at, part_at, Maps, maps_believe, AreMapsKept, AreStartsMerged, EndsAlike, row_of}
 use Rattle.krl_cache.proofs.Effects.{same_belief}
 use Rattle.krl_cache.proofs.Starts.{part_none}
-use Rattle.krl_cache.specs.Sifts.{Rise}
 use Rattle.krl_cache.proofs.Rests.{rise_of, at_before, between}
 use Rattle.krl_cache.proofs.Pieces.{stand_in_order}
 use Rattle.krl_cache.proofs.Entries.{keys_say, keys_ascend}

@@ -1,10 +1,6 @@
 -- Starts that begin another part than held before them.
-use Rattle.std.proofs.Common.{◌≡◌, ◌≢◌, ◌⊎◌, inl, inr, ℕ, zero, suc, ◌-◌, ◌≤◌, ◌<◌, Bool, false, cond, Option, None, Some, refl, sym, ap, subst, ◌∙◌, arith}
-use Rattle.std.specs.Prelude.{nat_eq}
-use Rattle.std.proofs.lemmas.Bool.Decides.{nat_tests, eqb_tells, leb_tells}
-use Rattle.krl_modes.specs.declared.part.RangePart.{RangePart}
-use Rattle.krl_cache.specs.Lists.{lies_in}
-use Rattle.krl_cache.specs.Maps.{part_at, IsFree, HasEnds, IsChanged, KeepsParts, HoldsBefore, BeginsAnew, AreStartsMerged, lowered_part}
+use Rattle.krl_cache.proofs.Names.{◌≡◌, ◌≢◌, ◌⊎◌, inl, inr, ℕ, zero, suc, ◌-◌, ◌≤◌, ◌<◌, Bool, false, cond, Option, None, Some, refl, sym, ap, subst, ◌∙◌, arith, nat_eq, nat_tests, eqb_tells}
+use Rattle.krl_cache.proofs.Names.{leb_tells, RangePart, lies_in, part_at, IsFree, HasEnds, IsChanged, KeepsParts, HoldsBefore, BeginsAnew, AreStartsMerged, lowered_part}
 
 -- one part held before a point
 pub before_one : (f : ℕ → Option RangePart) (p : ℕ) (a b : RangePart) → HoldsBefore f p a → HoldsBefore f p b → a ≡ b

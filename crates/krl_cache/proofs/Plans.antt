@@ -1,18 +1,10 @@
 -- A part that is put on a span by what begins at its ends.
-use Rattle.std.proofs.Common.{◌≡◌, ◌≢◌, ◌⊎◌, inl, inr, ℕ, suc, ◌+◌, ◌-◌, ◌≤◌, ◌<◌, Bool, true, false, cond, List, Option, None, Some, refl, sym, ap, subst, ◌∙◌, arith}
-use Rattle.std.specs.Prelude.{nat_eq}
-use Rattle.std.specs.Option.{unwrap_or, option_and_then}
-use Rattle.std.specs.BTreeMap.{BTreeMap}
-use Rattle.std.proofs.lemmas.Bool.Decides.{nat_tests, eqb_tells, leb_tells}
-use Rattle.krl_modes.specs.declared.point.TheConstants.{TOP}
-use Rattle.krl_modes.specs.declared.part.RangePart.{RangePart}
+use Rattle.krl_cache.proofs.Names.{◌≡◌, ◌≢◌, ◌⊎◌, inl, inr, ℕ, suc, ◌+◌, ◌-◌, ◌≤◌, ◌<◌, Bool, true, false, cond, List, Option, None, Some, refl, sym, ap, subst, ◌∙◌, arith, nat_eq, unwrap_or}
+use Rattle.krl_cache.proofs.Names.{option_and_then, BTreeMap, nat_tests, eqb_tells, leb_tells, TOP, RangePart, Entry, lies_in, part_at, IsFree, HoldsBefore, BeginsAnew, AreStartsMerged, EndsAlike}
+use Rattle.krl_cache.proofs.Names.{IsChanged, IsUndone, gone, back_of, part_last, AreBefore, TakesFrom, Skips}
 use Rattle.krl_modes.specs.declared.part.RangePart.TheVariants as range
-use Rattle.krl_cache.specs.declared.entry.Entry.{Entry}
 use Rattle.krl_cache.specs.declared.adopt.Plan.{Plan}
-use Rattle.krl_cache.specs.Lists.{lies_in}
-use Rattle.krl_cache.specs.Maps.{part_at, IsFree, HoldsBefore, BeginsAnew, AreStartsMerged, EndsAlike, IsChanged, IsUndone, gone}
 use Rattle.krl_cache.specs.declared.back.Back.{Back}
-use Rattle.krl_cache.specs.Backs.{back_of, part_last, AreBefore, TakesFrom, Skips}
 use Rattle.krl_cache.specs.Plans.{IsBegun, part_taken, opened, open_at, placed, opens, closes, IsPlan, CanShut}
 use Rattle.krl_cache.proofs.Starts.{part_is, part_first, part_next}
 use Rattle.krl_cache.proofs.Spans.{inside}

@@ -1,18 +1,7 @@
 -- The pairs of an ordered map in a span, one after another.
-use Rattle.std.proofs.Common.{◌≡◌, ◌≢◌, ℕ, suc, ◌≤◌, ◌<◌, inl, inr, Bool, true, false, cond, List, [], ◌∷◌, Option, None, Some, refl, sym, subst, ◌∙◌, arith, ◌&&◌, not}
-use Rattle.std.specs.declared.cmp.Ordering.TheVariants.{Less}
-use Rattle.std.specs.List.{filter, AllByRecursion}
-use Rattle.std.specs.List.Sorted.{IsStrictlySortedBy}
-use Rattle.std.specs.Ordering.{nat_cmp, is_le}
-use Rattle.std.specs.Map.{keys_of}
-use Rattle.std.specs.BTreeMap.{is_at}
-use Rattle.std.specs.BTreeMap.Range.{entries_between}
-use Rattle.std.specs.declared.ops.Bound.TheVariants.{Included, Excluded}
+use Rattle.krl_cache.proofs.Names.{◌≡◌, ◌≢◌, ℕ, suc, ◌≤◌, ◌<◌, inl, inr, Bool, true, false, cond, List, [], ◌∷◌, Option, None, Some, refl, sym, subst, ◌∙◌, arith, ◌&&◌, not, Less, filter}
+use Rattle.krl_cache.proofs.Names.{AllByRecursion, IsStrictlySortedBy, nat_cmp, is_le, keys_of, is_at, entries_between, Included, Excluded, nat_tests, leb_tells, lies_in, at, IsFree, AreNext, Rise}
 use Rattle.std.proofs.lemmas.List.Elements.{filter_agree}
-use Rattle.std.proofs.lemmas.Bool.Decides.{nat_tests, leb_tells}
-use Rattle.krl_cache.specs.Lists.{lies_in}
-use Rattle.krl_cache.specs.Maps.{at, IsFree, AreNext}
-use Rattle.krl_cache.specs.Sifts.{Rise}
 use Rattle.krl_cache.proofs.Windows.{inside_window}
 
 above : {V : Type 0} (k : ℕ) (es : List (ℕ × V)) → AllByRecursion (λ y. nat_cmp k y ≡ Less) (keys_of es) → IsStrictlySortedBy nat_cmp (keys_of es) → Rise (suc k) es

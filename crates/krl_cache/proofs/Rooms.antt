@@ -1,24 +1,10 @@
 -- Several holdings that are taken over at once.
-use Rattle.std.proofs.Common.{◌≡◌, ◌≢◌, ◌⊎◌, inl, inr, ℕ, suc, ◌-◌, ◌≤◌, ◌<◌, Bool, true, false, ◌||◌, cond, List, [], ◌∷◌, Option, None, Some, IsSome, refl, sym, ap, subst, ◌∙◌, arith, eqb-true}
+use Rattle.krl_cache.proofs.Names.{◌≡◌, ◌≢◌, ◌⊎◌, inl, inr, ℕ, suc, ◌-◌, ◌≤◌, ◌<◌, Bool, true, false, ◌||◌, cond, List, [], ◌∷◌, Option, None, Some, IsSome, refl, sym, ap, subst, ◌∙◌, arith}
+use Rattle.krl_cache.proofs.Names.{eqb-true, AllByRecursion, BTreeMap, nat_tests, eqb_tells, TOP, RangePart, KeyPart, reads_key, range_of, key_of, Bounds, contains, Holding, has_its_value, IsBefore}
+use Rattle.krl_cache.proofs.Names.{Ascend, have_values, Entry, is_span, is_last, adopt_all, belief_by, lies_in, own_entry, at, part_at, Maps, AreMapsKept, AreStartsMerged, BeginsAnew, EndsAlike}
+use Rattle.krl_cache.proofs.Names.{KeepsParts, HasEnds, IsUndone, CanUndo, parts_after, entries_after, is_slot_of, is_end_of, AreMergedBetween, CanUndoBoth, AreReady, HasRoom}
 use Rattle.std.specs.Prelude.{nat_eq, nat_lt, nat_le, if◌then◌else◌}
-use Rattle.std.specs.List.{AllByRecursion}
-use Rattle.std.specs.BTreeMap.{BTreeMap}
-use Rattle.std.proofs.lemmas.Bool.Decides.{nat_tests, eqb_tells}
 use Rattle.std.proofs.lemmas.Bool.{and_parts, or_parts, ltb-true, leb-true}
-use Rattle.krl_modes.specs.declared.point.TheConstants.{TOP}
-use Rattle.krl_modes.specs.declared.part.RangePart.{RangePart}
-use Rattle.krl_modes.specs.declared.part.KeyPart.{KeyPart}
-use Rattle.krl_modes.specs.Parts.{reads_key}
-use Rattle.krl_modes.specs.Modes.{range_of, key_of}
-use Rattle.krl_modes.specs.Spans.{Bounds, contains}
-use Rattle.krl_messages.specs.declared.holding.Holding.{Holding}
-use Rattle.krl_messages.specs.Holdings.{has_its_value}
-use Rattle.krl_messages.specs.Several.{IsBefore, Ascend, have_values}
-use Rattle.krl_cache.specs.declared.entry.Entry.{Entry}
-use Rattle.krl_cache.specs.Beliefs.{is_span, is_last, adopt_all}
-use Rattle.krl_cache.specs.Lists.{belief_by, lies_in, own_entry}
-use Rattle.krl_cache.specs.Maps.{at, part_at, Maps, AreMapsKept, AreStartsMerged, BeginsAnew, EndsAlike, KeepsParts, HasEnds, IsUndone, CanUndo}
-use Rattle.krl_cache.specs.Several.{parts_after, entries_after, is_slot_of, is_end_of, AreMergedBetween, CanUndoBoth, AreReady, HasRoom}
 use Rattle.krl_cache.proofs.Effects.{adopts}
 use Rattle.krl_cache.proofs.Starts.{IsMarked, part_marked}
 use Rattle.krl_cache.proofs.Marks.{some_of, restored}

@@ -1,12 +1,6 @@
 -- A walk over the parts of a span, and over the entries where the part doesn't tell.
-use Rattle.std.proofs.Common.{◌≡◌, ℕ, suc, ◌+◌, ◌≤◌, ◌<◌, inl, inr, Bool, true, false, List, [], ◌∷◌, Option, None, Some, MatchOption, sym, ap, subst, ◌∙◌, arith}
-use Rattle.std.proofs.lemmas.Bool.Decides.{leb_tells}
-use Rattle.krl_modes.specs.declared.part.RangePart.{RangePart}
-use Rattle.krl_cache.specs.declared.entry.Entry.{Entry}
-use Rattle.krl_cache.specs.Beliefs.{is_covered, CoversAll, IsLeastUncovered}
-use Rattle.krl_cache.specs.Lists.{belief_by}
-use Rattle.krl_cache.specs.Maps.{part_at, IsFree, IsFirst, AreNext}
-use Rattle.krl_cache.specs.Walks.{is_known, AreKnown, IsGap}
+use Rattle.krl_cache.proofs.Names.{◌≡◌, ℕ, suc, ◌+◌, ◌≤◌, ◌<◌, inl, inr, Bool, true, false, List, [], ◌∷◌, Option, None, Some, MatchOption, sym, ap, subst, ◌∙◌, arith, leb_tells, RangePart, Entry}
+use Rattle.krl_cache.proofs.Names.{is_covered, CoversAll, IsLeastUncovered, belief_by, part_at, IsFree, IsFirst, AreNext, is_known, AreKnown, IsGap}
 use Rattle.krl_cache.proofs.Starts.{part_holds, part_begins}
 
 -- how far a walk has come: what lies before p is known, and this part holds from p to where the next begins

@@ -1,14 +1,7 @@
 -- What a walk over a span makes of what stands at a point.
-use Rattle.std.proofs.Common.{◌≡◌, ◌≢◌, ◌⊎◌, inl, inr, ℕ, suc, ◌≤◌, ◌<◌, Bool, true, false, cond, List, [], ◌∷◌, ◌++◌, Option, None, Some, refl, sym, ap, subst, ◌∙◌, arith}
-use Rattle.std.specs.Option.{option_and_then}
-use Rattle.std.specs.Ordering.{nat_cmp}
-use Rattle.std.specs.BTreeMap.{is_at}
-use Rattle.std.specs.Prelude.{nat_eq}
-use Rattle.std.proofs.lemmas.Bool.Decides.{nat_tests, eqb_tells, leb_tells}
-use Rattle.krl_modes.specs.declared.part.RangePart.{RangePart}
-use Rattle.krl_cache.specs.Lists.{lies_in, RiseWithin}
-use Rattle.krl_cache.specs.Maps.{at, part_at, IsChanged, KeepsParts, HoldsBefore, BeginsAnew}
-use Rattle.krl_cache.specs.Sifts.{AreOut, Rise, Sifts, IsSifted}
+use Rattle.krl_cache.proofs.Names.{◌≡◌, ◌≢◌, ◌⊎◌, inl, inr, ℕ, suc, ◌≤◌, ◌<◌, Bool, true, false, cond, List, [], ◌∷◌, ◌++◌, Option, None, Some, refl, sym, ap, subst, ◌∙◌, arith, option_and_then}
+use Rattle.krl_cache.proofs.Names.{nat_cmp, is_at, nat_eq, nat_tests, eqb_tells, leb_tells, RangePart, lies_in, RiseWithin, at, part_at, IsChanged, KeepsParts, HoldsBefore, BeginsAnew, AreOut, Rise}
+use Rattle.krl_cache.proofs.Names.{Sifts, IsSifted}
 use Rattle.krl_cache.proofs.Rests.{at_before}
 use Rattle.krl_cache.proofs.Starts.{merged, gone_here, holds_later, holds_next, keeps_on}
 use Rattle.krl_cache.proofs.Merges.{anew_none, anew_here, anew_kept}

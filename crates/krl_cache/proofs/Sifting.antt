@@ -1,24 +1,16 @@
 -- A walk over the pairs of a map in a span, step by step, till the test was asked of each.
-use Rattle.std.proofs.Common.{◌≡◌, ℕ, suc, ◌+◌, ◌≤◌, Bool, true, false, cond, length, take, drop, List, [], ◌∷◌, ◌++◌, Option, None, Some, IfSome, append_assoc, refl, sym, ap, subst, ◌∙◌, arith}
+use Rattle.krl_cache.proofs.Names.{◌≡◌, ℕ, suc, ◌+◌, ◌≤◌, Bool, true, false, cond, length, take, drop, List, [], ◌∷◌, ◌++◌, Option, None, Some, IfSome, append_assoc, refl, sym, ap, subst, ◌∙◌, arith}
+use Rattle.krl_cache.proofs.Names.{option_to_list, IsStrictlySortedBy, nat_cmp, keys_of, BTreeMap, entries_between, Included, Excluded, take-append-drop, drop-drop, RiseWithin, Rise, Sifts, IsSifted}
+use Rattle.krl_cache.proofs.Names.{Stands, StandsAt}
 use Rattle.std.specs.declared.cmp.Ordering.{Ordering}
-use Rattle.std.specs.Option.{option_to_list}
 use Rattle.std.specs.Bool.{MatchBool}
 use Rattle.std.specs.List.Retain.{ExtractsNext}
-use Rattle.std.specs.List.Sorted.{IsStrictlySortedBy}
-use Rattle.std.specs.Ordering.{nat_cmp}
-use Rattle.std.specs.Map.{keys_of}
-use Rattle.std.specs.BTreeMap.{BTreeMap}
-use Rattle.std.specs.BTreeMap.Range.{entries_between}
-use Rattle.std.specs.declared.ops.Bound.TheVariants.{Included, Excluded}
 use Rattle.std_collections.specs.declared.btree_map.extract.Cursor.{Cursor}
 use Rattle.std_collections.specs.Btree.Order.{until, past}
 use Rattle.std_collections.specs.Layout.Retain.{CallAtEntry}
 use Rattle.std_collections.specs.Layout.BTreeMap.{index_at}
 use Rattle.std_collections.specs.Layout.BTreeMapExtract.{ExtractsAt, ExtractsUp, extract_rest}
-use Rattle.std.proofs.lemmas.List.{take-append-drop, drop-drop}
 use Rattle.std.proofs.Math.Seq.{drop-append_seam}
-use Rattle.krl_cache.specs.Lists.{RiseWithin}
-use Rattle.krl_cache.specs.Sifts.{Rise, Sifts, IsSifted, Stands, StandsAt}
 use Rattle.krl_cache.proofs.Begun.{rise_less, until_past, starts_off, empty_span}
 
 -- Lists whose keys rise

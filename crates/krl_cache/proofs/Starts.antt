@@ -1,12 +1,7 @@
 -- The part at a point, by the points where parts begin.
-use Rattle.std.proofs.Common.{◌≡◌, ◌≢◌, ℕ, zero, suc, ◌+◌, ◌-◌, ◌≤◌, ◌<◌, ◌⊎◌, inl, inr, Bool, true, false, cond, Option, None, Some, IsSome, refl, sym, ap, subst, ◌∙◌, arith}
-use Rattle.std.specs.Prelude.{nat_eq}
-use Rattle.std.specs.Option.{unwrap_or}
-use Rattle.std.specs.Ordering.{nat_cmp, is_gt, is_lt}
-use Rattle.std.proofs.lemmas.Bool.Decides.{nat_tests, eqb_tells}
-use Rattle.krl_modes.specs.declared.part.RangePart.{RangePart}
+use Rattle.krl_cache.proofs.Names.{◌≡◌, ◌≢◌, ℕ, zero, suc, ◌+◌, ◌-◌, ◌≤◌, ◌<◌, ◌⊎◌, inl, inr, Bool, true, false, cond, Option, None, Some, IsSome, refl, sym, ap, subst, ◌∙◌, arith, nat_eq, unwrap_or}
+use Rattle.krl_cache.proofs.Names.{nat_cmp, is_gt, is_lt, nat_tests, eqb_tells, RangePart, part_at, IsFree, KeepsParts, HoldsBefore}
 use Rattle.krl_modes.specs.declared.part.RangePart.TheVariants as range
-use Rattle.krl_cache.specs.Maps.{part_at, IsFree, KeepsParts, HoldsBefore}
 
 pub part_first : (f : ℕ → Option RangePart) → part_at f 0 ≡ unwrap_or (f 0) range.N
 unfolding part_at

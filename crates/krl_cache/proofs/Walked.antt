@@ -1,14 +1,7 @@
 -- A walk over the entries of a span where one part holds.
-use Rattle.std.proofs.Common.{◌≡◌, ℕ, ◌+◌, ◌≤◌, ◌<◌, inl, inr, Bool, true, false, ◌&&◌, ◌||◌, List, [], ◌∷◌, Option, None, Some, refl, sym, ap, subst, ◌∙◌, arith}
-use Rattle.std.specs.Prelude.{nat_eq}
-use Rattle.std.proofs.lemmas.Bool.Decides.{leb_tells, eqb_tells}
-use Rattle.std.proofs.lemmas.Bool.{and_parts, or_parts, or_from, or_left, or_right}
-use Rattle.krl_modes.specs.declared.part.RangePart.{RangePart}
-use Rattle.krl_modes.specs.Parts.{reads_key, reads_gap}
-use Rattle.krl_cache.specs.declared.entry.Entry.{Entry}
-use Rattle.krl_cache.specs.Lists.{part_of}
-use Rattle.krl_cache.specs.Maps.{IsFree, IsFirst, AreNext}
-use Rattle.krl_cache.specs.Walks.{StandsFrom, TakesBelow, is_known, AreKnown, Walks}
+use Rattle.krl_cache.proofs.Names.{◌≡◌, ℕ, ◌+◌, ◌≤◌, ◌<◌, inl, inr, Bool, true, false, ◌&&◌, ◌||◌, List, [], ◌∷◌, Option, None, Some, refl, sym, ap, subst, ◌∙◌, arith, nat_eq, leb_tells, eqb_tells}
+use Rattle.krl_cache.proofs.Names.{and_parts, or_parts, or_from, or_left, or_right, RangePart, reads_key, reads_gap, Entry, part_of, IsFree, IsFirst, AreNext, StandsFrom, TakesBelow, is_known}
+use Rattle.krl_cache.proofs.Names.{AreKnown, Walks}
 use Rattle.krl_cache.proofs.Rests.{next_later}
 use Rattle.krl_cache.proofs.Scans.{next_head}
 

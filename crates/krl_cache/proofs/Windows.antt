@@ -1,7 +1,5 @@
 -- When a number lies in a window, from its first number up to its end.
-use Rattle.std.proofs.Common.{◌≡◌, ℕ, ◌≤◌, ◌<◌, true, false, arith}
-use Rattle.std.proofs.lemmas.Bool.Decides.{nat_tests}
-use Rattle.krl_cache.specs.Lists.{lies_in}
+use Rattle.krl_cache.proofs.Names.{◌≡◌, ℕ, ◌≤◌, ◌<◌, true, false, arith, nat_tests, lies_in}
 
 pub in_window : (lo hi q : ℕ) → lo ≤ q → q < hi → lies_in lo hi q ≡ true
 in_window lo hi q a b = grind (arith, nat_tests)

@@ -1,7 +1,4 @@
-use Rattle.std.proofs.Common.{ℕ, ◌<◌, cond, refl, ap, ◌∙◌, arith}
-use Rattle.krl_modes.specs.declared.part.RangePart.{RangePart}
-use Rattle.krl_cache.specs.Lists.{lies_in}
-use Rattle.krl_cache.specs.Maps.{at, part_at}
+use Rattle.krl_cache.proofs.Names.{ℕ, ◌<◌, cond, refl, ap, ◌∙◌, arith, RangePart, lies_in, at, part_at}
 use Rattle.krl_cache.proofs.Plans.{adopts_made, adopted_parts, adopted_merged}
 use Rattle.krl_cache.proofs.adopt.adopt.Goals as goal
 

@@ -1,5 +1,4 @@
-use Rattle.std.proofs.Common.{sym, subst, ◌∙◌}
-use Rattle.krl_cache.specs.Maps.{at, HoldsBefore}
+use Rattle.krl_cache.proofs.Names.{sym, subst, ◌∙◌, at, HoldsBefore}
 use Rattle.krl_cache.specs.Plans.{IsBegun}
 use Rattle.krl_cache.proofs.Plans.{looked}
 use Rattle.krl_cache.proofs.adopt.plan_of.Goals as goal

@@ -1,5 +1,4 @@
-use Rattle.krl_cache.specs.Lists.{entry_of}
-use Rattle.krl_cache.specs.Maps.{at}
+use Rattle.krl_cache.proofs.Names.{entry_of, at}
 use Rattle.krl_cache.proofs.Plans.{entries_put}
 use Rattle.krl_cache.proofs.adopt.put_entry.Goals as goal
 

@@ -1,7 +1,4 @@
-use Rattle.std.proofs.Common.{ℕ, List, ◌+◌, subst}
-use Rattle.krl_modes.specs.declared.part.RangePart.{RangePart}
-use Rattle.krl_cache.specs.Backs.{AreBefore}
-use Rattle.krl_cache.specs.Maps.{at}
+use Rattle.krl_cache.proofs.Names.{ℕ, List, ◌+◌, subst, RangePart, AreBefore, at}
 use Rattle.krl_cache.proofs.Backs.{range_is_before}
 use Rattle.krl_cache.proofs.back.back_from.Goals as goal
 

@@ -1,6 +1,5 @@
-use Rattle.std.proofs.Common.{subst, sym}
+use Rattle.krl_cache.proofs.Names.{subst, sym, back_of, IsBelow}
 use Rattle.krl_cache.specs.declared.back.Back.{Back}
-use Rattle.krl_cache.specs.Backs.{back_of, IsBelow}
 use Rattle.krl_cache.proofs.Backs.{Comes, comes_on, comes_out}
 use Rattle.krl_cache.proofs.back.skip_to.Goals as goal
 

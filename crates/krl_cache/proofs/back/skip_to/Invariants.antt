@@ -1,5 +1,4 @@
-use Rattle.std.proofs.Common.{length}
-use Rattle.krl_cache.specs.Backs.{back_of}
+use Rattle.krl_cache.proofs.Names.{length, back_of}
 use Rattle.krl_cache.proofs.Backs.{Comes}
 use Rattle.krl_cache.proofs.back.skip_to.Given as goal
 

@@ -1,5 +1,4 @@
-use Rattle.std.proofs.Common.{refl, sym, ◌∙◌}
-use Rattle.krl_cache.specs.Maps.{at, part_at}
+use Rattle.krl_cache.proofs.Names.{refl, sym, ◌∙◌, at, part_at}
 use Rattle.krl_cache.proofs.Plans.{adopts_made, adopted_parts, adopted_merged, adopted_ends}
 use Rattle.krl_cache.proofs.Rooms.{entries_same}
 use Rattle.krl_cache.proofs.Beside.{joined_below, joined_spans, joined_parts}

@@ -1,9 +1,4 @@
-use Rattle.std.proofs.Common.{◌≡◌, ◌+◌, ◌∷◌, cond, drop, None, sym, ap, subst, ◌∙◌}
-use Rattle.std.proofs.lemmas.List.{drop_more}
-use Rattle.krl_modes.specs.Spans.{contains}
-use Rattle.krl_cache.specs.Beliefs.{is_last}
-use Rattle.krl_cache.specs.Lists.{entry_of}
-use Rattle.krl_cache.specs.Maps.{at}
+use Rattle.krl_cache.proofs.Names.{◌≡◌, ◌+◌, ◌∷◌, cond, drop, None, sym, ap, subst, ◌∙◌, drop_more, contains, is_last, entry_of, at}
 use Rattle.krl_cache.proofs.Beside.{IsSetting, setting_goes}
 use Rattle.krl_cache.proofs.joined.set_all.Goals as goal
 

@@ -1,5 +1,4 @@
-use Rattle.std.proofs.Common.{drop}
-use Rattle.krl_cache.specs.Maps.{at}
+use Rattle.krl_cache.proofs.Names.{drop, at}
 use Rattle.krl_cache.proofs.Beside.{IsSetting}
 use Rattle.krl_cache.proofs.joined.set_all.Given as goal
 

@@ -1,7 +1,5 @@
 use Rattle.std.proofs.Common.{ℕ, BTreeMap, sym, subst, ◌∙◌, rules}
-use Rattle.krl_cache.specs.declared.entry.Entry.{Entry}
-use Rattle.krl_cache.specs.Lists.{entry_lowered}
-use Rattle.krl_cache.specs.Maps.{at, IsChanged}
+use Rattle.krl_cache.proofs.Names.{Entry, entry_lowered, at, IsChanged}
 use Rattle.krl_cache.proofs.Sifting.{walk_starts}
 use Rattle.krl_cache.proofs.Sifted.{sifted_changes}
 use Rattle.krl_cache.proofs.maps.lower_entries.Goals as goal

@@ -1,6 +1,5 @@
 use Rattle.std.proofs.Common.{ℕ, BTreeMap, sym, subst, ◌∙◌, rules}
-use Rattle.krl_modes.specs.declared.part.RangePart.{RangePart}
-use Rattle.krl_cache.specs.Maps.{at, IsChanged, lowered_part}
+use Rattle.krl_cache.proofs.Names.{RangePart, at, IsChanged, lowered_part}
 use Rattle.krl_cache.proofs.Sifting.{walk_starts}
 use Rattle.krl_cache.proofs.Sifted.{sifted_changes}
 use Rattle.krl_cache.proofs.maps.meet_all.Goals as goal

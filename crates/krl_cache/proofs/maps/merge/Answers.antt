@@ -1,6 +1,5 @@
 use Rattle.std.proofs.Common.{ℕ, ◌+◌, BTreeMap, sym, subst, ◌∙◌, rules, arith}
-use Rattle.krl_modes.specs.declared.part.RangePart.{RangePart}
-use Rattle.krl_cache.specs.Maps.{at, KeepsParts, BeginsAnew}
+use Rattle.krl_cache.proofs.Names.{RangePart, at, KeepsParts, BeginsAnew}
 use Rattle.krl_cache.proofs.Sifting.{walk_starts}
 use Rattle.krl_cache.proofs.Sifted.{sifted_merges}
 use Rattle.krl_cache.proofs.maps.merge.Goals as goal

@@ -1,5 +1,4 @@
-use Rattle.std.proofs.Common.{◌-◌, refl, ap}
-use Rattle.krl_cache.specs.Maps.{at}
+use Rattle.krl_cache.proofs.Names.{◌-◌, refl, ap, at}
 use Rattle.krl_cache.proofs.Marks.{undone}
 use Rattle.krl_cache.proofs.Rooms.{room_step, stays_here}
 use Rattle.krl_cache.proofs.several.+make_room.Goals as goal

@@ -1,6 +1,4 @@
-use Rattle.std.proofs.Common.{ap, ◌∙◌}
-use Rattle.krl_cache.specs.Maps.{at}
-use Rattle.krl_cache.specs.Several.{parts_after}
+use Rattle.krl_cache.proofs.Names.{ap, ◌∙◌, at, parts_after}
 use Rattle.krl_cache.proofs.Starts.{part_marked}
 use Rattle.krl_cache.proofs.Rooms.{room_marked, room_merged, anew_all, entries_same}
 use Rattle.krl_cache.proofs.several.adopt_apart.Goals as goal

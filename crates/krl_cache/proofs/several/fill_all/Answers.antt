@@ -1,10 +1,4 @@
-use Rattle.std.proofs.Common.{◌≡◌, ◌+◌, ◌∷◌, cond, drop, Some, None, sym, ap, subst, ◌∙◌}
-use Rattle.std.proofs.lemmas.List.{drop_more}
-use Rattle.std.specs.Prelude.{nat_eq}
-use Rattle.krl_modes.specs.Spans.{contains}
-use Rattle.krl_cache.specs.Beliefs.{is_last}
-use Rattle.krl_cache.specs.Lists.{lies_in, entry_of}
-use Rattle.krl_cache.specs.Maps.{at}
+use Rattle.krl_cache.proofs.Names.{◌≡◌, ◌+◌, ◌∷◌, cond, drop, Some, None, sym, ap, subst, ◌∙◌, drop_more, nat_eq, contains, is_last, lies_in, entry_of, at}
 use Rattle.krl_cache.proofs.Rooms.{IsFilling, filling_goes}
 use Rattle.krl_cache.proofs.several.fill_all.Goals as goal
 

@@ -1,5 +1,4 @@
-use Rattle.std.proofs.Common.{refl}
-use Rattle.krl_cache.specs.Maps.{at, part_at}
+use Rattle.krl_cache.proofs.Names.{refl, at, part_at}
 use Rattle.krl_cache.proofs.Marks.{restored, has_ends}
 use Rattle.krl_cache.proofs.several.mark.Goals as goal
 

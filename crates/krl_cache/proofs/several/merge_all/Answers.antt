@@ -1,7 +1,4 @@
-use Rattle.std.proofs.Common.{◌≡◌, ◌+◌, ◌∷◌, drop, false, sym, ap, subst, ◌∙◌}
-use Rattle.std.proofs.lemmas.List.{drop_more}
-use Rattle.krl_cache.specs.Maps.{at, BeginsAnew}
-use Rattle.krl_cache.specs.Several.{is_end_of}
+use Rattle.krl_cache.proofs.Names.{◌≡◌, ◌+◌, ◌∷◌, drop, false, sym, ap, subst, ◌∙◌, drop_more, at, BeginsAnew, is_end_of}
 use Rattle.krl_cache.proofs.Starts.{keeps_on}
 use Rattle.krl_cache.proofs.Rooms.{anew_more}
 use Rattle.krl_cache.proofs.several.merge_all.Goals as goal

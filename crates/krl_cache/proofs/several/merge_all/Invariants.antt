@@ -1,6 +1,4 @@
-use Rattle.std.proofs.Common.{◌≡◌, ℕ, true, false, drop}
-use Rattle.krl_cache.specs.Maps.{at, KeepsParts, BeginsAnew}
-use Rattle.krl_cache.specs.Several.{is_end_of}
+use Rattle.krl_cache.proofs.Names.{◌≡◌, ℕ, true, false, drop, at, KeepsParts, BeginsAnew, is_end_of}
 use Rattle.krl_cache.proofs.several.merge_all.Given as goal
 
 abbrev pub invariant-loop-holding : goal.invariant-loop-holding

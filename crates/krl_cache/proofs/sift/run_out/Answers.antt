@@ -1,8 +1,6 @@
-use Rattle.std.proofs.Common.{ℕ, refl, ◌∙◌}
-use Rattle.std.specs.Ordering.{nat_cmp}
+use Rattle.krl_cache.proofs.Names.{ℕ, refl, ◌∙◌, nat_cmp, Excluded}
 use Rattle.std.specs.Map.Calls.{CalledAtPair}
 use Rattle.std.specs.declared.ops.Range.{Range}
-use Rattle.std.specs.declared.ops.Bound.TheVariants.{Excluded}
 use Rattle.std_collections.specs.Layout.BTreeMapQueries.{end_test}
 use Rattle.krl_cache.proofs.Sifting.{walks_on, walks_out}
 use Rattle.krl_cache.proofs.sift.run_out.Goals as goal

@@ -1,10 +1,7 @@
-use Rattle.std.proofs.Common.{ℕ, ◌≡◌, List}
-use Rattle.std.specs.Ordering.{nat_cmp}
+use Rattle.krl_cache.proofs.Names.{ℕ, ◌≡◌, List, nat_cmp, Excluded, StandsAt}
 use Rattle.std.specs.Map.Calls.{CalledAtPair}
 use Rattle.std.specs.declared.ops.Range.{Range}
-use Rattle.std.specs.declared.ops.Bound.TheVariants.{Excluded}
 use Rattle.std_collections.specs.Layout.BTreeMapQueries.{end_test}
-use Rattle.krl_cache.specs.Sifts.{StandsAt}
 use Rattle.krl_cache.proofs.sift.run_out.Given as goal
 
 abbrev pub invariant-loop : goal.invariant-loop

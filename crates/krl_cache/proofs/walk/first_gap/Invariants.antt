@@ -1,5 +1,4 @@
-use Rattle.std.proofs.Common.{length}
-use Rattle.krl_cache.specs.Walks.{left_of}
+use Rattle.krl_cache.proofs.Names.{length, left_of}
 use Rattle.krl_cache.proofs.Walked.{Comes}
 use Rattle.krl_cache.proofs.walk.first_gap.Given as goal
 

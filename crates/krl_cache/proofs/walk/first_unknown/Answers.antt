@@ -1,6 +1,4 @@
-use Rattle.std.proofs.Common.{◌+◌, ◌∙◌, arith}
-use Rattle.krl_cache.specs.Maps.{at}
-use Rattle.krl_cache.specs.Walks.{left_of}
+use Rattle.krl_cache.proofs.Names.{◌+◌, ◌∙◌, arith, at, left_of}
 use Rattle.krl_cache.proofs.Rests.{range_is_next}
 use Rattle.krl_cache.proofs.Scans.{gap_found, walk_on, walk_ends, next_head, next_none}
 use Rattle.krl_cache.proofs.walk.first_unknown.Goals as goal

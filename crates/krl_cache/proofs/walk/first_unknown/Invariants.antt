@@ -1,6 +1,4 @@
-use Rattle.std.proofs.Common.{◌+◌}
-use Rattle.krl_cache.specs.Maps.{at, AreNext}
-use Rattle.krl_cache.specs.Walks.{left_of}
+use Rattle.krl_cache.proofs.Names.{◌+◌, at, AreNext, left_of}
 use Rattle.krl_cache.proofs.Scans.{IsWalked}
 use Rattle.krl_cache.proofs.walk.first_unknown.Given as goal
 

@@ -1,6 +1,4 @@
-use Rattle.std.proofs.Common.{ℕ, List, subst}
-use Rattle.krl_cache.specs.declared.entry.Entry.{Entry}
-use Rattle.krl_cache.specs.Maps.{at, AreNext}
+use Rattle.krl_cache.proofs.Names.{ℕ, List, subst, Entry, at, AreNext}
 use Rattle.krl_cache.proofs.Rests.{range_is_next}
 use Rattle.krl_cache.proofs.walk.left_between.Goals as goal
 

@@ -1,6 +1,4 @@
-use Rattle.std.proofs.Common.{ℕ, ◌+◌, ◌∙◌, sym, arith}
-use Rattle.krl_modes.specs.declared.part.RangePart.{RangePart}
-use Rattle.krl_cache.specs.Maps.{at}
+use Rattle.krl_cache.proofs.Names.{ℕ, ◌+◌, ◌∙◌, sym, arith, RangePart, at}
 use Rattle.krl_cache.proofs.Rests.{range_is_next}
 use Rattle.krl_cache.proofs.Scans.{walked_to, walk_on, next_head, next_none}
 use Rattle.krl_cache.proofs.Walked.{gap_read}

@@ -1,6 +1,4 @@
-use Rattle.std.proofs.Common.{ℕ, ◌+◌, Option}
-use Rattle.krl_cache.specs.declared.entry.Entry.{Entry}
-use Rattle.krl_cache.specs.Maps.{at, AreNext}
+use Rattle.krl_cache.proofs.Names.{ℕ, ◌+◌, Option, Entry, at, AreNext}
 use Rattle.krl_cache.proofs.Scans.{IsWalked}
 use Rattle.krl_cache.proofs.walk.reads_gaps.Given as goal
 

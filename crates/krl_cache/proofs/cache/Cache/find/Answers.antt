@@ -1,8 +1,4 @@
-use Rattle.std.proofs.Common.{ℕ, List, subst, ap, ◌∙◌, arith}
-use Rattle.std.specs.List.{filter_map}
-use Rattle.krl_cache.specs.declared.entry.Entry.{Entry}
-use Rattle.krl_cache.specs.Beliefs.{CoversAll, AreRows}
-use Rattle.krl_cache.specs.Maps.{Maps, maps_believe, row_of}
+use Rattle.krl_cache.proofs.Names.{ℕ, List, subst, ap, ◌∙◌, arith, filter_map, Entry, CoversAll, AreRows, Maps, maps_believe, row_of}
 use Rattle.krl_cache.proofs.Mapped.{maps_rows}
 use Rattle.krl_cache.proofs.cache.Cache.find.Goals as goal
 

@@ -1,6 +1,5 @@
-use Rattle.std.proofs.Common.{ap, ◌∙◌}
+use Rattle.krl_cache.proofs.Names.{ap, ◌∙◌, Maps, maps_believe, at, part_at}
 use Rattle.krl_cache.specs.Beliefs as beliefs
-use Rattle.krl_cache.specs.Maps.{Maps, maps_believe, at, part_at}
 use Rattle.krl_cache.proofs.Rooms.{several_keep, believed_by}
 use Rattle.krl_cache.proofs.Calls.{several_belief}
 use Rattle.krl_cache.proofs.cache.CacheBelief.adopt_all.Goals as goal

@@ -1,6 +1,4 @@
-use Rattle.std.proofs.Common.{◌≡◌, ◌+◌, ◌<◌, ◌^◌, length}
-use Rattle.std.specs.List.{filter_map}
-use Rattle.krl_cache.specs.Maps.{row_of}
+use Rattle.krl_cache.proofs.Names.{◌≡◌, ◌+◌, ◌<◌, ◌^◌, length, filter_map, row_of}
 use Rattle.krl_cache.proofs.found.RowsInPlace.count.Given as goal
 
 abbrev pub invariant-loop-entry : goal.invariant-loop-entry
