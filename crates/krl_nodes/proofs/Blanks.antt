@@ -1,20 +1,9 @@
 -- Kinds 6 and 7: a blank seat comes, or is taken in. And the opening.
-use Rattle.std.proofs.Common.{◌≡◌, ◌≢◌, ℕ, zero, suc, List, [], ◌∷◌, ◌++◌, set, None, inl, inr, ⊎_elim, refl, sym, ap, ◌∙◌, subst}
+use Rattle.krl_nodes.proofs.Names.{◌≡◌, ◌≢◌, ℕ, zero, suc, List, [], ◌∷◌, ◌++◌, set, None, inl, inr, ⊎_elim, refl, sym, ap, ◌∙◌, subst, some-injective, some-ne-none, dite, ℕ_discrete, get_elem?}
+use Rattle.krl_nodes.proofs.Names.{Splits, Joins, opening, set_again, at_longer, node_of, State, View, Mail, ServerAt, ClientAt, Nobody, shown, Each, AtHome, IsOut, Kept, Sits, IsServer, IsClient}
+use Rattle.krl_nodes.proofs.Names.{Names, Agrees, ReachableFrom, Holds, down_at, first_view, blank_of, spent_view, joined_view, IsLive, IsBlank, IsNewPost}
 use mathlib.Core.Option as opt
-use mathlib.Core.Option.{some-injective, some-ne-none}
-use mathlib.Core.Logic.{dite}
-use native.Mathlib.Decide.{ℕ_discrete}
-use lib.ListN.{get_elem?}
-use Rattle.atomic_table.specs.Table.{Splits, Joins, opening}
-use Rattle.atomic_table.proofs.Lists.{set_again, at_longer}
 use Rattle.krl_world.specs.declared.node.ServerNode.{ServerNode as KeptNode}
-use Rattle.krl_world.specs.Fields.{node_of}
-use Rattle.krl_world.specs.States.{State}
-use Rattle.krl_nodes.specs.declared.view.View.{View}
-use Rattle.krl_nodes.specs.Mail.{Mail}
-use Rattle.krl_nodes.specs.Shown.{ServerAt, ClientAt, Nobody, shown}
-use Rattle.krl_nodes.specs.Rule.{Each, AtHome, IsOut, Kept, Sits, IsServer, IsClient, Names, Agrees, ReachableFrom, Holds, down_at}
-use Rattle.krl_nodes.specs.Steps.{first_view, blank_of, spent_view, joined_view, IsLive, IsBlank, IsNewPost}
 use Rattle.krl_nodes.proofs.Views.{each_set, each_snoc, has_set_else, seated_set, seated_snoc, stays_set, there_set}
 use Rattle.krl_nodes.proofs.Takes.{running_same}
 use Rattle.krl_nodes.proofs.Gives.{named}

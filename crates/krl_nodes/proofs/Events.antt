@@ -1,37 +1,24 @@
 -- Each event of a node is one step of the world.
-use Rattle.std.proofs.Common.{length, ◌≡◌, ℕ, suc, ◌≤◌, List, [], ◌∷◌, ◌++◌, Bool, true, false, cond, Option, Some, None, inl, inr, refl, sym, ap, ◌∙◌, subst, ltb-false, arith, nat_lt}
-use Rattle.std.proofs.lemmas.List.{append-nil}
-use Rattle.std.specs.Prelude.{Result, Ok, Err}
-use Rattle.krl_messages.specs.declared.to_server.ToServer.{ToServer}
+use Rattle.krl_nodes.proofs.Names.{length, ◌≡◌, ℕ, suc, ◌≤◌, List, [], ◌∷◌, ◌++◌, Bool, true, false, cond, Option, Some, None, inl, inr, refl, sym, ap, ◌∙◌, subst, ltb-false, arith, nat_lt}
+use Rattle.krl_nodes.proofs.Names.{append-nil, Result, Ok, Err, ToServer, Message, Command, Answer, Refused, ServerNode, Up, Down, Seat, State, client_of, set_seat, from_clients, from_server, Steps}
+use Rattle.krl_nodes.proofs.Names.{of_client, applies, server_down, Does, CommandedAt, Started, starting_refusal, seat_here, seat_other, Mail, Shown, ServerAt, ClientAt, letters_to, left_by}
+use Rattle.krl_nodes.proofs.Names.{place_of, with_to_server, with_to_client, with_said, with_sent, Agrees, StandsIn, AllSent, down_at, Event, Acts, HasNoMore, Change, ServerReads, ClientReads}
+use Rattle.krl_nodes.proofs.Names.{ServerTakes, ClientTakes, Nudges, Crashes, Starts, Ticks, ClientStarts, ClientCrashes, ServerDoes, ServerLets, ServerActs, ClientDoes, ClientLets, ClientActs}
+use Rattle.krl_nodes.proofs.Names.{server_due, client_due, IsSame, Pick}
 use Rattle.krl_durable.specs.Registers.{Durable}
 use Rattle.krl_server.specs.Cases as cases
 use Rattle.krl_server.specs.Steps as serving
 use Rattle.krl_client.specs.Clients.{Client, begun}
 use Rattle.krl_client.specs.Ticks.{says_hello}
-use Rattle.krl_world.specs.declared.message.Message.{Message}
 use Rattle.krl_world.specs.declared.message.Message.TheVariants as message
 use Rattle.krl_steps.specs.declared.applied_write.AppliedWrite.{AppliedWrite}
 use Rattle.krl_steps.specs.declared.step.Step.{Step}
 use Rattle.krl_steps.specs.declared.step.Step.TheVariants as step
-use Rattle.krl_steps.specs.declared.step.Command.{Command}
-use Rattle.krl_steps.specs.declared.answer.Answer.{Answer}
 use Rattle.krl_steps.specs.declared.answer.Answer.TheVariants as told
-use Rattle.krl_steps.specs.declared.refused.Refused.{Refused}
 use Rattle.krl_steps.specs.declared.refused.Refused.TheVariants as refused
-use Rattle.krl_world.specs.States.{ServerNode, Up, Down, Seat, State, client_of, set_seat, from_clients, from_server}
-use Rattle.krl_world.specs.Steps.{Steps, of_client, applies, server_down}
-use Rattle.krl_world.specs.SeatSteps.{Does, CommandedAt, Started, starting_refusal}
-use Rattle.krl_world.proofs.Functions.Lifts.{seat_here, seat_other}
 use Rattle.krl_world.proofs.Functions.Commands.{gone, command_steps}
 use Rattle.krl_world.proofs.Functions.Seats as seats
 use Rattle.krl_world.proofs.Functions.Server as server
-use Rattle.krl_nodes.specs.Mail.{Mail}
-use Rattle.krl_nodes.specs.Shown.{Shown, ServerAt, ClientAt}
-use Rattle.krl_nodes.specs.Letters.{letters_to, left_by, place_of, with_to_server, with_to_client, with_said, with_sent}
-use Rattle.krl_nodes.specs.Rule.{Agrees, StandsIn, AllSent, down_at}
-use Rattle.krl_nodes.specs.Steps.{Event, Acts, HasNoMore, Change}
-use Rattle.krl_nodes.specs.Turns.{ServerReads, ClientReads, ServerTakes, ClientTakes, Nudges, Crashes, Starts, Ticks, ClientStarts, ClientCrashes, ServerDoes, ServerLets, ServerActs, ClientDoes, ClientLets, ClientActs, server_due, client_due, IsSame}
-use Rattle.krl_nodes.specs.declared.policy.Pick.{Pick}
 use Rattle.krl_nodes.specs.declared.orders.ServerOrder.{ServerOrder}
 use Rattle.krl_nodes.specs.declared.orders.ServerOrder.TheVariants as to_server
 use Rattle.krl_nodes.specs.declared.orders.ClientOrder.{ClientOrder}

@@ -1,28 +1,15 @@
 -- Kinds 3, 4 and 5: the post is given back.
-use Rattle.std.proofs.Common.{◌≡◌, ◌≢◌, ℕ, List, [], ◌∷◌, set, Some, None, inl, ⊎_elim, refl, sym, ap, ◌∙◌, subst}
+use Rattle.krl_nodes.proofs.Names.{◌≡◌, ◌≢◌, ℕ, List, [], ◌∷◌, set, Some, None, inl, ⊎_elim, refl, sym, ap, ◌∙◌, subst, some-injective, dite, ℕ_discrete, get_elem?, eq-eqb, ne_eqb, Me, gives, Allows}
+use Rattle.krl_nodes.proofs.Names.{Value, Answer, State, Steps, Chair, View, Mail, Shown, ServerAt, ClientAt, Nobody, Gone, shown, Each, AtHome, IsOut, Sits, IsServer, IsClient, Seated, NamesAs}
+use Rattle.krl_nodes.proofs.Names.{Names, Agrees, AllAway, ReachableFrom, Running, Holds, down_at, given_view, IsLive, Agreeable, ServerMoves, ClientMoves, IsMove, Acts, Rests, SitsDown, GetsUp}
+use Rattle.krl_nodes.proofs.Names.{Change, MayGive, gave, HasNoMore}
 use mathlib.Core.Option as opt
-use mathlib.Core.Option.{some-injective}
-use mathlib.Core.Logic.{dite}
-use native.Mathlib.Decide.{ℕ_discrete}
-use lib.ListN.{get_elem?}
 use Rattle.std.specs.Prelude.{Ok, slice_get, nat_eq, if◌then◌else◌}
-use Rattle.std.proofs.Common.{eq-eqb, ne_eqb}
-use Rattle.atomic_table.specs.Table.{Me, gives, Allows}
-use Rattle.krl_messages.specs.Values.{Value}
 use Rattle.krl_steps.specs.declared.step.Step.{Step}
-use Rattle.krl_steps.specs.declared.answer.Answer.{Answer}
-use Rattle.krl_world.specs.States.{State}
-use Rattle.krl_world.specs.Steps.{Steps}
 use Rattle.krl_world.proofs.Functions.Shapes.{Left, as_it_was, at_seat, at_server, takes_left, reachable_nobody}
 use Rattle.krl_world.proofs.Functions.Runs.{reachable_after}
-use Rattle.krl_nodes.specs.declared.post.Chair.{Chair}
 use Rattle.krl_nodes.specs.declared.post.Chair.TheVariants.{Taken, Free}
-use Rattle.krl_nodes.specs.declared.view.View.{View}
 use Rattle.krl_nodes.specs.declared.view.Node.{Node}
-use Rattle.krl_nodes.specs.Mail.{Mail}
-use Rattle.krl_nodes.specs.Shown.{Shown, ServerAt, ClientAt, Nobody, Gone, shown}
-use Rattle.krl_nodes.specs.Rule.{Each, AtHome, IsOut, Sits, IsServer, IsClient, Seated, NamesAs, Names, Agrees, AllAway, ReachableFrom, Running, Holds, down_at}
-use Rattle.krl_nodes.specs.Steps.{given_view, IsLive, Agreeable, ServerMoves, ClientMoves, IsMove, Acts, Rests, SitsDown, GetsUp, Change, MayGive, gave, HasNoMore}
 use Rattle.krl_nodes.proofs.Views.{there_set, each_set, has_set_else, seated_set}
 use Rattle.krl_nodes.proofs.Chairs.{chair_here, chair_else}
 use Rattle.krl_nodes.proofs.Takes.{Goes, running_same}

@@ -1,16 +1,9 @@
 -- A server that stops, and one that starts, as a world has it.
-use Rattle.std.proofs.Common.{◌≡◌, [], None, refl, sym, ap, ◌∙◌}
-use Rattle.std.specs.Prelude.{Result, Ok, Err}
-use Rattle.krl_steps.specs.declared.answer.Answer.{Answer}
-use Rattle.krl_steps.specs.declared.refused.Refused.{Refused}
+use Rattle.krl_nodes.proofs.Names.{◌≡◌, [], None, refl, sym, ap, ◌∙◌, Result, Ok, Err, Answer, Refused, ServerNode, Up, Down, State, unused, Takes, Steps, crashed, started, server_down, server_start}
+use Rattle.krl_nodes.proofs.Names.{Mail, Pick, ServerActs, did_of}
 use Rattle.krl_steps.specs.declared.step.Step.TheVariants as step
 use Rattle.krl_world.specs.declared.node.ServerNode.{ServerNode as KeptNode}
-use Rattle.krl_world.specs.States.{ServerNode, Up, Down, State, unused}
-use Rattle.krl_world.specs.Steps.{Takes, Steps, crashed, started, server_down, server_start}
 use Rattle.krl_world.specs.Fields.{Fields, meaning, node_of}
-use Rattle.krl_nodes.specs.Mail.{Mail}
-use Rattle.krl_nodes.specs.declared.policy.Pick.{Pick}
-use Rattle.krl_nodes.specs.Turns.{ServerActs, did_of}
 use Rattle.krl_nodes.specs.declared.orders.ServerOrder.TheVariants as to_server
 
 -- a world with this server

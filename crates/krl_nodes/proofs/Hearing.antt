@@ -1,18 +1,7 @@
 -- A node reads the letter that is picked, or it is lost.
-use Rattle.std.proofs.Common.{◌≡◌, ℕ, zero, suc, ◌+◌, ◌<◌, List, [], ◌∷◌, ◌++◌, length, inr, refl, sym, ap, subst, ◌∙◌, arith, set}
-use Rattle.std.proofs.lemmas.List.{append-nil, length-append}
-use Rattle.std.specs.Prelude.{Result, Ok, Err, slice_index_or}
-use Rattle.krl_messages.specs.Values.{Value}
-use Rattle.krl_messages.specs.declared.to_server.ToServer.{ToServer}
-use Rattle.krl_messages.specs.declared.to_client.ToClient.{ToClient}
-use Rattle.krl_world.specs.declared.message.Message.{Message}
-use Rattle.krl_steps.specs.declared.refused.Refused.{Refused}
-use Rattle.krl_world.specs.States.{ServerNode, Seat}
-use Rattle.krl_nodes.specs.Letters.{letters_to, left_by, from_client, by_server, only_to, sorted, mail_of, IsPicked, IsReader, waiting_for, with_said, with_sent, with_to_server, with_to_client}
-use Rattle.krl_nodes.specs.Sorting.{HasHeard, HasRead, HasTaken, HasOne, HasNone}
-use Rattle.krl_nodes.specs.Turns.{ServerActs, ClientActs}
-use Rattle.krl_nodes.specs.declared.policy.Pick.{Pick}
-use Rattle.krl_nodes.specs.declared.post.Chair.{Chair}
+use Rattle.krl_nodes.proofs.Names.{◌≡◌, ℕ, zero, suc, ◌+◌, ◌<◌, List, [], ◌∷◌, ◌++◌, length, inr, refl, sym, ap, subst, ◌∙◌, arith, set, append-nil, length-append, Result, Ok, Err, slice_index_or}
+use Rattle.krl_nodes.proofs.Names.{Value, ToServer, ToClient, Message, Refused, ServerNode, Seat, letters_to, left_by, from_client, by_server, only_to, sorted, mail_of, IsPicked, IsReader}
+use Rattle.krl_nodes.proofs.Names.{waiting_for, with_said, with_sent, with_to_server, with_to_client, HasHeard, HasRead, HasTaken, HasOne, HasNone, ServerActs, ClientActs, Pick, Chair}
 use Rattle.krl_nodes.specs.declared.post.Reader.{Reader}
 use Rattle.krl_nodes.specs.declared.post.Reader.TheVariants as reader
 use Rattle.krl_nodes.specs.declared.orders.ServerOrder.TheVariants as server_order

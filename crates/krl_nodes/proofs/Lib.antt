@@ -18,3 +18,4 @@ pub mod SentServer
 pub mod Halts
 pub mod Obeying
 pub mod Unasked
+mod Names

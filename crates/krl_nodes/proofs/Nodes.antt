@@ -1,14 +1,8 @@
 -- A turn: the post is taken, changed and given back.
-use Rattle.std.proofs.Common.{◌≡◌, ℕ, List, [], ◌∷◌, Option, Some, None, sym, ap, ◌∙◌, subst, get_or}
-use Rattle.atomic_table.specs.Table.{Me}
+use Rattle.krl_nodes.proofs.Names.{◌≡◌, ℕ, List, [], ◌∷◌, Option, Some, None, sym, ap, ◌∙◌, subst, get_or, Me, Value, Mail, shown, view_of, given_view, joined_view, exchange_of, IsLive, Agreeable}
+use Rattle.krl_nodes.proofs.Names.{Took, Change, MayGive, IsAt, HoldsPost, Changes, Exchanged, View}
 use Rattle.atomic_table.specs.declared.shared.Seat.{Seat as Ticket}
-use Rattle.krl_messages.specs.Values.{Value}
-use Rattle.krl_nodes.specs.Mail.{Mail}
-use Rattle.krl_nodes.specs.Shown.{shown}
-use Rattle.krl_nodes.specs.Steps.{view_of, given_view, joined_view, exchange_of, IsLive, Agreeable, Took, Change, MayGive}
-use Rattle.krl_nodes.specs.Nodes.{IsAt, HoldsPost, Changes, Exchanged}
 use Rattle.krl_nodes.specs.declared.view.Exchange.{Exchange}
-use Rattle.krl_nodes.specs.declared.view.View.{View}
 use Rattle.krl_nodes.specs.declared.view.Node.{Node}
 
 -- after a take the seat holds the post

@@ -1,28 +1,13 @@
 -- A command, a tick and a start, by what is sent.
-use Rattle.std.proofs.Common.{◌≡◌, ℕ, suc, List, [], ◌∷◌, ◌++◌, Option, Some, None, inl, inr, ⊎_elim, refl, sym, ap, subst, ◌∙◌}
-use Rattle.std.specs.Prelude.{Result, Ok, Err, OnOk, OnErr, IfErr}
+use Rattle.krl_nodes.proofs.Names.{◌≡◌, ℕ, suc, List, [], ◌∷◌, ◌++◌, Option, Some, None, inl, inr, ⊎_elim, refl, sym, ap, subst, ◌∙◌, Result, Ok, Err, OnOk, OnErr, IfErr, seat_of, Value, ToServer}
+use Rattle.krl_nodes.proofs.Names.{ToClient, Answer, Message, Command, Refused, Seat, from_clients, from_server, named, if_runs, command_refusal, CommandTakesMemory, IsRefused, CommandedAt, Started}
+use Rattle.krl_nodes.proofs.Names.{Ticked, starting_refusal, Mail, mail_of, with_said, with_sent, ClientActs, IsSame, HasTicked, did_of, done_if, Pick, Chair}
 use Rattle.core.specs.declared.alloc.AllocError.{AllocError}
 use Rattle.krl_world.specs.declared.node.Seat.{Seat as KeptSeat}
-use Rattle.krl_world.specs.Fields.{seat_of}
-use Rattle.krl_messages.specs.Values.{Value}
-use Rattle.krl_messages.specs.declared.to_server.ToServer.{ToServer}
-use Rattle.krl_messages.specs.declared.to_client.ToClient.{ToClient}
 use Rattle.krl_client.specs.Clients.{Client, begun}
 use Rattle.krl_client.specs.Ticks.{says_hello}
-use Rattle.krl_steps.specs.declared.answer.Answer.{Answer}
-use Rattle.krl_world.specs.declared.message.Message.{Message}
-use Rattle.krl_steps.specs.declared.step.Command.{Command}
-use Rattle.krl_steps.specs.declared.refused.Refused.{Refused}
 use Rattle.krl_steps.specs.declared.refused.Refused.TheVariants as refused
-use Rattle.krl_world.specs.States.{Seat, from_clients, from_server}
-use Rattle.krl_world.specs.Steps.{named, if_runs, command_refusal, CommandTakesMemory}
 use Rattle.krl_steps.specs.Refusals.{refused_by_client}
-use Rattle.krl_world.specs.SeatSteps.{IsRefused, CommandedAt, Started, Ticked, starting_refusal}
-use Rattle.krl_nodes.specs.Mail.{Mail}
-use Rattle.krl_nodes.specs.Letters.{mail_of, with_said, with_sent}
-use Rattle.krl_nodes.specs.Turns.{ClientActs, IsSame, HasTicked, did_of, done_if}
-use Rattle.krl_nodes.specs.declared.policy.Pick.{Pick}
-use Rattle.krl_nodes.specs.declared.post.Chair.{Chair}
 use Rattle.krl_nodes.specs.declared.orders.ClientOrder.TheVariants as to_client
 use Rattle.krl_nodes.proofs.Piles.{said, sent}
 use Rattle.krl_nodes.proofs.Says.{sends}

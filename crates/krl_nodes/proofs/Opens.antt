@@ -1,30 +1,16 @@
 -- A new office.
-use Rattle.std.proofs.Common.{◌≡◌, ℕ, zero, suc, List, [], ◌∷◌, replicate, Some, None, false, true, refl, sym, ap, ◌∙◌, subst}
-use Rattle.std.specs.Prelude.{slice_get, slice_index_or}
-use Rattle.krl_messages.specs.declared.to_client.ToClient.{ToClient}
-use Rattle.krl_nodes.specs.Letters.{sorted, mail_of}
-use Rattle.atomic_table.specs.Table.{Me, opening}
+use Rattle.krl_nodes.proofs.Names.{◌≡◌, ℕ, zero, suc, List, [], ◌∷◌, replicate, Some, None, false, true, refl, sym, ap, ◌∙◌, subst, slice_get, slice_index_or, ToClient, sorted, mail_of, Me, opening}
+use Rattle.krl_nodes.proofs.Names.{Value, meaning, node_of, Up, fresh, opened, unused, CanOpen, View, Server, Mail, ServerAt, Holds, ReachableFrom, down_at, first_view, Agreeable, IsNewPost, IsAt}
+use Rattle.krl_nodes.proofs.Names.{NoneSeated}
 use Rattle.atomic_table.specs.declared.shared.Seat.{Seat as Ticket}
-use Rattle.krl_messages.specs.Values.{Value}
 use Rattle.krl_durable.specs.Registers.{Durable}
 use Rattle.krl_durable.specs.Kept.{IsKept}
 use Rattle.krl_server.specs.Steps.{start}
-use Rattle.krl_server.specs.StateMeaning.{meaning}
 use Rattle.krl_server.specs.declared.state.State.{State as Kept}
 use Rattle.krl_world.specs.declared.node.ServerNode.{ServerNode as KeptNode}
 use Rattle.krl_world.specs.declared.node.ServerNode.TheVariants as kept
-use Rattle.krl_world.specs.Fields.{node_of}
-use Rattle.krl_world.specs.States.{Up, fresh, opened, unused}
-use Rattle.krl_world.specs.Steps.{CanOpen}
 use Rattle.krl_world.proofs.Functions.Shapes.{reachable_stays}
 use Rattle.krl_nodes.specs.declared.post.Chair.TheVariants.{Taken, Free}
-use Rattle.krl_nodes.specs.declared.view.View.{View}
-use Rattle.krl_nodes.specs.declared.view.Node.TheVariants.{Server}
-use Rattle.krl_nodes.specs.Mail.{Mail}
-use Rattle.krl_nodes.specs.Shown.{ServerAt}
-use Rattle.krl_nodes.specs.Rule.{Holds, ReachableFrom, down_at}
-use Rattle.krl_nodes.specs.Steps.{first_view, Agreeable, IsNewPost}
-use Rattle.krl_nodes.specs.Nodes.{IsAt, NoneSeated}
 use Rattle.krl_nodes.proofs.Blanks.{opens}
 use Rattle.krl_nodes.proofs.Nodes.{self_view}
 

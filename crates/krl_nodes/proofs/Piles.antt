@@ -1,16 +1,8 @@
 -- What was sent, put behind the letters to each node.
-use Rattle.std.proofs.Common.{◌≡◌, ◌≢◌, ℕ, zero, suc, ◌+◌, ◌<◌, List, [], ◌∷◌, ◌++◌, length, Bool, true, false, cond, Some, refl, sym, ap, ◌∙◌, arith, nat_eq, eq-eqb, ne_eqb, set}
-use Rattle.std.proofs.lemmas.List.{append_assoc}
-use Rattle.std.specs.Prelude.{slice_get, slice_index_or}
-use Rattle.krl_messages.specs.Values.{Value}
-use Rattle.krl_messages.specs.declared.to_server.ToServer.{ToServer}
-use Rattle.krl_messages.specs.declared.to_client.ToClient.{ToClient}
-use Rattle.krl_world.specs.declared.message.Message.{Message}
+use Rattle.krl_nodes.proofs.Names.{◌≡◌, ◌≢◌, ℕ, zero, suc, ◌+◌, ◌<◌, List, [], ◌∷◌, ◌++◌, length, Bool, true, false, cond, Some, refl, sym, ap, ◌∙◌, arith, nat_eq, eq-eqb, ne_eqb, set, append_assoc}
+use Rattle.krl_nodes.proofs.Names.{slice_get, slice_index_or, Value, ToServer, ToClient, Message, from_clients, from_server, from_client, by_server, only_to, sorted, mail_of, with_said, with_sent}
+use Rattle.krl_nodes.proofs.Names.{IsPut, HasOne, HasNone, is_for, Chair}
 use Rattle.krl_world.specs.declared.message.Message.TheVariants as message
-use Rattle.krl_world.specs.States.{from_clients, from_server}
-use Rattle.krl_nodes.specs.Letters.{from_client, by_server, only_to, sorted, mail_of, with_said, with_sent}
-use Rattle.krl_nodes.specs.Sorting.{IsPut, HasOne, HasNone, is_for}
-use Rattle.krl_nodes.specs.declared.post.Chair.{Chair}
 use Rattle.krl_nodes.specs.declared.post.Reader.TheVariants as reader
 
 -- Messages behind others

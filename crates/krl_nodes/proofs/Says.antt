@@ -1,17 +1,9 @@
 -- What a client says with a command, and the same said elsewhere.
-use Rattle.std.proofs.Common.{◌≡◌, List, [], ◌∷◌, ◌++◌, Option, refl, sym, ◌∙◌}
-use Rattle.std.proofs.lemmas.List.{append-nil}
-use Rattle.krl_messages.specs.declared.to_server.ToServer.{ToServer}
+use Rattle.krl_nodes.proofs.Names.{◌≡◌, List, [], ◌∷◌, ◌++◌, Option, refl, sym, ◌∙◌, append-nil, ToServer, span, Message, Command, Answer, from_clients, Does}
 use Rattle.krl_modes.specs.declared.mode.Mode.TheVariants as mode
 use Rattle.krl_client.specs.Clients.{Client}
 use Rattle.krl_client.specs.Commands.{locked, wrote, says_lock, says_write, says_release, says_bye}
-use Rattle.krl_world.specs.Steps.{span}
-use Rattle.krl_world.specs.declared.message.Message.{Message}
-use Rattle.krl_steps.specs.declared.step.Command.{Command}
 use Rattle.krl_steps.specs.declared.step.Command.TheVariants as command
-use Rattle.krl_steps.specs.declared.answer.Answer.{Answer}
-use Rattle.krl_world.specs.States.{from_clients}
-use Rattle.krl_world.specs.SeatSteps.{Does}
 
 pub record Says (k : Client) (what : Command) (a : Answer) (next : Option Client) (old new : List Message) : Type 0 where
   pub list : List ToServer

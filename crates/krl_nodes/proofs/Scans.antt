@@ -1,7 +1,6 @@
 -- A scan at a node is a step of each world that has the client so, and leaves it as it is.
-use Rattle.std.proofs.Common.{◌≡◌, ℕ, ◌≤◌, List, Some, None, refl, ap, ◌∙◌}
-use Rattle.std.specs.Prelude.{Ok, Err}
-use Rattle.krl_messages.specs.Values.{Value}
+use Rattle.krl_nodes.proofs.Names.{◌≡◌, ℕ, ◌≤◌, List, Some, None, refl, ap, ◌∙◌, Ok, Err, Value, Refused, State, Seat, client_of, index_of, Steps, span, if_runs, named, command_refusal, takes}
+use Rattle.krl_nodes.proofs.Names.{is_client, ClientAt, ReachableFrom, Agreeable, ClientPlace, client_shown, RowsAre, ScansIndex}
 use Rattle.krl_durable.specs.Index.{range}
 use Rattle.krl_client.specs.Clients.{Client}
 use Rattle.krl_client.specs.Commands.{Answers, scan_refusal}
@@ -10,16 +9,8 @@ use Rattle.krl_client.specs.declared.scan_answer.ScanAnswer.TheVariants as scann
 use Rattle.krl_steps.specs.declared.answer.Answer.TheVariants as told
 use Rattle.krl_steps.specs.declared.step.Step.TheVariants as step
 use Rattle.krl_steps.specs.declared.step.Command.TheVariants as command
-use Rattle.krl_steps.specs.declared.refused.Refused.{Refused}
-use Rattle.krl_world.specs.States.{State, Seat, client_of, index_of}
-use Rattle.krl_world.specs.Steps.{Steps, span, if_runs, named, command_refusal}
 use Rattle.krl_steps.specs.Refusals.{refused_by_client}
-use Rattle.krl_world.proofs.Functions.Lifts.{takes, is_client}
 use Rattle.krl_world.proofs.Functions.Runs.{scans_before}
-use Rattle.krl_nodes.specs.Shown.{ClientAt}
-use Rattle.krl_nodes.specs.Rule.{ReachableFrom}
-use Rattle.krl_nodes.specs.Steps.{Agreeable}
-use Rattle.krl_nodes.specs.Nodes.{ClientPlace, client_shown, RowsAre, ScansIndex}
 
 -- rows that a client finds are those of the index, in each world that has it so
 rows_are : (w : State) (opening rows : List (ℕ × Value)) (c lo hi : ℕ) (k : Client) → c ≤ 63 → ReachableFrom opening w → client_of w c ≡ Some k → scan_refusal (span lo hi) ≡ None → Answers k (span lo hi) (scanned.Rows rows) → rows ≡ range (index_of w) lo hi

@@ -1,16 +1,8 @@
 -- Letters stand among all that were sent, and what a node sends goes to the end of both.
-use Rattle.std.proofs.Common.{◌≡◌, ◌⊎◌, ℕ, zero, suc, ◌+◌, List, [], ◌∷◌, ◌++◌, Bool, true, false, cond, Some, inl, inr, ⊎_elim, refl, sym, ap, ◌∙◌, arith, nat_eq, eqb-true, set}
-use Rattle.std.specs.Prelude.{slice_get, slice_index_or, remove}
-use Rattle.krl_messages.specs.declared.to_server.ToServer.{ToServer}
-use Rattle.krl_messages.specs.declared.to_client.ToClient.{ToClient}
-use Rattle.krl_world.specs.declared.message.Message.{Message}
+use Rattle.krl_nodes.proofs.Names.{◌≡◌, ◌⊎◌, ℕ, zero, suc, ◌+◌, List, [], ◌∷◌, ◌++◌, Bool, true, false, cond, Some, inl, inr, ⊎_elim, refl, sym, ap, ◌∙◌, arith, nat_eq, eqb-true, set, slice_get}
+use Rattle.krl_nodes.proofs.Names.{slice_index_or, remove, ToServer, ToClient, Message, from_clients, from_server, Mail, letters_to, left_by, only_to, sorted, with_said, with_sent, with_to_server}
+use Rattle.krl_nodes.proofs.Names.{with_to_client, AllSent, Pick, Take, Copy, Lose}
 use Rattle.krl_world.specs.declared.message.Message.TheVariants as message
-use Rattle.krl_world.specs.States.{from_clients, from_server}
-use Rattle.krl_nodes.specs.Mail.{Mail}
-use Rattle.krl_nodes.specs.Letters.{letters_to, left_by, only_to, sorted, with_said, with_sent, with_to_server, with_to_client}
-use Rattle.krl_nodes.specs.Rule.{AllSent}
-use Rattle.krl_nodes.specs.declared.policy.Pick.{Pick}
-use Rattle.krl_nodes.specs.declared.policy.Pick.TheVariants.{Take, Copy, Lose}
 
 -- a value stands in a list
 abbrev pub Stands : {A : Type 0} → A → List A → Type 0

@@ -1,14 +1,6 @@
 -- Memory was refused before the policy was asked.
-use Rattle.std.proofs.Common.{◌≡◌, ◌<◌, ℕ, length, inr, refl, ap}
-use Rattle.std.specs.Prelude.{Err}
-use Rattle.krl_steps.specs.declared.refused.Refused.{Refused}
+use Rattle.krl_nodes.proofs.Names.{◌≡◌, ◌<◌, ℕ, length, inr, refl, ap, Err, Refused, ServerNode, Seat, Mail, letters_to, Picks, ServerAsks, ClientAsks, ServerActsBy, ClientActsBy, Pick, Take}
 use Rattle.krl_steps.specs.declared.refused.Refused.TheVariants as refused
-use Rattle.krl_world.specs.States.{ServerNode, Seat}
-use Rattle.krl_nodes.specs.Mail.{Mail}
-use Rattle.krl_nodes.specs.Letters.{letters_to}
-use Rattle.krl_nodes.specs.Turns.{Picks, ServerAsks, ClientAsks, ServerActsBy, ClientActsBy}
-use Rattle.krl_nodes.specs.declared.policy.Pick.{Pick}
-use Rattle.krl_nodes.specs.declared.policy.Pick.TheVariants.{Take}
 use Rattle.krl_nodes.specs.declared.orders.ServerOrder.{ServerOrder}
 use Rattle.krl_nodes.specs.declared.orders.ClientOrder.{ClientOrder}
 use Rattle.krl_nodes.specs.declared.orders.ServerOrder.TheVariants as to_server

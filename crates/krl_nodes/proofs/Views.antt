@@ -1,15 +1,7 @@
 -- Facts about each view, after one view changed or a seat came.
-use Rattle.std.proofs.Common.{◌≡◌, ◌≢◌, ℕ, zero, suc, List, [], ◌∷◌, ◌++◌, set, ⊎_elim, refl, sym, ap, ◌∙◌, subst}
+use Rattle.krl_nodes.proofs.Names.{◌≡◌, ◌≢◌, ℕ, zero, suc, List, [], ◌∷◌, ◌++◌, set, ⊎_elim, refl, sym, ap, ◌∙◌, subst, some-injective, some-ne-none, dite, ℕ_discrete, get_elem?, at_set, at_snoc}
+use Rattle.krl_nodes.proofs.Names.{at_longer, set_else, Chair, View, Shown, Nobody, shown, Each, Sits, Seated, IsServer, IsClient, HasView}
 use mathlib.Core.Option as opt
-use mathlib.Core.Option.{some-injective, some-ne-none}
-use mathlib.Core.Logic.{dite}
-use native.Mathlib.Decide.{ℕ_discrete}
-use lib.ListN.{get_elem?}
-use Rattle.atomic_table.proofs.Lists.{at_set, at_snoc, at_longer, set_else}
-use Rattle.krl_nodes.specs.declared.post.Chair.{Chair}
-use Rattle.krl_nodes.specs.declared.view.View.{View}
-use Rattle.krl_nodes.specs.Shown.{Shown, Nobody, shown}
-use Rattle.krl_nodes.specs.Rule.{Each, Sits, Seated, IsServer, IsClient, HasView}
 
 pub there_set : (views : List View) (i : ℕ) (v w : View) → get_elem? views i ≡ opt.some v → get_elem? (set views i w) i ≡ opt.some w
 there_set [] i v w e = absurd (some-ne-none v (sym e))

@@ -1,7 +1,4 @@
-use Rattle.std.proofs.Common.{◌≡◌, ◌<◌, ℕ, Some, false}
-use Rattle.std.specs.Prelude.{slice_get}
-use Rattle.krl_world.specs.declared.message.Message.{Message}
-use Rattle.krl_nodes.specs.Sorting.{is_for}
+use Rattle.krl_nodes.proofs.Names.{◌≡◌, ◌<◌, ℕ, Some, false, slice_get, Message, is_for}
 use Rattle.krl_nodes.proofs.post.any_for.Given as goal
 
 -- none of those before is to the reader

@@ -1,7 +1,5 @@
-use Rattle.std.proofs.Common.{◌≡◌, ◌<◌, ◌∙◌, ◌∷◌, ◌++◌, [], length, sym, ap, subst, arith}
-use Rattle.std.specs.Prelude.{slice_index_or, slice_set}
+use Rattle.krl_nodes.proofs.Names.{◌≡◌, ◌<◌, ◌∙◌, ◌∷◌, ◌++◌, [], length, sym, ap, subst, arith, slice_index_or, slice_set, IsPut}
 use Rattle.krl_world.specs.declared.message.Message.TheVariants as message
-use Rattle.krl_nodes.specs.Sorting.{IsPut}
 use Rattle.krl_nodes.proofs.Hearing.{index_is}
 use Rattle.krl_nodes.proofs.Piles.{put_client, put_nowhere}
 use Rattle.krl_nodes.proofs.sorting.put.Goals as goal

@@ -1,5 +1,4 @@
-use Rattle.std.proofs.Common.{◌≡◌, length}
-use Rattle.krl_nodes.specs.Sorting.{AreSortedBack}
+use Rattle.krl_nodes.proofs.Names.{◌≡◌, length, AreSortedBack}
 use Rattle.krl_nodes.proofs.sorting.put_back.Given as goal
 
 -- the letters with the messages behind them are as they were

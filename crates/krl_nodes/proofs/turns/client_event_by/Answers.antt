@@ -1,6 +1,4 @@
-use Rattle.std.proofs.Common.{inl}
-use Rattle.krl_world.specs.Fields.{seat_of}
-use Rattle.krl_nodes.specs.declared.policy.Pick.TheVariants.{Take}
+use Rattle.krl_nodes.proofs.Names.{inl, seat_of, Take}
 use Rattle.krl_nodes.proofs.Unasked.{client_unasked, client_apart}
 use Rattle.krl_nodes.proofs.turns.client_event_by.Goals as goal
 

@@ -1,8 +1,4 @@
-use Rattle.std.proofs.Common.{refl, ap, ◌∙◌}
-use Rattle.krl_world.specs.Steps.{server_down}
-use Rattle.krl_world.specs.Fields.{node_of}
-use Rattle.krl_world.proofs.Functions.Lifts.{is_client}
-use Rattle.krl_server.specs.StateMeaning.{meaning}
+use Rattle.krl_nodes.proofs.Names.{refl, ap, ◌∙◌, server_down, node_of, is_client, meaning}
 use Rattle.krl_nodes.proofs.turns.nudge.Goals as goal
 
 pub returns-in-Ok : goal.returns-in-Ok

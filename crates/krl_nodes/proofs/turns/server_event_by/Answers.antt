@@ -1,6 +1,4 @@
-use Rattle.std.proofs.Common.{inl}
-use Rattle.krl_world.specs.Fields.{node_of}
-use Rattle.krl_nodes.specs.declared.policy.Pick.TheVariants.{Take}
+use Rattle.krl_nodes.proofs.Names.{inl, node_of, Take}
 use Rattle.krl_nodes.proofs.Unasked.{server_unasked, server_apart}
 use Rattle.krl_nodes.proofs.turns.server_event_by.Goals as goal
 

@@ -1,9 +1,7 @@
-use Rattle.std.proofs.Common.{◌≤◌, sym, ap, subst, arith}
+use Rattle.krl_nodes.proofs.Names.{◌≤◌, sym, ap, subst, arith, client_there, ScansIndex}
 use Rattle.std.proofs.lemmas.Result.{err_from_is_err_and}
 use Rattle.krl_client.specs.Fields.{meaning}
 use Rattle.krl_steps.specs.declared.refused.Refused.TheVariants as refused
-use Rattle.krl_world.specs.Fields.{client_there}
-use Rattle.krl_nodes.specs.Nodes.{ScansIndex}
 use Rattle.krl_nodes.specs.contracts.client.ClientNode.{the_view}
 use Rattle.krl_nodes.proofs.Scans.{scans_there, scans_not}
 use Rattle.krl_nodes.proofs.client.ClientNode.scan.Goals as goal

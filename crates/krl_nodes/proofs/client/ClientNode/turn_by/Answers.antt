@@ -1,6 +1,4 @@
-use Rattle.std.proofs.Common.{ap, refl, arith}
-use Rattle.krl_world.specs.Fields.{seat_of}
-use Rattle.krl_nodes.specs.declared.view.Node.TheVariants.{Client}
+use Rattle.krl_nodes.proofs.Names.{ap, refl, arith, seat_of, Client}
 use Rattle.krl_nodes.proofs.Events.{client_change}
 use Rattle.krl_nodes.proofs.Nodes.{may_give, is_at, exchanged}
 use Rattle.krl_nodes.proofs.client.ClientNode.turn_by.Goals as goal

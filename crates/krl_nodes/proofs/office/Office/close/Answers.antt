@@ -1,5 +1,4 @@
-use Rattle.std.proofs.Common.{sym, ap, ◌∙◌}
-use Rattle.krl_world.specs.States.{durable_of}
+use Rattle.krl_nodes.proofs.Names.{sym, ap, ◌∙◌, durable_of}
 use Rattle.krl_nodes.proofs.office.Office.close.Goals as goal
 
 pub returns : goal.returns

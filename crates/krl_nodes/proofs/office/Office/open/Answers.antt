@@ -1,13 +1,8 @@
-use Rattle.std.proofs.Common.{◌≡◌, ◌≤◌, ℕ, List, [], ◌∷◌, ◌++◌, length, refl, sym, ap, ◌∙◌, subst}
-use Rattle.atomic_table.specs.Table.{opening}
-use Rattle.krl_messages.specs.Values.{Value}
+use Rattle.krl_nodes.proofs.Names.{◌≡◌, ◌≤◌, ℕ, List, [], ◌∷◌, ◌++◌, length, refl, sym, ap, ◌∙◌, subst, opening, Value, Mail, Holds, first_view}
 use Rattle.krl_durable.specs.Openings.{AreGood, fresh}
 use Rattle.krl_durable.specs.Writes.{most_entries}
 use Rattle.krl_world.specs.declared.node.ServerNode.TheVariants as kept
 use Rattle.krl_nodes.specs.declared.rule.Opening.{Opening}
-use Rattle.krl_nodes.specs.Mail.{Mail}
-use Rattle.krl_nodes.specs.Rule.{Holds}
-use Rattle.krl_nodes.specs.Steps.{first_view}
 use Rattle.krl_nodes.proofs.Opens.{new_mail, begun, begins, opens_new, opened_at, nobody_seated}
 use Rattle.krl_nodes.proofs.office.Office.open.Goals as goal
 

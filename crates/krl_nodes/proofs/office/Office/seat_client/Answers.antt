@@ -1,6 +1,5 @@
-use Rattle.std.proofs.Common.{None, refl, inl, inr, ap, arith}
+use Rattle.krl_nodes.proofs.Names.{None, refl, inl, inr, ap, arith, Server, Client, Blank}
 use Rattle.std.proofs.Math.ListN.{length-set}
-use Rattle.krl_nodes.specs.declared.view.Node.TheVariants.{Server, Client, Blank}
 use Rattle.krl_nodes.proofs.Nodes.{may_give, is_at, at_same, joined_at}
 use Rattle.krl_nodes.proofs.office.Office.seat_client.Goals as goal
 

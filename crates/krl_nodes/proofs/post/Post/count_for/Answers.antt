@@ -1,6 +1,4 @@
-use Rattle.std.proofs.Common.{◌<◌, ◌∙◌, length, refl, sym, subst, arith}
-use Rattle.krl_nodes.specs.Letters.{IsReader}
-use Rattle.krl_nodes.specs.Sorting.{HasOne, HasNone}
+use Rattle.krl_nodes.proofs.Names.{◌<◌, ◌∙◌, length, refl, sym, subst, arith, IsReader, HasOne, HasNone}
 use Rattle.krl_nodes.proofs.Hearing.{index_is, some_for, all_server, all_client}
 use Rattle.krl_nodes.proofs.post.Post.count_for.Goals as goal
 

@@ -1,6 +1,4 @@
-use Rattle.std.proofs.Common.{◌<◌, length, refl, inr, subst, arith}
-use Rattle.krl_world.specs.Fields.{seat_of}
-use Rattle.krl_nodes.specs.Sorting.{HasOne, HasNone}
+use Rattle.krl_nodes.proofs.Names.{◌<◌, length, refl, inr, subst, arith, seat_of, HasOne, HasNone}
 use Rattle.krl_nodes.specs.declared.post.Reader.TheVariants as reader
 use Rattle.krl_nodes.proofs.Hearing.{index_is, some_to, read_by}
 use Rattle.krl_nodes.proofs.post.Post.hand.Goals as goal

@@ -1,7 +1,4 @@
-use Rattle.std.proofs.Common.{refl, inr, subst}
-use Rattle.krl_world.specs.Fields.{node_of}
-use Rattle.krl_nodes.specs.Letters.{from_client}
-use Rattle.krl_nodes.specs.Sorting.{HasOne, HasNone}
+use Rattle.krl_nodes.proofs.Names.{refl, inr, subst, node_of, from_client, HasOne, HasNone}
 use Rattle.krl_nodes.specs.declared.post.Reader.TheVariants as reader
 use Rattle.krl_nodes.proofs.Piles.{one_said}
 use Rattle.krl_nodes.proofs.Hearing.{some_of, served_by}

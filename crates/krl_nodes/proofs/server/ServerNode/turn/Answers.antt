@@ -1,7 +1,4 @@
-use Rattle.std.proofs.Common.{ap, refl}
-use Rattle.krl_world.specs.Fields.{node_of}
-use Rattle.krl_nodes.specs.declared.view.Node.TheVariants.{Server}
-use Rattle.krl_nodes.specs.declared.policy.Pick.TheVariants.{Take}
+use Rattle.krl_nodes.proofs.Names.{ap, refl, node_of, Server, Take}
 use Rattle.krl_nodes.proofs.Events.{server_change}
 use Rattle.krl_nodes.proofs.Nodes.{may_give, is_at, exchanged}
 use Rattle.krl_nodes.proofs.server.ServerNode.turn.Goals as goal

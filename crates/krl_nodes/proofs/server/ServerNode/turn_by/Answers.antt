@@ -1,6 +1,4 @@
-use Rattle.std.proofs.Common.{ap, refl}
-use Rattle.krl_world.specs.Fields.{node_of}
-use Rattle.krl_nodes.specs.declared.view.Node.TheVariants.{Server}
+use Rattle.krl_nodes.proofs.Names.{ap, refl, node_of, Server}
 use Rattle.krl_nodes.proofs.Events.{server_change}
 use Rattle.krl_nodes.proofs.Nodes.{may_give, is_at, exchanged}
 use Rattle.krl_nodes.proofs.server.ServerNode.turn_by.Goals as goal
