@@ -1,18 +1,10 @@
 -- What survives, written out and brought back.
-use Rattle.std.proofs.Common.{◌≡◌, ℕ, zero, suc, ◌≤◌, ◌<◌, true, false, List, [], ◌∷◌, length, take, refl, sym, ap, ◌∙◌, arith, ◌||◌}
-use Rattle.std.proofs.lemmas.Bool.Decides.{nat_tests}
+use Rattle.krl_durable.proofs.Names.{◌≡◌, ℕ, zero, suc, ◌≤◌, ◌<◌, true, false, List, [], ◌∷◌, length, take, refl, sym, ap, ◌∙◌, arith, ◌||◌, nat_tests, nat_cmp_total, END, Value, Index, has_key}
+use Rattle.krl_durable.proofs.Names.{Register, Durable, most_entries, AreBelowEnd, key_of_entry, stands_before, Refuses, MakesAgain}
 use Rattle.std.specs.Prelude.{nat_eq}
-use Rattle.std.specs.Cmp.{nat_cmp_total}
 use Rattle.std.specs.FinMap as map
-use Rattle.krl_modes.specs.declared.point.TheConstants.{END}
-use Rattle.krl_messages.specs.Values.{Value}
 use Rattle.krl_durable.specs.declared.refused.Refused.{Refused}
 use Rattle.krl_durable.specs.declared.refused.Refused.TheVariants as refused
-use Rattle.krl_durable.specs.Index.{Index, has_key}
-use Rattle.krl_durable.specs.Registers.{Register, Durable}
-use Rattle.krl_durable.specs.Writes.{most_entries}
-use Rattle.krl_durable.specs.Kept.{AreBelowEnd}
-use Rattle.krl_durable.specs.Openings.{key_of_entry, stands_before, Refuses, MakesAgain}
 use Rattle.krl_durable.proofs.Kept.{sorted_entries}
 use Rattle.krl_durable.proofs.Slots.{Above, Rises, rises}
 

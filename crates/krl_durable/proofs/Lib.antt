@@ -11,3 +11,4 @@ pub mod SlotLaws
 pub mod Registered
 pub mod Again
 pub mod Crosses
+mod Names

@@ -1,12 +1,8 @@
 -- Records that are set one after another make the register that they stand in.
-use Rattle.std.proofs.Common.{◌≡◌, ℕ, zero, suc, ◌<◌, false, nat_eq, [], ◌∷◌, length, take, get_or, refl, sym, ap, arith, ne_eqb}
+use Rattle.krl_durable.proofs.Names.{◌≡◌, ℕ, zero, suc, ◌<◌, false, nat_eq, [], ◌∷◌, length, take, get_or, refl, sym, ap, arith, ne_eqb, AllByRecursion, IsDistinct, keys_of, Record, Register}
+use Rattle.krl_durable.proofs.Names.{with_record, IsRow}
 use Rattle.std.proofs.lemmas.Bool.{eqb-false}
 use Rattle.std.proofs.lemmas.Map.Keys.{IsDistinct-head, IsDistinct-tail}
-use Rattle.std.specs.List.{AllByRecursion, IsDistinct}
-use Rattle.std.specs.Map.{keys_of}
-use Rattle.krl_durable.specs.declared.record.Record.{Record}
-use Rattle.krl_durable.specs.Registers.{Register, with_record}
-use Rattle.krl_durable.specs.Kept.{IsRow}
 
 -- what each row has, the one at a place has
 pub row_at : (es : Register) (i : ℕ) (d : ℕ × Record) → AllByRecursion IsRow es → i < length es → IsRow (get_or es i d)

@@ -1,13 +1,8 @@
 -- The register, by what an `IndexMap` says of its entries.
-use Rattle.std.proofs.Common.{◌≡◌, ℕ, Bool, true, false, cond, nat_eq, List, [], ◌∷◌, Option, None, Some, refl, sym, ap, subst, ◌∙◌, is_some}
-use Rattle.std.specs.Prelude.{nat_lt, IsSome, IfSome}
-use Rattle.std.specs.List.{AllByRecursion, filter_map}
-use Rattle.std.specs.Map.{lookup, set_value}
+use Rattle.krl_durable.proofs.Names.{◌≡◌, ℕ, Bool, true, false, cond, nat_eq, List, [], ◌∷◌, Option, None, Some, refl, sym, ap, subst, ◌∙◌, is_some, nat_lt, IsSome, IfSome, AllByRecursion}
+use Rattle.krl_durable.proofs.Names.{filter_map, lookup, set_value, Record, Register, record_of, with_record, missing_order, HasOutcomes, HasLasts, HasIncarnations, IsRow, IsRecord, missing_of}
 use Rattle.indexmap.specs.IndexMap.{insert_entry}
 use borrow.Author.Tests.{eqb-true}
-use Rattle.krl_durable.specs.declared.record.Record.{Record}
-use Rattle.krl_durable.specs.Registers.{Register, record_of, with_record, missing_order, HasOutcomes, HasLasts, HasIncarnations}
-use Rattle.krl_durable.specs.Kept.{IsRow, IsRecord, missing_of}
 
 -- a look-up finds the client's record
 pub record_seen : (es : Register) (c : ℕ) → lookup (nat_eq c) es ≡ record_of es c

@@ -1,20 +1,10 @@
 -- What a search in the blocks says of the index.
 use Rattle.std.proofs.Common.{◌≡◌, ◌≢◌, ℕ, suc, ◌≤◌, ◌<◌, Bool, true, false, cond, List, [], ◌∷◌, ◌++◌, length, take, drop, Option, None, Some, IfSome, MatchOption, refl, sym, ap, subst, ◌∙◌, arith, is_some}
-use Rattle.std.proofs.lemmas.Bool.Decides.{nat_tests}
-use Rattle.std.proofs.lemmas.List.{take-append-drop}
+use Rattle.krl_durable.proofs.Names.{nat_tests, take-append-drop, nat_lt, AllByRecursion, slice_get, filter, nat_cmp, eq_by_cmp, find, put, is_sorted, END, Value, AreBelow, AreFrom, NoKey, KeysAbove}
+use Rattle.krl_durable.proofs.Names.{KeysRise, HasEntry, IsFound, IsInserted, IsRemoved, IsChanged, last_key, after_keys, low_of, behind, slot_of, AreBelowEnd, IsEntries, most_entries}
 use Rattle.std.proofs.Math.Seq.{take-append_seam, drop-append_seam}
-use Rattle.std.specs.Prelude.{nat_lt}
-use Rattle.std.specs.List.{AllByRecursion, slice_get, filter}
-use Rattle.std.specs.Ordering.{nat_cmp, eq_by_cmp}
 use Rattle.std.specs.FinMap as map
-use Rattle.std.specs.FinMap.Entries.{find, put, is_sorted}
-use Rattle.krl_modes.specs.declared.point.TheConstants.{END}
-use Rattle.krl_messages.specs.Values.{Value}
-use Rattle.krl_blocks.specs.Entries.{AreBelow, AreFrom, NoKey, KeysAbove, KeysRise, HasEntry, IsFound, IsInserted, IsRemoved, IsChanged, last_key}
 use Rattle.krl_blocks.proofs.Places.{front_all}
-use Rattle.krl_durable.specs.Index.{after_keys, low_of, behind, slot_of}
-use Rattle.krl_durable.specs.Kept.{AreBelowEnd, IsEntries}
-use Rattle.krl_durable.specs.Writes.{most_entries}
 use Rattle.krl_durable.proofs.Slots.{Above, Rises, CutAt, rises, cut_at, entries_kept, cut_below, none_behind, head_some, head_none, slot_value, find_behind, find_here, not_above}
 use Rattle.krl_durable.proofs.Edits.{Cut, inserted, put_cut, put_here, removed, drop_one}
 use Rattle.krl_durable.proofs.Cuts.{slot_at, end_at, low_at, after_below}

@@ -1,18 +1,11 @@
 -- The slot of a point is the least at or above it; the span of a slot begins behind the slot before it.
-use Rattle.std.proofs.Common.{◌≡◌, ◌≢◌, ℕ, suc, ◌≤◌, ◌<◌, Bool, true, false, List, [], ◌∷◌, Option, Some, None, ◌↔◌, refl, sym, ap, subst, ◌∙◌, ⊎_elim, arith, ◌||◌}
-use Rattle.std.proofs.Common.{nat_eq, ltb-true, ltb-false, ne_eqb}
+use Rattle.krl_durable.proofs.Names.{◌≡◌, ◌≢◌, ℕ, suc, ◌≤◌, ◌<◌, Bool, true, false, List, [], ◌∷◌, Option, Some, None, ◌↔◌, refl, sym, ap, subst, ◌∙◌, ⊎_elim, arith, ◌||◌, nat_eq, ltb-true}
+use Rattle.krl_durable.proofs.Names.{ltb-false, ne_eqb, nat_tests, filter, nat_cmp, eq_by_cmp, find, is_sorted, END, Value, Index, first_or_end, after_keys, slot_of, low_of, is_slot, IsSlotOf}
+use Rattle.krl_durable.proofs.Names.{IsSpanOf, AreBelowEnd}
 use Rattle.std.proofs.lemmas.Bool.{cases_lt}
-use Rattle.std.proofs.lemmas.Bool.Decides.{nat_tests}
 use Rattle.std.proofs.lemmas.Option.{none-some}
 use Rattle.std.specs.Prelude.{nat_lt, nat_le, is_some, if◌then◌else◌}
-use Rattle.std.specs.List.{filter}
-use Rattle.std.specs.Ordering.{nat_cmp, eq_by_cmp}
 use Rattle.std.specs.FinMap as map
-use Rattle.std.specs.FinMap.Entries.{find, is_sorted}
-use Rattle.krl_modes.specs.declared.point.TheConstants.{END}
-use Rattle.krl_messages.specs.Values.{Value}
-use Rattle.krl_durable.specs.Index.{Index, first_or_end, after_keys, slot_of, low_of, is_slot, IsSlotOf, IsSpanOf}
-use Rattle.krl_durable.specs.Kept.{AreBelowEnd}
 use Rattle.krl_durable.proofs.Slots.{Above, Rises, is_true, rises, find_here}
 
 -- each key of the list is at or above k

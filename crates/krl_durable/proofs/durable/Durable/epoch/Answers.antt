@@ -1,6 +1,4 @@
-use Rattle.std.proofs.Common.{subst}
-use Rattle.krl_durable.specs.Registers.{Durable}
-use Rattle.krl_durable.specs.Kept.{IsKept}
+use Rattle.krl_durable.proofs.Names.{subst, Durable, IsKept}
 use Rattle.krl_durable.proofs.Rows.{clients_seen, outcomes_seen, lasts_seen, incarnations_seen}
 use Rattle.krl_durable.proofs.durable.Durable.epoch.Goals as goal
 

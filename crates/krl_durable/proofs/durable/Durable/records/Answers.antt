@@ -1,8 +1,4 @@
-use Rattle.std.proofs.Common.{subst}
-use Rattle.std.specs.Prelude.{IfOk}
-use Rattle.std.proofs.lemmas.Result.{IfOk-weaker}
-use Rattle.krl_durable.specs.Registers.{Durable}
-use Rattle.krl_durable.specs.Openings.{MakesAgain}
+use Rattle.krl_durable.proofs.Names.{subst, IfOk, IfOk-weaker, Durable, MakesAgain}
 use Rattle.krl_durable.proofs.Again.{makes_again}
 use Rattle.krl_durable.proofs.durable.Durable.records.Goals as goal
 

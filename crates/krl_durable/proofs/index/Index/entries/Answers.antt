@@ -1,6 +1,4 @@
-use Rattle.std.proofs.Common.{sym, subst, ◌∙◌, ◌≤◌, length}
-use Rattle.krl_durable.specs.Kept.{AreBelowEnd}
-use Rattle.krl_durable.specs.Writes.{most_entries}
+use Rattle.krl_durable.proofs.Names.{sym, subst, ◌∙◌, ◌≤◌, length, AreBelowEnd, most_entries}
 use Rattle.krl_durable.proofs.Slots.{entries_kept}
 use Rattle.krl_durable.proofs.index.Index.entries.Goals as goal
 

@@ -1,5 +1,4 @@
-use Rattle.std.proofs.Common.{◌∙◌, arith}
-use Rattle.krl_modes.specs.declared.point.TheConstants.{END}
+use Rattle.krl_durable.proofs.Names.{◌∙◌, arith, END}
 use Rattle.krl_durable.proofs.Slots.{entries_kept}
 use Rattle.krl_durable.proofs.SlotLaws.{slot_answered, span_answered}
 use Rattle.krl_durable.proofs.Runs.{before_end, slot_found, low_found, value_found, end_found, end_low, end_value, key_ends}

@@ -1,5 +1,4 @@
-use Rattle.std.proofs.Common.{sym, subst}
-use Rattle.krl_blocks.specs.Entries.{IsRun}
+use Rattle.krl_durable.proofs.Names.{sym, subst, IsRun}
 use Rattle.krl_durable.proofs.Slots.{entries_kept}
 use Rattle.krl_durable.proofs.index.Index.run.Goals as goal
 

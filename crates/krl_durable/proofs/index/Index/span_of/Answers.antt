@@ -1,7 +1,5 @@
-use Rattle.std.proofs.Common.{◌≡◌, ◌+◌, ℕ, ap, add-one, ◌∙◌, arith}
-use Rattle.std.proofs.lemmas.Result.{IfOk-at_ok}
+use Rattle.krl_durable.proofs.Names.{◌≡◌, ◌+◌, ℕ, ap, add-one, ◌∙◌, arith, IfOk-at_ok, low_of}
 use Rattle.krl_modes.specs.Spans.{Bounds}
-use Rattle.krl_durable.specs.Index.{low_of}
 use Rattle.krl_durable.proofs.Slots.{entries_kept}
 use Rattle.krl_durable.proofs.SlotLaws.{span_answered}
 use Rattle.krl_durable.proofs.Runs.{before_end, low_cut, low_within}

@@ -1,6 +1,4 @@
-use Rattle.std.proofs.Common.{◌<◌, ℕ, false, None, length, take, get_or, sym, ap, ◌∙◌, arith, add-one}
-use Rattle.krl_durable.specs.declared.record.Record.{Record}
-use Rattle.krl_durable.specs.Registers.{with_record}
+use Rattle.krl_durable.proofs.Names.{◌<◌, ℕ, false, None, length, take, get_or, sym, ap, ◌∙◌, arith, add-one, Record, with_record}
 use Rattle.krl_durable.proofs.Registered.{next_set}
 use Rattle.krl_durable.proofs.register.Register.from_records.Goals as goal
 

@@ -1,5 +1,4 @@
-use Rattle.std.proofs.Common.{ap, ◌∙◌}
-use Rattle.krl_durable.specs.Registers.{record_of}
+use Rattle.krl_durable.proofs.Names.{ap, ◌∙◌, record_of}
 use Rattle.krl_durable.proofs.Rows.{record_seen, record_kept}
 use Rattle.krl_durable.proofs.register.Register.get.Goals as goal
 

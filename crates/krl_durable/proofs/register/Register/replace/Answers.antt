@@ -1,10 +1,6 @@
-use Rattle.std.proofs.Common.{◌≡◌, true, false, is_some, None, sym, ap, subst, ◌∙◌}
-use Rattle.std.specs.Prelude.{IsSome}
-use Rattle.std.specs.List.{AllByRecursion}
+use Rattle.krl_durable.proofs.Names.{◌≡◌, true, false, is_some, None, sym, ap, subst, ◌∙◌, IsSome, AllByRecursion, record_of, with_record, IsRow}
 use Rattle.std.specs.Option.{option_copied_mut}
 use Rattle.krl_durable.specs.declared.register.Register.TheInside.{Inside}
-use Rattle.krl_durable.specs.Registers.{record_of, with_record}
-use Rattle.krl_durable.specs.Kept.{IsRow}
 use Rattle.krl_durable.proofs.Rows.{record_seen, replaced_seen, rows_with, client_below}
 use Rattle.krl_durable.proofs.register.Register.replace.Goals as goal
 use Rattle.krl_durable.proofs.register.Register.replace.Goals.{in-Some, in_default}

@@ -1,8 +1,5 @@
 use Rattle.std.proofs.Common.{◌≡◌, true, nat_lt, sym, ap, subst, ◌∙◌, arith}
-use Rattle.std.proofs.lemmas.Bool.Decides.{nat_tests}
-use Rattle.std.specs.List.{AllByRecursion}
-use Rattle.krl_durable.specs.Registers.{with_record}
-use Rattle.krl_durable.specs.Kept.{IsRow}
+use Rattle.krl_durable.proofs.Names.{nat_tests, AllByRecursion, with_record, IsRow}
 use Rattle.krl_durable.proofs.Rows.{set_seen, rows_with}
 use Rattle.krl_durable.proofs.register.Register.set.Goals as goal
 
