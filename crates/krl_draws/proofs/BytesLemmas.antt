@@ -2,7 +2,7 @@
 use Rattle.std.proofs.Common.{◌≡◌, ℕ, suc, ◌+◌, ◌-◌, ◌<◌, ◌≤◌, ◌∙◌, List, [], ◌∷◌, ◌++◌, length, take, set, sym, ap, arith, append_assoc}
 use Rattle.std.proofs.lemmas.List.{append-nil, take_more_set}
 use Rattle.rand_pcg.specs.Lcg.{Lcg}
-use Rattle.krl_draws.specs.Draws as draw
+use Rattle.krl_draws.specs.Generator as draw
 
 -- what is drawn next stands behind the others
 pub more_drawn : (len i b : ℕ) (buf : List ℕ) (whole : List ℕ × Lcg) (g h : Lcg) → i < len → i < length buf → (let got : ℕ × Lcg = (b, h) in got) ≡ draw.below 256 g → whole ≡ (take i buf ++ (draw.bytes (len - i) g).0, (draw.bytes (len - i) g).1) →

@@ -1,1 +1,1 @@
-pub mod Draws
+pub mod Generator

@@ -1,6 +1,6 @@
 //! What a random run draws: the steps of a world, from the words of a generator.
 #![tactic(auto)]
 
-mod draws;
+mod generator;
 
-pub use draws::{Draws, Sight};
+pub use generator::{Generator, Observed};

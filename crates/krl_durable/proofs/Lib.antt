@@ -5,7 +5,7 @@ pub mod Edits
 pub mod Cuts
 pub mod Runs
 pub mod Kept
-pub mod Openings
+pub mod InitialEntries
 pub mod Judged
 pub mod SlotLaws
 pub mod Registered

@@ -14,7 +14,7 @@ pub use Rattle.std.specs.declared.cmp.Ordering.TheVariants.{Greater, Equal, Less
 pub use Rattle.krl_blocks.specs.Entries.{AreBelow, NoKey, last_key, KeysRise, AreFrom, IsFound, IsChanged, KeysAbove, IsRun, IsRemoved, HasEntry, IsInserted}
 pub use Rattle.krl_durable.specs.Index.{first_or_end, low_of, Index, is_slot, slot_of, behind, after_keys, IsSlotOf, has_key, IsSpanOf}
 pub use Rattle.krl_durable.specs.Kept.{IsRow, IsKept, IsEntries, missing_of, IsRecord, AreBelowEnd}
-pub use Rattle.krl_durable.specs.Openings.{MakesAgain, stands_before, IsGood, Refuses, AreGood, key_of_entry}
+pub use Rattle.krl_durable.specs.InitialEntries.{MakesAgain, stands_before, IsGood, Refuses, AreGood, key_of_entry}
 pub use Rattle.krl_durable.specs.Registers.{Register, HasIncarnations, Durable, missing_order, HasLasts, with_record, HasOutcomes, record_of}
 pub use Rattle.krl_durable.specs.Writes.{judge}
 unfoldable pub use Rattle.krl_durable.specs.Writes.{most_entries}

@@ -13,7 +13,7 @@ ghost use Rattle.krl_durable.specs.Index.{slot_of, low_of, span_of, IsSlotOf, Is
 ghost use Rattle.krl_durable.specs.Registers.{record_of, missing_order, registered, departed};
 ghost use Rattle.krl_durable.specs.Registers.{IsIncarnation};
 ghost use Rattle.krl_durable.specs.Kept.{IsKept, IsRow};
-ghost use Rattle.krl_durable.specs.Openings.{AreGood, Refuses, MakesAgain, of_parts, fresh};
+ghost use Rattle.krl_durable.specs.InitialEntries.{AreGood, Refuses, MakesAgain, of_parts, fresh};
 ghost use Rattle.krl_durable.specs.Migrations.{migrated_entries, migrated, CannotMigrate};
 ghost use Rattle.krl_messages.specs.Writes.{op_key};
 ghost use Rattle.krl_durable.specs.Writes.{most_entries, judge, applied};
@@ -164,7 +164,7 @@ impl Durable {
     }
 
     /// The epoch rises by one. It takes no memory.
-    pub fn raise(&mut self)
+    pub fn next_epoch(&mut self)
         requires { self.old.epoch < END }
         ensures { self.new ≡ record self.old { epoch = suc self.old.epoch } }
     {

@@ -6,7 +6,7 @@ ghost use Rattle.std.specs.FinMap as map;
 ghost use Rattle.krl_modes.specs.declared.point.TheConstants.{END};
 ghost use Rattle.krl_durable.specs.Registers.{record_of, missing_order};
 ghost use Rattle.krl_durable.specs.Kept.{IsRow, AreOrdered};
-ghost use Rattle.krl_durable.specs.Openings.{AreGood, Refuses};
+ghost use Rattle.krl_durable.specs.InitialEntries.{AreGood, Refuses};
 ghost use Rattle.krl_durable.specs.Migrations.{of_numbers};
 ghost use Rattle.krl_durable.specs.Writes.{most_entries};
 

@@ -1,7 +1,7 @@
 //! Refusals.
 ghost use Rattle.std.specs.Prelude.{◌≡◌};
 ghost use Rattle.krl_durable.specs.declared.refused.Refused.TheVariants.{OutOfMemory};
-ghost use Rattle.krl_durable.specs.Openings.{refused_name};
+ghost use Rattle.krl_durable.specs.InitialEntries.{refused_name};
 
 use std::alloc::AllocError;
 use thiserror::Error;

@@ -10,7 +10,7 @@ use Rattle.krl_durable.specs.declared.record.Record.{Record}
 use Rattle.krl_durable.specs.declared.refused.Refused.{Refused}
 use Rattle.krl_durable.specs.declared.refused.Refused.TheVariants as refused
 use Rattle.krl_durable.specs.Registers.{Durable}
-use Rattle.krl_durable.specs.Openings.{of_parts, Refuses, AreGood}
+use Rattle.krl_durable.specs.InitialEntries.{of_parts, Refuses, AreGood}
 use Rattle.krl_durable.specs.Writes.{most_entries}
 use Rattle.krl_client.specs.Clients.{begun}
 use Rattle.krl_client.specs.Commands.{start_refusal}

@@ -3,7 +3,7 @@ ghost use Rattle.std.specs.Prelude.{◌≡◌, is_some, Some, None, IsNone, Matc
 
 use crate::endpoint::Endpoint;
 use crate::owned::Owned;
-use krl_queue::Loose;
+use krl_queue::DetachedBox;
 use std::alloc::Global;
 use std::mem::replace;
 
@@ -31,7 +31,7 @@ pub(crate) fn take(alloc: Global, handle: &mut Handle) -> Option<Box<Endpoint>>
         owned: Owned::none(),
     };
     let Handle { is_open: _, owned } = replace(handle, closed);
-    Some(owned.into_loose(alloc).into_box())
+    Some(owned.into_detached_box(alloc).into_box())
 }
 
 // The value. It may go to another thread: no other value has a proof of this call's bound.
@@ -47,6 +47,6 @@ pub(crate) fn put(handle: &mut Handle, endpoint: Box<Endpoint>)
 {
     *handle = Handle {
         is_open: true,
-        owned: Owned::of(Loose::of(crosses(endpoint))),
+        owned: Owned::of(DetachedBox::of(crosses(endpoint))),
     };
 }

@@ -6,7 +6,7 @@ ghost use Rattle.std.specs.Coded.{coded_option};
 ghost use Rattle.krl_embed.specs.contracts.endpoint.Endpoint.{the_row};
 
 use crate::endpoint::Endpoint;
-use krl_queue::Loose;
+use krl_queue::DetachedBox;
 use std::alloc::Global;
 use std::marker::Model;
 use std::ptr::null_mut;
@@ -33,20 +33,20 @@ impl Owned {
         Owned { at: null_mut() }
     }
 
-    pub(crate) fn of(loose: Loose<Endpoint, Global>) -> Owned
-        ensures { result.value ≡ Some loose.value }
+    pub(crate) fn of(detached_box: DetachedBox<Endpoint, Global>) -> Owned
+        ensures { result.value ≡ Some detached_box.value }
     {
-        let Loose { at, alloc: _ } = loose;
+        let DetachedBox { at, alloc: _ } = detached_box;
         let at = at as *mut u8;
         Owned { at }
     }
 
-    pub(crate) fn into_loose(self, alloc: Global) -> Loose<Endpoint, Global>
+    pub(crate) fn into_detached_box(self, alloc: Global) -> DetachedBox<Endpoint, Global>
         requires { IsSome self.value }
         ensures { self.value ≡ Some result.value }
     {
         let Owned { at } = self;
         let at = at as *mut Endpoint;
-        Loose { at, alloc }
+        DetachedBox { at, alloc }
     }
 }

@@ -115,7 +115,7 @@ client_takes p c mail x mail' x' r = acts_by mail mail' post (ClientAt c x) (Cli
 
     go : (w : State) (o : Option Client) → w.seats c ≡ x → x.client ≡ o → AllSent post (w.sent ++ from_clients r.list) → StandsIn (message.ToClient r.letter) w.sent → r.letter.client ≡ c → ClientReads o r.letter x'.client r.list → Event w (ClientAt c x) (ClientAt c x') post
     go w None is i all at own h =
-        let same : x' ≡ x = λ t. record { greatest = r.greatest t; client = (h.0 ∙ sym i) t } in
+        let same : x' ≡ x = λ t. record { last_incarnation = r.last_incarnation t; client = (h.0 ∙ sym i) t } in
         let down : client_of w r.letter.client ≡ None = ap (λ k. client_of w k) own ∙ ap (λ (s : Seat). s.client) is ∙ i in
         past_a_client w c x x' w.sent post (step.Deliver (suc at.0)) told.Done is same
         (seats.read_by_nobody w w at.0 r.letter at.1 down refl)
@@ -123,16 +123,16 @@ client_takes p c mail x mail' x' r = acts_by mail mail' post (ClientAt c x) (Cli
     go w (Some k) is i all at own h =
         let more = w.sent ++ from_clients r.list in
         let up : client_of w r.letter.client ≡ Some k = ap (λ k. client_of w k) own ∙ ap (λ (s : Seat). s.client) is ∙ i in
-        let greatest : (w.seats r.letter.client).greatest ≡ x'.greatest = ap (λ k. (w.seats k).greatest) own ∙ ap (λ (s : Seat). s.greatest) is ∙ sym r.greatest in
+        let last_incarnation : (w.seats r.letter.client).last_incarnation ≡ x'.last_incarnation = ap (λ k. (w.seats k).last_incarnation) own ∙ ap (λ (s : Seat). s.last_incarnation) is ∙ sym r.last_incarnation in
         let v : State = gone w r.letter.client (Some h.0) more in
-        let e : v ≡ record w { seats = set_seat w.seats c x'; sent = more } = λ t. record w { seats = set_seat w.seats (own t) (record { greatest = greatest t; client = sym h.1 t }); sent = more } in
+        let e : v ≡ record w { seats = set_seat w.seats c x'; sent = more } = λ t. record w { seats = set_seat w.seats (own t) (record { last_incarnation = last_incarnation t; client = sym h.1 t }); sent = more } in
         at_a_client w c x x' more post (step.Deliver (suc at.0)) told.Done
         (subst (λ (u : State). Steps w (step.Deliver (suc at.0)) (Ok told.Done) u) e (seats.read_steps w v at.0 r.letter k h.0 more at.1 up refl (record { list = r.list; follows = h.2; sent = refl })))
         all
 
 -- Commands
 
-obeys : (c : ℕ) (what : Command) (a : Answer) (mail : Mail) (x : Seat) (mail' : Mail) (x' : Seat) → c ≤ 63 → (o : Option Client) → x.client ≡ o → (list : List ToServer) → CommandedAt o what x'.client [] (from_clients list) (Ok a) → x'.greatest ≡ x.greatest → mail' ≡ with_said mail list → Acts mail (ClientAt c x) mail' (ClientAt c x')
+obeys : (c : ℕ) (what : Command) (a : Answer) (mail : Mail) (x : Seat) (mail' : Mail) (x' : Seat) → c ≤ 63 → (o : Option Client) → x.client ≡ o → (list : List ToServer) → CommandedAt o what x'.client [] (from_clients list) (Ok a) → x'.last_incarnation ≡ x.last_incarnation → mail' ≡ with_said mail list → Acts mail (ClientAt c x) mail' (ClientAt c x')
 obeys c what a mail x mail' x' low None i list d g p = let both = d.0 in absurd (cc)
 obeys c what a mail x mail' x' low (Some k) i list d g p =
     let s = sends k what a x'.client [] (from_clients list) d.1 in
@@ -140,9 +140,10 @@ obeys c what a mail x mail' x' low (Some k) i list d g p =
     (λ w is all.
     let more = w.sent ++ from_clients list in
     let up : client_of w c ≡ Some k = ap (λ (y : Seat). y.client) is ∙ i in
-    let greatest : (w.seats c).greatest ≡ x'.greatest = ap (λ (y : Seat). y.greatest) is ∙ sym g in
+    let last_incarnation : (w.seats c).last_incarnation ≡ x'.last_incarnation =
+    ap (λ (y : Seat). y.last_incarnation) is ∙ sym g in
     let v : State = gone w c x'.client more in
-    let e : v ≡ record w { seats = set_seat w.seats c x'; sent = more } = λ t. record w { seats = set_seat w.seats c (record { greatest = greatest t; client = x'.client }); sent = more } in
+    let e : v ≡ record w { seats = set_seat w.seats c x'; sent = more } = λ t. record w { seats = set_seat w.seats c (record { last_incarnation = last_incarnation t; client = x'.client }); sent = more } in
     let does : Does k what a x'.client w.sent more = subst (λ ls. Does k what a x'.client w.sent (w.sent ++ ls)) (sym s.sent) (s.does w.sent) in
     at_a_client w c x x' more (with_said mail list) (step.Command c what) a
     (subst (λ (u : State). Steps w (step.Command c what) (Ok a) u) e (command_steps w v c what (Some k) x'.client more (Ok a) low up refl (d.0, does)))
@@ -160,7 +161,7 @@ ticks c mail x mail' x' a low t =
 
 starts : (c : ℕ) (mail : Mail) (x : Seat) (mail' : Mail) (x' : Seat) (a : Answer) → c ≤ 63 → starting_refusal c x ≡ None → ClientStarts c mail x mail' x' a → Acts mail (ClientAt c x) mail' (ClientAt c x')
 starts c mail x mail' x' a low due s =
-    let list : List ToServer = says_hello (begun c (suc x.greatest)) ∷ [] in
+    let list : List ToServer = says_hello (begun c (suc x.last_incarnation)) ∷ [] in
     acts_by mail mail' (with_said mail list) (ClientAt c x) (ClientAt c x') s.post refl refl
     (λ w is all.
     let more = w.sent ++ from_clients list in
@@ -173,7 +174,8 @@ crashes c mail x mail' x' a low t = acts_by mail mail' mail (ClientAt c x) (Clie
     (λ w is all.
     let up : client_of w c ≡ Some t.client = ap (λ (y : Seat). y.client) is ∙ t.was in
     let v : State = gone w c None w.sent in
-    let is' : down_at (w.seats c).greatest ≡ x' = ap (λ (y : Seat). down_at y.greatest) is ∙ sym t.now in
+    let is' : down_at (w.seats c).last_incarnation ≡ x' =
+    ap (λ (y : Seat). down_at y.last_incarnation) is ∙ sym t.now in
     let e : v ≡ record w { seats = set_seat w.seats c x'; sent = w.sent } = λ t. record w { seats = set_seat w.seats c (is' t); sent = w.sent } in
     at_a_client w c x x' w.sent mail (step.CrashClient c) told.Done
     (subst (λ (u : State). Steps w (step.CrashClient c) (Ok told.Done) u) e (seats.crashed_steps w v c t.client low up refl)) all)
@@ -254,7 +256,7 @@ server_change p o mail d mail' d' (Err e) h = rests ServerAt mail d mail' d' h.1
 
 client_acts : (p : Pick) (c : ℕ) → c ≤ 63 → (o : ClientOrder) (mail : Mail) (x : Seat) (mail' : Mail) (x' : Seat) (a : Answer) → client_due o c x ≡ None → ClientDoes p o c mail x mail' x' a → Acts mail (ClientAt c x) mail' (ClientAt c x')
 client_acts p c low to_client.Letter mail x mail' x' a due h = client_takes p c mail x mail' x' h.1
-client_acts p c low (to_client.Command what) mail x mail' x' a due h = obeys c what a mail x mail' x' low x.client refl h.list h.obeyed h.greatest h.post
+client_acts p c low (to_client.Command what) mail x mail' x' a due h = obeys c what a mail x mail' x' low x.client refl h.list h.obeyed h.last_incarnation h.post
 client_acts p c low to_client.Tick mail x mail' x' a due h = ticks c mail x mail' x' a low h
 client_acts p c low to_client.Start mail x mail' x' a due h = starts c mail x mail' x' a low due h
 client_acts p c low to_client.Crash mail x mail' x' a due h = crashes c mail x mail' x' a low h

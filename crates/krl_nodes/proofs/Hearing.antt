@@ -112,7 +112,7 @@ module _ (p : Pick) (o : List (ℕ × Value)) (b : List (List ToClient)) (pile p
           list = h.3.2.list;
           picked = subst (λ xs. IsPicked p xs h.3.0) (sym all_l) h.3.1;
           reads = h.3.2.reads;
-          greatest = h.3.2.greatest;
+          last_incarnation = h.3.2.last_incarnation;
           post = (λ i. mail_of o q (set b c (h.2 i)) (h.3.2.sent i) chairs) ∙ said o q (set b c (left_by p l)) pile chairs h.3.2.list ∙ ap (λ m. with_said m h.3.2.list) left_l;
         },
       ),

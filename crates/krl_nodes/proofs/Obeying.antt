@@ -34,15 +34,15 @@ module _ (o : List (ℕ × Value)) (q : List ToServer) (b : List (List ToClient)
   nudged outs (Err e) t = t
 
   pub started : (p : Pick) (c : ℕ) (x x' : KeptSeat) (r : Result (Unit {0}) Refused) → OnOk r (Started c (seat_of x) (seat_of x') pile pile') → IfErr r (IsRefused (starting_refusal c (seat_of x)) (Unit {0})) → OnErr r ((x' ≡ x) × (pile' ≡ pile)) → ClientActs p to_client.Start c before (seat_of x) after (seat_of x') (did_of (done_if r))
-  started p c x x' (Ok u) s due e = (s.none_due, record { done = refl; now = s.seat; post = says (says_hello (begun c (suc x.greatest)) ∷ []) s.sent })
+  started p c x x' (Ok u) s due e = (s.none_due, record { done = refl; now = s.seat; post = says (says_hello (begun c (suc x.last_incarnation)) ∷ []) s.sent })
   started p c x x' (Err r) s due e = (due, record { post = same e.1; node = ap seat_of e.0 })
 
-  module _ (p : Pick) (c : ℕ) (what : Command) (x x' : Seat) (g : x'.greatest ≡ x.greatest) where
+  module _ (p : Pick) (c : ℕ) (what : Command) (x x' : Seat) (g : x'.last_incarnation ≡ x.last_incarnation) where
     abbrev due : Option Client → Option Refused
     due k = if_runs k (λ k. named refused_by_client (command_refusal k what))
 
     is_same : x'.client ≡ x.client → pile' ≡ pile → IsSame before x after x'
-    is_same k l = record { post = same l; node = λ i. record { greatest = g i; client = k i } }
+    is_same k l = record { post = same l; node = λ i. record { last_incarnation = g i; client = k i } }
 
     pub obeys : (r : Result Answer Refused) → CommandedAt x.client what x'.client pile pile' r → ClientActs p (to_client.Command what) c before x after x' (did_of r)
     obeys r h = go x.client r refl h
@@ -55,7 +55,7 @@ module _ (o : List (ℕ × Value)) (q : List ToServer) (b : List (List ToClient)
           record {
             list = s.list;
             obeyed = subst (λ k. CommandedAt k what x'.client [] (from_clients s.list) (Ok a)) (sym is) (h.0, s.does []);
-            greatest = g;
+            last_incarnation = g;
             post = says s.list s.sent;
           },
         )

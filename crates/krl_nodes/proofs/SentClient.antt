@@ -8,7 +8,7 @@ use Rattle.krl_nodes.specs.contracts.client.ClientNode as node
 use Rattle.krl_nodes.specs.contracts.run.Writer as writer
 use Rattle.krl_nodes.specs.contracts.delivery.Delivery as delivery
 use Rattle.krl_nodes.specs.contracts.drawn.Drawn as drawn
-use Rattle.krl_draws.specs.contracts.draws.Draws as draws
+use Rattle.krl_draws.specs.contracts.generator.Generator as draws
 use Rattle.krl_nodes.proofs.Sent.{seat_sent}
 
 pub place_sent : IsSend (seat.the_field).row

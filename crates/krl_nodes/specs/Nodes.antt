@@ -145,7 +145,7 @@ IsSeated c (Free i) mail mail' = (slice_get mail.chairs c ≡ Some (Free i)) × 
 -- the client is down, and has the incarnation that the post noted; the post notes that it is seated
 abbrev pub WasFree : ClientPlace → Type 0
 WasFree n = Exchanged n.last (λ mail mail'.
-    (slice_get mail.chairs n.number ≡ Some (Free n.seat.greatest)) × (mail' ≡ with_chair mail n.number Taken))
+    (slice_get mail.chairs n.number ≡ Some (Free n.seat.last_incarnation)) × (mail' ≡ with_chair mail n.number Taken))
 
 -- the post notes the client as seated
 abbrev pub WasTaken : ℕ → Option Exchange → Type 0
@@ -196,7 +196,7 @@ NotSeatedFor c s s' not_seated.Seated = (c < 64) × (s' ≡ with_last s s'.last)
 -- the client's seat is taken back
 pub record IsRetired (n : ClientPlace) (s s' : ServerPlace) : Type 0 where
   pub server : s' ≡ with_seated s n.number false s'.last
-  pub freed : IsFreed n.number n.seat.greatest s'.last
+  pub freed : IsFreed n.number n.seat.last_incarnation s'.last
 
 abbrev pub client_of_node : ClientPlace → Option Client
 client_of_node n = (client_shown n).client

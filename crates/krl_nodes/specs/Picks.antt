@@ -1,6 +1,6 @@
 -- What becomes of a letter, where that is drawn.
 use Rattle.std.specs.Prelude.{ℕ, nat_eq, nat_lt, if◌then◌else◌}
-use Rattle.krl_draws.specs.Draws.{Draw, below, always, ◌>>=◌}
+use Rattle.krl_draws.specs.Generator.{Draw, below, always, ◌>>=◌}
 use Rattle.krl_nodes.specs.declared.policy.Pick.{Pick}
 use Rattle.krl_nodes.specs.declared.policy.Pick.TheVariants.{Take, Copy, Lose}
 

@@ -96,7 +96,7 @@ pub record AllSent (mail : Mail) (sent : List Message) : Type 0 where
 
 -- a client that is down, and this greatest incarnation
 abbrev pub down_at : ℕ → Seat
-down_at i = record { greatest = i; client = None }
+down_at i = record { last_incarnation = i; client = None }
 
 abbrev pub AllAway : List Chair → State → Type 0
 AllAway chairs w = (c i : ℕ) → slice_get chairs c ≡ Some (Free i) → w.seats c ≡ down_at i

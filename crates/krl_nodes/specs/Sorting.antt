@@ -59,7 +59,7 @@ pub record HasHeard (d : ServerNode) (m : ToServer) (d' : ServerNode) (old new :
 pub record HasRead (x : Seat) (m : ToClient) (x' : Seat) (old new : List Message) : Type 0 where
   pub list : List ToServer
   pub reads : ClientReads x.client m x'.client list
-  pub greatest : x'.greatest ≡ x.greatest
+  pub last_incarnation : x'.last_incarnation ≡ x.last_incarnation
   pub sent : new ≡ old ++ from_clients list
 
 -- a node read the letter that was picked among these, or there was none, or it was lost; or memory was refused

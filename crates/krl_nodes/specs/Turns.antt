@@ -59,7 +59,7 @@ pub record ClientTakes (p : Pick) (c : ℕ) (mail : Mail) (x : Seat) (mail' : Ma
   pub list : List ToServer
   pub picked : IsPicked p (letters_to c mail) letter
   pub reads : ClientReads x.client letter x'.client list
-  pub greatest : x'.greatest ≡ x.greatest
+  pub last_incarnation : x'.last_incarnation ≡ x.last_incarnation
   pub post : mail' ≡ with_said (with_to_client mail c (left_by p (letters_to c mail))) list
 
 -- the letter that is picked is lost
@@ -174,7 +174,7 @@ ClientTakesMemory to_client.Crash c mail x = ⊥
 pub record Obeys (what : Command) (mail : Mail) (x : Seat) (mail' : Mail) (x' : Seat) (a : Answer) : Type 0 where
   pub list : List ToServer
   pub obeyed : CommandedAt x.client what x'.client [] (from_clients list) (Ok a)
-  pub greatest : x'.greatest ≡ x.greatest
+  pub last_incarnation : x'.last_incarnation ≡ x.last_incarnation
   pub post : mail' ≡ with_said mail list
 
 pub record Ticks (mail : Mail) (x : Seat) (mail' : Mail) (x' : Seat) (a : Answer) : Type 0 where
@@ -192,14 +192,14 @@ HasTicked k mail mail' = (list : List ToServer) × IsTick k list × (mail' ≡ w
 
 pub record ClientStarts (c : ℕ) (mail : Mail) (x : Seat) (mail' : Mail) (x' : Seat) (a : Answer) : Type 0 where
   pub done : a ≡ told.Done
-  pub now : x' ≡ record { greatest = suc x.greatest; client = Some (begun c (suc x.greatest)) }
-  pub post : mail' ≡ with_said mail (says_hello (begun c (suc x.greatest)) ∷ [])
+  pub now : x' ≡ record { last_incarnation = suc x.last_incarnation; client = Some (begun c (suc x.last_incarnation)) }
+  pub post : mail' ≡ with_said mail (says_hello (begun c (suc x.last_incarnation)) ∷ [])
 
 pub record ClientCrashes (mail : Mail) (x : Seat) (mail' : Mail) (x' : Seat) (a : Answer) : Type 0 where
   pub client : Client
   pub was : x.client ≡ Some client
   pub done : a ≡ told.Done
-  pub now : x' ≡ down_at x.greatest
+  pub now : x' ≡ down_at x.last_incarnation
   pub post : mail' ≡ mail
 
 abbrev pub ClientDoes : Pick → ClientOrder → ℕ → Mail → Seat → Mail → Seat → Answer → Type 0

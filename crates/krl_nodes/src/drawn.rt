@@ -1,17 +1,17 @@
 //! A policy that is drawn.
 ghost use Rattle.std.specs.Prelude.{◌≡◌};
-ghost use Rattle.krl_draws.specs.Draws.{generator_of};
+ghost use Rattle.krl_draws.specs.Generator.{generator_of};
 ghost use Rattle.krl_nodes.specs.Picks.{picked};
 
 use crate::policy::{Pick, Policy};
-use krl_draws::Draws;
+use krl_draws::Generator;
 use std::marker::Model;
 
 /// Picks that are drawn from a seed: of eight letters one is lost, two are delivered and stay, and
 /// five are delivered and taken out; and each of the letters that wait may be the one.
 #[derive(Drop)]
 pub struct Drawn {
-    draws: Draws,
+    draws: Generator,
 }
 
 impl Model for Drawn {
@@ -28,7 +28,7 @@ impl Drawn {
         ensures { result ≡ generator_of seed }
     {
         Drawn {
-            draws: Draws::new(seed),
+            draws: Generator::new(seed),
         }
     }
 }

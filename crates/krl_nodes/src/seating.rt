@@ -144,9 +144,9 @@ impl Office {
                 self.unblank(&mut server.ticket, ticket);
                 Err(NotSeated::Seated)
             }
-            Chair::Free(greatest) => {
+            Chair::Free(last_incarnation) => {
                 let seat = Seat {
-                    greatest,
+                    last_incarnation,
                     client: None,
                 };
                 self.give_client::<Brand>(&mut ticket, number, &seat);
@@ -188,7 +188,7 @@ impl Office {
             mut ticket,
         } = client;
         self.take(rt, &mut ticket);
-        self.get_up(&mut ticket, number, seat.greatest);
+        self.get_up(&mut ticket, number, seat.last_incarnation);
         self.give::<Brand>(&mut ticket);
         self.unblank(&mut server.ticket, ticket);
         server.seated[number as usize] = false;

@@ -4,14 +4,14 @@
 //! first. No other call takes memory, and none can be refused.
 #![tactic(auto)]
 
-mod chain;
+mod detached_box;
 mod list;
-mod loose;
 mod node;
-mod place;
+mod node_chain;
+mod node_ptr;
 mod waiter;
 
+pub use detached_box::DetachedBox;
 pub use list::WaitList;
-pub use loose::Loose;
 pub use node::WaitNode;
 pub use waiter::Waiter;

@@ -3,10 +3,10 @@ ghost use Rattle.std.specs.Prelude.{◌≡◌, ◌↔◌, [], ◌∷◌, ◌++�
 ghost use Rattle.std.specs.Prelude.{MatchOption};
 ghost use Rattle.krl_queue.specs.Waiting.{first_of, without_first, up_to, beyond, goes_before};
 
-use crate::chain::Chain;
-use crate::loose::Loose;
+use crate::detached_box::DetachedBox;
 use crate::node::WaitNode;
-use crate::place::{Index, NodePtr};
+use crate::node_chain::NodeChain;
+use crate::node_ptr::{Index, NodePtr};
 use crate::waiter::Waiter;
 use krl_modes::Point;
 use std::fmt;
@@ -21,7 +21,7 @@ use std::mem::{replace, swap};
 pub struct WaitList {
     head: NodePtr,
     tail: NodePtr,
-    chain: Chain,
+    chain: NodeChain,
 }
 
 impl Model for WaitList {
@@ -45,7 +45,7 @@ impl WaitList {
         WaitList {
             head: NodePtr::null(),
             tail: NodePtr::null(),
-            chain: Chain::none(),
+            chain: NodeChain::none(),
         }
     }
 
@@ -186,7 +186,7 @@ impl WaitList {
         ensures { result ≡ node ∷ [] }
     {
         let WaitNode { cell } = node;
-        let (at, chain) = Chain::one(Loose::of(cell));
+        let (at, chain) = NodeChain::one(DetachedBox::of(cell));
         WaitList {
             head: at,
             tail: at,
@@ -223,7 +223,7 @@ impl WaitList {
         let next = self.chain.next(first, &Index::first());
         let rest = if next.is_null() {
             self.tail = next;
-            Chain::none()
+            NodeChain::none()
         } else {
             self.chain.cut(first, next, &Index::first().next())
         };

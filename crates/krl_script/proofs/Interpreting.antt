@@ -12,7 +12,7 @@ use Rattle.krl_steps.specs.declared.answer.Answer.{Answer}
 use Rattle.krl_world.specs.States.{fresh, sent_count}
 use Rattle.krl_world.specs.Fields as world
 use Rattle.krl_script.specs.Fields.{Fields, meaning}
-use Rattle.krl_script.specs.Waiting.{Waits, sent_to, without}
+use Rattle.krl_script.specs.Undelivered.{Waits, sent_to, without}
 use Rattle.krl_text.specs.Printing.{refused_line}
 use Rattle.krl_script.specs.Transcripts.{Stage, counted, waits_after, Tries, DeliversMany, Ends, Settles, filled, Seeds}
 

@@ -33,9 +33,9 @@ use Rattle.krl_world.specs.Fields as world
 use Rattle.krl_script.specs.declared.random.RandomRun.{RandomRun}
 use Rattle.krl_script.specs.declared.random.Pace.{Pace}
 use Rattle.krl_script.specs.declared.random.Pace.TheVariants as pace
-use Rattle.krl_script.specs.Waiting.{Waits, sent_to}
+use Rattle.krl_script.specs.Undelivered.{Waits, sent_to}
 use Rattle.krl_script.specs.Soundness.{are_compatible, all_below, is_sound_at, first_unsound, numbers_below}
-use Rattle.krl_script.specs.RandomRuns.{RandomStage, stage_of, first_entries, first_of, is_down, sight_of, waits_since, TakesDrawn, GoesOn, late, most_hurried, Hurries, GoesAt, RunsRandomly, EndsRandomRun}
+use Rattle.krl_script.specs.RandomRuns.{RandomStage, stage_of, first_entries, first_of, is_down, observed_of, waits_since, TakesDrawn, GoesOn, late, most_hurried, Hurries, GoesAt, RunsRandomly, EndsRandomRun}
 use Rattle.krl_script.proofs.Interpreting.{sent_is}
 use Rattle.krl_script.proofs.SoundnessLemmas.{all_of_below, none_unsound}
 
@@ -101,7 +101,7 @@ down_is (kept.Up s) = refl
 down_is (kept.Down d) = refl
 
 -- what is read of a world
-pub sight_is : (w : world.Fields) (waits : Waits) (g : Lcg) (waiting : Option ℕ) (sent : ℕ) (is_down : Bool) → waiting ≡ slice_get waits.waiting 0 → sent ≡ length w.sent → is_down ≡ is_none (world.server_up w.server) → record { waiting = waiting; sent = sent; is_down = is_down } ≡ sight_of (record { world = world.meaning w; waits = waits; generator = g })
+pub sight_is : (w : world.Fields) (waits : Waits) (g : Lcg) (waiting : Option ℕ) (sent : ℕ) (is_down : Bool) → waiting ≡ slice_get waits.waiting 0 → sent ≡ length w.sent → is_down ≡ is_none (world.server_up w.server) → record { waiting = waiting; sent = sent; is_down = is_down } ≡ observed_of (record { world = world.meaning w; waits = waits; generator = g })
 sight_is w waits g waiting sent down oldest all none = rw (oldest, all, sent_is w, none, down_is w.server) refl
 
 -- a step was taken, and what it sent is counted

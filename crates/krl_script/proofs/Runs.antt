@@ -21,7 +21,7 @@ use Rattle.krl_text.specs.Limits.{most_text, most_deliveries}
 use Rattle.krl_text.specs.declared.fault.ScriptFault.{ScriptFault}
 use Rattle.krl_text.specs.declared.fault.ScriptFault.TheVariants as script
 use Rattle.krl_text.specs.Words.{line_request}
-use Rattle.krl_script.specs.Waiting.{none_waiting}
+use Rattle.krl_script.specs.Undelivered.{none_waiting}
 use Rattle.krl_text.specs.Printing.{outcome_lines, refused_line, unsettled_line, modes_lines, fault_line}
 use Rattle.krl_script.specs.Shown.{shown_lines}
 use Rattle.krl_script.specs.Transcripts.{Stage, first_stage, counted, waits_after, DeliversOldest, DeliversMany, Settles, filled, Seeds, Obeys, ObeysLine, PrintsLine, Prints, Transcript, End}
@@ -89,7 +89,7 @@ some_obeys s (request.Deliver i) =
 some_obeys s (request.Next n) = some_settles n [] s
 some_obeys s request.Settle = some_settles most_deliveries unsettled_line s
 some_obeys s request.Drop = ([], record s { begun = true; waits = none_waiting s.waits }, (refl, refl))
-some_obeys s (request.Show what) = (shown_lines s.world what, record s { begun = true }, (refl, refl))
+some_obeys s (request.Query what) = (shown_lines s.world what, record s { begun = true }, (refl, refl))
 some_obeys s request.Modes = (modes_lines, s, (refl, refl))
 
 some_line : (j : Result Request SyntaxFault) (s : Stage) (n : ℕ) (Rest : Stage → List ℕ → End → Type 0) → ((s' : Stage) → (tail : List ℕ) × (end : End) × Rest s' tail end) → (out : List ℕ) × (end : End) × PrintsLine j s n Rest out end

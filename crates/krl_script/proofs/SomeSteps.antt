@@ -27,7 +27,7 @@ use Rattle.krl_steps.specs.declared.refused.Refused.{Refused}
 use Rattle.krl_steps.specs.declared.refused.Refused.TheVariants as refused
 use Rattle.krl_world.specs.States.{State, ServerNode, Up, Down, client_of}
 use Rattle.krl_durable.specs.Writes.{most_entries}
-use Rattle.krl_durable.specs.Openings.{key_of_entry, stands_before, IsGood, AreGood}
+use Rattle.krl_durable.specs.InitialEntries.{key_of_entry, stands_before, IsGood, AreGood}
 use Rattle.krl_durable.specs.declared.refused.Refused.TheVariants as index
 use Rattle.krl_world.specs.Steps.{CanBegin, CannotBegin, span, named, of_client, if_runs, command_refusal, server_down, message_at, refusal_of, Arrives, ServerReads, ClientReads, Delivers, TakesMemory, Does, Steps}
 use Rattle.krl_steps.specs.Refusals.{refused_by_client}

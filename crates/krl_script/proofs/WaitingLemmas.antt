@@ -5,7 +5,7 @@ use Rattle.std.specs.Prelude.{filter, nat_eq, slice_get, slice_set}
 use Rattle.std.proofs.Math.ListN.{length-set}
 use Rattle.std.proofs.lemmas.List.{take_more}
 use Rattle.std.proofs.lemmas.Bool.{ne_eqb}
-use Rattle.krl_script.specs.Waiting.{Waits, waiting_after, numbers, sent_to, without}
+use Rattle.krl_script.specs.Undelivered.{Waits, waiting_after, numbers, sent_to, without}
 
 same_waits : (m n : ℕ) (xs ys : List ℕ) → m ≡ n → xs ≡ ys → ◌≡◌ {A = Waits} (record { sent = m; waiting = xs }) (record { sent = n; waiting = ys })
 same_waits m n xs ys e f = cc

@@ -1,7 +1,7 @@
 -- What the fields of an interpreter stand for.
 use Rattle.std.specs.Prelude.{Bool}
 use Rattle.krl_world.specs.Fields as world
-use Rattle.krl_script.specs.Waiting.{Waits}
+use Rattle.krl_script.specs.Undelivered.{Waits}
 use Rattle.krl_script.specs.Transcripts.{Stage}
 
 pub record Fields : Type 0 where

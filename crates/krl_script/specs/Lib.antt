@@ -1,6 +1,6 @@
 pub mod Soundness
 pub mod Shown
-pub mod Waiting
+pub mod Undelivered
 pub mod Transcripts
 pub mod Fields
 pub mod Runs

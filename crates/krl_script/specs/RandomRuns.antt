@@ -12,16 +12,16 @@ use Rattle.krl_steps.specs.declared.step.Step.{Step}
 use Rattle.krl_steps.specs.declared.step.Step.TheVariants as step
 use Rattle.krl_steps.specs.declared.answer.Answer.{Answer}
 use Rattle.krl_steps.specs.declared.refused.Refused.{Refused}
-use Rattle.krl_draws.specs.declared.draws.Sight.{Sight}
+use Rattle.krl_draws.specs.declared.generator.Observed.{Observed}
 use Rattle.krl_script.specs.declared.random.RandomRun.{RandomRun}
 use Rattle.krl_script.specs.declared.random.Pace.{Pace}
 use Rattle.krl_script.specs.declared.random.Pace.TheVariants as pace
 use Rattle.krl_text.specs.declared.fault.ScriptFault.{ScriptFault}
 use Rattle.krl_text.specs.declared.fault.ScriptFault.TheVariants as script
-use Rattle.krl_draws.specs.Draws.{generator_of, drawn}
+use Rattle.krl_draws.specs.Generator.{generator_of, drawn}
 use Rattle.krl_text.specs.Printing.{line_of}
 use Rattle.krl_script.specs.Transcripts.{waits_after}
-use Rattle.krl_script.specs.Waiting.{Waits, none_sent, sent_to}
+use Rattle.krl_script.specs.Undelivered.{Waits, none_sent, sent_to}
 use Rattle.krl_text.specs.Transfers.{Known}
 
 -- a random run between two steps: its world, which messages wait, and its generator
@@ -48,8 +48,8 @@ is_down (Up s) = false
 is_down (Down d) = true
 
 -- what a draw sees
-abbrev pub sight_of : RandomStage → Sight
-sight_of s = record {
+abbrev pub observed_of : RandomStage → Observed
+observed_of s = record {
   waiting = slice_get s.waits.waiting 0;
   sent = sent_count s.world;
   is_down = is_down s.world.server;
@@ -80,7 +80,7 @@ GoesBy s (Some what) generator s' = TakesDrawn s.world s.waits what generator s'
 
 -- the next step is drawn and done
 abbrev pub GoesOn : RandomStage → RandomStage → Type 0
-GoesOn s s' = let d = drawn (sight_of s) s.generator in GoesBy s d.0 d.1 s'
+GoesOn s s' = let d = drawn (observed_of s) s.generator in GoesBy s d.0 d.1 s'
 
 -- so many messages may wait between two steps of a busy run
 abbrev pub most_waiting : ℕ

@@ -1,8 +1,8 @@
 -- The line of what is read of a world.
 use Rattle.std.specs.Prelude.{ℕ, List, codes}
 use Rattle.krl_world.specs.States.{State, ServerNode, Up, Down, client_of, index_of, range_held, key_held}
-use Rattle.krl_text.specs.declared.request.Show.{Show}
-use Rattle.krl_text.specs.declared.request.Show.TheVariants as show
+use Rattle.krl_text.specs.declared.request.Query.{Query}
+use Rattle.krl_text.specs.declared.request.Query.TheVariants as show
 use Rattle.krl_text.specs.Printing.{line_of, hold_line, status_line, list_line, index_line, writes_line, check_line}
 use Rattle.krl_script.specs.Soundness.{unsound_point}
 
@@ -12,7 +12,7 @@ missing_line (Up s) = list_line s.missing
 missing_line (Down d) = line_of (codes "down")
 
 -- the line of what is read of a world
-abbrev pub shown_lines : State → Show → List ℕ
+abbrev pub shown_lines : State → Query → List ℕ
 shown_lines w (show.Hold c p) = hold_line c p (range_held w c p) (key_held w c p)
 shown_lines w (show.Status c) = status_line c (client_of w c)
 shown_lines w show.Missing = missing_line w.server

@@ -18,7 +18,7 @@ use Rattle.krl_script.specs.declared.delivery.Delivery.TheVariants as delivery
 use Rattle.krl_text.specs.declared.fault.SyntaxFault.{SyntaxFault}
 use Rattle.krl_text.specs.declared.fault.SyntaxFault.TheVariants.{TextTooLong}
 use Rattle.krl_text.specs.Words.{line_request}
-use Rattle.krl_script.specs.Waiting.{Waits, none_sent, sent_to, without, none_waiting}
+use Rattle.krl_script.specs.Undelivered.{Waits, none_sent, sent_to, without, none_waiting}
 use Rattle.krl_text.specs.Printing.{outcome_lines, refused_line, unsettled_line, modes_lines, fault_line}
 use Rattle.krl_script.specs.Shown.{shown_lines}
 
@@ -132,7 +132,7 @@ Obeys s (request.Next n) out s' = Settles n [] s out s'
 Obeys s request.Settle out s' = Settles most_deliveries unsettled_line s out s'
 Obeys s request.Drop out s' =
     (out ≡ []) × (s' ≡ record s { begun = true; waits = none_waiting s.waits })
-Obeys s (request.Show what) out s' =
+Obeys s (request.Query what) out s' =
     (out ≡ shown_lines s.world what) × (s' ≡ record s { begun = true })
 Obeys s request.Modes out s' = (out ≡ modes_lines) × (s' ≡ s)
 

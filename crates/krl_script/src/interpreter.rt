@@ -6,17 +6,17 @@ ghost use Rattle.krl_world.specs.Steps.{CanBegin, CannotBegin};
 ghost use Rattle.krl_text.specs.Words.{Gives, Fails, line_request};
 ghost use Rattle.krl_script.specs.Transcripts.{first_stage, counted, Acts, Delivers, DeliversThis};
 ghost use Rattle.krl_script.specs.Transcripts.{Settles, Tries, filled, Seeds, Obeys, ObeysLine};
-ghost use Rattle.krl_script.specs.Waiting.{none_waiting};
+ghost use Rattle.krl_script.specs.Undelivered.{none_waiting};
 ghost use Rattle.krl_text.specs.Printing.{refused_line};
 ghost use Rattle.krl_script.specs.Shown.{shown_lines};
 ghost use Rattle.krl_script.specs.Fields.{meaning};
 
 use crate::delivery::Delivery;
-use crate::shown;
-use crate::waiting::Waiting;
+use crate::query;
+use crate::undelivered::Undelivered;
 use krl_messages::Value;
 use krl_text::{
-    LineFault, MAX_DELIVERIES, MAX_LINE, MAX_LINES, Request, Show, SyntaxFault, print,
+    LineFault, MAX_DELIVERIES, MAX_LINE, MAX_LINES, Query, Request, SyntaxFault, print,
     request_of_line,
 };
 use krl_world::{Answer, Refused, Step, World};
@@ -31,7 +31,7 @@ pub struct Interpreter {
     alloc: Global,
     begun: bool,
     world: World,
-    waiting: Waiting,
+    waiting: Undelivered,
 }
 
 impl Model for Interpreter {
@@ -106,7 +106,7 @@ impl Interpreter {
             alloc,
             begun: false,
             world: empty_world(alloc)?,
-            waiting: Waiting::new(alloc),
+            waiting: Undelivered::new(alloc),
         })
     }
 
@@ -243,13 +243,13 @@ impl Interpreter {
     }
 
     // The line of what is read of the world.
-    fn show(&mut self, what: Show) -> Result<String, AllocError>
+    fn show(&mut self, what: Query) -> Result<String, AllocError>
         ensures line { IfOk result (λ line.
             line.bytes.items ≡ shown_lines (world.meaning self.old.world) what) }
         ensures begun { meaning self.new ≡ record (meaning self.old) { begun = true } }
     {
         self.begun = true;
-        shown::line(self.alloc, &self.world, what)
+        query::line(self.alloc, &self.world, what)
     }
 
     /// Does what is asked for, and gives what that prints.
@@ -269,7 +269,7 @@ impl Interpreter {
                 self.drop_waiting();
                 Ok(String::new(self.alloc))
             }
-            Request::Show(what) => self.show(what),
+            Request::Query(what) => self.show(what),
             Request::Modes => print::modes(self.alloc),
         }
     }

@@ -5,16 +5,16 @@
 mod delivery;
 mod interpreter;
 mod progress;
+mod query;
 mod random;
 mod run;
-mod shown;
 mod soundness;
-mod waiting;
+mod undelivered;
 
 pub use interpreter::Interpreter;
 pub use krl_text::{
     AnyReader, AnyWriter, Entries, LineFault, MAX_DELIVERIES, MAX_LINE, MAX_LINES, MAX_STEPS,
-    MAX_TEXT, MAX_TURNS, Request, ScriptFault, Show, Sink, Source, SyntaxFault, first_line, laws,
+    MAX_TEXT, MAX_TURNS, Query, Request, ScriptFault, Sink, Source, SyntaxFault, first_line, laws,
     read_text, write_line,
 };
 pub use progress::{Progress, Untold};

@@ -12,16 +12,16 @@ ghost use Rattle.krl_text.specs.Limits.{most_interruptions, most_steps};
 ghost use Rattle.krl_script.specs.Soundness.{first_unsound, numbers_below};
 ghost use Rattle.krl_text.specs.Transfers.{IsSteady};
 ghost use Rattle.krl_script.specs.declared.random.Pace.TheVariants as pace;
-ghost use Rattle.krl_script.specs.RandomRuns.{stage_of, first_entries, first_of, sight_of};
+ghost use Rattle.krl_script.specs.RandomRuns.{stage_of, first_entries, first_of, observed_of};
 ghost use Rattle.krl_script.specs.RandomRuns.{waits_since, TakesDrawn, GoesOn, late, most_hurried};
 ghost use Rattle.krl_script.specs.RandomRuns.{Hurries, GoesAt, RunsRandomly, EndsRandomRun};
 ghost use Rattle.krl_script.specs.RandomRuns.{random_line, WroteLineOf};
 
 use crate::progress::Progress;
 use crate::soundness::least_unsound;
-use crate::waiting::Waiting;
+use crate::undelivered::Undelivered;
 use krl_blocks::Entries;
-use krl_draws::{Draws, Sight};
+use krl_draws::{Generator, Observed};
 use krl_messages::Value;
 use krl_modes::END;
 use krl_text::{MAX_STEPS, ScriptFault, Sink, write_line};
@@ -55,9 +55,9 @@ enum Pace {
 /// A world that takes the steps that are drawn.
 #[derive(Drop)]
 struct RandomRun {
-    draws: Draws,
+    draws: Generator,
     world: World,
-    waiting: Waiting,
+    waiting: Undelivered,
 }
 
 fn opening(alloc: Global) -> Result<Vec<(u64, Value)>, AllocError>
@@ -134,7 +134,7 @@ fn answers_index(world: &World, step: Step, outcome: &Result<Answer, Refused>) -
 }
 
 // A message that the step delivered waits no more.
-fn pass(waiting: &mut Waiting, step: Step, outcome: &Result<Answer, Refused>)
+fn pass(waiting: &mut Undelivered, step: Step, outcome: &Result<Answer, Refused>)
     ensures { waiting.new ≡ waits_since step outcome.now waiting.old }
 {
     let Step::Deliver(number) = step else {
@@ -153,20 +153,20 @@ impl RandomRun {
         let entries = opening(alloc)?;
         match World::new(alloc, entries) {
             Ok(world) => Ok(RandomRun {
-                draws: Draws::new(seed),
+                draws: Generator::new(seed),
                 world,
-                waiting: Waiting::new(alloc),
+                waiting: Undelivered::new(alloc),
             }),
             Err(_) => Err(AllocError),
         }
     }
 
-    fn sight(&mut self) -> Sight
-        ensures seen { result ≡ sight_of (stage_of self.old) }
+    fn observed(&mut self) -> Observed
+        ensures seen { result ≡ observed_of (stage_of self.old) }
         ensures same { self.new ≡ self.old }
     {
         let waiting = self.waiting.oldest();
-        Sight {
+        Observed {
             waiting,
             sent: self.world.sent(),
             is_down: self.world.server().is_none(),
@@ -205,7 +205,7 @@ impl RandomRun {
         ensures looks { IfOk result (λ sound. sound ≡ true
             → is_none (first_unsound (meaning self.new.world) 4 (numbers_below 64)) ≡ true) }
     {
-        let seen = self.sight();
+        let seen = self.observed();
         let Some(step) = self.draws.step(&seen) else {
             return Ok(self.is_sound());
         };

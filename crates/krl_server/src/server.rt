@@ -94,7 +94,7 @@ impl Server {
         match table_and_missing(alloc, &durable) {
             Ok((table, missing)) => {
                 let mut durable = durable;
-                durable.raise();
+                durable.next_epoch();
                 Ok(Server {
                     state: State {
                         durable,

@@ -30,7 +30,7 @@ use Rattle.krl_text.specs.declared.word.Triple.{Triple}
 use Rattle.krl_text.specs.declared.word.Triple.TheVariants as triple
 use Rattle.krl_text.specs.declared.request.Request.{Request}
 use Rattle.krl_text.specs.declared.request.Request.TheVariants as request
-use Rattle.krl_text.specs.declared.request.Show.TheVariants as show
+use Rattle.krl_text.specs.declared.request.Query.TheVariants as show
 use Rattle.krl_text.specs.declared.fault.SyntaxFault.{SyntaxFault}
 use Rattle.krl_text.specs.declared.fault.SyntaxFault.TheVariants.{TooManyLines, LineTooLong, UnknownWord, MissingArgument, ExtraArgument, BadNumber, BadPair, BadValue, BadMode, LateSeed}
 use Rattle.krl_text.specs.declared.fault.LineFault.{LineFault}
@@ -189,10 +189,10 @@ word_named text = find (λ w. bytes_eq text (word_text w)) all_words
 abbrev pub alone_request : Alone → Request
 alone_request alone.Settle = request.Settle
 alone_request alone.Drop = request.Drop
-alone_request alone.Missing = request.Show show.Missing
-alone_request alone.Index = request.Show show.Index
-alone_request alone.Writes = request.Show show.Writes
-alone_request alone.Check = request.Show show.Check
+alone_request alone.Missing = request.Query show.Missing
+alone_request alone.Index = request.Query show.Index
+alone_request alone.Writes = request.Query show.Writes
+alone_request alone.Check = request.Query show.Check
 alone_request alone.Modes = request.Modes
 
 -- what a word asks for with one number
@@ -204,13 +204,13 @@ single_request single.Tick c = request.Step (step.Tick c)
 single_request single.Nudge c = request.Step (step.Nudge c)
 single_request single.Deliver i = request.Deliver i
 single_request single.Next n = request.Next n
-single_request single.Status c = request.Show (show.Status c)
+single_request single.Status c = request.Query (show.Status c)
 
 -- what a word asks for with a client and one more number
 abbrev pub double_request : Double → ℕ → ℕ → Request
 double_request double.Delete c k = request.Step (step.Command c (command.Write (write.Delete k)))
 double_request double.Unpin c id = request.Step (step.Command c (command.Unpin id))
-double_request double.Hold c p = request.Show (show.Hold c p)
+double_request double.Hold c p = request.Query (show.Hold c p)
 
 -- what a word has a client write, with a key and a value
 abbrev pub valued_change : Valued → ℕ → Value → WriteOp

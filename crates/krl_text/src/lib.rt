@@ -3,6 +3,7 @@
 #![tactic(auto)]
 
 mod fault;
+mod io;
 pub mod laws;
 mod limits;
 mod lines;
@@ -11,13 +12,12 @@ pub mod print;
 mod request;
 pub mod shown;
 mod source;
-mod transfer;
 mod word;
 
 pub use fault::{LineFault, ScriptFault, SyntaxFault};
+pub use io::{read_text, write_line};
 pub use limits::{MAX_DELIVERIES, MAX_LINE, MAX_LINES, MAX_STEPS, MAX_TEXT, MAX_TURNS};
 pub use lines::first_line;
 pub use parse::request_of_line;
-pub use request::{Entries, Request, Show};
+pub use request::{Entries, Query, Request};
 pub use source::{AnyReader, AnyWriter, Sink, Source};
-pub use transfer::{read_text, write_line};

@@ -39,7 +39,7 @@ impl Entries {
 
 /// What is read of a world.
 #[derive(Clone, Copy)]
-pub enum Show {
+pub enum Query {
     /// What a client holds at a point.
     Hold { client: u64, point: u64 },
     /// The state of a client.
@@ -74,7 +74,7 @@ pub enum Request {
     /// No message waits any longer.
     Drop,
     /// What is read of the world.
-    Show(Show),
+    Query(Query),
     /// The tables of modes.
     Modes,
 }

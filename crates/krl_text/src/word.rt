@@ -5,7 +5,7 @@ ghost use Rattle.krl_text.specs.Words.{word_text, word_named, alone_request, sin
 ghost use Rattle.krl_text.specs.Words.{double_request, valued_text, valued_change, valued_request};
 ghost use Rattle.krl_text.specs.Words.{triple_command, triple_request};
 
-use crate::request::{Request, Show};
+use crate::request::{Query, Request};
 use krl_messages::{Value, WriteOp};
 use krl_steps::{Command, Step};
 
@@ -44,10 +44,10 @@ impl Alone {
         match self {
             Alone::Settle => Request::Settle,
             Alone::Drop => Request::Drop,
-            Alone::Missing => Request::Show(Show::Missing),
-            Alone::Index => Request::Show(Show::Index),
-            Alone::Writes => Request::Show(Show::Writes),
-            Alone::Check => Request::Show(Show::Check),
+            Alone::Missing => Request::Query(Query::Missing),
+            Alone::Index => Request::Query(Query::Index),
+            Alone::Writes => Request::Query(Query::Writes),
+            Alone::Check => Request::Query(Query::Check),
             Alone::Modes => Request::Modes,
         }
     }
@@ -95,7 +95,7 @@ impl Single {
             Single::Nudge => Request::Step(Step::Nudge(number)),
             Single::Deliver => Request::Deliver(number),
             Single::Next => Request::Next(number),
-            Single::Status => Request::Show(Show::Status(number)),
+            Single::Status => Request::Query(Query::Status(number)),
         }
     }
 }
@@ -130,7 +130,7 @@ impl Double {
                 Request::Step(Step::Command(client, Command::Write(op)))
             }
             Double::Unpin => Request::Step(Step::Command(client, Command::Unpin(second))),
-            Double::Hold => Request::Show(Show::Hold {
+            Double::Hold => Request::Query(Query::Hold {
                 client,
                 point: second,
             }),

@@ -78,7 +78,7 @@ pub use Rattle.krl_world.specs.Laws.{ReachableStays, RecoveriesEnd, CanGoOn, Ser
 pub use Rattle.krl_world.specs.Promises.{IsCompatible, ScansIndex, Headline, IsOnce, answer_message, fold, CommandIsRange, AreDue, IsDue, WritesOnce, IsListed}
 pub use Rattle.krl_world.specs.SeatSteps.{HasRead, starting_refusal, HasArrived, applied_in, CommandedAt, Ticked, HasServed, IsRefused, as_list, Started}
 pub use Rattle.krl_world.specs.States.{durable_of, index_of, seated, Up, ServerNode, key_believed, set_seat, from_server, client_of, Seat, with_client, unused, is_serving, range_believed, fresh}
-pub use Rattle.krl_world.specs.States.{from_clients, key_held, Down, nobody, State, range_held, served}
+pub use Rattle.krl_world.specs.States.{from_clients, key_held, Down, never_started, State, range_held, served}
 unfoldable pub use Rattle.krl_world.specs.States.{opened}
 pub use Rattle.krl_world.specs.Steps.{Takes, named, refused_by_server, IsReachable, Does, Runs, applies, command_refusal, span, Delivers, message_at, ServerReads, nudged, if_runs, of_client}
 pub use Rattle.krl_world.specs.Steps.{server_start, started, TakesMemory, CanOpen, server_down, CommandTakesMemory, refusal_of, Obeys, ClientReads, RunsWith, ScanAnswers, Arrives, crashed}

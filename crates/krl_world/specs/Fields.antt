@@ -46,14 +46,14 @@ client_there None = None
 client_there (Some k) = Some (client_fields.meaning k)
 
 abbrev pub seat_of : KeptSeat → Seat
-seat_of x = record { greatest = x.greatest; client = client_there x.client }
+seat_of x = record { last_incarnation = x.last_incarnation; client = client_there x.client }
 
 abbrev pub kept_nobody : KeptSeat
-kept_nobody = record { greatest = 0; client = None }
+kept_nobody = record { last_incarnation = 0; client = None }
 
 -- a seat whose client was not started since this survived
 abbrev pub kept_unstarted : Durable → ℕ → KeptSeat
-kept_unstarted d c = record { greatest = incarnation_or_0 (record_of d.register c); client = None }
+kept_unstarted d c = record { last_incarnation = incarnation_or_0 (record_of d.register c); client = None }
 
 -- so many seats by client number, of which none was started since
 pub record AreUnstarted (d : Durable) (n : ℕ) (seats : List KeptSeat) : Type 0 where

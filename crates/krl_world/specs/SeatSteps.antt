@@ -69,13 +69,13 @@ CommandedAt None what next old new r = (r ≡ Err refused.Down) × (next ≡ Non
 -- why no client starts at this seat
 abbrev pub starting_refusal : ℕ → Seat → Option Refused
 starting_refusal c x =
-    cond (is_some x.client) (Some refused.Running) (named refused_at_start (start_refusal c (suc x.greatest)))
+    cond (is_some x.client) (Some refused.Running) (named refused_at_start (start_refusal c (suc x.last_incarnation)))
 
 -- a client started at the seat x, which became y
 pub record Started (c : ℕ) (x y : Seat) (old new : List Message) : Type 0 where
   pub none_due : starting_refusal c x ≡ None
-  pub seat : y ≡ record { greatest = suc x.greatest; client = Some (begun c (suc x.greatest)) }
-  pub sent : new ≡ old ++ from_clients (says_hello (begun c (suc x.greatest)) ∷ [])
+  pub seat : y ≡ record { last_incarnation = suc x.last_incarnation; client = Some (begun c (suc x.last_incarnation)) }
+  pub sent : new ≡ old ++ from_clients (says_hello (begun c (suc x.last_incarnation)) ∷ [])
 
 -- Ticks and messages
 

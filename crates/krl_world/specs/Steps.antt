@@ -7,7 +7,7 @@ use Rattle.krl_messages.specs.declared.outcome.Outcome.TheVariants as outcome
 use Rattle.krl_messages.specs.declared.to_server.ToServer.{ToServer}
 use Rattle.krl_messages.specs.declared.to_client.ToClient.{ToClient}
 use Rattle.krl_durable.specs.declared.refused.Refused.{Refused as IndexRefused}
-use Rattle.krl_durable.specs.Openings.{AreGood, Refuses}
+use Rattle.krl_durable.specs.InitialEntries.{AreGood, Refuses}
 use Rattle.krl_durable.specs.declared.not_migrated.NotMigrated.{NotMigrated}
 use Rattle.krl_durable.specs.Kept.{IsKept}
 use Rattle.krl_durable.specs.Migrations as migrations
@@ -125,7 +125,7 @@ refusal_of w (step.Tick c) = of_client c (if_runs (client_of w c) (λ k. None))
 refusal_of w (step.Nudge c) = of_client c (server_down w.server)
 refusal_of w (step.StartClient c) =
     of_client c (cond (is_some (client_of w c)) (Some refused.Running)
-    (named refused_at_start (start_refusal c (suc (w.seats c).greatest))))
+    (named refused_at_start (start_refusal c (suc (w.seats c).last_incarnation))))
 refusal_of w (step.CrashClient c) = of_client c (if_runs (client_of w c) (λ k. None))
 refusal_of w step.StartServer = server_start w.server
 refusal_of w step.CrashServer = server_down w.server
@@ -216,9 +216,9 @@ Does w (step.Command c what) answer w' = (k : Client) × (client_of w c ≡ Some
 Does w (step.Tick c) answer w' = (answer ≡ told.Done) × ((k : Client) × (client_of w c ≡ Some k) × Ticks w c k w')
 Does w (step.Nudge c) answer w' = (answer ≡ told.Done) × (w' ≡ nudged w w.server c)
 Does w (step.StartClient c) answer w' =
-    let n = suc (w.seats c).greatest in
+    let n = suc (w.seats c).last_incarnation in
     (answer ≡ told.Done)
-    × (w' ≡ seated w c (record { greatest = n; client = Some (begun c n) }) (says_hello (begun c n) ∷ []))
+    × (w' ≡ seated w c (record { last_incarnation = n; client = Some (begun c n) }) (says_hello (begun c n) ∷ []))
 Does w (step.CrashClient c) answer w' = (answer ≡ told.Done) × (w' ≡ with_client w c None [])
 Does w step.StartServer answer w' = (answer ≡ told.Done) × (w' ≡ started w w.server)
 Does w step.CrashServer answer w' = (answer ≡ told.Done) × (w' ≡ crashed w w.server)

@@ -99,7 +99,7 @@ fn unpin(client: &mut Client, id: u64) -> Result<Answer, Refused>
 fn leave(seat: &mut Seat, sent: &mut Vec<Message>) -> Result<Answer, Refused>
     ensures commanded { CommandedAt (client_there seat.old.client) command.Leave
         (client_there seat.new.client) sent.old.items sent.new.items result }
-    ensures greatest { seat.new.greatest ≡ seat.old.greatest }
+    ensures last_incarnation { seat.new.last_incarnation ≡ seat.old.last_incarnation }
 {
     let Some(client) = seat.client.take() else {
         return Err(Refused::Down);
@@ -124,7 +124,7 @@ fn leave(seat: &mut Seat, sent: &mut Vec<Message>) -> Result<Answer, Refused>
 pub fn obey(seat: &mut Seat, sent: &mut Vec<Message>, what: Command) -> Result<Answer, Refused>
     ensures commanded { CommandedAt (client_there seat.old.client) what
         (client_there seat.new.client) sent.old.items sent.new.items result }
-    ensures greatest { seat.new.greatest ≡ seat.old.greatest }
+    ensures last_incarnation { seat.new.last_incarnation ≡ seat.old.last_incarnation }
 {
     let Some(client) = &mut seat.client else {
         return Err(Refused::Down);
@@ -182,10 +182,10 @@ pub fn start(
     if seat.client.is_some() {
         return Err(Refused::Running);
     }
-    let incarnation = seat.greatest.saturating_add(1);
+    let incarnation = seat.last_incarnation.saturating_add(1);
     let (client, hello) = Client::start(alloc, number, incarnation)?;
     sent.push(Message::ToServer(hello))?;
-    seat.greatest = incarnation;
+    seat.last_incarnation = incarnation;
     seat.client = Some(client);
     Ok(())
 }

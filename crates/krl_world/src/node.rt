@@ -91,7 +91,7 @@ impl ServerNode {
 #[derive(Drop)]
 pub struct Seat {
     /// The greatest incarnation with which a client of this number was started, or 0.
-    pub greatest: u64,
+    pub last_incarnation: u64,
     /// The client, where one runs.
     pub client: Option<Client>,
 }
@@ -101,12 +101,12 @@ impl Seat {
     pub(crate) fn unstarted(durable: &Durable, number: u64) -> Seat
         ensures { result ≡ kept_unstarted durable.now number }
     {
-        let greatest = match durable.record(number) {
+        let last_incarnation = match durable.record(number) {
             Some(record) => record.incarnation,
             None => 0,
         };
         Seat {
-            greatest,
+            last_incarnation,
             client: None,
         }
     }

@@ -107,7 +107,7 @@ fn rises(durable: &mut Durable) -> bool {
     if durable.epoch() >= END {
         return false;
     }
-    durable.raise();
+    durable.next_epoch();
     true
 }
 

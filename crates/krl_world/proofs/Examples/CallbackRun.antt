@@ -123,7 +123,7 @@ j3 = accepted j2 (push.Grant 1 (gap_alone ∷ []))
 -- The worlds
 
 abbrev c7 : State
-c7 = seated w6 1 (record { greatest = 1; client = Some (clients.begun 1 1) }) (hello ∷ [])
+c7 = seated w6 1 (record { last_incarnation = 1; client = Some (clients.begun 1 1) }) (hello ∷ [])
 
 abbrev c8 : State
 c8 = served c7 (Up (both m)) (epoch ∷ []) []

@@ -50,7 +50,7 @@ told_nothing = record { ranges_in_order = tt; merged = tt; keys_in_order = tt; r
 -- The worlds
 
 abbrev pub w1 : State
-w1 = seated (fresh two) 0 (record { greatest = 1; client = Some k0 }) (hello ∷ [])
+w1 = seated (fresh two) 0 (record { last_incarnation = 1; client = Some k0 }) (hello ∷ [])
 
 abbrev pub w2 : State
 w2 = served w1 (Up (joined m)) (epoch ∷ []) []

@@ -11,7 +11,7 @@ use Rattle.krl_world.proofs.Functions.Lifts.{takes, refuses, refuses_by, is_clie
 
 -- the client of c goes on as this one, and this was sent
 abbrev pub gone : State → ℕ → Option Client → List Message → State
-gone w c next sent = record w { seats = set_seat w.seats c (record { greatest = (w.seats c).greatest; client = next }); sent = sent }
+gone w c next sent = record w { seats = set_seat w.seats c (record { last_incarnation = (w.seats c).last_incarnation; client = next }); sent = sent }
 
 pub gone_by : (w v : State) (c : ℕ) (next k : Option Client) (sent more : List Message) → v ≡ gone w c next sent → next ≡ k → sent ≡ more → v ≡ gone w c k more
 gone_by w v c next k sent more e f g = e ∙ (λ t. gone w c (f t) (g t))
@@ -49,5 +49,5 @@ command_steps w v c what None next sent r h i e d =
     (refuses w v (step.Command c what) refused.Down (gone_nowhere w v c next sent e (d.1 ∙ sym i) d.2) (due w c what None h i))
 
 -- the world of the fields, with another client at a seat
-pub gone_fields : (w : Fields) (c : ℕ) (x y : KeptSeat) (sent : List Message) → c < length w.seats → x ≡ get_or w.seats c kept_nobody → y.greatest ≡ x.greatest → meaning (record w { seats = set w.seats c y; sent = sent }) ≡ gone (meaning w) c (client_there y.client) sent
-gone_fields w c x y sent lt e f = λ t. record (meaning w) { seats = (seats_set w.seats c y lt ∙ ap (λ n. set_seat (seats_of w.seats) c (record { greatest = n; client = client_there y.client })) (f ∙ ap (λ (s : KeptSeat). s.greatest) e)) t; sent = sent }
+pub gone_fields : (w : Fields) (c : ℕ) (x y : KeptSeat) (sent : List Message) → c < length w.seats → x ≡ get_or w.seats c kept_nobody → y.last_incarnation ≡ x.last_incarnation → meaning (record w { seats = set w.seats c y; sent = sent }) ≡ gone (meaning w) c (client_there y.client) sent
+gone_fields w c x y sent lt e f = λ t. record (meaning w) { seats = (seats_set w.seats c y lt ∙ ap (λ n. set_seat (seats_of w.seats) c (record { last_incarnation = n; client = client_there y.client })) (f ∙ ap (λ (s : KeptSeat). s.last_incarnation) e)) t; sent = sent }

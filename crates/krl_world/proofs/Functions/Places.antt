@@ -25,15 +25,15 @@ is_at w c x d full low e = let there : c < length w.seats = omega arith in
 client_is : (w : Fields) (c : ℕ) (x : KeptSeat) (o : Option Client) → IsAt w c x → client_there x.client ≡ o → client_of (meaning w) c ≡ o
 client_is w c x o a e = ap (λ (s : KeptSeat). client_there s.client) (sym a.is) ∙ e
 
-pub command_at : (w : Fields) (c : ℕ) (x y : KeptSeat) (sent : List Message) (what : Command) (r : Result Answer Refused) → IsAt w c x → y.greatest ≡ x.greatest → CommandedAt (client_there x.client) what (client_there y.client) w.sent sent r → Steps (meaning w) (step.Command c what) r (meaning (record w { seats = set w.seats c y; sent = sent }))
+pub command_at : (w : Fields) (c : ℕ) (x y : KeptSeat) (sent : List Message) (what : Command) (r : Result Answer Refused) → IsAt w c x → y.last_incarnation ≡ x.last_incarnation → CommandedAt (client_there x.client) what (client_there y.client) w.sent sent r → Steps (meaning w) (step.Command c what) r (meaning (record w { seats = set w.seats c y; sent = sent }))
 command_at w c x y sent what r a g d =
     command_steps (meaning w) (meaning (record w { seats = set w.seats c y; sent = sent })) c what (client_there x.client) (client_there y.client) sent r a.low (client_is w c x _ a refl) (gone_fields w c x y sent a.there a.is g) d
 
-pub crash_at : (w : Fields) (c : ℕ) (x y : KeptSeat) (k : client_fields.Fields) → IsAt w c x → y.greatest ≡ x.greatest → x.client ≡ Some k → y.client ≡ None → Steps (meaning w) (step.CrashClient c) (Ok told.Done) (meaning (record w { seats = set w.seats c y }))
+pub crash_at : (w : Fields) (c : ℕ) (x y : KeptSeat) (k : client_fields.Fields) → IsAt w c x → y.last_incarnation ≡ x.last_incarnation → x.client ≡ Some k → y.client ≡ None → Steps (meaning w) (step.CrashClient c) (Ok told.Done) (meaning (record w { seats = set w.seats c y }))
 crash_at w c x y k a g e f =
     seats.crashed_steps (meaning w) (meaning (record w { seats = set w.seats c y })) c (client_fields.meaning k) a.low (client_is w c x _ a (ap client_there e)) (gone_fields w c x y w.sent a.there a.is g ∙ ap (λ o. gone (meaning w) c (client_there o) w.sent) f)
 
-pub crash_none_at : (w : Fields) (c : ℕ) (x y : KeptSeat) → IsAt w c x → y.greatest ≡ x.greatest → x.client ≡ None → y.client ≡ None → Steps (meaning w) (step.CrashClient c) (Err refused.Down) (meaning (record w { seats = set w.seats c y }))
+pub crash_none_at : (w : Fields) (c : ℕ) (x y : KeptSeat) → IsAt w c x → y.last_incarnation ≡ x.last_incarnation → x.client ≡ None → y.client ≡ None → Steps (meaning w) (step.CrashClient c) (Err refused.Down) (meaning (record w { seats = set w.seats c y }))
 crash_none_at w c x y a g e f =
     seats.crash_down (meaning w) (meaning (record w { seats = set w.seats c y })) c a.low (client_is w c x _ a (ap client_there e)) (gone_fields w c x y w.sent a.there a.is g ∙ ap (λ o. gone (meaning w) c (client_there o) w.sent) f)
 
@@ -56,7 +56,7 @@ tick_memory_at w c x k sent a e f = seats.tick_memory (meaning w) (meaning (reco
 pub tick_none_at : (w : Fields) (c : ℕ) (x : KeptSeat) → IsAt w c x → x.client ≡ None → Steps (meaning w) (step.Tick c) (Err refused.Down) (meaning w)
 tick_none_at w c x a e = seats.tick_down (meaning w) (meaning w) c a.low (client_is w c x _ a (ap client_there e)) refl
 
-pub read_at : (w : Fields) (at : ℕ) (m : ToClient) (x y : KeptSeat) (k next : client_fields.Fields) (sent : List Message) → IsAt w m.client x → slice_get w.sent at ≡ Some (message.ToClient m) → y.greatest ≡ x.greatest → x.client ≡ Some k → y.client ≡ Some next → HasRead (client_fields.meaning k) m (client_fields.meaning next) w.sent sent → Steps (meaning w) (step.Deliver (suc at)) (Ok told.Done) (meaning (record w { seats = set w.seats m.client y; sent = sent }))
+pub read_at : (w : Fields) (at : ℕ) (m : ToClient) (x y : KeptSeat) (k next : client_fields.Fields) (sent : List Message) → IsAt w m.client x → slice_get w.sent at ≡ Some (message.ToClient m) → y.last_incarnation ≡ x.last_incarnation → x.client ≡ Some k → y.client ≡ Some next → HasRead (client_fields.meaning k) m (client_fields.meaning next) w.sent sent → Steps (meaning w) (step.Deliver (suc at)) (Ok told.Done) (meaning (record w { seats = set w.seats m.client y; sent = sent }))
 read_at w at m x y k next sent a f g e n r =
     seats.read_steps (meaning w) (meaning (record w { seats = set w.seats m.client y; sent = sent })) at m (client_fields.meaning k) (client_fields.meaning next) sent f (client_is w m.client x _ a (ap client_there e)) (gone_fields w m.client x y sent a.there a.is g ∙ ap (λ o. gone (meaning w) m.client (client_there o) sent) n) r
 

@@ -123,8 +123,8 @@ goes_on w (step.Tick c) d h e =
     (told.Done, with_client w c (Some r.0) (tick x.0 r.0), (e, (refl, (r.0, r.1, (x.0, x.1, refl)))))
 goes_on w (step.Nudge c) d h e = (told.Done, nudged w w.server c, (e, (refl, refl)))
 goes_on w (step.StartClient c) d h e =
-    let n = suc (w.seats c).greatest in
-    (told.Done, seated w c (record { greatest = n; client = Some (begun c n) }) (says_hello (begun c n) ∷ []), (e, (refl, refl)))
+    let n = suc (w.seats c).last_incarnation in
+    (told.Done, seated w c (record { last_incarnation = n; client = Some (begun c n) }) (says_hello (begun c n) ∷ []), (e, (refl, refl)))
 goes_on w (step.CrashClient c) d h e = (told.Done, with_client w c None [], (e, (refl, refl)))
 goes_on w step.StartServer d h e = (told.Done, started w w.server, (e, (refl, refl)))
 goes_on w step.CrashServer d h e = (told.Done, crashed w w.server, (e, (refl, refl)))

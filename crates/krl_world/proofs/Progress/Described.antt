@@ -79,5 +79,5 @@ within_world w of log c k low r h p far =
 
 pub described_world : (w : State) (of : ℕ → Link) (log : List Logged) → Mirrors w of log → machine.IsBounded (machine_of w.server of log) → machine.Restarts (machine_of w.server of log) → (c : ℕ) (k : Client) → client_of w c ≡ Some k → (ps : Pieces) × Describes ps k.belief
 described_world w of log m low r c k up =
-    let seat : ShowsSeat c (w.seats c).greatest (Some k) (of c) = subst (λ x. ShowsSeat c (w.seats c).greatest x (of c)) up (m.seats c) in
+    let seat : ShowsSeat c (w.seats c).last_incarnation (Some k) (of c) = subst (λ x. ShowsSeat c (w.seats c).last_incarnation x (of c)) up (m.seats c) in
     described_within k.belief (within_world w of log c k low r seat.1)

@@ -80,10 +80,10 @@ push_within w of log b c k (push.Answer number o h) have r s at told = holding_w
 pub bounded_world : (w : State) (of : ℕ → Link) (log : List Logged) (b : Bound) → Mirrors w of log → b.index ≡ index_of w → HaveBound of b → machine.IsBounded (machine_of w.server of log) → machine.Restarts (machine_of w.server of log) → IsBounded w b
 bounded_world w of log b m same have low r = record {
   index = same;
-  held_range = λ c p. held_range c p (client_of w c) (w.seats c).greatest (of c) b (m.seats c) (have c p).0 (low c p).0;
-  held_key = λ c p. held_key c p (client_of w c) (w.seats c).greatest (of c) b (m.seats c) (have c p).1 (low c p).1;
+  held_range = λ c p. held_range c p (client_of w c) (w.seats c).last_incarnation (of c) b (m.seats c) (have c p).0 (low c p).0;
+  held_key = λ c p. held_key c p (client_of w c) (w.seats c).last_incarnation (of c) b (m.seats c) (have c p).1 (low c p).1;
   live = λ c k body up at.
-      let seat : ShowsSeat c (w.seats c).greatest (Some k) (of c) = subst (λ x. ShowsSeat c (w.seats c).greatest x (of c)) up (m.seats c) in
+      let seat : ShowsSeat c (w.seats c).last_incarnation (Some k) (of c) = subst (λ x. ShowsSeat c (w.seats c).last_incarnation x (of c)) up (m.seats c) in
       push_within w of log b c k body have r seat.1 (m.to _ at).0 (m.to _ at).2;
 }
 

@@ -66,7 +66,7 @@ key_n key.X = refl
 pub compatible_world : (w : State) (of : ℕ → Link) (log : List Logged) → Mirrors w of log → machine.IsCompatible (machine_of w.server of log) → IsCompatible w
 compatible_world w of log h ok c d p ne = agree (client_of w c) (client_of w d) (h.seats c) (h.seats d)
   where
-    agree : (x y : Option Client) → ShowsSeat c (w.seats c).greatest x (of c) → ShowsSeat d (w.seats d).greatest y (of d) → (ranges_compatible (range_believed x p) (range_believed y p) ≡ true) × (keys_compatible (key_believed x p) (key_believed y p) ≡ true)
+    agree : (x y : Option Client) → ShowsSeat c (w.seats c).last_incarnation x (of c) → ShowsSeat d (w.seats d).last_incarnation y (of d) → (ranges_compatible (range_believed x p) (range_believed y p) ≡ true) × (keys_compatible (key_believed x p) (key_believed y p) ≡ true)
     agree None y a b = (refl, refl)
     agree (Some k) None a b = (range_n (k.belief.range_at p), key_n (k.belief.key_at p))
     agree (Some k) (Some n) a b = let both = ok c d ne p in (
@@ -128,7 +128,7 @@ scan_rows w of log c lo hi k rows _ m scan up ok (misses p f h) e = absurd (cc)
 scan_rows w of log c lo hi k rows _ m scan up ok (finds_rows found f h) e =
     let is : is_span (span lo hi) ≡ true = not-false _ (passed _ _ _ ok).0 in
     let top : hi ≤ TOP = leb-true hi TOP (and_parts (nat_lt lo hi) (nat_le hi TOP) is).1 in
-    let seat : ShowsSeat c (w.seats c).greatest (Some k) (of c) = subst (λ x. ShowsSeat c (w.seats c).greatest x (of c)) up (m.seats c) in
+    let seat : ShowsSeat c (w.seats c).last_incarnation (Some k) (of c) = subst (λ x. ShowsSeat c (w.seats c).last_incarnation x (of c)) up (m.seats c) in
     let r : rows ≡ found = cc in
     r ∙ rows_are_determined (index_believed (index_of w)) (span lo hi) found (index.range (index_of w) lo hi)
     (rows_agree k.belief (index_believed (index_of w)) (span lo hi) found (λ p at. value_is w of log c k (span lo hi) p (nat_eq p END) m scan seat.1 f (h.0 p at) at top refl) h.1)
@@ -138,7 +138,7 @@ scan_rows w of log c lo hi k rows _ m scan up ok (finds_rows found f h) e =
 pub rows_of_scan : (w : State) (of : ℕ → Link) (log : List Logged) (c lo hi : ℕ) (k : Client) → Mirrors w of log → machine.ScanIsIndex (machine_of w.server of log) → client_of w c ≡ Some k → is_span (span lo hi) ≡ true → is_writing_in k (span lo hi) ≡ false → CoversAll k.belief (span lo hi) → AreRows k.belief (span lo hi) (index.range (index_of w) lo hi)
 rows_of_scan w of log c lo hi k m scan up is free covers =
     let top : hi ≤ TOP = leb-true hi TOP (and_parts (nat_lt lo hi) (nat_le hi TOP) is).1 in
-    let seat : ShowsSeat c (w.seats c).greatest (Some k) (of c) = subst (λ x. ShowsSeat c (w.seats c).greatest x (of c)) up (m.seats c) in
+    let seat : ShowsSeat c (w.seats c).last_incarnation (Some k) (of c) = subst (λ x. ShowsSeat c (w.seats c).last_incarnation x (of c)) up (m.seats c) in
     rows_agree (index_believed (index_of w)) k.belief (span lo hi) (index.range (index_of w) lo hi)
     (λ p at. sym (value_is w of log c k (span lo hi) p (nat_eq p END) m scan seat.1 free (covers p at) at top refl))
     (range_rows (index_of w) lo hi)

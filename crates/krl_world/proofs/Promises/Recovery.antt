@@ -90,7 +90,7 @@ unfolding taken_link
 taken_within first w of log b s c inc pieces m have h i reach may whole d p = (
   (range_within _ _ _ _ (sym (x.range p)) (x.top_range p) low.0, key_within _ _ _ _ (sym (x.key p)) (x.top_key p) low.1),
   λ here. let high = r.rebuilt_covers d may.recovering (x.missing ∙ here) p in
-      (believed_range d (w.seats d).greatest p (client_of w d) (to d) _ _ seat (x.range p) high.0, believed_key d (w.seats d).greatest p (client_of w d) (to d) _ _ seat (x.key p) high.1),
+      (believed_range d (w.seats d).last_incarnation p (client_of w d) (to d) _ _ seat (x.range p) high.0, believed_key d (w.seats d).last_incarnation p (client_of w d) (to d) _ _ seat (x.key p) high.1),
 )
   where
     l : Link
@@ -116,8 +116,8 @@ taken_within first w of log b s c inc pieces m have h i reach may whole d p = (
     low : RangeAtMost ((to d).new_range p) ((to d).top_range p) × KeyAtMost ((to d).new_key p) ((to d).top_key p)
     low = r.rebuilt d may.recovering p
 
-    seat : ShowsSeat d (w.seats d).greatest (client_of w d) (to d)
-    seat = seat_stays d (w.seats d).greatest (client_of w d) (of d) (to d) x.client (m.seats d)
+    seat : ShowsSeat d (w.seats d).last_incarnation (client_of w d) (to d)
+    seat = seat_stays d (w.seats d).last_incarnation (client_of w d) (of d) (to d) x.client (m.seats d)
 
 -- Gathering
 
@@ -139,7 +139,7 @@ recovery_world first w of log b s m have up reach recovering = record {
   row = λ c p. let y = r.rebuilt c phase p in
       (range_within _ _ _ _ (sym ((shows.link c).new_range phase p)) (have c p).0 y.0, key_within _ _ _ _ (sym ((shows.link c).new_key phase p)) (have c p).1 y.1);
   row_covers = λ c missing p. let y = r.rebuilt_covers c phase ((shows.link c).missing ∙ missing) p in
-      (believed_range c (w.seats c).greatest p (client_of w c) (of c) _ _ (m.seats c) ((shows.link c).new_range phase p) y.0, believed_key c (w.seats c).greatest p (client_of w c) (of c) _ _ (m.seats c) ((shows.link c).new_key phase p) y.1);
+      (believed_range c (w.seats c).last_incarnation p (client_of w c) (of c) _ _ (m.seats c) ((shows.link c).new_range phase p) y.0, believed_key c (w.seats c).last_incarnation p (client_of w c) (of c) _ _ (m.seats c) ((shows.link c).new_key phase p) y.1);
   taken = λ c x pieces awaited d p. (as_taken c x pieces awaited d p).0;
   taken_covers = λ c x pieces awaited d missing p. (as_taken c x pieces awaited d p).1 missing;
 }
@@ -162,5 +162,5 @@ recovery_world first w of log b s m have up reach recovering = record {
     as_taken : (c : ℕ) (x : Record) (pieces : Pieces) → IsAwaited w s c x pieces → IsTakenWithin w b s c pieces
     as_taken c x pieces a = taken_within first w of log b s c x.incarnation pieces m have shown.0 shown.1 reach (may c x pieces a) (m.from _ a.sent).1
 
-    seat : (c : ℕ) (k : Client) → client_of w c ≡ Some k → ShowsSeat c (w.seats c).greatest (Some k) (of c)
-    seat c k here = subst (λ x. ShowsSeat c (w.seats c).greatest x (of c)) here (m.seats c)
+    seat : (c : ℕ) (k : Client) → client_of w c ≡ Some k → ShowsSeat c (w.seats c).last_incarnation (Some k) (of c)
+    seat c k here = subst (λ x. ShowsSeat c (w.seats c).last_incarnation x (of c)) here (m.seats c)

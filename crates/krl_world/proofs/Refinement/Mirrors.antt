@@ -42,7 +42,7 @@ oldest_first (e ∷ es) = oldest_first es ++ (as_applied e ∷ [])
 
 -- each seat, each message, the server and the writes show in the links and the log
 pub record Mirrors (w : State) (of : ℕ → Link) (log : List Logged) : Type 0 where
-  pub seats : (c : ℕ) → ShowsSeat c (w.seats c).greatest (w.seats c).client (of c)
+  pub seats : (c : ℕ) → ShowsSeat c (w.seats c).last_incarnation (w.seats c).client (of c)
   pub from : (m : ToServer) → In (message.ToServer m) w.sent → Stands (of m.client) m.incarnation m.body
   pub to : (m : ToClient) → In (message.ToClient m) w.sent → WasSent (of m.client) m.incarnation m.body
   pub called : (m : ToClient) → In (message.ToClient m) w.sent → epoch_called m.body ≤ (durable_of w.server).epoch
@@ -112,7 +112,7 @@ pub bound_same : (l m : Link) → server_part m ≡ server_part l → BoundStays
 bound_same l m e = record { range = λ p. ap (λ x. x.top_range p) e; key = λ p. ap (λ x. x.top_key p) e }
 
 -- a seat changes, and its client sends these
-pub seat_goes : (w : State) (of : ℕ → Link) (log : List Logged) (c : ℕ) (x : Seat) (ms : List ToServer) → Mirrors w of log → Leads (shared_of w.server) (of c) c x.greatest x.client ms → Goes w.server (seated w c x ms) (λ d. false) of log
+pub seat_goes : (w : State) (of : ℕ → Link) (log : List Logged) (c : ℕ) (x : Seat) (ms : List ToServer) → Mirrors w of log → Leads (shared_of w.server) (of c) c x.last_incarnation x.client ms → Goes w.server (seated w c x ms) (λ d. false) of log
 seat_goes w of log c x ms h g = record {
   after = to;
   log_after = log;
@@ -145,6 +145,6 @@ seat_goes w of log c x ms h g = record {
     told_by : (m : ToServer) → In m ms → Stands (to m.client) m.incarnation m.body
     told_by m i = subst (λ d. Stands (to d) m.incarnation m.body) (sym (g.mine m i)) (subst (λ l. Stands l m.incarnation m.body) (sym ch.here) (from_stands g.link m.incarnation m.body (g.told m i)))
 
-    seat_by : (d : ℕ) (t : Bool) → nat_eq d c ≡ t → ShowsSeat d (if t then x else w.seats d).greatest (if t then x else w.seats d).client (cond t g.link (of d))
-    seat_by d true e = subst (λ y. ShowsSeat y x.greatest x.client g.link) (sym (eqb-true d c e)) g.seat
+    seat_by : (d : ℕ) (t : Bool) → nat_eq d c ≡ t → ShowsSeat d (if t then x else w.seats d).last_incarnation (if t then x else w.seats d).client (cond t g.link (of d))
+    seat_by d true e = subst (λ y. ShowsSeat y x.last_incarnation x.client g.link) (sym (eqb-true d c e)) g.seat
     seat_by d false e = h.seats d

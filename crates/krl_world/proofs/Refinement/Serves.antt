@@ -58,7 +58,7 @@ case_log m (AnswersAgain number x o) log = nil_right (oldest_first log)
 -- the messages and seats, where the machine went on and the clients stayed
 pub mirrors_on : (w : State) (n : ServerNode) (of to : ℕ → Link) (log log' : List Logged) (a b : machine.World) (outs : List ToClient) (writes : List AppliedWrite) → Mirrors w of log → a.links ≡ of → b.links ≡ to → Steps a b → ((o : ToClient) → In o outs → WasSent (to o.client) o.incarnation o.body) → ((c : ℕ) → (to c).client ≡ (of c).client) → ServerShows n to → oldest_first log ++ writes ≡ oldest_first log' → (durable_of w.server).epoch ≡ a.shared.epoch → b.shared.epoch ≡ (durable_of n).epoch → AreCalled (durable_of n).epoch outs → Mirrors (served w n outs writes) to log'
 mirrors_on w n of to log log' a b outs writes h ea eb steps sent clients shows e old new called = record {
-  seats = λ c. seat_stays c (w.seats c).greatest (w.seats c).client (of c) (to c) (clients c) (h.seats c);
+  seats = λ c. seat_stays c (w.seats c).last_incarnation (w.seats c).client (of c) (to c) (clients c) (h.seats c);
   from = λ m i. ⊎_elim (λ (x : In (message.ToServer m) w.sent). stands_stays (of m.client) (to m.client) (grows m.client) m.incarnation m.body (h.from m x))
       (λ (y : In (message.ToServer m) (from_server outs)). absurd (not_from_server m outs y)) (in_both w.sent (from_server outs) (message.ToServer m) i);
   to = λ m i. ⊎_elim (λ (x : In (message.ToClient m) w.sent). sent_stays (of m.client) (to m.client) (grows m.client) m.incarnation m.body (h.to m x))

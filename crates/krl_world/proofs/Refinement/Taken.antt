@@ -40,21 +40,21 @@ rests w gone of log e h = record {
 
 -- Commands
 
-seat_at : (w : State) (of : ℕ → Link) (log : List Logged) (c : ℕ) (k : Option Client) → Mirrors w of log → client_of w c ≡ k → ShowsSeat c (w.seats c).greatest k (of c)
-seat_at w of log c k h e = subst (λ x. ShowsSeat c (w.seats c).greatest x (of c)) e (h.seats c)
+seat_at : (w : State) (of : ℕ → Link) (log : List Logged) (c : ℕ) (k : Option Client) → Mirrors w of log → client_of w c ≡ k → ShowsSeat c (w.seats c).last_incarnation k (of c)
+seat_at w of log c k h e = subst (λ x. ShowsSeat c (w.seats c).last_incarnation x (of c)) e (h.seats c)
 
 -- the client of c goes on as k', and sends these
-client_goes : (w v : State) (of : ℕ → Link) (log : List Logged) (c : ℕ) (k' : Option Client) (ms : List ToServer) → Mirrors w of log → Leads (shared_of w.server) (of c) c (w.seats c).greatest k' ms → v ≡ with_client w c k' ms → Goes w.server v (λ d. false) of log
-client_goes w v of log c k' ms h g e = subst (λ x. Goes w.server x (λ d. false) of log) (sym e) (seat_goes w of log c (record { greatest = (w.seats c).greatest; client = k' }) ms h g)
+client_goes : (w v : State) (of : ℕ → Link) (log : List Logged) (c : ℕ) (k' : Option Client) (ms : List ToServer) → Mirrors w of log → Leads (shared_of w.server) (of c) c (w.seats c).last_incarnation k' ms → v ≡ with_client w c k' ms → Goes w.server v (λ d. false) of log
+client_goes w v of log c k' ms h g e = subst (λ x. Goes w.server x (λ d. false) of log) (sym e) (seat_goes w of log c (record { last_incarnation = (w.seats c).last_incarnation; client = k' }) ms h g)
 
 obeys_goes : (w v : State) (of : ℕ → Link) (log : List Logged) (c : ℕ) (k : Client) (what : Command) (answer : Answer) → Mirrors w of log → client_of w c ≡ Some k → command_refusal k what ≡ None → Obeys w c k what answer v → Goes w.server v (λ d. false) of log
-obeys_goes w v of log c k (command.Lock point hi m) answer h i e d = client_goes w v of log c _ _ h (commands_show.lock k point hi m e (shared_of w.server) (of c) c (w.seats c).greatest (seat_at w of log c (Some k) h i)) d.1
-obeys_goes w v of log c k (command.Write op) answer h i e d = client_goes w v of log c _ _ h (commands_show.write k op e (shared_of w.server) (of c) c (w.seats c).greatest (seat_at w of log c (Some k) h i)) d.1
+obeys_goes w v of log c k (command.Lock point hi m) answer h i e d = client_goes w v of log c _ _ h (commands_show.lock k point hi m e (shared_of w.server) (of c) c (w.seats c).last_incarnation (seat_at w of log c (Some k) h i)) d.1
+obeys_goes w v of log c k (command.Write op) answer h i e d = client_goes w v of log c _ _ h (commands_show.write k op e (shared_of w.server) (of c) c (w.seats c).last_incarnation (seat_at w of log c (Some k) h i)) d.1
 obeys_goes w v of log c k (command.Scan lo hi) answer h i e d = subst (λ x. Goes w.server x (λ d. false) of log) (sym d.1) (rests w (λ d. false) of log (λ d. refl) h)
-obeys_goes w v of log c k (command.Forget lo hi) answer h i e d = client_goes w v of log c _ _ h (commands_show.forget k (span lo hi) e (shared_of w.server) (of c) c (w.seats c).greatest (seat_at w of log c (Some k) h i)) d.1
-obeys_goes w v of log c k (command.Pin lo hi) answer h i e d = client_goes w v of log c _ _ h (commands_show.pin k (span lo hi) d.0 (shared_of w.server) (of c) c (w.seats c).greatest (seat_at w of log c (Some k) h i)) d.3
-obeys_goes w v of log c k (command.Unpin id) answer h i e d = client_goes w v of log c _ _ h (commands_show.unpin k id (shared_of w.server) (of c) c (w.seats c).greatest (seat_at w of log c (Some k) h i)) d.1
-obeys_goes w v of log c k command.Leave answer h i e d = client_goes w v of log c _ _ h (commands_show.leave k (shared_of w.server) (of c) c (w.seats c).greatest (seat_at w of log c (Some k) h i)) d.1
+obeys_goes w v of log c k (command.Forget lo hi) answer h i e d = client_goes w v of log c _ _ h (commands_show.forget k (span lo hi) e (shared_of w.server) (of c) c (w.seats c).last_incarnation (seat_at w of log c (Some k) h i)) d.1
+obeys_goes w v of log c k (command.Pin lo hi) answer h i e d = client_goes w v of log c _ _ h (commands_show.pin k (span lo hi) d.0 (shared_of w.server) (of c) c (w.seats c).last_incarnation (seat_at w of log c (Some k) h i)) d.3
+obeys_goes w v of log c k (command.Unpin id) answer h i e d = client_goes w v of log c _ _ h (commands_show.unpin k id (shared_of w.server) (of c) c (w.seats c).last_incarnation (seat_at w of log c (Some k) h i)) d.1
+obeys_goes w v of log c k command.Leave answer h i e d = client_goes w v of log c _ _ h (commands_show.leave k (shared_of w.server) (of c) c (w.seats c).last_incarnation (seat_at w of log c (Some k) h i)) d.1
 
 -- Deliveries
 
@@ -71,7 +71,7 @@ at_in ms (suc i) m e = nth_in ms i m e
 client_reads : (w v : State) (of : ℕ → Link) (log : List Logged) (m : ToClient) (gone : ℕ → Bool) (o : Option Client) → Mirrors w of log → In (message.ToClient m) w.sent → ((c : ℕ) → gone c ≡ false) → client_of w m.client ≡ o → ClientReads w o m v → Goes w.server v gone of log
 client_reads w v of log m gone None h at e i d = subst (λ x. Goes w.server x gone of log) (sym d) (rests w gone of log e h)
 client_reads w v of log m gone (Some k) h at e i d =
-    let g = client_goes w v of log m.client _ _ h (messages_show k d.0 m d.1 (shared_of w.server) (of m.client) m.client (w.seats m.client).greatest (seat_at w of log m.client (Some k) h i) (λ own. sent_tells (of m.client) m.incarnation m.body (h.to m at))) d.2 in
+    let g = client_goes w v of log m.client _ _ h (messages_show k d.0 m d.1 (shared_of w.server) (of m.client) m.client (w.seats m.client).last_incarnation (seat_at w of log m.client (Some k) h i) (λ own. sent_tells (of m.client) m.incarnation m.body (h.to m at))) d.2 in
     record { after = g.after; log_after = g.log_after; steps = g.steps; mirrors = g.mirrors; bound = λ n c. subst (λ b. BoundStays b (of c) (g.after c)) (sym (e c)) (g.bound n c) }
 
 -- a message reaches the server, or is lost
@@ -116,7 +116,7 @@ not_running (Some k) r e = absurd (cc)
 -- one that runs crashes
 crash_client : (w v : State) (of : ℕ → Link) (log : List Logged) (c : ℕ) (o : Option Client) → Mirrors w of log → client_of w c ≡ o → if_runs o (λ k. None) ≡ None → v ≡ with_client w c None [] → Goes w.server v (λ d. false) of log
 crash_client w v of log c None h i e d = absurd (cc)
-crash_client w v of log c (Some k) h i e d = client_goes w v of log c None [] h (crash_shows k (shared_of w.server) (of c) c (w.seats c).greatest (seat_at w of log c (Some k) h i)) d
+crash_client w v of log c (Some k) h i e d = client_goes w v of log c None [] h (crash_shows k (shared_of w.server) (of c) c (w.seats c).last_incarnation (seat_at w of log c (Some k) h i)) d
 
 -- Each step
 
@@ -124,12 +124,12 @@ pub takes_goes : ServerFollows → (first : ℕ → Option Value) (w v : State) 
 takes_goes owed first w v of log (step.Deliver i) answer h reach e d = deliver_goes owed first w v of log (message_at w.sent i) h reach (λ m. at_in w.sent i m) d.1
 takes_goes owed first w v of log (step.Command c what) answer h reach e d = obeys_goes w v of log c d.0 what answer h d.1 (not_named refused_by_client (command_refusal d.0 what) (runs_ok (client_of w c) d.0 _ d.1 (client_ok c _ e))) d.2
 takes_goes owed first w v of log (step.Tick c) answer h reach e d =
-    client_goes w v of log c _ _ h (ticks_show_all d.1.0 d.1.2.0 d.1.2.1 (shared_of w.server) (of c) c (w.seats c).greatest (seat_at w of log c (Some d.1.0) h d.1.1)) d.1.2.2
+    client_goes w v of log c _ _ h (ticks_show_all d.1.0 d.1.2.0 d.1.2.1 (shared_of w.server) (of c) c (w.seats c).last_incarnation (seat_at w of log c (Some d.1.0) h d.1.1)) d.1.2.2
 takes_goes owed first w v of log (step.Nudge c) answer h reach e d = nudged_goes owed first w v of log c w.server h refl reach d.1
 takes_goes owed first w v of log (step.StartClient c) answer h reach e d =
     subst (λ x. Goes w.server x (λ y. false) of log) (sym d.1)
-    (seat_goes w of log c (record { greatest = suc (w.seats c).greatest; client = Some (begun c (suc (w.seats c).greatest)) }) _ h
-    (start_shows (shared_of w.server) (of c) c (w.seats c).greatest (seat_at w of log c None h (not_running (client_of w c) _ (client_ok c _ e)))))
+    (seat_goes w of log c (record { last_incarnation = suc (w.seats c).last_incarnation; client = Some (begun c (suc (w.seats c).last_incarnation)) }) _ h
+    (start_shows (shared_of w.server) (of c) c (w.seats c).last_incarnation (seat_at w of log c None h (not_running (client_of w c) _ (client_ok c _ e)))))
 takes_goes owed first w v of log (step.CrashClient c) answer h reach e d = crash_client w v of log c (client_of w c) h refl (client_ok c _ e) d.1
 takes_goes owed first w v of log step.StartServer answer h reach e d = started_goes owed w v of log w.server h refl e d.1
 takes_goes owed first w v of log step.CrashServer answer h reach e d = crashed_goes owed w v of log w.server h refl d.1

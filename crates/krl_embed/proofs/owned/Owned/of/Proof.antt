@@ -19,7 +19,7 @@ use denote.Triple.Walked.{Stays, stay_dropped, walk_of, Goes-dropped}
 use Rattle.std.proofs.raw_atomic.Walks.{proved_at, leaves}
 use Rattle.std.proofs.alloc.Global.TheLaws as heap_laws
 use Rattle.std.specs.contracts.impls.GlobalAllocator.TheImpl.{ghosts}
-use Rattle.krl_queue.proofs.Values.{both, Loose, loose_good, loose_out}
+use Rattle.krl_queue.proofs.Values.{both, DetachedBox, detached_box_good, detached_box_out}
 use Rattle.krl_embed.proofs.Held.{Z, word_made}
 use Rattle.std_alloc.proofs.RcSteps.{word, word-Good}
 use Rattle.krl_embed.specs.contracts.endpoint.Endpoint as S
@@ -32,15 +32,15 @@ use Rattle.krl_embed.proofs.owned.Owned.of.Code as code
 pub of_spec : {M : Type 1} → statement M
 of_spec 𝓤 𝓛 𝓜 𝓡 wired =
     let H = 𝓛.H in let 𝓣 = tables 𝓤 H 𝓜 𝓡 𝓡.env in let c = clauses 𝓛 𝓜.mem 𝓡.returns in let fn = code.function in
-    let LZ = heap_laws.the_row_laws in let Lr : RattleType = Loose S.the_row Z LZ ghosts in
+    let LZ = heap_laws.the_row_laws in let Lr : RattleType = DetachedBox S.the_row Z LZ ghosts in
     let hs : Stays ended.signature.params ended.kept = (stay_dropped (plain (λ _. Lr)) yes, tt) in
     proved_at 𝓛 ended hs c 𝓜 𝓡 (Goes-dropped 𝓛 0 (plain (λ _. Lr)) yes (λ κs x f. refl), tt) #self fn (code.unfolded 𝓤 H 𝓜 𝓡 wired) (λ z are.
     let d = z.0.3.0 in let Post : Val → SProp 𝓤 = (walk_of 𝓛 ended hs c).post z in let Run : List Val → SProp 𝓤 = λ ws. WpFn 𝓤 H 𝓣.C 𝓣.Λ fn ws Post in
     qed 𝓛 ((‵ ftrue ⊛ ‵ (owns (types_at ended.signature.params z.0.0) z.0.3 z.0.4)) ∷ ‵ ftrue ∷ []) ∵ split ! $ drop ! $ fsplit ! $
-    loose_out S.the_row Z LZ ghosts ! d z.0.4.0 (λ b o h e ws fits.
+    detached_box_out S.the_row Z LZ ghosts ! d z.0.4.0 (λ b o h e ws fits.
     suffices ! (Run (both (vptr b o) h ∷ [])) (subst (λ (us : List Val). ent 𝓤 (Run (both (vptr b o) h ∷ [])) (Run us)) (sym (λ i. ws i ++ [])) (id⊢ 𝓤 (Run (both (vptr b o) h ∷ [])))) $
     let at = block_ptr b o in let new : O.the_row.Denot = record { at = at; heap = d.alloc; value = Some d.value } in
-    enter ! 𝓣.C 𝓣.Λ fn (both (vptr b o) h ∷ []) Post $ alloc_all ! (λ l. pass_all ! refl (loose_good S.the_row Z LZ ghosts b o h fits, tt) $
+    enter ! 𝓣.C 𝓣.Λ fn (both (vptr b o) h ∷ []) Post $ alloc_all ! (λ l. pass_all ! refl (detached_box_good S.the_row Z LZ ghosts b o h fits, tt) $
     sets ! (of_opd ! (get_in ! (fld ! refl (stop !)) (sub ! 0 refl (whole !)))) refl (tt, tt) $
     sets ! (of_opd ! (get ! refl)) refl (tt, tt) $
     sets ! (agg ! (and_then ! (get ! refl) (no_more !))) refl (word-Good [] at) $

@@ -1,5 +1,5 @@
 use Rattle.krl_nodes.proofs.Names.{◌≡◌, ◌≤◌, ℕ, List, [], ◌∷◌, ◌++◌, length, refl, sym, ap, ◌∙◌, subst, opening, Value, Mail, Holds, first_view}
-use Rattle.krl_durable.specs.Openings.{AreGood, fresh}
+use Rattle.krl_durable.specs.InitialEntries.{AreGood, fresh}
 use Rattle.krl_durable.specs.Writes.{most_entries}
 use Rattle.krl_world.specs.declared.node.ServerNode.TheVariants as kept
 use Rattle.krl_nodes.specs.declared.rule.Opening.{Opening}

@@ -11,12 +11,12 @@ invariant_of-server g c =
 pub give_client-requires-clause-may : goal.give_client-requires-clause-may
 give_client-requires-clause-may g c =
     let s = c.in-Free.ensures.sits in
-    may_give c.blank-ticket.result.me c.take.new.ticket.me c.sit.new.ticket.me Blank (Client c.args.number (record { greatest = c.in-Free.greatest; client = None })) _ (ap (λ m. m.0.node) c.blank-ticket.ensures.blank.1) c.take.ensures.took s tt
-    (inr (inr (inl (c.args.number, c.in-Free.greatest, refl, s.so.0, refl, s.so.1))))
+    may_give c.blank-ticket.result.me c.take.new.ticket.me c.sit.new.ticket.me Blank (Client c.args.number (record { last_incarnation = c.in-Free.last_incarnation; client = None })) _ (ap (λ m. m.0.node) c.blank-ticket.ensures.blank.1) c.take.ensures.took s tt
+    (inr (inr (inl (c.args.number, c.in-Free.last_incarnation, refl, s.so.0, refl, s.so.1))))
 
 pub invariant_of-result : goal.invariant_of-result
 invariant_of-result g c =
-    (is_at c.sit.new.ticket.me c.give_client.new.ticket.me (Client c.args.number (record { greatest = c.in-Free.greatest; client = None })) c.give_client.ensures.view c.give_client.ensures.stands c.give_client.new.ticket refl, omega arith)
+    (is_at c.sit.new.ticket.me c.give_client.new.ticket.me (Client c.args.number (record { last_incarnation = c.in-Free.last_incarnation; client = None })) c.give_client.ensures.view c.give_client.ensures.stands c.give_client.new.ticket refl, omega arith)
 
 pub invariant_of-server-in-Free : goal.invariant_of-server-in-Free
 invariant_of-server-in-Free g c =

@@ -1,7 +1,7 @@
 use Rattle.std.proofs.Common.{sym, ap, ◌∙◌}
 use Rattle.krl_world.specs.Fields as world
 use Rattle.krl_script.specs.Fields.{Fields}
-use Rattle.krl_script.specs.Waiting.{Waits}
+use Rattle.krl_script.specs.Undelivered.{Waits}
 use Rattle.krl_script.specs.Transcripts.{counted}
 use Rattle.krl_script.proofs.Interpreting.{waits_delivered, waits_refused}
 use Rattle.krl_script.proofs.interpreter.Interpreter.deliver.Goals as goal

@@ -10,4 +10,4 @@ returns-then-number-gt63 c = let w = meaning c.args.self.now in refuses w w (ste
 
 pub returns : goal.returns
 returns c = rw (← c.self.view_is) (let w = the_view c.self.inside in
-    command_at w c.args.number c.index_mut.result.now c.obey.new.seat c.obey.new.sent.items c.args.what c.obey.result (is_at w c.args.number c.index_mut.result.now _ c.self.invariant.full c.if-number-gt63.false c.index_mut.ensures.value) c.obey.ensures.greatest c.obey.ensures.commanded)
+    command_at w c.args.number c.index_mut.result.now c.obey.new.seat c.obey.new.sent.items c.args.what c.obey.result (is_at w c.args.number c.index_mut.result.now _ c.self.invariant.full c.if-number-gt63.false c.index_mut.ensures.value) c.obey.ensures.last_incarnation c.obey.ensures.commanded)
