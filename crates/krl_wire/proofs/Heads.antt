@@ -1,7 +1,7 @@
 -- The head of a message, and its end.
 use Rattle.std.proofs.Common.{◌≡◌, ℕ, ◌≤◌, true, cond, eqb, List, [], ◌∷◌, ◌++◌, length, Result, Ok, Err, refl, sym, ap, subst, ◌∙◌}
 use Rattle.std.specs.Prelude.{nat_le, ◌&&◌}
-use Rattle.std.specs.Int.{w64}
+use Rattle.std.specs.Int.{w64, IsInRange}
 use Rattle.std.proofs.lemmas.Bool.{eqb-true, leb-true, le-leb, and_parts}
 use Rattle.std.proofs.lemmas.List.{append-nil, nil_from_length}
 use Rattle.krl_wire.specs.declared.fault.Fault.{Fault}
@@ -11,22 +11,19 @@ use Rattle.krl_wire.specs.Fitting.{FitsNumber}
 use Rattle.krl_wire.specs.Reading.{◌>>=◌, byte_at, number_at, kind_at, head_at, ended}
 use Rattle.krl_wire.proofs.Fields.{IsBytes, bind_ok, held, ok_is, byte_takes, Takes, Takes-then, number_codec}
 
-abbrev IsBetween : ℕ → ℕ → ℕ → Type 0
-IsBetween first last kind = (first ≤ kind) × (kind ≤ last)
-
 kind_takes : (first last : ℕ) (bytes : List ℕ) (x : ℕ × List ℕ) → IsBytes bytes → kind_at first last bytes ≡ Ok x
-    → Takes bytes (x.0 ∷ []) x.1 × IsBetween first last x.0
+    → Takes bytes (x.0 ∷ []) x.1 × IsInRange first last x.0
 unfolding kind_at
 kind_takes first last bytes x fits e =
     let a = bind_ok (byte_at bytes)
     (λ k. cond (nat_le first k.0 && nat_le k.0 last) (Ok (k.0, k.1)) (Err fault.Kind)) x e in
     let g = held (nat_le first a.0.0 && nat_le a.0.0 last) fault.Kind (Ok a.0) x a.2 in
     let b = and_parts (nat_le first a.0.0) (nat_le a.0.0 last) g.0 in
-    subst (λ (y : ℕ × List ℕ). Takes bytes (y.0 ∷ []) y.1 × IsBetween first last y.0) (ok_is a.0 x g.1)
+    subst (λ (y : ℕ × List ℕ). Takes bytes (y.0 ∷ []) y.1 × IsInRange first last y.0) (ok_is a.0 x g.1)
     (byte_takes bytes a.0 fits a.1, (leb-true _ _ b.0, leb-true _ _ b.1))
 
 head_takes : (first last : ℕ) (bytes : List ℕ) (x : ℕ × List ℕ) → IsBytes bytes → head_at first last bytes ≡ Ok x
-    → Takes bytes (1 ∷ x.0 ∷ []) x.1 × IsBetween first last x.0
+    → Takes bytes (1 ∷ x.0 ∷ []) x.1 × IsInRange first last x.0
 unfolding head_at
 head_takes first last bytes x fits e =
     let v = bind_ok (byte_at bytes) (λ v. cond (eqb v.0 1) (kind_at first last v.1) (Err fault.Version)) x e in
