@@ -1,19 +1,16 @@
 -- Changes of many rows: a client is cleared, or lowered on a span.
 use Rattle.krl_table.proofs.Names.{◌≡◌, ℕ, suc, ◌+◌, ◌≤◌, ◌<◌, Bool, true, false, not, cond, ◌&&◌, List, [], ◌∷◌, Option, Some, None, IsSome, set, refl, sym, ap, subst, ◌∙◌, ⊎_elim, arith, nat_eq}
-use Rattle.krl_table.proofs.Names.{cases_lt, nat_tests, sum_by-cons, nat_le, nat_lt, if◌then◌else◌, get, END, Mode, meet, Bounds, within, In, Waiter, without_first, Index, low_of, span_of, is_slot}
+use Rattle.krl_table.proofs.Names.{cases_lt, nat_tests, nat_le, nat_lt, if◌then◌else◌, get, END, Mode, meet, Bounds, within, In, Waiter, without_first, Index, low_of, span_of, is_slot}
 use Rattle.krl_table.proofs.Names.{IsSlotOf, SlotRow, Row, blank_row, set_mode, mode_at, with_mode, unqueue, cleared, lowered, Kept, row_there, rows_of, cleared_row, lowered_between, IsAll, IsOver}
 use Rattle.krl_table.proofs.Names.{IsSound, AreCompatible, AreListed, times}
 use Rattle.krl_modes.specs.declared.mode.Mode.TheVariants as mode
 use Rattle.krl_table.proofs.Rows.RowChanges.{eq_cases}
-use Rattle.krl_table.proofs.Invariant.Alone.{alone_here, times_fewer}
+use Rattle.krl_table.proofs.Invariant.Alone.{alone_here, times_fewer, one_same, times_more}
 use Rattle.krl_table.proofs.Invariant.Compatible.{cleared_compatible, lowered_compatible}
 use Rattle.krl_table.proofs.Invariant.Stands.{in_unqueue, unqueue_in}
 use Rattle.krl_table.proofs.Rows.Slots.{low_under, low_past, slot_end, slot_twice}
 use Rattle.krl_table.proofs.Rows.Walk.{lower_before, lower_past, lower_here}
 use Rattle.krl_table.proofs.Invariant.Sounds.{NoStrangers, set_strangers, listed_less}
-
-times_more : (c : ℕ) (u : Waiter) (us : List Waiter) → times c (u ∷ us) ≡ cond (nat_eq c u.client) 1 0 + times c us
-times_more c u us = sum_by-cons (λ u. cond (nat_eq c u.client) 1 0) u us
 
 pub none_left : (c : ℕ) (ws : List Waiter) → times c ws ≡ 0 → unqueue c ws ≡ ws
 none_left c [] e = refl
@@ -23,13 +20,10 @@ none_left c (w ∷ ws) e = by_test (nat_eq c w.client) refl (λ g. none_left c w
     by_test true f ih = absurd (let m = times_more c w ws ∙ ap (λ b. cond b 1 0 + times c ws) f in omega (arith, m, e))
     by_test false f ih = let m = times_more c w ws ∙ ap (λ b. cond b 1 0 + times c ws) f in ap (λ us. w ∷ us) (ih (omega (arith, m, e)))
 
-turn : (a b : ℕ) → nat_eq a b ≡ nat_eq b a
-turn a b = grind (arith, nat_tests)
-
 -- of a client that waits once at most, all waiters are the first
 pub only_first : (c : ℕ) (ws : List Waiter) → times c ws ≤ 1 → without_first c ws ≡ unqueue c ws
 only_first c [] le = refl
-only_first c (w ∷ ws) le = ap (λ b. if b then ws else w ∷ without_first c ws) (turn w.client c) ∙ by_test (nat_eq c w.client) refl (λ g. only_first c ws g)
+only_first c (w ∷ ws) le = ap (λ b. if b then ws else w ∷ without_first c ws) (one_same w.client c) ∙ by_test (nat_eq c w.client) refl (λ g. only_first c ws g)
   where
     by_test : (b : Bool) → nat_eq c w.client ≡ b → (times c ws ≤ 1 → without_first c ws ≡ unqueue c ws) → (if b then ws else w ∷ without_first c ws) ≡ (if not b then w ∷ unqueue c ws else unqueue c ws)
     by_test true f ih = let m = times_more c w ws ∙ ap (λ b. cond b 1 0 + times c ws) f in sym (none_left c ws (omega (arith, m, le)))

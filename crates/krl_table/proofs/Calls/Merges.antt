@@ -1,5 +1,5 @@
 -- Two slots become one.
-use Rattle.krl_table.proofs.Names.{◌≡◌, ◌≢◌, ℕ, suc, ◌≤◌, ◌<◌, Bool, true, false, ◌&&◌, ◌||◌, List, ◌++◌, Option, Some, None, IsSome, inl, inr, refl, sym, ap, subst, ◌∙◌, ⊎_elim, arith, nat_eq}
+use Rattle.krl_table.proofs.Names.{◌≡◌, ◌≢◌, ℕ, suc, ◌≤◌, ◌<◌, Bool, true, false, ◌||◌, List, ◌++◌, Option, Some, None, IsSome, inl, inr, refl, sym, ap, subst, ◌∙◌, ⊎_elim, arith, nat_eq}
 use Rattle.krl_table.proofs.Names.{ne_eqb, ltb-true, ltb-false, cases_lt, is_some, nat_lt, if◌then◌else◌, get, remove, END, RangePart, KeyPart, Mode, ranges_compatible, keys_compatible, is_key_X}
 use Rattle.krl_table.proofs.Names.{range_of, key_of, compatible, Value, In, in_both, in_left, in_right, Waiter, Index, slot_of, is_slot, IsSlotOf, SlotRow, Row, blank_row, mode_at, with_queue}
 use Rattle.krl_table.proofs.Names.{merged, merge_into, key_off_slot, range_at, key_at, MayDelete, Kept, row_there, rows_of, AreSet, IsOver, IsSound, AreCompatible, AreListed, times}
@@ -10,14 +10,7 @@ use Rattle.krl_table.proofs.Rows.RowChanges.{eq_cases, both_rows, by_two, remove
 use Rattle.krl_table.proofs.Invariant.Alone.{AreAlone, alone_moved, times_both}
 use Rattle.krl_table.proofs.Rows.Slots.{next_of, slot_is, slot_self, slot_end}
 use Rattle.krl_table.proofs.Invariant.Sounds.{NoStrangers, listed_moved}
-
-and_first : (a b : Bool) → (a && b) ≡ true → a ≡ true
-and_first true b e = refl
-and_first false b e = absurd (cc)
-
-and_second : (a b : Bool) → (a && b) ≡ true → b ≡ true
-and_second true b e = e
-and_second false b e = absurd (cc)
+use Rattle.std.specs.Cmp.{first_so, second_so}
 
 beside_X : (q : RangePart) → ranges_compatible range.X q ≡ true → q ≡ range.N
 beside_X range.N e = refl
@@ -35,21 +28,21 @@ key_X : (k : KeyPart) → is_key_X k ≡ true → k ≡ key.X
 key_X k e = grind arith
 
 alone_range : (a b : Mode) → range_of a ≡ range.X → compatible a b ≡ true → range_of b ≡ range.N
-alone_range a b e h = beside_X (range_of b) (ap (λ r. ranges_compatible r (range_of b)) (sym e) ∙ and_first _ _ h)
+alone_range a b e h = beside_X (range_of b) (ap (λ r. ranges_compatible r (range_of b)) (sym e) ∙ first_so _ _ h)
 
 alone_key : (a b : Mode) → key_of a ≡ key.X → compatible a b ≡ true → key_of b ≡ key.N
-alone_key a b e h = beside_key_X (key_of b) (ap (λ r. keys_compatible r (key_of b)) (sym e) ∙ and_second _ _ h)
+alone_key a b e h = beside_key_X (key_of b) (ap (λ r. keys_compatible r (key_of b)) (sym e) ∙ second_so _ _ h)
 
 -- what a writer that may delete has
 module _ (t : Kept) (k s c : ℕ) (may : MayDelete (rows_of t) k s c) where
   pub its_entry : key_of (mode_at (rows_of t) k c) ≡ key.X
-  its_entry = key_X _ (and_first _ _ (and_first _ _ may))
+  its_entry = key_X _ (first_so _ _ (first_so _ _ may))
 
   pub its_gap : range_of (mode_at (rows_of t) k c) ≡ range.X
-  its_gap = range_is_X _ (and_second _ _ (and_first _ _ may))
+  its_gap = range_is_X _ (second_so _ _ (first_so _ _ may))
 
   pub its_next : range_of (mode_at (rows_of t) s c) ≡ range.X
-  its_next = range_is_X _ (and_second _ _ may)
+  its_next = range_is_X _ (second_so _ _ may)
 
 -- the slot k goes, and s is the next
 module _ (m : Index) (k s : ℕ) (near : (n : ℕ) → END ≤ n → get m n ≡ None) (far : k < END) (here : is_slot m k ≡ true) (at : IsSlotOf m (suc k) s) where

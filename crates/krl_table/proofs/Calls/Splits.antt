@@ -12,6 +12,7 @@ use Rattle.krl_table.proofs.Invariant.Stands.{in_filter, filter_in}
 use Rattle.krl_table.proofs.Rows.Slots.{no_slot, next_of, slot_is, slot_end, slot_twice}
 use Rattle.krl_table.proofs.Rows.NewSlotParts.{same_range, other_key, writer_key}
 use Rattle.krl_table.proofs.Invariant.Sounds.{NoStrangers, listed_moved}
+use Rattle.std.proofs.Math.Bool.{or-true}
 
 beyond_is : (p k : ℕ) → nat_lt k p ≡ true → k < p
 beyond_is p k e = grind (arith, nat_tests)
@@ -21,10 +22,6 @@ is_up_to p k le = grind (arith, nat_tests)
 
 is_beyond : (p k : ℕ) → k < p → nat_lt k p ≡ true
 is_beyond p k lt = grind (arith, nat_tests)
-
-or_yes : (b : Bool) → (b || true) ≡ true
-or_yes true = refl
-or_yes false = refl
 
 -- a slot k is new, below the slot s
 module _ (m : Index) (k s : ℕ) (v : Value) (near : (n : ℕ) → END ≤ n → get m n ≡ None) (far : k < END) (free : get m k ≡ None) (at : IsSlotOf m k s) where
@@ -41,7 +38,7 @@ module _ (m : Index) (k s : ℕ) (v : Value) (near : (n : ℕ) → END ≤ n →
   under = let a = at.above in let ne = apart in omega (arith, a, ne)
 
   pub new_slot : is_slot more k ≡ true
-  new_slot = ap (λ (o : Option Value). nat_eq k END || is_some o) (insert_at m k v) ∙ or_yes (nat_eq k END)
+  new_slot = ap (λ (o : Option Value). nat_eq k END || is_some o) (insert_at m k v) ∙ or-true (nat_eq k END)
 
   pub other_slot : (n : ℕ) → n ≢ k → is_slot more n ≡ is_slot m n
   other_slot n ne = ap (λ (o : Option Value). nat_eq n END || is_some o) (insert_past m k v n ne)

@@ -33,7 +33,7 @@ times_parted c k (u ∷ us) = by_test (nat_le u.point k) (nat_lt k u.point) (gri
     by_test false true e ih = omega (arith, ih, times_more c u us, times_more c u (beyond k us))
     by_test false false e ih = absurd (cc)
 
-one_same : (a b : ℕ) → nat_eq a b ≡ nat_eq b a
+pub one_same : (a b : ℕ) → nat_eq a b ≡ nat_eq b a
 one_same a b = grind (arith, nat_tests)
 
 -- who doesn't wait there stands there no time

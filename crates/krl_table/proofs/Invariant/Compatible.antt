@@ -32,10 +32,10 @@ other_compatible old new c h same fit d e ne = eq_cases d c
     (λ f. subst (λ x. compatible (new d) (new x) ≡ true) (sym f) (subst (λ y. compatible y (new c) ≡ true) (sym (same d dc)) (turned (new c) (old d) (fit d dc))))
     (λ ec. subst (λ y. compatible y (new e) ≡ true) (sym (same d dc)) (subst (λ y. compatible (old d) y ≡ true) (sym (same e ec)) (h d e ne))))
 
-set_here : (modes : ℕ → Mode) (c : ℕ) (g : Mode) → set_mode modes c g c ≡ g
+pub set_here : (modes : ℕ → Mode) (c : ℕ) (g : Mode) → set_mode modes c g c ≡ g
 set_here modes c g = ap (λ b. if b then g else modes c) (eq-eqb c c refl)
 
-set_other : (modes : ℕ → Mode) (c d : ℕ) (g : Mode) → d ≢ c → set_mode modes c g d ≡ modes d
+pub set_other : (modes : ℕ → Mode) (c d : ℕ) (g : Mode) → d ≢ c → set_mode modes c g d ≡ modes d
 set_other modes c d g ne = ap (λ b. if b then g else modes d) (ne_eqb d c ne)
 
 pub set_compatible : (modes : ℕ → Mode) (c : ℕ) (g : Mode) → AreCompatible modes → ((d : ℕ) → d ≢ c → compatible g (modes d) ≡ true) → AreCompatible (set_mode modes c g)

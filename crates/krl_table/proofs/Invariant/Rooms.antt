@@ -5,6 +5,10 @@ use Rattle.std.specs.FinMap as fin
 use Rattle.std.specs.FinMap.Entries as entries
 use Rattle.krl_durable.specs.Writes.{most_entries}
 use Rattle.krl_table.proofs.Rows.RowChanges.{eq_cases}
+use Rattle.krl_table.proofs.Rows.Slots.{slot_twice}
+use Rattle.krl_durable.proofs.Kept.{most}
+use Rattle.krl_blocks.specs.Laid.{Above, Rises}
+use Rattle.std.proofs.Math.Bool.{or-true}
 
 -- Members
 
@@ -22,13 +26,10 @@ keys_in [] n some = absurd (some refl)
 keys_in (e ∷ es) n some = eq_cases n e.0 (λ f. inl f)
     (λ ne. let apart : eq_by_cmp nat_cmp n e.0 ≡ false = grind (arith, nat_tests) in inr (keys_in es n (λ none. some (ap (λ b. cond b (Some e.1) (entries.find nat_cmp n es)) apart ∙ none))))
 
-not_truth : (b : Bool) → b ≡ false → b ≡ true → ⊥
-not_truth b e f = absurd (cc)
-
 -- a slot stands in the list of all slots
 pub slots_have : (m : Index) (n : ℕ) → is_slot m n ≡ true → Lists n (slots m)
 slots_have m n e = eq_cases n END (λ f. subst (λ x. Lists x (slots m)) (sym f) (end_in (fin.entries m)))
-    (λ ne. keys_in (fin.entries m) n (λ none. not_truth (is_slot m n) (ap (λ b. b || is_some (fin.get m n)) (ne_eqb n END ne) ∙ ap is_some (fin.get-entries m n ∙ none)) e))
+    (λ ne. keys_in (fin.entries m) n (λ none. slot_twice (is_slot m n) e (ap (λ b. b || is_some (fin.get m n)) (ne_eqb n END ne) ∙ ap is_some (fin.get-entries m n ∙ none))))
 
 key_found : (es : List (ℕ × Value)) (n : ℕ) → Lists n (map (λ e. e.0) es ++ END ∷ []) → (n ≡ END) ⊎ (is_some (entries.find nat_cmp n es) ≡ true)
 key_found [] n (inl e) = inl e
@@ -44,23 +45,10 @@ key_found (e ∷ es) n (inr h) = ⊎_elim (λ (a : n ≡ END). inl a) (λ (a : i
 pub slots_are : (m : Index) (n : ℕ) → Lists n (slots m) → is_slot m n ≡ true
 slots_are m n h = ⊎_elim
     (λ (e : n ≡ END). ap (λ b. b || is_some (fin.get m n)) (eq-eqb n END e))
-    (λ (e : is_some (entries.find nat_cmp n (fin.entries m)) ≡ true). ap (λ b. nat_eq n END || b) (ap is_some (fin.get-entries m n) ∙ e) ∙ or_yes (nat_eq n END))
+    (λ (e : is_some (entries.find nat_cmp n (fin.entries m)) ≡ true). ap (λ b. nat_eq n END || b) (ap is_some (fin.get-entries m n) ∙ e) ∙ or-true (nat_eq n END))
     (key_found (fin.entries m) n h)
-  where
-    or_yes : (b : Bool) → (b || true) ≡ true
-    or_yes true = refl
-    or_yes false = refl
 
 -- How many
-
--- each number of the list is above k
-abbrev Above : ℕ → List ℕ → Type 0
-Above k [] = Unit {0}
-Above k (n ∷ ns) = (k < n) × Above k ns
-
-abbrev Rises : List ℕ → Type 0
-Rises [] = Unit {0}
-Rises (n ∷ ns) = Above n ns × Rises ns
 
 not_above : (k : ℕ) (ns : List ℕ) → Above k ns → Lists k ns → ⊥
 not_above k [] h at = at
@@ -150,10 +138,6 @@ many_slots : (es : List (ℕ × Value)) → length (map (λ e. e.0) es ++ END �
 many_slots [] = refl
 many_slots (e ∷ es) = ap suc (many_slots es)
 
-entries_are : most_entries ≡ 65536
-unfolding most_entries
-entries_are = refl
-
 pub rows_are : most_rows ≡ 65537
 unfolding most_rows
 rows_are = refl
@@ -179,8 +163,8 @@ module _ (m : Index) (t : Kept) (over : IsOver m t) where
 
   -- so there is room at each slot
   pub room_at : (room k : ℕ) → most_rows ≤ room → length (fin.entries m) ≤ most_entries → is_slot m k ≡ true → fin.get t k ≡ None → length (fin.entries t) < room
-  room_at room k many less slot none = let a = rows_fewer k slot none in let b = entries_are in let e = rows_are in omega (arith, a, b, e, many, less)
+  room_at room k many less slot none = let a = rows_fewer k slot none in let b = most in let e = rows_are in omega (arith, a, b, e, many, less)
 
   -- and at a new one, where the index has room for a key
   pub room_new : (room : ℕ) → most_rows ≤ room → length (fin.entries m) < most_entries → length (fin.entries t) < room
-  room_new room many less = let a = rows_few in let b = entries_are in let e = rows_are in omega (arith, a, b, e, many, less)
+  room_new room many less = let a = rows_few in let b = most in let e = rows_are in omega (arith, a, b, e, many, less)

@@ -1,7 +1,7 @@
 -- Each client holds and waits in its extent alone.
-use Rattle.krl_table.proofs.Names.{◌≡◌, ◌≢◌, ℕ, ◌+◌, ◌≤◌, ◌<◌, Bool, true, false, not, ◌&&◌, cond, List, [], ◌∷◌, ◌++◌, None, ◌⊎◌, inl, inr, length, set, refl, sym, ap, subst, ◌∙◌, ⊎_elim, arith}
-use Rattle.krl_table.proofs.Names.{nat_eq, eq-eqb, ne_eqb, cases_lt, nat_tests, get_or-set_same, get_or-set_other, fun_ext, nat_le, nat_lt, if◌then◌else◌, get, TOP, Mode, lets_insert, range_of}
-use Rattle.krl_table.proofs.Names.{at_or_above, meet, Waiter, without_first, up_to, beyond, Index, is_slot, Pieces, Extent, Row, blank_row, set_mode, with_mode, with_queue, queue_with, unqueue}
+use Rattle.krl_table.proofs.Names.{◌≡◌, ◌≢◌, ℕ, ◌+◌, ◌≤◌, ◌<◌, Bool, true, false, not, ◌&&◌, List, [], ◌∷◌, ◌++◌, None, ◌⊎◌, inl, inr, length, set, refl, sym, ap, subst, ◌∙◌, ⊎_elim, arith}
+use Rattle.krl_table.proofs.Names.{nat_eq, eq-eqb, ne_eqb, nat_tests, get_or-set_same, get_or-set_other, fun_ext, nat_le, nat_lt, if◌then◌else◌, get, TOP, Mode, lets_insert, range_of}
+use Rattle.krl_table.proofs.Names.{at_or_above, meet, Waiter, without_first, up_to, beyond, Extent, Row, blank_row, set_mode, with_mode, with_queue, queue_with, unqueue}
 use Rattle.krl_table.proofs.Names.{behind_first, split_modes, mode_beside, wanted, grant_first, Kept, row_there, rows_of, cleared_row, lowered_between, times, IsSet, AreSet, IsAll, IsSound, nowhere}
 use Rattle.krl_table.proofs.Names.{extent_in, Lies, AreWider, IsFreeOf, AreWithin, cleared_within}
 use Rattle.krl_modes.specs.declared.part.KeyPart.TheVariants as key
@@ -11,7 +11,7 @@ use Rattle.krl_table.proofs.Invariant.Alone.{one, times_more, times_both, times_
 use Rattle.krl_table.proofs.Invariant.Alone.{alone_here}
 use Rattle.krl_table.proofs.Invariant.Sounds.{other_row}
 use Rattle.krl_table.proofs.Calls.Clears.{none_left, only_first}
-use Rattle.krl_table.proofs.Rows.Walk.{lower_here, lower_before}
+use Rattle.krl_table.proofs.Rows.Walk.{meet_n}
 
 pub same_wider : (es : List Extent) → AreWider es es
 same_wider es c n at = at
@@ -136,9 +136,6 @@ within_all es f t u made free w n c lt = ⊎_elim
     (λ (b : IsFreeOf (rows_of t n) c). inr (subst (λ (r : Row). IsFreeOf r c) (sym (made.rows n)) (free n c (rows_of t n) b)))
     (w n c lt)
 
-none_met : (keep : Mode) → meet mode.N keep ≡ mode.N
-none_met keep = grind arith
-
 pub free_lowered : (from hi d : ℕ) (keep : Mode) (n c : ℕ) (row : Row) → IsFreeOf row c → IsFreeOf (lowered_between from hi d keep n row) c
 free_lowered from hi d keep n c row f = by_test (nat_le from n && nat_lt n hi)
   where
@@ -148,7 +145,7 @@ free_lowered from hi d keep n c row f = by_test (nat_le from n && nat_lt n hi)
     by_test : (b : Bool) → IsFreeOf (if b then with_mode row d (meet (row.modes d) keep) else row) c
     by_test false = f
     by_test true = eq_cases c d
-        (λ e. (ap (λ b. if b then meet (row.modes d) keep else row.modes c) (eq-eqb c d e) ∙ ap (λ x. meet (row.modes x) keep) (sym e) ∙ ap (λ g. meet g keep) f.0 ∙ none_met keep, f.1))
+        (λ e. (ap (λ b. if b then meet (row.modes d) keep else row.modes c) (eq-eqb c d e) ∙ ap (λ x. meet (row.modes x) keep) (sym e) ∙ ap (λ g. meet g keep) f.0 ∙ meet_n keep, f.1))
         (λ ne. free_mode row d c (meet (row.modes d) keep) ne f)
 
 pub lower_within : (es : List Extent) (from hi d : ℕ) (keep : Mode) (t u : Kept) → IsAll (lowered_between from hi d keep) t u → AreWithin es t → AreWithin es u
@@ -201,7 +198,7 @@ module _ (c : ℕ) (client : c < 64) (es : List Extent) (t u : Kept) (w : AreWit
       free_low row f from n = by_test (nat_le from n && nat_lt n TOP)
         where
           by_test : (b : Bool) → row ≡ (if b then with_mode row c (meet (row.modes c) mode.N) else row)
-          by_test true = λ i. record { modes = set_free row.modes (meet (row.modes c) mode.N) f.0 (ap (λ g. meet g mode.N) f.0 ∙ none_met mode.N) i; queue = row.queue }
+          by_test true = λ i. record { modes = set_free row.modes (meet (row.modes c) mode.N) f.0 (ap (λ g. meet g mode.N) f.0 ∙ meet_n mode.N) i; queue = row.queue }
           by_test false = refl
 
       inside : (n : ℕ) → (extent_in es c).first ≤ n → lowered_between (extent_in es c).first TOP c mode.N n (rows_of t n) ≡ lowered_between 0 TOP c mode.N n (rows_of t n)

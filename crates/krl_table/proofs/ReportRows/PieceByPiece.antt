@@ -1,6 +1,6 @@
 -- What is reported of a slot, piece after piece; and what a report makes of the rows, slot after slot.
 use Rattle.krl_table.proofs.Names.{◌≡◌, ◌≢◌, ℕ, zero, suc, ◌+◌, ◌≤◌, ◌<◌, Bool, true, false, not, ◌&&◌, List, [], ◌∷◌, Option, Some, None, IsSome, ◌⊎◌, ◌||◌, inl, inr, drop, slice_index_or, length}
-use Rattle.krl_table.proofs.Names.{refl, sym, ap, subst, ◌∙◌, ⊎_elim, arith, cases_lt, eq-eqb, ne_eqb, nat_tests, fun_ext, drop_all, list_all, get, END, TOP, RangePart, KeyPart, Mode, range_join}
+use Rattle.krl_table.proofs.Names.{refl, sym, ap, subst, ◌∙◌, ⊎_elim, arith, cases_lt, ne_eqb, nat_tests, fun_ext, drop_all, list_all, get, END, TOP, RangePart, KeyPart, Mode, range_join}
 use Rattle.krl_table.proofs.Names.{key_join, at_or_above, compatible, meet, Bounds, meets, Pieces, In, Index, low_of, slots, is_slot, IsSlotOf, SlotRow, Row, Rows, blank_row, is_compatible_there}
 use Rattle.krl_table.proofs.Names.{mode_at, set_mode, all_below, most_clients, is_compatible_in_row, with_mode, reported_range, reported_key, rebuilt, conflicts, adopted, RangesOff, KeysOff}
 use Rattle.krl_table.proofs.Names.{BeginsSpan, NothingFrom, IsNextReported, Kept, row_of, row_there, rows_of, IsSet, IsAll, IsOver, IsSound, AreCompatible, times, lowered_between}
@@ -13,7 +13,7 @@ use Rattle.krl_messages.specs.declared.range_pieces.RangePiece.{RangePiece}
 use Rattle.krl_messages.specs.declared.key_pieces.KeyPiece.{KeyPiece}
 use Rattle.krl_table.proofs.Rows.RowChanges.{eq_cases}
 use Rattle.krl_table.proofs.Rows.Below.{clients_are}
-use Rattle.krl_table.proofs.Invariant.Compatible.{set_compatible, compatible_row}
+use Rattle.krl_table.proofs.Invariant.Compatible.{set_compatible, compatible_row, set_here}
 use Rattle.krl_table.proofs.Invariant.Rooms.{Lists, slots_have, slots_are}
 use Rattle.krl_table.proofs.Rows.Slots.{low_past, slot_end, slot_twice}
 use Rattle.krl_table.proofs.Invariant.Sounds.{NoStrangers, set_strangers, set_over}
@@ -307,26 +307,20 @@ module _ (m : Index) (c : ℕ) (pieces : Pieces) (t u : Kept) (client : c < 64) 
 
 -- What a walk that lowers all of a client's modes to N leaves
 
+meet_none : (g : Mode) → meet g mode.N ≡ mode.N
+meet_none g = grind arith
+
 module _ (c : ℕ) (t v : Kept) (sound : IsSound t) (made : IsAll (lowered_between 0 TOP c mode.N) t v) where
-  set_here : (modes : ℕ → Mode) (g : Mode) → set_mode modes c g c ≡ g
-  set_here modes g = ap (λ b. if b then g else modes c) (eq-eqb c c refl)
-
-  meet_none : (g : Mode) → meet g mode.N ≡ mode.N
-  meet_none g = grind arith
-
   -- the client holds nothing
   pub emptied_at : (n : ℕ) → mode_at (rows_of v) n c ≡ mode.N
   emptied_at n = ⊎_elim
-      (λ (lt : n < TOP). ap (λ (r : Row). r.modes c) (made.rows n ∙ lower_here 0 TOP c mode.N n (rows_of t n) (omega arith) lt) ∙ set_here (rows_of t n).modes (meet (mode_at (rows_of t) n c) mode.N) ∙ meet_none (mode_at (rows_of t) n c))
+      (λ (lt : n < TOP). ap (λ (r : Row). r.modes c) (made.rows n ∙ lower_here 0 TOP c mode.N n (rows_of t n) (omega arith) lt) ∙ set_here (rows_of t n).modes c (meet (mode_at (rows_of t) n c) mode.N) ∙ meet_none (mode_at (rows_of t) n c))
       (λ (le : TOP ≤ n). ap (λ (r : Row). r.modes c) (made.rows n ∙ lower_past 0 TOP c mode.N n (rows_of t n) le) ∙ ap (λ o. (row_there o).modes c) (sound.near n (omega (arith, le))))
       (cases_lt n TOP)
 
 module _ (c : ℕ) (t v : Kept) (made : IsAll (lowered_between 0 TOP c mode.N) t v) (m : Index) where
-  none_met : (g : Mode) → meet g mode.N ≡ mode.N
-  none_met g = grind arith
-
   pub emptied_off : IsOver m t → (n : ℕ) → is_slot m n ≡ true → rows_of v n ≡ with_mode (rows_of t n) c mode.N
-  emptied_off over n e = made.rows n ∙ lower_here 0 TOP c mode.N n (rows_of t n) (omega arith) (let le = slot_end m over.near n e in omega (arith, le)) ∙ ap (with_mode (rows_of t n) c) (none_met (mode_at (rows_of t) n c))
+  emptied_off over n e = made.rows n ∙ lower_here 0 TOP c mode.N n (rows_of t n) (omega arith) (let le = slot_end m over.near n e in omega (arith, le)) ∙ ap (with_mode (rows_of t n) c) (meet_none (mode_at (rows_of t) n c))
 
   pub blank_off : IsOver m t → (n : ℕ) → is_slot m n ≡ false → rows_of v n ≡ rows_of t n
   blank_off over n e = made.rows n ∙ ap (lowered_between 0 TOP c mode.N n) (no_row (get t n) refl) ∙ lower_keeps 0 TOP c mode.N n ∙ sym (no_row (get t n) refl)

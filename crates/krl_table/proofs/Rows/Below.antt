@@ -1,19 +1,16 @@
 -- What holds of each number below another.
 use Rattle.krl_table.proofs.Names.{◌≡◌, ℕ, zero, suc, ◌+◌, ◌<◌, Bool, true, false, ◌&&◌, refl, sym, ap, subst, ◌∙◌, arith, all_below, most_clients}
 use Rattle.krl_table.proofs.Rows.RowChanges.{eq_cases}
+use Rattle.std.proofs.Math.Bool.{and-false}
 
 pub below_more : (f : ℕ → Bool) (n : ℕ) → all_below n f ≡ true → f n ≡ true → all_below (n + 1) f ≡ true
 below_more f n e h = let one : n + 1 ≡ suc n = omega arith in rw one (ap (λ b. b && all_below n f) h ∙ e)
-
-and_false : (b : Bool) → (b && false) ≡ false
-and_false true = refl
-and_false false = refl
 
 pub below_false : (f : ℕ → Bool) (m n : ℕ) → n < m → f n ≡ false → all_below m f ≡ false
 below_false f zero n lt e = absurd (omega (arith, lt))
 below_false f (suc m) n lt e = eq_cases n m
     (λ g. ap (λ b. b && all_below m f) (ap f (sym g) ∙ e))
-    (λ ne. ap (λ b. f m && b) (below_false f m n (omega (arith, lt, ne)) e) ∙ and_false (f m))
+    (λ ne. ap (λ b. f m && b) (below_false f m n (omega (arith, lt, ne)) e) ∙ and-false (f m))
 
 pub clients_are : most_clients ≡ 64
 unfolding most_clients

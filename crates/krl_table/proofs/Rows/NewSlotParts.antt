@@ -1,13 +1,10 @@
 -- The parts of the modes on a new slot.
-use Rattle.krl_table.proofs.Names.{◌≡◌, ◌≢◌, ℕ, Bool, true, false, ◌&&◌, refl, sym, ap, subst, ◌∙◌, eq-eqb, ne_eqb, if◌then◌else◌, RangePart, Mode, ranges_compatible, lets_insert, range_of, key_of}
+use Rattle.krl_table.proofs.Names.{◌≡◌, ◌≢◌, ℕ, true, refl, sym, ap, subst, ◌∙◌, eq-eqb, ne_eqb, if◌then◌else◌, RangePart, Mode, ranges_compatible, lets_insert, range_of, key_of}
 use Rattle.krl_table.proofs.Names.{at_or_above, compatible, split_modes, mode_beside, key_off_slot}
 use Rattle.krl_modes.specs.declared.part.RangePart.TheVariants as range
 use Rattle.krl_modes.specs.declared.part.KeyPart.TheVariants as key
 use Rattle.krl_table.proofs.Rows.RowChanges.{eq_cases}
-
-first_true : (a b : Bool) → (a && b) ≡ true → a ≡ true
-first_true true b e = refl
-first_true false b e = absurd (cc)
+use Rattle.std.specs.Cmp.{first_so}
 
 own_range : (r : RangePart) → lets_insert r ≡ true → range_of (at_or_above r key.X) ≡ r
 own_range range.N e = absurd (cc)
@@ -56,7 +53,7 @@ module _ (modes : ℕ → Mode) (c : ℕ) where
     pub same_range : (d : ℕ) → range_of (split_modes modes c d) ≡ range_of (modes d)
     same_range d = eq_cases d c
         (λ e. subst (λ x. range_of (split_modes modes c x) ≡ range_of (modes x)) (sym e) (ap range_of writer ∙ own_range (range_of (modes c)) may))
-        (λ ne. ap range_of (another d ne) ∙ beside_range (range_of (modes c)) (range_of (modes d)) may (first_true _ _ (beside d ne)))
+        (λ ne. ap range_of (another d ne) ∙ beside_range (range_of (modes c)) (range_of (modes d)) may (first_so _ _ (beside d ne)))
 
     pub other_key : (d : ℕ) → d ≢ c → key_of (split_modes modes c d) ≡ key_off_slot (range_of (modes d))
-    other_key d ne = ap key_of (another d ne) ∙ beside_key (range_of (modes c)) (range_of (modes d)) may (first_true _ _ (beside d ne))
+    other_key d ne = ap key_of (another d ne) ∙ beside_key (range_of (modes c)) (range_of (modes d)) may (first_so _ _ (beside d ne))

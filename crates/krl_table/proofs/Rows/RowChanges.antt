@@ -1,22 +1,14 @@
 -- What a change of the kept rows means.
-use Rattle.krl_table.proofs.Names.{◌≡◌, ◌≢◌, ℕ, zero, suc, ◌<◌, Bool, true, false, cond, List, [], ◌∷◌, Option, Some, None, IsSome, length, set, refl, sym, ap, subst, ◌∙◌, arith, ⊎_elim, nat_eq}
-use Rattle.krl_table.proofs.Names.{eq-eqb, ne_eqb, get_or-set_same, get_or-set_other, nat_tests, fun_ext, slice_get, if◌then◌else◌, nat_cmp, eq_by_cmp, FinMap, get, insert, remove, get-insert}
+use Rattle.krl_table.proofs.Names.{◌≡◌, ◌≢◌, ℕ, zero, suc, ◌<◌, Bool, true, false, cond, List, [], ◌∷◌, Option, Some, None, IsSome, length, set, refl, sym, ap, subst, ◌∙◌, ⊎_elim, nat_eq}
+use Rattle.krl_table.proofs.Names.{eq-eqb, ne_eqb, get_or-set_same, get_or-set_other, fun_ext, slice_get, if◌then◌else◌, nat_cmp, FinMap, get, insert, remove, get-insert}
 use Rattle.krl_table.proofs.Names.{get-remove, Mode, Waiter, SlotRow, Row, Rows, blank_row, set_row, set_mode, front_of, Kept, mode_of, row_of, row_there, rows_of, IsSet, AreSet}
 use Rattle.std.proofs.Math.ListN.{replicate}
 use Rattle.std.specs.Cmp.{nat_cmp_total}
 use Rattle.krl_modes.specs.declared.mode.Mode.TheVariants as mode
-
-pub eq_cases : {A : Type 0} (a b : ℕ) → (a ≡ b → A) → (a ≢ b → A) → A
-eq_cases {A = A} a b f g = by_eq (nat_eq a b) refl
-  where
-    by_eq : (t : Bool) → nat_eq a b ≡ t → A
-    by_eq true e = f (grind (arith, nat_tests))
-    by_eq false e = g (λ h. let same = eq-eqb a b h in let clash : true ≡ false = sym same ∙ e in absurd (cc))
+pub use Rattle.krl_store.proofs.Finding.{eq_cases}
+use Rattle.krl_store.proofs.Finding.{test_is}
 
 -- Look-ups
-
-test_is : (n k : ℕ) → eq_by_cmp nat_cmp n k ≡ nat_eq n k
-test_is n k = grind (arith, nat_tests)
 
 pub get-put : (t : Kept) (k : ℕ) (r : SlotRow) (n : ℕ) → get (insert t k r) n ≡ cond (nat_eq n k) (Some r) (get t n)
 get-put t k r n = get-insert nat_cmp_total t k r n ∙ ap (λ b. cond b (Some r) (get t n)) (test_is n k)
@@ -164,17 +156,14 @@ by_two t u i a j b h P x y rest n = eq_cases n i
 
 -- Keys of any map
 
-test_of : (n k : ℕ) → eq_by_cmp nat_cmp n k ≡ nat_eq n k
-test_of n k = grind (arith, nat_tests)
-
 pub insert_at : {X : Type 0} (m : FinMap nat_cmp X) (k : ℕ) (v : X) → get (insert m k v) k ≡ Some v
-insert_at m k v = get-insert nat_cmp_total m k v k ∙ ap (λ b. cond b (Some v) (get m k)) (test_of k k ∙ eq-eqb k k refl)
+insert_at m k v = get-insert nat_cmp_total m k v k ∙ ap (λ b. cond b (Some v) (get m k)) (test_is k k ∙ eq-eqb k k refl)
 
 pub insert_past : {X : Type 0} (m : FinMap nat_cmp X) (k : ℕ) (v : X) (n : ℕ) → n ≢ k → get (insert m k v) n ≡ get m n
-insert_past m k v n ne = get-insert nat_cmp_total m k v n ∙ ap (λ b. cond b (Some v) (get m n)) (test_of n k ∙ ne_eqb n k ne)
+insert_past m k v n ne = get-insert nat_cmp_total m k v n ∙ ap (λ b. cond b (Some v) (get m n)) (test_is n k ∙ ne_eqb n k ne)
 
 pub remove_at : {X : Type 0} (m : FinMap nat_cmp X) (k : ℕ) → get (remove m k) k ≡ None
-remove_at m k = get-remove nat_cmp_total m k k ∙ ap (λ b. cond b None (get m k)) (test_of k k ∙ eq-eqb k k refl)
+remove_at m k = get-remove nat_cmp_total m k k ∙ ap (λ b. cond b None (get m k)) (test_is k k ∙ eq-eqb k k refl)
 
 pub remove_past : {X : Type 0} (m : FinMap nat_cmp X) (k n : ℕ) → n ≢ k → get (remove m k) n ≡ get m n
-remove_past m k n ne = get-remove nat_cmp_total m k n ∙ ap (λ b. cond b None (get m n)) (test_of n k ∙ ne_eqb n k ne)
+remove_past m k n ne = get-remove nat_cmp_total m k n ∙ ap (λ b. cond b None (get m n)) (test_is n k ∙ ne_eqb n k ne)

@@ -4,8 +4,8 @@ use Rattle.krl_table.proofs.Names.{slot_of, low_of, is_slot, IsSlotOf}
 use Rattle.std.specs.Prelude.{is_some, IsSome}
 use Rattle.std.specs.FinMap as map
 use Rattle.std.specs.FinMap.Entries.{find}
-use Rattle.krl_durable.proofs.Slots.{Rises}
 use Rattle.krl_durable.proofs.SlotLaws.{from_zero, first_is, low_is, keys_of_map_rise, end_test}
+use Rattle.krl_durable.proofs.InitialEntries.{none_of}
 
 pub some_true : {X : Type 0} (o : Option X) → IsSome o → is_some o ≡ true
 some_true None h = absurd (cc)
@@ -15,14 +15,10 @@ pub none_false : {X : Type 0} (o : Option X) → o ≡ None → is_some o ≡ fa
 none_false None e = refl
 none_false (Some x) e = absurd (cc)
 
-is_none : {X : Type 0} (o : Option X) → is_some o ≡ false → o ≡ None
-is_none None e = refl
-is_none (Some x) e = absurd (cc)
-
 -- neither END nor a key
 free : (b : Bool) (o : Option Value) → (b || is_some o) ≡ false → (b ≡ false) × (o ≡ None)
 free true o e = absurd (cc)
-free false o e = (refl, is_none o e)
+free false o e = (refl, none_of o e)
 
 -- or END, or a key
 taken : (b : Bool) (o : Option Value) → (b || is_some o) ≡ true → b ≡ false → o ≡ None → ⊥
@@ -50,12 +46,9 @@ module _ (m : Index) where
       (λ (x : j ≤ i). ⊎_elim (λ (y : j < i). absurd (slot_twice (is_slot m j) b.slot (a.least j b.above y))) (λ (y : i ≤ j). omega (arith, x, y)) (cases_lt j i))
       (cases_lt i j)
 
-  rising : Rises (map.entries m)
-  rising = keys_of_map_rise m
-
   -- the first point of a span lies in it
   pub low_under : (n : ℕ) → low_of m n ≤ n
-  low_under n = (low_is (map.entries m) n 0 n rising (from_zero (map.entries m))).1 (omega arith, λ k a b. absurd (omega (arith, a, b)))
+  low_under n = (low_is (map.entries m) n 0 n (keys_of_map_rise m) (from_zero (map.entries m))).1 (omega arith, λ k a b. absurd (omega (arith, a, b)))
 
   module _ (near : (k : ℕ) → END ≤ k → map.get m k ≡ None) where
     far : (k : ℕ) → END ≤ k → find nat_cmp k (map.entries m) ≡ None
@@ -68,7 +61,7 @@ module _ (m : Index) where
     -- the slot of a point is the least slot at or above it
     pub next_of : (p : ℕ) → p ≤ END → IsSlotOf m p (slot_of m p)
     next_of p le =
-        let x = first_is (map.entries m) p rising far le in
+        let x = first_is (map.entries m) p (keys_of_map_rise m) far le in
         record {
           slot = by_end (nat_eq (slot_of m p) END) (map.get m (slot_of m p)) refl
               (λ ne none. x.at (eqb-false (slot_of m p) END ne) (sym (map.get-entries m (slot_of m p)) ∙ none));
@@ -92,4 +85,4 @@ module _ (m : Index) where
     pub low_past : (s n : ℕ) → is_slot m s ≡ true → s < n → n ≤ END → suc s ≤ low_of m n
     low_past s n h lt le = ⊎_elim (λ (a : s < low_of m n). a)
         (λ (a : low_of m n ≤ s). absurd (a_key s h (λ e. omega (arith, e, lt, le))
-        (map.get-entries m s ∙ ((low_is (map.entries m) n 0 s rising (from_zero (map.entries m))).0 a).1 s (omega arith) lt))) (cases_lt s (low_of m n))
+        (map.get-entries m s ∙ ((low_is (map.entries m) n 0 s (keys_of_map_rise m) (from_zero (map.entries m))).0 a).1 s (omega arith) lt))) (cases_lt s (low_of m n))

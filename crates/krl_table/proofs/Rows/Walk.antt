@@ -70,7 +70,7 @@ blank_set c g e = λ i. record { modes = fun_ext (λ (d : ℕ). by_test (nat_eq 
     by_test true = e
     by_test false = refl
 
-meet_n : (keep : Mode) → meet mode.N keep ≡ mode.N
+pub meet_n : (keep : Mode) → meet mode.N keep ≡ mode.N
 meet_n keep = grind arith
 
 pub lower_keeps : (from hi c : ℕ) (keep : Mode) (n : ℕ) → lowered_between from hi c keep n blank_row ≡ blank_row
