@@ -10,12 +10,9 @@ use Rattle.krl_messages.specs.Several.{IsBefore, Ascend, most_holdings}
 use Rattle.krl_server.proofs.Slots.{is_slot_true, span_here}
 use Rattle.krl_server.proofs.Updates.{row_here, row_other, mode_other, row_modes}
 use Rattle.krl_server.proofs.Tests.{if_case}
+use mathlib.Core.Bool.{or-true}
 
 -- The next slot
-
-or_yes : (b : Bool) → (b || true) ≡ true
-or_yes true = refl
-or_yes false = refl
 
 found : (es : List (ℕ × Value)) (p : ℕ) → (nat_eq (first_or_end (filter (λ e. nat_le p e.0) es)) END || is_some (find nat_cmp (first_or_end (filter (λ e. nat_le p e.0) es)) es)) ≡ true
 found [] p = ap (λ b. b || false) (eq-eqb END END refl)
@@ -25,9 +22,9 @@ found (e ∷ es) p = by_test (nat_le p e.0) (found es p)
     s = first_or_end (filter (λ e. nat_le p e.0) es)
 
     by_test : (b : Bool) → (nat_eq s END || is_some (find nat_cmp s es)) ≡ true → (nat_eq (first_or_end (if b then e ∷ filter (λ e. nat_le p e.0) es else filter (λ e. nat_le p e.0) es)) END || is_some (find nat_cmp (first_or_end (if b then e ∷ filter (λ e. nat_le p e.0) es else filter (λ e. nat_le p e.0) es)) (e ∷ es))) ≡ true
-    by_test true ih = ap (λ o. nat_eq e.0 END || is_some o) (find_here e es) ∙ or_yes (nat_eq e.0 END)
+    by_test true ih = ap (λ o. nat_eq e.0 END || is_some o) (find_here e es) ∙ or-true (nat_eq e.0 END)
     by_test false ih = eq_cases s e.0
-        (λ f. subst (λ k. (nat_eq k END || is_some (find nat_cmp k (e ∷ es))) ≡ true) (sym f) (ap (λ o. nat_eq e.0 END || is_some o) (find_here e es) ∙ or_yes (nat_eq e.0 END)))
+        (λ f. subst (λ k. (nat_eq k END || is_some (find nat_cmp k (e ∷ es))) ≡ true) (sym f) (ap (λ o. nat_eq e.0 END || is_some o) (find_here e es) ∙ or-true (nat_eq e.0 END)))
         (λ ne. ap (λ o. nat_eq s END || is_some o) (find_past s e es ne) ∙ ih)
 
 from_point : (es : List (ℕ × Value)) (p : ℕ) → p ≤ END → p ≤ first_or_end (filter (λ e. nat_le p e.0) es)

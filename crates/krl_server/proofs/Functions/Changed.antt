@@ -1,6 +1,6 @@
 -- What a write that is Applied asks of the table, and what it leaves over the index.
 use Rattle.krl_server.proofs.Names.{◌≡◌, ℕ, suc, ◌≤◌, ◌<◌, Bool, true, false, ◌||◌, Option, Some, None, refl, sym, ap, subst, ◌∙◌, arith, nat_eq, ltb-true, END, Value, WriteOp, Outcome, eq_cases}
-use Rattle.krl_server.proofs.Names.{Index, slot_of, is_slot, IsSlotOf, op_key, held, judge, judged_insert, index_after, most_entries, column, Kept, rows_of, IsOver, MayInsert, MayDelete}
+use Rattle.krl_server.proofs.Names.{Index, slot_of, is_slot, IsSlotOf, op_key, held, judge, index_after, most_entries, column, Kept, rows_of, IsOver, MayInsert, MayDelete}
 use Rattle.std.specs.Prelude.{is_some, not, nat_lt, length}
 use Rattle.std.specs.FinMap as map
 use Rattle.krl_messages.specs.declared.write_op.WriteOp.TheVariants as write
@@ -8,17 +8,9 @@ use Rattle.krl_messages.specs.declared.outcome.Outcome.TheVariants as outcome
 use Rattle.krl_table.proofs.Rows.Slots.{slot_is, next_of}
 use Rattle.krl_server.proofs.Updates.{get_here, get_other}
 use Rattle.krl_server.proofs.Invariant.WritesSound.{insert_may, change_may}
-
-is_none : {A : Type 0} (o : Option A) → is_some o ≡ false → o ≡ None
-is_none None e = refl
-is_none (Some x) e = absurd (cc)
-
--- an insert that is Applied finds room
-insert_room : (present may full : Bool) → judged_insert present may full ≡ outcome.Applied → full ≡ false
-insert_room true may full e = absurd (cc)
-insert_room false false full e = absurd (cc)
-insert_room false true true e = absurd (cc)
-insert_room false true false e = refl
+use Rattle.krl_server.proofs.Invariant.Within.{insert_room}
+use Rattle.krl_server.proofs.Tests.{none_some}
+use mathlib.Core.Bool.{or-true}
 
 room_left : (n : ℕ) → not (nat_lt n most_entries) ≡ false → n < most_entries
 room_left n e = by_test (nat_lt n most_entries) refl e
@@ -74,7 +66,7 @@ insert_asks m t c op o k v e f lt is =
     let may = insert_may (is_some (map.get m k)) (held m (column (rows_of t) c) (write.Insert k v)) (not (nat_lt (length (map.entries m)) most_entries)) judged in
     record {
       key = subst (λ x. op_key x < END) e lt;
-      free = is_none (map.get m k) may.0;
+      free = none_some (map.get m k) may.0;
       room = room_left (length (map.entries m)) (insert_room (is_some (map.get m k)) (held m (column (rows_of t) c) (write.Insert k v)) (not (nat_lt (length (map.entries m)) most_entries)) judged);
       may = may.1;
     }
@@ -85,10 +77,6 @@ delete_asks m t c op o k e f lt is =
     let may = change_may (is_some (map.get m k)) (held m (column (rows_of t) c) (write.Delete k)) judged in
     record {
       key = subst (λ x. op_key x < END) e lt;
-      there = ap (λ b. nat_eq k END || b) may.0 ∙ or_yes (nat_eq k END);
+      there = ap (λ b. nat_eq k END || b) may.0 ∙ or-true (nat_eq k END);
       may = may.1;
     }
-  where
-    or_yes : (b : Bool) → (b || true) ≡ true
-    or_yes true = refl
-    or_yes false = refl

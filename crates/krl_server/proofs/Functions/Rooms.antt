@@ -2,8 +2,8 @@
 use Rattle.krl_server.proofs.Names.{◌≡◌, ℕ, zero, suc, ◌+◌, ◌≤◌, ◌<◌, Bool, true, false, ◌||◌, Option, Some, None, List, [], ◌∷◌, ◌⊎◌, inl, inr, refl, sym, ap, subst, ◌∙◌, ⊎_elim, arith, nat_eq}
 use Rattle.krl_server.proofs.Names.{eqb-true, eqb-false, is_some, if◌then◌else◌, list_any, ToServer, In, Waiter, first_of, eq_cases, Index, slots, is_slot, Rows, most_clients, waits, IsTable, Server}
 use Rattle.krl_server.proofs.Names.{Case, effect, IsSound, waiting, count_below, waiting_clients}
-use Rattle.krl_server.proofs.Invariant.Tabled.{slots_have}
-use Rattle.krl_server.proofs.Tests.{not_truth}
+use Rattle.krl_server.proofs.Invariant.Tabled.{slots_have, any_in}
+use Rattle.krl_server.proofs.Tests.{not_truth, none_some}
 use Rattle.krl_server.proofs.Outputs.Counted.{sum_below, slots_are, none_on, not_found, once_on, clients_of, slots_apart, times_on}
 use Rattle.krl_server.proofs.Invariant.WaitersAfter.{asks, Came}
 
@@ -107,19 +107,6 @@ sum_count (suc n) f g low none = by_test (g n) refl (sum_count n f g low none) (
     by_test true e ih le = omega (arith, ih, le)
     by_test false e ih le = let x = none n e in omega (arith, ih, x)
 
-any_none : (p : ℕ → Bool) (ns : List ℕ) → list_any p ns ≡ false → (k : ℕ) → In k ns → p k ≡ false
-any_none p [] e k at = absurd at
-any_none p (n ∷ ns) e k at = by_test (p n) refl e at (any_none p ns)
-  where
-    by_test : (b : Bool) → p n ≡ b → (b || list_any p ns) ≡ false → In k (n ∷ ns) → (list_any p ns ≡ false → (k : ℕ) → In k ns → p k ≡ false) → p k ≡ false
-    by_test true f g at ih = absurd (cc)
-    by_test false f g (inl h) ih = ap p h ∙ f
-    by_test false f g (inr h) ih = ih g k h
-
-none_found : (o : Option Waiter) → is_some o ≡ false → o ≡ None
-none_found None e = refl
-none_found (Some u) e = absurd (cc)
-
 -- no more wait than clients that do
 pub few_waiting : (s : Server) → IsSound s → IsTable s.durable.index s.rows → waiting s ≤ waiting_clients s
 few_waiting s sound table =
@@ -127,7 +114,7 @@ few_waiting s sound table =
     let is = slots_are s.rows most_clients (slots m) (λ k. clients_of m s.rows table k (s.rows k).queue (table.placed k)) in
     let few = sum_count most_clients (λ c. times_on s.rows c (slots m)) (waits m s.rows)
     (λ c. once_on m s.rows table c (slots m) (slots_apart m sound.near))
-    (λ c e. none_on s.rows c (slots m) (λ k at. not_found c (s.rows k).queue (none_found (first_of c (s.rows k).queue) (any_none (λ n. is_some (first_of c (s.rows n).queue)) (slots m) e k at)))) in
+    (λ c e. none_on s.rows c (slots m) (λ k at. not_found c (s.rows k).queue (none_some (first_of c (s.rows k).queue) (any_in (λ n. is_some (first_of c (s.rows n).queue)) (slots m) k e at)))) in
     omega (arith, is, few)
 
 -- A case brings at most the waiter that it takes

@@ -11,6 +11,7 @@ use Rattle.krl_server.proofs.Updates.{row_here, row_other, get_here, get_other, 
 use Rattle.krl_server.proofs.Invariant.Placed.{two_rows, ArePlaced, put_placed, split_from, split_placed, merge_from, merge_placed, split_strangers, merge_strangers}
 use Rattle.krl_server.proofs.Invariant.WritesSound.{insert_may, change_may}
 use Rattle.krl_server.proofs.Tests.{not_truth, none_some, some_of}
+use mathlib.Core.Bool.{or-true}
 use Rattle.krl_server.proofs.Invariant.Tabled.{IsKept}
 use Rattle.krl_server.proofs.Invariant.TableKept.{slot_there}
 
@@ -40,17 +41,13 @@ module _ (m : Index) (near : (q : ℕ) → END ≤ q → map.get m q ≡ None) (
 
       still : (j : ℕ) → is_slot (map.insert m k v) j ≡ false → is_slot m j ≡ false
       still j e = eq_cases j k
-          (λ f. absurd (not_truth (is_slot (map.insert m k v) j) e (ap (λ o. nat_eq j END || is_some o) (ap (map.get (map.insert m k v)) f ∙ get_here m k v) ∙ or_yes (nat_eq j END))))
+          (λ f. absurd (not_truth (is_slot (map.insert m k v) j) e (ap (λ o. nat_eq j END || is_some o) (ap (map.get (map.insert m k v)) f ∙ get_here m k v) ∙ or-true (nat_eq j END))))
           (λ ne. ap (λ o. nat_eq j END || is_some o) (sym (get_other m k v j ne)) ∙ e)
-        where
-          or_yes : (b : Bool) → (b || true) ≡ true
-          or_yes true = refl
-          or_yes false = refl
 
   split_kept : (k : ℕ) (v : Value) (c : ℕ) → k < END → c < most_clients → map.get m k ≡ None → lets_insert (range_of (mode_at rows (slot_of m k) c)) ≡ true → IsKept (map.insert m k v) (split m rows k c)
   split_kept k v c lt own absent may = record {
     blank = λ j e. two_rows rows n k j at_n at_k (λ r. r ≡ blank_row)
-        (λ f. absurd (not_truth (is_slot (map.insert m k v) j) e (ap (λ o. nat_eq j END || is_some o) (ap (map.get (map.insert m k v)) f ∙ get_here m k v) ∙ or_yes (nat_eq j END))))
+        (λ f. absurd (not_truth (is_slot (map.insert m k v) j) e (ap (λ o. nat_eq j END || is_some o) (ap (map.get (map.insert m k v)) f ∙ get_here m k v) ∙ or-true (nat_eq j END))))
         (λ ne f. absurd (not_truth (is_slot m j) (still j ne e) (ap (is_slot m) f ∙ there)))
         (λ ne no. kept.blank j (still j ne e));
     strangers = split_strangers m rows k c own kept.strangers;
@@ -70,10 +67,6 @@ module _ (m : Index) (near : (q : ℕ) → END ≤ q → map.get m q ≡ None) (
 
       there : is_slot m (slot_of m k) ≡ true
       there = slot_there m near k (omega (arith, lt))
-
-      or_yes : (b : Bool) → (b || true) ≡ true
-      or_yes true = refl
-      or_yes false = refl
 
       gone : is_slot m k ≡ false
       gone = ap (λ o. nat_eq k END || is_some o) absent ∙ ap (λ b. b || false) (ne_eqb k END (λ f. omega (arith, f, lt)))

@@ -127,7 +127,8 @@ ordered_apart (x ∷ es) h = by_left x.1.left (ordered_apart es h.1)
 
 -- The index
 
-insert_room : (present may full : Bool) → judged_insert present may full ≡ outcome.Applied → full ≡ false
+-- an insert that is Applied finds room
+pub insert_room : (present may full : Bool) → judged_insert present may full ≡ outcome.Applied → full ≡ false
 insert_room true may full e = absurd (cc)
 insert_room false true true e = absurd (cc)
 insert_room false true false e = refl

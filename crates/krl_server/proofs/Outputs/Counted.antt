@@ -1,7 +1,7 @@
 -- Few wait, and so few are answered and few are called back.
 use Rattle.krl_server.proofs.Names.{◌≡◌, ℕ, zero, suc, ◌+◌, ◌≤◌, ◌<◌, Bool, true, false, cond, Some, None, List, [], ◌∷◌, ◌++◌, map, length, inl, inr, refl, sym, ap, subst, ◌∙◌, ⊎_elim, arith}
 use Rattle.krl_server.proofs.Names.{nat_eq, eq-eqb, ne_eqb, eqb-true, cases_lt, eqb-false, none-some, is_some, AllByRecursion, nat_cmp, find, END, Value, In, Waiter, first_of, eq_cases, Index, slots}
-use Rattle.krl_server.proofs.Names.{Rows, most_clients, IsPlaced, IsTable, waiting_on, AreApart, Rises, find_here, From, from_above, find_past, keys_of_map_rise}
+use Rattle.krl_server.proofs.Names.{Rows, one, most_clients, IsPlaced, IsTable, waiting_on, AreApart, Rises, find_here, From, from_above, find_past, keys_of_map_rise}
 use Rattle.std.proofs.lemmas.List.Recursion.{is_count_by}
 use Rattle.std.specs.FinMap as map
 
@@ -60,40 +60,37 @@ pub sum_ones : (n : ℕ) (f : ℕ → ℕ) → ((c : ℕ) → f c ≤ 1) → sum
 sum_ones zero f h = omega arith
 sum_ones (suc n) f h = let x = h n in let ih = sum_ones n f h in omega (arith, x, ih)
 
-abbrev pub as_one : Bool → ℕ
-as_one b = cond b 1 0
-
 -- one client among n
-pub sum_one : (n d : ℕ) → d < n → sum_below n (λ c. as_one (nat_eq c d)) ≡ 1
+pub sum_one : (n d : ℕ) → d < n → sum_below n (λ c. one (nat_eq c d)) ≡ 1
 sum_one zero d lt = absurd (omega (arith, lt))
 sum_one (suc n) d lt = eq_cases n d
-    (λ e. let here = ap as_one (eq-eqb n d e) in
-    let rest = sum_same n (λ c. as_one (nat_eq c d)) (λ c. 0) (λ c l. ap as_one (ne_eqb c d (λ f. omega (arith, e, f, l)))) in
+    (λ e. let here = ap one (eq-eqb n d e) in
+    let rest = sum_same n (λ c. one (nat_eq c d)) (λ c. 0) (λ c l. ap one (ne_eqb c d (λ f. omega (arith, e, f, l)))) in
     let none = sum_zero n in omega (arith, here, rest, none))
-    (λ ne. let here = ap as_one (ne_eqb n d ne) in let ih = sum_one n d (omega (arith, ne, lt)) in omega (arith, here, ih))
+    (λ ne. let here = ap one (ne_eqb n d ne) in let ih = sum_one n d (omega (arith, ne, lt)) in omega (arith, here, ih))
 
-one_more : (b : Bool) (x : ℕ) → cond b (1 + x) x ≡ as_one b + x
+one_more : (b : Bool) (x : ℕ) → cond b (1 + x) x ≡ one b + x
 one_more true x = refl
 one_more false x = omega arith
 
 -- numbers below n that stand once are no more than n
 abbrev pub often : ℕ → List ℕ → ℕ
 often c [] = 0
-often c (d ∷ ds) = as_one (nat_eq c d) + often c ds
+often c (d ∷ ds) = one (nat_eq c d) + often c ds
 
 numbers_are : (n : ℕ) (ds : List ℕ) → ((d : ℕ) → In d ds → d < n) → length ds ≡ sum_below n (λ c. often c ds)
 numbers_are n [] h = sym (sum_zero n)
 numbers_are n (d ∷ ds) h =
     let ih = numbers_are n ds (λ e at. h e (inr at)) in
-    let add = sum_add n (λ c. as_one (nat_eq c d)) (λ c. often c ds) in
+    let add = sum_add n (λ c. one (nat_eq c d)) (λ c. often c ds) in
     let one = sum_one n d (h d (inl refl)) in
     omega (arith, ih, add, one)
 
 never : (c : ℕ) (ds : List ℕ) → (In c ds → ⊥) → often c ds ≡ 0
 never c [] h = refl
-never c (d ∷ ds) h = let x = ap as_one (ne_eqb c d (λ e. h (inl e))) in let ih = never c ds (λ at. h (inr at)) in omega (arith, x, ih)
+never c (d ∷ ds) h = let x = ap one (ne_eqb c d (λ e. h (inl e))) in let ih = never c ds (λ at. h (inr at)) in omega (arith, x, ih)
 
-as_one_low : (b : Bool) → as_one b ≤ 1
+as_one_low : (b : Bool) → one b ≤ 1
 as_one_low true = omega arith
 as_one_low false = omega arith
 
@@ -101,7 +98,7 @@ once_each : (c : ℕ) (ds : List ℕ) → AreApart ds → often c ds ≤ 1
 once_each c [] h = omega arith
 once_each c (d ∷ ds) h = eq_cases c d
     (λ e. let low = as_one_low (nat_eq c d) in let rest = never c ds (λ at. h.0 (subst (λ x. In x ds) e at)) in omega (arith, low, rest))
-    (λ ne. let x = ap as_one (ne_eqb c d ne) in let ih = once_each c ds h.1 in omega (arith, x, ih))
+    (λ ne. let x = ap one (ne_eqb c d ne) in let ih = once_each c ds h.1 in omega (arith, x, ih))
 
 pub few_apart : (n : ℕ) (ds : List ℕ) → AreApart ds → ((d : ℕ) → In d ds → d < n) → length ds ≤ n
 few_apart n ds apart h = let is = numbers_are n ds h in let ones = sum_ones n (λ c. often c ds) (λ c. once_each c ds apart) in omega (arith, is, ones)
@@ -111,8 +108,8 @@ queue_is : (n : ℕ) (us : List Waiter) → AllByRecursion (λ u. u.client < n) 
 queue_is n [] h = sym (sum_zero n)
 queue_is n (u ∷ us) h =
     let ih = queue_is n us h.1 in
-    let split = sum_same n (λ c. times c (u ∷ us)) (λ c. as_one (nat_eq c u.client) + times c us) (λ c lt. one_more (nat_eq c u.client) (times c us)) in
-    let add = sum_add n (λ c. as_one (nat_eq c u.client)) (λ c. times c us) in
+    let split = sum_same n (λ c. times c (u ∷ us)) (λ c. one (nat_eq c u.client) + times c us) (λ c lt. one_more (nat_eq c u.client) (times c us)) in
+    let add = sum_add n (λ c. one (nat_eq c u.client)) (λ c. times c us) in
     let one = sum_one n u.client h.0 in
     omega (arith, ih, split, add, one)
 
