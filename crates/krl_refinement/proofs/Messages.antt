@@ -16,20 +16,9 @@ use Rattle.krl_messages.specs.declared.to_client.ToClientBody.TheVariants as tol
 use Rattle.krl_messages.specs.declared.to_client.PushBody.TheVariants as push
 use Rattle.krl_machine.specs.Links as links
 use Rattle.krl_cache.specs.Kept as cache
+use Rattle.krl_table.proofs.ReportRows.PieceByPiece.{range_right, key_right}
 
 -- Reports. Where pieces stand apart, the first that speaks of a point is the join of all that do
-
-join_n : (a : RangePart) → range_join a range.N ≡ a
-join_n range.N = refl
-join_n range.S = refl
-join_n range.I = refl
-join_n range.X = refl
-
-key_join_n : (a : KeyPart) → key_join a key.N ≡ a
-key_join_n key.N = refl
-key_join_n key.S = refl
-key_join_n key.U = refl
-key_join_n key.X = refl
 
 ranges_later : (xs : List RangePiece) (lo q : ℕ) → AreInOrder lo xs → q < lo → range_said xs q ≡ range.N
 ranges_later [] lo q h l = refl
@@ -44,7 +33,7 @@ ranges_agree [] lo q h = refl
 ranges_agree (x ∷ xs) lo q h = by_test (contains x.span q) refl (ranges_agree xs x.span.hi q h.3)
   where
     by_test : (t : Bool) → contains x.span q ≡ t → range_said xs q ≡ cache.range_said xs q → (if t then range_join x.part (range_said xs q) else range_said xs q) ≡ (if t then x.part else cache.range_said xs q)
-    by_test true e ih = let i = inside_span x.span q e in ap (range_join x.part) (ranges_later xs x.span.hi q h.3 i.1) ∙ join_n x.part
+    by_test true e ih = let i = inside_span x.span q e in ap (range_join x.part) (ranges_later xs x.span.hi q h.3 i.1) ∙ range_right x.part
     by_test false e ih = ih
 
 keys_later : (xs : List KeyPiece) (lo q : ℕ) → AreAscending lo xs → q < lo → reported_key xs q ≡ key.N
@@ -60,7 +49,7 @@ keys_agree [] lo q h = refl
 keys_agree (x ∷ xs) lo q h = by_tests (nat_eq x.point q) (nat_eq q x.point) refl refl (keys_agree xs (suc x.point) q h.3)
   where
     by_tests : (t u : Bool) → nat_eq x.point q ≡ t → nat_eq q x.point ≡ u → reported_key xs q ≡ cache.key_said xs q → (if t then key_join x.part (reported_key xs q) else reported_key xs q) ≡ (if u then x.part else cache.key_said xs q)
-    by_tests true true e f ih = let i = eqb-true x.point q e in ap (key_join x.part) (keys_later xs (suc x.point) q h.3 (omega arith)) ∙ key_join_n x.part
+    by_tests true true e f ih = let i = eqb-true x.point q e in ap (key_join x.part) (keys_later xs (suc x.point) q h.3 (omega arith)) ∙ key_right x.part
     by_tests true false e f ih = let i = eqb-true x.point q e in absurd (eqb-false q x.point f (sym i))
     by_tests false true e f ih = let i = eqb-true q x.point f in absurd (eqb-false x.point q e (sym i))
     by_tests false false e f ih = ih

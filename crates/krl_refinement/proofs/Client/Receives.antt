@@ -15,6 +15,7 @@ use Rattle.krl_messages.specs.Several.{have_values}
 use Rattle.krl_cache.proofs.Calls.{same_of, last_not_end, none_at_end}
 use Rattle.krl_client.specs.Messages.{asked_after, says_ack, says_report, joined, accepted, judged_as, fits, Case, Ignores, AcksAgain, Adopts, Accepts, Lowers, case_of, case_of_body, after, sends}
 use Rattle.krl_refinement.proofs.Messages.{report_stands}
+use mathlib.Core.Bool.{and-true}
 use Rattle.krl_refinement.proofs.Client.Steps.{rests, took, lowers_show}
 use Rattle.krl_refinement.proofs.Client.Repeats.{ack_shows, describes_it}
 
@@ -31,16 +32,12 @@ row_by key.U (Some v) e = refl
 row_by key.X None e = absurd (cc)
 row_by key.X (Some v) e = refl
 
-and_yes : (a : Bool) → (a && true) ≡ a
-and_yes true = refl
-and_yes false = refl
-
 value_shown : (h : Holding) (q : ℕ) → has_its_value h ≡ true → is_last h.span q ≡ true → q ≢ END → h.value ≡ row_of (key_of h.mode) h.value
 value_shown h q rule f n =
     let a = same_of (is_some h.value) _ rule in
     let b : ends_at_end h.span ≡ false = last_not_end h.span q f n in
     let c : is_some h.value ≡ (reads_key (key_of h.mode) && not false) = subst (λ t. is_some h.value ≡ (reads_key (key_of h.mode) && not t)) b a in
-    let d = and_yes (reads_key (key_of h.mode)) in
+    let d = and-true (reads_key (key_of h.mode)) in
     row_by (key_of h.mode) h.value (cc)
 
 abbrev AllFit : List Holding → Type 0

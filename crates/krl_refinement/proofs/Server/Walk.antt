@@ -22,14 +22,7 @@ use Rattle.krl_refinement.proofs.Server.HelloAndBye.{registers_follow, leaves_fo
 use Rattle.krl_refinement.proofs.Server.Writes.{writes_follow}
 use Rattle.krl_refinement.proofs.Server.Rebuilt.{rebuilds_follow}
 use Rattle.krl_refinement.proofs.Server.Alarms.{no_conflict}
-
-and_false : (b : Bool) → (b && false) ≡ false
-and_false true = refl
-and_false false = refl
-
-and_true_is : (b : Bool) → (b && true) ≡ b
-and_true_is true = refl
-and_true_is false = refl
+use mathlib.Core.Bool.{and-false, and-true}
 
 module _ (first : ℕ → Option Value) (s : Server) (of : ℕ → Link) (log : List Logged) (m : ToServer) (reached : Reachable first END (world_of s of log)) (h : Shows s of) (i : IsSound s) (at : Stands (of m.client) m.incarnation m.body) where
   abbrev cleared : Case → ℕ → Bool
@@ -40,14 +33,14 @@ module _ (first : ℕ → Option Value) (s : Server) (of : ℕ → Link) (log : 
 
   -- nobody's bound is cleared
   nobody : (c : ℕ) → (nat_eq c m.client && false) ≡ false
-  nobody c = and_false (nat_eq c m.client)
+  nobody c = and-false (nat_eq c m.client)
 
   -- the client's own is
   own : (nat_eq m.client m.client && true) ≡ true
-  own = and_true_is (nat_eq m.client m.client) ∙ eq-eqb m.client m.client refl
+  own = and-true (nat_eq m.client m.client) ∙ eq-eqb m.client m.client refl
 
   others : (d : ℕ) → d ≢ m.client → (nat_eq d m.client && true) ≡ false
-  others d ne = and_true_is (nat_eq d m.client) ∙ ne_eqb d m.client ne
+  others d ne = and-true (nat_eq d m.client) ∙ ne_eqb d m.client ne
 
   said_is : (b : ToServerBody) → m.body ≡ b → Stands (of m.client) m.incarnation b
   said_is b e = subst (Stands (of m.client) m.incarnation) e at
