@@ -91,7 +91,7 @@ found_later {V} k q v x es h f =
       | inr s ↦ let out : is_eq (nat_cmp q k) ≡ false = grind (arith, nat_tests, s.0) in rw out f
     ]
 
-found_head : {V : Type 0} (e : ℕ × V) (es : List (ℕ × V)) → at (e ∷ es) e.0 ≡ Some e.1
+pub found_head : {V : Type 0} (e : ℕ × V) (es : List (ℕ × V)) → at (e ∷ es) e.0 ≡ Some e.1
 found_head e es = let same : is_eq (nat_cmp e.0 e.0) ≡ true = grind (arith, nat_tests) in rw same refl
 
 pub rise_within : {V : Type 0} (lo top : ℕ) (es : List (ℕ × V)) → lo ≤ top → Rise lo es → ((q : ℕ) (x : V) → at es q ≡ Some x → q < top) → RiseWithin lo top es

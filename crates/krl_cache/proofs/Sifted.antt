@@ -2,9 +2,11 @@
 use Rattle.krl_cache.proofs.Names.{◌≡◌, ◌≢◌, ◌⊎◌, inl, inr, ℕ, suc, ◌≤◌, ◌<◌, Bool, true, false, cond, List, [], ◌∷◌, ◌++◌, Option, None, Some, refl, sym, ap, subst, ◌∙◌, arith, option_and_then}
 use Rattle.krl_cache.proofs.Names.{nat_cmp, is_at, nat_eq, nat_tests, eqb_tells, leb_tells, RangePart, lies_in, RiseWithin, at, part_at, IsChanged, KeepsParts, HoldsBefore, BeginsAnew, AreOut, Rise}
 use Rattle.krl_cache.proofs.Names.{Sifts, IsSifted}
-use Rattle.krl_cache.proofs.Rests.{at_before}
+use Rattle.krl_cache.proofs.Rests.{at_before, apart_after}
 use Rattle.krl_cache.proofs.Starts.{merged, gone_here, holds_later, holds_next, keeps_on}
 use Rattle.krl_cache.proofs.Merges.{anew_none, anew_here, anew_kept}
+use Rattle.krl_cache.proofs.Entries.{rise_le}
+use Rattle.krl_cache.proofs.Mapped.{found_head}
 
 -- Points and lists
 
@@ -26,14 +28,10 @@ none_out : {V : Type 0} (lo hi : ℕ) (a : List (ℕ × V)) (q : ℕ) → AreOut
 none_out lo hi [] q h i = refl
 none_out lo hi (e ∷ a) q h i = rw (out_apart lo hi e.0 q h.0 i) (none_out lo hi a q h.1 i)
 
-within_le : {V : Type 0} (low hi : ℕ) (es : List (ℕ × V)) → RiseWithin low hi es → low ≤ hi
-within_le low hi [] h = h
-within_le low hi (e ∷ es) h = omega (arith, h.0, within_le (suc e.0) hi es h.1)
-
 past_in : {V : Type 0} (lo low hi : ℕ) (m x : List (ℕ × V)) (q : ℕ) → lo ≤ low → RiseWithin low hi m → lies_in lo hi q ≡ false → at (m ++ x) q ≡ at x q
 past_in lo low hi [] x q l h i = refl
 past_in lo low hi (e ∷ m) x q l h i =
-    let up = within_le (suc e.0) hi m h.1 in
+    let up = rise_le (suc e.0) hi m h.1 in
     rw (in_apart lo low hi e.0 q l h.0 (omega (arith, up)) i) (past_in lo (suc e.0) hi m x q (omega (arith, l, h.0)) h.1 i)
 
 at_front : {V : Type 0} (m b : List (ℕ × V)) (q : ℕ) → at b q ≡ None → at (m ++ b) q ≡ at m q
@@ -118,14 +116,8 @@ module _ {F V : Type 0} (T : F → ℕ → V → Bool → V → F → Type 0) wh
 
 -- A test that picks the starts whose part held before
 
-after_key : (q k : ℕ) → k < q → is_at (nat_cmp q) k ≡ false
-after_key q k l = grind (arith, nat_tests)
-
-at_key : {V : Type 0} (e : ℕ × V) (es : List (ℕ × V)) → at (e ∷ es) e.0 ≡ Some e.1
-at_key e es = let same : is_at (nat_cmp e.0) e.0 ≡ true = grind (arith, nat_tests) in rw same refl
-
 at_behind : {V : Type 0} (e : ℕ × V) (es : List (ℕ × V)) (q : ℕ) → e.0 < q → at (e ∷ es) q ≡ at es q
-at_behind e es q l = rw (after_key q e.0 l) refl
+at_behind e es q l = rw (apart_after q e.0 l) refl
 
 taken_out : (q k : ℕ) (o : Option RangePart) → q ≢ k → o ≡ cond (nat_eq q k) None o
 taken_out q k o ne = grind (arith, nat_tests)
@@ -187,7 +179,7 @@ module _ {F : Type 0} (T : F → ℕ → RangePart → Bool → RangePart → F 
               old = old_behind;
               new = λ q a b. x.new q (omega (arith, a, h.0)) b ∙ ap (λ (z : List (ℕ × RangePart)). at z q) is ∙ at_behind (e.0, t.1) t.3 q a;
               else = λ q w. elim (eqb_tells q e.0) [
-                | inl z ↦ ap g z.1 ∙ x.new e.0 h.0 below ∙ ap (λ (l : List (ℕ × RangePart)). at l e.0) is ∙ at_key (e.0, t.1) t.3 ∙ ap (λ (v : RangePart). Some v) stays ∙ sym here ∙ sym (ap f z.1)
+                | inl z ↦ ap g z.1 ∙ x.new e.0 h.0 below ∙ ap (λ (l : List (ℕ × RangePart)). at l e.0) is ∙ found_head (e.0, t.1) t.3 ∙ ap (λ (v : RangePart). Some v) stays ∙ sym here ∙ sym (ap f z.1)
                 | inr z ↦ around q w z.1 (λ a b. ap (λ (l : List (ℕ × RangePart)). at l q) is ∙ at_before e.0 ((e.0, t.1) ∷ t.3) q (omega arith, rest_rises) (omega (arith, b, z.1)))
               ];
             }) (subst (λ (z : RangePart). HoldsBefore f (suc e.0) z) (sym (m.next s e.0 e.1 false t.1 t.2 told)) (holds_next f f e.0 (suc e.0) e.1 (omega arith) here (keeps_same f f (λ q. refl)))) in (
@@ -203,13 +195,13 @@ module _ {F : Type 0} (T : F → ℕ → RangePart → Bool → RangePart → F 
       ]) t.4 t.6
     where
       below : e.0 < hi
-      below = omega (arith, within_le (suc e.0) hi xs h.1)
+      below = omega (arith, rise_le (suc e.0) hi xs h.1)
 
       rest_rises : Rise (suc e.0) t.3
       rest_rises = within_rise (suc e.0) hi t.3 (kept_within T (suc e.0) hi t.2 xs last t.3 t.5 h.1)
 
       here : f e.0 ≡ Some e.1
-      here = x.old e.0 h.0 below ∙ at_key e xs
+      here = x.old e.0 h.0 below ∙ found_head e xs
 
       old_behind : (q : ℕ) → suc e.0 ≤ q → q < hi → f q ≡ at xs q
       old_behind q a b = x.old q (omega (arith, a, h.0)) b ∙ at_behind e xs q a
