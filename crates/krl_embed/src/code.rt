@@ -4,7 +4,7 @@ ghost use Rattle.krl_embed.specs.declared.code.Code.TheVariants as code;
 
 use std::alloc::{AllocError, AllocFailed};
 
-/// What a call answers, by name. `krl.h` says what each one means.
+/// What a call answers, by name. `krl_types.h` says what each one means.
 #[derive(Clone, Copy, PartialEq, Eq)]
 pub enum Code {
     /// It is done.
