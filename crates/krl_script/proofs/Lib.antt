@@ -4,3 +4,4 @@ pub mod SomeSteps
 pub mod Runs
 pub mod Interpreting
 pub mod RandomLemmas
+pub mod RandomReach

@@ -7,6 +7,7 @@ ghost use Rattle.krl_messages.specs.Values as values;
 ghost use Rattle.krl_world.specs.States.{index_of};
 ghost use Rattle.krl_world.specs.Fields.{meaning};
 ghost use Rattle.krl_world.specs.Promises.{IsCompatible, ScansIndex};
+ghost use Rattle.krl_world.specs.Steps.{IsReachable};
 ghost use Rattle.krl_text.specs.declared.limits.TheConstants.{MAX_STEPS};
 ghost use Rattle.krl_text.specs.Limits.{most_interruptions, most_steps};
 ghost use Rattle.krl_script.specs.Soundness.{first_unsound, numbers_below};
@@ -289,8 +290,7 @@ fn first_unsound_step<P: Progress>(
     Ok(None)
 }
 
-// Takes so many steps of this seed, at this pace. Gives the last world, and the first step after
-// which something was not sound.
+// Takes so many steps of this seed at this pace. Gives the last world and the first unsound step.
 fn driven<P: Progress>(
     alloc: Global,
     progress: &mut P,
@@ -298,7 +298,8 @@ fn driven<P: Progress>(
     seed: u64,
     steps: u64,
 ) -> Result<(World, Option<u64>), AllocError>
-    ensures { IfOk result (λ end. (end.1 ≡ None) × EndsRandomRun pace seed steps (meaning end.0)) }
+    ensures { IfOk result (λ end. (end.1 ≡ None)
+        × EndsRandomRun pace seed steps (meaning end.0) × IsReachable (meaning end.0)) }
 {
     let mut run = RandomRun::new(alloc, seed)?;
     let unsound = first_unsound_step(&mut run, progress, pace, steps)?;
@@ -355,6 +356,7 @@ pub fn random_run<W: Sink, P: Progress>(
     ensures limit { MAX_STEPS ≡ most_steps }
     ensures ran { IfOk result
         (λ end. (end.1 ≡ true) × EndsRandomRun pace.Drawn seed steps (meaning end.0)) }
+    ensures reachable { IfOk result (λ end. IsReachable (meaning end.0)) }
     ensures wrote { WroteLineOf (W.contents writer.old) (W.contents writer.new)
         (random_line seed steps None) result }
     ensures steady { (n : ℕ) → W.interruptions writer.old ≡ Some n → n ≤ most_interruptions →
@@ -386,6 +388,7 @@ pub fn busy_run<W: Sink, P: Progress>(
     ensures limit { MAX_STEPS ≡ most_steps }
     ensures ran { IfOk result
         (λ end. (end.1 ≡ true) × EndsRandomRun pace.Busy seed steps (meaning end.0)) }
+    ensures reachable { IfOk result (λ end. IsReachable (meaning end.0)) }
     ensures wrote { WroteLineOf (W.contents writer.old) (W.contents writer.new)
         (random_line seed steps None) result }
     ensures steady { (n : ℕ) → W.interruptions writer.old ≡ Some n → n ≤ most_interruptions →
