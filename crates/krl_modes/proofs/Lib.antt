@@ -1,3 +1,4 @@
+pub mod Basics
 pub mod Tables
 pub mod Weights
 pub mod PartLaws
