@@ -32,6 +32,10 @@ module _ {X : Type 0} (P : X → Type 0) where
   all_at (y ∷ xs) zero x e h = let same : y ≡ x = cc in subst P same h.0
   all_at (y ∷ xs) (suc b) x e h = all_at xs b x e h.1
 
+pub head_none : {X : Type 0} (xs : List X) → None ≡ slice_get xs 0 → xs ≡ []
+head_none [] h = refl
+head_none (x ∷ xs) h = absurd (let bad : None ≡ Some x = h in cc)
+
 pub remove_set : {X : Type 0} (xs : List X) (b : ℕ) (y : X) → remove (slice_set xs b y) b ≡ remove xs b
 remove_set [] zero y = refl
 remove_set [] (suc b) y = refl

@@ -3,10 +3,10 @@ use Rattle.std.proofs.Common.{get_or, ◌≡◌, ◌≢◌, ℕ, zero, suc, ◌-
 use Rattle.std.proofs.lemmas.Option.{slice_get_read}
 use Rattle.std.proofs.lemmas.List.{take-append-drop, drop_all}
 use Rattle.std.proofs.lemmas.Bool.{ltb-true, ltb-false}
+use Rattle.std.proofs.Permutation.{every_append}
 use Rattle.std.specs.Prelude.{nat_lt}
 use Rattle.std.specs.List.{slice_get}
 use Rattle.krl_blocks.specs.Laid.{KeysAbove, KeysRise, AreBelow, AreFrom, NoKey, IsInserted, IsRemoved, IsChanged, HasEntry, last_key}
-use Rattle.krl_blocks.proofs.Places.{all_join}
 
 pub put_is : {V : Type 0} (es ds fs : List (ℕ × V)) (i k : ℕ) (v : V) → ds ≡ es → AreBelow k (take i ds) → AreFrom k (drop i ds) → fs ≡ take i es ++ (k, v) ∷ drop i es → IsInserted es fs k v
 put_is {V = V} es ds fs i k v e f g h = record {
@@ -40,7 +40,7 @@ set_is [] b x y h = absurd (let bad : Some x ≡ None = h in cc)
 set_is (z ∷ xs) zero x y h = refl
 set_is {X = X} (z ∷ xs) (suc b) x y h = ap (λ (zs : List X). z ∷ zs) (set_is xs b x y h)
 
-rise_behind : {V : Type 0} (es : List (ℕ × V)) (i : ℕ) → KeysRise es → KeysRise (drop i es)
+pub rise_behind : {V : Type 0} (es : List (ℕ × V)) (i : ℕ) → KeysRise es → KeysRise (drop i es)
 rise_behind es zero h = h
 rise_behind [] (suc i) h = tt
 rise_behind (e ∷ es) (suc i) h = rise_behind es i h.1
@@ -92,14 +92,14 @@ module _ {V : Type 0} (es ds : List (ℕ × V)) (i k : ℕ) (e : ds ≡ es) (f :
         let front = subst (AreFrom k) at high in
         let rising = subst KeysRise at (rise_behind es i (subst KeysRise e rise)) in
         subst (NoKey k) (take-append-drop i es)
-        (all_join (λ z. z.0 ≢ k) (take i es) (drop i es) (below_none k (take i es) low)
+        (every_append (λ z. z.0 ≢ k) (take i es) (drop i es) (below_none k (take i es) low)
         (subst (NoKey k) (sym at) (ne, above_none k x.0 (drop (suc i) es) (ltb-false x.0 k front.0) rising.0)))
 
   pub no_key_behind : (gs : List (ℕ × V)) → gs ≡ es → false ≡ nat_lt i (length gs) → NoKey k es
   no_key_behind gs j far =
       let none = drop_all i es (subst (λ (zs : List (ℕ × V)). length zs ≤ i) j (ltb-false i (length gs) (sym far))) in
       subst (NoKey k) (take-append-drop i es)
-      (all_join (λ z. z.0 ≢ k) (take i es) (drop i es) (below_none k (take i es) low) (subst (NoKey k) (sym none) tt))
+      (every_append (λ z. z.0 ≢ k) (take i es) (drop i es) (below_none k (take i es) low) (subst (NoKey k) (sym none) tt))
 
 last_take : {V : Type 0} (o : Option ℕ) (es : List (ℕ × V)) (i : ℕ) (d : ℕ × V) → i < length es → last_key o (take (suc i) es) ≡ Some (get_or es i d).0
 last_take o [] i d h = absurd (omega (arith, h))

@@ -4,6 +4,7 @@ use Rattle.std.proofs.lemmas.Bool.{ltb-true, leb-true, lt-ltb, le-ltb}
 use Rattle.std.specs.Prelude.{nat_lt, nat_le}
 use Rattle.std.specs.List.{AllByRecursion, slice_get}
 use Rattle.krl_blocks.specs.Laid.{Above, Rises, KeysAbove, KeysRise, AreBelow, AreFrom}
+use Rattle.krl_blocks.proofs.Places.{above_from as keys_above_from}
 
 -- Numbers
 
@@ -72,12 +73,6 @@ module _ {V : Type 0} where
   taken_keys_rise (e ∷ es) zero h = tt
   taken_keys_rise (e ∷ es) (suc i) h = (keys_above_taken e.0 es i h.0, taken_keys_rise es i h.1)
 
-  pub dropped_keys_rise : (es : List (ℕ × V)) (i : ℕ) → KeysRise es → KeysRise (drop i es)
-  dropped_keys_rise [] zero h = tt
-  dropped_keys_rise [] (suc i) h = tt
-  dropped_keys_rise (e ∷ es) zero h = h
-  dropped_keys_rise (e ∷ es) (suc i) h = dropped_keys_rise es i h.1
-
   keys_to_last : (z : ℕ × V) (es : List (ℕ × V)) (l : ℕ × V) (p : ℕ) → KeysRise (z ∷ es) → Some l ≡ slice_get (z ∷ es) (length es) → l.0 < p → AreBelow p (z ∷ es) × (z.0 ≤ l.0)
   keys_to_last z [] l p h e lt = let same : l ≡ z = cc in let key = ap (λ (y : ℕ × V). y.0) same in ((lt-ltb z.0 p (omega (arith, key, lt)), tt), omega (arith, key))
   keys_to_last z (x ∷ es) l p h e lt =
@@ -96,15 +91,11 @@ module _ {V : Type 0} where
       last_there y [] f = let bad : None ≡ Some y = f in absurd (cc)
       last_there y (x ∷ ys) f = last_there x ys f
 
-  keys_above_from : (k : ℕ) (es : List (ℕ × V)) (p : ℕ) → KeysAbove k es → p ≤ k → AreFrom p es
-  keys_above_from k [] p h le = tt
-  keys_above_from k (e ∷ es) p h le = let up = h.0 in (le-ltb e.0 p (omega (arith, up, le)), keys_above_from k es p h.1 le)
-
   pub keys_from_by_first : (es : List (ℕ × V)) (f : ℕ × V) (p : ℕ) → KeysRise es → Some f ≡ slice_get es 0 → nat_le p f.0 ≡ true → AreFrom p es
   keys_from_by_first [] f p h e t = tt
   keys_from_by_first (z ∷ es) f p h e t =
       let same : f ≡ z = cc in let key = ap (λ (y : ℕ × V). y.0) same in let le = leb-true p f.0 t in
-      (le-ltb z.0 p (omega (arith, key, le)), keys_above_from z.0 es p h.0 (omega (arith, key, le)))
+      (le-ltb z.0 p (omega (arith, key, le)), keys_above_from p z.0 es (omega (arith, key, le)) h.0)
 
   pub keys_from_by_none : (es : List (ℕ × V)) (p : ℕ) → None ≡ slice_get es 0 → AreFrom p es
   keys_from_by_none [] p e = tt

@@ -4,12 +4,12 @@ use Rattle.std.proofs.lemmas.Option.{slice_get_past}
 use Rattle.std.proofs.lemmas.List.{length-append, length-set}
 use Rattle.std.proofs.Math.Logic.{⊎_elim}
 use Rattle.std.proofs.lemmas.Bool.{leb-true}
+use Rattle.std.proofs.Permutation.{every_append}
 use Rattle.std.specs.List.{AllByRecursion, slice_get, insert, remove}
 use Rattle.std.specs.Global.{Vec}
 use Rattle.std.specs.Prelude.{vec_capacity, nat_lt, nat_le}
 use Rattle.krl_blocks.specs.Laid.{flat, Shelved, IsLaid, AreThick, AreNearlyThick, IsSmall, IsKept, IsHeld, IsNearly, IsShort, IsMergeable, IsInserted, IsRemoved, IsChanged, IsOneOther, NoKey, last_length, last_key, is_thin, AreHalved}
 use Rattle.krl_blocks.specs.Shelves.{IsJoined, AreFew}
-use Rattle.krl_blocks.proofs.Places.{all_join}
 use Rattle.krl_blocks.proofs.Around.{all_set, all_remove, all_insert, all_at, remove_set, set_reads}
 use Rattle.krl_blocks.proofs.Thick.{IsFilled, LeftIsThick, thick_set, thick_more, thick_halved, nearly, nearly_gone, nearly_none, merged_here, merged_before}
 use Rattle.krl_blocks.proofs.Laying.{laid_filled, laid_lengths, gone_laid, merged_laid, topped_laid, last_length_is, same_laid, same_flat, changed_laid, changed_flat, removed_flat, put_laid, put_flat, push_laid, push_flat, absent}
@@ -100,9 +100,6 @@ module _ {V : Type 0} where
   thin_few (x ∷ y ∷ xs) zero e = let le = leb-true (length x + length y) 32 e in omega (arith, le)
   thin_few (x ∷ y ∷ xs) (suc j) e = thin_few (y ∷ xs) j e
 
-  pub last_full : (n b : ℕ) (xs : List (List (ℕ × V))) (x : List (ℕ × V)) → suc b ≡ length xs → Some x ≡ slice_get xs b → last_length n xs ≡ length x
-  last_full n b xs x last e = last_length_is n b xs x last e
-
   module _ (ts us : Vec ℕ) (s r : Shelved V) (k : IsKept ts s) (tops : vec_capacity ts ≤ vec_capacity us) (most : r.most ≡ s.most) where
     make : IsLaid 0 us.items r.blocks → AreThick 64 r.blocks → AllByRecursion IsSmall r.blocks → IsKept us r
     make a b c = record {
@@ -124,7 +121,7 @@ module _ {V : Type 0} where
     append_kept y f one full laid =
         make laid
         (subst (λ (zs : List (List (ℕ × V))). AreThick 64 zs) (sym f) (thick_more 64 s.blocks y k.thick (omega (arith, full))))
-        (subst (λ (zs : List (List (ℕ × V))). AllByRecursion IsSmall zs) (sym f) (all_join IsSmall s.blocks (y ∷ []) k.small (omega (arith, one), tt)))
+        (subst (λ (zs : List (List (ℕ × V))). AllByRecursion IsSmall zs) (sym f) (every_append IsSmall s.blocks (y ∷ []) k.small (omega (arith, one), tt)))
 
     -- a block is parted
     pub part_kept : (b top : ℕ) (h : AreHalved s.blocks r.blocks b top) → IsLaid 0 us.items r.blocks → IsKept us r
@@ -349,9 +346,6 @@ module _ {V : Type 0} where
 
     pub pushed_all : IsInserted (flat s.blocks) (flat r.blocks) k v
     pushed_all = subst (λ (zs : List (List (ℕ × V))). IsInserted (flat s.blocks) (flat zs) k v) (sym one.new) (push_flat k v ts.items s.blocks kept.laid below b one.block one.other last one.there one.how)
-
-pub at_none : {V : Type 0} (P : Type 0) (Q : V → Type 0) (o : Option V) → o ≡ None → P → MatchOption o P Q
-at_none {V = V} P Q o e p = subst (λ (u : Option V). MatchOption u P Q) (sym e) p
 
 pub last_index : (n m : ℕ) → n ≡ m → 0 < m → suc (n - 1) ≡ m
 last_index n m e some = omega (arith, e, some)

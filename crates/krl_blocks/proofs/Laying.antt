@@ -3,10 +3,11 @@ use Rattle.std.proofs.Common.{◌≡◌, ◌≢◌, ℕ, zero, suc, ◌≤◌, �
 use Rattle.std.proofs.lemmas.Option.{slice_get_past}
 use Rattle.std.proofs.lemmas.List.{append-nil, append_assoc}
 use Rattle.std.proofs.lemmas.Bool.{ltb-true, ltb-false}
+use Rattle.std.proofs.Permutation.{every_append}
 use Rattle.std.specs.Prelude.{nat_lt}
 use Rattle.std.specs.List.{AllByRecursion, slice_get, insert, remove}
 use Rattle.krl_blocks.specs.Laid.{flat, KeysRise, EndsAfter, EndsAt, IsLaid, AreBelow, AreFrom, NoKey, IsInserted, IsRemoved, IsChanged, IsHalved, last_key, last_length}
-use Rattle.krl_blocks.proofs.Places.{IsAt, all_join, at_block, past_blocks, ends_top, ends_rise, after_last, laid_less, flat_join, front_all}
+use Rattle.krl_blocks.proofs.Places.{IsAt, at_block, past_blocks, ends_top, ends_rise, after_last, laid_less, flat_join, front_all}
 use Rattle.krl_blocks.proofs.Edits.{cut_there, below_none, set_is}
 use Rattle.krl_blocks.proofs.Around.{all_take, flat_set}
 use Rattle.krl_blocks.proofs.Thick.{IsFilled}
@@ -138,8 +139,8 @@ module _ {V : Type 0} (k : ℕ) (v : V) (ts : List ℕ) (xs : List (List (ℕ ×
             ∙ ap (λ (es : List (ℕ × V)). at.front ++ (es ++ at.rest)) i.new
             ∙ ap (λ (es : List (ℕ × V)). at.front ++ es) (append_assoc i.front ((k, v) ∷ i.back) at.rest)
             ∙ sym (append_assoc at.front i.front ((k, v) ∷ (i.back ++ at.rest)));
-        below = all_join (λ z. nat_lt z.0 k ≡ true) at.front i.front at.below i.below;
-        from = all_join (λ z. nat_lt z.0 k ≡ false) i.back at.rest i.from at.from;
+        below = every_append (λ z. nat_lt z.0 k ≡ true) at.front i.front at.below i.below;
+        from = every_append (λ z. nat_lt z.0 k ≡ false) i.back at.rest i.from at.from;
       }
 
     pub removed_flat : IsRemoved x y k v → IsRemoved (flat xs) (flat (slice_set xs b y)) k v
@@ -152,8 +153,8 @@ module _ {V : Type 0} (k : ℕ) (v : V) (ts : List ℕ) (xs : List (List (ℕ ×
       new = whole_new ∙ ap (λ (es : List (ℕ × V)). at.front ++ (es ++ at.rest)) i.new
           ∙ ap (λ (es : List (ℕ × V)). at.front ++ es) (append_assoc i.front i.back at.rest)
           ∙ sym (append_assoc at.front i.front (i.back ++ at.rest));
-      below = all_join (λ z. nat_lt z.0 k ≡ true) at.front i.front at.below i.below;
-      from = all_join (λ z. nat_lt z.0 k ≡ false) i.back at.rest i.from at.from;
+      below = every_append (λ z. nat_lt z.0 k ≡ true) at.front i.front at.below i.below;
+      from = every_append (λ z. nat_lt z.0 k ≡ false) i.back at.rest i.from at.from;
     }
 
     pub changed_flat : (was : V) → IsChanged x y k v was → IsChanged (flat xs) (flat (slice_set xs b y)) k v was
@@ -167,8 +168,8 @@ module _ {V : Type 0} (k : ℕ) (v : V) (ts : List ℕ) (xs : List (List (ℕ ×
           ∙ ap (λ (es : List (ℕ × V)). at.front ++ (es ++ at.rest)) i.new
           ∙ ap (λ (es : List (ℕ × V)). at.front ++ es) (append_assoc i.front ((k, v) ∷ i.back) at.rest)
           ∙ sym (append_assoc at.front i.front ((k, v) ∷ (i.back ++ at.rest)));
-      below = all_join (λ z. nat_lt z.0 k ≡ true) at.front i.front at.below i.below;
-      from = all_join (λ z. nat_lt z.0 k ≡ false) i.back at.rest i.from at.from;
+      below = every_append (λ z. nat_lt z.0 k ≡ true) at.front i.front at.below i.below;
+      from = every_append (λ z. nat_lt z.0 k ≡ false) i.back at.rest i.from at.from;
     }
 
   -- all tops are below the key
@@ -318,8 +319,8 @@ module _ {V : Type 0} (k : ℕ) (ts : List ℕ) (xs : List (List (ℕ × V))) (b
   absent from x there none =
       let at = at_block k None 0 ts xs b x (omega arith) laid below from there in
       subst (NoKey k) (sym at.whole)
-      (all_join (λ z. z.0 ≢ k) at.front (x ++ at.rest) (below_none k at.front at.below)
-      (all_join (λ z. z.0 ≢ k) x at.rest none (past_none k at.rest at.past)))
+      (every_append (λ z. z.0 ≢ k) at.front (x ++ at.rest) (below_none k at.front at.below)
+      (every_append (λ z. z.0 ≢ k) x at.rest none (past_none k at.rest at.past)))
 
   pub absent_behind : length xs ≤ b → NoKey k (flat xs)
   absent_behind far = below_none k (flat xs) (past_blocks k None 0 ts xs b laid below (sym (slice_get_past xs b far))).below

@@ -4,6 +4,7 @@ use Rattle.std.proofs.lemmas.Option.{slice_get_past}
 use Rattle.std.proofs.lemmas.List.{take-append-drop, append-nil, append_assoc}
 use Rattle.std.proofs.lemmas.Bool.Decides.{nat_tests}
 use Rattle.std.proofs.lemmas.Bool.{ltb-true, ltb-false, lt-ltb, le-ltb}
+use Rattle.std.proofs.Permutation.{every_append}
 use Rattle.std.specs.Prelude.{nat_lt, slice_index_or}
 use Rattle.std.specs.List.{AllByRecursion, AllWithin, slice_get}
 use Rattle.std.specs.List.Sorted.{IsPartitionedBy}
@@ -116,7 +117,7 @@ ends_below : {V : Type 0} (p low : ℕ) (es : List (ℕ × V)) (t : ℕ) → End
 ends_below p low [] t h lt = absurd h
 ends_below p low (e ∷ es) t h lt = (lt-ltb e.0 p (omega (arith, after_top e.0 es t h.1, lt)), after_below p e.0 es t h.1 lt)
 
-above_from : {V : Type 0} (p k : ℕ) (es : List (ℕ × V)) → p ≤ k → KeysAbove k es → AreFrom p es
+pub above_from : {V : Type 0} (p k : ℕ) (es : List (ℕ × V)) → p ≤ k → KeysAbove k es → AreFrom p es
 above_from p k [] le h = tt
 above_from p k (e ∷ es) le h = (le-ltb e.0 p (omega (arith, le, h.0)), above_from p k es le h.1)
 
@@ -128,16 +129,12 @@ pub front_all : {X : Type 0} (P : X → Type 0) (xs ys : List X) → AllByRecurs
 front_all P [] ys h = tt
 front_all P (x ∷ xs) ys h = (h.0, front_all P xs ys h.1)
 
-pub all_join : {X : Type 0} (P : X → Type 0) (xs ys : List X) → AllByRecursion P xs → AllByRecursion P ys → AllByRecursion P (xs ++ ys)
-all_join P [] ys a b = b
-all_join P (x ∷ xs) ys a b = (a.0, all_join P xs ys a.1 b)
-
 laid_from : {V : Type 0} (p low : ℕ) (ts : List ℕ) (xs : List (List (ℕ × V))) → IsLaid low ts xs → p ≤ low → AreFrom p (flat xs)
 laid_from p low [] [] h le = tt
 laid_from p low [] (x ∷ xs) h le = absurd h
 laid_from p low (t ∷ ts) [] h le = absurd h
 laid_from p low (t ∷ ts) (x ∷ xs) h le =
-    all_join (λ e. nat_lt e.0 p ≡ false) x (flat xs) (ends_from p low x t h.0 le) (laid_from p (suc t) ts xs h.1 (omega (arith, le, ends_top low x t h.0)))
+    every_append (λ e. nat_lt e.0 p ≡ false) x (flat xs) (ends_from p low x t h.0 le) (laid_from p (suc t) ts xs h.1 (omega (arith, le, ends_top low x t h.0)))
 
 -- the last number, or this where there is none
 abbrev pub last_of : Option ℕ → List ℕ → Option ℕ
@@ -221,7 +218,7 @@ at_block {V = V} p o low (t ∷ ts) (y ∷ ys) (suc b) x le h f g e =
       front_is = ap (λ (es : List (ℕ × V)). y ++ es) ih.front_is;
       rest_is = ih.rest_is;
       whole = ap (λ (es : List (ℕ × V)). y ++ es) ih.whole ∙ sym (append_assoc y ih.front (x ++ ih.rest));
-      below = all_join (λ e. nat_lt e.0 p ≡ true) y ih.front (ends_below p low y t h.0 lt) ih.below;
+      below = every_append (λ e. nat_lt e.0 p ≡ true) y ih.front (ends_below p low y t h.0 lt) ih.below;
       from = ih.from;
       last = ih.last ∙ sym (last_join o y ih.front ∙ ap (λ (u : Option ℕ). last_key u ih.front) (ends_last o low y t h.0));
       low = ih.low;
@@ -248,7 +245,7 @@ past_blocks p o low (t ∷ ts) (y ∷ ys) zero h f e = absurd (let bad : None �
 past_blocks p o low (t ∷ ts) (y ∷ ys) (suc b) h f e =
     let ih = past_blocks p (Some t) (suc t) ts ys b h.1 f.1 e in
     record {
-      below = all_join (λ e. nat_lt e.0 p ≡ true) y (flat ys) (ends_below p low y t h.0 (ltb-true t p f.0)) ih.below;
+      below = every_append (λ e. nat_lt e.0 p ≡ true) y (flat ys) (ends_below p low y t h.0 (ltb-true t p f.0)) ih.below;
       last = ih.last ∙ sym (last_join o y (flat ys) ∙ ap (λ (u : Option ℕ). last_key u (flat ys)) (ends_last o low y t h.0));
     }
 
@@ -308,8 +305,8 @@ module _ {V : Type 0} (p : ℕ) (ts : List ℕ) (xs : List (List (ℕ × V))) (b
     front = at.front ++ take i x;
     rest = at.rest;
     whole = whole_cut;
-    below = all_join (λ e. nat_lt e.0 p ≡ true) at.front (take i x) at.below f;
-    from = all_join (λ e. nat_lt e.0 p ≡ false) (drop i x) at.rest g at.from;
+    below = every_append (λ e. nat_lt e.0 p ≡ true) at.front (take i x) at.below f;
+    from = every_append (λ e. nat_lt e.0 p ≡ false) (drop i x) at.rest g at.from;
     last = h ∙ sym (last_join None at.front (take i x));
     some = λ e. absurd (not_none e);
   }

@@ -2,7 +2,7 @@
 use Rattle.std.proofs.Common.{◌≡◌, ℕ, zero, suc, ◌+◌, ◌-◌, ◌*◌, ◌^◌, ◌%◌, ◌≤◌, ◌<◌, Bool, true, false, cond, List, [], ◌∷◌, Some, length, refl, sym, ap, subst, ◌∙◌, arith}
 use Rattle.std.proofs.Math.Nat.{pow-suc, mod-eq_of_lt}
 use Rattle.std.proofs.lemmas.Nat.{pow_pos}
-use Rattle.std.proofs.lemmas.Bool.Decides.{nat_tests}
+use Rattle.std.proofs.lemmas.Bool.{lt-ltb, le-ltb}
 use Rattle.std.specs.Prelude.{nat_lt, slice_index_or}
 use Rattle.std.specs.List.{AllWithin, slice_get}
 use Rattle.std.specs.List.Sorted.{IsPartitionedBy}
@@ -110,12 +110,6 @@ module _ (p : ℕ) (ns : List ℕ) (part : IsPartitionedBy (λ t. nat_lt t p) ns
         let same : r * 2 ^ (s - 1) % 18446744073709551616 ≡ r * 2 ^ (s - 1) = small (r * 2 ^ (s - 1)) (let le = z.0 in omega (arith, le, few)) in
         subst (λ n. (base + n + 2 ^ (s - 1) ≤ length ns) × Low (base + n) × High (base + n + 2 ^ (s - 1))) (sym same) z
 
-  below_is : (n : ℕ) → n < p → nat_lt n p ≡ true
-  below_is n h = grind (arith, nat_tests)
-
-  from_is : (n : ℕ) → p ≤ n → nat_lt n p ≡ false
-  from_is n h = grind (arith, nat_tests)
-
   module _ (s base : ℕ) (le : 2 ^ s ≤ length ns) (few : length ns < 18446744073709551616) where
     one_whole : 1 * 2 ^ s % 18446744073709551616 ≡ 2 ^ s
     one_whole = ap (λ n. n % 18446744073709551616) (let e : 1 * 2 ^ s ≡ 2 ^ s = omega arith in e) ∙ small (2 ^ s) (omega (arith, le, few))
@@ -123,12 +117,12 @@ module _ (p : ℕ) (ns : List ℕ) (part : IsPartitionedBy (λ t. nat_lt t p) ns
     pub up_pow : length ns < 2 * 2 ^ s → slice_index_or ns (1 * 2 ^ s % 18446744073709551616 - 1) 0 < p → base ≡ length ns - 1 * 2 ^ s % 18446744073709551616 → (base + 2 ^ s ≤ length ns) × Low base × High (base + 2 ^ s)
     up_pow lt h is =
         let at : base ≡ length ns - 2 ^ s = is ∙ ap (λ n. length ns - n) one_whole in
-        let z = first_up (2 ^ s) (pow_pos s) le lt (below_is _ (subst (λ n. slice_index_or ns (n - 1) 0 < p) one_whole h)) in
+        let z = first_up (2 ^ s) (pow_pos s) le lt (lt-ltb _ p (subst (λ n. slice_index_or ns (n - 1) 0 < p) one_whole h)) in
         (omega (arith, at, le), subst Low (sym at) z.0, subst (λ n. High (n + 2 ^ s)) (sym at) z.1)
 
     pub down_pow : p ≤ slice_index_or ns (1 * 2 ^ s % 18446744073709551616 - 1) 0 → base ≡ 0 → (base + 2 ^ s ≤ length ns) × Low base × High (base + 2 ^ s)
     down_pow h is =
-        let z = first_down (2 ^ s) (pow_pos s) le (from_is _ (subst (λ n. p ≤ slice_index_or ns (n - 1) 0) one_whole h)) in
+        let z = first_down (2 ^ s) (pow_pos s) le (le-ltb _ p (subst (λ n. p ≤ slice_index_or ns (n - 1) 0) one_whole h)) in
         (omega (arith, is, le), subst Low (sym is) z.0, subst (λ n. High (n + 2 ^ s)) (sym is) z.1)
 
   abbrev pub Start : ℕ → ℕ → Type 0

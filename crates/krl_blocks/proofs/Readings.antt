@@ -4,8 +4,9 @@ use Rattle.std.specs.Prelude.{nat_lt}
 use Rattle.std.specs.List.{AllByRecursion, slice_get}
 use Rattle.std.proofs.lemmas.List.{append-nil}
 use Rattle.std.proofs.lemmas.Bool.{ltb-false, lt-ltb}
+use Rattle.std.proofs.Permutation.{every_append}
 use Rattle.krl_blocks.specs.Laid.{flat, EndsAfter, EndsAt, IsLaid, KeysAbove, KeysRise, NoKey, AreBelow, AreFrom, IsFound, IsInserted}
-use Rattle.krl_blocks.proofs.Places.{flat_join, all_join, keys_after_less}
+use Rattle.krl_blocks.proofs.Places.{flat_join, keys_after_less}
 use Rattle.krl_blocks.proofs.Edits.{below_none, above_none}
 
 module _ {V : Type 0} where
@@ -32,13 +33,13 @@ module _ {V : Type 0} where
   pub flat_rise : (ts : List ℕ) (xs : List (List (ℕ × V))) → IsLaid 0 ts xs → KeysRise (flat xs)
   flat_rise ts xs h = (flat_rises 0 0 ts xs h).1
 
-  back_rises : (es fs : List (ℕ × V)) → KeysRise (es ++ fs) → KeysRise fs
+  pub back_rises : (es fs : List (ℕ × V)) → KeysRise (es ++ fs) → KeysRise fs
   back_rises [] fs h = h
   back_rises (e ∷ es) fs h = back_rises es fs h.1
 
   module _ (es : List (ℕ × V)) (k : ℕ) (before : Option ℕ) (run : List (ℕ × V)) (f : IsFound es k before run) where
     none_behind : NoKey k (run ++ f.rest) → NoKey k es
-    none_behind h = subst (NoKey k) (sym f.whole) (all_join (λ e. e.0 ≢ k) f.front (run ++ f.rest) (below_none k f.front f.below) h)
+    none_behind h = subst (NoKey k) (sym f.whole) (every_append (λ e. e.0 ≢ k) f.front (run ++ f.rest) (below_none k f.front f.below) h)
 
     pub found_empty : None ≡ slice_get run 0 → NoKey k es
     found_empty e = by_run run refl e

@@ -1,5 +1,5 @@
 -- What holds of the spots, the spare places and the cells after a change.
-use Rattle.std.proofs.Common.{◌≡◌, ◌≢◌, ℕ, suc, ◌+◌, ◌*◌, ◌≤◌, ◌<◌, List, [], ◌∷◌, ◌++◌, length, replicate, Some, refl, sym, ap, subst, ◌∙◌, arith, slice_set}
+use Rattle.std.proofs.Common.{◌≡◌, ◌≢◌, ℕ, suc, ◌+◌, ◌*◌, ◌≤◌, ◌<◌, List, [], ◌∷◌, ◌++◌, length, replicate, Some, sym, ap, subst, ◌∙◌, arith, slice_set}
 use Rattle.std.proofs.Math.Logic.{⊎_elim}
 use Rattle.std.proofs.lemmas.List.{append_assoc, length-append, length-set, length-replicate}
 use Rattle.std.proofs.lemmas.List.Edits.{length-insert, length-remove}
@@ -9,6 +9,7 @@ use Rattle.std.specs.Prelude.{vec_capacity}
 use Rattle.krl_blocks.specs.declared.spot.Spot.{Spot}
 use Rattle.krl_blocks.specs.Shelves.{IsStored, shown, places, AreApart, IsFree}
 use Rattle.krl_blocks.proofs.Around.{all_set, all_insert}
+use Rattle.krl_blocks.proofs.Kept.{one_more}
 use Rattle.krl_blocks.proofs.Apart.{all_last, all_but_last, all_inserted, all_removed, all_read, last_apart, more_apart, insert_apart, remove_apart}
 use Rattle.krl_blocks.proofs.Shelving.{AreSmall, place_at, places_insert, places_remove, places_set, shown_longer}
 use Rattle.krl_blocks.proofs.Places.{front_all}
@@ -32,10 +33,6 @@ wider : (ps : List ℕ) (n m : ℕ) → n ≤ m → AllByRecursion (λ p. 64 * p
 wider [] n m le h = tt
 wider (p ∷ ps) n m le h = (let lt = h.0 in omega (arith, lt, le), wider ps n m le h.1)
 
-longer : {X : Type 0} (xs : List X) (x : X) → length (xs ++ x ∷ []) ≡ suc (length xs)
-longer [] x = refl
-longer (y ∷ xs) x = ap suc (longer xs x)
-
 module _ {V : Type 0} (o : Vec Spot) (sp : Vec ℕ) (c : Vec (ℕ × V)) (m : ℕ) (k : IsStored o sp c m) where
   module _ (left : List ℕ) (more : List (ℕ × V)) (place : ℕ) (x : ℕ × V) (room : length o.items < m) where
     freed_spare : sp.items ≡ left ++ place ∷ [] → more ≡ c.items → IsFreed o.items left c.items more place m
@@ -44,7 +41,7 @@ module _ {V : Type 0} (o : Vec Spot) (sp : Vec ℕ) (c : Vec (ℕ × V)) (m : �
         let apart = last_apart (places o.items ++ left) place (subst AreApart joined k.apart) in
         let within = all_but_last (λ p. 64 * p + 64 ≤ length c.items) (places o.items ++ left) place (subst (λ (ps : List ℕ). AllByRecursion (λ p. 64 * p + 64 ≤ length c.items) ps) joined k.within) in
         let n : length more ≡ length c.items = ap length f in
-        let count : length sp.items ≡ suc (length left) = ap length e ∙ longer left place in
+        let count : length sp.items ≡ suc (length left) = ap length e ∙ one_more left place in
         let all = k.all in
         let few = k.few in
         let its = within.1 in
@@ -132,7 +129,7 @@ module _ {V : Type 0} (o : Vec Spot) (sp : Vec ℕ) (c : Vec (ℕ × V)) (m : �
         ap (λ (qs : List ℕ). qs ++ sp2.items) (same ∙ places_remove o.items b) ∙ ap (λ (qs : List ℕ). rest ++ qs) g ∙ sym (append_assoc rest sp.items (s.place ∷ [])) in
         let gone = remove_apart (places o.items) sp.items b s.place (place_at o.items b s e) k.apart in
         let count : length o2.items + 1 ≡ length o.items = ap (λ l. l + 1) n ∙ length-remove o.items b lt in
-        let spare : length sp2.items ≡ suc (length sp.items) = ap length g ∙ longer sp.items s.place in
+        let spare : length sp2.items ≡ suc (length sp.items) = ap length g ∙ one_more sp.items s.place in
         record {
           apart = subst AreApart (sym ps) (more_apart (rest ++ sp.items) s.place gone.0 gone.1);
           within = subst (λ (qs : List ℕ). AllByRecursion (λ p. 64 * p + 64 ≤ length c2.items) qs) (sym ps) (subst (λ (l : ℕ). AllByRecursion (λ p. 64 * p + 64 ≤ l) ((rest ++ sp.items) ++ s.place ∷ [])) (sym len) (all_last (λ p. 64 * p + 64 ≤ length c.items) (rest ++ sp.items) s.place (all_removed (λ p. 64 * p + 64 ≤ length c.items) (places o.items) sp.items b k.within) (spot_within b s e)));
