@@ -2,21 +2,16 @@
 use Rattle.std.proofs.Common.{◌≡◌, ◌≢◌, ℕ, suc, ◌+◌, ◌≤◌, ◌<◌, Bool, true, false, cond, List, [], ◌∷◌, ◌++◌, length, Option, None, Some, MatchOption, refl, sym, ap, subst, ◌∙◌, arith}
 use Rattle.std.proofs.Common.{nat_eq, eq-eqb}
 use Rattle.std.proofs.lemmas.Bool.Decides.{nat_tests}
-use Rattle.std.specs.Ordering.{nat_cmp, eq_by_cmp, is_lt}
+use Rattle.std.specs.Ordering.{nat_cmp, eq_by_cmp}
 use Rattle.std.specs.FinMap.Entries.{find}
 use Rattle.krl_blocks.specs.Entries.{KeysAbove, KeysRise, AreBelow, AreFrom, NoKey, HasEntry, IsInserted, IsRemoved}
 use Rattle.krl_blocks.proofs.Edits.{below_none}
+use Rattle.krl_blocks.proofs.Readings.{back_rises}
 
 -- Keys
 
 itself : (k : ℕ) → eq_by_cmp nat_cmp k k ≡ true
 itself k = grind (arith, nat_tests)
-
-other : (k j : ℕ) → k ≢ j → eq_by_cmp nat_cmp k j ≡ false
-other k j ne = grind (arith, nat_tests)
-
-pub less : (k j : ℕ) → k < j → is_lt (nat_cmp k j) ≡ true
-less k j lt = grind (arith, nat_tests)
 
 pub test_is : (k j : ℕ) → eq_by_cmp nat_cmp k j ≡ nat_eq k j
 test_is k j = grind (arith, nat_tests)
@@ -34,7 +29,9 @@ pub find_here : {V : Type 0} (k : ℕ) (v : V) (es : List (ℕ × V)) → find n
 find_here k v es = rw (itself k) refl
 
 pub find_past : {V : Type 0} (q k : ℕ) (v : V) (es : List (ℕ × V)) → q ≢ k → find nat_cmp q ((k, v) ∷ es) ≡ find nat_cmp q es
-find_past q k v es ne = rw (other q k ne) refl
+find_past q k v es ne =
+    let apart : eq_by_cmp nat_cmp q k ≡ false = grind (arith, nat_tests) in
+    rw apart refl
 
 pub find_none : {V : Type 0} (k : ℕ) (es : List (ℕ × V)) → NoKey k es → find nat_cmp k es ≡ None
 find_none k [] h = refl
@@ -63,10 +60,6 @@ find_around q k v (e ∷ front) back ne = ap (λ o. cond (eq_by_cmp nat_cmp q e.
 above_less : {V : Type 0} (j k : ℕ) (es : List (ℕ × V)) → j < k → KeysAbove k es → KeysAbove j es
 above_less j k [] lt h = tt
 above_less j k (e ∷ es) lt h = (omega (arith, lt, h.0), above_less j k es lt h.1)
-
-pub rise_back : {V : Type 0} (front back : List (ℕ × V)) → KeysRise (front ++ back) → KeysRise back
-rise_back [] back h = h
-rise_back (e ∷ front) back h = rise_back front back h.1
 
 above_front : {V : Type 0} (n : ℕ) (front : List (ℕ × V)) (k : ℕ) (v : V) (back : List (ℕ × V)) → KeysAbove n (front ++ (k, v) ∷ back) → n < k
 above_front n [] k v back h = h.0
@@ -131,7 +124,7 @@ module _ {V : Type 0} (es fs : List (ℕ × V)) (k : ℕ) (v : V) where
 
     pub removed_here : find nat_cmp k fs ≡ None
     removed_here = ap (find nat_cmp k) h.new ∙ find_behind k h.front h.back (below_none k h.front h.below)
-        ∙ find_none k h.back (above_no k h.back (rise_back h.front ((k, v) ∷ h.back) (subst KeysRise h.old r)).0)
+        ∙ find_none k h.back (above_no k h.back (back_rises h.front ((k, v) ∷ h.back) (subst KeysRise h.old r)).0)
 
     pub removed_other : (q : ℕ) → q ≢ k → find nat_cmp q fs ≡ find nat_cmp q es
     removed_other q ne = ap (find nat_cmp q) h.new ∙ sym (find_around q k v h.front h.back ne) ∙ ap (find nat_cmp q) (sym h.old)

@@ -2,6 +2,7 @@
 use Rattle.std.proofs.Common.{◌≡◌, ◌≢◌, ℕ, suc, ◌+◌, ◌≤◌, ◌<◌, Bool, true, false, T, cond, ◌&&◌, List, [], ◌∷◌, ◌++◌, length, Option, None, Some, IsSome, refl, sym, ap, subst, ◌∙◌, arith}
 use Rattle.std.proofs.Common.{nat_eq, eq-eqb, ne_eqb}
 use Rattle.std.proofs.lemmas.Bool.Decides.{nat_tests}
+use Rattle.std.proofs.Flags.{T_true}
 use Rattle.std.specs.List.{slice_get}
 use Rattle.std.specs.Ordering.{nat_cmp, is_lt}
 use Rattle.std.specs.Cmp.{nat_cmp_total}
@@ -9,9 +10,11 @@ use Rattle.std.specs.FinMap as map
 use Rattle.std.specs.FinMap.Entries.{find, is_sorted, below_all}
 use Rattle.slab.specs.Slab.{Slab, get, slab_len, Updates}
 use Rattle.krl_blocks.specs.Entries.{Entries, KeysAbove, KeysRise, AreBelow, AreFrom, NoKey, IsRun, IsInserted, IsRemoved}
+use Rattle.krl_blocks.proofs.Around.{head_none}
 use Rattle.krl_blocks.proofs.Edits.{above_none}
+use Rattle.krl_blocks.proofs.Readings.{back_rises}
 use Rattle.krl_store.specs.Stores.{IsNextKey, with_value, listed, kept, IsStored}
-use Rattle.krl_store.proofs.Finding.{less, test_is, eq_cases, find_here, find_past, find_none, above_no, find_behind, rise_back, rise_front, inserted_rises, inserted_here, inserted_other, inserted_length, removed_rises, removed_was, removed_here, removed_other, removed_length}
+use Rattle.krl_store.proofs.Finding.{test_is, eq_cases, find_here, find_past, find_none, above_no, find_behind, rise_front, inserted_rises, inserted_here, inserted_other, inserted_length, removed_rises, removed_was, removed_here, removed_other, removed_length}
 
 -- The values
 
@@ -45,15 +48,11 @@ both false b e h = absurd (cc)
 
 below_sorted : {V : Type 0} (k : ℕ) (es : List (ℕ × V)) → KeysAbove k es → T (below_all nat_cmp k es)
 below_sorted k [] h = tt
-below_sorted k (e ∷ es) h = both (is_lt (nat_cmp k e.0)) (below_all nat_cmp k es) (less k e.0 h.0) (below_sorted k es h.1)
-
-rise_below_all : (b c : Bool) → T b → T c → T (b && c)
-rise_below_all true c h k = k
-rise_below_all false c h k = absurd h
+below_sorted k (e ∷ es) h = both (is_lt (nat_cmp k e.0)) (below_all nat_cmp k es) (grind (arith, nat_tests, h.0)) (below_sorted k es h.1)
 
 pub rise_sorted : {V : Type 0} (es : List (ℕ × V)) → KeysRise es → T (is_sorted nat_cmp es)
 rise_sorted [] h = tt
-rise_sorted (e ∷ es) h = rise_below_all (below_all nat_cmp e.0 es) (is_sorted nat_cmp es) (below_sorted e.0 es h.0) (rise_sorted es h.1)
+rise_sorted (e ∷ es) h = both (below_all nat_cmp e.0 es) (is_sorted nat_cmp es) (T_true _ (below_sorted e.0 es h.0)) (rise_sorted es h.1)
 
 listed_find : {V : Type 0} (s : Slab V) (es : List (ℕ × ℕ)) (q : ℕ) → KeysRise es → find nat_cmp q (listed s es) ≡ via (get s) (find nat_cmp q es)
 listed_find s [] q h = refl
@@ -226,13 +225,9 @@ from_no : {V : Type 0} (q p : ℕ) (es : List (ℕ × V)) → AreBelow p es → 
 from_no q p [] h le = tt
 from_no q p (e ∷ es) h le = ((λ f. let lt : e.0 < p = grind (arith, nat_tests, h.0) in omega (arith, f, lt, le)), from_no q p es h.1 le)
 
-no_first : {X : Type 0} (xs : List X) → None ≡ slice_get xs 0 → xs ≡ []
-no_first [] e = refl
-no_first (x ∷ xs) e = absurd (let bad : None ≡ Some x = e in cc)
-
 module _ {V : Type 0} (s : Slab V) (es : Entries ℕ) (room : ℕ) (h : IsStored s es room) (from : ℕ) (run : List (ℕ × ℕ)) (r : IsRun es.list from run) where
   pub run_none : None ≡ slice_get run 0 → (n : ℕ) → from ≤ n → map.get (kept s es.list) n ≡ None
-  run_none e n le = let empty = no_first run e in
+  run_none e n le = let empty = head_none run e in
       stored_get s es room h n ∙ ap (via (get s)) (ap (find nat_cmp n) (r.whole ∙ (λ i. r.front ++ (empty i ++ r.some empty i)))
       ∙ find_behind n r.front [] (from_no n from r.front r.below le))
 
@@ -251,5 +246,5 @@ module _ {V : Type 0} (s : Slab V) (es : Entries ℕ) (room : ℕ) (h : IsStored
             there = subst IsSome (sym (stored_get s es room h e.0 ∙ ap (via (get s)) place)) (h.full e.0 e.1 place);
             above = let le : from ≤ e.0 = grind (arith, nat_tests, at_least.0) in le;
             least = λ n le lt. stored_get s es room h n ∙ ap (via (get s)) (ap (find nat_cmp n) whole ∙ find_behind n r.front (e ∷ (xs ++ r.rest)) (from_no n from r.front r.below le)
-                ∙ find_past n e.0 e.1 (xs ++ r.rest) (λ g. omega (arith, g, lt)) ∙ find_none n (xs ++ r.rest) (above_none n e.0 (xs ++ r.rest) (omega (arith, lt)) (rise_back r.front (e ∷ (xs ++ r.rest)) rises).0));
+                ∙ find_past n e.0 e.1 (xs ++ r.rest) (λ g. omega (arith, g, lt)) ∙ find_none n (xs ++ r.rest) (above_none n e.0 (xs ++ r.rest) (omega (arith, lt)) (back_rises r.front (e ∷ (xs ++ r.rest)) rises).0));
           }
