@@ -11,6 +11,7 @@ pub use Rattle.std.specs.Map.{lookup, keys_of, set_value}
 pub use Rattle.std.specs.Ordering.{match_ordering, nat_cmp, eq_by_cmp, is_lt, is_eq}
 pub use Rattle.std.specs.Prelude.{nat_le, nat_lt, IfOk, IfSome, IsSome, slice_set, slice_index_or}
 pub use Rattle.std.specs.declared.cmp.Ordering.TheVariants.{Greater, Equal, Less}
+pub use Rattle.krl_blocks.proofs.Around.{head_none}
 pub use Rattle.krl_blocks.specs.Entries.{AreBelow, NoKey, last_key, KeysRise, AreFrom, IsFound, IsChanged, KeysAbove, IsRun, IsRemoved, HasEntry, IsInserted}
 pub use Rattle.krl_durable.specs.Index.{first_or_end, low_of, Index, is_slot, slot_of, behind, after_keys, IsSlotOf, has_key, IsSpanOf}
 pub use Rattle.krl_durable.specs.Kept.{IsRow, IsKept, IsEntries, missing_of, IsRecord, AreBelowEnd}

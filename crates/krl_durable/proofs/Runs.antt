@@ -1,11 +1,11 @@
 -- What a search in the blocks says of the index.
 use Rattle.std.proofs.Common.{◌≡◌, ◌≢◌, ℕ, suc, ◌≤◌, ◌<◌, Bool, true, false, cond, List, [], ◌∷◌, ◌++◌, length, take, drop, Option, None, Some, IfSome, MatchOption, refl, sym, ap, subst, ◌∙◌, arith, is_some}
-use Rattle.krl_durable.proofs.Names.{nat_tests, take-append-drop, nat_lt, AllByRecursion, slice_get, filter, nat_cmp, eq_by_cmp, find, put, is_sorted, END, Value, AreBelow, AreFrom, NoKey, KeysAbove}
+use Rattle.krl_durable.proofs.Names.{nat_tests, take-append-drop, head_none, nat_lt, AllByRecursion, slice_get, filter, nat_cmp, eq_by_cmp, find, put, is_sorted, END, Value, AreBelow, AreFrom, NoKey, KeysAbove}
 use Rattle.krl_durable.proofs.Names.{KeysRise, HasEntry, IsFound, IsInserted, IsRemoved, IsChanged, last_key, after_keys, low_of, behind, slot_of, AreBelowEnd, IsEntries, most_entries}
 use Rattle.std.proofs.Math.Seq.{take-append_seam, drop-append_seam}
 use Rattle.std.specs.FinMap as map
 use Rattle.krl_blocks.proofs.Places.{front_all}
-use Rattle.krl_durable.proofs.Slots.{Above, Rises, CutAt, rises, cut_at, entries_kept, cut_below, none_behind, head_some, head_none, slot_value, find_behind, find_here, not_above}
+use Rattle.krl_durable.proofs.Slots.{Above, Rises, CutAt, rises, cut_at, entries_kept, cut_below, none_behind, head_some, slot_value, find_behind, find_here, not_above}
 use Rattle.krl_durable.proofs.Edits.{Cut, inserted, put_cut, put_here, removed, drop_one}
 use Rattle.krl_durable.proofs.Cuts.{slot_at, end_at, low_at, after_below}
 use Rattle.krl_durable.proofs.Kept.{kept_as, same_entries_seen}
