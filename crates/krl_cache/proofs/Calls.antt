@@ -4,8 +4,8 @@ use Rattle.krl_cache.proofs.Names.{eqb-false, and_parts, nat_tests, END, TOP, Ra
 use Rattle.krl_cache.proofs.Names.{AllByRecursion, has_its_value, same, ends_at_end, have_values, Belief, IsBelief, is_span, is_last, adopt, adopt_all, lower, CallsKeepBelief}
 use Rattle.krl_modes.specs.declared.part.RangePart.TheVariants as range
 use Rattle.krl_modes.specs.declared.part.KeyPart.TheVariants as key
+use Rattle.krl_modes.proofs.Basics.{None-if_not_some, Some-if_some}
 use Rattle.krl_modes.proofs.SpanLaws.{inside_span}
-use Rattle.krl_cache.proofs.Truths.{none_left, some_left}
 
 -- Points of the last slot
 
@@ -35,7 +35,7 @@ last_is_end s e = by_test (ends_at_end s) refl
 -- the holding's value, by the rule on values
 pub held_value : (h : Holding) (p : ℕ) → has_its_value h ≡ true → is_last h.span p ≡ true → p ≢ END → reads_key (key_of h.mode) ≡ true → (v : Value) × (h.value ≡ Some v)
 held_value h p rule e n k = let a = same_of (is_some h.value) _ rule in let b = last_not_end h.span p e n in
-    some_left h.value (cc)
+    Some-if_some h.value (cc)
 
 and_not : (a b : Bool) → b ≡ true → (a && not b) ≡ false
 and_not true true e = refl
@@ -43,10 +43,10 @@ and_not true false e = absurd (cc)
 and_not false b e = refl
 
 pub no_held : (h : Holding) → has_its_value h ≡ true → reads_key (key_of h.mode) ≡ false → h.value ≡ None
-no_held h rule e = none_left h.value (subst (λ k. is_some h.value ≡ (k && not (ends_at_end h.span))) e (same_of (is_some h.value) _ rule))
+no_held h rule e = None-if_not_some h.value (subst (λ k. is_some h.value ≡ (k && not (ends_at_end h.span))) e (same_of (is_some h.value) _ rule))
 
 pub none_at_end : (h : Holding) → has_its_value h ≡ true → is_last h.span END ≡ true → h.value ≡ None
-none_at_end h rule e = let a = same_of (is_some h.value) _ rule in let c = and_not (reads_key (key_of h.mode)) (ends_at_end h.span) (last_is_end h.span e) in none_left h.value (cc)
+none_at_end h rule e = let a = same_of (is_some h.value) _ rule in let c = and_not (reads_key (key_of h.mode)) (ends_at_end h.span) (last_is_end h.span e) in None-if_not_some h.value (cc)
 
 pub not_key : (k : KeyPart) → k ≡ key.N → reads_key k ≡ false
 not_key key.N e = refl

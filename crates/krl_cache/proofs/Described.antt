@@ -55,7 +55,7 @@ in_order_lower : (a b : ℕ) (xs : List RangePiece) → a ≤ b → AreInOrder b
 in_order_lower a b [] l h = tt
 in_order_lower a b (x ∷ xs) l h = (omega (arith, l, h.0), h.1, h.2, h.3)
 
-in_order_before : (lo q : ℕ) (xs : List RangePiece) → AreInOrder lo xs → q < lo → range_said xs q ≡ range.N
+pub in_order_before : (lo q : ℕ) (xs : List RangePiece) → AreInOrder lo xs → q < lo → range_said xs q ≡ range.N
 in_order_before lo q [] h l = refl
 in_order_before lo q (x ∷ xs) h l =
     let out : contains x.span q ≡ false = before_window x.span.lo x.span.hi q (omega (arith, h.0, l)) in
