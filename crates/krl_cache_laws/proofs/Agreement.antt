@@ -1,6 +1,7 @@
 -- Two runs of the same calls agree.
-use Rattle.std.proofs.Common.{◌≡◌, ◌≢◌, ℕ, ◌<◌, inl, inr, Bool, true, false, [], ◌∷◌, refl, sym, ap, subst, ◌∙◌, arith}
+use Rattle.std.proofs.Common.{◌≡◌, ◌≢◌, ℕ, ◌<◌, inl, inr, [], ◌∷◌, refl, sym, ap, subst, ◌∙◌, arith}
 use Rattle.std.proofs.lemmas.Bool.Decides.{leb_tells}
+use Rattle.krl_modes.proofs.Basics.{not_both}
 use Rattle.krl_modes.specs.Spans.{Bounds}
 use Rattle.krl_cache.specs.declared.scanned.Scanned.{Scanned}
 use Rattle.krl_cache.specs.declared.scanned.Scanned.TheVariants as scanned
@@ -13,9 +14,6 @@ use Rattle.krl_cache_laws.specs.Runs.{after, IsReply, IsStep, Runs, RunsAgree}
 use Rattle.krl_messages.specs.declared.pieces.Pieces.{Pieces}
 use Rattle.krl_cache.proofs.OneScan.{rows_are_determined}
 use Rattle.krl_cache_laws.proofs.Determined.{pieces_are_determined}
-
-not_both : (b : Bool) → b ≡ true → b ≡ false → ⊥
-not_both b t f = let bad : true ≡ false = sym t ∙ f in cc
 
 not_less : (b : Belief) (s : Bounds) (p q : ℕ) → IsLeastUncovered b s p → IsLeastUncovered b s q → p < q → ⊥
 not_less b s p q h k l = not_both (is_covered b p) (k.least p h.point.0 l) h.uncovered

@@ -13,6 +13,7 @@ use Rattle.krl_messages.specs.declared.key_pieces.KeyPiece.{KeyPiece}
 use Rattle.krl_messages.specs.declared.pieces.Pieces.{Pieces}
 use Rattle.krl_cache.specs.Kept.{range_said, key_said, AreInOrder, DiffersFromNext, AreMerged, AreAscending, Describes}
 use Rattle.krl_cache.specs.Beliefs.{Belief}
+use Rattle.krl_cache.proofs.Described.{in_order_before}
 use Rattle.krl_cache_laws.specs.Runs.{PiecesAreDetermined}
 
 -- Range parts
@@ -23,22 +24,13 @@ inside x xs q a b = let here : contains x.span q ≡ true = grind (arith, nat_te
 behind : (x : RangePiece) (xs : List RangePiece) (q : ℕ) → x.span.hi ≤ q → range_said (x ∷ xs) q ≡ range_said xs q
 behind x xs q a = let out : contains x.span q ≡ false = grind (arith, nat_tests) in rw out refl
 
-before : (lo : ℕ) (xs : List RangePiece) (q : ℕ) → AreInOrder lo xs → q < lo → range_said xs q ≡ range.N
-before lo [] q h l = refl
-before lo (x ∷ xs) q h l =
-    let out : contains x.span q ≡ false = outside x q (omega (arith, h.0, l)) in
-    rw out (before x.span.hi xs q h.3 (omega (arith, h.0, h.1, l)))
-  where
-    outside : (x : RangePiece) (q : ℕ) → q < x.span.lo → contains x.span q ≡ false
-    outside x q a = grind (arith, nat_tests)
-
 -- past the first piece another part holds
 changes : (x : RangePiece) (xs : List RangePiece) → x.part ≢ range.N → DiffersFromNext x xs → AreInOrder x.span.hi xs → range_said xs x.span.hi ≢ x.part
 changes x [] held d h same = held (sym same)
 changes x (y ∷ ys) held d h same =
     elim (leb_tells y.span.lo x.span.hi) [
       | inl a ↦ d (omega (arith, a.1, h.0)) (sym (inside y ys x.span.hi a.1 (omega (arith, h.0, h.1))) ∙ same)
-      | inr a ↦ held (sym same ∙ before y.span.lo (y ∷ ys) x.span.hi (omega arith, h.1, h.2, h.3) a.1)
+      | inr a ↦ held (sym same ∙ in_order_before y.span.lo x.span.hi (y ∷ ys) (omega arith, h.1, h.2, h.3) a.1)
     ]
 
 none_behind : (lo : ℕ) (y : RangePiece) (ys : List RangePiece) → AreInOrder lo (y ∷ ys) → AreMerged (y ∷ ys) → ((q : ℕ) → range.N ≡ range_said (y ∷ ys) q) → ⊥
@@ -46,7 +38,7 @@ none_behind lo y ys h m same = m.0 (sym (inside y ys y.span.lo (omega arith) h.1
 
 no_less : (lo : ℕ) (x : RangePiece) (xs : List RangePiece) (y : RangePiece) (ys : List RangePiece) → AreInOrder lo (x ∷ xs) → AreMerged (x ∷ xs) → AreInOrder lo (y ∷ ys) → ((q : ℕ) → range_said (x ∷ xs) q ≡ range_said (y ∷ ys) q) → x.span.lo < y.span.lo → ⊥
 no_less lo x xs y ys h m k same l =
-    m.0 (sym (inside x xs x.span.lo (omega arith) h.1) ∙ same x.span.lo ∙ before y.span.lo (y ∷ ys) x.span.lo (omega arith, k.1, k.2, k.3) l)
+    m.0 (sym (inside x xs x.span.lo (omega arith) h.1) ∙ same x.span.lo ∙ in_order_before y.span.lo x.span.lo (y ∷ ys) (omega arith, k.1, k.2, k.3) l)
 
 no_shorter : (lo : ℕ) (x : RangePiece) (xs : List RangePiece) (y : RangePiece) (ys : List RangePiece) → AreInOrder lo (x ∷ xs) → AreMerged (x ∷ xs) → ((q : ℕ) → range_said (x ∷ xs) q ≡ range_said (y ∷ ys) q) → x.span.lo ≡ y.span.lo → x.part ≡ y.part → x.span.hi < y.span.hi → ⊥
 no_shorter lo x xs y ys h m same e part l =
@@ -68,7 +60,7 @@ same_rest : (lo : ℕ) (x : RangePiece) (xs : List RangePiece) (y : RangePiece) 
 same_rest lo x xs y ys h k e same q =
     elim (leb_tells x.span.hi q) [
       | inl a ↦ sym (behind x xs q a.1) ∙ same q ∙ behind y ys q (omega (arith, a.1, e))
-      | inr a ↦ before x.span.hi xs q h.3 a.1 ∙ sym (before y.span.hi ys q k.3 (omega (arith, a.1, e)))
+      | inr a ↦ in_order_before x.span.hi q xs h.3 a.1 ∙ sym (in_order_before y.span.hi q ys k.3 (omega (arith, a.1, e)))
     ]
 
 same_pieces : (x y : RangePiece) (xs ys : List RangePiece) → x.span.lo ≡ y.span.lo → x.span.hi ≡ y.span.hi → x.part ≡ y.part → xs ≡ ys → ◌≡◌ {A = List RangePiece} (x ∷ xs) (y ∷ ys)

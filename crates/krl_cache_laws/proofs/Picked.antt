@@ -15,7 +15,7 @@ use Rattle.krl_modes.specs.Spans.{Bounds, contains}
 use Rattle.krl_cache.specs.Beliefs.{is_last}
 use Rattle.krl_cache_laws.proofs.Clipped.{twice}
 use Rattle.krl_cache.specs.Lists.{lies_in, pick, tagged, entry_of, entry_lowered, RiseWithin, AreRead}
-use Rattle.krl_cache.proofs.Entries.{find-pick, find_before, nothing_in, rise-pick, rise_le, same_test}
+use Rattle.krl_cache.proofs.Entries.{find-pick, find_before, nothing_in, rise-pick, rise_le}
 use Rattle.krl_cache.proofs.Sifted.{within_less}
 
 pub rise-append : {A : Type 0} (a m b : ℕ) (xs ys : List (ℕ × A)) → RiseWithin a m xs → RiseWithin m b ys → RiseWithin a b (xs ++ ys)
@@ -117,7 +117,8 @@ read_in_place lo hi top es mid h =
 pub pair_found : (es : List (ℕ × Entry)) (p : ℕ) (e : ℕ × Entry) → list_find (λ x. nat_eq p x.0) es ≡ Some e → Some e.1 ≡ find nat_cmp p es
 pair_found [] p e h = absurd (let bad : None ≡ Some e = h in cc)
 pair_found (x ∷ es) p e h =
-    rw same_test
+    let test : eq_by_cmp nat_cmp p x.0 ≡ nat_eq p x.0 = grind (arith, nat_tests) in
+    rw test
     (elim (nat_eq p x.0) as (λ (t : Bool). cond t (Some x) (list_find (λ y. nat_eq p y.0) es) ≡ Some e → Some e.1 ≡ cond t (Some x.1) (find nat_cmp p es)) [
       | true ↦ λ s. let same : x ≡ e = cc in ap (λ (y : ℕ × Entry). Some y.1) (sym same)
       | false ↦ λ s. pair_found es p e s
@@ -126,7 +127,8 @@ pair_found (x ∷ es) p e h =
 pub pair_missing : (es : List (ℕ × Entry)) (p : ℕ) → list_find (λ x. nat_eq p x.0) es ≡ None → ◌≡◌ {A = Option Entry} None (find nat_cmp p es)
 pair_missing [] p h = refl
 pair_missing (x ∷ es) p h =
-    rw same_test
+    let test : eq_by_cmp nat_cmp p x.0 ≡ nat_eq p x.0 = grind (arith, nat_tests) in
+    rw test
     (elim (nat_eq p x.0) as (λ (t : Bool). cond t (Some x) (list_find (λ y. nat_eq p y.0) es) ≡ None → ◌≡◌ {A = Option Entry} None (cond t (Some x.1) (find nat_cmp p es))) [
       | true ↦ λ s. absurd (let bad : Some x ≡ None = s in cc)
       | false ↦ λ s. pair_missing es p s
@@ -157,7 +159,9 @@ own_rise lo hi k (Some e) l u = (l, u)
 
 own_found : (p k : ℕ) (o : Option Entry) → find nat_cmp p (cons_option (tagged k o) []) ≡ cond (nat_eq p k) o None
 own_found p k None = nothing_in {B = Entry} (nat_eq p k)
-own_found p k (Some e) = ap (λ (b : Bool). cond b (Some e) None) (same_test p k)
+own_found p k (Some e) =
+    let test : eq_by_cmp nat_cmp p k ≡ nat_eq p k = grind (arith, nat_tests) in
+    ap (λ (b : Bool). cond b (Some e) None) test
 
 last_point : (lo hi p : ℕ) (o : Option Entry) (r : Option Entry) → lo < hi → cond (lies_in lo hi p) (cond (nat_eq p (hi - 1)) o None) r ≡ cond (lies_in lo hi p) (cond (nat_eq (suc p) hi) o None) r
 last_point lo hi p o r l = grind (arith, nat_tests)
