@@ -4,13 +4,14 @@ use Rattle.krl_table.proofs.Names.{cases_lt, nat_tests, nat_le, nat_lt, if◌the
 use Rattle.krl_table.proofs.Names.{IsSlotOf, SlotRow, Row, blank_row, set_mode, mode_at, with_mode, unqueue, cleared, lowered, Kept, row_there, rows_of, cleared_row, lowered_between, IsAll, IsOver}
 use Rattle.krl_table.proofs.Names.{IsSound, AreCompatible, AreListed, times}
 use Rattle.krl_modes.specs.declared.mode.Mode.TheVariants as mode
-use Rattle.krl_table.proofs.Rows.RowChanges.{eq_cases}
+use Rattle.krl_table.proofs.Rows.RowChanges.{eq_cases, queue_stays}
 use Rattle.krl_table.proofs.Invariant.Alone.{alone_here, times_fewer, one_same, times_more}
 use Rattle.krl_table.proofs.Invariant.Compatible.{cleared_compatible, lowered_compatible}
 use Rattle.krl_table.proofs.Invariant.Stands.{in_unqueue, unqueue_in}
-use Rattle.krl_table.proofs.Rows.Slots.{low_under, low_past, slot_end, slot_twice}
+use Rattle.krl_table.proofs.Rows.Slots.{low_under, low_past, slot_end}
 use Rattle.krl_table.proofs.Rows.Walk.{lower_before, lower_past, lower_here}
 use Rattle.krl_table.proofs.Invariant.Sounds.{NoStrangers, set_strangers, listed_less}
+use Rattle.krl_modes.proofs.Basics.{not_both}
 
 pub none_left : (c : ℕ) (ws : List Waiter) → times c ws ≡ 0 → unqueue c ws ≡ ws
 none_left c [] e = refl
@@ -89,7 +90,7 @@ module _ (from hi c : ℕ) (keep : Mode) (client : c < 64) (t u : Kept) (made : 
       by_test false = same
 
   pub lowered_queue : (n : ℕ) → (rows_of u n).queue ≡ (rows_of t n).queue
-  lowered_queue n = by_row (λ r. r.queue ≡ (rows_of t n).queue) n refl refl
+  lowered_queue n = ap (λ (r : Row). r.queue) (made.rows n) ∙ queue_stays (nat_le from n && nat_lt n hi) (rows_of t n) c (meet (mode_at (rows_of t) n c) keep)
 
   pub lowered_sound : IsSound t → IsSound u
   lowered_sound s = record {
@@ -116,7 +117,7 @@ module _ (from hi c : ℕ) (keep : Mode) (client : c < 64) (t u : Kept) (made : 
           where
             no_row : (o : Option SlotRow) → get t n ≡ o → row_there (get t n) ≡ blank_row
             no_row None f = ap row_there f
-            no_row (Some r) f = absurd (slot_twice (is_slot m n) (over.within n (subst IsSome (sym f) refl)) e)
+            no_row (Some r) f = absurd (not_both (is_slot m n) (over.within n (subst IsSome (sym f) refl)) e)
 
         outside : is_slot m n ≡ true → n < from → within (span_of m n) span ≡ false
         outside e lt = let under = begins.0 n e lt in let test : nat_le span.lo (low_of m n) ≡ false = grind (arith, nat_tests) in ap (λ b. b && nat_le (suc n) span.hi) test
@@ -144,13 +145,13 @@ module _ (m : Index) (near : (k : ℕ) → END ≤ k → get m k ≡ None) (p s 
   pub begins_past : low_of m s < p → ((n : ℕ) → is_slot m n ≡ true → n < s + 1 → low_of m n < p) × ((n : ℕ) → is_slot m n ≡ true → s + 1 ≤ n → p ≤ low_of m n)
   begins_past lt = (
     λ n e under. eq_cases n s (λ f. subst (λ k. low_of m k < p) (sym f) lt)
-        (λ ne. ⊎_elim (λ (a : n < p). let b = low_under m n in omega (arith, a, b)) (λ (a : p ≤ n). absurd (slot_twice (is_slot m n) e (at.least n a (omega (arith, under, ne))))) (cases_lt n p)),
+        (λ ne. ⊎_elim (λ (a : n < p). let b = low_under m n in omega (arith, a, b)) (λ (a : p ≤ n). absurd (not_both (is_slot m n) e (at.least n a (omega (arith, under, ne))))) (cases_lt n p)),
     λ n e le. let a = low_past m near s n at.slot (omega (arith, le)) (slot_end m near n e) in let b = at.above in omega (arith, a, b),
   )
 
   pub begins_at : p ≤ low_of m s → ((n : ℕ) → is_slot m n ≡ true → n < s → low_of m n < p) × ((n : ℕ) → is_slot m n ≡ true → s ≤ n → p ≤ low_of m n)
   begins_at ge = (
-    λ n e under. ⊎_elim (λ (a : n < p). let b = low_under m n in omega (arith, a, b)) (λ (a : p ≤ n). absurd (slot_twice (is_slot m n) e (at.least n a under))) (cases_lt n p),
+    λ n e under. ⊎_elim (λ (a : n < p). let b = low_under m n in omega (arith, a, b)) (λ (a : p ≤ n). absurd (not_both (is_slot m n) e (at.least n a under))) (cases_lt n p),
     λ n e le. eq_cases n s (λ f. subst (λ k. p ≤ low_of m k) (sym f) ge)
         (λ ne. let a = low_past m near s n at.slot (omega (arith, le, ne)) (slot_end m near n e) in let b = at.above in omega (arith, a, b)),
   )

@@ -6,8 +6,9 @@ use Rattle.krl_table.proofs.Names.{merged, merge_into, key_off_slot, range_at, k
 use Rattle.krl_modes.specs.declared.part.RangePart.TheVariants as range
 use Rattle.krl_modes.specs.declared.part.KeyPart.TheVariants as key
 use Rattle.krl_modes.proofs.PartLaws.{range_is_X}
-use Rattle.krl_table.proofs.Rows.RowChanges.{eq_cases, both_rows, by_two, remove_at, remove_past}
+use Rattle.krl_table.proofs.Rows.RowChanges.{eq_cases, both_rows, by_two, goes_two, remove_at, remove_past}
 use Rattle.krl_table.proofs.Invariant.Alone.{AreAlone, alone_moved, times_both}
+use Rattle.krl_table.proofs.Invariant.Compatible.{beside}
 use Rattle.krl_table.proofs.Rows.Slots.{next_of, slot_is, slot_self, slot_end}
 use Rattle.krl_table.proofs.Invariant.Sounds.{NoStrangers, listed_moved}
 use Rattle.std.specs.Cmp.{first_so, second_so}
@@ -24,7 +25,7 @@ beside_key_X key.S e = absurd (cc)
 beside_key_X key.U e = absurd (cc)
 beside_key_X key.X e = absurd (cc)
 
-key_X : (k : KeyPart) → is_key_X k ≡ true → k ≡ key.X
+pub key_X : (k : KeyPart) → is_key_X k ≡ true → k ≡ key.X
 key_X k e = grind arith
 
 alone_range : (a b : Mode) → range_of a ≡ range.X → compatible a b ≡ true → range_of b ≡ range.N
@@ -89,24 +90,18 @@ module _ (m : Index) (k s : ℕ) (near : (n : ℕ) → END ≤ n → get m n ≡
     merge_rows n = both_rows t u k blank_row s new apart set n ∙ ap (λ y. merge_into (rows_of t) y k n) (sym (slot_is m near (suc k) s far at))
 
     came : (n : ℕ) (w : Waiter) → In w (rows_of u n).queue → (j : ℕ) × In w (rows_of t j).queue
-    came n w = eq_cases n k
-        (λ e x. absurd (subst (λ (r : Row). In w r.queue) (ap (rows_of u) e ∙ set.first) x))
-        (λ nk. eq_cases n s
-        (λ e x. ⊎_elim
+    came n w = by_two t u k blank_row s new set (λ r. In w r.queue → (j : ℕ) × In w (rows_of t j).queue)
+        (λ x. absurd x)
+        (λ x. ⊎_elim
         (λ (a : In w (rows_of t k).queue). (let z : (i : ℕ) × In w (rows_of t i).queue = (k, a) in z))
         (λ (a : In w (rows_of t s).queue). (let z : (i : ℕ) × In w (rows_of t i).queue = (s, a) in z))
-        (in_both (rows_of t k).queue (rows_of t s).queue w (subst (λ (r : Row). In w r.queue) (ap (rows_of u) e ∙ set.second) x)))
-        (λ ns x. (n, subst (λ (r : Row). In w r.queue) (ap row_there (set.others n nk ns)) x)))
-
-    goes : (n : ℕ) (w : Waiter) → In w (rows_of t n).queue → (j : ℕ) × In w (rows_of u j).queue
-    goes n w = eq_cases n k
-        (λ e x. (s, subst (λ (r : Row). In w r.queue) (sym set.second) (in_left (rows_of t k).queue (rows_of t s).queue w (subst (λ (j : ℕ). In w (rows_of t j).queue) e x))))
-        (λ nk. eq_cases n s
-        (λ e x. (s, subst (λ (r : Row). In w r.queue) (sym set.second) (in_right (rows_of t k).queue (rows_of t s).queue w (subst (λ (j : ℕ). In w (rows_of t j).queue) e x))))
-        (λ ns x. (n, subst (λ (r : Row). In w r.queue) (sym (ap row_there (set.others n nk ns))) x)))
+        (in_both (rows_of t k).queue (rows_of t s).queue w x))
+        (λ j x. (j, x)) n
 
     pub merge_listed : (waiting : List (Option Waiter)) → AreListed waiting t → AreListed waiting u
-    merge_listed waiting = listed_moved waiting t u came goes
+    merge_listed waiting = listed_moved waiting t u came (λ n w. goes_two t u k blank_row s new set w
+        (λ x. inr (in_left (rows_of t k).queue (rows_of t s).queue w x))
+        (λ x. inr (in_right (rows_of t k).queue (rows_of t s).queue w x)) n)
 
     is_alone : (d : ℕ) → AreAlone (λ n. times d (rows_of u n).queue)
     is_alone d = alone_moved (λ n. times d (rows_of t n).queue) (λ n. times d (rows_of u n).queue) s k (λ e. apart (sym e)) (sound.alone d)
@@ -153,9 +148,6 @@ module _ (m : Index) (k s : ℕ) (near : (n : ℕ) → END ≤ n → get m n ≡
 
     -- Point by point: no range part changes, and no key part
 
-    besides : (n d : ℕ) → d ≢ c → compatible (mode_at (rows_of t) n c) (mode_at (rows_of t) n d) ≡ true
-    besides n d ne = sound.beside n c d (λ e. ne (sym e))
-
     modes_same : (n d : ℕ) → n ≢ k → mode_at (rows_of u) n d ≡ mode_at (rows_of t) n d
     modes_same n d nk = eq_cases n s
         (λ e. ap (λ i. mode_at (rows_of u) i d) e ∙ ap (λ (r : Row). r.modes d) set.second ∙ ap (λ i. mode_at (rows_of t) i d) (sym e))
@@ -165,7 +157,8 @@ module _ (m : Index) (k s : ℕ) (near : (n : ℕ) → END ≤ n → get m n ≡
     alike : (d : ℕ) → range_of (mode_at (rows_of t) s d) ≡ range_of (mode_at (rows_of t) k d)
     alike d = eq_cases d c
         (λ e. subst (λ x. range_of (mode_at (rows_of t) s x) ≡ range_of (mode_at (rows_of t) k x)) (sym e) (its_next t k s c may ∙ sym (its_gap t k s c may)))
-        (λ ne. alone_range (mode_at (rows_of t) s c) (mode_at (rows_of t) s d) (its_next t k s c may) (besides s d ne) ∙ sym (alone_range (mode_at (rows_of t) k c) (mode_at (rows_of t) k d) (its_gap t k s c may) (besides k d ne)))
+        (λ ne. alone_range (mode_at (rows_of t) s c) (mode_at (rows_of t) s d) (its_next t k s c may) (beside (rows_of t s).modes c (sound.beside s) d ne)
+        ∙ sym (alone_range (mode_at (rows_of t) k c) (mode_at (rows_of t) k d) (its_gap t k s c may) (beside (rows_of t k).modes c (sound.beside k) d ne)))
 
     range_within : (d p : ℕ) → p ≤ END → range_of (mode_at (rows_of u) (slot_of less p) d) ≡ range_of (mode_at (rows_of t) (slot_of m p) d)
     range_within d p le = let its = next_of m near p le in eq_cases (slot_of m p) k
@@ -191,7 +184,8 @@ module _ (m : Index) (k s : ℕ) (near : (n : ℕ) → END ≤ n → get m n ≡
     off_slot : (d : ℕ) → key_off_slot (range_of (mode_at (rows_of t) k d)) ≡ key_of (mode_at (rows_of t) k d)
     off_slot d = eq_cases d c
         (λ e. subst (λ x. key_off_slot (range_of (mode_at (rows_of t) k x)) ≡ key_of (mode_at (rows_of t) k x)) (sym e) (ap key_off_slot (its_gap t k s c may) ∙ sym (its_entry t k s c may)))
-        (λ ne. ap key_off_slot (alone_range (mode_at (rows_of t) k c) (mode_at (rows_of t) k d) (its_gap t k s c may) (besides k d ne)) ∙ sym (alone_key (mode_at (rows_of t) k c) (mode_at (rows_of t) k d) (its_entry t k s c may) (besides k d ne)))
+        (λ ne. ap key_off_slot (alone_range (mode_at (rows_of t) k c) (mode_at (rows_of t) k d) (its_gap t k s c may) (beside (rows_of t k).modes c (sound.beside k) d ne))
+        ∙ sym (alone_key (mode_at (rows_of t) k c) (mode_at (rows_of t) k d) (its_entry t k s c may) (beside (rows_of t k).modes c (sound.beside k) d ne)))
 
     pub merge_keys : (d p : ℕ) → key_at less (rows_of u) d p ≡ key_at m (rows_of t) d p
     merge_keys d p = eq_cases p k

@@ -1,21 +1,17 @@
 -- A client's mode on one slot rises to what a waiter wants; and so on slot after slot.
 use Rattle.krl_table.proofs.Names.{◌≡◌, ℕ, zero, suc, ◌-◌, ◌≤◌, ◌<◌, Bool, true, false, ◌&&◌, ◌||◌, List, [], ◌∷◌, ◌++◌, Option, Some, None, IfSome, length, refl, sym, ap, subst, ◌∙◌, append_assoc}
-use Rattle.krl_table.proofs.Names.{arith, fun_ext, END, Mode, compatible, Waiter, Index, slot_of, is_slot, Row, Rows, blank_row, front_of, all_below, most_clients, is_compatible_in_row, with_mode}
+use Rattle.krl_table.proofs.Names.{arith, fun_ext, END, Mode, compatible, Waiter, Index, slot_of, is_slot, Row, Rows, blank_row, front_of, most_clients, is_compatible_in_row, with_mode}
 use Rattle.krl_table.proofs.Names.{wanted, raised, raised_on, granted_first, is_wanted_compatible, can_take, goes_on, taken_after, taken_by, granted_by, most_more, Kept, rows_of, IsSet, IsOver}
 use Rattle.krl_table.proofs.Names.{IsSound, AreListed}
 use Rattle.std.specs.Prelude.{nat_eq, nat_lt, if◌then◌else◌}
 use Rattle.krl_modes.specs.declared.mode.Mode.TheVariants as mode
-use Rattle.krl_table.proofs.Rows.Below.{clients_are}
+use Rattle.krl_table.proofs.Rows.Below.{below_true, clients_are}
 use Rattle.krl_table.proofs.Invariant.Compatible.{none_compatible, set_compatible, compatible_row}
 use Rattle.krl_table.proofs.Invariant.Sounds.{set_strangers, modes_sound, same_queue, fewer_over, listed_same}
 
 -- where nobody holds anything, anything can stand
-all_true : (n : ℕ) (f : ℕ → Bool) → ((d : ℕ) → f d ≡ true) → all_below n f ≡ true
-all_true zero f h = refl
-all_true (suc n) f h = ap (λ b. b && all_below n f) (h n) ∙ all_true n f h
-
 pub blank_is_compatible : (c : ℕ) (g : Mode) → is_compatible_in_row blank_row c g ≡ true
-blank_is_compatible c g = all_true most_clients (λ d. nat_eq d c || compatible g mode.N) (λ d. ap (λ b. nat_eq d c || b) (none_compatible g) ∙ or_yes (nat_eq d c))
+blank_is_compatible c g = below_true most_clients (λ d. nat_eq d c || compatible g mode.N) (λ d. ap (λ b. nat_eq d c || b) (none_compatible g) ∙ or_yes (nat_eq d c))
   where
     or_yes : (b : Bool) → (b || true) ≡ true
     or_yes true = refl

@@ -1,27 +1,23 @@
 -- A slot is parted in two.
 use Rattle.krl_table.proofs.Names.{◌≡◌, ◌≢◌, ℕ, ◌≤◌, ◌<◌, Bool, true, false, ◌||◌, List, Option, Some, None, IsSome, ◌⊎◌, inl, inr, refl, sym, ap, subst, ◌∙◌, ⊎_elim, arith, nat_eq, ne_eqb, ltb-true}
-use Rattle.krl_table.proofs.Names.{ltb-false, cases_lt, leb-true, nat_tests, is_some, nat_le, nat_lt, if◌then◌else◌, get, insert, END, lets_insert, range_of, key_of, compatible, at_or_above, Value}
+use Rattle.krl_table.proofs.Names.{ltb-false, cases_lt, leb-true, nat_tests, is_some, nat_le, nat_lt, if◌then◌else◌, get, insert, END, lets_insert, range_of, key_of, at_or_above, Value}
 use Rattle.krl_table.proofs.Names.{In, Waiter, up_to, beyond, Index, slot_of, is_slot, IsSlotOf, SlotRow, Row, blank_row, mode_at, with_queue, split_modes, mode_beside, split, split_at, key_off_slot}
 use Rattle.krl_table.proofs.Names.{range_at, key_at, Kept, row_there, rows_of, AreSet, IsOver, IsSound, AreCompatible, AreListed, times}
 use Rattle.krl_modes.specs.declared.part.RangePart.TheVariants as range
 use Rattle.krl_modes.specs.declared.part.KeyPart.TheVariants as key
-use Rattle.krl_table.proofs.Rows.RowChanges.{eq_cases, both_rows, by_two, insert_at, insert_past}
+use Rattle.krl_table.proofs.Rows.RowChanges.{eq_cases, both_rows, by_two, goes_two, insert_at, insert_past}
 use Rattle.krl_table.proofs.Invariant.Alone.{AreAlone, alone_moved, times_parted}
-use Rattle.krl_table.proofs.Invariant.Compatible.{split_compatible}
+use Rattle.krl_table.proofs.Invariant.Compatible.{beside, split_compatible}
 use Rattle.krl_table.proofs.Invariant.Stands.{in_filter, filter_in}
-use Rattle.krl_table.proofs.Rows.Slots.{no_slot, next_of, slot_is, slot_end, slot_twice}
+use Rattle.krl_table.proofs.Rows.Slots.{no_slot, next_of, slot_is, slot_end}
 use Rattle.krl_table.proofs.Rows.NewSlotParts.{same_range, other_key, writer_key}
 use Rattle.krl_table.proofs.Invariant.Sounds.{NoStrangers, listed_moved}
 use Rattle.std.proofs.Math.Bool.{or-true}
-
-beyond_is : (p k : ℕ) → nat_lt k p ≡ true → k < p
-beyond_is p k e = grind (arith, nat_tests)
+use Rattle.krl_modes.proofs.Basics.{not_both}
+use Rattle.std.proofs.lemmas.Bool.{lt-ltb}
 
 is_up_to : (p k : ℕ) → p ≤ k → nat_le p k ≡ true
 is_up_to p k le = grind (arith, nat_tests)
-
-is_beyond : (p k : ℕ) → k < p → nat_lt k p ≡ true
-is_beyond p k lt = grind (arith, nat_tests)
 
 -- a slot k is new, below the slot s
 module _ (m : Index) (k s : ℕ) (v : Value) (near : (n : ℕ) → END ≤ n → get m n ≡ None) (far : k < END) (free : get m k ≡ None) (at : IsSlotOf m k s) where
@@ -32,7 +28,7 @@ module _ (m : Index) (k s : ℕ) (v : Value) (near : (n : ℕ) → END ≤ n →
   none_yet = no_slot m k (λ e. omega (arith, e, far)) free
 
   pub apart : k ≢ s
-  apart e = slot_twice (is_slot m k) (ap (is_slot m) e ∙ at.slot) none_yet
+  apart e = not_both (is_slot m k) (ap (is_slot m) e ∙ at.slot) none_yet
 
   pub under : k < s
   under = let a = at.above in let ne = apart in omega (arith, a, ne)
@@ -49,7 +45,7 @@ module _ (m : Index) (k s : ℕ) (v : Value) (near : (n : ℕ) → END ≤ n →
   -- a point's slot stays, where it is not s
   pub slot_stays : (p n : ℕ) → n ≢ s → IsSlotOf m p n → IsSlotOf more p n
   slot_stays p n ns x = record {
-    slot = other_slot n (λ e. slot_twice (is_slot m n) x.slot (ap (is_slot m) e ∙ none_yet)) ∙ x.slot;
+    slot = other_slot n (λ e. not_both (is_slot m n) x.slot (ap (is_slot m) e ∙ none_yet)) ∙ x.slot;
     above = x.above;
     least = λ j a b. other_slot j (λ e. not_inside (omega (arith, e, a)) (omega (arith, e, b))) ∙ x.least j a b;
   }
@@ -57,8 +53,8 @@ module _ (m : Index) (k s : ℕ) (v : Value) (near : (n : ℕ) → END ≤ n →
       -- no other span has k in it
       not_inside : p ≤ k → k < n → ⊥
       not_inside a b = ⊎_elim
-          (λ (d : n < s). slot_twice (is_slot m n) x.slot (at.least n (omega (arith, b)) d))
-          (λ (d : s ≤ n). slot_twice (is_slot m s) at.slot (x.least s (let c = under in omega (arith, a, c)) (omega (arith, d, ns)))) (cases_lt n s)
+          (λ (d : n < s). not_both (is_slot m n) x.slot (at.least n (omega (arith, b)) d))
+          (λ (d : s ≤ n). not_both (is_slot m s) at.slot (x.least s (let c = under in omega (arith, a, c)) (omega (arith, d, ns)))) (cases_lt n s)
 
   -- behind k it stays, too
   pub slot_beyond : (p : ℕ) → k < p → IsSlotOf m p s → IsSlotOf more p s
@@ -89,32 +85,27 @@ module _ (m : Index) (k s : ℕ) (v : Value) (near : (n : ℕ) → END ≤ n →
       where
         by_row : (o : Option SlotRow) → get t k ≡ o → row_there (get t k) ≡ blank_row
         by_row None e = ap row_there e
-        by_row (Some r) e = absurd (slot_twice (is_slot m k) (over.within k (subst IsSome (sym e) refl)) none_yet)
+        by_row (Some r) e = absurd (not_both (is_slot m k) (over.within k (subst IsSome (sym e) refl)) none_yet)
 
     pub split_rows : (n : ℕ) → rows_of u n ≡ split m (rows_of t) k c n
     split_rows n = both_rows t u k new s old apart set n ∙ ap (λ y. split_at (rows_of t) y k c n) (sym (slot_is m near k s (omega (arith, far)) at))
 
     -- in whose queue it stood
     came : (n : ℕ) (w : Waiter) → In w (rows_of u n).queue → (j : ℕ) × In w (rows_of t j).queue
-    came n w = eq_cases n k
-        (λ e x. (s, (in_filter (λ w. nat_le w.point k) (rows_of t s).queue w (subst (λ (r : Row). In w r.queue) (ap (rows_of u) e ∙ set.first) x)).0))
-        (λ nk. eq_cases n s
-        (λ e x. (s, (in_filter (λ w. nat_lt k w.point) (rows_of t s).queue w (subst (λ (r : Row). In w r.queue) (ap (rows_of u) e ∙ set.second) x)).0))
-        (λ ns x. (n, subst (λ (r : Row). In w r.queue) (ap row_there (set.others n nk ns)) x)))
+    came n w = by_two t u k new s old set (λ r. In w r.queue → (j : ℕ) × In w (rows_of t j).queue)
+        (λ x. (s, (in_filter (λ w. nat_le w.point k) (rows_of t s).queue w x).0))
+        (λ x. (s, (in_filter (λ w. nat_lt k w.point) (rows_of t s).queue w x).0))
+        (λ j x. (j, x)) n
 
     -- in whose queue it stands now
-    goes : (n : ℕ) (w : Waiter) → In w (rows_of t n).queue → (j : ℕ) × In w (rows_of u j).queue
-    goes n w = eq_cases n k
-        (λ e x. absurd (subst (λ (r : Row). In w r.queue) (ap (rows_of t) e ∙ no_row) x))
-        (λ nk. eq_cases n s
-        (λ e x. let here = subst (λ (j : ℕ). In w (rows_of t j).queue) e x in ⊎_elim
-        (λ (lt : k < w.point). (let z : (i : ℕ) × In w (rows_of u i).queue = (s, subst (λ (r : Row). In w r.queue) (sym set.second) (filter_in (λ w. nat_lt k w.point) (rows_of t s).queue w here (is_beyond w.point k lt))) in z))
-        (λ (le : w.point ≤ k). (let z : (i : ℕ) × In w (rows_of u i).queue = (k, subst (λ (r : Row). In w r.queue) (sym set.first) (filter_in (λ w. nat_le w.point k) (rows_of t s).queue w here (is_up_to w.point k le))) in z))
-        (cases_lt k w.point))
-        (λ ns x. (n, subst (λ (r : Row). In w r.queue) (sym (ap row_there (set.others n nk ns))) x)))
+    goes : (w : Waiter) → In w (rows_of t s).queue → In w new.queue ⊎ In w old.queue
+    goes w x = ⊎_elim
+        (λ (lt : k < w.point). inr (filter_in (λ w. nat_lt k w.point) (rows_of t s).queue w x (lt-ltb k w.point lt)))
+        (λ (le : w.point ≤ k). inl (filter_in (λ w. nat_le w.point k) (rows_of t s).queue w x (is_up_to w.point k le)))
+        (cases_lt k w.point)
 
     pub split_listed : (waiting : List (Option Waiter)) → AreListed waiting t → AreListed waiting u
-    split_listed waiting = listed_moved waiting t u came goes
+    split_listed waiting = listed_moved waiting t u came (λ n w. goes_two t u k new s old set w (λ x. absurd (subst (λ (r : Row). In w r.queue) no_row x)) (goes w) n)
 
     new_strangers : NoStrangers new
     new_strangers d le = ap (λ b. if b then at_or_above (range_of (mode_at (rows_of t) s c)) key.X else mode_beside (range_of (mode_at (rows_of t) s d))) (ne_eqb d c (λ e. omega (arith, e, le, client)))
@@ -153,14 +144,11 @@ module _ (m : Index) (k s : ℕ) (v : Value) (near : (n : ℕ) → END ≤ n →
             slot_is more more_near w.point k (over.points s w f.0) (slot_new w.point (leb-true w.point k f.1) (its_slot s w f.0)) ∙ sym e)
             (λ nk. eq_cases n s
             (λ e x. let f = in_filter (λ w. nat_lt k w.point) (rows_of t s).queue w (subst (λ (r : Row). In w r.queue) (ap (rows_of u) e ∙ set.second) x) in
-            slot_is more more_near w.point s (over.points s w f.0) (slot_beyond w.point (beyond_is w.point k f.1) (its_slot s w f.0)) ∙ sym e)
+            slot_is more more_near w.point s (over.points s w f.0) (slot_beyond w.point (ltb-true k w.point f.1) (its_slot s w f.0)) ∙ sym e)
             (λ ns x. let y = subst (λ (r : Row). In w r.queue) (ap row_there (set.others n nk ns)) x in
             slot_is more more_near w.point n (over.points n w y) (slot_stays w.point n ns (its_slot n w y))))
 
     -- Point by point: no range part changes, and of the key parts at most the writer's on the new slot
-
-    beside : (d : ℕ) → d ≢ c → compatible (mode_at (rows_of t) s c) (mode_at (rows_of t) s d) ≡ true
-    beside d ne = sound.beside s c d (λ e. ne (sym e))
 
     modes_new : (d : ℕ) → mode_at (rows_of u) k d ≡ split_modes (rows_of t s).modes c d
     modes_new d = ap (λ (r : Row). r.modes d) set.first
@@ -174,10 +162,11 @@ module _ (m : Index) (k s : ℕ) (v : Value) (near : (n : ℕ) → END ≤ n →
     range_within d p le = let its = next_of m near p le in eq_cases (slot_of m p) s
         (λ e. let there = subst (IsSlotOf m p) e its in ⊎_elim
         (λ (a : k < p). ap (λ n. range_of (mode_at (rows_of u) n d)) (slot_is more more_near p s le (slot_beyond p a there)) ∙ ap range_of (modes_same s d (λ f. apart (sym f))) ∙ ap (λ n. range_of (mode_at (rows_of t) n d)) (sym e))
-        (λ (a : p ≤ k). ap (λ n. range_of (mode_at (rows_of u) n d)) (slot_is more more_near p k le (slot_new p a there)) ∙ ap range_of (modes_new d) ∙ same_range (rows_of t s).modes c may beside d ∙ ap (λ n. range_of (mode_at (rows_of t) n d)) (sym e))
+        (λ (a : p ≤ k). ap (λ n. range_of (mode_at (rows_of u) n d)) (slot_is more more_near p k le (slot_new p a there)) ∙ ap range_of (modes_new d)
+        ∙ same_range (rows_of t s).modes c may (beside (rows_of t s).modes c (sound.beside s)) d ∙ ap (λ n. range_of (mode_at (rows_of t) n d)) (sym e))
         (cases_lt k p))
         (λ ne. ap (λ n. range_of (mode_at (rows_of u) n d)) (slot_is more more_near p (slot_of m p) le (slot_stays p (slot_of m p) ne its))
-        ∙ ap range_of (modes_same (slot_of m p) d (λ e. slot_twice (is_slot m (slot_of m p)) its.slot (ap (is_slot m) e ∙ none_yet))))
+        ∙ ap range_of (modes_same (slot_of m p) d (λ e. not_both (is_slot m (slot_of m p)) its.slot (ap (is_slot m) e ∙ none_yet))))
 
     pub split_ranges : (d p : ℕ) → range_at more (rows_of u) d p ≡ range_at m (rows_of t) d p
     split_ranges d p = by_test (nat_lt END p) refl
@@ -200,7 +189,7 @@ module _ (m : Index) (k s : ℕ) (v : Value) (near : (n : ℕ) → END ≤ n →
       where
         at_new : d ≢ c → key_at more (rows_of u) d k ≡ key_at m (rows_of t) d k
         at_new ne = ap (λ (b : Bool). if b then key_of (mode_at (rows_of u) k d) else key_off_slot (range_at more (rows_of u) d k)) new_slot
-            ∙ ap key_of (modes_new d) ∙ other_key (rows_of t s).modes c may beside d ne ∙ ap key_off_slot (sym (range_there d))
+            ∙ ap key_of (modes_new d) ∙ other_key (rows_of t s).modes c may (beside (rows_of t s).modes c (sound.beside s)) d ne ∙ ap key_off_slot (sym (range_there d))
             ∙ sym (ap (λ (b : Bool). if b then key_of (mode_at (rows_of t) k d) else key_off_slot (range_at m (rows_of t) d k)) none_yet)
 
     pub split_own : key_at more (rows_of u) c k ≡ key.X

@@ -20,6 +20,10 @@ all_below_at (suc n) f d e lt = let x = and_parts (f n) (all_below n f) e in
 pub none_compatible : (g : Mode) → compatible g mode.N ≡ true
 none_compatible g = grind arith
 
+-- one client's mode beside another's
+pub beside : (modes : ℕ → Mode) (c : ℕ) → AreCompatible modes → (d : ℕ) → d ≢ c → compatible (modes c) (modes d) ≡ true
+beside modes c h d ne = h c d (λ e. ne (sym e))
+
 pub turned : (a b : Mode) → compatible a b ≡ true → compatible b a ≡ true
 turned a b e = sym (mode_compatibility.symmetric a b) ∙ e
 
@@ -32,14 +36,14 @@ other_compatible old new c h same fit d e ne = eq_cases d c
     (λ f. subst (λ x. compatible (new d) (new x) ≡ true) (sym f) (subst (λ y. compatible y (new c) ≡ true) (sym (same d dc)) (turned (new c) (old d) (fit d dc))))
     (λ ec. subst (λ y. compatible y (new e) ≡ true) (sym (same d dc)) (subst (λ y. compatible (old d) y ≡ true) (sym (same e ec)) (h d e ne))))
 
-pub set_here : (modes : ℕ → Mode) (c : ℕ) (g : Mode) → set_mode modes c g c ≡ g
-set_here modes c g = ap (λ b. if b then g else modes c) (eq-eqb c c refl)
+pub mode_here : (modes : ℕ → Mode) (c : ℕ) (g : Mode) → set_mode modes c g c ≡ g
+mode_here modes c g = ap (λ b. if b then g else modes c) (eq-eqb c c refl)
 
-pub set_other : (modes : ℕ → Mode) (c d : ℕ) (g : Mode) → d ≢ c → set_mode modes c g d ≡ modes d
-set_other modes c d g ne = ap (λ b. if b then g else modes d) (ne_eqb d c ne)
+pub mode_other : (modes : ℕ → Mode) (c d : ℕ) (g : Mode) → d ≢ c → set_mode modes c g d ≡ modes d
+mode_other modes c d g ne = ap (λ b. if b then g else modes d) (ne_eqb d c ne)
 
 pub set_compatible : (modes : ℕ → Mode) (c : ℕ) (g : Mode) → AreCompatible modes → ((d : ℕ) → d ≢ c → compatible g (modes d) ≡ true) → AreCompatible (set_mode modes c g)
-set_compatible modes c g h fit = other_compatible modes (set_mode modes c g) c h (λ d ne. set_other modes c d g ne) (λ d ne. subst (λ x. compatible x (modes d) ≡ true) (sym (set_here modes c g)) (fit d ne))
+set_compatible modes c g h fit = other_compatible modes (set_mode modes c g) c h (λ d ne. mode_other modes c d g ne) (λ d ne. subst (λ x. compatible x (modes d) ≡ true) (sym (mode_here modes c g)) (fit d ne))
 
 -- a compatible mode for one client leaves all compatible
 pub compatible_row : (row : Row) (c : ℕ) (g : Mode) → ((d : ℕ) → most_clients ≤ d → row.modes d ≡ mode.N) → is_compatible_in_row row c g ≡ true → (d : ℕ) → d ≢ c → compatible g (row.modes d) ≡ true
@@ -53,7 +57,7 @@ pub meet_compatible : (a b keep : Mode) → compatible a b ≡ true → compatib
 meet_compatible a b keep e = implies_use (compatible a b) (compatible (meet a keep) b) (by_table_3 (λ a b keep. implies (compatible a b) (compatible (meet a keep) b)) refl a b keep) e
 
 pub lowered_compatible : (modes : ℕ → Mode) (c : ℕ) (keep : Mode) → AreCompatible modes → AreCompatible (set_mode modes c (meet (modes c) keep))
-lowered_compatible modes c keep h = set_compatible modes c (meet (modes c) keep) h (λ d ne. meet_compatible (modes c) (modes d) keep (h c d (λ e. ne (sym e))))
+lowered_compatible modes c keep h = set_compatible modes c (meet (modes c) keep) h (λ d ne. meet_compatible (modes c) (modes d) keep (beside modes c h d ne))
 
 pub cleared_compatible : (modes : ℕ → Mode) (c : ℕ) → AreCompatible modes → AreCompatible (set_mode modes c mode.N)
 cleared_compatible modes c h = set_compatible modes c mode.N h (λ d ne. turned (modes d) mode.N (none_compatible (modes d)))

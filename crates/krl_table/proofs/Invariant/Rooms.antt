@@ -1,14 +1,16 @@
 -- There is room for a row at each slot: rows stand at slots of the index, and those are few.
-use Rattle.krl_table.proofs.Names.{◌≡◌, ◌≢◌, ℕ, suc, ◌≤◌, ◌<◌, Bool, true, false, T, ◌&&◌, ◌||◌, cond, List, [], ◌∷◌, ◌++◌, Some, None, IsSome, ◌⊎◌, inl, inr, length, map, refl, sym, ap, subst, ◌∙◌}
-use Rattle.krl_table.proofs.Names.{⊎_elim, arith, nat_eq, eq-eqb, ne_eqb, nat_tests, is_some, if◌then◌else◌, nat_cmp, eq_by_cmp, is_lt, END, Value, Index, slots, is_slot, Kept, IsOver, most_rows}
+use Rattle.krl_table.proofs.Names.{◌≡◌, ◌≢◌, ℕ, suc, ◌≤◌, ◌<◌, Bool, true, false, ◌||◌, cond, List, [], ◌∷◌, ◌++◌, Some, None, IsSome, ◌⊎◌, inl, inr, length, map, refl, sym, ap, subst, ◌∙◌}
+use Rattle.krl_table.proofs.Names.{⊎_elim, arith, nat_eq, eq-eqb, ne_eqb, nat_tests, is_some, if◌then◌else◌, nat_cmp, eq_by_cmp, END, Value, Index, slots, is_slot, Kept, IsOver, most_rows}
 use Rattle.std.specs.FinMap as fin
 use Rattle.std.specs.FinMap.Entries as entries
+use Rattle.std_alloc.proofs.Flags.{T_true}
 use Rattle.krl_durable.specs.Writes.{most_entries}
 use Rattle.krl_table.proofs.Rows.RowChanges.{eq_cases}
-use Rattle.krl_table.proofs.Rows.Slots.{slot_twice}
 use Rattle.krl_durable.proofs.Kept.{most}
+use Rattle.krl_durable.proofs.Slots as pairs
 use Rattle.krl_blocks.specs.Laid.{Above, Rises}
 use Rattle.std.proofs.Math.Bool.{or-true}
+use Rattle.krl_modes.proofs.Basics.{not_both}
 
 -- Members
 
@@ -29,7 +31,7 @@ keys_in (e ∷ es) n some = eq_cases n e.0 (λ f. inl f)
 -- a slot stands in the list of all slots
 pub slots_have : (m : Index) (n : ℕ) → is_slot m n ≡ true → Lists n (slots m)
 slots_have m n e = eq_cases n END (λ f. subst (λ x. Lists x (slots m)) (sym f) (end_in (fin.entries m)))
-    (λ ne. keys_in (fin.entries m) n (λ none. slot_twice (is_slot m n) e (ap (λ b. b || is_some (fin.get m n)) (ne_eqb n END ne) ∙ ap is_some (fin.get-entries m n ∙ none))))
+    (λ ne. keys_in (fin.entries m) n (λ none. not_both (is_slot m n) e (ap (λ b. b || is_some (fin.get m n)) (ne_eqb n END ne) ∙ ap is_some (fin.get-entries m n ∙ none))))
 
 key_found : (es : List (ℕ × Value)) (n : ℕ) → Lists n (map (λ e. e.0) es ++ END ∷ []) → (n ≡ END) ⊎ (is_some (entries.find nat_cmp n es) ≡ true)
 key_found [] n (inl e) = inl e
@@ -89,25 +91,14 @@ few (n ∷ ns) ks r h =
 
 -- The keys of a map
 
-and_first : (a b : Bool) → T (a && b) → T a
-and_first true b h = tt
-and_first false b h = h
-
-and_second : (a b : Bool) → T (a && b) → T b
-and_second true b h = h
-and_second false b h = absurd h
-
-less : (k j : ℕ) → T (is_lt (nat_cmp k j)) → k < j
-less k j h = grind (arith, nat_tests)
-
 module _ {V : Type 0} where
-  keys_above : (k : ℕ) (es : List (ℕ × V)) → T (entries.below_all nat_cmp k es) → Above k (map (λ e. e.0) es)
+  keys_above : (k : ℕ) (es : List (ℕ × V)) → pairs.Above k es → Above k (map (λ e. e.0) es)
   keys_above k [] h = tt
-  keys_above k (e ∷ es) h = (less k e.0 (and_first (is_lt (nat_cmp k e.0)) (entries.below_all nat_cmp k es) h), keys_above k es (and_second (is_lt (nat_cmp k e.0)) (entries.below_all nat_cmp k es) h))
+  keys_above k (e ∷ es) h = (h.0, keys_above k es h.1)
 
-  keys_rise : (es : List (ℕ × V)) → T (entries.is_sorted nat_cmp es) → Rises (map (λ e. e.0) es)
+  keys_rise : (es : List (ℕ × V)) → pairs.Rises es → Rises (map (λ e. e.0) es)
   keys_rise [] h = tt
-  keys_rise (e ∷ es) h = (keys_above e.0 es (and_first (entries.below_all nat_cmp e.0 es) (entries.is_sorted nat_cmp es) h), keys_rise es (and_second (entries.below_all nat_cmp e.0 es) (entries.is_sorted nat_cmp es) h))
+  keys_rise (e ∷ es) h = (keys_above e.0 es h.0, keys_rise es h.1)
 
   key_there : (es : List (ℕ × V)) (n : ℕ) → Lists n (map (λ e. e.0) es) → IsSome (entries.find nat_cmp n es)
   key_there [] n at = absurd at
@@ -127,10 +118,13 @@ module _ {V : Type 0} where
   has_key (e ∷ es) n some = eq_cases n e.0 (λ f. inl f)
       (λ ne. let apart : eq_by_cmp nat_cmp n e.0 ≡ false = grind (arith, nat_tests) in inr (has_key es n (subst (λ b. IsSome (cond b (Some e.1) (entries.find nat_cmp n es))) apart some)))
 
+kept_rise : (t : Kept) → Rises (map (λ e. e.0) (fin.entries t))
+kept_rise t = keys_rise (fin.entries t) (pairs.rises (fin.entries t) (T_true _ (fin.entries_sorted t)))
+
 -- a map with rows at no other slots has no more of them
 pub rows_less : (t u : Kept) → ((n : ℕ) → IsSome (fin.get u n) → IsSome (fin.get t n)) → length (fin.entries u) ≤ length (fin.entries t)
 rows_less t u kept =
-    let le = few (map (λ e. e.0) (fin.entries u)) (map (λ e. e.0) (fin.entries t)) (keys_rise (fin.entries u) (fin.entries_sorted u))
+    let le = few (map (λ e. e.0) (fin.entries u)) (map (λ e. e.0) (fin.entries t)) (kept_rise u)
     (λ n at. has_key (fin.entries t) n (subst IsSome (fin.get-entries t n) (kept n (subst IsSome (sym (fin.get-entries u n)) (key_there (fin.entries u) n at))))) in
     let a = as_many (fin.entries u) in let b = as_many (fin.entries t) in omega (arith, le, a, b)
 
@@ -149,13 +143,13 @@ module _ (m : Index) (t : Kept) (over : IsOver m t) where
   -- no more rows than slots
   pub rows_few : length (fin.entries t) ≤ suc (length (fin.entries m))
   rows_few =
-      let le = few (map (λ e. e.0) (fin.entries t)) (slots m) (keys_rise (fin.entries t) (fin.entries_sorted t)) (λ n at. slots_have m n (at_slots n at)) in
+      let le = few (map (λ e. e.0) (fin.entries t)) (slots m) (kept_rise t) (λ n at. slots_have m n (at_slots n at)) in
       let a = as_many (fin.entries t) in let b = many_slots (fin.entries m) in omega (arith, le, a, b)
 
   -- and one less where a slot has none
   rows_fewer : (k : ℕ) → is_slot m k ≡ true → fin.get t k ≡ None → length (fin.entries t) ≤ length (fin.entries m)
   rows_fewer k slot none =
-      let le = few (map (λ e. e.0) (fin.entries t)) (less_one k (slots m)) (keys_rise (fin.entries t) (fin.entries_sorted t))
+      let le = few (map (λ e. e.0) (fin.entries t)) (less_one k (slots m)) (kept_rise t)
       (λ n at. stays k n (slots m) (slots_have m n (at_slots n at))
       (λ e. let there = key_there (fin.entries t) n at in let bad = subst IsSome (sym (fin.get-entries t n) ∙ ap (fin.get t) e ∙ none) there in absurd (cc))) in
       let one = one_less k (slots m) (slots_have m k slot) in

@@ -9,9 +9,6 @@ use Rattle.krl_table.proofs.Rows.Below.{clients_are}
 use Rattle.krl_table.proofs.Invariant.Alone.{AreAlone, alone_here, times_none, in_times}
 use Rattle.krl_table.proofs.Invariant.Stands.{first_in}
 
-pub some_same : {X : Type 0} {x y : X} → Some x ≡ Some y → x ≡ y
-some_same e = cc
-
 pub some_none : {X : Type 0} (o : Option X) (x : X) → o ≡ Some x → o ≡ None → ⊥
 some_none o x e f = let clash : Some x ≡ None = sym e ∙ f in absurd (cc)
 

@@ -11,13 +11,14 @@ use Rattle.krl_modes.specs.declared.part.KeyPart.TheVariants as key
 use Rattle.krl_modes.specs.declared.mode.Mode.TheVariants as mode
 use Rattle.krl_messages.specs.declared.range_pieces.RangePiece.{RangePiece}
 use Rattle.krl_messages.specs.declared.key_pieces.KeyPiece.{KeyPiece}
-use Rattle.krl_table.proofs.Rows.RowChanges.{eq_cases}
+use Rattle.krl_table.proofs.Rows.RowChanges.{eq_cases, queue_stays}
 use Rattle.krl_table.proofs.Rows.Below.{clients_are}
-use Rattle.krl_table.proofs.Invariant.Compatible.{set_compatible, compatible_row, set_here}
+use Rattle.krl_table.proofs.Invariant.Compatible.{set_compatible, compatible_row, mode_here}
 use Rattle.krl_table.proofs.Invariant.Rooms.{Lists, slots_have, slots_are}
-use Rattle.krl_table.proofs.Rows.Slots.{low_past, slot_end, slot_twice}
+use Rattle.krl_table.proofs.Rows.Slots.{low_past, slot_end}
 use Rattle.krl_table.proofs.Invariant.Sounds.{NoStrangers, set_strangers, set_over}
 use Rattle.krl_table.proofs.Rows.Walk.{lower_keeps, lower_past, lower_here}
+use Rattle.krl_modes.proofs.Basics.{not_both}
 
 -- Pieces
 
@@ -142,7 +143,7 @@ module _ (m : Index) (near : (k : ℕ) → END ≤ k → get m k ≡ None) (piec
     above = let b = next.above in omega (arith, a, b);
     between = λ n b lt e. ⊎_elim
         (λ (c : n < p). nothing_there p n b c e r k)
-        (λ (c : p ≤ n). absurd (slot_twice (is_slot m n) e (next.least n c lt))) (cases_lt n p);
+        (λ (c : p ≤ n). absurd (not_both (is_slot m n) e (next.least n c lt))) (cases_lt n p);
   }
 
   pub nothing_more : (p : ℕ) → END < p → RangesOff pieces.ranges at p → KeysOff pieces.keys at p → NothingFrom m pieces at
@@ -246,7 +247,7 @@ module _ (m : Index) (c : ℕ) (pieces : Pieces) (old new : Kept) (at : ℕ) (w 
         (λ f. subst (λ k. rows_of u k ≡ with_mode (rows_of old k) c (rebuilt m pieces k)) (sym f) (set.here ∙ ap (λ r. with_mode r c (rebuilt m pieces s)) (ap row_there (w.rest s next.above))))
         (λ ne. ap row_there (set.others n ne) ∙ ⊎_elim (λ (a : n < at). w.done n a e) (λ (a : at ≤ n). as_it_was n a (next.between n a (omega (arith, lt, ne)) e)) (cases_lt n at));
     rest = λ n le. set.others n (λ f. omega (arith, f, le)) ∙ w.rest n (let a = next.above in omega (arith, a, le));
-    off = λ n e. set.others n (λ f. slot_twice (is_slot m n) (ap (is_slot m) f ∙ next.there) e) ∙ w.off n e;
+    off = λ n e. set.others n (λ f. not_both (is_slot m n) (ap (is_slot m) f ∙ next.there) e) ∙ w.off n e;
     used = λ n r e. eq_cases n s (λ f. set.used r (ap (get u) (sym f) ∙ e)) (λ ne. w.used n r (sym (set.others n ne) ∙ e));
     over = set_over new u s (with_mode (rows_of new s) c (rebuilt m pieces s)) set m w.over next.there (λ v x. (w.over.points s v x, w.over.placed s v x));
   }
@@ -287,7 +288,7 @@ module _ (m : Index) (c : ℕ) (pieces : Pieces) (t u : Kept) (client : c < 64) 
       by_slot false e = same
 
   pub adopted_queue : (n : ℕ) → (rows_of u n).queue ≡ (rows_of t n).queue
-  adopted_queue n = by_row n (λ r. r.queue ≡ (rows_of t n).queue) refl (λ e. refl)
+  adopted_queue n = ap (λ (r : Row). r.queue) (made n) ∙ queue_stays (is_slot m n) (rows_of t n) c (rebuilt m pieces n)
 
   pub adopted_sound : AreAllCompatible m (rows_of t) c pieces → IsOver m u → ((n : ℕ) (r : SlotRow) → get u n ≡ Some r → row_of r ≢ blank_row) → IsSound u
   adopted_sound fit over used = record {
@@ -314,7 +315,7 @@ module _ (c : ℕ) (t v : Kept) (sound : IsSound t) (made : IsAll (lowered_betwe
   -- the client holds nothing
   pub emptied_at : (n : ℕ) → mode_at (rows_of v) n c ≡ mode.N
   emptied_at n = ⊎_elim
-      (λ (lt : n < TOP). ap (λ (r : Row). r.modes c) (made.rows n ∙ lower_here 0 TOP c mode.N n (rows_of t n) (omega arith) lt) ∙ set_here (rows_of t n).modes c (meet (mode_at (rows_of t) n c) mode.N) ∙ meet_none (mode_at (rows_of t) n c))
+      (λ (lt : n < TOP). ap (λ (r : Row). r.modes c) (made.rows n ∙ lower_here 0 TOP c mode.N n (rows_of t n) (omega arith) lt) ∙ mode_here (rows_of t n).modes c (meet (mode_at (rows_of t) n c) mode.N) ∙ meet_none (mode_at (rows_of t) n c))
       (λ (le : TOP ≤ n). ap (λ (r : Row). r.modes c) (made.rows n ∙ lower_past 0 TOP c mode.N n (rows_of t n) le) ∙ ap (λ o. (row_there o).modes c) (sound.near n (omega (arith, le))))
       (cases_lt n TOP)
 
@@ -327,7 +328,7 @@ module _ (c : ℕ) (t v : Kept) (made : IsAll (lowered_between 0 TOP c mode.N) t
     where
       no_row : (o : Option SlotRow) → get t n ≡ o → rows_of t n ≡ blank_row
       no_row None f = ap row_there f
-      no_row (Some r) f = absurd (slot_twice (is_slot m n) (over.within n (subst IsSome (sym f) refl)) e)
+      no_row (Some r) f = absurd (not_both (is_slot m n) (over.within n (subst IsSome (sym f) refl)) e)
 
   -- the other clients' modes are as before, so what fits still does
   pub emptied_is_compatible : ((n : ℕ) → END ≤ n → get m n ≡ None) → (pieces : Pieces) → AreAllCompatible m (rows_of t) c pieces → AreAllCompatible m (rows_of v) c pieces

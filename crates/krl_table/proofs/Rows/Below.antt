@@ -6,6 +6,10 @@ use Rattle.std.proofs.Math.Bool.{and-false}
 pub below_more : (f : ℕ → Bool) (n : ℕ) → all_below n f ≡ true → f n ≡ true → all_below (n + 1) f ≡ true
 below_more f n e h = let one : n + 1 ≡ suc n = omega arith in rw one (ap (λ b. b && all_below n f) h ∙ e)
 
+pub below_true : (n : ℕ) (f : ℕ → Bool) → ((k : ℕ) → f k ≡ true) → all_below n f ≡ true
+below_true zero f h = refl
+below_true (suc n) f h = ap (λ b. b && all_below n f) (h n) ∙ below_true n f h
+
 pub below_false : (f : ℕ → Bool) (m n : ℕ) → n < m → f n ≡ false → all_below m f ≡ false
 below_false f zero n lt e = absurd (omega (arith, lt))
 below_false f (suc m) n lt e = eq_cases n m

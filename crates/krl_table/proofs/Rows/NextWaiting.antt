@@ -3,10 +3,12 @@ use Rattle.krl_table.proofs.Names.{◌≡◌, ℕ, zero, suc, ◌+◌, ◌≤◌
 use Rattle.krl_table.proofs.Names.{append_assoc, length-append, arith, ltb-true, ltb-false, append-nil, AllByRecursion, cases_lt, nat_lt, if◌then◌else◌, In, Waiter, Index, is_slot, IsSlotOf, Kept}
 use Rattle.krl_table.proofs.Names.{rows_of, IsOver, IsSound, waiter_in, AreListed, AllWaitBelow, IsLeastPoint, lesser_point, lesser}
 use Rattle.std.proofs.Math.Nat.{min-le_left, min-le_right, min-eq_left, min-eq_right}
+use Rattle.std.proofs.lemmas.Option.{same_Some}
 use Rattle.krl_table.specs.Waiters.{IsNextWaiting, AreWaiting}
 use Rattle.krl_table.proofs.Rows.RowChanges.{eq_cases}
-use Rattle.krl_table.proofs.Rows.Slots.{next_of, slot_same, slot_twice}
-use Rattle.krl_table.proofs.Invariant.Sounds.{some_same, some_none, has_row}
+use Rattle.krl_table.proofs.Rows.Slots.{next_of, slot_same}
+use Rattle.krl_table.proofs.Invariant.Sounds.{some_none, has_row}
+use Rattle.krl_modes.proofs.Basics.{not_both}
 
 -- The least point that a client below k waits for
 
@@ -35,27 +37,27 @@ module _ (waiting : List (Option Waiter)) (low k : ℕ) (least : Option ℕ) (h 
     passed far = record {
       some = h.some;
       all = λ c u lt e le. eq_cases c k
-          (λ f. let same : u ≡ w = some_same (sym e ∙ ap (waiter_in waiting) f ∙ is) in
+          (λ f. let same : u ≡ w = same_Some _ _ (sym e ∙ ap (waiter_in waiting) f ∙ is) in
           let below : u.point < low = subst (λ x. x.point < low) (sym same) far in absurd (omega (arith, below, le)))
           (λ ne. h.all c u (omega (arith, lt, ne)) e le);
     }
 
     taken : low ≤ w.point → (o : Option ℕ) → least ≡ o → IsLeastBelow waiting low (k + 1) (lesser_point o w.point)
     taken near None none = record {
-      some = λ p e. subst (WaitsFor waiting low) (some_same e) (near, (k, w, is, refl));
+      some = λ p e. subst (WaitsFor waiting low) (same_Some _ _ e) (near, (k, w, is, refl));
       all = λ c u lt e le. eq_cases c k
-          (λ f. let same : u ≡ w = some_same (sym e ∙ ap (waiter_in waiting) f ∙ is) in (w.point, refl, subst (λ x. w.point ≤ x.point) (sym same) (omega arith)))
+          (λ f. let same : u ≡ w = same_Some _ _ (sym e ∙ ap (waiter_in waiting) f ∙ is) in (w.point, refl, subst (λ x. w.point ≤ x.point) (sym same) (omega arith)))
           (λ ne. let x = h.all c u (omega (arith, lt, ne)) e le in absurd (some_none least x.0 x.1 none));
     }
     taken near (Some q) some = record {
-      some = λ p e. subst (WaitsFor waiting low) (some_same e) (either (WaitsFor waiting low) q w.point (h.some q some) (near, (k, w, is, refl)));
+      some = λ p e. subst (WaitsFor waiting low) (same_Some _ _ e) (either (WaitsFor waiting low) q w.point (h.some q some) (near, (k, w, is, refl)));
       all = λ c u lt e le. (
         min q w.point,
         refl,
         eq_cases c k
-            (λ f. let same : u ≡ w = some_same (sym e ∙ ap (waiter_in waiting) f ∙ is) in subst (λ x. min q w.point ≤ x.point) (sym same) (min-le_right q w.point))
+            (λ f. let same : u ≡ w = same_Some _ _ (sym e ∙ ap (waiter_in waiting) f ∙ is) in subst (λ x. min q w.point ≤ x.point) (sym same) (min-le_right q w.point))
             (λ ne. let x = h.all c u (omega (arith, lt, ne)) e le in
-            let same : x.0 ≡ q = some_same (sym x.1 ∙ some) in let one = x.2 in let other = min-le_left q w.point in omega (arith, same, one, other)),
+            let same : x.0 ≡ q = same_Some _ _ (sym x.1 ∙ some) in let one = x.2 in let other = min-le_left q w.point in omega (arith, same, one, other)),
       );
     }
       where
@@ -78,7 +80,7 @@ all_least waiting low k None all h = λ c u lt is. ⊎_elim (λ (a : u.point < l
 all_least waiting low k (Some p) all h = let x = h.some p refl in record {
   above = x.0;
   some = x.1;
-  least = λ c u lt is le. let y = h.all c u (omega (arith, all, lt)) is le in subst (λ q. q ≤ u.point) (sym (some_same y.1)) y.2;
+  least = λ c u lt is le. let y = h.all c u (omega (arith, all, lt)) is le in subst (λ q. q ≤ u.point) (sym (same_Some _ _ y.1)) y.2;
 }
 
 -- Somebody waits at the slots of the points that are waited for
@@ -92,7 +94,7 @@ begins_first m q s next lt = absurd (omega (arith, lt))
 
 pub begins_after : (m : Index) (n : ℕ) → is_slot m n ≡ true → Begins m (suc n)
 begins_after m n there q s next lt = ⊎_elim
-    (λ (far : n < s). absurd (slot_twice (is_slot m n) there (next.least n (omega (arith, lt)) far)))
+    (λ (far : n < s). absurd (not_both (is_slot m n) there (next.least n (omega (arith, lt)) far)))
     (λ (near : s ≤ n). omega (arith, near)) (cases_lt n s)
 
 module _ (m : Index) (t : Kept) (over : IsOver m t) (sound : IsSound t) (waiting : List (Option Waiter)) (l : AreListed waiting t) (low : ℕ) (begins : Begins m low) where
@@ -121,7 +123,7 @@ module _ (m : Index) (t : Kept) (over : IsOver m t) (sound : IsSound t) (waiting
         subst (In w.1) (ap (λ n. (rows_of t n).queue) (slot_same m p x.1.0 s there next) ∙ none) x.1.1;
     least = λ n a b. no_queue n (λ u at. let slot = its_slot n u at in let far = slot.above in
         let least = h.least u.client u (sound.clients n u at) (l.here n u at) (point_from n u.point slot a) in
-        slot_twice (is_slot m n) (over.within n (has_row t n u at)) (next.least n (omega (arith, least, far)) b));
+        not_both (is_slot m n) (over.within n (has_row t n u at)) (next.least n (omega (arith, least, far)) b));
   }
 
 -- How many wait for points from this one on

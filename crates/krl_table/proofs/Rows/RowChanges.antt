@@ -1,20 +1,19 @@
 -- What a change of the kept rows means.
-use Rattle.krl_table.proofs.Names.{◌≡◌, ◌≢◌, ℕ, zero, suc, ◌<◌, Bool, true, false, cond, List, [], ◌∷◌, Option, Some, None, IsSome, length, set, refl, sym, ap, subst, ◌∙◌, ⊎_elim, nat_eq}
+use Rattle.krl_table.proofs.Names.{◌≡◌, ◌≢◌, ℕ, zero, suc, ◌<◌, Bool, true, false, cond, List, [], ◌∷◌, Option, Some, None, IsSome, length, set, refl, sym, ap, subst, ◌∙◌, ◌⊎◌, inl, inr, ⊎_elim, nat_eq}
 use Rattle.krl_table.proofs.Names.{eq-eqb, ne_eqb, get_or-set_same, get_or-set_other, fun_ext, slice_get, if◌then◌else◌, nat_cmp, FinMap, get, insert, remove, get-insert}
-use Rattle.krl_table.proofs.Names.{get-remove, Mode, Waiter, SlotRow, Row, Rows, blank_row, set_row, set_mode, front_of, Kept, mode_of, row_of, row_there, rows_of, IsSet, AreSet}
+use Rattle.krl_table.proofs.Names.{get-remove, Mode, In, Waiter, SlotRow, Row, Rows, blank_row, set_row, set_mode, with_mode, front_of, Kept, mode_of, row_of, row_there, rows_of, IsSet, AreSet}
 use Rattle.std.proofs.Math.ListN.{replicate}
-use Rattle.std.specs.Cmp.{nat_cmp_total}
+use Rattle.std.specs.Cmp.{nat_cmp_total, unsigned_tied}
 use Rattle.krl_modes.specs.declared.mode.Mode.TheVariants as mode
 pub use Rattle.krl_store.proofs.Finding.{eq_cases}
-use Rattle.krl_store.proofs.Finding.{test_is}
 
 -- Look-ups
 
 pub get-put : (t : Kept) (k : ℕ) (r : SlotRow) (n : ℕ) → get (insert t k r) n ≡ cond (nat_eq n k) (Some r) (get t n)
-get-put t k r n = get-insert nat_cmp_total t k r n ∙ ap (λ b. cond b (Some r) (get t n)) (test_is n k)
+get-put t k r n = get-insert nat_cmp_total t k r n ∙ ap (λ b. cond b (Some r) (get t n)) (unsigned_tied n k)
 
 pub get-gone : (t : Kept) (k n : ℕ) → get (remove t k) n ≡ cond (nat_eq n k) None (get t n)
-get-gone t k n = get-remove nat_cmp_total t k n ∙ ap (λ b. cond b None (get t n)) (test_is n k)
+get-gone t k n = get-remove nat_cmp_total t k n ∙ ap (λ b. cond b None (get t n)) (unsigned_tied n k)
 
 pub rows-put : (t : Kept) (k : ℕ) (r : SlotRow) (n : ℕ) → rows_of (insert t k r) n ≡ set_row (rows_of t) k (row_of r) n
 rows-put t k r n = ap row_there (get-put t k r n) ∙ by_test (nat_eq n k)
@@ -154,16 +153,33 @@ by_two t u i a j b h P x y rest n = eq_cases n i
     (λ e. subst P (sym (ap (rows_of u) e ∙ h.second)) y)
     (λ nj. subst P (sym (ap row_there (h.others n ni nj))) (rest n)))
 
+-- and who waited in one of the two waits in one of them
+pub goes_two : (t u : Kept) (i : ℕ) (a : Row) (j : ℕ) (b : Row) → AreSet t u i a j b → (w : Waiter) → (In w (rows_of t i).queue → In w a.queue ⊎ In w b.queue) → (In w (rows_of t j).queue → In w a.queue ⊎ In w b.queue) → (n : ℕ) → In w (rows_of t n).queue → (k : ℕ) × In w (rows_of u k).queue
+goes_two t u i a j b h w x y n = eq_cases n i
+    (λ e at. there (x (subst (λ k. In w (rows_of t k).queue) e at)))
+    (λ ni. eq_cases n j
+    (λ e at. there (y (subst (λ k. In w (rows_of t k).queue) e at)))
+    (λ nj at. (n, subst (λ (r : Row). In w r.queue) (sym (ap row_there (h.others n ni nj))) at)))
+  where
+    there : In w a.queue ⊎ In w b.queue → (k : ℕ) × In w (rows_of u k).queue
+    there (inl at) = (i, subst (λ (r : Row). In w r.queue) (sym h.first) at)
+    there (inr at) = (j, subst (λ (r : Row). In w r.queue) (sym h.second) at)
+
+-- where at most one client's mode is another, the queue is as it was
+pub queue_stays : (b : Bool) (row : Row) (c : ℕ) (g : Mode) → (if b then with_mode row c g else row).queue ≡ row.queue
+queue_stays true row c g = refl
+queue_stays false row c g = refl
+
 -- Keys of any map
 
 pub insert_at : {X : Type 0} (m : FinMap nat_cmp X) (k : ℕ) (v : X) → get (insert m k v) k ≡ Some v
-insert_at m k v = get-insert nat_cmp_total m k v k ∙ ap (λ b. cond b (Some v) (get m k)) (test_is k k ∙ eq-eqb k k refl)
+insert_at m k v = get-insert nat_cmp_total m k v k ∙ ap (λ b. cond b (Some v) (get m k)) (unsigned_tied k k ∙ eq-eqb k k refl)
 
 pub insert_past : {X : Type 0} (m : FinMap nat_cmp X) (k : ℕ) (v : X) (n : ℕ) → n ≢ k → get (insert m k v) n ≡ get m n
-insert_past m k v n ne = get-insert nat_cmp_total m k v n ∙ ap (λ b. cond b (Some v) (get m n)) (test_is n k ∙ ne_eqb n k ne)
+insert_past m k v n ne = get-insert nat_cmp_total m k v n ∙ ap (λ b. cond b (Some v) (get m n)) (unsigned_tied n k ∙ ne_eqb n k ne)
 
 pub remove_at : {X : Type 0} (m : FinMap nat_cmp X) (k : ℕ) → get (remove m k) k ≡ None
-remove_at m k = get-remove nat_cmp_total m k k ∙ ap (λ b. cond b None (get m k)) (test_is k k ∙ eq-eqb k k refl)
+remove_at m k = get-remove nat_cmp_total m k k ∙ ap (λ b. cond b None (get m k)) (unsigned_tied k k ∙ eq-eqb k k refl)
 
 pub remove_past : {X : Type 0} (m : FinMap nat_cmp X) (k n : ℕ) → n ≢ k → get (remove m k) n ≡ get m n
-remove_past m k n ne = get-remove nat_cmp_total m k n ∙ ap (λ b. cond b None (get m n)) (test_is n k ∙ ne_eqb n k ne)
+remove_past m k n ne = get-remove nat_cmp_total m k n ∙ ap (λ b. cond b None (get m n)) (unsigned_tied n k ∙ ne_eqb n k ne)

@@ -5,7 +5,7 @@ use Rattle.std.specs.Prelude.{is_some, IsSome}
 use Rattle.std.specs.FinMap as map
 use Rattle.std.specs.FinMap.Entries.{find}
 use Rattle.krl_durable.proofs.SlotLaws.{from_zero, first_is, low_is, keys_of_map_rise, end_test}
-use Rattle.krl_durable.proofs.InitialEntries.{none_of}
+use Rattle.krl_modes.proofs.Basics.{not_both}
 
 pub some_true : {X : Type 0} (o : Option X) → IsSome o → is_some o ≡ true
 some_true None h = absurd (cc)
@@ -15,24 +15,13 @@ pub none_false : {X : Type 0} (o : Option X) → o ≡ None → is_some o ≡ fa
 none_false None e = refl
 none_false (Some x) e = absurd (cc)
 
--- neither END nor a key
-free : (b : Bool) (o : Option Value) → (b || is_some o) ≡ false → (b ≡ false) × (o ≡ None)
-free true o e = absurd (cc)
-free false o e = (refl, none_of o e)
-
 -- or END, or a key
 taken : (b : Bool) (o : Option Value) → (b || is_some o) ≡ true → b ≡ false → o ≡ None → ⊥
 taken true o e f g = absurd (cc)
 taken false None e f g = absurd (cc)
 taken false (Some v) e f g = absurd (cc)
 
-pub slot_twice : (b : Bool) → b ≡ true → b ≡ false → ⊥
-slot_twice b e f = absurd (cc)
-
 module _ (m : Index) where
-  no_key : (k : ℕ) → is_slot m k ≡ false → (k ≢ END) × (map.get m k ≡ None)
-  no_key k e = let x = free (nat_eq k END) (map.get m k) e in (eqb-false k END x.0, x.1)
-
   a_key : (k : ℕ) → is_slot m k ≡ true → k ≢ END → map.get m k ≡ None → ⊥
   a_key k h ne e = taken (nat_eq k END) (map.get m k) h (end_test k ne) e
 
@@ -42,8 +31,8 @@ module _ (m : Index) where
   -- a point has one slot
   pub slot_same : (p i j : ℕ) → IsSlotOf m p i → IsSlotOf m p j → i ≡ j
   slot_same p i j a b = ⊎_elim
-      (λ (x : i < j). absurd (slot_twice (is_slot m i) a.slot (b.least i a.above x)))
-      (λ (x : j ≤ i). ⊎_elim (λ (y : j < i). absurd (slot_twice (is_slot m j) b.slot (a.least j b.above y))) (λ (y : i ≤ j). omega (arith, x, y)) (cases_lt j i))
+      (λ (x : i < j). absurd (not_both (is_slot m i) a.slot (b.least i a.above x)))
+      (λ (x : j ≤ i). ⊎_elim (λ (y : j < i). absurd (not_both (is_slot m j) b.slot (a.least j b.above y))) (λ (y : i ≤ j). omega (arith, x, y)) (cases_lt j i))
       (cases_lt i j)
 
   -- the first point of a span lies in it

@@ -20,7 +20,7 @@ find_some p (x ∷ xs) n at e = by_test (p x) refl at (λ h. find_some p xs n h 
     by_test false f (inl g) ih = absurd (let clash : p x ≡ true = ap p (sym g) ∙ e in cc)
     by_test false f (inr h) ih = ih h
 
-some_first : (c : ℕ) (us : List Waiter) (u : Waiter) → In u us → u.client ≡ c → is_some (first_of c us) ≡ true
+pub some_first : (c : ℕ) (us : List Waiter) (u : Waiter) → In u us → u.client ≡ c → is_some (first_of c us) ≡ true
 some_first c us u at e = by_first (first_of c us) refl
   where
     by_first : (o : Option Waiter) → first_of c us ≡ o → is_some o ≡ true
