@@ -229,13 +229,14 @@ release_lowers s near r l old new rt kt n slot (inr low) = cut low.0
     (λ q span. range_span s near new n q slot span ∙ low.1 ∙ ap (λ x. range_meet x r.range) (sym (range_span s near old n q slot span) ∙ sym (rt q)))
     (key_slot s near new n slot ∙ low.2 ∙ ap (λ x. key_meet x r.key) (sym (key_slot s near old n slot) ∙ sym (kt n)))
 
+-- a change at one point below the end
+near_changed : (s : Shared) (near : KeysNear s) (k : ℕ) (index : ℕ → Option Value) → k < s.end → ((q : ℕ) → q ≢ k → index q ≡ s.index q) → KeysNear (record s { index = index })
+near_changed s near k index lt rest q le = rest q (λ e. omega (arith, e, lt, le)) ∙ near q le
+
 -- a split at k, where the new slot's range part is the old one there: no range part changes, and of the key parts only that at k
 module _ (s : Shared) (near : KeysNear s) (k : ℕ) (v : Value) (index : ℕ → Option Value) (old new : ℕ → Mode) (lt : k < s.end) (absent : s.index k ≡ None) (at : index k ≡ Some v) (rest : (q : ℕ) → q ≢ k → index q ≡ s.index q) (part : (range_of (new k)) ≡ range_at s old k) (others : (n : ℕ) → n ≢ k → (range_of (new n) ≡ range_of (old n)) × (key_of (new n) ≡ key_of (old n))) where
   grown : Shared
   grown = record s { index = index }
-
-  near_grown : KeysNear (record s { index = index })
-  near_grown q le = rest q (λ e. omega (arith, e)) ∙ near q le
 
   not_before : (q : ℕ) → index q ≡ None → s.index q ≡ None
   not_before q none = sym (rest q (λ e. none-some v (sym none ∙ ap index e ∙ at))) ∙ none
@@ -249,7 +250,7 @@ module _ (s : Shared) (near : KeysNear s) (k : ℕ) (v : Value) (index : ℕ →
       (λ (le : q ≤ s.end).
       let x = slot_of_spec (record s { index = index }) q le in
       let n = slot_of (record s { index = index }) q in
-      range_span (record s { index = index }) near_grown new n q x.0 x.1 ∙ eq_cases n k
+      range_span (record s { index = index }) (near_changed s near k index lt rest) new n q x.0 x.1 ∙ eq_cases n k
       (λ e. ap (λ y. (range_of (new y))) e ∙ part ∙ sym (spread (subst (λ y. InSpan (record s { index = index }) y q) e x.1)))
       (λ ne. (others n ne).0 ∙ sym (range_span s near old n q (λ far none. x.0 far (rest n ne ∙ none)) (split_span n q x.1))))
       (cases_lt s.end q)
@@ -258,19 +259,16 @@ module _ (s : Shared) (near : KeysNear s) (k : ℕ) (v : Value) (index : ℕ →
       spread span = row_span s (range_at s old) (key_at s old) (table_row s near old) (k - q) k q (omega (arith, span.0)) (split_span k q span)
 
   pub split_key : (q : ℕ) → q ≢ k → key_at (record s { index = index }) new q ≡ key_at s old q
-  split_key q ne = point_cases (record s { index = index }) near_grown q
+  split_key q ne = point_cases (record s { index = index }) (near_changed s near k index lt rest) q
       (λ far. key_far (record s { index = index }) new q far ∙ sym (key_far s old q far))
-      (λ n slot span off none. key_off (record s { index = index }) near_grown new q off none ∙ ap off_slot (split_range q) ∙ sym (key_off s near old q off (not_before q none)))
-      (λ slot. key_slot (record s { index = index }) near_grown new q slot ∙ (others q ne).1 ∙ sym (key_slot s near old q (λ far none. slot far (rest q ne ∙ none))))
+      (λ n slot span off none. key_off (record s { index = index }) (near_changed s near k index lt rest) new q off none ∙ ap off_slot (split_range q) ∙ sym (key_off s near old q off (not_before q none)))
+      (λ slot. key_slot (record s { index = index }) (near_changed s near k index lt rest) new q slot ∙ (others q ne).1 ∙ sym (key_slot s near old q (λ far none. slot far (rest q ne ∙ none))))
 
   pub split_here : key_at (record s { index = index }) new k ≡ key_of (new k)
-  split_here = key_slot (record s { index = index }) near_grown new k (λ far none. none-some v (sym none ∙ at))
+  split_here = key_slot (record s { index = index }) (near_changed s near k index lt rest) new k (λ far none. none-some v (sym none ∙ at))
 
 -- a merge of k into the next slot, where both have the same range part and k's key part is what that part gives: no range part and no key part changes
 module _ (s : Shared) (near : KeysNear s) (k : ℕ) (u : Value) (index : ℕ → Option Value) (modes : ℕ → Mode) (lt : k < s.end) (present : s.index k ≡ Some u) (at : index k ≡ None) (rest : (q : ℕ) → q ≢ k → index q ≡ s.index q) (same : range_at s modes k ≡ range_at s modes (suc k)) (x : key_at s modes k ≡ off_slot (range_at s modes k)) where
-  near_less : KeysNear (record s { index = index })
-  near_less q le = rest q (λ e. omega (arith, e)) ∙ near q le
-
   slot_less : (n : ℕ) → IsSlot (record s { index = index }) n → IsSlot s n
   slot_less n slot far none = eq_cases n k (λ e. none-some u (sym none ∙ ap s.index e ∙ present)) (λ ne. slot far (rest n ne ∙ none))
 
@@ -289,13 +287,13 @@ module _ (s : Shared) (near : KeysNear s) (k : ℕ) (u : Value) (index : ℕ →
       (λ (le : q ≤ s.end).
       let y = slot_of_spec (record s { index = index }) q le in
       let n = slot_of (record s { index = index }) q in
-      range_span (record s { index = index }) near_less modes n q y.0 y.1 ∙ sym (range_slot s near modes n (slot_less n y.0)) ∙ sym (along (n - q) n q (omega (arith, y.1.0)) y.1))
+      range_span (record s { index = index }) (near_changed s near k index lt rest) modes n q y.0 y.1 ∙ sym (range_slot s near modes n (slot_less n y.0)) ∙ sym (along (n - q) n q (omega (arith, y.1.0)) y.1))
       (cases_lt s.end q)
 
   pub merge_key : (q : ℕ) → key_at (record s { index = index }) modes q ≡ key_at s modes q
-  merge_key q = point_cases (record s { index = index }) near_less q
+  merge_key q = point_cases (record s { index = index }) (near_changed s near k index lt rest) q
       (λ far. key_far (record s { index = index }) modes q far ∙ sym (key_far s modes q far))
-      (λ n slot span off none. key_off (record s { index = index }) near_less modes q off none ∙ ap off_slot (merge_range q) ∙ eq_cases q k
+      (λ n slot span off none. key_off (record s { index = index }) (near_changed s near k index lt rest) modes q off none ∙ ap off_slot (merge_range q) ∙ eq_cases q k
       (λ e. subst (λ y. off_slot (range_at s modes y) ≡ key_at s modes y) (sym e) (sym x))
       (λ ne. sym (key_off s near modes q off (sym (rest q ne) ∙ none))))
-      (λ slot. key_slot (record s { index = index }) near_less modes q slot ∙ sym (key_slot s near modes q (slot_less q slot)))
+      (λ slot. key_slot (record s { index = index }) (near_changed s near k index lt rest) modes q slot ∙ sym (key_slot s near modes q (slot_less q slot)))
