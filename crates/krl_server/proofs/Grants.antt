@@ -3,12 +3,13 @@ use Rattle.krl_server.proofs.Names.{◌≡◌, ◌≢◌, ℕ, zero, suc, ◌≤
 use Rattle.krl_server.proofs.Names.{eq-eqb, ltb-true, cases_lt, and_parts, nat_tests, nat_lt, nat_le, is_some, if◌then◌else◌, filter, AllByRecursion, nat_cmp, find, END, needs_entry, Value, Waiter}
 use Rattle.krl_server.proofs.Names.{eq_cases, Index, first_or_end, slot_of, low_of, is_slot, Rows, mode_at, set_row, with_mode, wanted, grant_first, granted_first, raised, raised_on}
 use Rattle.krl_server.proofs.Names.{is_wanted_compatible, Durable, Server, holding, holdings, find_here, find_past, IsWhole}
+use Rattle.krl_table.proofs.Invariant.Compatible.{mode_other}
 use Rattle.std.specs.FinMap as fin
 use Rattle.krl_table.specs.Grants.{nobody_waits, can_take, goes_on, taken_after, taken_by, taken, granted_by, granted, most_more}
 use Rattle.krl_table.proofs.Rows.Slots.{low_under}
 use Rattle.krl_messages.specs.Several.{IsBefore, Ascend, most_holdings}
 use Rattle.krl_server.proofs.Slots.{is_slot_true, span_here}
-use Rattle.krl_server.proofs.Updates.{row_here, row_other, mode_other, row_modes}
+use Rattle.krl_server.proofs.Updates.{row_here, row_other, row_modes}
 use Rattle.krl_server.proofs.Tests.{if_case}
 use mathlib.Core.Bool.{or-true}
 

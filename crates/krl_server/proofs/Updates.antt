@@ -1,6 +1,6 @@
 -- What is set at one place is there, and every other place is as it was.
 use Rattle.krl_server.proofs.Names.{◌≡◌, ◌≢◌, ℕ, Bool, true, false, [], ◌∷◌, Some, None, refl, sym, ap, subst, ◌∙◌, nat_eq, eq-eqb, ne_eqb, eqb-true, arith, cond, not, List, nat_tests, nat_cmp}
-use Rattle.krl_server.proofs.Names.{eq_by_cmp, Mode, Value, Record, Register, record_of, with_record, Index, eq_cases, Row, Rows, mode_at, set_row, set_mode, column, Session, set_session, lists}
+use Rattle.krl_server.proofs.Names.{eq_by_cmp, Value, Record, Register, record_of, with_record, Index, eq_cases, Row, Rows, mode_at, set_row, column, Session, set_session, lists}
 use Rattle.krl_server.proofs.Names.{unlist}
 use Rattle.std.specs.Prelude.{if◌then◌else◌, ◌||◌}
 use Rattle.std.specs.Cmp.{nat_cmp_total}
@@ -11,12 +11,6 @@ row_here rows n row = ap (λ b. if b then row else rows n) (eq-eqb n n refl)
 
 pub row_other : (rows : Rows) (n : ℕ) (row : Row) (k : ℕ) → k ≢ n → set_row rows n row k ≡ rows k
 row_other rows n row k ne = ap (λ b. if b then row else rows k) (ne_eqb k n ne)
-
-pub mode_here : (modes : ℕ → Mode) (c : ℕ) (g : Mode) → set_mode modes c g c ≡ g
-mode_here modes c g = ap (λ b. if b then g else modes c) (eq-eqb c c refl)
-
-pub mode_other : (modes : ℕ → Mode) (c d : ℕ) (g : Mode) → d ≢ c → set_mode modes c g d ≡ modes d
-mode_other modes c d g ne = ap (λ b. if b then g else modes d) (ne_eqb d c ne)
 
 pub session_here : (sessions : ℕ → Session) (c : ℕ) (x : Session) → set_session sessions c x c ≡ x
 session_here sessions c x = ap (λ b. if b then x else sessions c) (eq-eqb c c refl)

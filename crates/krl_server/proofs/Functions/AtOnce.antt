@@ -20,7 +20,8 @@ use Rattle.krl_server.proofs.Invariant.Sounds.{effect_sound}
 use Rattle.krl_server.proofs.Invariant.Kept.{effect_table}
 use Rattle.krl_server.proofs.Invariant.WaitersAfter.{all_came}
 use Rattle.krl_server.proofs.Functions.Facts.{facts_of, waits_nowhere}
-use Rattle.krl_server.proofs.Functions.Rooms.{in_first, few_waiting, one_more_client}
+use Rattle.krl_server.proofs.Functions.Rooms.{few_waiting, one_more_client}
+use Rattle.krl_table.proofs.Rows.Waiters.{some_first}
 use Rattle.krl_server.proofs.Outputs.Numbers.{calls_few}
 
 not_true : (b : Bool) → true ≡ not b → b ≡ false
@@ -139,7 +140,7 @@ module _ (s : Server) (u : Waiter) (table : IsTable s.durable.index s.rows) (set
 
   other_client : (k : ℕ) (v : Waiter) → In v (s.rows k).queue → v.client ≢ u.client
   other_client k v at e =
-      let none : true ≡ false = sym (in_first u.client (s.rows k).queue v at e) ∙ ap is_some (free k) in
+      let none : true ≡ false = sym (some_first u.client (s.rows k).queue v at e) ∙ ap is_some (free k) in
       absurd (cc)
 
   other_session : (d : ℕ) → d ≢ u.client → (queues (acknowledged s u.client) u).sessions d ≡ s.sessions d

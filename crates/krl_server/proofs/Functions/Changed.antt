@@ -1,5 +1,5 @@
 -- What a write that is Applied asks of the table, and what it leaves over the index.
-use Rattle.krl_server.proofs.Names.{◌≡◌, ℕ, suc, ◌≤◌, ◌<◌, Bool, true, false, ◌||◌, Option, Some, None, refl, sym, ap, subst, ◌∙◌, arith, nat_eq, ltb-true, END, Value, WriteOp, Outcome, eq_cases}
+use Rattle.krl_server.proofs.Names.{◌≡◌, ℕ, suc, ◌≤◌, ◌<◌, Bool, true, false, ◌||◌, None, refl, sym, ap, subst, ◌∙◌, arith, nat_eq, ltb-true, END, Value, WriteOp, Outcome, eq_cases}
 use Rattle.krl_server.proofs.Names.{Index, slot_of, is_slot, IsSlotOf, op_key, held, judge, index_after, most_entries, column, Kept, rows_of, IsOver, MayInsert, MayDelete}
 use Rattle.std.specs.Prelude.{is_some, not, nat_lt, length}
 use Rattle.std.specs.FinMap as map
@@ -9,7 +9,7 @@ use Rattle.krl_table.proofs.Rows.Slots.{slot_is, next_of}
 use Rattle.krl_server.proofs.Updates.{get_here, get_other}
 use Rattle.krl_server.proofs.Invariant.WritesSound.{insert_may, change_may}
 use Rattle.krl_server.proofs.Invariant.Within.{insert_room}
-use Rattle.krl_server.proofs.Tests.{none_some}
+use Rattle.krl_modes.proofs.Basics.{None-if_not_some}
 use mathlib.Core.Bool.{or-true}
 
 room_left : (n : ℕ) → not (nat_lt n most_entries) ≡ false → n < most_entries
@@ -66,7 +66,7 @@ insert_asks m t c op o k v e f lt is =
     let may = insert_may (is_some (map.get m k)) (held m (column (rows_of t) c) (write.Insert k v)) (not (nat_lt (length (map.entries m)) most_entries)) judged in
     record {
       key = subst (λ x. op_key x < END) e lt;
-      free = none_some (map.get m k) may.0;
+      free = None-if_not_some (map.get m k) may.0;
       room = room_left (length (map.entries m)) (insert_room (is_some (map.get m k)) (held m (column (rows_of t) c) (write.Insert k v)) (not (nat_lt (length (map.entries m)) most_entries)) judged);
       may = may.1;
     }

@@ -6,7 +6,8 @@ use Rattle.krl_server.proofs.Names.{Judges, AnswersAgain, is_malformed, case_of_
 use Rattle.krl_messages.specs.declared.to_server.ToServerBody.TheVariants as said
 use Rattle.krl_server.specs.declared.case.Case.{Case as Found}
 use Rattle.krl_server.specs.declared.case.After.TheVariants as after
-use Rattle.krl_server.proofs.Tests.{if_case, none_some}
+use Rattle.krl_modes.proofs.Basics.{None-if_not_some}
+use Rattle.krl_server.proofs.Tests.{if_case}
 use Rattle.krl_server.proofs.Cased.{by_said}
 use Rattle.krl_server.proofs.Outputs.Numbers.{sixty_four}
 use Rattle.krl_server.proofs.Invariant.Tabled.{slots_have, any_in}
@@ -117,5 +118,5 @@ pub waits_nowhere : (m : Index) (rows : Rows) (c : ℕ) → IsTable m rows → w
 waits_nowhere m rows c table e n = by_slot (is_slot m n) refl
   where
     by_slot : (b : Bool) → is_slot m n ≡ b → first_of c (rows n).queue ≡ None
-    by_slot true f = none_some (first_of c (rows n).queue) (any_in (λ k. is_some (first_of c (rows k).queue)) (slots m) n e (slots_have m n f))
+    by_slot true f = None-if_not_some (first_of c (rows n).queue) (any_in (λ k. is_some (first_of c (rows k).queue)) (slots m) n e (slots_have m n f))
     by_slot false f = ap (λ r. first_of c r.queue) (table.blank n f)

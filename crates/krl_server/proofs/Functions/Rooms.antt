@@ -1,10 +1,11 @@
 -- There is room for all that a step sends.
-use Rattle.krl_server.proofs.Names.{◌≡◌, ℕ, zero, suc, ◌+◌, ◌≤◌, ◌<◌, Bool, true, false, ◌||◌, Option, Some, None, List, [], ◌∷◌, ◌⊎◌, inl, inr, refl, sym, ap, subst, ◌∙◌, ⊎_elim, arith, nat_eq}
-use Rattle.krl_server.proofs.Names.{eqb-true, eqb-false, is_some, if◌then◌else◌, list_any, ToServer, In, Waiter, first_of, eq_cases, Index, slots, is_slot, Rows, most_clients, waits, IsTable, Server}
-use Rattle.krl_server.proofs.Names.{Case, effect, IsSound, waiting, count_below, waiting_clients}
+use Rattle.krl_server.proofs.Names.{◌≡◌, ℕ, zero, suc, ◌+◌, ◌≤◌, ◌<◌, Bool, true, false, ◌||◌, Some, List, [], ◌∷◌, ◌⊎◌, inl, inr, refl, sym, ap, subst, ◌∙◌, ⊎_elim, arith, nat_eq}
+use Rattle.krl_server.proofs.Names.{eqb-true, is_some, if◌then◌else◌, list_any, ToServer, In, Waiter, first_of, eq_cases, Index, slots, is_slot, Rows, most_clients, waits, IsTable, Server}
+use Rattle.krl_server.proofs.Names.{none_times, Case, effect, IsSound, waiting, count_below, waiting_clients}
+use Rattle.krl_table.proofs.Rows.Waiters.{some_first}
 use Rattle.krl_server.proofs.Invariant.Tabled.{slots_have, any_in}
-use Rattle.krl_server.proofs.Tests.{not_truth, none_some}
-use Rattle.krl_server.proofs.Outputs.Counted.{sum_below, slots_are, none_on, not_found, once_on, clients_of, slots_apart, times_on}
+use Rattle.krl_modes.proofs.Basics.{None-if_not_some, not_both}
+use Rattle.krl_server.proofs.Outputs.Counted.{sum_below, slots_are, none_on, once_on, clients_of, slots_apart, times_on}
 use Rattle.krl_server.proofs.Invariant.WaitersAfter.{asks, Came}
 
 -- Waiters of a client
@@ -16,15 +17,6 @@ first_in c (u ∷ us) e = by_eq (nat_eq u.client c) refl e (first_in c us)
     by_eq : (b : Bool) → nat_eq u.client c ≡ b → is_some (if b then Some u else first_of c us) ≡ true → (is_some (first_of c us) ≡ true → (v : Waiter) × In v us × (v.client ≡ c)) → (v : Waiter) × In v (u ∷ us) × (v.client ≡ c)
     by_eq true f g ih = (u, inl refl, eqb-true u.client c f)
     by_eq false f g ih = let x = ih g in (x.0, inr x.1, x.2)
-
-pub in_first : (c : ℕ) (us : List Waiter) (u : Waiter) → In u us → u.client ≡ c → is_some (first_of c us) ≡ true
-in_first c [] u at e = absurd at
-in_first c (v ∷ vs) u at e = by_eq (nat_eq v.client c) refl at (in_first c vs u)
-  where
-    by_eq : (b : Bool) → nat_eq v.client c ≡ b → In u (v ∷ vs) → (In u vs → u.client ≡ c → is_some (first_of c vs) ≡ true) → is_some (if b then Some v else first_of c vs) ≡ true
-    by_eq true f at ih = refl
-    by_eq false f (inl g) ih = absurd (eqb-false v.client c f (ap (λ w. w.client) (sym g) ∙ e))
-    by_eq false f (inr h) ih = ih h e
 
 any_some : (p : ℕ → Bool) (ns : List ℕ) → list_any p ns ≡ true → (n : ℕ) × In n ns × (p n ≡ true)
 any_some p [] e = absurd (cc)
@@ -45,7 +37,7 @@ some_any p (k ∷ ks) n (inr at) e = by_test (p k) (some_any p ks n at e)
 
 -- who stands in a queue waits
 pub in_waits : (m : Index) (rows : Rows) (n : ℕ) (u : Waiter) → IsTable m rows → In u (rows n).queue → waits m rows u.client ≡ true
-in_waits m rows n u table at = some_any (λ n. is_some (first_of u.client (rows n).queue)) (slots m) n (slots_have m n (by_slot (is_slot m n) refl)) (in_first u.client (rows n).queue u at refl)
+in_waits m rows n u table at = some_any (λ n. is_some (first_of u.client (rows n).queue)) (slots m) n (slots_have m n (by_slot (is_slot m n) refl)) (some_first u.client (rows n).queue u at refl)
   where
     by_slot : (b : Bool) → is_slot m n ≡ b → is_slot m n ≡ true
     by_slot true e = e
@@ -114,7 +106,7 @@ few_waiting s sound table =
     let is = slots_are s.rows most_clients (slots m) (λ k. clients_of m s.rows table k (s.rows k).queue (table.placed k)) in
     let few = sum_count most_clients (λ c. times_on s.rows c (slots m)) (waits m s.rows)
     (λ c. once_on m s.rows table c (slots m) (slots_apart m sound.near))
-    (λ c e. none_on s.rows c (slots m) (λ k at. not_found c (s.rows k).queue (none_some (first_of c (s.rows k).queue) (any_in (λ n. is_some (first_of c (s.rows n).queue)) (slots m) k e at)))) in
+    (λ c e. none_on s.rows c (slots m) (λ k at. none_times c (s.rows k).queue (None-if_not_some (first_of c (s.rows k).queue) (any_in (λ n. is_some (first_of c (s.rows n).queue)) (slots m) k e at)))) in
     omega (arith, is, few)
 
 -- A case brings at most the waiter that it takes
@@ -128,7 +120,7 @@ module _ (s : Server) (m : ToServer) (k : Case) (came : Came s m k) (old : IsTab
 
   pub no_more_clients : asks k ≡ false → waiting_clients (effect s m k).server ≤ waiting_clients s
   no_more_clients isnt = count_fewer most_clients (waits (effect s m k).server.durable.index (effect s m k).server.rows) (waits s.durable.index s.rows)
-      (λ c e. ⊎_elim (λ (x : waits s.durable.index s.rows c ≡ true). x) (λ (x : (asks k ≡ true) × (c ≡ m.client)). absurd (not_truth (asks k) isnt x.0)) (now_waits c e))
+      (λ c e. ⊎_elim (λ (x : waits s.durable.index s.rows c ≡ true). x) (λ (x : (asks k ≡ true) × (c ≡ m.client)). absurd (not_both (asks k) x.0 isnt)) (now_waits c e))
 
   pub one_more_client : waiting_clients (effect s m k).server ≤ suc (waiting_clients s)
   one_more_client = count_one_more most_clients (waits (effect s m k).server.durable.index (effect s m k).server.rows) (waits s.durable.index s.rows) m.client

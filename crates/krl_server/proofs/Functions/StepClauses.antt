@@ -10,7 +10,8 @@ use Rattle.krl_messages.specs.declared.to_client.ToClientBody.{ToClientBody}
 use Rattle.krl_messages.specs.declared.to_client.ToClientBody.TheVariants as told
 use Rattle.krl_messages.specs.declared.to_client.PushBody.TheVariants as push
 use Rattle.krl_server.specs.Effects as effects
-use Rattle.krl_server.proofs.Tests.{if_both, not_truth}
+use Rattle.krl_modes.proofs.Basics.{not_both}
+use Rattle.krl_server.proofs.Tests.{if_both}
 use Rattle.krl_server.proofs.Updates.{session_here}
 use Rattle.krl_server.proofs.Invariant.AnswersSound.{answered_up}
 use Rattle.krl_server.proofs.Outputs.Ends.{pushes_durable}
@@ -24,8 +25,8 @@ changes_said : (s : Server) (m : ToServer) → may_change_durable s m ≡ false 
 changes_said s m = by_said s m (λ k. may_change_durable s m ≡ false → changes_durable k ≡ false)
     (record {
       ignored = λ no. refl;
-      registers = λ near newer said no. absurd (not_truth (may_change_durable s m) no (ap (may_change (record_of s.durable.register m.client)) said));
-      leaves = λ r from said no. absurd (not_truth (may_change_durable s m) no (ap (may_change (record_of s.durable.register m.client)) said));
+      registers = λ near newer said no. absurd (not_both (may_change_durable s m) (ap (may_change (record_of s.durable.register m.client)) said) no);
+      leaves = λ r from said no. absurd (not_both (may_change_durable s m) (ap (may_change (record_of s.durable.register m.client)) said) no);
       tells = λ no. refl;
       alarms = λ r epoch pieces from said now missing bad no. refl;
       rebuilds = λ r epoch pieces from said now missing fine no. refl;
@@ -33,11 +34,11 @@ changes_said s m = by_said s m (λ k. may_change_durable s m ≡ false → chang
       acknowledges = λ r request b a no. refl;
       lowers = λ r request span keep a no. refl;
       waits = λ r request req point hi g a new free near no. refl;
-      judges = λ r request number op o a under near new is no. absurd (not_truth (may_change_durable s m) no
+      judges = λ r request number op o a under near new is no. absurd (not_both (may_change_durable s m)
           (ap (λ x. may_change x m.body) a.served.from.known
           ∙ ap (may_change (Some r)) a.said
           ∙ ap (is_new_write (Some r)) a.asked
-          ∙ eq-eqb number (suc r.last) new));
+          ∙ eq-eqb number (suc r.last) new) no);
       answers_again = λ r request number op o a under some last is no. refl;
     })
 
@@ -102,7 +103,7 @@ called t o x = ap (λ (y : ToClient). is_callback y.body) x.4
 no_calls_of : (k : Kind) (t : Server) → (k ≢ Acts) ⊎ (is_recovering t.missing ≡ true) → is_recovering t.missing ≡ false → NoneIs is_callback (calls_of k t)
 no_calls_of Idle t why up = λ o at. absurd at
 no_calls_of Quiet t why up = λ o at. absurd at
-no_calls_of Acts t why up = absurd (⊎_elim (λ (ne : Acts ≢ Acts). ne refl) (λ (g : is_recovering t.missing ≡ true). not_truth (is_recovering t.missing) up g) why)
+no_calls_of Acts t why up = absurd (⊎_elim (λ (ne : Acts ≢ Acts). ne refl) (λ (g : is_recovering t.missing ≡ true). not_both (is_recovering t.missing) g up) why)
 
 no_calls : (done : Done) (kind : Kind) (t : Server) (outs : List ToClient) → Ends done kind t outs → NoneIs is_callback done.outs → (kind ≢ Acts) ⊎ (is_recovering t.missing ≡ true) → NoneIs is_callback outs
 no_calls done kind t outs (at_once e) own why = own
@@ -113,12 +114,12 @@ no_calls done kind t outs (serves t' answers acted up rest) own why =
 
 the_calls : (done : Done) (kind : Kind) (t : Server) (outs : List ToClient) → Ends done kind t outs → NoneIs is_callback done.outs → kind ≡ Acts → is_recovering t.missing ≡ false → (o : ToClient) → (In o outs × (is_callback o.body ≡ true)) ↔ IsCallback t o
 the_calls done kind t outs (at_once e) own acts up o = absurd (let bad : Idle ≡ Acts = sym e ∙ acts in cc)
-the_calls done kind t outs (recovers g) own acts up o = absurd (not_truth (is_recovering done.server.missing) up g)
+the_calls done kind t outs (recovers g) own acts up o = absurd (not_both (is_recovering done.server.missing) g up)
 the_calls done kind t outs (serves t' answers acted begun rest) own acts up o = (
   (λ x. ⊎_elim
-      (λ (y : In o done.outs). absurd (not_truth (is_callback o.body) (own o y) x.1))
+      (λ (y : In o done.outs). absurd (not_both (is_callback o.body) x.1 (own o y)))
       (λ (y : In o (answers ++ calls_of kind t)). ⊎_elim
-      (λ (z : In o answers). absurd (not_truth (is_callback o.body) (no_calls_answered done.server t answers rest o z) x.1))
+      (λ (z : In o answers). absurd (not_both (is_callback o.body) x.1 (no_calls_answered done.server t answers rest o z)))
       (λ (z : In o (calls_of kind t)). (all_said.callbacks t o).0 (subst (λ k. In o (calls_of k t)) acts z))
       (in_both answers (calls_of kind t) o y))
       (in_both done.outs (answers ++ calls_of kind t) o x.0)),

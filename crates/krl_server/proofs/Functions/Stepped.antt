@@ -1,7 +1,7 @@
 -- A step: there is room for it, and it ends as it should.
 use Rattle.std.proofs.Common.{◌≡◌, ◌≢◌, ℕ, suc, ◌+◌, ◌*◌, ◌≤◌, Bool, true, false, Some, None, List, [], ◌++◌, length, refl, sym, ap, subst, ◌∙◌, arith}
 use Rattle.krl_server.proofs.Names.{append-nil, if◌then◌else◌, ToClient, ToServer, conflicts, IsTable, Server, Case, Ignored, Registers, Leaves, Tells, Alarms, Rebuilds, Repeats, Acknowledges}
-use Rattle.krl_server.proofs.Names.{Lowers, Waits, Judges, AnswersAgain, case_of, is_alarm, judged, Done, effect, acknowledged, writes, Kind, Idle, Quiet, Acts, kind_of, calls_of, Ends, at_once}
+use Rattle.krl_server.proofs.Names.{Lowers, Waits, Judges, AnswersAgain, case_of, is_alarm, judged, Done, effect, acknowledged, writes, Idle, kind_of, calls_of, Ends, at_once}
 use Rattle.krl_server.proofs.Names.{recovers, serves, meant, case_of_pieces, after_of, waiting, IsSound, Sent, Sends, own_of, room_for, waiting_clients, calls_after, Finished, rests}
 use Rattle.krl_server.proofs.Names.{still_recovering, served, HasRoom, alarm_of}
 use Rattle.krl_messages.specs.declared.to_server.ToServerBody.{ToServerBody}

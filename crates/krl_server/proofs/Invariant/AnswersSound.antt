@@ -1,10 +1,11 @@
 -- A server stays sound where it pushes and where it answers first waiters, and the missing are as they were.
-use Rattle.krl_server.proofs.Names.{◌≡◌, ℕ, false, refl, ap, ◌∙◌, ◌≢◌, ◌<◌, Some, List, ◌∷◌, ◌⊎◌, inl, inr, sym, subst, ⊎_elim, arith, nat_lt, END, PushBody, In, ToClient, Waiter, Row, Rows}
+use Rattle.krl_server.proofs.Names.{◌≡◌, ℕ, false, refl, ap, ◌∙◌, ◌≢◌, ◌<◌, Some, List, ◌∷◌, inl, inr, sym, subst, ⊎_elim, arith, nat_lt, END, PushBody, In, ToClient, Waiter, Row, Rows}
 use Rattle.krl_server.proofs.Names.{most_clients, mode_at, set_row, set_mode, with_mode, with_queue, wanted, behind_first, dropped, raised_on, taken_after, taken, granted, most_more, asks_absent}
 use Rattle.krl_server.proofs.Names.{Server, is_recovering, Done, acknowledged, pushes, with_rows, holdings, IsSound, Turn, next_turn, tells_absent, grants, answer_first, Answered, stops, goes_on}
+use Rattle.krl_table.proofs.Invariant.Compatible.{mode_other}
 use Rattle.krl_messages.specs.declared.to_client.PushBody.TheVariants as push
 use Rattle.krl_server.proofs.Tests.{if_both}
-use Rattle.krl_server.proofs.Updates.{mode_other, row_modes}
+use Rattle.krl_server.proofs.Updates.{row_modes}
 use Rattle.krl_server.proofs.Grants.{raised_queue, along, granted_is}
 use Rattle.krl_server.proofs.Turns.{turn_is, in_row}
 

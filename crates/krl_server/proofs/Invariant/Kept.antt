@@ -10,7 +10,8 @@ use Rattle.krl_messages.specs.declared.to_client.PushBody.TheVariants as push
 use Rattle.krl_server.specs.Effects as effects
 use Rattle.krl_server.specs.Invariant.{ServerKeeps}
 use Rattle.krl_server.proofs.Updates.{record_here, record_other}
-use Rattle.krl_server.proofs.Tests.{not_truth, if_case}
+use Rattle.krl_modes.proofs.Basics.{not_both}
+use Rattle.krl_server.proofs.Tests.{if_case}
 use Rattle.krl_server.proofs.Turns.{turn_is}
 use Rattle.krl_server.proofs.Invariant.AnswersSound.{turn_sound, answering_sound}
 use Rattle.krl_server.proofs.Invariant.Sounds.{effect_sound}
@@ -156,7 +157,7 @@ idle_same s m (AnswersAgain number op o) e = absurd (cc)
 
 ends_settled : (done : Done) (kind : Kind) (t : Server) (outs : List ToClient) → Ends done kind t outs → (kind ≡ Idle → IsSettled done.server) → IsSettled t
 ends_settled done kind t outs (at_once e) h = h e
-ends_settled done kind t outs (recovers e) h = λ up. absurd (not_truth (is_recovering done.server.missing) up e)
+ends_settled done kind t outs (recovers e) h = λ up. absurd (not_both (is_recovering done.server.missing) e up)
 ends_settled done kind t outs (serves t' answers a b c) h = λ up. answered_settled done.server t answers c
 
 -- where nobody waits, nobody is answered

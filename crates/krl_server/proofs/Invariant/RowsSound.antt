@@ -1,8 +1,8 @@
 -- A server stays sound where it lowers a client or takes its report, and it is sound where it starts.
 use Rattle.krl_server.proofs.Names.{◌≡◌, ◌≢◌, ℕ, ◌<◌, Bool, true, false, ◌&&◌, refl, sym, subst, ◌∙◌, arith, ◌≤◌, None, if◌then◌else◌, Mode, meet, Bounds, within, END, In, Pieces, Index, span_of}
 use Rattle.krl_server.proofs.Names.{is_slot, Durable, Row, Rows, most_clients, mode_at, with_mode, lowered, rebuilt, adopted, Server, lowers, adopts, IsSound}
+use Rattle.krl_table.proofs.Invariant.Compatible.{mode_other}
 use Rattle.std.specs.FinMap as map
-use Rattle.krl_server.proofs.Updates.{mode_other}
 use Rattle.krl_server.specs.Steps as steps
 
 module _ (m : Index) (rows : Rows) (c : ℕ) (span : Bounds) (keep : Mode) where

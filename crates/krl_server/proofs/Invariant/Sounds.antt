@@ -2,11 +2,12 @@
 use Rattle.krl_server.proofs.Names.{◌≡◌, ℕ, ◌≤◌, ◌<◌, false, not, Option, Some, None, refl, sym, ap, subst, ◌∙◌, ⊎_elim, END, WriteOp, Outcome, ToServer, Waiter, eq_cases, Record, slot_of, record_of}
 use Rattle.krl_server.proofs.Names.{left_by, op_key, is_applied, In, Row, Rows, most_clients, mode_at, with_queue, queue_with, cleared, in_unqueue, in_queue_with, Server, Judges, judged, case_of}
 use Rattle.krl_server.proofs.Names.{effect, acknowledged, queues, departs, IsSound}
+use Rattle.krl_table.proofs.Invariant.Compatible.{mode_here, mode_other}
 use Rattle.krl_modes.specs.declared.mode.Mode.TheVariants as mode
 use Rattle.krl_messages.specs.declared.outcome.Outcome.TheVariants as outcome
 use Rattle.krl_messages.specs.declared.to_client.PushBody.TheVariants as push
 use Rattle.krl_server.specs.Effects as effects
-use Rattle.krl_server.proofs.Updates.{row_modes, mode_here, mode_other}
+use Rattle.krl_server.proofs.Updates.{row_modes}
 use Rattle.krl_server.proofs.Invariant.AnswersSound.{acknowledged_sound, pushes_sound}
 use Rattle.krl_server.proofs.Invariant.WritesSound.{with_noted, refusal_is, writes_sound}
 use Rattle.krl_server.proofs.Turns.{in_row}

@@ -4,13 +4,15 @@ use Rattle.krl_server.proofs.Names.{is_some, if◌then◌else◌, END, Mode, com
 use Rattle.krl_server.proofs.Names.{most_clients, mode_at, set_row, set_mode, is_compatible_there, waits, with_mode, with_queue, lowered, unqueue, cleared, queue_with, enqueued, wanted, behind_first}
 use Rattle.krl_server.proofs.Names.{dropped, raised, granted, most_more, rebuilt, conflicts, adopted, is_wanted_compatible, IsPlaced, times, AreCompatible, one, times_more, times_fewer, times_with}
 use Rattle.krl_server.proofs.Names.{none_times, alone_fewer, alone_new, meet_compatible, none_compatible, turned, other_compatible, in_unqueue, in_queue_with}
+use Rattle.krl_table.proofs.Invariant.Compatible.{mode_here, mode_other}
 use Rattle.std.specs.FinMap as fin
 use Rattle.krl_modes.specs.declared.mode.Mode.TheVariants as mode
 use Rattle.krl_server.proofs.Slots.{slot_here, is_slot_false}
-use Rattle.krl_server.proofs.Updates.{row_here, row_other, row_modes, mode_here, mode_other}
+use Rattle.krl_server.proofs.Updates.{row_here, row_other, row_modes}
 use Rattle.krl_server.proofs.Invariant.RowsSound.{low_row, lowered_queue, lowered_others}
 use Rattle.krl_server.proofs.Turns.{in_row}
-use Rattle.krl_server.proofs.Tests.{not_truth, none_some, if_case}
+use Rattle.krl_modes.proofs.Basics.{None-if_not_some, not_both}
+use Rattle.krl_server.proofs.Tests.{if_case}
 use Rattle.krl_server.proofs.Grants.{along, granted_is, raised_queue, raised_others}
 use Rattle.krl_server.proofs.Invariant.Tabled.{IsKept, slots_have, all_in, any_in, same_compatible, compatible_row, slot_waits}
 
@@ -73,7 +75,7 @@ nowhere : (m : Index) (rows : Rows) (c : ℕ) → IsKept m rows → waits m rows
 nowhere m rows c k e n = by_slot (is_slot m n) refl
   where
     by_slot : (b : Bool) → is_slot m n ≡ b → times c (rows n).queue ≡ 0
-    by_slot true f = none_times c (rows n).queue (none_some (first_of c (rows n).queue) (any_in (λ n. is_some (first_of c (rows n).queue)) (slots m) n e (slots_have m n f)))
+    by_slot true f = none_times c (rows n).queue (None-if_not_some (first_of c (rows n).queue) (any_in (λ n. is_some (first_of c (rows n).queue)) (slots m) n e (slots_have m n f)))
     by_slot false f = subst (λ r. times c r.queue ≡ 0) (sym (k.blank n f)) (omega arith)
 
 -- one row with other waiters, of whom no client has more than before but those for whom that is allowed
@@ -106,7 +108,7 @@ enqueued_kept m rows u near lt le free k = record {
     row = with_queue (rows (slot_of m u.point)) (queue_with (rows (slot_of m u.point)) u)
 
     apart : (j : ℕ) → is_slot m j ≡ false → j ≢ slot_of m u.point
-    apart j e f = not_truth (is_slot m j) e (ap (is_slot m) f ∙ slot_there m near u.point le)
+    apart j e f = not_both (is_slot m j) (ap (is_slot m) f ∙ slot_there m near u.point le) e
 
     here : (c : ℕ) → times c (enqueued m rows u (slot_of m u.point)).queue ≡ times c (queue_with (rows (slot_of m u.point)) u)
     here c = ap (λ r. times c r.queue) (row_here rows (slot_of m u.point) (with_queue (rows (slot_of m u.point)) (queue_with (rows (slot_of m u.point)) u)))
@@ -142,7 +144,7 @@ front_kept m rows n u us row k queue rest same fit = record {
     first = subst (In u) (sym queue) (inl refl)
 
     apart : (j : ℕ) → is_slot m j ≡ false → j ≢ n
-    apart j e f = not_truth (is_slot m n) (ap (is_slot m) (sym f) ∙ e) (slot_waits m rows k n u first)
+    apart j e f = not_both (is_slot m n) (slot_waits m rows k n u first) (ap (is_slot m) (sym f) ∙ e)
 
 pub dropped_kept : (m : Index) (rows : Rows) (n : ℕ) (u : Waiter) (us : List Waiter) → IsKept m rows → (rows n).queue ≡ u ∷ us → IsKept m (dropped rows n)
 dropped_kept m rows n u us k queue = subst (IsKept m) (ap (λ q. set_row rows n (with_queue (rows n) (behind_first q))) (sym queue))
@@ -163,7 +165,7 @@ granted_kept m rows n u us k queue can = subst (IsKept m) (sym (granted_is m row
 
     raised_kept : (r : Rows) (j : ℕ) → n < j → is_slot m j ≡ true → is_wanted_compatible r j u ≡ true → IsKept m r → IsKept m (raised r j u)
     raised_kept r j far there is_compatible_there x = changed_kept m r (raised r j u) u.client lt x
-        (λ i e. row_other r j (with_mode (r j) u.client (wanted (r j) u)) i (λ f. not_truth (is_slot m i) e (ap (is_slot m) f ∙ there)))
+        (λ i e. row_other r j (with_mode (r j) u.client (wanted (r j) u)) i (λ f. not_both (is_slot m i) (ap (is_slot m) f ∙ there) e))
         (raised_queue r j u)
         (λ i d ne. sym (raised_others r j u d ne i))
         (λ i d ne. eq_cases i j

@@ -1,5 +1,5 @@
 -- A write that is Applied keeps what holds of every table.
-use Rattle.krl_server.proofs.Names.{◌≡◌, ◌≢◌, ℕ, suc, ◌+◌, ◌≤◌, ◌<◌, Bool, true, false, ◌||◌, Some, None, ◌++◌, refl, sym, ap, ◌∙◌, arith, nat_eq, ne_eqb, is_some, END, range_of, Value, WriteOp}
+use Rattle.krl_server.proofs.Names.{◌≡◌, ◌≢◌, ℕ, suc, ◌+◌, ◌≤◌, ◌<◌, true, false, ◌||◌, Some, None, ◌++◌, refl, sym, ap, ◌∙◌, arith, nat_eq, ne_eqb, is_some, END, range_of, Value, WriteOp}
 use Rattle.krl_server.proofs.Names.{up_to, beyond, eq_cases, Index, slot_of, is_slot, op_key, held, judge, written, Row, Rows, blank_row, most_clients, mode_at, column, set_row, with_queue}
 use Rattle.krl_server.proofs.Names.{split_modes, split, merged, rows_written, times, AreCompatible, times_both, times_parted, AreAlone, alone_moved, split_compatible}
 use Rattle.std.specs.FinMap as map
@@ -10,7 +10,7 @@ use Rattle.krl_server.proofs.Slots.{slot_here}
 use Rattle.krl_server.proofs.Updates.{row_here, row_other, get_here, get_other, gone_other}
 use Rattle.krl_server.proofs.Invariant.Placed.{two_rows, ArePlaced, put_placed, split_from, split_placed, merge_from, merge_placed, split_strangers, merge_strangers}
 use Rattle.krl_server.proofs.Invariant.WritesSound.{insert_may, change_may}
-use Rattle.krl_server.proofs.Tests.{not_truth, none_some, some_of}
+use Rattle.krl_modes.proofs.Basics.{None-if_not_some, not_both, Some-if_some}
 use mathlib.Core.Bool.{or-true}
 use Rattle.krl_server.proofs.Invariant.Tabled.{IsKept}
 use Rattle.krl_server.proofs.Invariant.TableKept.{slot_there}
@@ -41,14 +41,14 @@ module _ (m : Index) (near : (q : ℕ) → END ≤ q → map.get m q ≡ None) (
 
       still : (j : ℕ) → is_slot (map.insert m k v) j ≡ false → is_slot m j ≡ false
       still j e = eq_cases j k
-          (λ f. absurd (not_truth (is_slot (map.insert m k v) j) e (ap (λ o. nat_eq j END || is_some o) (ap (map.get (map.insert m k v)) f ∙ get_here m k v) ∙ or-true (nat_eq j END))))
+          (λ f. absurd (not_both (is_slot (map.insert m k v) j) (ap (λ o. nat_eq j END || is_some o) (ap (map.get (map.insert m k v)) f ∙ get_here m k v) ∙ or-true (nat_eq j END)) e))
           (λ ne. ap (λ o. nat_eq j END || is_some o) (sym (get_other m k v j ne)) ∙ e)
 
   split_kept : (k : ℕ) (v : Value) (c : ℕ) → k < END → c < most_clients → map.get m k ≡ None → lets_insert (range_of (mode_at rows (slot_of m k) c)) ≡ true → IsKept (map.insert m k v) (split m rows k c)
   split_kept k v c lt own absent may = record {
     blank = λ j e. two_rows rows n k j at_n at_k (λ r. r ≡ blank_row)
-        (λ f. absurd (not_truth (is_slot (map.insert m k v) j) e (ap (λ o. nat_eq j END || is_some o) (ap (map.get (map.insert m k v)) f ∙ get_here m k v) ∙ or-true (nat_eq j END))))
-        (λ ne f. absurd (not_truth (is_slot m j) (still j ne e) (ap (is_slot m) f ∙ there)))
+        (λ f. absurd (not_both (is_slot (map.insert m k v) j) (ap (λ o. nat_eq j END || is_some o) (ap (map.get (map.insert m k v)) f ∙ get_here m k v) ∙ or-true (nat_eq j END)) e))
+        (λ ne f. absurd (not_both (is_slot m j) (ap (is_slot m) f ∙ there) (still j ne e)))
         (λ ne no. kept.blank j (still j ne e));
     strangers = split_strangers m rows k c own kept.strangers;
     beside = λ j. two_rows rows n k j at_n at_k (λ r. AreCompatible r.modes) (λ f. split_compatible (rows n).modes c may (kept.beside n)) (λ ne f. kept.beside n) (λ ne no. kept.beside j);
@@ -72,7 +72,7 @@ module _ (m : Index) (near : (q : ℕ) → END ≤ q → map.get m q ≡ None) (
       gone = ap (λ o. nat_eq k END || is_some o) absent ∙ ap (λ b. b || false) (ne_eqb k END (λ f. omega (arith, f, lt)))
 
       apart : slot_of m k ≢ k
-      apart f = not_truth (is_slot m k) gone (ap (is_slot m) (sym f) ∙ there)
+      apart f = not_both (is_slot m k) (ap (is_slot m) (sym f) ∙ there) gone
 
       near' : (q : ℕ) → END ≤ q → map.get (map.insert m k v) q ≡ None
       near' q le = get_other m k v q (λ f. omega (arith, f, le, lt)) ∙ near q le
@@ -83,7 +83,7 @@ module _ (m : Index) (near : (q : ℕ) → END ≤ q → map.get m q ≡ None) (
   merge_kept : (k : ℕ) (w : Value) → k < END → map.get m k ≡ Some w → IsKept (map.remove m k) (merged m rows k)
   merge_kept k w lt present = record {
     blank = λ j e. two_rows rows n k j at_n blank_row (λ r. r ≡ blank_row) (λ f. refl)
-        (λ ne f. absurd (not_truth (is_slot m j) (still j ne e) (ap (is_slot m) f ∙ slot_there m near (suc k) (omega (arith, lt)))))
+        (λ ne f. absurd (not_both (is_slot m j) (ap (is_slot m) f ∙ slot_there m near (suc k) (omega (arith, lt))) (still j ne e)))
         (λ ne no. kept.blank j (still j ne e));
     strangers = merge_strangers m rows k kept.strangers;
     beside = λ j. two_rows rows n k j at_n blank_row (λ r. AreCompatible r.modes) (λ f c d ne. refl) (λ ne f. kept.beside n) (λ ne no. kept.beside j);
@@ -108,6 +108,6 @@ module _ (m : Index) (near : (q : ℕ) → END ≤ q → map.get m q ≡ None) (
 
   -- the write of c
   pub written_kept : (c : ℕ) (op : WriteOp) → c < most_clients → op_key op < END → judge m op (held m (column rows c) op) ≡ outcome.Applied → IsKept (written m op) (rows_written m rows c op)
-  written_kept c (write.Insert k v) own lt e = let x = insert_may (is_some (map.get m k)) _ _ e in split_kept k v c lt own (none_some (map.get m k) x.0) x.1
-  written_kept c (write.Put k v) own lt e = let p = some_of (map.get m k) (change_may (is_some (map.get m k)) _ e).0 in put_kept k v p.0 lt p.1
-  written_kept c (write.Delete k) own lt e = let p = some_of (map.get m k) (change_may (is_some (map.get m k)) _ e).0 in merge_kept k p.0 lt p.1
+  written_kept c (write.Insert k v) own lt e = let x = insert_may (is_some (map.get m k)) _ _ e in split_kept k v c lt own (None-if_not_some (map.get m k) x.0) x.1
+  written_kept c (write.Put k v) own lt e = let p = Some-if_some (map.get m k) (change_may (is_some (map.get m k)) _ e).0 in put_kept k v p.0 lt p.1
+  written_kept c (write.Delete k) own lt e = let p = Some-if_some (map.get m k) (change_may (is_some (map.get m k)) _ e).0 in merge_kept k p.0 lt p.1

@@ -5,7 +5,7 @@ use Rattle.krl_server.proofs.Names.{Waiter, first_of, eq_cases, Index, slots, is
 use Rattle.krl_server.proofs.Names.{none_times, times_none, AreAlone, alone_here, none_compatible, or_true, all_below_at}
 use Rattle.std.specs.FinMap as fin
 use Rattle.krl_modes.specs.declared.mode.Mode.TheVariants as mode
-use Rattle.krl_server.proofs.Tests.{not_truth, none_some}
+use Rattle.krl_modes.proofs.Basics.{None-if_not_some, not_both}
 
 -- Slots
 
@@ -21,7 +21,7 @@ keys_in (e ∷ es) n some = eq_cases n e.0 (λ f. inl f)
 -- a slot stands in the list of all slots
 pub slots_have : (m : Index) (n : ℕ) → is_slot m n ≡ true → In n (slots m)
 slots_have m n e = eq_cases n END (λ f. subst (λ x. In x (slots m)) (sym f) (end_in (fin.entries m)))
-    (λ ne. keys_in (fin.entries m) n (λ none. not_truth (is_slot m n) (ap (λ b. b || is_some (fin.get m n)) (ne_eqb n END ne) ∙ ap is_some (fin.get-entries m n ∙ none)) e))
+    (λ ne. keys_in (fin.entries m) n (λ none. not_both (is_slot m n) e (ap (λ b. b || is_some (fin.get m n)) (ne_eqb n END ne) ∙ ap is_some (fin.get-entries m n ∙ none))))
 
 pub all_in : (p : ℕ → Bool) (ns : List ℕ) (n : ℕ) → list_all p ns ≡ true → In n ns → p n ≡ true
 all_in p [] n e at = absurd at
@@ -78,10 +78,10 @@ kept_of m rows t = record {
   where
     by_first : (c i j : ℕ) → i ≢ j → (b : Bool) → is_some (first_of c (rows i).queue) ≡ b → times c (rows i).queue + times c (rows j).queue ≤ 1
     by_first c i j ne true e = let x = none_times c (rows j).queue (t.nowhere_else i j c ne e) in let y = t.once i c in omega (arith, x, y)
-    by_first c i j ne false e = let x = none_times c (rows i).queue (none_some (first_of c (rows i).queue) e) in let y = t.once j c in omega (arith, x, y)
+    by_first c i j ne false e = let x = none_times c (rows i).queue (None-if_not_some (first_of c (rows i).queue) e) in let y = t.once j c in omega (arith, x, y)
 
 some_times : (c : ℕ) (us : List Waiter) → is_some (first_of c us) ≡ true → times c us ≡ 0 → ⊥
-some_times c us e f = not_truth (is_some (first_of c us)) (ap is_some (times_none c us f)) e
+some_times c us e f = not_both (is_some (first_of c us)) e (ap is_some (times_none c us f))
 
 pub table_of : (m : Index) (rows : Rows) → IsKept m rows → IsTable m rows
 table_of m rows k = record {

@@ -14,7 +14,8 @@ use Rattle.krl_messages.specs.declared.to_client.PushBody.TheVariants as push
 use Rattle.krl_server.specs.Effects as effects
 use Rattle.krl_server.proofs.Invariant.Registered.{step_here}
 use Rattle.krl_server.proofs.Updates.{session_here, session_other, record_here, record_other, unlist_here, unlist_other}
-use Rattle.krl_server.proofs.Tests.{not_truth, if_both, if_case}
+use Rattle.krl_modes.proofs.Basics.{not_both}
+use Rattle.krl_server.proofs.Tests.{if_both, if_case}
 use Rattle.krl_server.proofs.Invariant.WritesSound.{change_may}
 use Rattle.krl_server.proofs.Cased.{by_case}
 use Rattle.krl_server.proofs.Outputs.Counted.{few_apart}
@@ -96,7 +97,7 @@ unlisted_apart (e ∷ es) c h = by_eq (nat_eq c e) (unlisted_apart es c h.1)
 
 -- who is still missing was, and is another than c
 still_missing : (ms : List ℕ) (c d : ℕ) → lists (unlist ms c) d ≡ true → (d ≢ c) × (lists ms d ≡ true)
-still_missing ms c d e = let ne : d ≢ c = λ f. not_truth (lists (unlist ms c) d) (ap (lists (unlist ms c)) f ∙ unlist_here ms c) e in (ne, sym (unlist_other ms c d ne) ∙ e)
+still_missing ms c d e = let ne : d ≢ c = λ f. not_both (lists (unlist ms c) d) e (ap (lists (unlist ms c)) f ∙ unlist_here ms c) in (ne, sym (unlist_other ms c d ne) ∙ e)
 
 ordered_known : (es : Register) (c : ℕ) → AreApart (clients_of es) → lists (missing_order es) c ≡ true → (r : Record) × (record_of es c ≡ Some r) × (r.left ≡ false)
 ordered_known [] c h e = absurd (cc)

@@ -7,7 +7,7 @@ use Rattle.krl_modes.specs.declared.mode.Mode.TheVariants as mode
 use Rattle.krl_messages.specs.declared.outcome.Outcome.TheVariants as outcome
 use Rattle.krl_messages.specs.declared.write_op.WriteOp.TheVariants as write
 use Rattle.krl_server.proofs.Invariant.AnswersSound.{pushes_sound}
-use Rattle.krl_server.proofs.Tests.{none_some, some_of}
+use Rattle.krl_modes.proofs.Basics.{None-if_not_some, Some-if_some}
 use Rattle.krl_server.proofs.Updates.{get_other, gone_other}
 use Rattle.krl_server.proofs.Invariant.Placed.{ArePlaced, ComeFrom, put_placed, split_from, split_placed, merge_from, merge_placed, split_strangers, merge_strangers}
 
@@ -69,7 +69,7 @@ pub record Lasts (s : Server) (c : ℕ) (op : WriteOp) : Type 0 where
 
 pub lasts : (s : Server) (c : ℕ) (op : WriteOp) → IsSound s → c < most_clients → op_key op < END → judged s c op ≡ outcome.Applied → Lasts s c op
 lasts s c (write.Insert k v) i own under e =
-    let absent = none_some (map.get s.durable.index k) (insert_may (is_some (map.get s.durable.index k)) _ _ e).0 in
+    let absent = None-if_not_some (map.get s.durable.index k) (insert_may (is_some (map.get s.durable.index k)) _ _ e).0 in
     let near : (q : ℕ) → END ≤ q → map.get (map.insert s.durable.index k v) q ≡ None = λ q le. get_other s.durable.index k v q (λ f. omega (arith, f, le, under)) ∙ i.near q le in
     record {
       near = near;
@@ -78,7 +78,7 @@ lasts s c (write.Insert k v) i own under e =
       strangers = split_strangers s.durable.index s.rows k c own i.strangers;
     }
 lasts s c (write.Put k v) i own under e =
-    let present = some_of (map.get s.durable.index k) (change_may (is_some (map.get s.durable.index k)) _ e).0 in
+    let present = Some-if_some (map.get s.durable.index k) (change_may (is_some (map.get s.durable.index k)) _ e).0 in
     let near : (q : ℕ) → END ≤ q → map.get (map.insert s.durable.index k v) q ≡ None = λ q le. get_other s.durable.index k v q (λ f. omega (arith, f, le, under)) ∙ i.near q le in
     record {
       near = near;
@@ -87,7 +87,7 @@ lasts s c (write.Put k v) i own under e =
       strangers = i.strangers;
     }
 lasts s c (write.Delete k) i own under e =
-    let present = some_of (map.get s.durable.index k) (change_may (is_some (map.get s.durable.index k)) _ e).0 in
+    let present = Some-if_some (map.get s.durable.index k) (change_may (is_some (map.get s.durable.index k)) _ e).0 in
     let near : (q : ℕ) → END ≤ q → map.get (map.remove s.durable.index k) q ≡ None = λ q le. gone_other s.durable.index k q (λ f. omega (arith, f, le, under)) ∙ i.near q le in
     record {
       near = near;

@@ -1,8 +1,7 @@
 -- Few wait, and so few are answered and few are called back.
-use Rattle.krl_server.proofs.Names.{◌≡◌, ℕ, zero, suc, ◌+◌, ◌≤◌, ◌<◌, Bool, true, false, cond, Some, None, List, [], ◌∷◌, ◌++◌, map, length, inl, inr, refl, sym, ap, subst, ◌∙◌, ⊎_elim, arith}
-use Rattle.krl_server.proofs.Names.{nat_eq, eq-eqb, ne_eqb, eqb-true, cases_lt, eqb-false, none-some, is_some, AllByRecursion, nat_cmp, find, END, Value, In, Waiter, first_of, eq_cases, Index, slots}
-use Rattle.krl_server.proofs.Names.{Rows, one, most_clients, IsPlaced, IsTable, waiting_on, AreApart, Rises, find_here, From, from_above, find_past, keys_of_map_rise}
-use Rattle.std.proofs.lemmas.List.Recursion.{is_count_by}
+use Rattle.krl_server.proofs.Names.{◌≡◌, ℕ, zero, suc, ◌+◌, ◌≤◌, ◌<◌, Bool, true, false, Option, Some, None, List, [], ◌∷◌, ◌++◌, map, length, inl, inr, refl, sym, ap, subst, ◌∙◌, ⊎_elim, arith}
+use Rattle.krl_server.proofs.Names.{nat_eq, eq-eqb, ne_eqb, cases_lt, none-some, is_some, AllByRecursion, nat_cmp, find, END, Value, In, Waiter, first_of, eq_cases, Index, slots}
+use Rattle.krl_server.proofs.Names.{Rows, one, times, times_more, none_times, most_clients, IsPlaced, IsTable, waiting_on, AreApart, Rises, find_here, From, from_above, find_past, keys_of_map_rise}
 use Rattle.std.specs.FinMap as map
 
 -- Slots stand once in their list
@@ -30,11 +29,7 @@ slots_apart m near =
 
 -- Waiters, by client
 
--- how often the client waits in a queue, and on some slots
-abbrev pub times : ℕ → List Waiter → ℕ
-times c [] = 0
-times c (u ∷ us) = cond (nat_eq c u.client) (1 + times c us) (times c us)
-
+-- how often the client waits on some slots
 abbrev pub times_on : Rows → ℕ → List ℕ → ℕ
 times_on rows c [] = 0
 times_on rows c (n ∷ ns) = times c (rows n).queue + times_on rows c ns
@@ -68,10 +63,6 @@ sum_one (suc n) d lt = eq_cases n d
     let rest = sum_same n (λ c. one (nat_eq c d)) (λ c. 0) (λ c l. ap one (ne_eqb c d (λ f. omega (arith, e, f, l)))) in
     let none = sum_zero n in omega (arith, here, rest, none))
     (λ ne. let here = ap one (ne_eqb n d ne) in let ih = sum_one n d (omega (arith, ne, lt)) in omega (arith, here, ih))
-
-one_more : (b : Bool) (x : ℕ) → cond b (1 + x) x ≡ one b + x
-one_more true x = refl
-one_more false x = omega arith
 
 -- numbers below n that stand once are no more than n
 abbrev pub often : ℕ → List ℕ → ℕ
@@ -108,7 +99,7 @@ queue_is : (n : ℕ) (us : List Waiter) → AllByRecursion (λ u. u.client < n) 
 queue_is n [] h = sym (sum_zero n)
 queue_is n (u ∷ us) h =
     let ih = queue_is n us h.1 in
-    let split = sum_same n (λ c. times c (u ∷ us)) (λ c. one (nat_eq c u.client) + times c us) (λ c lt. one_more (nat_eq c u.client) (times c us)) in
+    let split = sum_same n (λ c. times c (u ∷ us)) (λ c. one (nat_eq c u.client) + times c us) (λ c lt. times_more c u us) in
     let add = sum_add n (λ c. one (nat_eq c u.client)) (λ c. times c us) in
     let one = sum_one n u.client h.0 in
     omega (arith, ih, split, add, one)
@@ -121,17 +112,13 @@ slots_are rows n (k ∷ ns) h =
     let add = sum_add n (λ c. times c (rows k).queue) (λ c. times_on rows c ns) in
     omega (arith, ih, here, add)
 
--- a client that is not found in a queue doesn't wait there
+-- who waits in a queue is found there
 found : (c : ℕ) (us : List Waiter) → 1 ≤ times c us → is_some (first_of c us) ≡ true
-found c [] le = absurd (omega (arith, le))
-found c (u ∷ us) le = by_eq (nat_eq c u.client) refl le (found c us)
+found c us le = by_first (first_of c us) refl
   where
-    by_eq : (b : Bool) → nat_eq c u.client ≡ b → 1 ≤ cond b (1 + times c us) (times c us) → (1 ≤ times c us → is_some (first_of c us) ≡ true) → is_some (first_of c (u ∷ us)) ≡ true
-    by_eq true e le ih = ap (λ b. is_some (cond b (Some u) (first_of c us))) (eq-eqb u.client c (sym (eqb-true c u.client e)))
-    by_eq false e le ih = ap (λ b. is_some (cond b (Some u) (first_of c us))) (ne_eqb u.client c (λ f. eqb-false c u.client e (sym f))) ∙ ih le
-
-pub not_found : (c : ℕ) (us : List Waiter) → first_of c us ≡ None → times c us ≡ 0
-not_found c us none = ⊎_elim (λ (lt : times c us < 1). omega arith) (λ (le : 1 ≤ times c us). absurd (let e = found c us le in let f : is_some (first_of c us) ≡ false = ap is_some none in cc)) (cases_lt (times c us) 1)
+    by_first : (o : Option Waiter) → first_of c us ≡ o → is_some o ≡ true
+    by_first None e = absurd (let none = none_times c us e in omega (arith, none, le))
+    by_first (Some u) e = refl
 
 pub none_on : (rows : Rows) (c : ℕ) (ns : List ℕ) → ((k : ℕ) → In k ns → times c (rows k).queue ≡ 0) → times_on rows c ns ≡ 0
 none_on rows c [] h = refl
@@ -139,7 +126,7 @@ none_on rows c (n ∷ ns) h = let x = h n (inl refl) in let ih = none_on rows c 
 
 module _ (m : Index) (rows : Rows) (table : IsTable m rows) where
   times_once : (c n : ℕ) → times c (rows n).queue ≤ 1
-  times_once c n = let once = table.once n c in let e = is_count_by (times c) (λ u. nat_eq c u.client) refl (λ u us. refl) (rows n).queue in omega (arith, once, e)
+  times_once c n = table.once n c
 
   -- a client waits on at most one of the slots
   pub once_on : (c : ℕ) (ns : List ℕ) → AreApart ns → times_on rows c ns ≤ 1
@@ -148,7 +135,7 @@ module _ (m : Index) (rows : Rows) (table : IsTable m rows) where
       (λ (lt : times c (rows n).queue < 1). let ih = once_on c ns h.1 in omega (arith, ih, lt))
       (λ (le : 1 ≤ times c (rows n).queue).
       let here = times_once c n in
-      let rest = none_on rows c ns (λ k at. not_found c (rows k).queue (table.nowhere_else n k c (λ e. h.0 (subst (λ x. In x ns) (sym e) at)) (found c (rows n).queue le))) in
+      let rest = none_on rows c ns (λ k at. none_times c (rows k).queue (table.nowhere_else n k c (λ e. h.0 (subst (λ x. In x ns) (sym e) at)) (found c (rows n).queue le))) in
       omega (arith, here, rest))
       (cases_lt (times c (rows n).queue) 1)
 

@@ -5,7 +5,8 @@ use Rattle.krl_server.proofs.Names.{grant_first, granted_first, behind_first, dr
 use Rattle.krl_server.proofs.Names.{turn_at, turn_among, next_turn, tells_absent, grants, answer_first, Answered, stops, goes_on, Kind, Idle, Quiet, Acts, kind_of, calls_of, Ends, at_once, recovers}
 use Rattle.krl_server.proofs.Names.{serves, ServerStep, waiting_on, waiting}
 use Rattle.krl_server.proofs.Updates.{row_here, row_other}
-use Rattle.krl_server.proofs.Tests.{not_truth, if_both}
+use Rattle.krl_modes.proofs.Basics.{not_both}
+use Rattle.krl_server.proofs.Tests.{if_both}
 use Rattle.krl_server.proofs.Grants.{granted_queue}
 use Rattle.krl_server.proofs.Turns.{turn_is}
 
@@ -171,8 +172,8 @@ one_end done kind t u outs others a b = join (ended done kind t outs a) (ended d
   where
     join : (((kind ≡ Idle) ⊎ (is_recovering done.server.missing ≡ true)) × (t ≡ done.server) × (outs ≡ done.outs)) ⊎ ((answers : List ToClient) × (kind ≢ Idle) × (is_recovering done.server.missing ≡ false) × Answered done.server t answers × (outs ≡ done.outs ++ (answers ++ calls_of kind t))) → (((kind ≡ Idle) ⊎ (is_recovering done.server.missing ≡ true)) × (u ≡ done.server) × (others ≡ done.outs)) ⊎ ((answers : List ToClient) × (kind ≢ Idle) × (is_recovering done.server.missing ≡ false) × Answered done.server u answers × (others ≡ done.outs ++ (answers ++ calls_of kind u))) → (t ≡ u) × (outs ≡ others)
     join (inl x) (inl y) = (x.1 ∙ sym y.1, x.2 ∙ sym y.2)
-    join (inl x) (inr y) = absurd (⊎_elim (λ (e : kind ≡ Idle). y.1 e) (λ (g : is_recovering done.server.missing ≡ true). not_truth (is_recovering done.server.missing) y.2 g) x.0)
-    join (inr x) (inl y) = absurd (⊎_elim (λ (e : kind ≡ Idle). x.1 e) (λ (g : is_recovering done.server.missing ≡ true). not_truth (is_recovering done.server.missing) x.2 g) y.0)
+    join (inl x) (inr y) = absurd (⊎_elim (λ (e : kind ≡ Idle). y.1 e) (λ (g : is_recovering done.server.missing ≡ true). not_both (is_recovering done.server.missing) g y.2) x.0)
+    join (inr x) (inl y) = absurd (⊎_elim (λ (e : kind ≡ Idle). x.1 e) (λ (g : is_recovering done.server.missing ≡ true). not_both (is_recovering done.server.missing) g x.2) y.0)
     join (inr x) (inr y) = let z = one_answering done.server t u x.0 y.0 x.3 y.3 in
         (z.0, x.4 ∙ ap (λ v. done.outs ++ (v ++ calls_of kind t)) z.1 ∙ ap (λ v. done.outs ++ (y.0 ++ calls_of kind v)) z.0 ∙ sym y.4)
 

@@ -11,10 +11,7 @@ use Rattle.krl_server.proofs.Outputs.Ends.{pushes_few, answered_less, step_ends,
 use Rattle.krl_server.proofs.Invariant.Sounds.{effect_sound}
 use Rattle.krl_server.proofs.Invariant.Kept.{effect_table}
 use Rattle.krl_server.proofs.Outputs.Counted.{slots_apart, few_wait}
-
-pub sixty_four : most_clients ≡ 64
-unfolding most_clients
-sixty_four = refl
+pub use Rattle.krl_table.proofs.Rows.Below.{clients_are as sixty_four}
 
 many : most_messages ≡ 4097
 unfolding most_messages
