@@ -1,10 +1,9 @@
 -- What a client reports stands in its link; what the server sends is what a client takes; and whatever stands in a link
 -- stays there while no message goes.
 use Rattle.std.proofs.Common.{◌≡◌, ℕ, suc, ◌<◌, ◌∙◌, Bool, true, false, None, List, [], ◌∷◌, inl, refl, sym, ap, arith, nat_eq, if◌then◌else◌, eqb-true}
-use Rattle.krl_refinement.proofs.Names.{eqb-false, AllByRecursion, RangePart, KeyPart, range_join, key_join, IsWhole, contains, inside_span, Pieces, ToClientBody, PushBody, Head, Link, range_said}
+use Rattle.krl_refinement.proofs.Names.{eqb-false, AllByRecursion, range_join, key_join, IsWhole, contains, inside_span, Pieces, ToClientBody, PushBody, Head, Link, range_said}
 use Rattle.krl_refinement.proofs.Names.{reported_key, Belief, AreInOrder, AreAscending, Describes, report_of, push_of, RequestStands, Stands, IsTold, WasSent, Grows, IsFrom, Tells, IsTo}
 use mathlib.Core.Path.{fun_ext}
-use Rattle.krl_modes.specs.declared.part.RangePart.TheVariants as range
 use Rattle.krl_modes.specs.declared.part.KeyPart.TheVariants as key
 use Rattle.krl_messages.specs.declared.range_pieces.RangePiece.{RangePiece}
 use Rattle.krl_messages.specs.declared.key_pieces.KeyPiece.{KeyPiece}
@@ -16,24 +15,17 @@ use Rattle.krl_messages.specs.declared.to_client.ToClientBody.TheVariants as tol
 use Rattle.krl_messages.specs.declared.to_client.PushBody.TheVariants as push
 use Rattle.krl_machine.specs.Links as links
 use Rattle.krl_cache.specs.Kept as cache
+use Rattle.krl_cache.proofs.Described.{in_order_before}
 use Rattle.krl_table.proofs.ReportRows.PieceByPiece.{range_right, key_right}
 
 -- Reports. Where pieces stand apart, the first that speaks of a point is the join of all that do
-
-ranges_later : (xs : List RangePiece) (lo q : ℕ) → AreInOrder lo xs → q < lo → range_said xs q ≡ range.N
-ranges_later [] lo q h l = refl
-ranges_later (x ∷ xs) lo q h l = by_test (contains x.span q) refl (ranges_later xs x.span.hi q h.3 (let a = h.0 in let b = h.1 in omega arith))
-  where
-    by_test : (t : Bool) → contains x.span q ≡ t → range_said xs q ≡ range.N → (if t then range_join x.part (range_said xs q) else range_said xs q) ≡ range.N
-    by_test true e ih = let i = inside_span x.span q e in let a = h.0 in let b = i.0 in absurd (omega arith)
-    by_test false e ih = ih
 
 ranges_agree : (xs : List RangePiece) (lo q : ℕ) → AreInOrder lo xs → range_said xs q ≡ cache.range_said xs q
 ranges_agree [] lo q h = refl
 ranges_agree (x ∷ xs) lo q h = by_test (contains x.span q) refl (ranges_agree xs x.span.hi q h.3)
   where
     by_test : (t : Bool) → contains x.span q ≡ t → range_said xs q ≡ cache.range_said xs q → (if t then range_join x.part (range_said xs q) else range_said xs q) ≡ (if t then x.part else cache.range_said xs q)
-    by_test true e ih = let i = inside_span x.span q e in ap (range_join x.part) (ranges_later xs x.span.hi q h.3 i.1) ∙ range_right x.part
+    by_test true e ih = let i = inside_span x.span q e in ap (range_join x.part) (ih ∙ in_order_before x.span.hi q xs h.3 i.1) ∙ range_right x.part
     by_test false e ih = ih
 
 keys_later : (xs : List KeyPiece) (lo q : ℕ) → AreAscending lo xs → q < lo → reported_key xs q ≡ key.N

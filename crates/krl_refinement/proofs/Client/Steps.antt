@@ -9,7 +9,8 @@ use Rattle.krl_messages.specs.declared.write_op.WriteOp.TheVariants as op
 use Rattle.krl_machine.specs.Links
 use Rattle.krl_machine.specs.Links.{Op, op_key, Link, Shared, LinkStep, idle, next, MayIssue, head_of, starts, crashes, leaves, lowers, issues, speaks}
 use Rattle.krl_client.specs.declared.refused.CommandRefused.TheVariants as refused
-use Rattle.krl_cache.proofs.Truths.{none_left, outside_span}
+use Rattle.krl_modes.proofs.Basics.{None-if_not_some}
+use Rattle.krl_cache.proofs.Truths.{outside_span}
 use Rattle.krl_cache.proofs.Calls.{either_none}
 use Rattle.krl_messages.specs.Writes.{op_key as key_of_op}
 use Rattle.krl_modes.proofs.PartLaws.{range_is_X}
@@ -92,7 +93,7 @@ record MayWrite (k : Client) (change : WriteOp) : Type 0 where
 
 may_write : (k : Client) (change : WriteOp) → write_refusal k change ≡ None → MayWrite k change
 may_write k change e = let p1 = passed _ _ _ e in let p2 = passed _ _ _ p1.1 in let p3 = passed _ _ _ p2.1 in let p4 = passed _ _ _ p3.1 in
-    record { joined = not-false _ p2.0; free = none_left (outstanding k.written) p3.0; holds = not-false _ p4.0 }
+    record { joined = not-false _ p2.0; free = None-if_not_some (outstanding k.written) p3.0; holds = not-false _ p4.0 }
 
 -- no write is outstanding in the machine's client either
 nothing_out : (k : Client) (out : Option Op) → out ≡ op_shown (outstanding k.written) → outstanding k.written ≡ None → out ≡ None

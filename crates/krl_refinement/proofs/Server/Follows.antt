@@ -2,7 +2,7 @@
 use Rattle.krl_refinement.proofs.Names.{◌≡◌, ◌≢◌, ℕ, Bool, true, false, not, Option, Some, None, List, [], ◌∷◌, inl, inr, refl, sym, ap, subst, ◌∙◌, RangePart, KeyPart, ToClient, In, Waiter, Record}
 use Rattle.krl_refinement.proofs.Names.{record_of, range_at, key_at, Shared, Link, LinkSteps, Logged, Steps, none, eq_cases, steps_on, put, put_changed, link_steps, Session, Server, is_recovering}
 use Rattle.krl_refinement.proofs.Names.{lists, incarnation_or_0, Done, silent, with_session, session_here, session_other, WasSent, IsRecord, LinkIs, LinkShows, IsHeardOf, Shows, machine_phase, view}
-use Rattle.krl_refinement.proofs.Names.{world_of, BoundStays}
+use Rattle.krl_refinement.proofs.Names.{world_of, BoundStays, not_both}
 use Rattle.krl_machine.specs.Links as links
 
 -- the machine goes on to a world that shows the server after it; the bounds of those for whom cleared is true become N
@@ -54,11 +54,8 @@ steps_then s t of mid log log' log'' cleared done up client a f = record {
   shows = f.shows;
   sent = f.sent;
   clients = λ c. f.clients c ∙ client c;
-  bound = λ g. absurd (not_both (is_recovering done.server.missing) up g);
+  bound = λ g. absurd (not_both (is_recovering done.server.missing) g up);
 }
-  where
-    not_both : (b : Bool) → b ≡ false → b ≡ true → ⊥
-    not_both b e g = absurd (cc)
 
 pub one_out : (l : Link) (c : ℕ) (o : ToClient) → o.client ≡ c → WasSent l o.incarnation o.body → (x : ToClient) → In x (o ∷ []) → (x.client ≡ c) × WasSent l x.incarnation x.body
 one_out l c o e h x (inl f) = subst (λ y. (y.client ≡ c) × WasSent l y.incarnation y.body) (sym f) (e, h)

@@ -2,7 +2,7 @@
 use Rattle.krl_refinement.proofs.Names.{◌≡◌, ◌≢◌, ℕ, ◌<◌, Bool, true, false, Option, Some, List, [], ◌∷◌, inl, refl, sym, ap, subst, ◌∙◌, arith, none-some, In, Record, record_of, with_record}
 use Rattle.krl_refinement.proofs.Names.{new_record, left_by, mode_at, range_at, key_at, cleared, Notice, Link, next, idle, registers, sees_off, no_range, no_key, Logged, put, put_changed, Session}
 use Rattle.krl_refinement.proofs.Names.{Server, blank_session, lists, unlist, incarnation_or_0, silent, epoch_to, departs, same_range, same_key, blank_range, blank_key, mode_here, mode_other}
-use Rattle.krl_refinement.proofs.Names.{session_here, session_other, record_here, record_other, unlist_here, unlist_other, not_truth, WasSent, IsRecord, LinkIs, IsHeardOf, Shows, machine_phase}
+use Rattle.krl_refinement.proofs.Names.{session_here, session_other, record_here, record_other, unlist_here, unlist_other, not_both, WasSent, IsRecord, LinkIs, IsHeardOf, Shows, machine_phase}
 use Rattle.krl_refinement.proofs.Names.{view_of, view, BoundStays}
 use Rattle.krl_modes.specs.declared.mode.Mode.TheVariants as mode
 use Rattle.krl_table.proofs.Invariant.Stands.{in_unqueue}
@@ -70,7 +70,7 @@ leaves_follow s of log cleared' c inc r this others known at same h =
     (put_bound of c l cleared' (bound_blank (cleared' c) (of c) l this refl refl) others)
     (at_put (λ d y. LinkIs (view_of t.durable (machine_phase s.missing)) (record_of t.durable.register d) (lists t.missing d) (t.sessions d) (range_at m t.rows d) (key_at m t.rows d) y) of c l
     (record {
-      known = subst (λ o. IsRecord o l) (sym (record_here s.durable.register c x)) (record { reg = old.reg; left = refl; done = λ n. absurd (not_truth true n refl); applied = λ o n e. absurd (not_truth true n refl) });
+      known = subst (λ o. IsRecord o l) (sym (record_here s.durable.register c x)) (record { reg = old.reg; left = refl; done = λ n. absurd (not_both true refl n); applied = λ o n e. absurd (not_both true refl n) });
       missing = sym (unlist_here s.missing c);
       last_push = k.last_push;
       acked = k.acked;

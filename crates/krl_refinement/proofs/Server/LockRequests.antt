@@ -1,7 +1,7 @@
 -- A lock request that is taken.
-use Rattle.krl_refinement.proofs.Names.{◌≡◌, ℕ, Bool, true, List, ◌⊎◌, refl, sym, ap, subst, ◌∙◌, ⊎_elim, In, Waiter, slot_of, record_of, Row, set_row, range_at, key_at, with_queue, queue_with, Head}
+use Rattle.krl_refinement.proofs.Names.{◌≡◌, ℕ, Bool, true, List, refl, sym, ap, subst, ◌∙◌, ⊎_elim, In, Waiter, slot_of, record_of, Row, set_row, range_at, key_at, with_queue, queue_with, Head}
 use Rattle.krl_refinement.proofs.Names.{Link, Passes, Logged, eq_cases, put, put_changed, Session, Server, is_recovering, lists, set_session, silent, acknowledged, queues, same_range, same_key}
-use Rattle.krl_refinement.proofs.Names.{row_modes, session_here, session_other, not_truth, LinkIs, LinkShows, IsHeardOf, Shows, view, WasSent}
+use Rattle.krl_refinement.proofs.Names.{row_modes, session_here, session_other, not_both, LinkIs, LinkShows, IsHeardOf, Shows, view, WasSent}
 use Rattle.std.specs.Prelude.{is_some, not}
 use Rattle.krl_messages.specs.declared.to_client.ToClientBody.TheVariants as told
 use Rattle.krl_table.proofs.Invariant.Stands.{in_queue_with}
@@ -55,5 +55,5 @@ waits_follow s of log cleared u a at ok h =
       shows = queues_shows (acknowledged s u.client) (put of u.client l) u (subst (IsHeardOf (view s)) (sym ch.here) (a, at, ok.inc, ok.epoch, ok.here)) (acknowledges_shows s of u.client h);
       sent = λ o x. absurd x;
       clients = put_client of u.client l refl;
-      bound = λ g. absurd (not_truth (is_recovering s.missing) (not_recovering s.missing ok.serving) g);
+      bound = λ g. absurd (not_both (is_recovering s.missing) g (not_recovering s.missing ok.serving));
     }

@@ -4,7 +4,7 @@ use Rattle.krl_refinement.proofs.Names.{Delete, Link, Logged, WorldInv, Written,
 use Rattle.std.specs.FinMap as map
 use Rattle.krl_modes.proofs.PartLaws.{range_is_X}
 use Rattle.krl_machine.proofs.Refines.{Shows}
-use Rattle.krl_refinement.proofs.Server.Splits.{its_key_X}
+use Rattle.krl_table.proofs.Calls.Merges.{key_X}
 use Rattle.krl_refinement.proofs.Server.Meaning.{seen_in}
 
 module _ (m : Index) (epoch : ℕ) (phase : Phase) (near : (q : ℕ) → END ≤ q → map.get m q ≡ None) (of : ℕ → Link) (log : List Logged) (rows : Rows) (shows : (d : ℕ) → Shows (seen_in m epoch phase) (of d) (column rows d)) (inv : WorldInv (record { shared = seen_in m epoch phase; links = of; log = log })) (c : ℕ) where
@@ -13,5 +13,5 @@ module _ (m : Index) (epoch : ℕ) (phase : Phase) (near : (q : ℕ) → END ≤
       let n = slot_of m (suc k) in
       let y = slot_here m near (suc k) (omega arith) in
       delete_written (record { shared = seen_in m epoch phase; links = of; log = log }) c (column rows) near shows inv k u n (map.get (map.remove m k)) (column (merged m rows k)) lt present (gone_here m k) (gone_other m k) y.0 y.1
-      (its_key_X (key_of (column rows c k)) x) (range_is_X (range_of (column rows c k)) rx) (range_is_X (range_of (column rows c n)) rx')
+      (key_X (key_of (column rows c k)) x) (range_is_X (range_of (column rows c k)) rx) (range_is_X (range_of (column rows c n)) rx')
       (λ d j ne. set_modes rows n k d j _ _ refl ne)

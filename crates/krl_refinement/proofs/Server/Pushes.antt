@@ -1,7 +1,7 @@
 -- Acknowledging, telling the epoch, repeating a push, and the next push to a client.
 use Rattle.krl_refinement.proofs.Names.{◌≡◌, ℕ, suc, ◌≤◌, Bool, true, false, not, Option, Some, None, List, [], ◌∷◌, ◌⊎◌, inl, refl, sym, ap, subst, ◌∙◌, none-some, same_Some, END, PushBody, In}
 use Rattle.krl_refinement.proofs.Names.{Record, record_of, Head, Notice, Shared, Link, Passes, MaySay, AnswersLast, next, idle, notifies, takes_head, Logged, Steps, none, put, put_changed}
-use Rattle.krl_refinement.proofs.Names.{heard_kept, link_steps, Session, Server, is_recovering, silent, epoch_to, push_to, with_session, acknowledged, pushes, if_case, not_truth, BoundStays, WasSent}
+use Rattle.krl_refinement.proofs.Names.{heard_kept, link_steps, Session, Server, is_recovering, silent, epoch_to, push_to, with_session, acknowledged, pushes, if_case, not_both, BoundStays, WasSent}
 use Rattle.krl_refinement.proofs.Names.{push_of, IsTold, IsRecord, LinkShows, IsHeardOf, Shows, view, world_of}
 use Rattle.std.specs.Prelude.{nat_lt, is_some}
 use Rattle.krl_messages.specs.declared.to_client.ToClientBody.TheVariants as told
@@ -64,7 +64,7 @@ acknowledges s of log cleared c a at ok h = record {
   shows = acknowledges_shows s of c h;
   sent = λ o x. absurd x;
   clients = put_client of c (record (of c) { acked = true }) refl;
-  bound = λ g. absurd (not_truth (is_recovering s.missing) (not_recovering s.missing ok.serving) g);
+  bound = λ g. absurd (not_both (is_recovering s.missing) g (not_recovering s.missing ok.serving));
 }
 
 -- what a push must say of the row
@@ -98,4 +98,4 @@ pushes_on s of log cleared c body serving begun is_told able free fit h = if_cas
     (λ spent. record { after = of; steps = none; shows = h; sent = λ o at. absurd at; clients = λ d. refl; bound = λ g. absurd (serves g) })
   where
     serves : is_recovering s.missing ≡ true → ⊥
-    serves g = not_truth (is_recovering s.missing) (not_recovering s.missing serving) g
+    serves g = not_both (is_recovering s.missing) g (not_recovering s.missing serving)

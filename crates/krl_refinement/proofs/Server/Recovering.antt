@@ -1,6 +1,6 @@
 -- A change that takes a client out of the missing, and perhaps ends the recovery.
 use Rattle.krl_refinement.proofs.Names.{◌≡◌, ℕ, Bool, Option, Some, None, List, [], ◌∷◌, refl, subst, ToClient, ToClientBody, In, Waiter, Record, record_of, range_at, key_at, Link, LinkSteps, Logged}
-use Rattle.krl_refinement.proofs.Names.{Steps, more, finish, put, put_changed, link_steps, Server, is_recovering, lists, unlist, not_truth, WasSent, IsRecord, LinkIs, IsHeardOf, machine_phase}
+use Rattle.krl_refinement.proofs.Names.{Steps, more, finish, put, put_changed, link_steps, Server, is_recovering, lists, unlist, not_both, WasSent, IsRecord, LinkIs, IsHeardOf, machine_phase}
 use Rattle.krl_refinement.proofs.Names.{view_of, view, world_of, BoundStays}
 use Rattle.krl_messages.specs.declared.to_client.ToClientBody.TheVariants as told
 use Rattle.krl_machine.specs.Links as links
@@ -24,7 +24,7 @@ still_recovering s t [] before of log cleared outs client bound steps shows hear
   };
   sent = λ o at. same (of o.client) o.incarnation o.body (sent o at);
   clients = client;
-  bound = λ g. absurd (not_truth (is_recovering []) refl g);
+  bound = λ g. absurd (not_both (is_recovering []) g refl);
 }
   where
     known : (o : Option Record) (l : Link) → IsRecord o l → IsRecord o (record l { top_range = l.new_range; top_key = l.new_key })
@@ -45,7 +45,7 @@ regroup s t [] c l of log cleared outs same steps client bound shows heard sent 
   shows = record { link = shows; heard = heard };
   sent = sent;
   clients = put_client of c l client;
-  bound = λ g. absurd (not_truth (is_recovering []) refl g);
+  bound = λ g. absurd (not_both (is_recovering []) g refl);
 }
 regroup s t (x ∷ xs) c l of log cleared outs same steps client bound shows heard sent =
     still_recovering (with_missing s (x ∷ xs)) t (unlist (x ∷ xs) c) of (put of c l) log cleared outs (put_client of c l client) bound

@@ -2,7 +2,7 @@
 use Rattle.krl_refinement.proofs.Names.{◌≡◌, ℕ, suc, ◌≤◌, ◌<◌, Bool, true, None, List, ◌⊎◌, inl, inr, refl, sym, ap, subst, ◌∙◌, arith, nat_tests, and_parts, none-some, Mode, range_of, key_of, meet}
 use Rattle.krl_refinement.proofs.Names.{range_meet, key_meet, Bounds, within, In, Index, span_of, record_of, most_clients, mode_at, column, range_at, key_at, Head, Release, Link, Passes, IsSlot}
 use Rattle.krl_refinement.proofs.Names.{InSpan, SlotLowered, next, idle, takes_head, takes_release, Logged, slot_near, table_row, release_lowers, put, put_changed, heard_kept, link_steps, Session}
-use Rattle.krl_refinement.proofs.Names.{Server, is_recovering, lists, set_session, IsSound, span_here, same_range, same_key, mode_here, session_here, not_truth, low_row, lowered_others}
+use Rattle.krl_refinement.proofs.Names.{Server, is_recovering, lists, set_session, IsSound, span_here, same_range, same_key, mode_here, session_here, not_both, low_row, lowered_others}
 use Rattle.krl_refinement.proofs.Names.{lowered_queue, last_of, LinkIs, Shows, view}
 use Rattle.std.specs.Prelude.{nat_le}
 use Rattle.krl_modes.proofs.ModeLaws.{meet-parts}
@@ -69,5 +69,5 @@ lowers_follow s of log cleared c a span keep lt i at head ok h =
           h (λ n u v. heard_kept (view s) of (put of c l) c l ch (λ z. z) u.client (h.heard n u (subst (In u) (lowered_queue m s.rows c span keep n) v)));
       sent = λ o x. absurd x;
       clients = put_client of c l refl;
-      bound = λ g. absurd (not_truth (is_recovering s.missing) (not_recovering s.missing ok.serving) g);
+      bound = λ g. absurd (not_both (is_recovering s.missing) g (not_recovering s.missing ok.serving));
     }

@@ -1,7 +1,7 @@
 -- A crash and a start of the server.
 use Rattle.krl_refinement.proofs.Names.{◌≡◌, ℕ, suc, ◌≤◌, Bool, true, false, Option, Some, None, List, [], ◌∷◌, ◌⊎◌, inl, inr, refl, sym, ap, subst, ◌∙◌, nat_eq, none-some, END, Record, Register}
 use Rattle.krl_refinement.proofs.Names.{Durable, record_of, missing_order, blank_rows, Link, no_range, no_key, Logged, IsMissing, crash, start, finish, Steps, none, more, Server, blank_session}
-use Rattle.krl_refinement.proofs.Names.{is_recovering, lists, can_start, IsSound, blank_range, blank_key, not_truth, start_sound, IsRecord, Shows, DurableShows, down_world_of, world_of, BoundStays}
+use Rattle.krl_refinement.proofs.Names.{is_recovering, lists, can_start, IsSound, blank_range, blank_key, not_both, start_sound, IsRecord, Shows, DurableShows, down_world_of, world_of, BoundStays}
 use Rattle.krl_refinement.proofs.Names.{CrashFollows, StartFollows, IsIdle, Opens}
 use Rattle.std.specs.Prelude.{if◌then◌else◌, ◌||◌}
 use Rattle.std.specs.FinMap as map
@@ -48,7 +48,7 @@ starts_with d [] of log miss known = record {
     heard = λ n u at. absurd at;
   };
   clients = λ c. refl;
-  bound = λ g. absurd (not_truth (is_recovering []) refl g);
+  bound = λ g. absurd (not_both (is_recovering []) g refl);
 }
 starts_with d (x ∷ xs) of log miss known = record {
   after = λ c. record (of c) { missing = lists (x ∷ xs) c; last_push = 0; acked = true; new_range = no_range; new_key = no_key };

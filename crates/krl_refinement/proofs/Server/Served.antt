@@ -1,6 +1,6 @@
 -- All answers to waiters after a step; and what was sent stays sent.
 use Rattle.krl_refinement.proofs.Names.{◌≡◌, ℕ, Bool, false, List, inr, refl, sym, ap, subst, ◌∙◌, ⊎_elim, ToClient, ToClientBody, In, in_both, Logged, World, Changed, Step, at_link, raises, applies}
-use Rattle.krl_refinement.proofs.Names.{crash, start, finish, Steps, none, more, eq_cases, WorldInv, steps_on, world_steps, Server, is_recovering, IsSound, not_truth, turn_sound, turn_missing}
+use Rattle.krl_refinement.proofs.Names.{crash, start, finish, Steps, none, more, eq_cases, WorldInv, steps_on, world_steps, Server, is_recovering, IsSound, not_both, turn_sound, turn_missing}
 use Rattle.krl_refinement.proofs.Names.{answered_up, WasSent, Shows, world_of}
 use Rattle.krl_messages.specs.declared.to_client.ToClientBody.TheVariants as told
 use Rattle.krl_machine.specs.Links.{Notice, Push, Shared, Link, LinkStep, registers, notifies, pushes}
@@ -42,7 +42,7 @@ sent_kept u w a c inc (told.Callback epoch span keep) h = h
 
 -- the answering of first waiters until none is answerable is some steps
 pub answering_follows : (s t : Server) (of : ℕ → Link) (log : List Logged) (cleared : ℕ → Bool) (outs : List ToClient) → Answered s t outs → IsSound s → WorldInv (world_of s of log) → is_recovering s.missing ≡ false → Shows s of → Goes s of log cleared (record { server = t; outs = outs }) log
-answering_follows s t of log cleared outs (stops s' e) i inv up h = record { after = of; steps = none; shows = h; sent = λ o at. absurd at; clients = λ c. refl; bound = λ g. absurd (not_truth (is_recovering s.missing) up g) }
+answering_follows s t of log cleared outs (stops s' e) i inv up h = record { after = of; steps = none; shows = h; sent = λ o at. absurd at; clients = λ c. refl; bound = λ g. absurd (not_both (is_recovering s.missing) g up) }
 answering_follows s t of log cleared outs (goes_on s' t' turn later e rest) i inv up h =
     let f = turn_follows s of log cleared turn i inv (serving_phase s.missing up) e h in
     let u = (answer_first s turn).server in
@@ -53,5 +53,5 @@ answering_follows s t of log cleared outs (goes_on s' t' turn later e rest) i in
       shows = g.shows;
       sent = λ o at. ⊎_elim (λ (x : In o (answer_first s turn).outs). sent_kept (world_of u f.after log) (world_of t g.after log) g.steps o.client o.incarnation o.body (f.sent o x)) (λ (x : In o later). g.sent o x) (in_both (answer_first s turn).outs later o at);
       clients = λ c. g.clients c ∙ f.clients c;
-      bound = λ x. absurd (not_truth (is_recovering t.missing) (answered_up u t later rest (ap is_recovering (turn_missing s turn) ∙ up)) x);
+      bound = λ x. absurd (not_both (is_recovering t.missing) x (answered_up u t later rest (ap is_recovering (turn_missing s turn) ∙ up)));
     }

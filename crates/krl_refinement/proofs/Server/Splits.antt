@@ -1,18 +1,16 @@
 -- What an Insert and a Put that are Applied make of the table, for the machine.
-use Rattle.krl_refinement.proofs.Names.{◌≡◌, ℕ, ◌≤◌, ◌<◌, true, List, Some, None, refl, ap, ◌∙◌, arith, eq-eqb, ne_eqb, if◌then◌else◌, END, RangePart, KeyPart, range_of, key_of, at_or_above}
+use Rattle.krl_refinement.proofs.Names.{◌≡◌, ℕ, ◌≤◌, ◌<◌, true, List, Some, None, refl, ap, ◌∙◌, arith, eq-eqb, ne_eqb, if◌then◌else◌, END, RangePart, range_of, key_of, at_or_above}
 use Rattle.krl_refinement.proofs.Names.{lets_insert, is_key_X, Value, Index, slot_of, Rows, Row, column, set_row, mode_beside, split, Phase, Insert, Put, Link, Logged, WorldInv, Written}
 use Rattle.krl_refinement.proofs.Names.{insert_written, put_written, row_here, get_here, get_other, set_modes, slot_here}
 use Rattle.std.specs.FinMap as map
 use Rattle.krl_modes.specs.Weights.{reads, inserts}
 use Rattle.krl_modes.specs.declared.part.KeyPart.TheVariants as key
 use Rattle.krl_machine.proofs.Refines.{Shows}
+use Rattle.krl_table.proofs.Calls.Merges.{key_X}
 use Rattle.krl_refinement.proofs.Server.Meaning.{seen_in}
 
 may_insert : (a : RangePart) → lets_insert a ≡ true → inserts a ≡ 1
 may_insert a e = grind arith
-
-pub its_key_X : (k : KeyPart) → is_key_X k ≡ true → k ≡ key.X
-its_key_X k e = grind arith
 
 beside_range : (a : RangePart) → reads a ≡ 0 → range_of (mode_beside a) ≡ a
 beside_range a e = grind arith
@@ -37,4 +35,4 @@ module _ (m : Index) (epoch : ℕ) (phase : Phase) (near : (q : ℕ) → END ≤
 
   pub put_shown : (k : ℕ) (v u : Value) → k < END → map.get m k ≡ Some u → is_key_X (key_of (column rows c k)) ≡ true → Written (record { shared = seen_in m epoch phase; links = of; log = log }) c (Put k v) (map.get (map.insert m k v)) (column rows)
   put_shown k v u lt present may =
-      put_written (record { shared = seen_in m epoch phase; links = of; log = log }) c (column rows) near shows inv k v u (map.get (map.insert m k v)) lt present (get_here m k v) (get_other m k v) (its_key_X (key_of (column rows c k)) may)
+      put_written (record { shared = seen_in m epoch phase; links = of; log = log }) c (column rows) near shows inv k v u (map.get (map.insert m k v)) lt present (get_here m k v) (get_other m k v) (key_X (key_of (column rows c k)) may)

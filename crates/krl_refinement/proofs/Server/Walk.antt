@@ -1,7 +1,7 @@
 -- What the server does with a message that was sent, but for the answers at the end of the step, is some steps of the
 -- machine, and it does not say Alarm.
 use Rattle.krl_refinement.proofs.Names.{◌≡◌, ◌≢◌, ℕ, suc, ◌<◌, Bool, true, false, not, ◌&&◌, Option, Some, List, refl, sym, subst, ◌∙◌, nat_eq, eq-eqb, ne_eqb, END, Value, Pieces, WriteOp, Outcome}
-use Rattle.krl_refinement.proofs.Names.{ToServer, op_key, is_applied, Record, conflicts, Link, Passes, Logged, Reachable, reachable_inv, Server, lists, effect, IsSound, not_truth, IsRecord, Shows}
+use Rattle.krl_refinement.proofs.Names.{ToServer, op_key, is_applied, Record, conflicts, Link, Passes, Logged, Reachable, reachable_inv, Server, lists, effect, IsSound, not_both, IsRecord, Shows}
 use Rattle.krl_refinement.proofs.Names.{view, world_of, logged}
 use Rattle.krl_messages.specs.declared.to_server.ToServerBody.{ToServerBody}
 use Rattle.krl_messages.specs.declared.to_server.Request.{Request}
@@ -50,7 +50,7 @@ module _ (first : ℕ → Option Value) (s : Server) (of : ℕ → Link) (log : 
     shown = subst (λ o. IsRecord o (of m.client)) from.known (h.link m.client).known
 
     no_alarm : (epoch : ℕ) (pieces : Pieces) → m.body ≡ said.Report epoch pieces → epoch ≡ s.durable.epoch → lists s.missing m.client ≡ true → conflicts s.durable.index s.rows m.client pieces ≡ true → ⊥
-    no_alarm epoch pieces is now missing bad = not_truth (conflicts s.durable.index s.rows m.client pieces) (no_conflict first s of log m epoch pieces r reached h i from.known from.same now missing (said_is (said.Report epoch pieces) is)) bad
+    no_alarm epoch pieces is now missing bad = not_both (conflicts s.durable.index s.rows m.client pieces) bad (no_conflict first s of log m epoch pieces r reached h i from.known from.same now missing (said_is (said.Report epoch pieces) is))
 
     rebuilt : (epoch : ℕ) (pieces : Pieces) → m.body ≡ said.Report epoch pieces → epoch ≡ s.durable.epoch → lists s.missing m.client ≡ true → P (Rebuilds pieces)
     rebuilt epoch pieces is now missing = (refl, rebuilds_follow s of log (cleared (Rebuilds pieces)) m epoch pieces r i from.known from.same now missing (said_is (said.Report epoch pieces) is) nobody h)

@@ -1,6 +1,6 @@
 -- Each step of the server is some steps of the machine.
 use Rattle.krl_refinement.proofs.Names.{ℕ, false, ◌&&◌, Option, List, ◌++◌, refl, ◌∙◌, ⊎_elim, nat_eq, END, Value, ToServer, ToClient, In, in_both, Link, Logged, Reachable, steps_on, world_steps}
-use Rattle.krl_refinement.proofs.Names.{reachable_inv, Server, is_recovering, case_of, clears, effect, calls_of, kind_of, at_once, recovers, serves, ServerStep, IsSound, not_truth, answering_sound}
+use Rattle.krl_refinement.proofs.Names.{reachable_inv, Server, is_recovering, case_of, clears, effect, calls_of, kind_of, at_once, recovers, serves, ServerStep, IsSound, not_both, answering_sound}
 use Rattle.krl_refinement.proofs.Names.{answered_up, Stands, Shows, world_of, logged, StepFollows, ServerFollows}
 use Rattle.krl_server.proofs.Invariant.Sounds.{effect_sound}
 use Rattle.krl_refinement.proofs.Server.Follows.{Goes}
@@ -46,7 +46,7 @@ module _ (first : ℕ → Option Value) (s : Server) (of : ℕ → Link) (log : 
           clients = λ c. g.clients c ∙ f.clients c;
         };
         writes = refl;
-        bound = λ y. absurd (not_truth (is_recovering t.missing) (answered_up done.server t answers rest up) y);
+        bound = λ y. absurd (not_both (is_recovering t.missing) y (answered_up done.server t answers rest up));
       }
 
 pub all_follow : ServerFollows

@@ -2,7 +2,7 @@
 use Rattle.krl_refinement.proofs.Names.{◌≡◌, ℕ, suc, ◌<◌, Bool, true, Option, Some, None, List, ◌∷◌, refl, sym, ap, subst, ◌∙◌, arith, and_parts, none-some, is_some, END, KeyPart, Value, WriteOp}
 use Rattle.krl_refinement.proofs.Names.{ToServer, op_key, In, Waiter, Record, Index, record_of, with_record, Rows, most_clients, column, range_at, key_at, Head, Write, Shared, Link, Passes, Logged}
 use Rattle.krl_refinement.proofs.Names.{Changed, Applies, Step, applies, wrote_by, none, more, steps_on, world_steps, put, put_changed, changed_twice, heard_kept, WorldInv, Written, Session, Server}
-use Rattle.krl_refinement.proofs.Names.{lists, set_session, acknowledged, rows_written, answers, effect, Judges, judged, IsSound, session_here, pushes_serve, acknowledged_sound, none_some, some_of}
+use Rattle.krl_refinement.proofs.Names.{lists, set_session, acknowledged, rows_written, answers, effect, Judges, judged, IsSound, session_here, pushes_serve, acknowledged_sound, None-if_not_some, Some-if_some}
 use Rattle.krl_refinement.proofs.Names.{op_of, IsRecord, LinkIs, Shows, view, world_of, logged}
 use Rattle.std.specs.FinMap as map
 use Rattle.krl_messages.specs.declared.write_op.WriteOp.TheVariants as write
@@ -96,10 +96,10 @@ is_written s of log c a op i inv head ok under e h = by_op op under e
 
     by_op : (op : WriteOp) → op_key op < END → judged s c op ≡ outcome.Applied → IsWritten s of log c op (written s.durable.index op) (rows_written s.durable.index s.rows c op)
     by_op (write.Insert k v) under e = let x = insert_may (is_some (map.get s.durable.index k)) _ _ e in
-        insert_shown s.durable.index s.durable.epoch (view s).phase i.near (put of c (acknowledged_link (of c))) log s.rows shows later c k v under (none_some (map.get s.durable.index k) x.0) x.1
-    by_op (write.Put k v) under e = let x = change_may (is_some (map.get s.durable.index k)) _ e in let p = some_of (map.get s.durable.index k) x.0 in
+        insert_shown s.durable.index s.durable.epoch (view s).phase i.near (put of c (acknowledged_link (of c))) log s.rows shows later c k v under (None-if_not_some (map.get s.durable.index k) x.0) x.1
+    by_op (write.Put k v) under e = let x = change_may (is_some (map.get s.durable.index k)) _ e in let p = Some-if_some (map.get s.durable.index k) x.0 in
         put_shown s.durable.index s.durable.epoch (view s).phase i.near (put of c (acknowledged_link (of c))) log s.rows shows later c k v p.0 under p.1 x.1
-    by_op (write.Delete k) under e = let x = change_may (is_some (map.get s.durable.index k)) _ e in let p = some_of (map.get s.durable.index k) x.0 in
+    by_op (write.Delete k) under e = let x = change_may (is_some (map.get s.durable.index k)) _ e in let p = Some-if_some (map.get s.durable.index k) x.0 in
         let y = and_parts _ _ x.1 in let z = and_parts _ _ y.0 in
         delete_shown s.durable.index s.durable.epoch (view s).phase i.near (put of c (acknowledged_link (of c))) log s.rows shows later c k p.0 under p.1 z.0 z.1 y.1
 
