@@ -159,7 +159,8 @@ Finds k s was now r (Some code.Done) = FindsRows k s was now r
 Finds k s was now r (Some code.TooShort) = FindsRows k s was now r
 Finds k s was now r (Some code.Miss) = commands.Answers k s (answer.Miss r.detail) × (now ≡ was)
 Finds k s was now r (Some code.Pending) = commands.Answers k s (answer.Pending r.detail) × (now ≡ was)
-Finds k s was now r (Some code.BadSpan) = (commands.scan_refusal s ≡ Some refused.BadSpan) × (now ≡ was) × (r.detail ≡ 0)
+Finds k s was now r (Some code.BadSpan) =
+    (commands.scan_refusal s ≡ Some refused.BadSpan) × (now ≡ was) × (r.detail ≡ 0)
 Finds k s was now r _ = ⊥
 
 abbrev pub Scans : Bounds → List Row → List Row → Fields → Reply → Type 0

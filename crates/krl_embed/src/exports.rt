@@ -10,7 +10,9 @@ ghost use Rattle.krl_embed.specs.Shown.{Copies};
 use crate::code::Code;
 use crate::handle::{Handle, put, take};
 use crate::reply::Reply;
-use krl_wire::{ReadError, has_counts, put_to_client, put_to_server, to_client_of, to_server_of};
+use krl_wire::{
+    ReadError, has_counts, spell_to_client, spell_to_server, to_client_of, to_server_of,
+};
 use std::alloc::Global;
 
 /// Takes the frames that wait to be sent.
@@ -58,11 +60,13 @@ pub extern "C" fn krl_respell_to_server(alloc: Global, bytes: &[u8], spelling: &
         Err(ReadError::OutOfMemory) => return Reply::of(Code::OutOfMemory),
         Err(ReadError::Fault(fault)) => return Reply::with(Code::BadMessage, fault as u64),
     };
-    let mut spelled = Vec::new(alloc);
-    if !has_counts(&message) || put_to_server(&mut spelled, &message).is_err() {
+    if !has_counts(&message) {
         return Reply::of(Code::OutOfMemory);
     }
-    copy_bytes(&spelled, spelling)
+    match spell_to_server(alloc, &message) {
+        Ok(spelled) => copy_bytes(&spelled, spelling),
+        Err(_) => Reply::of(Code::OutOfMemory),
+    }
 }
 
 /// Reads a message to a client, and writes its spelling: the same bytes.
@@ -75,9 +79,8 @@ pub extern "C" fn krl_respell_to_client(alloc: Global, bytes: &[u8], spelling: &
         Ok(message) => message,
         Err(fault) => return Reply::with(Code::BadMessage, fault as u64),
     };
-    let mut spelled = Vec::new(alloc);
-    if put_to_client(&mut spelled, &message).is_err() {
-        return Reply::of(Code::OutOfMemory);
+    match spell_to_client(alloc, &message) {
+        Ok(spelled) => copy_bytes(&spelled, spelling),
+        Err(_) => Reply::of(Code::OutOfMemory),
     }
-    copy_bytes(&spelled, spelling)
 }

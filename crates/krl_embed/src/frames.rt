@@ -6,7 +6,7 @@ ghost use Rattle.krl_embed.specs.Frames.{Waits, Takes};
 use crate::code::Code;
 use crate::reply::Reply;
 use krl_messages::{ToClient, ToServer};
-use krl_wire::{has_counts, put_to_client, put_to_server};
+use krl_wire::{has_counts, spell_to_client, spell_to_server};
 use std::alloc::{AllocError, Global};
 use std::marker::Model;
 
@@ -41,16 +41,14 @@ fn put_said(alloc: Global, out: &mut Vec<u8>, message: &ToServer) -> Result<(), 
     if !has_counts(message) {
         return Err(AllocError);
     }
-    let mut bytes = Vec::new(alloc);
-    put_to_server(&mut bytes, message)?;
+    let bytes = spell_to_server(alloc, message)?;
     put_frame(out, &bytes)
 }
 
 fn put_told(alloc: Global, out: &mut Vec<u8>, message: &ToClient) -> Result<(), AllocError>
     ensures { OnOk result (out.new.items ≡ out.old.items ++ told_frame message.now) }
 {
-    let mut bytes = Vec::new(alloc);
-    put_to_client(&mut bytes, message)?;
+    let bytes = spell_to_client(alloc, message)?;
     put_frame(out, &bytes)
 }
 

@@ -34,6 +34,10 @@ head_takes first last bytes x fits e =
     let both = Takes-then bytes (v.0.0 ∷ []) v.0.1 (x.0 ∷ []) x.1 t0 t1.0 in
     (subst (λ (n : ℕ). Takes bytes (n ∷ x.0 ∷ []) x.1) one both, t1.1)
 
+pub head_is : (first last kind : ℕ) (bytes rest : List ℕ) → IsBytes bytes → head_at first last bytes ≡ Ok (kind, rest)
+    → bytes ≡ 1 ∷ kind ∷ rest
+head_is first last kind bytes rest fits e = (head_takes first last bytes (kind, rest) fits e).0.parts
+
 pub head_again : (first last kind : ℕ) (rest : List ℕ) → first ≤ kind → kind ≤ last
     → head_at first last (1 ∷ kind ∷ rest) ≡ Ok (kind, rest)
 unfolding head_at kind_at byte_at

@@ -261,6 +261,10 @@ to_server_of bytes = do
   body ← to_server_body_at kind.0 incarnation.1
   ended (record { client = sender.0; incarnation = incarnation.0; body = body.0 }) body.1
 
+-- the bytes begin as a report does
+abbrev pub BeginsReport : List ℕ → Type 0
+BeginsReport bytes = (rest : List ℕ) × (bytes ≡ 1 ∷ 2 ∷ rest)
+
 unfoldable pub grant_at : List ℕ → Result (PushBody × List ℕ) Fault
 grant_at bytes = do
   req ← number_at w64 bytes

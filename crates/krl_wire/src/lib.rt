@@ -16,7 +16,7 @@ mod read_server;
 mod reader;
 
 pub use fault::{Fault, ReadError};
-pub use put_client::put_to_client;
-pub use put_server::{has_counts, put_to_server};
+pub use put_client::spell_to_client;
+pub use put_server::{has_counts, spell_to_server};
 pub use read_client::to_client_of;
 pub use read_server::to_server_of;

@@ -1,11 +1,11 @@
-//! Messages to a client, written at the end.
-ghost use Rattle.std.specs.Prelude.{◌≡◌, ◌++◌, [], ◌∷◌, OnOk};
+//! Messages to a client, written.
+ghost use Rattle.std.specs.Prelude.{◌≡◌, ◌++◌, [], ◌∷◌, IfOk, OnOk};
 ghost use Rattle.krl_wire.specs.Spelling as spelling;
 
 use crate::put_fields::{put_head, put_holding, put_holdings, put_number, put_span_and_mode};
 use krl_messages::{Outcome, PushBody, ToClient, ToClientBody};
 use krl_modes::{Mode, Span};
-use std::alloc::AllocError;
+use std::alloc::{AllocError, Global};
 
 fn outcome_tag(outcome: Outcome) -> u8
     ensures { result ≡ spelling.outcome_tag outcome }
@@ -88,12 +88,7 @@ fn put_to_client_body(out: &mut Vec<u8>, body: &ToClientBody) -> Result<(), Allo
     }
 }
 
-/// Writes the message's spelling at the end.
-///
-/// # Errors
-///
-/// `AllocError` where memory is refused. What then stands behind the old bytes is no message.
-pub fn put_to_client(out: &mut Vec<u8>, message: &ToClient) -> Result<(), AllocError>
+fn put_to_client(out: &mut Vec<u8>, message: &ToClient) -> Result<(), AllocError>
     ensures { OnOk result (out.new.items ≡ out.old.items ++ spelling.to_client message.now) }
 {
     put_head(
@@ -103,4 +98,17 @@ pub fn put_to_client(out: &mut Vec<u8>, message: &ToClient) -> Result<(), AllocE
         message.incarnation,
     )?;
     put_to_client_body(out, &message.body)
+}
+
+/// The message's spelling.
+///
+/// # Errors
+///
+/// `AllocError` where memory is refused.
+pub fn spell_to_client(alloc: Global, message: &ToClient) -> Result<Vec<u8>, AllocError>
+    ensures { IfOk result (λ bytes. bytes.items ≡ spelling.to_client message.now) }
+{
+    let mut out = Vec::new(alloc);
+    put_to_client(&mut out, message)?;
+    Ok(out)
 }

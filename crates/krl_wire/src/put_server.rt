@@ -1,5 +1,5 @@
-//! Messages to the server, written at the end.
-ghost use Rattle.std.specs.Prelude.{◌≡◌, ◌<◌, ◌^◌, ◌++◌, [], ◌∷◌, ◌↔◌, length, OnOk, IsTrue};
+//! Messages to the server, written.
+ghost use Rattle.std.specs.Prelude.{◌≡◌, ◌<◌, ◌^◌, ◌++◌, [], ◌∷◌, ◌↔◌, length, IfOk, OnOk, IsTrue};
 ghost use Rattle.std.specs.List.{flat_map};
 ghost use Rattle.krl_wire.specs.Fitting.{HasCounts};
 ghost use Rattle.krl_wire.specs.Spelling as spelling;
@@ -9,7 +9,7 @@ use krl_messages::{
     KeyPiece, Pieces, RangePiece, Request, RequestBody, ToServer, ToServerBody, Value, WriteOp,
 };
 use krl_modes::{KeyPart, Mode, RangePart};
-use std::alloc::AllocError;
+use std::alloc::{AllocError, Global};
 
 // One past the greatest count of four bytes.
 const PAST_COUNTS: usize = 4294967296;
@@ -194,12 +194,7 @@ pub fn has_counts(message: &ToServer) -> bool
     }
 }
 
-/// Writes the message's spelling at the end. `has_counts` tells whether it has one.
-///
-/// # Errors
-///
-/// `AllocError` where memory is refused. What then stands behind the old bytes is no message.
-pub fn put_to_server(out: &mut Vec<u8>, message: &ToServer) -> Result<(), AllocError>
+fn put_to_server(out: &mut Vec<u8>, message: &ToServer) -> Result<(), AllocError>
     requires { HasCounts message.now.body }
     ensures { OnOk result (out.new.items ≡ out.old.items ++ spelling.to_server message.now) }
 {
@@ -210,4 +205,18 @@ pub fn put_to_server(out: &mut Vec<u8>, message: &ToServer) -> Result<(), AllocE
         message.incarnation,
     )?;
     put_to_server_body(out, &message.body)
+}
+
+/// The message's spelling. `has_counts` tells whether it has one.
+///
+/// # Errors
+///
+/// `AllocError` where memory is refused.
+pub fn spell_to_server(alloc: Global, message: &ToServer) -> Result<Vec<u8>, AllocError>
+    requires { HasCounts message.now.body }
+    ensures { IfOk result (λ bytes. bytes.items ≡ spelling.to_server message.now) }
+{
+    let mut out = Vec::new(alloc);
+    put_to_server(&mut out, message)?;
+    Ok(out)
 }

@@ -1,11 +1,12 @@
 //! Messages to the server, read.
-ghost use Rattle.std.specs.Prelude.{◌≡◌, Ok, IfOk};
+ghost use Rattle.std.specs.Prelude.{◌≡◌, Ok, Err, IfOk};
 ghost use Rattle.krl_messages.specs.declared.to_server.ToServer.{ToServer};
 ghost use Rattle.krl_wire.specs.Fitting.{FitsToServer};
 ghost use Rattle.krl_wire.specs.Spelling as spelling;
+ghost use Rattle.krl_wire.specs.declared.fault.ReadError.TheVariants as errors;
 ghost use Rattle.krl_wire.specs.Reading.{Reads, ReadsIfRoom, GivesIfRoom, lock_at, insert_at};
 ghost use Rattle.krl_wire.specs.Reading.{put_at, delete_at, release_at, request_body_at};
-ghost use Rattle.krl_wire.specs.Reading.{request_at, report_at, to_server_body_at};
+ghost use Rattle.krl_wire.specs.Reading.{request_at, report_at, to_server_body_at, BeginsReport};
 ghost use Rattle.krl_wire.specs.Reading as reading;
 
 use crate::fault::{Fault, ReadError};
@@ -112,7 +113,8 @@ fn to_server_body(
     alloc: Global,
     kind: u8,
 ) -> Result<ToServerBody, ReadError>
-    ensures { ReadsIfRoom result reader.new (to_server_body_at kind reader.old) }
+    ensures reads { ReadsIfRoom result reader.new (to_server_body_at kind reader.old) }
+    ensures memory { result ≡ Err errors.OutOfMemory → kind ≡ 2 }
 {
     match kind {
         0 => Ok(ToServerBody::Hello),
@@ -125,7 +127,8 @@ fn to_server_body(
 // The message that all the bytes spell.
 #[tactic(auto, unfolding(crate::specs::Reading::to_server_of))]
 fn read(alloc: Global, bytes: &[u8]) -> Result<ToServer, ReadError>
-    ensures { GivesIfRoom result (reading.to_server_of bytes.now) }
+    ensures gives { GivesIfRoom result (reading.to_server_of bytes.now) }
+    ensures memory { result ≡ Err errors.OutOfMemory → BeginsReport bytes.now }
 {
     let mut reader = Reader::new(bytes);
     let kind = reader.head(0, 8)?;
@@ -157,6 +160,8 @@ pub fn to_server_of(alloc: Global, bytes: &[u8]) -> Result<ToServer, ReadError>
         → GivesIfRoom result (Ok m) }
     // Which fault it is.
     ensures exact { GivesIfRoom result (reading.to_server_of bytes.now) }
+    // Only a report is refused for want of memory.
+    ensures memory { result ≡ Err errors.OutOfMemory → BeginsReport bytes.now }
 {
     read(alloc, bytes)
 }

@@ -1,7 +1,7 @@
 //! Memory that is refused: a refused call is made again, twice at most, so that each run ends
 //! alike, whichever request for memory is refused, or two in a row.
 use krl_messages::ToServer;
-use krl_wire::{ReadError, has_counts, put_to_server, to_server_of};
+use krl_wire::{ReadError, has_counts, spell_to_server, to_server_of};
 use std::alloc::{AllocError, Global};
 use std::test::Fail;
 
@@ -25,26 +25,23 @@ fn read(alloc: Global, bytes: &[u8]) -> Result<ToServer, ReadError> {
     to_server_of(alloc, bytes)
 }
 
-// Writes the message behind the bytes, again where memory was refused.
-fn write(out: &mut Vec<u8>, message: &ToServer) -> Result<(), AllocError> {
+// The message's bytes, which are asked for again where memory was refused; none where it has none.
+fn written(alloc: Global, message: &ToServer) -> Result<Vec<u8>, AllocError> {
     if !has_counts(message) {
-        return Ok(());
+        return Ok(Vec::new(alloc));
     }
-    let len = out.len();
     for _ in 1..CALLS {
-        if put_to_server(out, message).is_ok() {
-            return Ok(());
+        if let Ok(bytes) = spell_to_server(alloc, message) {
+            return Ok(bytes);
         }
-        out.truncate(len);
     }
-    put_to_server(out, message)
+    spell_to_server(alloc, message)
 }
 
 #[test]
 fn a_report_is_read_and_written_again(rt: HostRuntime) -> Result<(), Fail> {
     let message = read(rt.alloc(), &REPORT)?;
-    let mut out = Vec::new(rt.alloc());
-    write(&mut out, &message)?;
-    assert!(rt; out.as_slice() == REPORT.as_slice());
+    let bytes = written(rt.alloc(), &message)?;
+    assert!(rt; bytes.as_slice() == REPORT.as_slice());
     Ok(())
 }

@@ -7,7 +7,7 @@ use crate::examples::{
 use krl_messages::{Holding, PushBody, ToClient, ToClientBody, ToServer};
 use krl_modes::{Mode, Span};
 use krl_wire::{
-    Fault, ReadError, has_counts, put_to_client, put_to_server, to_client_of, to_server_of,
+    Fault, ReadError, has_counts, spell_to_client, spell_to_server, to_client_of, to_server_of,
 };
 use std::alloc::{AllocError, Global};
 use std::test::Fail;
@@ -17,16 +17,7 @@ pub fn written_to_server(alloc: Global, message: &ToServer) -> Result<Option<Vec
     if !has_counts(message) {
         return Ok(None);
     }
-    let mut out = Vec::new(alloc);
-    put_to_server(&mut out, message)?;
-    Ok(Some(out))
-}
-
-/// The message's bytes.
-pub fn written_to_client(alloc: Global, message: &ToClient) -> Result<Vec<u8>, AllocError> {
-    let mut out = Vec::new(alloc);
-    put_to_client(&mut out, message)?;
-    Ok(out)
+    Ok(Some(spell_to_server(alloc, message)?))
 }
 
 fn is_to_server(alloc: Global, example: &Example<ToServer>) -> Result<bool, Fail> {
@@ -60,7 +51,7 @@ fn each_message_to_the_server_has_its_bytes(rt: HostRuntime) -> Result<(), Fail>
 }
 
 fn is_to_client(alloc: Global, example: &Example<ToClient>) -> Result<bool, AllocError> {
-    let written = written_to_client(alloc, &example.message)?;
+    let written = spell_to_client(alloc, &example.message)?;
     Ok(reads_to_client(&example.bytes, &example.message) && written == example.bytes)
 }
 
@@ -109,7 +100,7 @@ fn grants(alloc: Global, bytes: &[u8], holdings: &[Holding]) -> Result<bool, All
     match to_client_of(bytes) {
         Err(_fault) => Ok(false),
         Ok(message) => {
-            let written = written_to_client(alloc, &message)?;
+            let written = spell_to_client(alloc, &message)?;
             Ok(granted(&message) == holdings && written.as_slice() == bytes)
         }
     }

@@ -2,8 +2,8 @@
 ghost use Rattle.std.specs.Prelude.{◌<◌};
 
 use crate::examples::{TO_CLIENT, TO_SERVER, to_client_example, to_server_example};
-use crate::spelled::{written_to_client, written_to_server};
-use krl_wire::{ReadError, to_client_of, to_server_of};
+use crate::spelled::written_to_server;
+use krl_wire::{ReadError, spell_to_client, to_client_of, to_server_of};
 use rand_core::SeedableRng;
 use rand_core::utils::NextWord;
 use rand_pcg::Lcg64Xsh32;
@@ -52,7 +52,7 @@ fn read_to_client(alloc: Global, bytes: &[u8]) -> Result<Read, AllocError> {
     match to_client_of(bytes) {
         Err(_fault) => Ok(Read::Refused),
         Ok(message) => {
-            let written = written_to_client(alloc, &message)?;
+            let written = spell_to_client(alloc, &message)?;
             Ok(was_read(written.as_slice() == bytes))
         }
     }
