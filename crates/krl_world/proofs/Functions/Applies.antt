@@ -1,5 +1,5 @@
 -- The write that is noted is the one that the server applied: the step says it.
-use Rattle.krl_world.proofs.Names.{◌≡◌, ℕ, zero, suc, get_or, Option, Some, None, List, [], ◌∷◌, ◌++◌, refl, ap, ◌∙◌, slice_get, ToServer, Server, Case, Ignored, Registers, Leaves, Tells, Alarms}
+use Rattle.krl_world.proofs.Names.{◌≡◌, List, ◌++◌, refl, ap, ◌∙◌, ToServer, Server, Case, Ignored, Registers, Leaves, Tells, Alarms}
 use Rattle.krl_world.proofs.Names.{Rebuilds, Repeats, Acknowledges, Lowers, Waits, Judges, AnswersAgain, case_of, HasStepped, AppliedWrite, applies, applied_in, HasServed, Message, from_server}
 use Rattle.krl_server.specs.declared.out.ServerOut.{ServerOut}
 use Rattle.krl_server.specs.Changes.{change_of}
@@ -27,9 +27,3 @@ served_by s t m out old new before after h e f = record {
   sent = e;
   writes_are = f ∙ ap (λ o. before ++ applied_in m o) h.change ∙ ap (λ xs. before ++ xs) (noted_is_applied m (case_of s m));
 }
-
--- what stands at an index
-pub got : {A : Type 0} (xs : List A) (i : ℕ) (x d : A) → slice_get xs i ≡ Some x → get_or xs i d ≡ x
-got [] i x d e = absurd (cc)
-got (y ∷ ys) zero x d e = let f : Some y ≡ Some x = e in cc
-got (y ∷ ys) (suc i) x d e = got ys i x d e

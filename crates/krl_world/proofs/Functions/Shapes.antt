@@ -83,7 +83,7 @@ takes_left w v step.CrashServer answer h t = crashed_left w v w.server t.1.1
 
 -- What it keeps
 
-opening_left : (w v : State) → Left w v → v.opening ≡ w.opening
+pub opening_left : (w v : State) → Left w v → v.opening ≡ w.opening
 opening_left w _ as_it_was = refl
 opening_left w _ (at_seat c x sent n) = refl
 opening_left w _ (at_server n sent writes) = refl

@@ -45,7 +45,7 @@ held_key c p (Some k) g l b h e x = key_within _ _ _ _ (h.1.key p) e x
 outside_span : (lo hi q : ℕ) → q < lo → (nat_le lo q && nat_lt q hi) ≡ false
 outside_span lo hi q lt = grind (arith, nat_tests)
 
-within_span : (lo hi q : ℕ) → lo ≤ q → q < hi → (nat_le lo q && nat_lt q hi) ≡ true
+pub within_span : (lo hi q : ℕ) → lo ≤ q → q < hi → (nat_le lo q && nat_lt q hi) ≡ true
 within_span lo hi q a b = grind (arith, nat_tests)
 
 none_later : (h : Holding) (hs : List Holding) → IsBefore h hs → Ascend hs → AllByRecursion (λ k. IsWhole k.span) hs → (q : ℕ) → q < h.span.hi → said_by hs q ≡ None

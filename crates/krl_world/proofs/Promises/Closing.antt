@@ -1,10 +1,11 @@
 -- The end of a recovery: nobody waits until then, so the table of the server that serves from then on is what was
 -- rebuilt, which lies within the bound.
-use Rattle.krl_world.proofs.Names.{◌≡◌, ℕ, ◌∙◌, Bool, true, false, Option, Some, None, List, [], ◌∷◌, refl, sym, ap, subst, nat_eq, if◌then◌else◌, END, RangePart, range_of, key_of, Value, Pieces}
+use Rattle.krl_world.proofs.Names.{◌≡◌, ℕ, ◌∙◌, Bool, true, false, Option, Some, None, List, [], ◌∷◌, refl, sym, ap, subst, nat_eq, if◌then◌else◌, END, RangePart, range_of, key_of, Pieces}
 use Rattle.krl_world.proofs.Names.{ToServer, ToClient, In, Record, Index, slot_of, is_slot, Durable, record_of, left_by, Rows, Server, is_recovering, case_of, Done, effect, Answered, stops, goes_on}
 use Rattle.krl_world.proofs.Names.{Kind, kind_of, Ends, at_once, recovers, serves, ServerFollows, answered_up, Step, ServerNode, Up, Down, State, opened, range_held, key_held, Runs, IsReachable}
 use Rattle.krl_world.proofs.Names.{RecoveriesEnd, always_bounded, restarts_hold}
 use Rattle.std.specs.Prelude.{nat_lt}
+use Rattle.krl_modes.proofs.Basics.{not_both}
 use Rattle.krl_modes.specs.declared.part.RangePart.TheVariants as range
 use Rattle.krl_modes.specs.declared.part.KeyPart.TheVariants as key
 use Rattle.krl_modes.specs.declared.mode.Mode.{Mode}
@@ -13,7 +14,6 @@ use Rattle.krl_messages.specs.declared.to_server.ToServerBody.TheVariants as sai
 use Rattle.krl_table.specs.Calls.{cleared, unqueue}
 use Rattle.krl_table.specs.Points as table
 use Rattle.krl_server.proofs.Cased.{by_said}
-use Rattle.krl_server.proofs.Tests.{not_truth}
 use Rattle.krl_server.proofs.Invariant.RowsSound.{adopted_queue}
 use Rattle.krl_world.specs.declared.message.Message.TheVariants as message
 use Rattle.krl_world.specs.Bounds.{Bound, table_of, first_bound, step_clears, cleared as cleared_bound, bound_at, bound_after, RunsWithin, IsRangeWithin, IsKeyWithin, report_message, IsRecoveryWithin}
@@ -32,7 +32,7 @@ abbrev NobodyWaits : Server → Type 0
 NobodyWaits s = (n : ℕ) → (s.rows n).queue ≡ []
 
 served_not : {A : Type 0} (s : Server) → is_recovering s.missing ≡ true → is_recovering s.missing ≡ false → A
-served_not s g e = absurd (not_truth (is_recovering s.missing) e g)
+served_not s g e = absurd (not_both (is_recovering s.missing) g e)
 
 still_nobody : (s : Server) (m : ToServer) → is_recovering s.missing ≡ true → NobodyWaits s → NobodyWaits (effect s m (case_of s m)).server
 still_nobody s m g h = by_said s m (λ k. NobodyWaits (effect s m k).server) (record {
@@ -56,7 +56,7 @@ recovery_before s m g = by_test (is_recovering s.missing) refl
   where
     by_test : (t : Bool) → is_recovering s.missing ≡ t → t ≡ true
     by_test true e = refl
-    by_test false e = absurd (not_truth (is_recovering (effect s m (case_of s m)).server.missing) (ap is_recovering (effect_serves s m (case_of s m) (none_missing s.missing e))) g)
+    by_test false e = absurd (not_both (is_recovering (effect s m (case_of s m)).server.missing) g (ap is_recovering (effect_serves s m (case_of s m) (none_missing s.missing e))))
 
 abbrev Quiet : ServerNode → Type 0
 Quiet (Up s) = is_recovering s.missing ≡ true → NobodyWaits s
@@ -65,7 +65,7 @@ Quiet (Down d) = Unit {0}
 ends_quiet : (done : Done) (kind : Kind) (t : Server) (outs : List ToClient) → (is_recovering done.server.missing ≡ true → NobodyWaits done.server) → Ends done kind t outs → is_recovering t.missing ≡ true → NobodyWaits t
 ends_quiet done kind t outs h (at_once i) g = h g
 ends_quiet done kind t outs h (recovers x) g = h g
-ends_quiet done kind t outs h (serves u answers n e a) g = absurd (not_truth (is_recovering u.missing) (answered_up done.server u answers a e) g)
+ends_quiet done kind t outs h (serves u answers n e a) g = absurd (not_both (is_recovering u.missing) g (answered_up done.server u answers a e))
 
 way_quiet : (w v : State) (s : Step) → Quiet w.server → Way w v s → Quiet v.server
 way_quiet w v s h (stays e) = subst Quiet (sym e) h
@@ -172,7 +172,7 @@ same_up a b e = cc
 end_within : (w v : State) (b : Bound) (s t : Server) (step : Step) → IsReachable w → w.server ≡ Up s → is_recovering s.missing ≡ true → IsRecoveryWithin w b s → v.server ≡ Up t → is_recovering t.missing ≡ false → Way w v step → AreRowsWithin t.durable.index t.rows b
 end_within w v b s t step h up g within up' e (stays x) =
     let i : s ≡ t = same_up s t (sym up ∙ sym x ∙ up') in
-    absurd (not_truth (is_recovering s.missing) (ap (λ y. is_recovering y.missing) i ∙ e) g)
+    absurd (not_both (is_recovering s.missing) g (ap (λ y. is_recovering y.missing) i ∙ e))
 end_within w v b s t step h up g within up' e (reads old new m outs a f at step') =
     let i : old ≡ s = same_up old s (sym a ∙ up) in
     let j : new ≡ t = same_up new t (sym f ∙ up') in

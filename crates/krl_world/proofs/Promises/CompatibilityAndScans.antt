@@ -107,9 +107,6 @@ not_out : (k : Client) (l : Link) (c : ℕ) (s : Bounds) (p : ℕ) → ShowsClie
 not_out k l c s p h free at x e = let lo = at.0 in let hi = at.1 in
     ⊎_elim (λ (a : op_key x < s.lo). inl (omega arith)) (λ (a : s.hi ≤ op_key x). inr (omega arith)) (not_in s k l.out h.out free x e)
 
-one_point : (p q : ℕ) → p ≤ q → q ≤ p → p ≡ q
-one_point p q a b = omega arith
-
 -- the cached value at a point that a scan covers is the index's
 value_is : (w : State) (of : ℕ → Link) (log : List Logged) (c : ℕ) (k : Client) (s : Bounds) (p : ℕ) (t : Bool) → Mirrors w of log → machine.ScanIsIndex (machine_of w.server of log) → ShowsClient c k (of c).client → is_writing_in k s ≡ false → is_covered k.belief p ≡ true → IsPointOf s p → s.hi ≤ TOP → nat_eq p END ≡ t → k.belief.value_at p ≡ map.get (index_of w) p
 value_is w of log c k s p true m scan h free covered at top e = let i = eqb-true p END e in
@@ -119,7 +116,7 @@ value_is w of log c k s p false m scan h free covered at top e =
     let j = end_is w.server in
     let hi = at.1 in
     let q = past_end in
-    let x = scan c p p (omega arith) (not_out k (of c) c s p h free at) (λ y a b. subst (λ z. machine.IsCovered (of c) z) (one_point p y a b) (covers k (of c) c p h covered)) p (omega arith) (omega arith) in
+    let x = scan c p p (omega arith) (not_out k (of c) c s p h free at) (λ y a b. let one : p ≡ y = omega (arith, a, b) in subst (λ z. machine.IsCovered (of c) z) one (covers k (of c) c p h covered)) p (omega arith) (omega arith) in
     h.value p ne ∙ x ∙ index_is w.server p
 
 scan_rows : (w : State) (of : ℕ → Link) (log : List Logged) (c lo hi : ℕ) (k : Client) (rows : List (ℕ × Value)) (a : ScanAnswer) → Mirrors w of log → machine.ScanIsIndex (machine_of w.server of log) → client_of w c ≡ Some k → scan_refusal (span lo hi) ≡ None → Answers k (span lo hi) a → a ≡ scanned.Rows rows → rows ≡ index.range (index_of w) lo hi

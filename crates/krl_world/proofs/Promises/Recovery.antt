@@ -1,6 +1,6 @@
 -- While a server recovers, what it has heard and may still hear lies within the bound of the run; and so does what it
 -- rebuilds.
-use Rattle.krl_world.proofs.Names.{◌≡◌, ℕ, ◌∙◌, true, false, Option, Some, None, List, [], ◌∷◌, refl, sym, subst, END, RangePart, KeyPart, AllByRecursion, Value, Pieces, In, RangeAtMost, KeyAtMost}
+use Rattle.krl_world.proofs.Names.{◌≡◌, ℕ, ◌∙◌, true, false, Option, Some, None, List, refl, sym, subst, END, RangePart, KeyPart, AllByRecursion, Value, Pieces, RangeAtMost, KeyAtMost}
 use Rattle.krl_world.proofs.Names.{Link, takes_report, Logged, MayTake, Reachable, stepped, at_link, restarts_hold, Record, Index, Rows, column, Server, is_recovering, lists, unlist, report_of}
 use Rattle.krl_world.proofs.Names.{machine_phase, view, IsRecord, Shows, IsWhole, Client, ShowsSeat, Up, State, client_of, range_believed, key_believed, Bound, table_with, IsRangeWithin, IsKeyWithin}
 use Rattle.krl_world.proofs.Names.{IsAwaited, IsRecoveryWithin}
@@ -12,7 +12,7 @@ use Rattle.krl_table.specs.Reports.{reported_key, adopted, range_said}
 use Rattle.krl_server.specs.Soundness.{IsSound}
 use Rattle.krl_refinement.proofs.Server.Meaning.{range_is, key_is}
 use Rattle.krl_server.proofs.Points.{same_range, same_key}
-use Rattle.krl_refinement.proofs.Server.Follows.{at_put}
+use Rattle.krl_refinement.proofs.Server.Follows.{at_put, recovering_phase}
 use Rattle.krl_server.proofs.Updates.{unlist_here, unlist_other}
 use Rattle.krl_refinement.proofs.Server.Reported.{report_shown}
 use Rattle.krl_server.proofs.Invariant.RowsSound.{adopted_others}
@@ -121,10 +121,6 @@ taken_within first w of log b s c inc pieces m have h i reach may whole d p = (
 
 -- Gathering
 
-recovers : (cs : List ℕ) → is_recovering cs ≡ true → machine_phase cs ≡ links.Recovering
-recovers [] e = absurd (cc)
-recovers (c ∷ cs) e = refl
-
 registered_as : (o : Option Record) (r : Record) (l : Link) → o ≡ Some r → IsRecord o l → l.reg ≡ r.incarnation
 registered_as o r l e h = let x : IsRecord (Some r) l = subst (λ y. IsRecord y l) e h in x.reg
 
@@ -154,7 +150,7 @@ recovery_world first w of log b s m have up reach recovering = record {
     shows = shown.0
 
     phase : machine_phase s.missing ≡ links.Recovering
-    phase = recovers s.missing recovering
+    phase = recovering_phase s.missing recovering
 
     may : (c : ℕ) (x : Record) (pieces : Pieces) → IsAwaited w s c x pieces → MayTake (shared_of (Up s)) (of c) (report_of x.incarnation s.durable.epoch pieces)
     may c x pieces a = record { sent = (m.from _ a.sent).0; recovering = phase; missing = (shows.link c).missing ∙ a.missing; inc = sym (registered_as _ x (of c) a.known (shows.link c).known); epoch = refl }

@@ -5,10 +5,10 @@ use Rattle.krl_world.proofs.Names.{ne_eqb, eqb-true, AllByRecursion, IsDistinct,
 use Rattle.krl_world.proofs.Names.{next, steps_reachable, steps_on, link_steps, Record, Register, record_of, missing_order, HasIncarnations, incarnation_or_0, IsRecord, IsIdle}
 use Rattle.std.proofs.lemmas.Map.Keys.{IsDistinct-head, IsDistinct-tail}
 use Rattle.std.specs.Map.{keys_of}
+use Rattle.krl_modes.proofs.Basics.{not_both}
 use Rattle.krl_machine.specs.Links as links
 use Rattle.krl_machine.specs.Worlds as machine
 use Rattle.krl_machine.specs.Worlds.{Changed, crash, start, finish, Steps, none, more, Reachable, begun, blank_link}
-use Rattle.krl_server.proofs.Tests.{not_truth}
 
 -- One link
 
@@ -134,7 +134,7 @@ left_all (x ∷ xs) h c r e = by_left x.1.left refl h (nat_eq c x.0) e (λ k. le
 known_by : (o : Option Record) → ((r : Record) → o ≡ Some r → r.left ≡ true) → IsRecord o (link_of o)
 known_by None h = record { reg = refl; left = refl; done = refl }
 known_by (Some r) h = let gone : r.left ≡ true = h r refl in
-    record { reg = refl; left = sym gone; done = λ n. absurd (not_truth r.left n gone); applied = λ o n e. absurd (not_truth r.left n gone) }
+    record { reg = refl; left = sym gone; done = λ n. absurd (not_both r.left gone n); applied = λ o n e. absurd (not_both r.left gone n) }
 
 pub opening_known : (es : Register) → missing_order es ≡ [] → (c : ℕ) → IsRecord (record_of es c) (links_of es c)
 opening_known es h c = known_by (record_of es c) (left_all es h c)

@@ -1,10 +1,10 @@
 -- Each world that a run reaches shows in a machine's world that can be reached, and the run's bound is the machine's.
 use Rattle.krl_world.proofs.Names.{◌≡◌, ℕ, ◌∙◌, Bool, true, false, List, [], ◌∷◌, refl, sym, ap, subst, if◌then◌else◌, END, RangePart, KeyPart, Durable, Link, Logged, Reachable, steps_reachable}
-use Rattle.krl_world.proofs.Names.{Server, is_recovering, start, machine_phase, Shows, BoundStays, ServerFollows, Step, Answer, ServerNode, Up, Down, State, durable_of, index_of, is_serving, opened}
+use Rattle.krl_world.proofs.Names.{Server, is_recovering, start, Shows, BoundStays, ServerFollows, Step, Answer, ServerNode, Up, Down, State, durable_of, index_of, is_serving, opened}
 use Rattle.krl_world.proofs.Names.{CanOpen, Takes, Runs, IsReachable, Bound, table_of, first_bound, step_clears, cleared, bound_at, bound_after, RunsWithin, HasBound}
 use Rattle.krl_modes.specs.declared.part.RangePart.TheVariants as range
 use Rattle.krl_modes.specs.declared.part.KeyPart.TheVariants as key
-use Rattle.krl_machine.specs.Links as links
+use Rattle.krl_refinement.proofs.Server.Follows.{serving_phase}
 use Rattle.krl_world.proofs.Refinement.Mirrors.{machine_of, ServerShows, Mirrors}
 use Rattle.krl_world.proofs.Refinement.MachineOpens.{links_of}
 use Rattle.krl_world.proofs.Refinement.Openings.{first_of, first_reached, first_mirrors}
@@ -24,13 +24,9 @@ pub record Reached (first : Durable) (w : State) (b : Bound) : Type 0 where
   pub bound : HaveBound of b
   pub index : b.index ≡ index_of w
 
-pub serves : (cs : List ℕ) → is_recovering cs ≡ false → machine_phase cs ≡ links.Serving
-serves [] e = refl
-serves (c ∷ cs) e = absurd (cc)
-
 -- where it serves, the links' bounds are its table
 table_bound : (s : Server) (of : ℕ → Link) → Shows s of → is_recovering s.missing ≡ false → HaveBound of (table_of s)
-table_bound s of h e c p = ((h.link c).range (serves s.missing e) p, (h.link c).key (serves s.missing e) p)
+table_bound s of h e c p = ((h.link c).range (serving_phase s.missing e) p, (h.link c).key (serving_phase s.missing e) p)
 
 range_kept : (t : Bool) (a b r : RangePart) → a ≡ b → r ≡ (if t then range.N else a) → r ≡ (if t then range.N else b)
 range_kept true a b r e f = f

@@ -3,6 +3,7 @@ use Rattle.krl_world.proofs.Names.{◌≡◌, ℕ, ◌∙◌, Bool, true, false,
 use Rattle.krl_world.proofs.Names.{slot_of, Durable, record_of, left_by, op_key, Server, is_recovering, Case, case_of, Done, holding, acknowledged, writes, pushes, effect, Kind, Idle, kind_of, Ends}
 use Rattle.krl_world.proofs.Names.{at_once, recovers, serves, ServerStep, pushes_missing, answered_up, Step, ServerNode, Up, Down, State, durable_of, index_of, is_serving}
 use Rattle.std.specs.Prelude.{nat_lt}
+use Rattle.krl_modes.proofs.Basics.{not_both}
 use Rattle.krl_messages.specs.declared.to_client.PushBody.TheVariants as push
 use Rattle.krl_server.proofs.Cased.{by_case}
 use Rattle.krl_world.proofs.Refinement.Serves.{not_serving}
@@ -18,10 +19,6 @@ pushes_index s c b = done_by (nat_lt (s.sessions c).last_push END) _ _ s refl re
 left_index : (d : Durable) (c : ℕ) (o : Option Record) → (left_by d c o).index ≡ d.index
 left_index d c None = refl
 left_index d c (Some r) = refl
-
-not_both : (b : Bool) → b ≡ true → b ≡ false → ⊥
-not_both true e f = cc
-not_both false e f = cc
 
 -- the index stays where a step ends with its effect: nobody serves after it, or it has not acted
 abbrev Stays : Server → ToServer → Case → Type 0

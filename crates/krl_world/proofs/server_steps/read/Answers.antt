@@ -1,14 +1,15 @@
 use Rattle.krl_world.proofs.Names.{◌≡◌, arith, Some, ◌++◌, sym, ap, subst, ◌∙◌, ToServer, slice_get, from_server, HasServed, applied_in, as_list}
 use Rattle.krl_world.specs.declared.message.Message.TheVariants as sent_message
 use Rattle.krl_server.specs.StateMeaning.{meaning}
-use Rattle.krl_world.proofs.Functions.Applies.{served_by, got}
+use Rattle.krl_world.proofs.Functions.Applies.{served_by}
+use Rattle.std.proofs.lemmas.Option.{get_or_from_slice_get}
 use Rattle.krl_server.specs.Termination.{most_messages}
 use Rattle.krl_world.proofs.server_steps.read.Goals as goal
 
 pub returns-clause-ok : goal.returns-clause-ok
 returns-clause-ok c = λ m f.
     let x = c.in-ToServer.message in
-    let h = got c.reserve.new.self.items c.args.at (sent_message.ToServer m) c.index.result.now (subst (λ xs. slice_get xs c.args.at ≡ Some (sent_message.ToServer m)) (sym c.reserve.ensures.items) f) in
+    let h = get_or_from_slice_get c.reserve.new.self.items c.args.at (sent_message.ToServer m) c.index.result.now (subst (λ xs. slice_get xs c.args.at ≡ Some (sent_message.ToServer m)) (sym c.reserve.ensures.items) f) in
     let e : m ≡ x = cc (h, c.index.ensures, c.in-ToServer.is) in
     let s = meaning c.args.server.now in
     let t = meaning c.step.new.self in
