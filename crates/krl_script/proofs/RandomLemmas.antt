@@ -1,5 +1,5 @@
 -- What a random run keeps from step to step.
-use Rattle.std.proofs.Common.{◌≡◌, ◌≢◌, ℕ, zero, suc, ◌+◌, ◌<◌, ◌≤◌, ◌&&◌, Bool, true, false, ◌-◌, length, take, drop, get_or, List, [], ◌∷◌, ◌++◌, Option, None, Some, Result, Ok, Err, refl, sym, ap, subst, ◌∙◌, arith, add-one, drop-cons, eq-eqb, eqb-true, nat_le, nat_eq}
+use Rattle.std.proofs.Common.{◌≡◌, ◌≢◌, ℕ, zero, suc, ◌+◌, ◌<◌, ◌&&◌, Bool, true, false, ◌-◌, length, take, drop, get_or, List, [], ◌∷◌, ◌++◌, Option, None, Some, Result, Ok, Err, refl, sym, ap, subst, ◌∙◌, arith, add-one, drop-cons, eq-eqb, eqb-true, nat_le, nat_eq}
 use Rattle.std.specs.Prelude.{not, is_some, is_none, slice_get, nat_lt}
 use Rattle.std.specs.FinMap as map
 use Rattle.std.specs.Cmp.Lexicographic.{pointwise, same_text, other_text}
@@ -10,7 +10,6 @@ use Rattle.std.proofs.lemmas.List.Elements.{filter-append}
 use Rattle.krl_blocks.specs.Laid.{flat}
 use Rattle.krl_blocks.proofs.Places.{flat_join}
 use Rattle.krl_blocks.proofs.Readings.{flat_next}
-use Rattle.std.proofs.lemmas.Bool.Decides.{nat_tests}
 use Rattle.std.proofs.lemmas.Bool.{and_parts, not-false}
 use Rattle.krl_durable.specs.Index.{Index}
 use Rattle.std.specs.List.{filter}
@@ -145,9 +144,6 @@ itself r = by_test (pointwise nat_eq (padded r.1) (padded r.1)) refl
     by_test : (b : Bool) → pointwise nat_eq (padded r.1) (padded r.1) ≡ b → same_row r r ≡ true
     by_test true e = rw (eq-eqb r.0 r.0 refl, e, eq-eqb (length r.1) (length r.1) refl) refl
     by_test false e = absurd (other_text (padded r.1) (padded r.1) (sym e) refl)
-
-pub within : (lo hi n : ℕ) → lo ≤ n → n < hi → (nat_le lo n && nat_lt n hi) ≡ true
-within lo hi n a b = grind (arith, nat_tests)
 
 -- Rows that begin with a range
 

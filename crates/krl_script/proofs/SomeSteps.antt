@@ -1,7 +1,8 @@
 -- Each step of a world has some outcome, and each list of entries begins a world or is refused.
-use Rattle.std.proofs.Common.{◌≡◌, ◌≢◌, ℕ, zero, suc, ◌+◌, ◌-◌, ◌≤◌, ◌<◌, nat_le, Bool, true, false, List, [], ◌∷◌, length, Option, None, Some, Result, Ok, Err, refl, sym, subst, arith, ◌⊎◌, inl, inr}
+use Rattle.std.proofs.Common.{◌≡◌, ◌≢◌, ℕ, zero, suc, ◌+◌, ◌-◌, ◌≤◌, ◌<◌, Bool, true, false, List, [], ◌∷◌, length, Option, None, Some, Result, Ok, Err, refl, sym, subst, arith, ◌⊎◌, inl, inr}
+use Rattle.std.proofs.lemmas.Bool.{cases_lt}
 use Rattle.std.proofs.lemmas.Bool.Decides.{nat_tests, eqb_tells}
-use Rattle.std.specs.Prelude.{nat_lt, is_some, cond, not}
+use Rattle.std.specs.Prelude.{is_some, cond, not}
 use Rattle.krl_modes.specs.declared.point.TheConstants.{END}
 use Rattle.krl_modes.specs.Spans.{Bounds}
 use Rattle.krl_messages.specs.Values.{Value}
@@ -29,16 +30,9 @@ use Rattle.krl_world.specs.States.{State, ServerNode, Up, Down, client_of}
 use Rattle.krl_durable.specs.Writes.{most_entries}
 use Rattle.krl_durable.specs.InitialEntries.{key_of_entry, stands_before, IsGood, AreGood}
 use Rattle.krl_durable.specs.declared.refused.Refused.TheVariants as index
-use Rattle.krl_world.specs.Steps.{CanBegin, CannotBegin, span, named, of_client, if_runs, command_refusal, server_down, message_at, refusal_of, Arrives, ServerReads, ClientReads, Delivers, TakesMemory, Does, Steps}
+use Rattle.krl_world.specs.Steps.{CanBegin, CannotBegin, span, named, if_runs, command_refusal, server_down, message_at, refusal_of, Arrives, ServerReads, ClientReads, Delivers, TakesMemory, Does, Steps}
 use Rattle.krl_steps.specs.Refusals.{refused_by_client}
-
--- one is no more than the other, or it is more
-le_or_lt : (m n : ℕ) → (m ≤ n) ⊎ (n < m)
-le_or_lt m n =
-    elim (nat_le m n) as (λ (b : Bool). nat_le m n ≡ b → (m ≤ n) ⊎ (n < m)) [
-      | true ↦ λ b. inl (grind (arith, nat_tests))
-      | false ↦ λ b. inr (grind (arith, nat_tests))
-    ] refl
+use Rattle.krl_world.proofs.Refinement.Taken.{client_ok}
 
 -- what is told of a step
 abbrev Outcome : State → Step → Type 0
@@ -86,13 +80,6 @@ runs : (k : Option Client) (what : Command) → if_runs k (λ x. named refused_b
 runs None what e = absurd (let bad : ◌≡◌ {A = Option Refused} (Some refused.Down) None = e in cc)
 runs (Some k) what e = (k, refl, named_none (command_refusal k what) e)
 
-has_number : (c : ℕ) (r : Option Refused) → of_client c r ≡ None → r ≡ None
-has_number c r e =
-    elim (nat_lt 63 c) as (λ (b : Bool). cond b (Some refused.BadClient) r ≡ None → r ≡ None) [
-      | true ↦ λ h. absurd (let bad : ◌≡◌ {A = Option Refused} (Some refused.BadClient) None = h in cc)
-      | false ↦ λ h. h
-    ] e
-
 -- the client knows n points from lo on, or there is a least one that it doesn't know
 abbrev Known : Belief → ℕ → ℕ → Type 0
 Known b lo n = CoversAll b (span lo (lo + n)) ⊎ ((p : ℕ) × IsLeastUncovered b (span lo (lo + n)) p)
@@ -132,9 +119,9 @@ some_scan w c lo hi k is e =
   where
     spans : (x : Client) → CoversAll x.belief (span lo hi) ⊎ ((p : ℕ) × IsLeastUncovered x.belief (span lo hi) p)
     spans x =
-        elim (le_or_lt lo hi) [
-          | inr l ↦ inl (λ p h. absurd (omega (arith, h.0, h.1, l)))
-          | inl l ↦
+        elim (cases_lt hi lo) [
+          | inl l ↦ inl (λ p h. absurd (omega (arith, h.0, h.1, l)))
+          | inr l ↦
               let at : lo + (hi - lo) ≡ hi = omega (arith, l) in
               subst (λ (n : ℕ). CoversAll x.belief (span lo n) ⊎ ((p : ℕ) × IsLeastUncovered x.belief (span lo n) p)) at (known_or_not x.belief lo (hi - lo))
         ]
@@ -162,7 +149,7 @@ some_command w c command.Leave k is may e = starved w (step.Command c command.Le
 some_taken : (w : State) (s : Step) → refusal_of w s ≡ None → Outcome w s
 some_taken w (step.Deliver i) e = some_delivery w i e
 some_taken w (step.Command c what) e =
-    let x = runs (client_of w c) what (has_number c (if_runs (client_of w c) (λ k. named refused_by_client (command_refusal k what))) e) in
+    let x = runs (client_of w c) what (client_ok c (if_runs (client_of w c) (λ k. named refused_by_client (command_refusal k what))) e) in
     some_command w c what x.0 x.1 x.2 e
 some_taken w (step.Tick c) e = starved w (step.Tick c) e tt
 some_taken w (step.Nudge c) e = starved w (step.Nudge c) e tt
@@ -191,9 +178,9 @@ good_or_not es (suc n) =
     elim (good_or_not es n) [
       | inr bad ↦ inr (bad.0, omega (arith, bad.1), bad.2, bad.3)
       | inl all ↦
-          elim (le_or_lt END (key_of_entry es n)) [
-            | inl l ↦ inr (n, omega arith, all, inl l)
-            | inr l ↦
+          elim (cases_lt (key_of_entry es n) END) [
+            | inr l ↦ inr (n, omega arith, all, inl l)
+            | inl l ↦
                 elim (stands_before es n) as (λ (b : Bool). stands_before es n ≡ b → AreGood es (suc n) ⊎ FirstBad es (suc n)) [
                   | true ↦ λ b. inr (n, omega arith, all, inr (l, b))
                   | false ↦ λ b. inl (λ i h.
@@ -207,9 +194,9 @@ good_or_not es (suc n) =
 
 pub can_begin_or_not : (entries : List (ℕ × Value)) → CanBegin entries ⊎ ((r : Refused) × CannotBegin entries r × (r ≢ refused.OutOfMemory))
 can_begin_or_not entries =
-    elim (le_or_lt (length entries) most_entries) [
-      | inr l ↦ inr (refused.Full, (index.Full, l, refl), λ e. absurd (let bad : refused.Full ≡ refused.OutOfMemory = e in cc))
-      | inl l ↦
+    elim (cases_lt most_entries (length entries)) [
+      | inl l ↦ inr (refused.Full, (index.Full, l, refl), λ e. absurd (let bad : refused.Full ≡ refused.OutOfMemory = e in cc))
+      | inr l ↦
           elim (good_or_not entries (length entries)) [
             | inl all ↦ inl (l, all)
             | inr bad ↦

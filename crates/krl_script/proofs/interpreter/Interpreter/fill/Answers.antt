@@ -1,8 +1,8 @@
+use Rattle.std.proofs.lemmas.Result.{IfOk-weaker}
 use Rattle.krl_script.specs.Fields.{meaning}
 use Rattle.krl_script.proofs.Interpreting.{fill_refused}
-use Rattle.krl_text.proofs.Outcomes.{on_ok}
 use Rattle.krl_script.proofs.interpreter.Interpreter.fill.Goals as goal
 
 pub returns-then-n-gt-MAX_ENTRIES : goal.returns-then-n-gt-MAX_ENTRIES
 returns-then-n-gt-MAX_ENTRIES c =
-    on_ok _ _ (λ line h. fill_refused (meaning c.args.self.now) (meaning c.refuse.new.self) c.args.n line.bytes.items c.if-n-gt-MAX_ENTRIES.true h.0 h.1) c.refuse.result c.refuse.ensures
+    IfOk-weaker c.refuse.result _ _ (λ line h. fill_refused (meaning c.args.self.now) (meaning c.refuse.new.self) c.args.n line.bytes.items c.if-n-gt-MAX_ENTRIES.true h.0 h.1) c.refuse.ensures

@@ -1,8 +1,8 @@
 use Rattle.std.proofs.Common.{true, sym, ◌∙◌, arith}
+use Rattle.std.proofs.lemmas.Result.{IfOk-weaker}
 use Rattle.krl_script.specs.Fields.{meaning}
 use Rattle.krl_script.specs.contracts.interpreter.Interpreter.{the_view}
 use Rattle.krl_script.proofs.Interpreting.{settles_idle, settles_refused, settles_at_bound, settles_unsettled, delivers_more}
-use Rattle.krl_text.proofs.Outcomes.{on_ok}
 use Rattle.krl_script.proofs.interpreter.Interpreter.settle.Goals as goal
 
 pub returns-in-Idle : goal.returns-in-Idle
@@ -12,10 +12,10 @@ returns-in-Idle c =
 
 pub returns-in-Refused : goal.returns-in-Refused
 returns-in-Refused c =
-    on_ok _ _ (λ line e.
+    IfOk-weaker c.refused.result _ _ (λ line e.
     settles_refused c.args.most c.args.unsettled.now (meaning c.args.self.now) (meaning c.deliveries.self) (meaning c.deliver_oldest.new.self) c.deliveries.counter line.bytes.items c.in_ok-deliver_oldest.field-0 c.in-Refused.refused (omega arith)
     c.deliveries.invariant.many c.in_ok-deliver_oldest.ensures c.in-Refused.is e)
-    c.refused.result c.refused.ensures
+    c.refused.ensures
 
 pub deliveries-preserved : goal.deliveries-preserved
 deliveries-preserved c =
@@ -25,10 +25,10 @@ deliveries-preserved c =
 
 pub returns-then-is_some : goal.returns-then-is_some
 returns-then-is_some c =
-    on_ok _ _ (λ line e.
+    IfOk-weaker c.text.result _ _ (λ line e.
     settles_unsettled c.args.most c.args.unsettled.now (meaning c.args.self.now) (the_view c.self-2.inside) c.deliveries.self c.oldest.new.self c.deliveries.counter line.bytes.items c.oldest.result c.self-2.view_is c.oldest.ensures.same (omega arith)
     c.deliveries.invariant.many c.oldest.ensures.oldest (sym c.is_some.ensures ∙ c.if-is_some.true) e)
-    c.text.result c.text.ensures
+    c.text.ensures
 
 pub returns : goal.returns
 returns c =
