@@ -3,4 +3,3 @@ pub mod Digits
 pub mod PairsLemmas
 pub mod LinesLemmas
 pub mod WritingLemmas
-pub mod Outcomes
