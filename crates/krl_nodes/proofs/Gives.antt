@@ -6,7 +6,7 @@ use Rattle.krl_nodes.proofs.Names.{Change, MayGive, gave, HasNoMore}
 use mathlib.Core.Option as opt
 use Rattle.std.specs.Prelude.{Ok, slice_get, nat_eq, if◌then◌else◌}
 use Rattle.krl_steps.specs.declared.step.Step.{Step}
-use Rattle.krl_world.proofs.Functions.Shapes.{Left, as_it_was, at_seat, at_server, takes_left, reachable_nobody}
+use Rattle.krl_world.proofs.Functions.Shapes.{opening_left, takes_left, reachable_nobody}
 use Rattle.krl_world.proofs.Functions.Runs.{reachable_after}
 use Rattle.krl_nodes.specs.declared.post.Chair.TheVariants.{Taken, Free}
 use Rattle.krl_nodes.specs.declared.view.Node.{Node}
@@ -15,11 +15,6 @@ use Rattle.krl_nodes.proofs.Chairs.{chair_here, chair_else}
 use Rattle.krl_nodes.proofs.Takes.{Goes, running_same}
 
 -- A step keeps the entries that the world began with
-
-opening_left : (w v : State) → Left w v → v.opening ≡ w.opening
-opening_left w _ as_it_was = refl
-opening_left w _ (at_seat c x sent n) = refl
-opening_left w _ (at_server n sent writes) = refl
 
 pub reaches_on : (opening : List (ℕ × Value)) (w v : State) (s : Step) (a : Answer) → ReachableFrom opening w → Steps w s (Ok a) v → ReachableFrom opening v
 unfolding Steps
