@@ -1,8 +1,7 @@
 -- One pair of lists describes a belief.
-use Rattle.std.proofs.Common.{◌≡◌, ◌≢◌, ℕ, suc, ◌≤◌, ◌<◌, inl, inr, Bool, true, false, cond, List, [], ◌∷◌, refl, sym, ap, subst, ◌∙◌, arith}
+use Rattle.std.proofs.Common.{◌≡◌, ◌≢◌, ℕ, suc, ◌≤◌, ◌<◌, inl, inr, true, false, List, [], ◌∷◌, refl, sym, ap, subst, ◌∙◌, arith}
 use Rattle.std.specs.Prelude.{nat_eq}
 use Rattle.std.proofs.lemmas.Bool.Decides.{nat_tests, leb_tells}
-use Rattle.krl_modes.specs.declared.part.RangePart.{RangePart}
 use Rattle.krl_modes.specs.declared.part.RangePart.TheVariants as range
 use Rattle.krl_modes.specs.declared.part.KeyPart.{KeyPart}
 use Rattle.krl_modes.specs.declared.part.KeyPart.TheVariants as key
@@ -10,9 +9,7 @@ use Rattle.krl_modes.specs.Parts.{reads_key}
 use Rattle.krl_modes.specs.Spans.{contains}
 use Rattle.krl_messages.specs.declared.range_pieces.RangePiece.{RangePiece}
 use Rattle.krl_messages.specs.declared.key_pieces.KeyPiece.{KeyPiece}
-use Rattle.krl_messages.specs.declared.pieces.Pieces.{Pieces}
-use Rattle.krl_cache.specs.Kept.{range_said, key_said, AreInOrder, DiffersFromNext, AreMerged, AreAscending, Describes}
-use Rattle.krl_cache.specs.Beliefs.{Belief}
+use Rattle.krl_cache.specs.Kept.{range_said, key_said, AreInOrder, DiffersFromNext, AreMerged, AreAscending}
 use Rattle.krl_cache.proofs.Described.{in_order_before}
 use Rattle.krl_cache_laws.specs.Runs.{PiecesAreDetermined}
 

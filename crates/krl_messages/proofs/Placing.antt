@@ -1,7 +1,7 @@
 -- A holding is put behind the others, in its place.
 use Rattle.std.proofs.Common.{◌≡◌, ◌≤◌, ◌<◌, ◌+◌, ◌-◌, ℕ, suc, List, [], ◌∷◌, ◌++◌, length, take, set, replicate, refl, sym, ap, subst, ◌∙◌, append_assoc, length-append, arith}
 use Rattle.std.proofs.Math.Seq.{set-append_seam}
-use Rattle.std.proofs.lemmas.List.{take_more_set, length-replicate}
+use Rattle.std.proofs.lemmas.List.{take_more_set}
 use Rattle.krl_messages.specs.declared.holding.Holding.{Holding}
 use Rattle.krl_messages.specs.declared.holdings.Holdings.TheInside.{Inside}
 use Rattle.krl_messages.specs.Several.{most_holdings, Ascend, places}

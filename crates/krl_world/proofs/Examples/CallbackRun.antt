@@ -1,6 +1,6 @@
 -- On from the first run: another client wants the same gap alone, so the first is called back, and the other is granted it.
 use Rattle.krl_world.proofs.Names.{◌≡◌, Some, None, List, [], ◌∷◌, refl, sym, ap, ToServer, ToClient, Index, most_clients, Server, Registers, Waits, Lowers, case_of, effect, Turn, next_turn}
-use Rattle.krl_world.proofs.Names.{answer_first, callbacks, ServerStep, Client, locked, lowered, says_report, says_ack, accepted, Step, Up, State, fresh, seated, served, with_client, opened, span}
+use Rattle.krl_world.proofs.Names.{answer_first, callbacks, ServerStep, Client, locked, lowered, says_report, says_ack, accepted, Step, Up, State, seated, served, with_client, opened, span}
 use Rattle.krl_world.proofs.Names.{applies, Takes, Runs}
 use Rattle.std.specs.FinMap as map
 use Rattle.krl_modes.specs.declared.part.RangePart.TheVariants as range

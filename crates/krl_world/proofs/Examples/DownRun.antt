@@ -1,5 +1,5 @@
 -- On from the first run: the server crashes, and a scan of the client's cache gives the entry still.
-use Rattle.krl_world.proofs.Names.{◌≡◌, [], ◌∷◌, ◌++◌, Some, refl, Ok, Durable, finds_rows, Down, State, fresh, opened, served, Takes, Steps, IsReachable}
+use Rattle.krl_world.proofs.Names.{◌≡◌, [], ◌∷◌, ◌++◌, refl, Ok, Durable, finds_rows, Down, State, fresh, opened, served, Takes, Steps, IsReachable}
 use Rattle.krl_steps.specs.declared.step.Step.TheVariants as step
 use Rattle.krl_steps.specs.declared.step.Command.TheVariants as command
 use Rattle.krl_steps.specs.declared.answer.Answer.TheVariants as told

@@ -1,6 +1,6 @@
 -- Another run, step by step: a client locks the gap below 20, inserts 15 there, and is told Applied.
 use Rattle.krl_world.proofs.Names.{◌≡◌, ◌∙◌, Some, List, [], ◌∷◌, refl, sym, ap, inl, inr, nat_cmp, nat_cmp_total, put, In, case_of, Client, locked, wrote, says_ack, accepted, AppliedWrite, Step, Up}
-use Rattle.krl_world.proofs.Names.{State, fresh, served, with_client, opened, applies, Takes, IsReachable, answer_message}
+use Rattle.krl_world.proofs.Names.{State, served, with_client, opened, applies, Takes, IsReachable, answer_message}
 use Rattle.std.specs.FinMap as map
 use Rattle.krl_modes.specs.declared.mode.Mode.TheVariants as mode
 use Rattle.krl_messages.specs.declared.outcome.Outcome.TheVariants as outcome

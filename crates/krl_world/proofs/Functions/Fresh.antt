@@ -1,5 +1,5 @@
 -- The world in which nothing has happened since it was opened.
-use Rattle.krl_world.proofs.Names.{◌≡◌, ℕ, suc, ◌<◌, ◌≤◌, ◌+◌, ◌∙◌, Bool, true, false, Option, Some, None, List, [], ◌∷◌, ◌++◌, length, get_or, refl, sym, ap, subst, arith, nat_eq, nat_lt}
+use Rattle.krl_world.proofs.Names.{◌≡◌, ℕ, ◌<◌, ◌≤◌, ◌+◌, ◌∙◌, Bool, true, false, Option, Some, None, List, [], ◌∷◌, ◌++◌, length, get_or, refl, sym, ap, arith, nat_eq, nat_lt}
 use Rattle.krl_world.proofs.Names.{if◌then◌else◌, length-append, get_or-append, get_or-eq_default, nat_tests, AllByRecursion, Record, Register, Durable, record_of, incarnation_or_0, start, Message}
 use Rattle.krl_world.proofs.Names.{AppliedWrite, Up, never_started, opened, meaning, seats_of, seat_of, kept_nobody, AreUnstarted}
 use Rattle.std.proofs.Math.Seq.{get_or-append_seam}

@@ -1,7 +1,7 @@
 -- What a seat or the server does is a step of the world.
 use Rattle.std.proofs.Common.{◌≡◌, ◌≢◌, ℕ, ◌≤◌, ◌<◌, cond, Some, None, Option, inl, inr, List, [], ◌++◌, length, set, refl, sym, ap, subst, ◌∙◌, ⊎_elim, eq-eqb, ne_eqb, append-nil}
-use Rattle.krl_world.proofs.Names.{lt-ltb, le-ltb, get_or-set_same, get_or-set_other, eq_cases, ToServer, Message, Step, Answer, Refused, State, Seat, set_seat, seated, from_clients, Steps, Takes}
-use Rattle.krl_world.proofs.Names.{TakesMemory, refusal_of, of_client, if_runs, named, command_refusal, CommandTakesMemory, Obeys, Fields, meaning, seats_of, seat_of, kept_nobody, IsRefused}
+use Rattle.krl_world.proofs.Names.{lt-ltb, le-ltb, get_or-set_same, get_or-set_other, eq_cases, ToServer, Message, Step, Answer, Refused, State, Seat, set_seat, seated, from_clients, Steps}
+use Rattle.krl_world.proofs.Names.{TakesMemory, refusal_of, of_client, Fields, meaning, seats_of, seat_of, kept_nobody, IsRefused}
 use Rattle.std.proofs.Math.Path.{fun_ext}
 use Rattle.std.specs.Prelude.{if◌then◌else◌, Ok, Err}
 use Rattle.krl_world.specs.declared.node.Seat.{Seat as KeptSeat}

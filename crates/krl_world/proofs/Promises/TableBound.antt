@@ -1,5 +1,5 @@
 -- While it serves, the bound of a run is the server's table.
-use Rattle.krl_world.proofs.Names.{◌≡◌, ℕ, Bool, true, false, List, [], ◌∷◌, refl, sym, subst, if◌then◌else◌, Durable, is_recovering, Step, ServerNode, Up, Down, State, opened, Bound, table_of}
+use Rattle.krl_world.proofs.Names.{◌≡◌, Bool, true, false, List, [], ◌∷◌, refl, sym, subst, if◌then◌else◌, Durable, is_recovering, Step, ServerNode, Up, Down, State, opened, Bound, table_of}
 use Rattle.krl_world.proofs.Names.{first_bound, step_clears, cleared, bound_at, bound_after, RunsWithin, BoundIsTable}
 
 abbrev IsItsTable : ServerNode → Bound → Type 0

@@ -1,5 +1,4 @@
-use Rattle.std.proofs.Common.{◌≡◌, ◌&&◌, ◌++◌, ◌+◌, take, drop, ℕ, List, nat_le, nat_lt, sym, ap, ◌∙◌, arith}
-use Rattle.std.proofs.lemmas.List.{take_all, nil_from_length, append-nil}
+use Rattle.std.proofs.Common.{◌&&◌, ◌+◌, drop, ℕ, nat_le, nat_lt}
 use Rattle.std.specs.List.{filter}
 use Rattle.krl_blocks.specs.Laid.{flat}
 use Rattle.krl_blocks.specs.Runs.{runs_of}

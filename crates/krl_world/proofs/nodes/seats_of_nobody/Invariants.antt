@@ -1,4 +1,4 @@
-use Rattle.krl_world.proofs.Names.{◌≡◌, AreUnstarted}
+use Rattle.krl_world.proofs.Names.{AreUnstarted}
 use Rattle.krl_world.proofs.nodes.seats_of_nobody.Given as goal
 
 -- so many seats are there, and none was started

@@ -1,4 +1,4 @@
-use Rattle.std.proofs.Common.{◌≡◌, ◌<◌, ◌∷◌, [], ◌++◌, length, take, sym, ap, subst}
+use Rattle.std.proofs.Common.{◌<◌, ◌∷◌, [], ◌++◌, length, sym, subst}
 use Rattle.krl_messages.specs.Several.{Ascend, most_holdings}
 use Rattle.krl_messages.proofs.Placing.{pushed}
 use Rattle.krl_messages.proofs.holdings.Holdings.push.Goals as goal

@@ -1,4 +1,4 @@
-use Rattle.std.proofs.Common.{rules, ◌≡◌, ◌≤◌, length, ap}
+use Rattle.std.proofs.Common.{length, ap}
 use Rattle.krl_messages.proofs.Paddings.{written}
 use Rattle.krl_messages.proofs.value.Value.new.Goals as goal
 

@@ -1,4 +1,4 @@
-use Rattle.krl_world.proofs.Names.{◌≡◌, subst, true, IsStarted, can_start}
+use Rattle.krl_world.proofs.Names.{◌≡◌, subst, true, can_start}
 use Rattle.krl_world.proofs.Functions.Fresh.{opened_fields}
 use Rattle.krl_world.proofs.nodes.Nodes.open.Goals as goal
 
