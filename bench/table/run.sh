@@ -14,7 +14,8 @@
 #   report-of-1000     a report of 1,000 ranges in order; unordered-of-1000: the same in no order
 #   delete, insert     an entry and its slot go or come, with the question whether the client may write
 #
-# It stops where two runs of a program answer differently.
+# It stops where two runs of a program answer differently. In the end it prints what memory the program takes while
+# 30,000 entries, all of them locked, come and go: after 10,000 inserts and deletes, and after 990,000 more.
 set -eu
 
 name=table
@@ -47,3 +48,5 @@ done | awk '
             printf " %12.1f %12.1f %6.2f\n", c, d, d / c
         }
     }'
+
+"$built" 10000 990000
