@@ -1,7 +1,8 @@
 -- What the machine promises of writes holds in each world that shows in it.
-use Rattle.krl_world.proofs.Names.{◌≡◌, ◌≢◌, ℕ, ◌∙◌, false, cond, Option, Some, None, List, [], ◌∷◌, ◌++◌, ◌⊎◌, inl, inr, refl, sym, ap, subst, ⊎_elim, arith, ◌==◌, nat_tests, nat_cmp, eq_by_cmp}
+use Rattle.krl_world.proofs.Names.{◌≡◌, ◌≢◌, ℕ, ◌∙◌, false, cond, Option, Some, None, List, [], ◌∷◌, ◌++◌, ◌⊎◌, inl, inr, refl, sym, ap, subst, ⊎_elim}
 use Rattle.krl_world.proofs.Names.{nat_cmp_total, Value, Outcome, WriteOp, In, in_both, Op, Link, Logged, entry_after, Index, written, op_of, is_applied, AppliedWrite, State, index_of, IsListed}
 use Rattle.krl_world.proofs.Names.{IsOnce, fold, IsDue, AreDue, WritesOnce}
+use Rattle.std.specs.Cmp.{unsigned_tied}
 use Rattle.std.specs.FinMap as map
 use Rattle.krl_messages.specs.declared.outcome.Outcome.TheVariants as outcome
 use Rattle.krl_messages.specs.declared.write_op.WriteOp.TheVariants as write
@@ -62,14 +63,11 @@ once_is (e ∷ es) h = once_snoc (oldest_first es) (as_applied e) (once_is es h.
 
 -- The index is the fold
 
-same_key : (q k : ℕ) → eq_by_cmp nat_cmp q k ≡ (q == k)
-same_key q k = grind (arith, nat_tests)
-
 -- a write makes of a map what the machine makes of its look-ups
 written_at : (m : Index) (x : WriteOp) (q : ℕ) → map.get (written m x) q ≡ entry_after (op_of x) (map.get m q) q
-written_at m (write.Insert k v) q = map.get-insert nat_cmp_total m k v q ∙ ap (λ b. cond b (Some v) (map.get m q)) (same_key q k)
-written_at m (write.Put k v) q = map.get-insert nat_cmp_total m k v q ∙ ap (λ b. cond b (Some v) (map.get m q)) (same_key q k)
-written_at m (write.Delete k) q = map.get-remove nat_cmp_total m k q ∙ ap (λ b. cond b None (map.get m q)) (same_key q k)
+written_at m (write.Insert k v) q = map.get-insert nat_cmp_total m k v q ∙ ap (λ b. cond b (Some v) (map.get m q)) (unsigned_tied q k)
+written_at m (write.Put k v) q = map.get-insert nat_cmp_total m k v q ∙ ap (λ b. cond b (Some v) (map.get m q)) (unsigned_tied q k)
+written_at m (write.Delete k) q = map.get-remove nat_cmp_total m k q ∙ ap (λ b. cond b None (map.get m q)) (unsigned_tied q k)
 
 there_and_back : (x : Op) → op_of (op_back x) ≡ x
 there_and_back (links.Insert k v) = refl
