@@ -23,8 +23,8 @@ use krl_modes::{END, Mode, Span};
 use std::alloc::AllocError;
 
 // Whether each holding of a push has its value by the rule.
-fn fits(body: PushBody) -> bool
-    ensures { result ≡ messages.fits body }
+fn fits(body: &PushBody) -> bool
+    ensures { result ≡ messages.fits body.now }
 {
     match body {
         PushBody::Grant { holdings, .. } => holdings.have_values(),
@@ -87,16 +87,16 @@ impl Client {
     }
 
     // Takes over what is granted.
-    fn accept_grant(&mut self, req: u64, holdings: Holdings) -> Result<Vec<ToServer>, AllocError>
+    fn accept_grant(&mut self, req: u64, holdings: &Holdings) -> Result<Vec<ToServer>, AllocError>
         requires last { suc (self.old).seen ≤ END }
-        requires fits { have_values holdings ≡ true }
+        requires fits { have_values holdings.now ≡ true }
         ensures unchanged { OnErr result (self.new ≡ self.old) }
         ensures follows { IfOk result
-            (λ list. Follows (meaning self.old) (Accepts (push.Grant req holdings))
+            (λ list. Follows (meaning self.old) (Accepts (push.Grant req holdings.now))
             (meaning self.new) list.items) }
     {
         let list = self.ack_next()?;
-        self.cache.adopt_all(&holdings)?;
+        self.cache.adopt_all(holdings)?;
         self.asked = self.asked.answered(req == self.req, LockRequest::Granted);
         self.seen += 1;
         Ok(list)
@@ -138,20 +138,20 @@ impl Client {
     }
 
     // Takes over what the push brings.
-    fn accept(&mut self, body: PushBody) -> Result<Vec<ToServer>, AllocError>
+    fn accept(&mut self, body: &PushBody) -> Result<Vec<ToServer>, AllocError>
         requires last { suc (self.old).seen ≤ END }
-        requires fits { messages.fits body ≡ true }
+        requires fits { messages.fits body.now ≡ true }
         ensures unchanged { OnErr result (self.new ≡ self.old) }
         ensures follows { IfOk result
-            (λ list. Follows (meaning self.old) (Accepts body) (meaning self.new) list.items) }
+            (λ list. Follows (meaning self.old) (Accepts body.now) (meaning self.new) list.items) }
     {
         match body {
             PushBody::Grant { req, holdings } => {
-                let grant = self.accept_grant(req, holdings)?;
+                let grant = self.accept_grant(*req, holdings)?;
                 Ok(grant)
             }
             PushBody::Absent { req, point } => {
-                let absent = self.accept_absent(req, point)?;
+                let absent = self.accept_absent(*req, *point)?;
                 Ok(absent)
             }
             PushBody::Answer {
@@ -159,7 +159,7 @@ impl Client {
                 outcome,
                 holding,
             } => {
-                let answer = self.accept_answer(number, outcome, holding)?;
+                let answer = self.accept_answer(*number, *outcome, *holding)?;
                 Ok(answer)
             }
         }
@@ -192,19 +192,18 @@ impl Client {
         &mut self,
         epoch: u64,
         number: u64,
-        body: PushBody,
+        body: &PushBody,
     ) -> Result<Vec<ToServer>, AllocError>
         ensures unchanged { OnErr result (self.new ≡ self.old) }
         ensures follows { IfOk result
             (λ list. Follows (meaning self.old)
-            (messages.case_of_body (meaning self.old) (told.Push epoch number body))
+            (messages.case_of_body (meaning self.old) (told.Push epoch number body.now))
             (meaning self.new) list.items) }
     {
-        let again = body;
         if epoch != self.epoch {
             return Ok(Vec::new(self.alloc));
         }
-        if !fits(again) {
+        if !fits(body) {
             return Ok(Vec::new(self.alloc));
         }
         if self.is_next(number) {
@@ -263,14 +262,16 @@ impl Client {
         if message.incarnation != self.incarnation {
             return Ok(Vec::new(self.alloc));
         }
-        match message.body {
-            ToClientBody::Epoch { epoch } => self.hear_epoch(epoch),
+        match &message.body {
+            ToClientBody::Epoch { epoch } => self.hear_epoch(*epoch),
             ToClientBody::Push {
                 epoch,
                 number,
                 body,
-            } => self.hear_push(epoch, number, body),
-            ToClientBody::Callback { epoch, span, keep } => self.hear_callback(epoch, span, keep),
+            } => self.hear_push(*epoch, *number, body),
+            ToClientBody::Callback { epoch, span, keep } => self.hear_callback(
+                *epoch, *span, *keep,
+            ),
         }
     }
 }

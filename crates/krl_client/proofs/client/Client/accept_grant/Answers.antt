@@ -11,13 +11,13 @@ use Rattle.krl_client.proofs.client.Client.accept_grant.Goals as goal
 
 pub returns-clause-follows : goal.returns-clause-follows
 returns-clause-follows c = rw (← c.self.view_is) (let k = meaning (the_view c.self.inside) in
-    accepts k (push.Grant c.args.req c.args.holdings) _ c.in_ok-list.list.items c.self.invariant.belief (λ t. record k { seen = add-one c.self.inside.seen t; asked = c.answered-self-inside.ensures t; belief = c.in_ok-adopt_all.ensures.ok t })
+    accepts k (push.Grant c.args.req c.args.holdings.now) _ c.in_ok-list.list.items c.self.invariant.belief (λ t. record k { seen = add-one c.self.inside.seen t; asked = c.answered-self-inside.ensures t; belief = c.in_ok-adopt_all.ensures.ok t })
     (λ ps. rw (← c.self.view_is) at c.in_ok-list.ensures))
 
 pub invariant_of-self-2 : goal.invariant_of-self-2
 invariant_of-self-2 c =
     let k = meaning (the_view c.self.inside) in
-    let what = push.Grant c.args.req c.args.holdings in
+    let what = push.Grant c.args.req c.args.holdings.now in
     subst (λ (x : Client). IsClient x)
     (λ t. record k { seen = sym (add-one c.self.inside.seen) t; asked = sym c.answered-self-inside.ensures t; belief = sym c.in_ok-adopt_all.ensures.ok t })
     (accept_keeps k what (rw (← c.self.view_is) at c.requires.last) (subst (λ (b : Belief). IsBelief b) c.in_ok-adopt_all.ensures.ok (c.in_ok-adopt_all.ensures.belief c.self.invariant.belief)) c.self.invariant)
