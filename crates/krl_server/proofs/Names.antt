@@ -5,7 +5,7 @@ pub use Rattle.std.proofs.Math.ListN.{drop_of_length-le, replicate}
 pub use Rattle.std.proofs.Math.Path.{fun_ext}
 pub use Rattle.std.proofs.lemmas.Bool.{eqb-false, cases_lt, and_parts, not-true, le-ltb, or_parts, not-false, lt-ltb}
 pub use Rattle.std.proofs.lemmas.Bool.Decides.{nat_tests}
-pub use Rattle.std.proofs.lemmas.List.{take_more, get_or-set_other, drop_more, append-nil, length-take-le, get_or-set_same}
+pub use Rattle.std.proofs.lemmas.List.{take_more, get_or_default, get_or-set_other, drop_more, append-nil, length-take-le, get_or-set_same}
 pub use Rattle.std.proofs.lemmas.Option.{none-some, same_Some}
 pub use Rattle.std.specs.FinMap.Entries.{find}
 pub use Rattle.std.specs.List.{AllByRecursion, list_any, list_all, IsDistinct, filter}
@@ -41,9 +41,9 @@ pub use Rattle.krl_server.specs.Callbacks.{is_compatible, callbacks_at, callback
 pub use Rattle.krl_server.specs.Cases.{Acknowledges, Lowers, AnswersAgain, judged, case_of_seen, case_of_write, Case, case_of_newer, Alarms, is_malformed, Leaves, Rebuilds, case_of, is_bad_write}
 pub use Rattle.krl_server.specs.Cases.{is_reach, case_of_record, Registers, case_of_last, case_of_request, Ignored, case_of_late, Waits, Repeats, case_of_body, Tells, case_of_report, Judges}
 pub use Rattle.krl_server.specs.Cases.{is_alarm}
-pub use Rattle.krl_server.specs.CodeSteps.{IsPerformed, IsServer, calls_after, still_recovering, Finished, HasRoom, HasTurned, IsStarted, calls_at_first, own_of, alarm_of, callback_if, rests}
+pub use Rattle.krl_server.specs.CodeSteps.{IsPerformed, IsServer, calls_after, still_recovering, Finished, HasRoom, HasTurned, IsStarted, calls_at_first, own_of, alarm_of, call_if, callback_if, rests}
 pub use Rattle.krl_server.specs.CodeSteps.{HasFinished, HaveWaiters, count_below, is_registered, turn_here, waiting_clients, HasStepped, HasAnswered, served, room_for}
-pub use Rattle.krl_server.specs.Effects.{silent, epoch_to, with_session, lowers, writes, answers, effect, Done, acknowledged, push_to, callback_to, holdings, queues, with_rows, departs, holding}
+pub use Rattle.krl_server.specs.Effects.{silent, epoch_to, pushed_again, with_session, lowers, writes, answers, effect, Done, acknowledged, push_to, callback_to, holdings, queues, with_rows, departs, holding}
 pub use Rattle.krl_server.specs.Effects.{rows_after, pushes, adopts, rows_written}
 pub use Rattle.krl_server.specs.Outboxes.{Sent, as_list, Sends}
 pub use Rattle.krl_server.specs.Outputs.{PushesStand, may_change, is_answer, answered_write, may_change_durable, IsCallback, IsNextPush, IsAnswered, is_new_write, ServerSays, AnswersWrite}
@@ -51,7 +51,7 @@ pub use Rattle.krl_server.specs.Outputs.{HasCallbacks, last_of, changes_durable,
 pub use Rattle.krl_server.specs.Ranges.{IsEntry, IsWithin, IsDurableWithin, clients_of, ServerWithin, IsRegistered, AreApart, AreRegistered}
 pub use Rattle.krl_server.specs.Servers.{is_recovering, Server, unlist, incarnation_or_0, lists, blank_session, set_session}
 pub use Rattle.krl_server.specs.Soundness.{IsSound}
-pub use Rattle.krl_server.specs.StateMeaning.{after_of, IsFormed, sessions_of, case_of_pieces, meant, meaning}
+pub use Rattle.krl_server.specs.StateMeaning.{after_of, IsFormed, sessions_of, case_of_pieces, case_of_unacked, meant, meaning}
 pub use Rattle.krl_server.specs.Steps.{ServerStep, nudge_served, Ends, nudge, serves, calls_of, Quiet, Kind, IsSettled, crash, kind_of, nudge_known, at_once, start, can_start, Idle, nudge_missing}
 pub use Rattle.krl_server.specs.Steps.{recovers, Acts}
 pub use Rattle.krl_server.specs.Termination.{waiting_on, waiting, StepsEnd}

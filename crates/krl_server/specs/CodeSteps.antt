@@ -1,5 +1,5 @@
 -- What a step's parts do: a case is performed, first waiters are answered, and there is room for what is sent.
-use Rattle.std.specs.Prelude.{◌≡◌, ℕ, zero, suc, ◌+◌, ◌*◌, ◌≤◌, ◌<◌, Bool, true, false, not, List, [], ◌∷◌, ◌++◌, length, Option, Some, None, if◌then◌else◌}
+use Rattle.std.specs.Prelude.{◌≡◌, ℕ, zero, suc, ◌+◌, ◌*◌, ◌≤◌, ◌<◌, Bool, true, false, not, ◌||◌, nat_eq, List, [], ◌∷◌, ◌++◌, length, Option, Some, None, if◌then◌else◌}
 use Rattle.krl_messages.specs.declared.to_client.ToClient.{ToClient}
 use Rattle.krl_messages.specs.declared.to_server.ToServer.{ToServer}
 use Rattle.krl_table.specs.declared.first.FirstWaiter.{FirstWaiter}
@@ -22,7 +22,9 @@ use Rattle.krl_server.specs.Servers.{Server, is_recovering}
 use Rattle.krl_server.specs.StateMeaning.{meaning, IsFormed, after_of}
 use Rattle.krl_server.specs.Outboxes.{Sent, Sends}
 use Rattle.krl_server.specs.Cases.{case_of}
-use Rattle.krl_modes.specs.Modes.{cap}
+use Rattle.krl_modes.specs.declared.mode.Mode.{Mode}
+use Rattle.krl_modes.specs.Modes.{compatible, cap}
+use Rattle.krl_modes.specs.Spans.{Bounds}
 use Rattle.krl_durable.specs.Index.{span_of, is_slot}
 use Rattle.krl_table.specs.Calls.{wanted}
 use Rattle.krl_server.specs.Effects.{callback_to, effect}
@@ -60,6 +62,11 @@ pub record HasAnswered (s t : Server) (old new : Sent) : Type 0 where
   pub outs : List ToClient
   pub answered : Answered s t outs
   pub sends : Sends old new outs
+
+-- the callback to the client d for this span, if what d holds there blocks the waiter u, which wants the mode g
+abbrev pub call_if : Server → Waiter → Mode → Bounds → ℕ → Mode → List ToClient
+call_if s u g span d held =
+    if nat_eq d u.client || compatible g held then [] else callback_to s d span (cap g) ∷ []
 
 -- the callback to the client d for the waiter u of the slot n, if d blocks it
 abbrev pub callback_if : Server → ℕ → Waiter → ℕ → List ToClient
@@ -143,7 +150,7 @@ own_of found.Registers = 1
 own_of found.Leaves = 0
 own_of found.Tells = 1
 own_of found.Reports = 0
-own_of (found.Repeats body) = 1
+own_of found.Repeats = 1
 own_of found.Acknowledges = 0
 own_of (found.Lowers span keep) = 0
 own_of (found.Waits req point hi g) = 0
@@ -157,7 +164,7 @@ room_for n found.Registers = 1 + 64 * n
 room_for n found.Leaves = 64 * n
 room_for n found.Tells = 1
 room_for n found.Reports = 64 * n
-room_for n (found.Repeats body) = 1
+room_for n found.Repeats = 1
 room_for n found.Acknowledges = 64 * n
 room_for n (found.Lowers span keep) = n
 room_for n (found.Waits req point hi g) = 64 * (n + 1)

@@ -52,6 +52,11 @@ epoch_to s c = out_to s c (told.Epoch s.durable.epoch)
 abbrev pub push_to : Server → ℕ → ℕ → PushBody → ToClient
 push_to s c number body = out_to s c (told.Push s.durable.epoch number body)
 
+-- the push that is not acknowledged, once more
+abbrev pub pushed_again : Server → ℕ → Option PushBody → List ToClient
+pushed_again s c None = []
+pushed_again s c (Some body) = push_to s c (s.sessions c).last_push body ∷ []
+
 abbrev pub callback_to : Server → ℕ → Bounds → Mode → ToClient
 callback_to s c span keep = out_to s c (told.Callback s.durable.epoch span keep)
 

@@ -1,7 +1,8 @@
 -- What a server's state means, and the case that its code found.
-use Rattle.std.specs.Prelude.{◌≡◌, ℕ, List, length, slice_index_or, if◌then◌else◌}
+use Rattle.std.specs.Prelude.{◌≡◌, ℕ, List, length, slice_index_or, Option, Some, None, if◌then◌else◌}
 use Rattle.krl_messages.specs.declared.to_server.ToServerBody.{ToServerBody}
 use Rattle.krl_messages.specs.declared.to_server.ToServerBody.TheVariants as said
+use Rattle.krl_messages.specs.declared.to_client.PushBody.{PushBody}
 use Rattle.krl_table.specs.Kept.{rows_of, IsOver}
 use Rattle.krl_table.specs.Reports.{conflicts}
 use Rattle.krl_server.specs.declared.state.State.{State}
@@ -39,6 +40,11 @@ case_of_pieces s c (said.Report epoch pieces) =
     if conflicts s.durable.index s.rows c pieces then Alarms else Rebuilds pieces
 case_of_pieces s c (said.Request request) = Ignored
 
+-- the case of a push that is sent again, if there is one that is not acknowledged
+abbrev pub case_of_unacked : Option PushBody → Case
+case_of_unacked None = Ignored
+case_of_unacked (Some body) = Repeats body
+
 -- the case that was found for what the client said: how a report or a write ends shows as it is done
 abbrev pub meant : Server → ℕ → ToServerBody → Found → Case
 meant s c b found.Ignored = Ignored
@@ -46,7 +52,7 @@ meant s c b found.Registers = Registers
 meant s c b found.Leaves = Leaves
 meant s c b found.Tells = Tells
 meant s c b found.Reports = case_of_pieces s c b
-meant s c b (found.Repeats body) = Repeats body
+meant s c b found.Repeats = case_of_unacked (s.sessions c).unacked
 meant s c b found.Acknowledges = Acknowledges
 meant s c b (found.Lowers span keep) = Lowers span keep
 meant s c b (found.Waits req point hi g) = Waits req point hi g

@@ -9,7 +9,6 @@ ghost use Rattle.krl_server.specs.StateMeaning.{meaning, meant, IsFormed};
 
 use crate::case::Case;
 use crate::out::{Outbox, ServerOut};
-use crate::session::Session;
 use crate::state::State;
 use krl_messages::{PushBody, ToClient, ToServer};
 use krl_modes::END;
@@ -36,16 +35,11 @@ impl State {
         ensures none { IfNone result (self.new ≡ self.old) }
         ensures formed { IsFormed self.new }
     {
-        let session = self.session(waiter.client);
-        if session.last_push >= END {
+        if self.session(waiter.client).last_push >= END {
             return None;
         }
         let slots = self.table.grant_at_once(&self.durable, waiter)?;
-        self.sessions[waiter.client as usize] = Session {
-            unacked: None,
-            last_request: waiter.req,
-            ..session
-        };
+        self.note_request(waiter.client, waiter.req);
         let holdings = self.holdings(slots.as_slice(), waiter.client);
         self.push(
             waiter.client,

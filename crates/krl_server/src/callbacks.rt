@@ -1,19 +1,15 @@
 //! Callbacks for those who wait first and are blocked.
-ghost use Rattle.std.specs.Prelude.{◌≡◌, ◌≤◌, ◌<◌, ◌+◌, ◌||◌, [], ◌∷◌, nat_eq, length};
-ghost use Rattle.std.specs.Prelude.{if◌then◌else◌};
+ghost use Rattle.std.specs.Prelude.{◌≡◌, ◌≤◌, ◌<◌, ◌+◌, length};
 ghost use Rattle.krl_table.specs.Replies.{asks_absent};
 ghost use Rattle.krl_server.specs.Callbacks.{callbacks_for, callbacks_at, callbacks};
 ghost use Rattle.krl_server.specs.Soundness.{IsSound};
-ghost use Rattle.krl_modes.specs.Modes.{compatible, cap};
 ghost use Rattle.krl_table.specs.Kept.{mode_of};
-ghost use Rattle.krl_server.specs.Effects.{callback_to};
-ghost use Rattle.krl_server.specs.Outboxes.{as_list, Sends};
-ghost use Rattle.krl_server.specs.CodeSteps.{IsFirst, HaveWaiters};
+ghost use Rattle.krl_server.specs.Outboxes.{Sends};
+ghost use Rattle.krl_server.specs.CodeSteps.{call_if, IsFirst, HaveWaiters};
 ghost use Rattle.krl_server.specs.StateMeaning.{meaning, IsFormed};
 
 use crate::out::Outbox;
 use crate::state::State;
-use krl_messages::ToClient;
 use krl_modes::{Mode, Span};
 use krl_queue::Waiter;
 use krl_table::FirstWaiter;
@@ -38,25 +34,28 @@ impl State {
         }
     }
 
-    /// The callback to the client for the span, if what it holds there blocks the waiter, which
-    /// wants this mode.
-    fn callback_if(
+    /// Calls the client back for the span, if what it holds there blocks the waiter, which wants
+    /// this mode.
+    fn call_back_one(
         &self,
         waiter: &Waiter,
         mode: Mode,
         span: Span,
         client: u64,
         held: Mode,
-    ) -> Option<ToClient>
-        ensures { as_list result ≡ (if nat_eq client waiter.now.client || compatible mode held
-            then []
-            else callback_to (meaning self.now) client span (cap mode) ∷ []) }
+        outbox: &mut Outbox,
+    )
+        requires { length outbox.old.sent
+            + length (call_if (meaning self.now) waiter.now mode span client held)
+            ≤ outbox.old.room }
+        ensures { Sends outbox.old outbox.new
+            (call_if (meaning self.now) waiter.now mode span client held) }
     {
         // Most clients hold nothing here, and that is found at once.
         if held == Mode::N || client == waiter.client || mode.compatible(held) {
-            return None;
+            return;
         }
-        Some(self.callback_to(client, span, mode.cap()))
+        outbox.send(self.callback_to(client, span, mode.cap()));
     }
 
     /// Calls back all clients that block the slot's first waiter.
@@ -79,7 +78,7 @@ impl State {
         let wanted = mode_of(&modes, waiter.client).join(waiter.mode);
         for client in 0..64u64 {
             let held = mode_of(&modes, client);
-            outbox.send_some(self.callback_if(&waiter, wanted, span, client, held));
+            self.call_back_one(&waiter, wanted, span, client, held, outbox);
         }
     }
 

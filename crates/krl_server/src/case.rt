@@ -3,7 +3,7 @@ ghost use Rattle.std.specs.Prelude.{◌≡◌, Some, None, if◌then◌else◌};
 ghost use Rattle.krl_server.specs.Afters.{does_answer, does_call, does_alarm};
 
 use krl_durable::Change;
-use krl_messages::{Outcome, PushBody, WriteOp};
+use krl_messages::{Outcome, WriteOp};
 use krl_modes::{Mode, Point, Span};
 
 /// The case that a message meets, as far as it can be told before anything is tried.
@@ -20,7 +20,7 @@ pub(crate) enum Case {
     /// A missing client reports.
     Reports,
     /// The push that is not acknowledged is sent again.
-    Repeats(PushBody),
+    Repeats,
     /// The last push is acknowledged, and nothing more.
     Acknowledges,
     /// Modes are given back.

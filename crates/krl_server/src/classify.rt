@@ -43,18 +43,13 @@ fn case_of_newer(body: &ToServerBody) -> Case
 
 /// The case of a request that has not seen the last push.
 fn case_of_late(seen: u64, session: &Session) -> Case
-    ensures { (s : Server) (c : ℕ) (b : ToServerBody)
+    ensures { (s : Server) (c : ℕ) (b : ToServerBody) → s.sessions c ≡ session.now
         → meant s c b result ≡ case_of_late seen session.now.last_push session.now.unacked }
 {
-    match session.unacked {
-        Some(body) => {
-            if session.last_push.checked_sub(1) == Some(seen) {
-                Case::Repeats(body)
-            } else {
-                Case::Ignored
-            }
-        }
-        None => Case::Ignored,
+    if session.unacked.is_some() && session.last_push.checked_sub(1) == Some(seen) {
+        Case::Repeats
+    } else {
+        Case::Ignored
     }
 }
 
@@ -170,9 +165,9 @@ impl State {
     {
         let session = self.session(client);
         if request.seen == session.last_push {
-            self.case_of_request(client, known, &session, &request.body)
+            self.case_of_request(client, known, session, &request.body)
         } else {
-            case_of_late(request.seen, &session)
+            case_of_late(request.seen, session)
         }
     }
 

@@ -100,12 +100,7 @@ impl State {
         ensures formed { IsFormed self.new }
     {
         let waiter = node.waiter();
-        let session = self.session(waiter.client);
-        self.sessions[waiter.client as usize] = Session {
-            unacked: None,
-            last_request: waiter.req,
-            ..session
-        };
+        self.note_request(waiter.client, waiter.req);
         self.table.enqueue(&self.durable, node);
     }
 

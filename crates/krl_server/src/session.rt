@@ -33,8 +33,8 @@ impl Session {
 
     /// Whether another push may be made: the last one is acknowledged, and there is a number for
     /// the next.
-    pub(crate) fn can_push(self) -> bool
-        ensures { result ≡ can_push self }
+    pub(crate) fn can_push(&self) -> bool
+        ensures { result ≡ can_push self.now }
     {
         self.unacked.is_none() && self.last_push < END
     }

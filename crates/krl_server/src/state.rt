@@ -4,11 +4,11 @@ ghost use Rattle.std.specs.List.{AllByRecursion};
 ghost use Rattle.krl_durable.specs.Index.{is_slot};
 ghost use Rattle.krl_modes.specs.Modes.{key_of};
 ghost use Rattle.krl_messages.specs.Several.{Ascend, most_holdings};
-ghost use Rattle.krl_server.specs.Servers.{incarnation_of, unlist};
+ghost use Rattle.krl_server.specs.Servers.{incarnation_of};
 ghost use Rattle.krl_server.specs.StateMeaning.{meaning, sessions_of, IsFormed};
 ghost use Rattle.krl_server.specs.Outboxes.{as_list};
-ghost use Rattle.krl_server.specs.Effects.{out_to, epoch_to, push_to, callback_to, shown, holding};
-ghost use Rattle.krl_server.specs.Effects.{acknowledged, holdings, pushes};
+ghost use Rattle.krl_server.specs.Effects.{epoch_to, push_to, pushed_again, callback_to, shown};
+ghost use Rattle.krl_server.specs.Effects.{acknowledged, holding, holdings, pushes};
 
 use crate::missing::Missing;
 use crate::session::Session;
@@ -42,26 +42,21 @@ fn shown(part: KeyPart, value: Option<Value>) -> Option<Value>
 
 impl State {
     /// The client's session.
-    pub(crate) fn session(&self, client: u64) -> Session
+    pub(crate) fn session(&self, client: u64) -> &Session
         requires formed { IsFormed self.now }
         requires client { client < 64 }
-        ensures { result ≡ sessions_of self.now.sessions client }
+        ensures { result.now ≡ sessions_of self.now.sessions client }
     {
-        self.sessions[client as usize]
+        &self.sessions[client as usize]
     }
 
-    /// A message to the client's registered incarnation.
-    pub(crate) fn out_to(&self, client: u64, body: ToClientBody) -> ToClient
-        ensures { result ≡ out_to (meaning self.now) client body }
+    /// The client's registered incarnation, or 0.
+    fn incarnation_of(&self, client: u64) -> u64
+        ensures { result ≡ incarnation_of (meaning self.now) client }
     {
-        let incarnation = match self.durable.record(client) {
+        match self.durable.record(client) {
             Some(record) => record.incarnation,
             None => 0,
-        };
-        ToClient {
-            client,
-            incarnation,
-            body,
         }
     }
 
@@ -69,31 +64,53 @@ impl State {
     pub(crate) fn epoch_to(&self, client: u64) -> ToClient
         ensures { result ≡ epoch_to (meaning self.now) client }
     {
-        let epoch = self.durable.epoch();
-        self.out_to(client, ToClientBody::Epoch { epoch })
+        ToClient {
+            client,
+            incarnation: self.incarnation_of(client),
+            body: ToClientBody::Epoch {
+                epoch: self.durable.epoch(),
+            },
+        }
     }
 
     /// The push of this number.
-    pub(crate) fn push_to(&self, client: u64, number: u64, body: &PushBody) -> ToClient
+    fn push_to(&self, client: u64, number: u64, body: &PushBody) -> ToClient
         ensures { result ≡ push_to (meaning self.now) client number body.now }
     {
-        let epoch = self.durable.epoch();
-        self.out_to(
+        ToClient {
             client,
-            ToClientBody::Push {
-                epoch,
+            incarnation: self.incarnation_of(client),
+            body: ToClientBody::Push {
+                epoch: self.durable.epoch(),
                 number,
                 body: *body,
             },
-        )
+        }
+    }
+
+    /// The client's push that is not acknowledged, once more.
+    pub(crate) fn push_again(&self, client: u64) -> Option<ToClient>
+        ensures { as_list result
+            ≡ pushed_again (meaning self.now) client ((meaning self.now).sessions client).unacked }
+    {
+        let session = self.sessions.get(client as usize)?;
+        let body = session.unacked.as_ref()?;
+        Some(self.push_to(client, session.last_push, body))
     }
 
     /// Asks the client to keep no more than this mode on the span.
     pub(crate) fn callback_to(&self, client: u64, span: Span, keep: Mode) -> ToClient
         ensures { result ≡ callback_to (meaning self.now) client span keep }
     {
-        let epoch = self.durable.epoch();
-        self.out_to(client, ToClientBody::Callback { epoch, span, keep })
+        ToClient {
+            client,
+            incarnation: self.incarnation_of(client),
+            body: ToClientBody::Callback {
+                epoch: self.durable.epoch(),
+                span,
+                keep,
+            },
+        }
     }
 
     /// What the client holds on the slot.
@@ -137,11 +154,22 @@ impl State {
         ensures rest { self.new ≡ record self.old { sessions = self.new.sessions } }
         ensures formed { IsFormed self.new }
     {
-        let session = self.session(client);
-        self.sessions[client as usize] = Session {
-            unacked: None,
-            ..session
-        };
+        self.sessions[client as usize].unacked = None;
+    }
+
+    /// The client's last push counts as acknowledged, and its request of this number is the last
+    /// that was taken.
+    pub(crate) fn note_request(&mut self, client: u64, req: u64)
+        requires formed { IsFormed self.old }
+        requires client { client < 64 }
+        ensures { self.new ≡ record self.old {
+          sessions = set self.old.sessions client
+              (record (sessions_of self.old.sessions client) { unacked = None; last_request = req });
+        } }
+    {
+        let session = &mut self.sessions[client as usize];
+        session.unacked = None;
+        session.last_request = req;
     }
 
     /// The next push to the client. Where its number is spent none is made.
@@ -153,17 +181,15 @@ impl State {
         ensures rest { self.new ≡ record self.old { sessions = self.new.sessions } }
         ensures formed { IsFormed self.new }
     {
-        let session = self.session(client);
-        if session.last_push >= END {
+        let last_push = self.session(client).last_push;
+        if last_push >= END {
             return None;
         }
-        let number = session.last_push + 1;
+        let number = last_push + 1;
         let message = self.push_to(client, number, &body);
-        self.sessions[client as usize] = Session {
-            last_push: number,
-            unacked: Some(body),
-            ..session
-        };
+        let session = &mut self.sessions[client as usize];
+        session.last_push = number;
+        session.unacked = Some(body);
         Some(message)
     }
 }

@@ -20,7 +20,6 @@ ghost use Rattle.krl_server.specs.CodeSteps.{HasFinished, HasStepped, IsServer, 
 
 use crate::case::{After, Case, Performed};
 use crate::out::{Outbox, ServerOut};
-use crate::session::Session;
 use crate::state::State;
 use krl_durable::Change;
 use krl_messages::{Items, ToClient, ToServer, ToServerBody};
@@ -56,7 +55,7 @@ impl State {
     {
         match *case {
             Case::Ignored => 0,
-            Case::Tells | Case::Repeats(_) => 1,
+            Case::Tells | Case::Repeats => 1,
             Case::Lowers { .. } => self.count_waiting(),
             Case::Leaves | Case::Reports | Case::Acknowledges => 64 * self.count_waiting(),
             Case::Registers | Case::Writes { .. } | Case::AnswersAgain { .. } => 1
@@ -131,9 +130,8 @@ impl State {
                 Ok(After::Nothing.unchanging())
             }
             Case::Reports => Ok(self.take_report(message).unchanging()),
-            Case::Repeats(body) => {
-                let number = self.session(client).last_push;
-                outbox.send(self.push_to(client, number, &body));
+            Case::Repeats => {
+                outbox.send_some(self.push_again(client));
                 Ok(After::Nothing.unchanging())
             }
             Case::Acknowledges => {
@@ -316,14 +314,9 @@ impl State {
         ensures { IfOk result (λ outs. outs ≡ nudge_served
             (meaning self.now) client ((meaning self.now).sessions client).unacked) }
     {
-        let Session {
-            last_push,
-            unacked,
-            last_request: _,
-        } = self.session(client);
-        if let Some(body) = unacked {
+        if let Some(message) = self.push_again(client) {
             let mut outbox = Outbox::new(alloc, 1)?;
-            outbox.send(self.push_to(client, last_push, &body));
+            outbox.send(message);
             return Ok(outbox.into_items());
         }
         match self.first_waiter_of(client) {

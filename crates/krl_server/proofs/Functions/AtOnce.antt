@@ -84,14 +84,13 @@ can_again s u lt =
     ∙ lt-ltb (s.sessions u.client).last_push END lt)
 
 -- the state before the push
-module _ (st : State) (u : Waiter) (t : Kept) (session : Session) (is : session ≡ sessions_of st.sessions u.client) (room : u.client < length st.sessions) (rows : (n : ℕ) → rows_of t n ≡ granted st.durable.index (enqueued st.durable.index (rows_of st.table) u) (slot_of st.durable.index u.point) n) where
-  abbrev pub mid : State
-  mid = record st { table = t; sessions = set st.sessions u.client (record { last_push = session.last_push; unacked = None; last_request = u.req }) }
+abbrev pub noted : State → Waiter → Kept → State
+noted st u t = record st { table = t; sessions = set st.sessions u.client (record (sessions_of st.sessions u.client) { unacked = None; last_request = u.req }) }
 
-  pub granted_means : meaning (record st { table = t; sessions = set st.sessions u.client (record { last_push = session.last_push; unacked = None; last_request = u.req }) }) ≡ with_rows (queues (acknowledged (meaning st) u.client) u) (granted st.durable.index (enqueued st.durable.index (rows_of st.table) u) (slot_of st.durable.index u.point))
+module _ (st : State) (u : Waiter) (t : Kept) (room : u.client < length st.sessions) (rows : (n : ℕ) → rows_of t n ≡ granted st.durable.index (enqueued st.durable.index (rows_of st.table) u) (slot_of st.durable.index u.point) n) where
+  pub granted_means : meaning (noted st u t) ≡ with_rows (queues (acknowledged (meaning st) u.client) u) (granted st.durable.index (enqueued st.durable.index (rows_of st.table) u) (slot_of st.durable.index u.point))
   granted_means =
-      ap (λ x. meaning (record st { table = t; sessions = set st.sessions u.client (record { last_push = x.last_push; unacked = None; last_request = u.req }) })) is
-      ∙ ap (λ (r : Rows). let s : Server = record { durable = st.durable; rows = r; sessions = sessions_of (set st.sessions u.client (record { last_push = (sessions_of st.sessions u.client).last_push; unacked = None; last_request = u.req })); missing = st.missing } in s) (fun_ext rows)
+      ap (λ (r : Rows). let s : Server = record { durable = st.durable; rows = r; sessions = sessions_of (set st.sessions u.client (record { last_push = (sessions_of st.sessions u.client).last_push; unacked = None; last_request = u.req })); missing = st.missing } in s) (fun_ext rows)
       ∙ ap (λ ls. let s : Server = record { durable = st.durable; rows = granted st.durable.index (enqueued st.durable.index (rows_of st.table) u) (slot_of st.durable.index u.point); sessions = ls; missing = st.missing } in s)
       (sessions_set st.sessions u.client (record { last_push = (sessions_of st.sessions u.client).last_push; unacked = None; last_request = u.req }) room ∙ noted_sessions (sessions_of st.sessions) u)
 

@@ -2,7 +2,7 @@
 use Rattle.krl_server.proofs.Names.{◌≡◌, ℕ, ◌≤◌, ◌<◌, Bool, true, false, not, ◌||◌, nat_eq, ltb-false, Option, Some, None, List, refl, sym, ap, subst, ◌∙◌, arith, eqb-false, or_parts, nat_lt}
 use Rattle.krl_server.proofs.Names.{is_some, IsSome, IsSomeAnd, if◌then◌else◌, END, ToClient, ToServer, Pieces, WriteOp, Outcome, op_key, Record, Index, slots, is_slot, IsIncarnation, record_of}
 use Rattle.krl_server.proofs.Names.{first_of, Rows, most_clients, waits, conflicts, IsTable, Server, Case, Ignored, Registers, Leaves, Tells, Alarms, Rebuilds, Repeats, Acknowledges, Lowers, Waits}
-use Rattle.krl_server.proofs.Names.{Judges, AnswersAgain, is_malformed, case_of_record, case_of, acknowledged, writes, answers, effect, meant, case_of_pieces, WaitsNowhere, IsPerformed}
+use Rattle.krl_server.proofs.Names.{PushBody, pushed_again, case_of_unacked, Judges, AnswersAgain, is_malformed, case_of_record, case_of, acknowledged, writes, answers, effect, meant, case_of_pieces, WaitsNowhere, IsPerformed}
 use Rattle.krl_messages.specs.declared.to_server.ToServerBody.TheVariants as said
 use Rattle.krl_server.specs.declared.case.Case.{Case as Found}
 use Rattle.krl_server.specs.declared.case.After.TheVariants as after
@@ -96,6 +96,19 @@ module _ (s : Server) (m : ToServer) where
       by_conflict : (b : Bool) → CaseFacts s m (if b then Alarms else Rebuilds pieces) → m.client < 64
       by_conflict true h = h
       by_conflict false h = h
+
+  -- a push was sent again
+  pub performed_repeat : (o : Option PushBody) (outs : List ToClient) → case_of_unacked o ≡ case_of s m → outs ≡ pushed_again s m.client o → IsPerformed s m s after.Nothing outs
+  performed_repeat None outs e sent = record {
+    server = ap (λ k. (effect s m k).server) e;
+    outs_are = sent ∙ ap (λ k. (effect s m k).outs) e;
+    after = ap Rattle.krl_server.specs.StateMeaning.after_of e;
+  }
+  performed_repeat (Some body) outs e sent = record {
+    server = ap (λ k. (effect s m k).server) e;
+    outs_are = sent ∙ ap (λ k. (effect s m k).outs) e;
+    after = ap Rattle.krl_server.specs.StateMeaning.after_of e;
+  }
 
   -- a new write was done and answered
   pub performed_write : (t : Server) (number : ℕ) (op : WriteOp) (o : Outcome) (outs : List ToClient) → Judges number op o ≡ case_of s m → t ≡ (answers (acknowledged (writes s m.client op o) m.client) m.client number op o).server → outs ≡ (answers (acknowledged (writes s m.client op o) m.client) m.client number op o).outs → IsPerformed s m t after.Calls outs

@@ -19,12 +19,12 @@ pub pushes_none : (s : Server) (c : ℕ) (body : PushBody) → END ≤ (s.sessio
 pushes_none s c body le = ap (λ b. if b then (let x : Done = record { server = with_session s c (record (s.sessions c) { last_push = suc (s.sessions c).last_push; unacked = Some body }); outs = push_to s c (suc (s.sessions c).last_push) body ∷ [] } in x) else silent s) (le-ltb (s.sessions c).last_push END le)
 
 -- the state after such a push
-pub pushed_means : (st : State) (c : ℕ) (body : PushBody) (session : Session) → session ≡ sessions_of st.sessions c → c < length st.sessions → session.last_push < END → meaning (record st { sessions = set st.sessions c (record session { last_push = session.last_push + 1; unacked = Some body }) }) ≡ (pushes (meaning st) c body).server
-pushed_means st c body session e lt room = subst (λ l. meaning (record st { sessions = set st.sessions c (record l { last_push = l.last_push + 1; unacked = Some body }) }) ≡ (pushes (meaning st) c body).server) (sym e)
-    (let x = sessions_of st.sessions c in
+pub pushed_means : (st : State) (c : ℕ) (body : PushBody) → c < length st.sessions → (sessions_of st.sessions c).last_push < END → meaning (record st { sessions = set st.sessions c (record (sessions_of st.sessions c) { last_push = (sessions_of st.sessions c).last_push + 1; unacked = Some body }) }) ≡ (pushes (meaning st) c body).server
+pushed_means st c body lt room =
+    let x = sessions_of st.sessions c in
     ap (λ n. meaning (record st { sessions = set st.sessions c (record x { last_push = n; unacked = Some body }) })) (add-one x.last_push)
     ∙ ap (λ ls. record (meaning st) { sessions = ls }) (sessions_set st.sessions c (record x { last_push = suc x.last_push; unacked = Some body }) lt)
-    ∙ sym (ap (λ d. d.server) (pushes_next (meaning st) c body (subst (λ l. l.last_push < END) e room))))
+    ∙ sym (ap (λ d. d.server) (pushes_next (meaning st) c body room))
 
 pub set_twice : (sessions : ℕ → Session) (c : ℕ) (x y : Session) →
     set_session (set_session sessions c x) c y ≡ set_session sessions c y
@@ -35,10 +35,9 @@ set_twice sessions c x y = fun_ext (λ d. by_test (nat_eq d c) d)
     by_test false d = refl
 
 -- a lock request is taken
-pub queued_means : (st : State) (u w : Waiter) (t : Kept) (session : Session) → w ≡ u → session ≡ sessions_of st.sessions w.client → w.client < length st.sessions → ((n : ℕ) → rows_of t n ≡ enqueued st.durable.index (rows_of st.table) u n) → meaning (record st { table = t; sessions = set st.sessions w.client (record { last_push = session.last_push; unacked = None; last_request = w.req }) }) ≡ queues (acknowledged (meaning st) u.client) u
-queued_means st u w t session same is room rows =
-    ap (λ x. meaning (record st { table = t; sessions = set st.sessions w.client (record { last_push = x.last_push; unacked = None; last_request = w.req }) })) is
-    ∙ ap (λ (r : Rows). let s : Server = record { durable = st.durable; rows = r; sessions = sessions_of (set st.sessions w.client (noted w)); missing = st.missing } in s) (fun_ext rows)
+pub queued_means : (st : State) (u w : Waiter) (t : Kept) → w ≡ u → w.client < length st.sessions → ((n : ℕ) → rows_of t n ≡ enqueued st.durable.index (rows_of st.table) u n) → meaning (record st { table = t; sessions = set st.sessions w.client (record (sessions_of st.sessions w.client) { unacked = None; last_request = w.req }) }) ≡ queues (acknowledged (meaning st) u.client) u
+queued_means st u w t same room rows =
+    ap (λ (r : Rows). let s : Server = record { durable = st.durable; rows = r; sessions = sessions_of (set st.sessions w.client (noted w)); missing = st.missing } in s) (fun_ext rows)
     ∙ ap (λ ls. let s : Server = record { durable = st.durable; rows = enqueued st.durable.index (rows_of st.table) u; sessions = ls; missing = st.missing } in s)
     (sessions_set st.sessions w.client (noted w) room
     ∙ ap (λ v. set_session (sessions_of st.sessions) v.client (noted v)) same

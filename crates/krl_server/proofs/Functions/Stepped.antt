@@ -1,8 +1,8 @@
 -- A step: there is room for it, and it ends as it should.
-use Rattle.std.proofs.Common.{◌≡◌, ◌≢◌, ℕ, suc, ◌+◌, ◌*◌, ◌≤◌, Bool, true, false, Some, None, List, [], ◌++◌, length, refl, sym, ap, subst, ◌∙◌, arith}
+use Rattle.std.proofs.Common.{◌≡◌, ◌≢◌, ℕ, suc, ◌+◌, ◌*◌, ◌≤◌, Bool, true, false, Option, Some, None, List, [], ◌++◌, length, refl, sym, ap, subst, ◌∙◌, arith}
 use Rattle.krl_server.proofs.Names.{append-nil, if◌then◌else◌, ToClient, ToServer, conflicts, IsTable, Server, Case, Ignored, Registers, Leaves, Tells, Alarms, Rebuilds, Repeats, Acknowledges}
 use Rattle.krl_server.proofs.Names.{Lowers, Waits, Judges, AnswersAgain, case_of, is_alarm, judged, Done, effect, acknowledged, writes, Idle, kind_of, calls_of, Ends, at_once}
-use Rattle.krl_server.proofs.Names.{recovers, serves, meant, case_of_pieces, after_of, waiting, IsSound, Sent, Sends, own_of, room_for, waiting_clients, calls_after, Finished, rests}
+use Rattle.krl_server.proofs.Names.{PushBody, case_of_unacked, recovers, serves, meant, case_of_pieces, after_of, waiting, IsSound, Sent, Sends, own_of, room_for, waiting_clients, calls_after, Finished, rests}
 use Rattle.krl_server.proofs.Names.{still_recovering, served, HasRoom, alarm_of}
 use Rattle.krl_messages.specs.declared.to_server.ToServerBody.{ToServerBody}
 use Rattle.krl_messages.specs.declared.to_server.ToServerBody.TheVariants as said
@@ -40,6 +40,18 @@ module _ (s : Server) (m : ToServer) where
       by_conflict false = refl
   pieces_ask (said.Request request) = refl
 
+  again_few : (o : Option PushBody) → length (effect s m (case_of_unacked o)).outs ≤ 1
+  again_few None = omega arith
+  again_few (Some body) = omega arith
+
+  again_idle : {A : Type 0} (o : Option PushBody) → does_answer (after_of (case_of_unacked o)) ≡ true → A
+  again_idle None e = absurd (cc)
+  again_idle (Some body) e = absurd (cc)
+
+  again_calls : {A : Type 0} (o : Option PushBody) → does_call (after_of (case_of_unacked o)) ≡ true → A
+  again_calls None e = absurd (cc)
+  again_calls (Some body) e = absurd (cc)
+
   -- a case sends no more itself than it may
   own_few : (f : Found) → length (effect s m (meant s m.client m.body f)).outs ≤ own_of f
   own_few found.Ignored = omega arith
@@ -47,7 +59,7 @@ module _ (s : Server) (m : ToServer) where
   own_few found.Leaves = omega arith
   own_few found.Tells = omega arith
   own_few found.Reports = pieces_few m.body
-  own_few (found.Repeats body) = omega arith
+  own_few found.Repeats = again_few (s.sessions m.client).unacked
   own_few found.Acknowledges = omega arith
   own_few (found.Lowers span keep) = omega arith
   own_few (found.Waits req point hi g) = omega arith
@@ -60,7 +72,7 @@ module _ (s : Server) (m : ToServer) where
   own_room found.Leaves w = omega arith
   own_room found.Tells w = omega arith
   own_room found.Reports w = omega arith
-  own_room (found.Repeats body) w = omega arith
+  own_room found.Repeats w = omega arith
   own_room found.Acknowledges w = omega arith
   own_room (found.Lowers span keep) w = omega arith
   own_room (found.Waits req point hi g) w = omega arith
@@ -73,7 +85,7 @@ module _ (s : Server) (m : ToServer) where
   answers_room found.Leaves w u few more e = let x = few refl in omega (arith, x)
   answers_room found.Tells w u few more e = absurd (cc)
   answers_room found.Reports w u few more e = let x = few (pieces_ask m.body) in omega (arith, x)
-  answers_room (found.Repeats body) w u few more e = absurd (cc)
+  answers_room found.Repeats w u few more e = again_idle (s.sessions m.client).unacked e
   answers_room found.Acknowledges w u few more e = let x = few refl in omega (arith, x)
   answers_room (found.Lowers span keep) w u few more e = let x = few refl in omega (arith, x)
   answers_room (found.Waits req point hi g) w u few more e = omega (arith, more)
@@ -86,7 +98,7 @@ module _ (s : Server) (m : ToServer) where
   calls_room found.Leaves w u few more e = let x = few refl in omega (arith, x)
   calls_room found.Tells w u few more e = absurd (cc)
   calls_room found.Reports w u few more e = let x = few (pieces_ask m.body) in omega (arith, x)
-  calls_room (found.Repeats body) w u few more e = absurd (cc)
+  calls_room found.Repeats w u few more e = again_calls (s.sessions m.client).unacked e
   calls_room found.Acknowledges w u few more e = let x = few refl in omega (arith, x)
   calls_room (found.Lowers span keep) w u few more e = absurd (cc)
   calls_room (found.Waits req point hi g) w u few more e = omega (arith, more)

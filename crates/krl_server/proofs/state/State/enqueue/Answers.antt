@@ -1,8 +1,11 @@
-use Rattle.krl_server.proofs.Names.{◌<◌, sym, subst, arith, Waiter}
+use Rattle.krl_server.proofs.Names.{◌≡◌, ◌<◌, ℕ, sym, ap, subst, ◌∙◌, arith, Waiter, enqueued, rows_of, State, meaning}
 use Rattle.krl_server.proofs.Functions.StateChanges.{queued_means}
 use Rattle.krl_server.proofs.state.State.enqueue.Goals as goal
 
 pub returns-clause-queues : goal.returns-clause-queues
 returns-clause-queues c =
     let below = subst (λ (w : Waiter). w.client < 64) (sym c.waiter-waiter.ensures) c.requires.client in
-    queued_means c.args.self.now c.args.node c.waiter-waiter.result c.enqueue.new.self c.session-session.result c.waiter-waiter.ensures c.session-session.ensures (omega (arith, below, c.requires.formed.full)) c.enqueue.ensures.enqueued
+    let st = c.args.self.now in let w = c.waiter-waiter.result in let t = c.enqueue.new.self in
+    ap (λ (x : State). meaning (record x { table = t })) c.note_request.ensures
+    ∙ queued_means st c.args.node w t c.waiter-waiter.ensures (omega (arith, below, c.requires.formed.full))
+    (subst (λ (x : State). (n : ℕ) → rows_of t n ≡ enqueued x.durable.index (rows_of x.table) c.args.node n) c.note_request.ensures c.enqueue.ensures.enqueued)

@@ -1,6 +1,6 @@
 use Rattle.krl_server.proofs.Names.{◌<◌, sym, ap, subst, ◌∙◌, Waiter, rows_of, meaning, meant, acknowledged, answers, as_list, IsPerformed, Judges, WaitsNowhere}
 use Rattle.krl_server.specs.declared.case.Performed.{Performed}
-use Rattle.krl_server.proofs.Functions.Facts.{facts_of, waits_nowhere, performed_write, performed_again}
+use Rattle.krl_server.proofs.Functions.Facts.{facts_of, waits_nowhere, performed_repeat, performed_write, performed_again}
 use Rattle.krl_server.proofs.state.State.perform.Goals as goal
 
 pub register-requires-clause-client : goal.register-requires-clause-client
@@ -11,9 +11,6 @@ register-requires-clause-incarnation c = (facts_of (meaning c.args.self.now) c.a
 
 pub depart-requires-clause-client : goal.depart-requires-clause-client
 depart-requires-clause-client c = (facts_of (meaning c.args.self.now) c.args.message.now c.args.case.now _ c.requires.case c.in-Leaves.is).client
-
-pub session-number-requires-clause-client : goal.session-number-requires-clause-client
-session-number-requires-clause-client c = facts_of (meaning c.args.self.now) c.args.message.now c.args.case.now _ c.requires.case c.in-Repeats.is
 
 pub acknowledge-requires-clause-client : goal.acknowledge-requires-clause-client
 acknowledge-requires-clause-client c = facts_of (meaning c.args.self.now) c.args.message.now c.args.case.now _ c.requires.case c.in-Acknowledges.is
@@ -54,6 +51,19 @@ answer_write-requires-in-AnswersAgain-clause-client c = (facts_of (meaning c.arg
 pub answer_write-requires-in-AnswersAgain-clause-key : goal.answer_write-requires-in-AnswersAgain-clause-key
 answer_write-requires-in-AnswersAgain-clause-key c = (facts_of (meaning c.args.self.now) c.args.message.now c.args.case.now _ c.requires.case c.in-AnswersAgain.is).key
 
+pub returns-in-Repeats-clause-performed : goal.returns-in-Repeats-clause-performed
+returns-in-Repeats-clause-performed c =
+    let s = meaning c.args.self.now in
+    let own = c.args.message.now.client in
+    let outs = as_list c.push_again.result in
+    record {
+      outs = outs;
+      performed = subst (λ left. IsPerformed s c.args.message.now s left outs) (sym (ap (λ (d : Performed). d.after) c.unchanging-in-Repeats.ensures))
+          (performed_repeat s c.args.message.now (s.sessions own).unacked outs
+          (sym (ap (λ f. meant s own c.args.message.now.body f) c.in-Repeats.is) ∙ c.requires.case) c.push_again.ensures);
+      sends = c.send_some.ensures;
+    }
+
 pub returns-in-Writes-clause-performed : goal.returns-in-Writes-clause-performed
 returns-in-Writes-clause-performed c =
     let s = meaning c.args.self.now in
@@ -70,7 +80,7 @@ returns-in-Writes-clause-performed c =
           (ap (λ x. Judges number op x) c.write-outcome.ensures.outcome ∙ (sym (ap (λ f. meant s own c.args.message.now.body f) c.in-Writes.is) ∙ c.requires.case))
           (c.answer_write.ensures.server ∙ ap (λ x. (answers x own number op o).server) is)
           (c.answer_write.ensures.outs ∙ ap (λ x. (answers x own number op o).outs) is));
-      sends = c.send_some.ensures;
+      sends = c.send_some-in-Writes.ensures;
     }
 
 pub returns-in-AnswersAgain-clause-performed : goal.returns-in-AnswersAgain-clause-performed

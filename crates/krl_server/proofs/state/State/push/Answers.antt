@@ -1,6 +1,12 @@
-use Rattle.std.proofs.Common.{arith}
+use Rattle.krl_server.proofs.Names.{◌+◌, ◌<◌, Some, length, set, ap, subst, ◌∙◌, arith, get_or, get_or_default, END, Session, blank_session, sessions_of, meaning}
 use Rattle.krl_server.proofs.Functions.StateChanges.{pushed_means}
 use Rattle.krl_server.proofs.state.State.push.Goals as goal
 
 pub returns-clause-server : goal.returns-clause-server
-returns-clause-server c = pushed_means c.args.self.now c.args.client c.args.body c.session-session.result c.session-session.ensures (omega (arith, c.requires.formed.full)) c.if-session-ge-END.false
+returns-clause-server c =
+    let st = c.args.self.now in let own = c.args.client in
+    let d = c.index-self-client.result in
+    let lt : own < length st.sessions = omega (arith, c.requires.client, c.requires.formed.full) in
+    ap (λ n. meaning (record st { sessions = set st.sessions own (record { last_push = n + 1; unacked = Some c.args.body; last_request = (get_or st.sessions own d).last_request }) })) (ap (λ (x : Session). x.last_push) c.session.ensures)
+    ∙ ap (λ n. meaning (record st { sessions = set st.sessions own (record { last_push = (sessions_of st.sessions own).last_push + 1; unacked = Some c.args.body; last_request = n }) })) (ap (λ (x : Session). x.last_request) (get_or_default st.sessions own d blank_session lt))
+    ∙ pushed_means st own c.args.body lt (subst (λ (x : Session). x.last_push < END) c.session.ensures c.if-last_push-ge-END.false)
