@@ -5,7 +5,7 @@
 #   bench/cache/run.sh          needs rt and rustc on the path; some minutes, most of them proof
 #
 # main.rt.txt, proved and built by rt, fills a cache with slots side by side and makes the same calls at
-# places that no processor could guess; the lists make fewer of them. Its twin twin.rs, built by rustc -O,
+# places that no processor could guess; the lists make fewer of them. Its twin in Rust, built by rustc -O,
 # makes the same calls over two maps of Rust's std. Both run five times in turn, and the least
 # processor time of each kind of call counts. A line gives the call, the form, the entries, the nanoseconds of
 # a call, for a scan those of a row, and the ratio to the ordered maps at the same number of entries. It stops
@@ -40,7 +40,7 @@ cp "$here/main.rt.txt" "$room/crates/cache/src/main.rt"
 } >"$room/crates.txt"
 printf 'Handles allowed: none.\n' >"$room/HANDLES"
 
-rustc --edition 2024 -O -o "$room/twin" "$here/twin.rs"
+rustc --edition 2024 -O -o "$room/twin" "$here/twin/main.rs"
 (cd "$room/crates/cache" && rt run) >"$room/log" 2>&1 || {
     cat "$room/log" >&2
     exit 1

@@ -1,4 +1,8 @@
 // The twin in Rust of main.rt.txt: the same calls of a table over the maps of Rust's library, and the same lines.
+#[path = "../../clock.rs"]
+mod clock;
+
+use clock::{next, now};
 use std::collections::BTreeMap;
 use std::hint::black_box;
 
@@ -149,27 +153,6 @@ impl Bench {
         self.rows.insert(key, new);
         self.index.insert(key, [0; 32]).is_none()
     }
-}
-
-#[repr(C)]
-struct Time {
-    seconds: i64,
-    nanos: i64,
-}
-
-unsafe extern "C" {
-    fn clock_gettime(clock: i32, time: *mut Time) -> i32;
-}
-
-// The processor time of this thread, by Linux's clock of it.
-fn now() -> u128 {
-    let mut time = Time { seconds: 0, nanos: 0 };
-    unsafe { clock_gettime(3, &mut time) };
-    time.seconds as u128 * 1_000_000_000 + time.nanos as u128
-}
-
-fn next(word: u64) -> u64 {
-    word.wrapping_mul(6364136223846793005).wrapping_add(1442695040888963407)
 }
 
 fn pick(word: u64, entries: u64) -> u64 {
