@@ -48,6 +48,12 @@ pub record HasTurned (s t : Server) (n : ℕ) (o : ToClient) : Type 0 where
   pub server : t ≡ (answer_first s turn).server
   pub out : (answer_first s turn).outs ≡ o ∷ []
 
+-- the first waiter of slot n was answered, and the answer was sent after all other messages
+pub record HasAnsweredFirst (s t : Server) (n : ℕ) (old new : Sent) : Type 0 where
+  pub out : ToClient
+  pub turned : HasTurned s t n out
+  pub sends : Sends old new (out ∷ [])
+
 -- the client is registered and has not left
 abbrev pub is_registered : Option Record → Bool
 is_registered None = false

@@ -1,53 +1,57 @@
 //! A lock that nobody has to wait for.
-ghost use Rattle.std.specs.Prelude.{◌≡◌, ◌<◌, ℕ, [], IfOk, OnErr, IfSome, IfNone};
+ghost use Rattle.std.specs.Prelude.{◌≡◌, ◌<◌, ℕ, [], length, true, false};
+ghost use Rattle.std.specs.Prelude.{IfOk, OnErr, IfSome, IfNone};
 ghost use Rattle.krl_durable.specs.Index.{slot_of};
 ghost use Rattle.krl_server.specs.Cases.{case_of};
 ghost use Rattle.krl_server.specs.Effects.{acknowledged, queues};
-ghost use Rattle.krl_server.specs.CodeSteps.{IsServer, HasTurned, HasStepped};
+ghost use Rattle.krl_server.specs.CodeSteps.{IsServer, HasAnsweredFirst, HasStepped};
 ghost use Rattle.krl_server.specs.Soundness.{IsSound};
 ghost use Rattle.krl_server.specs.StateMeaning.{meaning, meant, IsFormed};
 
 use crate::case::Case;
 use crate::out::{Outbox, ServerOut};
 use crate::state::State;
-use krl_messages::{PushBody, ToClient, ToServer};
+use krl_messages::{PushBody, ToServer};
 use krl_modes::END;
 use krl_queue::Waiter;
 use std::alloc::{AllocError, Global};
 
 impl State {
-    /// Takes a lock request and grants it, where nobody waits on its slot: the lock is found free
-    /// in one search, and the waiter takes no place in a queue. The last push counts as
-    /// acknowledged. It takes no memory.
+    /// Takes a lock request, grants it and sends the grant, where nobody waits on its slot: the
+    /// lock is found free in one search, and the waiter takes no place in a queue. The last push
+    /// counts as acknowledged. It takes no memory.
     ///
-    /// None, and nothing changes, where the request has to wait or to hear that there is no entry,
-    /// and where the number of the next push is spent.
-    fn grant_at_once(&mut self, waiter: &Waiter) -> Option<ToClient>
+    /// It answers `false`, and nothing changes and nothing is sent, where the request has to wait
+    /// or to hear that there is no entry, and where the number of the next push is spent.
+    fn grant_at_once(&mut self, waiter: &Waiter, outbox: &mut Outbox) -> bool
         requires formed { IsFormed self.old }
         requires client { waiter.now.client < 64 }
         requires sound { IsSound (meaning self.old) }
-        ensures turned { IfSome result (λ o. HasTurned
+        requires room { length outbox.old.sent < outbox.old.room }
+        ensures answered { result ≡ true → HasAnsweredFirst
             (queues (acknowledged (meaning self.old) waiter.now.client) waiter.now)
             (meaning self.new)
-            (slot_of self.old.durable.index waiter.now.point) o) }
-        ensures free { IfSome result (λ _. ((meaning self.old).rows
-            (slot_of self.old.durable.index waiter.now.point)).queue ≡ []) }
-        ensures none { IfNone result (self.new ≡ self.old) }
+            (slot_of self.old.durable.index waiter.now.point) outbox.old outbox.new }
+        ensures free { result ≡ true → ((meaning self.old).rows
+            (slot_of self.old.durable.index waiter.now.point)).queue ≡ [] }
+        ensures same { result ≡ false → self.new ≡ self.old }
+        ensures unsent { result ≡ false → outbox.new ≡ outbox.old }
         ensures formed { IsFormed self.new }
     {
         if self.session(waiter.client).last_push >= END {
-            return None;
+            return false;
         }
-        let slots = self.table.grant_at_once(&self.durable, waiter)?;
+        let Some(slots) = self.table.grant_at_once(&self.durable, waiter) else {
+            return false;
+        };
         self.note_request(waiter.client, waiter.req);
         let holdings = self.holdings(slots.as_slice(), waiter.client);
-        self.push(
-            waiter.client,
-            PushBody::Grant {
-                req: waiter.req,
-                holdings,
-            },
-        )
+        let body = PushBody::Grant {
+            req: waiter.req,
+            holdings,
+        };
+        self.push(waiter.client, &body, outbox);
+        true
     }
 
     /// The step of a lock request that can be granted at once, while the server serves. Nobody else
@@ -92,18 +96,15 @@ impl State {
             hi,
             mode,
         };
-        match self.grant_at_once(&waiter) {
-            Some(granted) => {
-                outbox.send(granted);
-                let slots = self.table.waiting_slots(&self.durable);
-                self.call_back(slots.as_slice(), &mut outbox);
-                Ok(Some(ServerOut {
-                    messages: outbox.into_items(),
-                    alarm: None,
-                    change: None,
-                }))
-            }
-            None => Ok(None),
+        if !self.grant_at_once(&waiter, &mut outbox) {
+            return Ok(None);
         }
+        let slots = self.table.waiting_slots(&self.durable);
+        self.call_back(slots.as_slice(), &mut outbox);
+        Ok(Some(ServerOut {
+            messages: outbox.into_items(),
+            alarm: None,
+            change: None,
+        }))
     }
 }

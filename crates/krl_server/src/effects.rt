@@ -1,13 +1,13 @@
 //! What each case makes of the state.
-ghost use Rattle.std.specs.Prelude.{◌≡◌, ◌<◌, ◌≤◌, false, IsSome, IsSomeAnd, IfOk, OnOk, OnErr};
-ghost use Rattle.std.specs.Prelude.{if◌then◌else◌};
+ghost use Rattle.std.specs.Prelude.{◌≡◌, ◌<◌, ◌≤◌, false, length, IsSome, IsSomeAnd};
+ghost use Rattle.std.specs.Prelude.{IfOk, OnOk, OnErr, if◌then◌else◌};
 ghost use Rattle.krl_modes.specs.declared.point.TheConstants.{END};
 ghost use Rattle.krl_messages.specs.Writes.{op_key};
 ghost use Rattle.krl_durable.specs.Registers.{IsIncarnation, record_of};
 ghost use Rattle.krl_table.specs.Reports.{conflicts};
 ghost use Rattle.krl_table.specs.Sound.{IsTable};
 ghost use Rattle.krl_server.specs.StateMeaning.{meaning, IsFormed};
-ghost use Rattle.krl_server.specs.Outboxes.{as_list};
+ghost use Rattle.krl_server.specs.Outboxes.{Sends};
 ghost use Rattle.krl_table.specs.Waiters.{WaitsNowhere};
 ghost use Rattle.krl_durable.specs.Writes.{index_after};
 ghost use Rattle.krl_table.specs.Kept.{IsOver};
@@ -16,9 +16,10 @@ ghost use Rattle.krl_server.specs.Effects.{rows_after, registers, departs, adopt
 ghost use Rattle.krl_server.specs.Effects.{lowers};
 ghost use Rattle.krl_server.specs.Effects.{queues, writes, answers};
 
+use crate::out::Outbox;
 use crate::session::Session;
 use crate::state::State;
-use krl_messages::{Outcome, Pieces, PushBody, ToClient, WriteOp};
+use krl_messages::{Outcome, Pieces, PushBody, WriteOp};
 use krl_modes::{Mode, Point, Span};
 use krl_queue::WaitNode;
 use std::alloc::AllocError;
@@ -154,24 +155,25 @@ impl State {
         number: u64,
         op: WriteOp,
         outcome: Outcome,
-    ) -> Option<ToClient>
+        outbox: &mut Outbox,
+    )
         requires formed { IsFormed self.old }
         requires client { client < 64 }
         requires key { op_key op < END }
+        requires room { length outbox.old.sent < outbox.old.room }
         ensures server { meaning self.new
             ≡ (answers (meaning self.old) client number op outcome).server }
-        ensures outs { as_list result ≡ (answers (meaning self.old) client number op outcome).outs }
+        ensures sent { Sends outbox.old outbox.new
+            (answers (meaning self.old) client number op outcome).outs }
         ensures formed { IsFormed self.new }
     {
         let slot = self.durable.slot_of(op.key());
         let holding = self.holding(slot, client);
-        self.push(
-            client,
-            PushBody::Answer {
-                number,
-                outcome,
-                holding,
-            },
-        )
+        let body = PushBody::Answer {
+            number,
+            outcome,
+            holding,
+        };
+        self.push(client, &body, outbox);
     }
 }

@@ -6,11 +6,12 @@ ghost use Rattle.krl_modes.specs.Modes.{key_of};
 ghost use Rattle.krl_messages.specs.Several.{Ascend, most_holdings};
 ghost use Rattle.krl_server.specs.Servers.{incarnation_of};
 ghost use Rattle.krl_server.specs.StateMeaning.{meaning, sessions_of, IsFormed};
-ghost use Rattle.krl_server.specs.Outboxes.{as_list};
+ghost use Rattle.krl_server.specs.Outboxes.{as_list, Sends};
 ghost use Rattle.krl_server.specs.Effects.{epoch_to, push_to, pushed_again, callback_to, shown};
 ghost use Rattle.krl_server.specs.Effects.{acknowledged, holding, holdings, pushes};
 
 use crate::missing::Missing;
+use crate::out::Outbox;
 use crate::session::Session;
 use krl_durable::Durable;
 use krl_messages::{Holding, Holdings, PushBody, ToClient, ToClientBody, Value};
@@ -164,7 +165,8 @@ impl State {
         requires client { client < 64 }
         ensures { self.new ≡ record self.old {
           sessions = set self.old.sessions client
-              (record (sessions_of self.old.sessions client) { unacked = None; last_request = req });
+              (record (sessions_of self.old.sessions client)
+              { unacked = None; last_request = req });
         } }
     {
         let session = &mut self.sessions[client as usize];
@@ -172,24 +174,25 @@ impl State {
         session.last_request = req;
     }
 
-    /// The next push to the client. Where its number is spent none is made.
-    pub(crate) fn push(&mut self, client: u64, body: PushBody) -> Option<ToClient>
+    /// Sends the client its next push. Where its number is spent nothing is sent.
+    pub(crate) fn push(&mut self, client: u64, body: &PushBody, outbox: &mut Outbox)
         requires formed { IsFormed self.old }
         requires client { client < 64 }
-        ensures server { meaning self.new ≡ (pushes (meaning self.old) client body).server }
-        ensures outs { as_list result ≡ (pushes (meaning self.old) client body).outs }
+        requires room { length outbox.old.sent < outbox.old.room }
+        ensures server { meaning self.new ≡ (pushes (meaning self.old) client body.now).server }
+        ensures sent { Sends outbox.old outbox.new
+            (pushes (meaning self.old) client body.now).outs }
         ensures rest { self.new ≡ record self.old { sessions = self.new.sessions } }
         ensures formed { IsFormed self.new }
     {
         let last_push = self.session(client).last_push;
         if last_push >= END {
-            return None;
+            return;
         }
         let number = last_push + 1;
-        let message = self.push_to(client, number, &body);
+        outbox.send(self.push_to(client, number, body));
         let session = &mut self.sessions[client as usize];
         session.last_push = number;
-        session.unacked = Some(body);
-        Some(message)
+        session.unacked = Some(*body);
     }
 }

@@ -165,7 +165,7 @@ impl State {
                 let (written, answered) = (*&op, *&op);
                 let outcome = self.write(client, written);
                 self.acknowledge(client);
-                outbox.send_some(self.answer_write(client, number, answered, outcome));
+                self.answer_write(client, number, answered, outcome, outbox);
                 let judged = Change::Judged {
                     client,
                     number,
@@ -180,7 +180,7 @@ impl State {
                 outcome,
             } => {
                 self.acknowledge(client);
-                outbox.send_some(self.answer_write(client, number, op, outcome));
+                self.answer_write(client, number, op, outcome, outbox);
                 Ok(After::Calls.unchanging())
             }
         }

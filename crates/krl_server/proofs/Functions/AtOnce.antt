@@ -1,19 +1,18 @@
 -- A grant at once, while nobody waits on the slot: it is what a place in the queue and a turn would give.
-use Rattle.std.proofs.Common.{◌≡◌, ◌≢◌, ℕ, suc, ◌*◌, ◌≤◌, ◌<◌, Bool, true, false, not, ◌&&◌, ◌||◌, nat_eq, Option, Some, None, List, [], ◌∷◌, ◌++◌, length, refl, sym, ap, subst, ◌∙◌, arith}
-use Rattle.krl_server.proofs.Names.{lt-ltb, and_parts, fun_ext, is_some, set, if◌then◌else◌, END, Mode, at_most, compatible, Holding, ToClient, ToServer, In, Waiter, eq_cases, Index, slots, slot_of}
-use Rattle.krl_server.proofs.Names.{Row, Rows, front_of, all_below, most_clients, enqueued, queue_with, with_queue, wanted, granted, taken, nobody_waits, is_granted_at_once, Kept, rows_of}
+use Rattle.std.proofs.Common.{◌≡◌, ◌≢◌, ℕ, suc, ◌*◌, ◌≤◌, ◌<◌, Bool, true, false, not, ◌&&◌, ◌||◌, nat_eq, Some, None, List, [], ◌∷◌, ◌++◌, length, refl, sym, ap, subst, ◌∙◌, arith}
+use Rattle.krl_server.proofs.Names.{lt-ltb, and_parts, fun_ext, is_some, set, if◌then◌else◌, END, Mode, at_most, compatible, ToClient, ToServer, In, Waiter, eq_cases, Index, slots, slot_of}
+use Rattle.krl_server.proofs.Names.{Row, Rows, front_of, all_below, most_clients, enqueued, queue_with, with_queue, wanted, granted, nobody_waits, is_granted_at_once, Kept, rows_of}
 use Rattle.krl_server.proofs.Names.{asks_absent, is_wanted_compatible, first_reply, IsTable, WaitsNowhere, Session, State, Server, set_session, is_recovering, sessions_of, meaning, meant, Waits}
-use Rattle.krl_server.proofs.Names.{case_of, with_rows, acknowledged, queues, holdings, pushes, effect, can_push, next_turn, answer_first, grants, Answered, stops, goes_on, callbacks, Acts, Ends}
-use Rattle.krl_server.proofs.Names.{serves, kind_of, ServerStep, IsSound, as_list, turn_here, HasTurned, IsServer, waiting_clients}
+use Rattle.krl_server.proofs.Names.{case_of, with_rows, acknowledged, queues, effect, can_push, next_turn, answer_first, grants, Answered, stops, goes_on, callbacks, Acts, Ends}
+use Rattle.krl_server.proofs.Names.{serves, kind_of, ServerStep, IsSound, turn_here, HasTurned, HasAnsweredFirst, IsServer, waiting_clients, Sent, Sends}
 use Rattle.krl_modes.specs.declared.mode.Mode.TheVariants as mode
-use Rattle.krl_messages.specs.declared.to_client.PushBody.TheVariants as push
 use Rattle.krl_table.specs.declared.reply.Reply.TheVariants as reply
 use Rattle.krl_server.specs.declared.case.Case.{Case as Found}
 use Rattle.krl_server.specs.declared.case.Case.TheVariants as found
 use Rattle.krl_server.proofs.Updates.{row_here, row_other, session_here, session_other}
 use Rattle.krl_server.proofs.Functions.StateChanges.{sessions_set, set_twice}
 use Rattle.krl_server.proofs.Grants.{slot_always}
-use Rattle.krl_server.proofs.Functions.FirstTurn.{turned_grant}
+use Rattle.krl_server.proofs.Functions.FirstTurn.{answered_grant}
 use Rattle.krl_server.proofs.Functions.Rounds.{IsRound, round, empty_none, none_among, none_here, still_none, turn_can, turn_row_beside}
 use Rattle.krl_server.proofs.Outputs.Ends.{turn_durable, turn_empties, turn_empties_here}
 use Rattle.krl_server.proofs.Invariant.Sounds.{effect_sound}
@@ -94,22 +93,12 @@ module _ (st : State) (u : Waiter) (t : Kept) (room : u.client < length st.sessi
       ∙ ap (λ ls. let s : Server = record { durable = st.durable; rows = granted st.durable.index (enqueued st.durable.index (rows_of st.table) u) (slot_of st.durable.index u.point); sessions = ls; missing = st.missing } in s)
       (sessions_set st.sessions u.client (record { last_push = (sessions_of st.sessions u.client).last_push; unacked = None; last_request = u.req }) room ∙ noted_sessions (sessions_of st.sessions) u)
 
--- the push
-pub granted_push : (q mid : Server) (u : Waiter) (n : ℕ) (ns : List ℕ) (hs : List Holding) → mid ≡ with_rows q (granted q.durable.index q.rows n) → ns ≡ taken q.durable.index q.rows n → hs ≡ holdings mid u.client ns → pushes mid u.client (push.Grant u.req hs) ≡ grants q (record { slot = n; waiter = u })
-granted_push q mid u n ns hs e f h =
-    ap (λ x. pushes mid u.client (push.Grant u.req x)) h
-    ∙ ap (λ x. pushes x u.client (push.Grant u.req (holdings x u.client ns))) e
-    ∙ ap (λ x. pushes (with_rows q (granted q.durable.index q.rows n)) u.client (push.Grant u.req (holdings (with_rows q (granted q.durable.index q.rows n)) u.client x))) f
-
 -- the turn
-pub granted_turn : (s t : Server) (u : Waiter) (o : Option ToClient) → (s.sessions u.client).last_push < END → true ≡ is_granted_at_once s.durable.index s.rows u → t ≡ (grants (queues (acknowledged s u.client) u) (record { slot = slot_of s.durable.index u.point; waiter = u })).server → as_list o ≡ (grants (queues (acknowledged s u.client) u) (record { slot = slot_of s.durable.index u.point; waiter = u })).outs → (x : ToClient) × (o ≡ Some x) × HasTurned (queues (acknowledged s u.client) u) t (slot_of s.durable.index u.point) x
-granted_turn s t u o lt e server outs =
+pub granted_turn : (s t : Server) (u : Waiter) (old new : Sent) → (s.sessions u.client).last_push < END → true ≡ is_granted_at_once s.durable.index s.rows u → t ≡ (grants (queues (acknowledged s u.client) u) (record { slot = slot_of s.durable.index u.point; waiter = u })).server → Sends old new (grants (queues (acknowledged s u.client) u) (record { slot = slot_of s.durable.index u.point; waiter = u })).outs → HasAnsweredFirst (queues (acknowledged s u.client) u) t (slot_of s.durable.index u.point) old new
+granted_turn s t u old new lt e server sends =
     let none = free_here s.durable.index s.rows u e in
-    turned_grant (queues (acknowledged s u.client) u) (slot_of s.durable.index u.point) u (ap (λ q. front_of q) (queue_here s.durable.index s.rows u none)) true (can_again s u lt) t o
-    (sym (reply_here s.durable.index s.rows u none e)) server outs
-
-pub no_none_here : {A : Type 0} (P : Type 0) (o : Option A) (x : A) → o ≡ Some x → Rattle.std.specs.Prelude.IfNone o P
-no_none_here P o x e = subst (λ o. Rattle.std.specs.Prelude.IfNone o P) (sym e) tt
+    answered_grant (queues (acknowledged s u.client) u) (slot_of s.durable.index u.point) u (ap (λ q. front_of q) (queue_here s.durable.index s.rows u none)) true (can_again s u lt) t old new
+    (sym (reply_here s.durable.index s.rows u none e)) server sends
 
 -- The step
 

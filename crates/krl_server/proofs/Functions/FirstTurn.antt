@@ -1,12 +1,13 @@
 -- The turn of a slot's first waiter, as the code takes it.
-use Rattle.krl_server.proofs.Names.{◌≡◌, ℕ, suc, ◌<◌, Bool, true, false, not, ◌&&◌, ◌||◌, Option, Some, None, List, [], ◌∷◌, refl, sym, ap, subst, ◌∙◌, nat_lt, is_some, IfSome, if◌then◌else◌, END}
-use Rattle.krl_server.proofs.Names.{ToClient, In, Waiter, Index, Rows, front_of, dropped, behind_first, taken, granted, asks_absent, is_wanted_compatible, reply_to, first_reply, answerable, Server}
-use Rattle.krl_server.proofs.Names.{with_rows, holdings, push_to, Turn, can_push, is_answerable, turn_at, tells_absent, grants, as_list, turn_here, HasTurned}
+use Rattle.krl_server.proofs.Names.{◌≡◌, ℕ, suc, ◌<◌, ◌≤◌, length, inl, inr, arith, Bool, true, false, not, ◌&&◌, ◌||◌, Option, Some, None, List, [], ◌∷◌, refl, sym, ap, subst, ◌∙◌, nat_lt, is_some, if◌then◌else◌, END}
+use Rattle.krl_server.proofs.Names.{Holding, In, Waiter, Index, is_slot, slots, Rows, front_of, dropped, behind_first, taken, granted, asks_absent, is_wanted_compatible, reply_to, first_reply, answerable, Server}
+use Rattle.krl_server.proofs.Names.{with_rows, holdings, push_to, Turn, can_push, is_answerable, turn_at, tells_absent, grants, pushes, turn_here, HasAnsweredFirst, Sent, Sends, waiting_on, waiting}
 use Rattle.std.proofs.lemmas.Bool.{ltb-true, and_parts}
 use Rattle.krl_messages.specs.declared.to_client.PushBody.TheVariants as push
 use Rattle.krl_table.specs.declared.reply.Reply.{Reply}
 use Rattle.krl_table.specs.declared.reply.Reply.TheVariants as reply
 use Rattle.krl_server.proofs.Functions.StateChanges.{pushes_next}
+use Rattle.krl_server.proofs.Invariant.Tabled.{slots_have}
 
 -- the first of a list
 pub front_is : (us : List Waiter) (u : Waiter) → front_of us ≡ Some u → us ≡ u ∷ behind_first us
@@ -18,7 +19,19 @@ front_none [] e = refl
 front_none (v ∷ us) e = absurd (cc)
 
 pub front_in : (us : List Waiter) (u : Waiter) → front_of us ≡ Some u → In u us
-front_in us u e = subst (In u) (sym (front_is us u e)) (Rattle.std.proofs.Common.inl refl)
+front_in us u e = subst (In u) (sym (front_is us u e)) (inl refl)
+
+some_waits : (rows : Rows) (n : ℕ) (ns : List ℕ) (u : Waiter) → In n ns → front_of (rows n).queue ≡ Some u → 1 ≤ waiting_on rows ns
+some_waits rows n [] u at e = absurd at
+some_waits rows n (k ∷ ks) u (inl is) e =
+    let long = ap (λ q. length q) (front_is (rows n).queue u e) in
+    let here = ap (λ j. length (rows j).queue) is in
+    omega (arith, long, here)
+some_waits rows n (k ∷ ks) u (inr at) e = let ih = some_waits rows n ks u at e in omega (arith, ih)
+
+-- where a slot has a first waiter somebody waits
+pub front_waits : (s : Server) (n : ℕ) (u : Waiter) → is_slot s.durable.index n ≡ true → front_of (s.rows n).queue ≡ Some u → 1 ≤ waiting s
+front_waits s n u there e = some_waits s.rows n (slots s.durable.index) u (slots_have s.durable.index n there) e
 
 -- what a reply says
 
@@ -54,16 +67,12 @@ no_reply : (b : Bool) (o : Option Reply) (t : Bool) → (o ≡ None → t ≡ fa
 no_reply true o t f e = f e
 no_reply false o t f e = refl
 
-sent_one : (o : Option ToClient) (x : ToClient) → as_list o ≡ x ∷ [] → o ≡ Some x
-sent_one None x e = absurd (cc)
-sent_one (Some y) x e = cc
-
-pub if_some : {A : Type 0} (P : A → Type 0) (o : Option A) (x : A) → o ≡ Some x → P x → IfSome o P
-if_some P o x e p = subst (λ o. IfSome o P) (sym e) p
-
-pub always_if_some : {A P : Type 0} (o : Option A) → P → IfSome o (λ _. P)
-always_if_some None p = tt
-always_if_some (Some x) p = p
+-- the push of a grant, from the rows that are raised
+pub granted_push : (q mid : Server) (u : Waiter) (n : ℕ) (ns : List ℕ) (hs : List Holding) → mid ≡ with_rows q (granted q.durable.index q.rows n) → ns ≡ taken q.durable.index q.rows n → hs ≡ holdings mid u.client ns → pushes mid u.client (push.Grant u.req hs) ≡ grants q (record { slot = n; waiter = u })
+granted_push q mid u n ns hs e f h =
+    ap (λ x. pushes mid u.client (push.Grant u.req x)) h
+    ∙ ap (λ x. pushes x u.client (push.Grant u.req (holdings x u.client ns))) e
+    ∙ ap (λ x. pushes (with_rows q (granted q.durable.index q.rows n)) u.client (push.Grant u.req (holdings (with_rows q (granted q.durable.index q.rows n)) u.client x))) f
 
 -- the turn at a slot whose first waiter is u
 module _ (s : Server) (n : ℕ) (u : Waiter) (first : front_of (s.rows n).queue ≡ Some u) where
@@ -87,40 +96,40 @@ module _ (s : Server) (n : ℕ) (u : Waiter) (first : front_of (s.rows n).queue 
     pushable : acked ≡ true → (s.sessions u.client).last_push < END
     pushable e = ltb-true (s.sessions u.client).last_push END (and_parts (not (is_some (s.sessions u.client).unacked)) (nat_lt (s.sessions u.client).last_push END) (sym is ∙ e)).1
 
-    pub turned_grant : (t : Server) (o : Option ToClient) → Some reply.Grant ≡ answerable s.durable.index s.rows n acked → t ≡ (grants s (record { slot = n; waiter = u })).server → as_list o ≡ (grants s (record { slot = n; waiter = u })).outs → (x : ToClient) × (o ≡ Some x) × HasTurned s t n x
-    turned_grant t o a server outs =
+    pub answered_grant : (t : Server) (old new : Sent) → Some reply.Grant ≡ answerable s.durable.index s.rows n acked → t ≡ (grants s (record { slot = n; waiter = u })).server → Sends old new (grants s (record { slot = n; waiter = u })).outs → HasAnsweredFirst s t n old new
+    answered_grant t old new a server sends =
         let r = some_reply acked (reply_to s.durable.index s.rows n u) reply.Grant (sym (a ∙ answer acked)) in
         let g = grant_says s.durable.index s.rows n u r.1 in
         let body = push.Grant u.req (holdings (with_rows s (granted s.durable.index s.rows n)) u.client (taken s.durable.index s.rows n)) in
         let x = push_to (with_rows s (granted s.durable.index s.rows n)) u.client (suc (s.sessions u.client).last_push) body in
         let next = pushes_next (with_rows s (granted s.durable.index s.rows n)) u.client body (pushable r.0) in
         let here_is = yes (ap (λ b. b && (asks_absent s.durable.index u || is_wanted_compatible s.rows n u)) (sym is ∙ r.0) ∙ ap (λ b. b || is_wanted_compatible s.rows n u) g.0 ∙ g.1) in
-        let same = ap (λ b. if b then tells_absent s turn else grants s turn) g.0 in (
-          x,
-          sent_one o x (outs ∙ ap (λ d. d.outs) next),
-          record {
+        let same = ap (λ b. if b then tells_absent s turn else grants s turn) g.0 in record {
+          out = x;
+          turned = record {
             turn = turn;
             here = here_is;
             server = server ∙ ap (λ d. d.server) (sym same);
             out = ap (λ d. d.outs) same ∙ ap (λ d. d.outs) next;
-          },
-        )
+          };
+          sends = subst (Sends old new) (ap (λ d. d.outs) next) sends;
+        }
 
-    pub turned_absent : (t : Server) (o : Option ToClient) → Some reply.Absent ≡ answerable s.durable.index s.rows n acked → t ≡ (tells_absent s (record { slot = n; waiter = u })).server → as_list o ≡ (tells_absent s (record { slot = n; waiter = u })).outs → (x : ToClient) × (o ≡ Some x) × HasTurned s t n x
-    turned_absent t o a server outs =
+    pub answered_absent : (t : Server) (old new : Sent) → Some reply.Absent ≡ answerable s.durable.index s.rows n acked → t ≡ (tells_absent s (record { slot = n; waiter = u })).server → Sends old new (tells_absent s (record { slot = n; waiter = u })).outs → HasAnsweredFirst s t n old new
+    answered_absent t old new a server sends =
         let r = some_reply acked (reply_to s.durable.index s.rows n u) reply.Absent (sym (a ∙ answer acked)) in
         let g = absent_says s.durable.index s.rows n u r.1 in
         let body = push.Absent u.req u.point in
         let x = push_to (with_rows s (dropped s.rows n)) u.client (suc (s.sessions u.client).last_push) body in
         let next = pushes_next (with_rows s (dropped s.rows n)) u.client body (pushable r.0) in
         let here_is = yes (ap (λ b. b && (asks_absent s.durable.index u || is_wanted_compatible s.rows n u)) (sym is ∙ r.0) ∙ ap (λ b. b || is_wanted_compatible s.rows n u) g) in
-        let same = ap (λ b. if b then tells_absent s turn else grants s turn) g in (
-          x,
-          sent_one o x (outs ∙ ap (λ d. d.outs) next),
-          record {
+        let same = ap (λ b. if b then tells_absent s turn else grants s turn) g in record {
+          out = x;
+          turned = record {
             turn = turn;
             here = here_is;
             server = server ∙ ap (λ d. d.server) (sym same);
             out = ap (λ d. d.outs) same ∙ ap (λ d. d.outs) next;
-          },
-        )
+          };
+          sends = subst (Sends old new) (ap (λ d. d.outs) next) sends;
+        }

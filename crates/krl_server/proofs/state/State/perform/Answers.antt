@@ -73,14 +73,15 @@ returns-in-Writes-clause-performed c =
     let o = c.write-outcome.result in
     let is = c.acknowledge-in-Writes.ensures.acknowledged
     ∙ ap (λ x. acknowledged x own) c.write-outcome.ensures.writes in
+    let outs = (answers (meaning c.acknowledge-in-Writes.new.self) own number op o).outs in
     record {
-      outs = as_list c.answer_write.result;
-      performed = subst (λ left. IsPerformed s c.args.message.now (meaning c.answer_write.new.self) left (as_list c.answer_write.result)) (sym (ap (λ (d : Performed). d.after) c.changing-in-Writes.ensures))
-          (performed_write s c.args.message.now (meaning c.answer_write.new.self) number op o (as_list c.answer_write.result)
+      outs = outs;
+      performed = subst (λ left. IsPerformed s c.args.message.now (meaning c.answer_write.new.self) left outs) (sym (ap (λ (d : Performed). d.after) c.changing-in-Writes.ensures))
+          (performed_write s c.args.message.now (meaning c.answer_write.new.self) number op o outs
           (ap (λ x. Judges number op x) c.write-outcome.ensures.outcome ∙ (sym (ap (λ f. meant s own c.args.message.now.body f) c.in-Writes.is) ∙ c.requires.case))
           (c.answer_write.ensures.server ∙ ap (λ x. (answers x own number op o).server) is)
-          (c.answer_write.ensures.outs ∙ ap (λ x. (answers x own number op o).outs) is));
-      sends = c.send_some-in-Writes.ensures;
+          (ap (λ x. (answers x own number op o).outs) is));
+      sends = c.answer_write.ensures.sent;
     }
 
 pub returns-in-AnswersAgain-clause-performed : goal.returns-in-AnswersAgain-clause-performed
@@ -90,12 +91,13 @@ returns-in-AnswersAgain-clause-performed c =
     let number = c.in-AnswersAgain.number in
     let op = c.in-AnswersAgain.op in
     let o = c.in-AnswersAgain.outcome in
+    let outs = (answers (meaning c.acknowledge-in-AnswersAgain.new.self) own number op o).outs in
     record {
-      outs = as_list c.answer_write-in-AnswersAgain.result;
-      performed = subst (λ left. IsPerformed s c.args.message.now (meaning c.answer_write-in-AnswersAgain.new.self) left (as_list c.answer_write-in-AnswersAgain.result)) (sym (ap (λ (d : Performed). d.after) c.unchanging-in-AnswersAgain.ensures))
-          (performed_again s c.args.message.now (meaning c.answer_write-in-AnswersAgain.new.self) number op o (as_list c.answer_write-in-AnswersAgain.result)
+      outs = outs;
+      performed = subst (λ left. IsPerformed s c.args.message.now (meaning c.answer_write-in-AnswersAgain.new.self) left outs) (sym (ap (λ (d : Performed). d.after) c.unchanging-in-AnswersAgain.ensures))
+          (performed_again s c.args.message.now (meaning c.answer_write-in-AnswersAgain.new.self) number op o outs
           (sym (ap (λ f. meant s own c.args.message.now.body f) c.in-AnswersAgain.is) ∙ c.requires.case)
           (c.answer_write-in-AnswersAgain.ensures.server ∙ ap (λ x. (answers x own number op o).server) c.acknowledge-in-AnswersAgain.ensures.acknowledged)
-          (c.answer_write-in-AnswersAgain.ensures.outs ∙ ap (λ x. (answers x own number op o).outs) c.acknowledge-in-AnswersAgain.ensures.acknowledged));
-      sends = c.send_some-in-AnswersAgain.ensures;
+          (ap (λ x. (answers x own number op o).outs) c.acknowledge-in-AnswersAgain.ensures.acknowledged));
+      sends = c.answer_write-in-AnswersAgain.ensures.sent;
     }

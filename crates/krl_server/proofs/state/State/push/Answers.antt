@@ -7,6 +7,6 @@ returns-clause-server c =
     let st = c.args.self.now in let own = c.args.client in
     let d = c.index-self-client.result in
     let lt : own < length st.sessions = omega (arith, c.requires.client, c.requires.formed.full) in
-    ap (λ n. meaning (record st { sessions = set st.sessions own (record { last_push = n + 1; unacked = Some c.args.body; last_request = (get_or st.sessions own d).last_request }) })) (ap (λ (x : Session). x.last_push) c.session.ensures)
-    ∙ ap (λ n. meaning (record st { sessions = set st.sessions own (record { last_push = (sessions_of st.sessions own).last_push + 1; unacked = Some c.args.body; last_request = n }) })) (ap (λ (x : Session). x.last_request) (get_or_default st.sessions own d blank_session lt))
-    ∙ pushed_means st own c.args.body lt (subst (λ (x : Session). x.last_push < END) c.session.ensures c.if-last_push-ge-END.false)
+    ap (λ n. meaning (record st { sessions = set st.sessions own (record { last_push = n + 1; unacked = Some c.args.body.now; last_request = (get_or st.sessions own d).last_request }) })) (ap (λ (x : Session). x.last_push) c.session.ensures)
+    ∙ ap (λ n. meaning (record st { sessions = set st.sessions own (record { last_push = (sessions_of st.sessions own).last_push + 1; unacked = Some c.args.body.now; last_request = n }) })) (ap (λ (x : Session). x.last_request) (get_or_default st.sessions own d blank_session lt))
+    ∙ pushed_means st own c.args.body.now lt (subst (λ (x : Session). x.last_push < END) c.session.ensures c.if-last_push-ge-END.false)

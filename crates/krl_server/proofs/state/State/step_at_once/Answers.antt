@@ -1,4 +1,4 @@
-use Rattle.krl_server.proofs.Names.{◌++◌, ◌∷◌, [], length, Some, None, sym, ap, subst, ◌∙◌, arith, if◌then◌else◌, callbacks, is_alarm, HaveWaiters, Sent, meaning, meant, ServerStep}
+use Rattle.krl_server.proofs.Names.{◌++◌, ◌∷◌, [], length, Some, None, refl, sym, ap, subst, ◌∙◌, arith, if◌then◌else◌, callbacks, is_alarm, HaveWaiters, Sent, meaning, meant, ServerStep}
 use Rattle.krl_server.specs.Changes.{change_of}
 use Rattle.krl_server.proofs.Functions.Boxes.{sends_length}
 use Rattle.krl_server.proofs.Functions.Facts.{facts_of}
@@ -15,31 +15,34 @@ call_back-requires-clause-slots c = subst (HaveWaiters (meaning c.grant_at_once.
 
 pub call_back-requires-clause-sound : goal.call_back-requires-clause-sound
 call_back-requires-clause-sound c =
-    (made_at_once c.args.self.now c.args.message.now c.args.case.now c.in-Waits.req c.in-Waits.point c.in-Waits.hi c.in-Waits.mode (meaning c.grant_at_once.new.self) c.in-Some.granted
-    c.requires.server c.requires.case c.in-Waits.is (sym c.is_recovering.ensures ∙ c.if-is_recovering.false) c.in-Some.ensures.turned c.in-Some.ensures.free).sound
+    let a = c.if-not-grant_at_once.ensures.answered refl in
+    (made_at_once c.args.self.now c.args.message.now c.args.case.now c.in-Waits.req c.in-Waits.point c.in-Waits.hi c.in-Waits.mode (meaning c.grant_at_once.new.self) a.out
+    c.requires.server c.requires.case c.in-Waits.is (sym c.is_recovering.ensures ∙ c.if-is_recovering.false) a.turned (c.if-not-grant_at_once.ensures.free refl)).sound
 
 pub call_back-requires-clause-room : goal.call_back-requires-clause-room
 call_back-requires-clause-room c =
-    let few = (made_at_once c.args.self.now c.args.message.now c.args.case.now c.in-Waits.req c.in-Waits.point c.in-Waits.hi c.in-Waits.mode (meaning c.grant_at_once.new.self) c.in-Some.granted
-    c.requires.server c.requires.case c.in-Waits.is (sym c.is_recovering.ensures ∙ c.if-is_recovering.false) c.in-Some.ensures.turned c.in-Some.ensures.free).few in
-    let sent = sends_length c.in_ok-outbox.outbox c.send.new.self (c.in-Some.granted ∷ []) c.send.ensures in
+    let a = c.if-not-grant_at_once.ensures.answered refl in
+    let few = (made_at_once c.args.self.now c.args.message.now c.args.case.now c.in-Waits.req c.in-Waits.point c.in-Waits.hi c.in-Waits.mode (meaning c.grant_at_once.new.self) a.out
+    c.requires.server c.requires.case c.in-Waits.is (sym c.is_recovering.ensures ∙ c.if-is_recovering.false) a.turned (c.if-not-grant_at_once.ensures.free refl)).few in
+    let sent = sends_length c.in_ok-outbox.outbox c.grant_at_once.new.outbox (a.out ∷ []) a.sends in
     let none = ap (λ b. length b.sent) c.in_ok-outbox.ensures in
     let room = ap (λ b. b.room) c.in_ok-outbox.ensures in
-    let more = c.send.ensures.room in
+    let more = a.sends.room in
     let count = c.count_waiting.ensures.count in
     omega (arith, few, sent, none, room, more, count)
 
-pub returns-in-Some-clause-stepped : goal.returns-in-Some-clause-stepped
-returns-in-Some-clause-stepped c =
+pub returns-clause-stepped : goal.returns-clause-stepped
+returns-clause-stepped c =
+    let a = c.if-not-grant_at_once.ensures.answered refl in
     let s = meaning c.args.self.now in
     let m = c.args.message.now in
-    let o = c.in-Some.granted in
+    let o = a.out in
     let t = meaning c.grant_at_once.new.self in
     let e = sym c.requires.case ∙ ap (meant s m.client m.body) c.in-Waits.is in
-    let sent = c.into_items.ensures ∙ c.call_back.ensures.sent ∙ ap (λ l. l ++ callbacks t) (c.send.ensures.sent ∙ ap (λ (b : Sent). b.sent ++ (o ∷ [])) c.in_ok-outbox.ensures) in
+    let sent = c.into_items.ensures ∙ c.call_back.ensures.sent ∙ ap (λ l. l ++ callbacks t) (a.sends.sent ∙ ap (λ (b : Sent). b.sent ++ (o ∷ [])) c.in_ok-outbox.ensures) in
     record {
       step = subst (ServerStep s m t) (sym sent)
-          (made_at_once c.args.self.now m c.args.case.now c.in-Waits.req c.in-Waits.point c.in-Waits.hi c.in-Waits.mode t o c.requires.server c.requires.case c.in-Waits.is (sym c.is_recovering.ensures ∙ c.if-is_recovering.false) c.in-Some.ensures.turned c.in-Some.ensures.free).step;
+          (made_at_once c.args.self.now m c.args.case.now c.in-Waits.req c.in-Waits.point c.in-Waits.hi c.in-Waits.mode t o c.requires.server c.requires.case c.in-Waits.is (sym c.is_recovering.ensures ∙ c.if-is_recovering.false) a.turned (c.if-not-grant_at_once.ensures.free refl)).step;
       alarm = sym (ap (λ k. if is_alarm k then Some m.client else None) e);
       change = sym (ap (change_of m) e);
     }
