@@ -10,4 +10,5 @@ pub mod Waiters
 pub mod Holds
 pub mod Kept
 pub mod ReportSweep
+pub mod InOrder
 pub mod Extents

@@ -7,6 +7,7 @@ mod extent;
 mod extents;
 mod first;
 mod needs;
+mod order;
 mod pieces;
 mod reply;
 mod reports;
@@ -18,6 +19,7 @@ mod waiting;
 
 pub use conflict::Conflict;
 pub use first::FirstWaiter;
+pub use order::{in_order, is_in_order};
 pub use reply::Reply;
 pub use row::SlotRow;
 pub use table::Table;

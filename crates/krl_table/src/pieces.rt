@@ -1,6 +1,7 @@
 //! What lists of pieces say of a slot, and where the next of them begins. Of a list that ascends
 //! only the pieces are read that can say something.
-ghost use Rattle.std.specs.Prelude.{◌≡◌, ◌<◌, ◌≤◌, ◌⊎◌, ℕ, true, nat_eq, if◌then◌else◌};
+ghost use Rattle.std.specs.Prelude.{◌≡◌, ◌<◌, ◌≤◌, ◌⊎◌, ◌↔◌, ℕ, true, nat_eq, IsTrue};
+ghost use Rattle.std.specs.Prelude.{if◌then◌else◌};
 ghost use Rattle.krl_modes.specs.declared.part.RangePart.TheVariants as range;
 ghost use Rattle.krl_modes.specs.declared.part.KeyPart.TheVariants as key;
 ghost use Rattle.krl_modes.specs.Spans.{meets};
@@ -28,7 +29,7 @@ pub(crate) fn ranges_rise(pieces: &[RangePiece]) -> bool
 
 /// Whether each point lies at or behind the one before.
 pub(crate) fn keys_rise(pieces: &[KeyPiece]) -> bool
-    ensures { result ≡ true → KeysRise 0 pieces.now }
+    ensures { IsTrue result ↔ KeysRise 0 pieces.now }
 {
     let mut low: u64 = 0;
     for piece in pieces {

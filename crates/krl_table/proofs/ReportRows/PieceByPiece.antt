@@ -22,10 +22,10 @@ use Rattle.krl_modes.proofs.Basics.{not_both}
 
 -- Pieces
 
-range_assoc : (a b c : RangePart) → range_join (range_join a b) c ≡ range_join a (range_join b c)
+pub range_assoc : (a b c : RangePart) → range_join (range_join a b) c ≡ range_join a (range_join b c)
 range_assoc a b c = grind arith
 
-range_left : (a : RangePart) → range_join range.N a ≡ a
+pub range_left : (a : RangePart) → range_join range.N a ≡ a
 range_left a = grind arith
 
 pub range_right : (a : RangePart) → range_join a range.N ≡ a
