@@ -22,7 +22,8 @@ use crate::state::State;
 use krl_messages::{Outcome, Pieces, PushBody, WriteOp};
 use krl_modes::{Mode, Point, Span};
 use krl_queue::WaitNode;
-use std::alloc::AllocError;
+use krl_table::{in_order, is_in_order};
+use std::alloc::{AllocError, Global};
 
 impl State {
     /// Registers a new incarnation of the client: nothing that the one before held or waited for
@@ -61,8 +62,38 @@ impl State {
     }
 
     /// Takes a missing client's report, unless it contradicts what others hold: then it answers
+    /// `true`, and nothing has changed. A report in any other order than the table reads fast is
+    /// brought into that order first.
+    ///
+    /// # Errors
+    ///
+    /// `AllocError` where the memory for a report in order is refused. Nothing has changed then.
+    pub(crate) fn report(
+        &mut self,
+        alloc: Global,
+        client: u64,
+        pieces: &Pieces,
+    ) -> Result<bool, AllocError>
+        requires formed { IsFormed self.old }
+        requires client { client < 64 }
+        ensures contradicts { IfOk result (λ contradicts. contradicts
+            ≡ conflicts self.old.durable.index (meaning self.old).rows client pieces.now) }
+        ensures adopts { IfOk result (λ contradicts. meaning self.new
+            ≡ (if contradicts then meaning self.old
+            else adopts (meaning self.old) client pieces.now)) }
+        ensures formed { OnOk result (IsFormed self.new) }
+        ensures refused { OnErr result (self.new ≡ self.old) }
+    {
+        if is_in_order(pieces) {
+            return Ok(self.adopt_report(client, pieces));
+        }
+        let ordered = in_order(alloc, pieces)?;
+        Ok(self.adopt_report(client, &ordered))
+    }
+
+    /// Takes the report as it stands, unless it contradicts what others hold: then it answers
     /// `true`, and nothing has changed.
-    pub(crate) fn report(&mut self, client: u64, pieces: &Pieces) -> bool
+    fn adopt_report(&mut self, client: u64, pieces: &Pieces) -> bool
         requires formed { IsFormed self.old }
         requires client { client < 64 }
         ensures contradicts { result

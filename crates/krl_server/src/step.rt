@@ -65,23 +65,30 @@ impl State {
     }
 
     /// Takes the report that a missing client makes, or says Alarm.
-    fn take_report(&mut self, message: &ToServer) -> After
+    ///
+    /// # Errors
+    ///
+    /// `AllocError` where memory is refused. Nothing has changed then.
+    fn take_report(&mut self, alloc: Global, message: &ToServer) -> Result<After, AllocError>
         requires formed { IsFormed self.old }
         requires case { case_of_pieces (meaning self.old) message.now.client message.now.body
             ≡ case_of (meaning self.old) message.now }
-        ensures performed { IsPerformed (meaning self.old) message.now
-            (meaning self.new) result [] }
-        ensures formed { IsFormed self.new }
+        ensures performed { IfOk result (λ after. IsPerformed (meaning self.old) message.now
+            (meaning self.new) after []) }
+        ensures formed { OnOk result (IsFormed self.new) }
+        ensures refused { OnErr result (self.new ≡ self.old) }
     {
         match &message.body {
             ToServerBody::Report { epoch: _, pieces } => {
-                if self.report(message.client, pieces) {
-                    After::Alarm
+                if self.report(alloc, message.client, pieces)? {
+                    Ok(After::Alarm)
                 } else {
-                    After::Calls
+                    Ok(After::Calls)
                 }
             }
-            ToServerBody::Hello | ToServerBody::Bye | ToServerBody::Request(_) => After::Nothing,
+            ToServerBody::Hello | ToServerBody::Bye | ToServerBody::Request(_) => {
+                Ok(After::Nothing)
+            }
         }
     }
 
@@ -129,7 +136,7 @@ impl State {
                 outbox.send(self.epoch_to(client));
                 Ok(After::Nothing.unchanging())
             }
-            Case::Reports => Ok(self.take_report(message).unchanging()),
+            Case::Reports => Ok(self.take_report(alloc, message)?.unchanging()),
             Case::Repeats => {
                 outbox.send_some(self.push_again(client));
                 Ok(After::Nothing.unchanging())

@@ -10,6 +10,8 @@ mod changes;
 #[cfg(test)]
 mod exchange;
 #[cfg(test)]
+mod long_reports;
+#[cfg(test)]
 mod named;
 #[cfg(test)]
 mod ranges;

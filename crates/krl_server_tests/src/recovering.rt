@@ -10,6 +10,13 @@ pub static REGISTERS: [(Act, Gives); 4] = [
     (Act::Missing, Gives::Missing(&[])),
 ];
 
+// X from 0 to 20, as no client's cache reports it.
+const ALL_IN_NO_ORDER: [(u64, u64, RangePart); 3] = [
+    (11, 21, RangePart::S),
+    (0, 12, RangePart::X),
+    (11, 21, RangePart::I),
+];
+
 // After a restart: nothing is granted before each client has reported, has registered anew or has
 // left; a second Hello is no report, and a report that contradicts another changes nothing.
 pub static RECOVERS: [(Act, Gives); 22] = [
@@ -26,7 +33,7 @@ pub static RECOVERS: [(Act, Gives); 22] = [
         Gives::Only(&[Told::Epoch(A, 2)]),
     ),
     (
-        Act::Report(A, 2, &[(0, 21, RangePart::X)], &[(10, KeyPart::X)]),
+        Act::Report(A, 2, &ALL_IN_NO_ORDER, &[(10, KeyPart::X)]),
         Gives::Told(&[]),
     ),
     (Act::Missing, Gives::Missing(&[2, 1])),

@@ -10,6 +10,7 @@ use crate::acts::{Act, Gives};
 use crate::again::CALLS;
 use crate::changes::{CHANGES, all_say};
 use crate::exchange::{CROWD, EXCHANGE, SHARES};
+use crate::long_reports::{ENTRIES, Order, is_taken_in_time};
 use crate::ranges::{
     COVERS, ENDS_BEFORE_A_HELD_SLOT, ENDS_BEFORE_A_WAITER, READS_VALUES_AGAIN, WRITES_VALUES,
 };
@@ -176,6 +177,14 @@ fn passes_over_strangers(rt: HostRuntime) {
 #[test]
 fn recovers_before_it_serves(rt: HostRuntime) {
     assert!(rt; gives_over_a_crash(rt.alloc(), &two_entries(), &REGISTERS, &RECOVERS));
+}
+
+// A report from the last gap to the first, and one whose ranges all end behind the last entry: END
+// is a slot too.
+#[test]
+fn large_reports_in_any_order_are_taken_in_time(rt: HostRuntime) {
+    assert!(rt; is_taken_in_time(&rt, Order::Descending, ENTRIES));
+    assert!(rt; is_taken_in_time(&rt, Order::Nested, ENTRIES + 1));
 }
 
 #[test]
