@@ -15,4 +15,7 @@
 #                      others back
 #   start              a start on what survives, which registers 64 clients
 #   report-of-1000     one of the 64 reports of 1,000 ranges each that follow
+#   report-ascending, report-descending, report-shuffled    a report of as many ranges as there are entries, side by
+#                      side, in this order; the twin does not tell these
+#   report-nested      the same with ranges of which each goes on to the end
 exec "$(dirname -- "$0")/../both_sizes" server krl_modes krl_messages krl_queue krl_blocks krl_store krl_durable krl_table krl_server
