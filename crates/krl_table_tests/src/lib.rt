@@ -8,6 +8,8 @@ mod asks;
 #[cfg(test)]
 mod bench;
 #[cfg(test)]
+mod orders;
+#[cfg(test)]
 mod report;
 #[cfg(test)]
 mod tests;

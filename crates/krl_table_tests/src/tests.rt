@@ -1,4 +1,5 @@
 use crate::asks::{Alone, Ask, check};
+use crate::orders::{ORDERS, is_brought_into_order};
 use crate::report::Report;
 use krl_messages::Outcome;
 use krl_modes::{END, KeyPart, Mode, RangePart, TOP};
@@ -186,6 +187,13 @@ static REPORTS: [Ask; 18] = [
     Ask::Holds(0, 10, Mode::N),
     Ask::Holds(0, 20, Mode::RangeIN),
 ];
+
+#[test]
+fn brings_reports_into_order(rt: HostRuntime) {
+    for (report, expected) in &ORDERS {
+        assert!(rt; is_brought_into_order(rt.alloc(), *report, *expected));
+    }
+}
 
 #[test]
 fn takes_reports_in(rt: HostRuntime) {
