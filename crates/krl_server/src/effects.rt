@@ -62,8 +62,8 @@ impl State {
     }
 
     /// Takes a missing client's report, unless it contradicts what others hold: then it answers
-    /// `true`, and nothing has changed. A report in any other order than the table reads fast is
-    /// brought into that order first.
+    /// `true`, and nothing has changed. A report in no order is brought into order first, since the
+    /// table would read all of it for each slot.
     ///
     /// # Errors
     ///

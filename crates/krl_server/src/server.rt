@@ -123,6 +123,9 @@ impl Server {
     /// Release apart, and the server serves then, those who block a first waiter are called back,
     /// and nobody else ever is.
     ///
+    /// A report's pieces may come in any order, and overlap. They are brought into order first where
+    /// they are in none, which takes the time of a sort and memory in proportion to the report.
+    ///
     /// # Errors
     ///
     /// `AllocError` where memory is refused. Nothing has changed then, and nothing is sent.

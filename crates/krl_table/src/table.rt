@@ -296,7 +296,8 @@ impl Table {
     /// memory. It looks at the rows that are kept from the first on where the client held or waited
     /// since it was cleared, and at the slots of which something is reported, with a search for
     /// each. Where the pieces of both lists come in order it reads a piece once for each slot that
-    /// it meets, and once to pass it; else each piece for each of those slots.
+    /// it meets, and once to pass it; else each piece for each of those slots. `in_order` makes a
+    /// report that is in order.
     ///
     /// # Errors
     ///
