@@ -83,7 +83,7 @@ command_same w v c command.Leave (Ok answer) t h = tt
 command_same w v c what (Err e) t h = tt
 
 -- a scan's rows are the index's after it too
-scans_same : (w v : State) (what : Step) (r : Result Answer Refused) → Steps w what r v → ScansIndex (index_of w) what r → ScansIndex (index_of v) what r
+pub scans_same : (w v : State) (what : Step) (r : Result Answer Refused) → Steps w what r v → ScansIndex (index_of w) what r → ScansIndex (index_of v) what r
 scans_same w v (step.Deliver i) r t h = tt
 scans_same w v (step.Command c what) r t h = command_same w v c what r t h
 scans_same w v (step.Tick c) r t h = tt
@@ -104,16 +104,17 @@ pub sight_is : (w : world.Fields) (waits : Waits) (g : Lcg) (waiting : Option �
 sight_is w waits g waiting sent down oldest all none = rw (oldest, all, sent_is w, none, down_is w.server) refl
 
 -- a step was taken, and what it sent is counted
-pub taken : (w v : world.Fields) (waits passed counted : Waits) (g : Lcg) (what : Step) (r : Result Answer Refused) (sent : ℕ) → Steps (world.meaning w) what r (world.meaning v) → passed ≡ waits_since what r waits → sent ≡ length v.sent → counted ≡ sent_to passed sent → TakesDrawn (world.meaning w) waits what g (record { world = world.meaning v; waits = counted; generator = g })
-taken w v waits passed counted g what r sent t p e h = record {
-  outcome = r;
-  world = world.meaning v;
-  steps = t;
-  leaves = rw (h, p, e, sent_is v) refl;
-}
-
-pub answers_right : (w v : world.Fields) (what : Step) (r : Result Answer Refused) (b : Bool) → Steps (world.meaning w) what r (world.meaning v) → ScansIndex (index_of (world.meaning w)) what r → (ScansIndex (index_of (world.meaning v)) what r → b ≡ true) → b ≡ true
-answers_right w v what r b t h f = f (scans_same (world.meaning w) (world.meaning v) what r t h)
+pub taken : (w v : world.Fields) (waits passed counted : Waits) (g : Lcg) (what : Step) (r : Result Answer Refused) (sent : ℕ) → Steps (world.meaning w) what r (world.meaning v) → passed ≡ waits_since what r waits → sent ≡ length v.sent → counted ≡ sent_to passed sent → ScansIndex (index_of (world.meaning w)) what r → (taken : TakesDrawn (world.meaning w) waits what g (record { world = world.meaning v; waits = counted; generator = g })) × (taken.outcome ≡ r)
+taken w v waits passed counted g what r sent t p e h s = (
+  record {
+    outcome = r;
+    world = world.meaning v;
+    steps = t;
+    rows = scans_same (world.meaning w) (world.meaning v) what r t s;
+    leaves = rw (h, p, e, sent_is v) refl;
+  },
+  refl,
+)
 
 -- Rows
 

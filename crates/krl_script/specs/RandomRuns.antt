@@ -5,8 +5,9 @@ use Rattle.std.specs.Io.KnownBytes.{Appends}
 use Rattle.rand_pcg.specs.Lcg.{Lcg}
 use Rattle.std.specs.Int.{w64, to_be_bytes}
 use Rattle.krl_messages.specs.Values.{Value}
-use Rattle.krl_world.specs.States.{State, ServerNode, Up, Down, fresh, sent_count}
+use Rattle.krl_world.specs.States.{State, ServerNode, Up, Down, fresh, index_of, sent_count}
 use Rattle.krl_world.specs.Steps.{Steps}
+use Rattle.krl_world.specs.Promises.{ScansIndex}
 use Rattle.krl_world.specs.Fields as world
 use Rattle.krl_steps.specs.declared.step.Step.{Step}
 use Rattle.krl_steps.specs.declared.step.Step.TheVariants as step
@@ -61,12 +62,13 @@ abbrev pub waits_since : Step → Result Answer Refused → Waits → Waits
 waits_since (step.Deliver number) outcome waits = waits_after outcome number waits
 waits_since other outcome waits = waits
 
--- the world takes the step, or refuses it, and what it sent waits
+-- the world takes the step, or refuses it; what it sent waits; and the rows of a scan are those of the index
 pub record TakesDrawn (w : State) (waits : Waits) (what : Step) (generator : Lcg)
     (s' : RandomStage) : Type 0 where
   pub outcome : Result Answer Refused
   pub world : State
   pub steps : Steps w what outcome world
+  pub rows : ScansIndex (index_of world) what outcome
   pub leaves : s' ≡ record {
     world = world;
     waits = sent_to (waits_since what outcome waits) (sent_count world);

@@ -183,19 +183,34 @@ impl RandomRun {
         least_unsound(&self.world, CLIENTS, POINTS).is_none()
     }
 
-    // Takes a step, and says whether what it answered is what the index has.
-    fn take(&mut self, step: Step) -> Result<bool, AllocError>
-        ensures takes { IfOk result (λ answers. TakesDrawn (meaning self.old.world)
-            self.old.waiting step self.old.draws (stage_of self.new)) }
-        ensures sound { IfOk result (λ answers.
-            (answers ≡ true) × IsCompatible (meaning self.new.world)) }
+    // Whether what the step answered is what the index has, and the clients hold what goes
+    // together.
+    fn is_sound_after(&self, step: Step, outcome: &Result<Answer, Refused>) -> bool
+        ensures sound { ScansIndex (index_of (meaning self.now.world)) step outcome.now
+            → IsCompatible (meaning self.now.world) → result ≡ true }
+        ensures rows { result ≡ true
+            → ScansIndex (index_of (meaning self.now.world)) step outcome.now }
+        ensures looks { result ≡ true
+            → is_none (first_unsound (meaning self.now.world) 4 (numbers_below 64)) ≡ true }
     {
-        let (taken, passed) = (*&step, *&step);
-        let outcome = self.world.step(taken);
+        answers_index(&self.world, step, outcome) & self.is_sound()
+    }
+
+    // Takes a step, and gives what it came to.
+    fn take(&mut self, step: Step) -> Result<Result<Answer, Refused>, AllocError>
+        ensures takes { IfOk result (λ outcome. (taken : TakesDrawn (meaning self.old.world)
+            self.old.waiting step self.old.draws (stage_of self.new))
+            × (taken.outcome ≡ outcome)) }
+        ensures rows { IfOk result (λ outcome.
+            ScansIndex (index_of (meaning self.new.world)) step outcome) }
+        ensures sound { IfOk result (λ outcome. IsCompatible (meaning self.new.world)) }
+    {
+        let passed = *&step;
+        let outcome = self.world.step(step);
         pass(&mut self.waiting, passed, &outcome);
         let sent = self.world.sent();
         self.waiting.count(sent)?;
-        Ok(answers_index(&self.world, step, &outcome))
+        Ok(outcome)
     }
 
     // Draws the next step and takes it, and says whether all is sound after it.
@@ -210,8 +225,9 @@ impl RandomRun {
         let Some(step) = self.draws.step(&seen) else {
             return Ok(self.is_sound());
         };
-        let answers = self.take(step)?;
-        Ok(answers & self.is_sound())
+        let taken = *&step;
+        let outcome = self.take(taken)?;
+        Ok(self.is_sound_after(step, &outcome))
     }
 
     // The oldest message that waits, where too many do.
@@ -241,7 +257,7 @@ impl RandomRun {
             let Some(number) = self.late() else {
                 return Ok(self.is_sound());
             };
-            self.take(Step::Deliver(number))?;
+            let _ = self.take(Step::Deliver(number))?;
         }
         Ok(self.is_sound())
     }

@@ -5,10 +5,10 @@ use Rattle.krl_script.proofs.random.RandomRun.hurry.Goals as goal
 
 pub deliveries-preserved : goal.deliveries-preserved
 deliveries-preserved c = record {
-  sound = λ h. c.in_ok-take.ensures.sound.1;
+  sound = λ h. c.in_ok-take.ensures.sound;
   back = λ last h. c.deliveries.invariant.back last
       (hurries_step (c.args.most - c.deliveries.counter) (c.args.most - (c.deliveries.counter + 1)) c.deliveries.self c.late.new.self c.take.new.self c.in-Some.number last
-      (omega (arith, c.deliveries-test.true)) c.in-Some.ensures.late c.late.ensures.same c.in_ok-take.ensures.takes h);
+      (omega (arith, c.deliveries-test.true)) c.in-Some.ensures.late c.late.ensures.same c.in_ok-take.ensures.takes.0 h);
 }
 
 pub returns-in_default-clause-hurries : goal.returns-in_default-clause-hurries
