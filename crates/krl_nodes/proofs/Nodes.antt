@@ -1,5 +1,5 @@
 -- A turn: the post is taken, changed and given back.
-use Rattle.krl_nodes.proofs.Names.{◌≡◌, ℕ, List, [], ◌∷◌, Option, Some, None, sym, ap, ◌∙◌, subst, get_or, Me, Value, Mail, shown, view_of, given_view, joined_view, exchange_of, IsLive, Agreeable}
+use Rattle.krl_nodes.proofs.Names.{◌≡◌, ◌+◌, ℕ, suc, List, [], ◌∷◌, Option, Some, None, sym, ap, ◌∙◌, subst, get_or, Me, Value, Mail, shown, view_of, given_view, joined_view, exchange_of, IsLive, Agreeable}
 use Rattle.krl_nodes.proofs.Names.{Took, Change, MayGive, IsAt, HoldsPost, Changes, Exchanged, View}
 use Rattle.atomic_table.specs.declared.shared.Seat.{Seat as Ticket}
 use Rattle.krl_nodes.specs.declared.view.Exchange.{Exchange}
@@ -39,26 +39,30 @@ exchanged a b m m' n' P t ch gave = record {
   so = ch.so;
 }
 
+-- the post was given back once more
+pub given_once : (a b m m' : Me Mail View) (n' : Node) (P : Mail → Mail → Type 0) → Took a b → Changes b m P → m' ≡ (given_view m n', []) → m'.0.given ≡ suc a.0.given
+given_once a b m m' n' P t ch gave = ap (λ (x : Me Mail View). x.0.given) gave ∙ ap (λ (x : Me Mail View). suc x.0.given) ch.has ∙ ap (λ (x : Me Mail View). suc x.0.given) t.1
+
 -- the entries stay
 pub same_opening : (a b m m' : Me Mail View) (n' : Node) (P : Mail → Mail → Type 0) → Took a b → Changes b m P → m' ≡ (given_view m n', []) → m'.0.opening ≡ a.0.opening
 same_opening a b m m' n' P t ch gave = ap (λ (x : Me Mail View). x.0.opening) gave ∙ ap (λ (x : Me Mail View). x.0.opening) ch.has ∙ ap (λ (x : Me Mail View). x.0.opening) t.1
 
 -- a view that is known names itself
-pub self_view : (m : Me Mail View) (o : List (ℕ × Value)) (n : Node) (l : Option Exchange) → m ≡ (view_of o n l, []) → m ≡ (view_of m.0.opening n m.0.last, [])
-self_view m o n l is = is ∙ (λ i. (view_of (ap (λ (x : Me Mail View). x.0.opening) (sym is) i) n (ap (λ (x : Me Mail View). x.0.last) (sym is) i), []))
+pub self_view : (m : Me Mail View) (o : List (ℕ × Value)) (n : Node) (l : Option Exchange) (g : ℕ) → m ≡ (view_of o n l g, []) → m ≡ (view_of m.0.opening n m.0.last m.0.given, [])
+self_view m o n l g is = is ∙ (λ i. (view_of (ap (λ (x : Me Mail View). x.0.opening) (sym is) i) n (ap (λ (x : Me Mail View). x.0.last) (sym is) i) (ap (λ (x : Me Mail View). x.0.given) (sym is) i), []))
 
 -- the seat is the new node
 pub is_at : (m m' : Me Mail View) (n' : Node) → m' ≡ (given_view m n', []) → Agreeable m.0.opening (shown n') → (s : Ticket Mail View) → s.me ≡ m' → IsAt s n'
 is_at m m' n' gave stands s is =
     let all = is ∙ gave in record {
-      me = self_view s.me m.0.opening n' (exchange_of m.0.held m.1) all;
+      me = self_view s.me m.0.opening n' (exchange_of m.0.held m.1) (suc m.0.given) all;
       stands = subst (λ (o : List (ℕ × Value)). Agreeable o (shown n')) (sym (ap (λ (x : Me Mail View). x.0.opening) all)) stands;
     }
 
 -- where nothing of the seat changed
 pub at_same : (a b : Ticket Mail View) (n : Node) → IsAt a n → b.me ≡ a.me → IsAt b n
 at_same a b n h is = record {
-  me = self_view b.me a.me.0.opening n a.me.0.last (is ∙ h.me);
+  me = self_view b.me a.me.0.opening n a.me.0.last a.me.0.given (is ∙ h.me);
   stands = subst (λ (o : List (ℕ × Value)). Agreeable o (shown n)) (sym (ap (λ (x : Me Mail View). x.0.opening) is)) h.stands;
 }
 
@@ -68,7 +72,8 @@ joined_at a b n w h is =
     let node : a.me.0.node ≡ n = ap (λ (x : Me Mail View). x.0.node) h.me in
     let held : a.me.0.held ≡ None = ap (λ (x : Me Mail View). x.0.held) h.me in
     let free : a.me.1 ≡ [] = ap (λ (x : Me Mail View). x.1) h.me in
-    let all : b.me ≡ (view_of a.me.0.opening n w.last, []) = is ∙ (λ i. (record { opening = a.me.0.opening; held = held i; node = node i; last = w.last }, free i)) in record {
-      me = self_view b.me a.me.0.opening n w.last all;
+    let given = a.me.0.given + w.given in
+    let all : b.me ≡ (view_of a.me.0.opening n w.last given, []) = is ∙ (λ i. (record { opening = a.me.0.opening; held = held i; node = node i; last = w.last; given = given }, free i)) in record {
+      me = self_view b.me a.me.0.opening n w.last given all;
       stands = subst (λ (o : List (ℕ × Value)). Agreeable o (shown n)) (sym (ap (λ (x : Me Mail View). x.0.opening) all)) h.stands;
     }

@@ -61,6 +61,6 @@ opens_new entries d e is = opens (new_mail entries) d (fresh entries) (new_post 
 pub opened_at : (m : Me Mail View) (o entries : List (ℕ × Value)) (d : KeptNode) → CanOpen (unused entries) → node_of d ≡ (fresh entries).server → m ≡ (first_view o d, []) → o ≡ entries → (s : Ticket Mail View) → s.me ≡ m → IsAt s (Server d)
 opened_at m o entries d e begun is new s at =
     let all = at ∙ is in record {
-      me = self_view s.me o (Server d) None all;
+      me = self_view s.me o (Server d) None 0 all;
       stands = subst (λ (x : List (ℕ × Value)). Agreeable x (ServerAt (node_of d))) (sym (ap (λ (x : Me Mail View). x.0.opening) all ∙ new)) (fresh entries, fresh_from entries e, sym begun);
     }

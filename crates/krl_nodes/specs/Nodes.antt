@@ -1,5 +1,5 @@
 -- What contracts see of a node, and how its seat at the table stands for it.
-use Rattle.std.specs.Prelude.{◌≡◌, ◌<◌, ℕ, Bool, true, false, List, [], ◌∷◌, Option, Some, None, Result, Ok, Err}
+use Rattle.std.specs.Prelude.{◌≡◌, ◌<◌, ◌+◌, ℕ, suc, Bool, true, false, List, [], ◌∷◌, Option, Some, None, Result, Ok, Err}
 use Rattle.std.specs.Prelude.{slice_get, slice_set}
 use Rattle.atomic_table.specs.Table as table
 use Rattle.atomic_table.specs.Seated.{TableId}
@@ -40,11 +40,12 @@ use Rattle.krl_nodes.specs.declared.view.View.{View}
 use Rattle.krl_nodes.specs.declared.view.Node.{Node}
 
 -- the server with its seat: the office, the entries that the world began with, the post that it last took and what it
--- gave back for it, the server, and which clients it seated
+-- gave back for it, how often it gave the post back, the server, and which clients it seated
 pub record ServerPlace : Type 0 where
   pub office : TableId
   pub opening : List (ℕ × Value)
   pub last : Option Exchange
+  pub given : ℕ
   pub desk : KeptNode
   pub seated : List Bool
 
@@ -53,6 +54,7 @@ pub record ClientPlace : Type 0 where
   pub office : TableId
   pub opening : List (ℕ × Value)
   pub last : Option Exchange
+  pub given : ℕ
   pub number : ℕ
   pub seat : KeptSeat
 
@@ -64,7 +66,7 @@ client_shown n = seat_of n.seat
 
 -- the seat holds no post, its view is this node, and some reachable world has the node so
 pub record IsAt (t : Ticket Mail View) (n : Node) : Type 0 where
-  pub me : t.me ≡ (view_of t.me.0.opening n t.me.0.last, [])
+  pub me : t.me ≡ (view_of t.me.0.opening n t.me.0.last t.me.0.given, [])
   pub stands : Agreeable t.me.0.opening (shown n)
 
 abbrev pub HoldsPost : table.Me Mail View → Type 0
@@ -161,6 +163,7 @@ pub record IsNewClient (s : ServerPlace) (c : ℕ) (n : ClientPlace) : Type 0 wh
   pub number : n.number ≡ c
   pub down : n.seat.client ≡ None
   pub free : WasFree n
+  pub once : n.given ≡ 1
 
 -- which clients the server seated
 abbrev pub NoneSeated : List Bool → Type 0
@@ -169,13 +172,27 @@ NoneSeated seated = (c : ℕ) → slice_get seated c ≡ Some true → ⊥
 abbrev pub SomeSeated : List Bool → Type 0
 SomeSeated seated = (c : ℕ) × (slice_get seated c ≡ Some true)
 
--- the server as it was, but for the seats and the last exchange
-abbrev pub with_seated : ServerPlace → ℕ → Bool → Option Exchange → ServerPlace
-with_seated s c b last =
-    record { office = s.office; opening = s.opening; last = last; desk = s.desk; seated = slice_set s.seated c b }
+-- the server after these more exchanges, of which this was the last
+abbrev pub with_last : ServerPlace → Option Exchange → ℕ → ServerPlace
+with_last s last more = record {
+  office = s.office;
+  opening = s.opening;
+  last = last;
+  given = s.given + more;
+  desk = s.desk;
+  seated = s.seated;
+}
 
-abbrev pub with_last : ServerPlace → Option Exchange → ServerPlace
-with_last s last = record { office = s.office; opening = s.opening; last = last; desk = s.desk; seated = s.seated }
+-- the server with the client seated, or not
+abbrev pub with_seated : ServerPlace → ℕ → Bool → ServerPlace
+with_seated s c b = record {
+  office = s.office;
+  opening = s.opening;
+  last = s.last;
+  given = s.given;
+  desk = s.desk;
+  seated = slice_set s.seated c b;
+}
 
 -- what survives is that of a reachable world
 abbrev pub Survives : List (ℕ × Value) → Durable → Type 0
@@ -188,14 +205,14 @@ pub record IsOpened (office : TableId) (entries : List (ℕ × Value)) (n : Serv
   pub server : server_shown n ≡ (fresh entries).server
   pub nobody : NoneSeated n.seated
 
--- no seat was given: the number is none of a client, or the post notes the client as seated
+-- no seat was given: the number is none of a client, or the post, which was taken once, notes the client as seated
 abbrev pub NotSeatedFor : ℕ → ServerPlace → ServerPlace → NotSeated → Type 0
 NotSeatedFor c s s' not_seated.BadClient = (63 < c) × (s' ≡ s)
-NotSeatedFor c s s' not_seated.Seated = (c < 64) × (s' ≡ with_last s s'.last) × WasTaken c s'.last
+NotSeatedFor c s s' not_seated.Seated = (c < 64) × (s' ≡ with_last s s'.last 1) × WasTaken c s'.last
 
--- the client's seat is taken back
+-- the client's seat is taken back by one exchange, and the server counts the client's exchanges as its own
 pub record IsRetired (n : ClientPlace) (s s' : ServerPlace) : Type 0 where
-  pub server : s' ≡ with_seated s n.number false s'.last
+  pub server : s' ≡ with_seated (with_last s s'.last (suc n.given)) n.number false
   pub freed : IsFreed n.number n.seat.last_incarnation s'.last
 
 abbrev pub client_of_node : ClientPlace → Option Client

@@ -1,5 +1,5 @@
 -- What each kind of step asks and tells.
-use Rattle.std.specs.Prelude.{◌≡◌, ◌≢◌, ◌⊎◌, ℕ, List, [], ◌∷◌, Option, Some, None, Ok, slice_get, slice_set}
+use Rattle.std.specs.Prelude.{◌≡◌, ◌≢◌, ◌⊎◌, ◌+◌, ℕ, suc, List, [], ◌∷◌, Option, Some, None, Ok, slice_get, slice_set}
 use Rattle.atomic_table.specs.Table as table
 use Rattle.krl_messages.specs.Values.{Value}
 use Rattle.krl_world.specs.declared.message.Message.{Message}
@@ -19,26 +19,27 @@ use Rattle.krl_nodes.specs.declared.view.Node.{Node}
 use Rattle.krl_nodes.specs.declared.view.Node.TheVariants.{Server, Blank, Spent}
 
 -- a view of a seat that does not hold the post
-abbrev pub view_of : List (ℕ × Value) → Node → Option Exchange → View
-view_of opening n last = record { opening = opening; held = None; node = n; last = last }
+abbrev pub view_of : List (ℕ × Value) → Node → Option Exchange → ℕ → View
+view_of opening n last given = record { opening = opening; held = None; node = n; last = last; given = given }
 
 abbrev pub first_view : List (ℕ × Value) → KeptNode → View
-first_view opening d = view_of opening (Server d) None
+first_view opening d = view_of opening (Server d) None 0
 
 -- the view of a seat that took the post
 abbrev pub holding : View → Mail → View
-holding v mail = record { opening = v.opening; held = Some mail; node = v.node; last = v.last }
+holding v mail = record { opening = v.opening; held = Some mail; node = v.node; last = v.last; given = v.given }
 
 -- that of a new seat beside it
 abbrev pub blank_of : View → View
-blank_of v = view_of v.opening Blank None
+blank_of v = view_of v.opening Blank None 0
 
 abbrev pub spent_view : View
-spent_view = view_of [] Spent None
+spent_view = view_of [] Spent None 0
 
--- the view of a seat that took in another, whose last exchange it keeps
+-- the view of a seat that took in another, whose last exchange it keeps, and whose exchanges it counts as its own
 abbrev pub joined_view : View → View → View
-joined_view v w = record { opening = v.opening; held = v.held; node = v.node; last = w.last }
+joined_view v w =
+    record { opening = v.opening; held = v.held; node = v.node; last = w.last; given = v.given + w.given }
 
 -- the post that was taken, and the one that is given back
 abbrev pub exchange_of : Option Mail → List (ℕ × Mail) → Option Exchange
@@ -48,7 +49,7 @@ exchange_of (Some mail) (x ∷ xs) = Some (record { taken = mail; given = x.1 })
 
 -- the view of a seat that gave the post back, and is this node from now on
 abbrev pub given_view : table.Me Mail View → Node → View
-given_view m next = view_of m.0.opening next (exchange_of m.0.held m.1)
+given_view m next = view_of m.0.opening next (exchange_of m.0.held m.1) (suc m.0.given)
 
 abbrev pub IsLive : Shown → Type 0
 IsLive Gone = ⊥

@@ -1,5 +1,5 @@
 //! A client's node.
-ghost use Rattle.std.specs.Prelude.{◌≡◌, ◌<◌};
+ghost use Rattle.std.specs.Prelude.{◌≡◌, ◌<◌, suc};
 ghost use Rattle.krl_world.specs.Fields.{seat_of};
 ghost use Rattle.krl_world.specs.States.{range_believed, key_believed};
 ghost use Rattle.krl_nodes.specs.declared.policy.Pick.TheVariants.{Take};
@@ -21,7 +21,8 @@ use std::marker::{Brand, Model};
 use std::sync::Wait;
 
 /// A client with its seat. Contracts see the office, the entries that the world began with, what
-/// its last turn did with the post, the client's number, and the client.
+/// its last turn did with the post, how often its seat gave the post back, the client's number, and
+/// the client.
 #[derive(Drop)]
 pub struct ClientNode {
     pub(crate) alloc: Global,
@@ -50,6 +51,7 @@ impl Model for ClientNode {
       office = n.ticket.table_id;
       opening = n.ticket.me.0.opening;
       last = n.ticket.me.0.last;
+      given = n.ticket.me.0.given;
       number = n.number;
       seat = n.seat;
     } };
@@ -124,6 +126,7 @@ impl ClientNode {
         requires { self.old.office ≡ office.now }
         ensures same { IsSameClient self.old self.new }
         ensures turns { ClientTurns order self.old result self.new }
+        ensures once { self.new.given ≡ suc self.old.given }
     {
         office.take(rt, &mut self.ticket);
         let number = self.number;
@@ -156,6 +159,7 @@ impl ClientNode {
         requires { self.old.office ≡ office.now }
         ensures same { IsSameClient self.old self.new }
         ensures turns { ClientTurnsBy P.picks order self.old policy.old result self.new policy.new }
+        ensures once { self.new.given ≡ suc self.old.given }
     {
         office.take(rt, &mut self.ticket);
         let number = self.number;

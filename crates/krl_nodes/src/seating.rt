@@ -130,7 +130,7 @@ impl Office {
         requires { server.old.office ≡ self.now }
         ensures { MatchResult result
             (λ n. (number < 64) × IsNewClient server.old number n
-            × (server.new ≡ with_seated server.old number true server.old.last))
+            × (server.new ≡ with_seated server.old number true))
             (NotSeatedFor number server.old server.new) }
     {
         if number > 63 {

@@ -1,5 +1,5 @@
 //! The server's node.
-ghost use Rattle.std.specs.Prelude.{◌≡◌};
+ghost use Rattle.std.specs.Prelude.{◌≡◌, suc};
 ghost use Rattle.krl_world.specs.Fields.{node_of};
 ghost use Rattle.krl_nodes.specs.declared.policy.Pick.TheVariants.{Take};
 ghost use Rattle.krl_nodes.specs.Turns.{ServerActs, ServerActsBy};
@@ -17,7 +17,8 @@ use std::marker::{Brand, Model};
 use std::sync::Wait;
 
 /// The server with its seat. Contracts see the office, the entries that the world began with, what
-/// its last turn did with the post, the server, and which clients it seated.
+/// its last turn did with the post, how often its seat and those of retired clients gave the post
+/// back, the server, and which clients it seated.
 #[derive(Drop)]
 pub struct ServerNode {
     pub(crate) alloc: Global,
@@ -45,6 +46,7 @@ impl Model for ServerNode {
       office = n.ticket.table_id;
       opening = n.ticket.me.0.opening;
       last = n.ticket.me.0.last;
+      given = n.ticket.me.0.given;
       desk = n.desk;
       seated = n.seated;
     } };
@@ -117,6 +119,7 @@ impl ServerNode {
         requires { self.old.office ≡ office.now }
         ensures same { IsSameServer self.old self.new }
         ensures turns { ServerTurns order self.old result self.new }
+        ensures once { self.new.given ≡ suc self.old.given }
     {
         office.take(rt, &mut self.ticket);
         let answer = event(self.alloc, office, &mut self.ticket, &mut self.desk, order);
@@ -141,6 +144,7 @@ impl ServerNode {
         requires { self.old.office ≡ office.now }
         ensures same { IsSameServer self.old self.new }
         ensures turns { ServerTurnsBy P.picks order self.old policy.old result self.new policy.new }
+        ensures once { self.new.given ≡ suc self.old.given }
     {
         office.take(rt, &mut self.ticket);
         let answer = event_by(

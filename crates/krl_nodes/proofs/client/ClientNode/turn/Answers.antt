@@ -1,6 +1,6 @@
 use Rattle.krl_nodes.proofs.Names.{ap, refl, arith, seat_of, Client, Take}
 use Rattle.krl_nodes.proofs.Events.{client_change}
-use Rattle.krl_nodes.proofs.Nodes.{may_give, is_at, exchanged}
+use Rattle.krl_nodes.proofs.Nodes.{may_give, is_at, exchanged, given_once}
 use Rattle.krl_nodes.proofs.client.ClientNode.turn.Goals as goal
 
 pub give_client-requires-clause-may : goal.give_client-requires-clause-may
@@ -17,3 +17,7 @@ invariant_of-self g c =
 pub returns-clause-turns : goal.returns-clause-turns
 returns-clause-turns g c = rw (← c.self.view_is) (
     exchanged c.self.inside.ticket.me c.take.new.ticket.me c.event-answer.new.ticket.me c.give_client.new.ticket.me (Client c.self.inside.number c.event-answer.new.seat) _ c.take.ensures.took c.event-answer.ensures.acts c.give_client.ensures.view)
+
+pub returns-clause-once : goal.returns-clause-once
+returns-clause-once g c = rw (← c.self.view_is) (
+    given_once c.self.inside.ticket.me c.take.new.ticket.me c.event-answer.new.ticket.me c.give_client.new.ticket.me (Client c.self.inside.number c.event-answer.new.seat) _ c.take.ensures.took c.event-answer.ensures.acts c.give_client.ensures.view)

@@ -1,6 +1,6 @@
 use Rattle.krl_nodes.proofs.Names.{ap, refl, node_of, Server}
 use Rattle.krl_nodes.proofs.Events.{server_change}
-use Rattle.krl_nodes.proofs.Nodes.{may_give, is_at, exchanged}
+use Rattle.krl_nodes.proofs.Nodes.{may_give, is_at, exchanged, given_once}
 use Rattle.krl_nodes.proofs.server.ServerNode.turn_by.Goals as goal
 
 pub give_server-requires-clause-may : goal.give_server-requires-clause-may
@@ -17,3 +17,7 @@ invariant_of-self g c =
 pub returns-clause-turns : goal.returns-clause-turns
 returns-clause-turns g c = rw (← c.self.view_is) (
     exchanged c.self.inside.ticket.me c.take.new.ticket.me c.event_by-answer.new.ticket.me c.give_server.new.ticket.me (Server c.event_by-answer.new.desk) _ c.take.ensures.took c.event_by-answer.ensures.acts c.give_server.ensures.view)
+
+pub returns-clause-once : goal.returns-clause-once
+returns-clause-once g c = rw (← c.self.view_is) (
+    given_once c.self.inside.ticket.me c.take.new.ticket.me c.event_by-answer.new.ticket.me c.give_server.new.ticket.me (Server c.event_by-answer.new.desk) _ c.take.ensures.took c.event_by-answer.ensures.acts c.give_server.ensures.view)
