@@ -2,7 +2,8 @@
 ghost use Rattle.std.specs.Prelude.{◌≡◌, ◌≤◌, IfOk, IfSome};
 ghost use Rattle.krl_modes.specs.declared.point.TheConstants.{END};
 ghost use Rattle.krl_nodes.specs.Nodes.{IsSameServer, IsSameClient};
-ghost use Rattle.krl_nodes.specs.RunRows.{IsFound, seeds};
+ghost use Rattle.krl_nodes.specs.RunRows.{IsFound, most_turns, seeds};
+ghost use Rattle.krl_nodes.specs.declared.work.TheConstants.{MAX_TURNS};
 
 use crate::client::ClientNode;
 use crate::delivery::Delivery;
@@ -296,7 +297,8 @@ pub fn run_nodes<R: Threads + Wait + Sync, G: Gate + Send + Drop, H: Gate + Drop
     gate1: G,
     gate2: H,
 ) -> Result<NodesReport, NotRun>
-    ensures { IfOk result (λ report. IsFound seeds report.rows) }
+    ensures limit { MAX_TURNS ≡ most_turns }
+    ensures found { IfOk result (λ report. IsFound seeds report.rows) }
 {
     run(rt, alloc, gate1, gate2, None)
 }
@@ -318,7 +320,8 @@ pub fn run_nodes_by<R: Threads + Wait + Sync, G: Gate + Send + Drop, H: Gate + D
     seed: u64,
 ) -> Result<NodesReport, NotRun>
     requires { seed ≤ END }
-    ensures { IfOk result (λ report. IsFound seeds report.rows) }
+    ensures limit { MAX_TURNS ≡ most_turns }
+    ensures found { IfOk result (λ report. IsFound seeds report.rows) }
 {
     run(rt, alloc, gate1, gate2, Some(seed))
 }
