@@ -2,7 +2,7 @@
 //! world through steps that are drawn, and `krl nodes` runs a server and two clients on threads.
 #![tactic(auto)]
 
-ghost use Rattle.std.specs.Prelude.{◌≡◌, None};
+ghost use Rattle.std.specs.Prelude.{◌≡◌, None, IfOk};
 ghost use Rattle.krl_script.specs.RandomRuns.{random_line};
 ghost use Rattle.krl.specs.Statuses.{RanTo, DroveTo, random_status};
 
@@ -14,7 +14,7 @@ use krl_command_line::{
     NO_RUN, NodesOptions, RandomOptions, Request, read, say_of_run, say_of_script,
 };
 use krl_drawing::Form;
-use krl_nodes::{run_nodes, run_nodes_by};
+use krl_nodes::{Gate, NodesReport, NotRun, run_nodes, run_nodes_by};
 use krl_picture::write_picture;
 use krl_script::{
     AnyReader, AnyWriter, Progress, ScriptFault, Sink, Source, busy_run, random_run, read_text,
@@ -152,6 +152,21 @@ fn random_over<H: Eprint + AllocGlobal, W: Sink, P: Progress>(
     }
 }
 
+// Runs a server and two clients on threads, by policies where the options have a number for them.
+fn nodes_by<R: Threads + Wait + Sync + AllocGlobal, G: Gate + Send + Drop, H: Gate + Drop>(
+    rt: &R,
+    first: G,
+    second: H,
+    options: NodesOptions,
+) -> Result<NodesReport, NotRun>
+    ensures { IfOk result (λ report. report.seed ≡ options.policy) }
+{
+    match options.policy {
+        Some(seed) => run_nodes_by(rt, rt.alloc(), first, second, seed),
+        None => run_nodes(rt, rt.alloc(), first, second),
+    }
+}
+
 // Runs a server and two clients on threads, and prints what the second client read.
 fn run_threads<R: Threads + Wait + Sync + Clock + Print + Eprint + AllocGlobal>(
     rt: &R,
@@ -160,10 +175,7 @@ fn run_threads<R: Threads + Wait + Sync + Clock + Print + Eprint + AllocGlobal>(
 ) -> u8 {
     let first = Telling::new(rt, 1, is_told);
     let second = Telling::new(rt, 2, is_told);
-    let ended = match options.policy {
-        Some(seed) => run_nodes_by(rt, rt.alloc(), first, second, seed),
-        None => run_nodes(rt, rt.alloc(), first, second),
-    };
+    let ended = nodes_by(rt, first, second, options);
     tell(rt, &mut AnyWriter(io::writer(rt)), &ended)
 }
 

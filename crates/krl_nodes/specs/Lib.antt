@@ -7,4 +7,5 @@ pub mod Turns
 pub mod Picks
 pub mod Sorting
 pub mod Nodes
+pub mod Deliveries
 pub mod RunRows

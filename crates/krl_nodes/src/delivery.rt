@@ -1,12 +1,16 @@
 //! How the nodes of a run come by their letters.
-ghost use Rattle.std.specs.Prelude.{◌≡◌};
+ghost use Rattle.std.specs.Prelude.{◌≡◌, ◌&&◌, None, Some, false, is_some, suc};
+ghost use Rattle.krl_draws.specs.Generator.{generator_of};
 ghost use Rattle.krl_nodes.specs.Nodes.{IsSameServer, IsSameClient};
+ghost use Rattle.krl_nodes.specs.Deliveries.{ClientFetches, ServerFetches, is_idle};
+ghost use Rattle.krl_nodes.specs.Deliveries.{ClientReadsBy, ServerReadsBy};
 
 use crate::client::ClientNode;
 use crate::drawn::Drawn;
 use crate::office::Office;
 use crate::orders::{ClientOrder, ServerOrder, Turn};
 use crate::server::ServerNode;
+use krl_world::Refused;
 use std::sync::Wait;
 
 /// How a node of a run comes by its letters: the oldest first, or as a policy picks. Where a policy
@@ -18,9 +22,54 @@ pub(crate) struct Delivery {
     may_lack: bool,
 }
 
+// Whether the turn found no letter.
+fn is_idle(answer: &Result<Turn, Refused>) -> bool
+    ensures { result ≡ is_idle answer.now }
+{
+    matches!(answer, Ok(Turn::Idle))
+}
+
+// The client's turn for a letter: the oldest, or the one that its policy picks.
+fn client_fetches<R: Wait>(
+    rt: &R,
+    office: &Office,
+    node: &mut ClientNode,
+    policy: &mut Option<Drawn>,
+) -> Result<Turn, Refused>
+    requires { node.old.office ≡ office.now }
+    ensures same { IsSameClient node.old node.new }
+    ensures fetches { ClientFetches policy.old node.old result node.new policy.new }
+    ensures once { node.new.given ≡ suc node.old.given }
+{
+    match policy {
+        Some(policy) => node.turn_by(rt, office, ClientOrder::Letter, policy),
+        None => node.turn(rt, office, ClientOrder::Letter),
+    }
+}
+
+// So for the server.
+fn server_fetches<R: Wait>(
+    rt: &R,
+    office: &Office,
+    node: &mut ServerNode,
+    policy: &mut Option<Drawn>,
+) -> Result<Turn, Refused>
+    requires { node.old.office ≡ office.now }
+    ensures same { IsSameServer node.old node.new }
+    ensures fetches { ServerFetches policy.old node.old result node.new policy.new }
+    ensures once { node.new.given ≡ suc node.old.given }
+{
+    match policy {
+        Some(policy) => node.turn_by(rt, office, ServerOrder::Letter, policy),
+        None => node.turn(rt, office, ServerOrder::Letter),
+    }
+}
+
 impl Delivery {
     /// The oldest letter first.
-    pub(crate) fn in_order() -> Delivery {
+    pub(crate) fn in_order() -> Delivery
+        ensures { result ≡ record { policy = None; may_lack = false } }
+    {
         Delivery {
             policy: None,
             may_lack: false,
@@ -28,7 +77,9 @@ impl Delivery {
     }
 
     /// By picks that are drawn from the seed.
-    pub(crate) fn drawn(seed: u64) -> Delivery {
+    pub(crate) fn drawn(seed: u64) -> Delivery
+        ensures { result ≡ record { policy = Some (generator_of seed); may_lack = false } }
+    {
         Delivery {
             policy: Some(Drawn::new(seed)),
             may_lack: false,
@@ -36,13 +87,20 @@ impl Delivery {
     }
 
     // Notes what the turn for a letter came to, and says whether there was none.
-    fn note(&mut self, is_idle: bool) -> bool {
+    fn note(&mut self, is_idle: bool) -> bool
+        ensures idle { result ≡ is_idle }
+        ensures same { self.new.policy ≡ self.old.policy }
+        ensures notes { self.new.may_lack ≡ (is_idle && is_some self.old.policy) }
+    {
         self.may_lack = is_idle && self.policy.is_some();
         is_idle
     }
 
     /// Whether the turn before found no letter, though one may be lost. It is asked once.
-    pub(crate) fn may_lack(&mut self) -> bool {
+    pub(crate) fn may_lack(&mut self) -> bool
+        ensures lacks { result ≡ self.old.may_lack }
+        ensures once { self.new ≡ record { policy = self.old.policy; may_lack = false } }
+    {
         let may_lack = self.may_lack;
         self.may_lack = false;
         may_lack
@@ -51,24 +109,22 @@ impl Delivery {
     /// The client reads a letter, and this says whether there was none.
     pub(crate) fn read<R: Wait>(&mut self, rt: &R, office: &Office, node: &mut ClientNode) -> bool
         requires { node.old.office ≡ office.now }
-        ensures { IsSameClient node.old node.new }
+        ensures same { IsSameClient node.old node.new }
+        ensures reads { ClientReadsBy self.old node.old result self.new node.new }
+        ensures once { node.new.given ≡ suc node.old.given }
     {
-        let answer = match &mut self.policy {
-            Some(policy) => node.turn_by(rt, office, ClientOrder::Letter, policy),
-            None => node.turn(rt, office, ClientOrder::Letter),
-        };
-        self.note(matches!(answer, Ok(Turn::Idle)))
+        let answer = client_fetches(rt, office, node, &mut self.policy);
+        self.note(is_idle(&answer))
     }
 
     /// The server reads a letter.
     pub(crate) fn serve<R: Wait>(&mut self, rt: &R, office: &Office, node: &mut ServerNode)
         requires { node.old.office ≡ office.now }
-        ensures { IsSameServer node.old node.new }
+        ensures same { IsSameServer node.old node.new }
+        ensures reads { ServerReadsBy self.old node.old self.new node.new }
+        ensures once { node.new.given ≡ suc node.old.given }
     {
-        let answer = match &mut self.policy {
-            Some(policy) => node.turn_by(rt, office, ServerOrder::Letter, policy),
-            None => node.turn(rt, office, ServerOrder::Letter),
-        };
-        let _ = self.note(matches!(answer, Ok(Turn::Idle)));
+        let answer = server_fetches(rt, office, node, &mut self.policy);
+        let _ = self.note(is_idle(&answer));
     }
 }

@@ -1,7 +1,7 @@
 //! A policy that is drawn.
 ghost use Rattle.std.specs.Prelude.{◌≡◌};
 ghost use Rattle.krl_draws.specs.Generator.{generator_of};
-ghost use Rattle.krl_nodes.specs.Picks.{picked};
+ghost use Rattle.krl_nodes.specs.Picks.{drawn_picks};
 
 use crate::policy::{Pick, Policy};
 use krl_draws::Generator;
@@ -34,7 +34,7 @@ impl Drawn {
 }
 
 impl Policy for Drawn {
-    ghost picks = { λ before letters pick after. (pick, after) ≡ picked letters before };
+    ghost picks = { drawn_picks };
 
     fn pick(&mut self, letters: usize) -> Pick {
         let kind = self.draws.below(8);

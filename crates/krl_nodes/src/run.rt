@@ -1,7 +1,8 @@
 //! A server and two clients, each on a thread of its own.
-ghost use Rattle.std.specs.Prelude.{◌≡◌, ◌≤◌, IfOk, IfSome};
+ghost use Rattle.std.specs.Prelude.{◌≡◌, ◌≤◌, false, None, Some, IfOk, IfSome};
 ghost use Rattle.krl_modes.specs.declared.point.TheConstants.{END};
 ghost use Rattle.krl_nodes.specs.Nodes.{IsSameServer, IsSameClient};
+ghost use Rattle.krl_nodes.specs.Deliveries.{policy_of};
 ghost use Rattle.krl_nodes.specs.RunRows.{IsFound, most_turns, seeds};
 ghost use Rattle.krl_nodes.specs.declared.work.TheConstants.{MAX_TURNS};
 
@@ -25,6 +26,8 @@ use std::thread::Threads;
 pub struct NodesReport {
     /// The entries from 11 on below 21, with key 15 among them.
     pub rows: Rows,
+    /// The seed of the nodes' policies, where they had any.
+    pub seed: Option<u64>,
 }
 
 /// Why there is no report.
@@ -214,7 +217,9 @@ fn seeds(alloc: Global) -> Result<Vec<(u64, Value)>, AllocError>
 }
 
 // How the node of this number comes by its letters.
-fn delivery(seed: Option<u64>, number: u64) -> Delivery {
+fn delivery(seed: Option<u64>, number: u64) -> Delivery
+    ensures { result ≡ record { policy = policy_of seed number; may_lack = false } }
+{
     match seed {
         Some(seed) => Delivery::drawn(seed.wrapping_add(number)),
         None => Delivery::in_order(),
@@ -229,7 +234,8 @@ fn run<R: Threads + Wait + Sync, G: Gate + Send + Drop, H: Gate + Drop>(
     gate2: H,
     seed: Option<u64>,
 ) -> Result<NodesReport, NotRun>
-    ensures { IfOk result (λ report. IsFound seeds report.rows) }
+    ensures found { IfOk result (λ report. IsFound seeds report.rows) }
+    ensures seed { IfOk result (λ report. report.seed ≡ seed) }
 {
     let Ok(entries) = seeds(alloc) else {
         return Err(NotRun::OutOfMemory);
@@ -274,7 +280,7 @@ fn run<R: Threads + Wait + Sync, G: Gate + Send + Drop, H: Gate + Drop>(
     match rows {
         Some(rows) => {
             if is_done {
-                Ok(NodesReport { rows })
+                Ok(NodesReport { rows, seed })
             } else {
                 Err(NotRun::GaveUp)
             }
@@ -299,6 +305,7 @@ pub fn run_nodes<R: Threads + Wait + Sync, G: Gate + Send + Drop, H: Gate + Drop
 ) -> Result<NodesReport, NotRun>
     ensures limit { MAX_TURNS ≡ most_turns }
     ensures found { IfOk result (λ report. IsFound seeds report.rows) }
+    ensures in_order { IfOk result (λ report. report.seed ≡ None) }
 {
     run(rt, alloc, gate1, gate2, None)
 }
@@ -322,6 +329,7 @@ pub fn run_nodes_by<R: Threads + Wait + Sync, G: Gate + Send + Drop, H: Gate + D
     requires { seed ≤ END }
     ensures limit { MAX_TURNS ≡ most_turns }
     ensures found { IfOk result (λ report. IsFound seeds report.rows) }
+    ensures by_policy { IfOk result (λ report. report.seed ≡ Some seed) }
 {
     run(rt, alloc, gate1, gate2, Some(seed))
 }

@@ -1,6 +1,7 @@
 //! What each node of `run_nodes` does.
-ghost use Rattle.std.specs.Prelude.{◌≡◌, MatchBool, IfOk, IfSome};
+ghost use Rattle.std.specs.Prelude.{◌≡◌, suc, MatchBool, IfOk, IfSome};
 ghost use Rattle.krl_nodes.specs.Nodes.{IsSameServer, IsSameClient};
+ghost use Rattle.krl_nodes.specs.Deliveries.{ServesOnce, ServerNudges, ClientTicks, nudged};
 ghost use Rattle.krl_nodes.specs.RunRows.{HasKey, IsFound};
 
 use crate::client::ClientNode;
@@ -125,6 +126,46 @@ impl Reading {
     }
 }
 
+// The client that the server nudges: the first, or the second.
+fn nudged(is_second: bool) -> u64
+    ensures { result ≡ nudged is_second }
+{
+    if is_second { 2 } else { 1 }
+}
+
+// Nudges that client.
+fn nudge<R: Wait>(rt: &R, office: &Office, node: &mut ServerNode, is_second: bool)
+    requires { node.old.office ≡ office.now }
+    ensures same { IsSameServer node.old node.new }
+    ensures nudges { ServerNudges is_second node.old node.new }
+    ensures once { node.new.given ≡ suc node.old.given }
+{
+    let _ = node.turn(rt, office, ServerOrder::Nudge(nudged(is_second)));
+}
+
+// Reads a letter, or, where one may be lost, nudges a client. Says whether the next nudge is for
+// the second.
+fn serve_once<R: Wait>(
+    rt: &R,
+    office: &Office,
+    node: &mut ServerNode,
+    delivery: &mut Delivery,
+    is_second: bool,
+) -> bool
+    requires { node.old.office ≡ office.now }
+    ensures same { IsSameServer node.old node.new }
+    ensures serves { ServesOnce is_second delivery.old node.old result delivery.new node.new }
+    ensures once { node.new.given ≡ suc node.old.given }
+{
+    if delivery.may_lack() {
+        nudge(rt, office, node, is_second);
+        !is_second
+    } else {
+        delivery.serve(rt, office, node);
+        is_second
+    }
+}
+
 /// Reads letters until both clients have ended. Where a letter may be lost it nudges clients 1 and
 /// 2 by turns.
 pub(crate) fn serve<R: Wait>(
@@ -142,13 +183,7 @@ pub(crate) fn serve<R: Wait>(
         if ended.load(Ordering::SeqCst) >= 2 {
             return node;
         }
-        if delivery.may_lack() {
-            let client = if is_second { 2 } else { 1 };
-            is_second = !is_second;
-            let _ = node.turn(rt, office, ServerOrder::Nudge(client));
-        } else {
-            delivery.serve(rt, office, &mut node);
-        }
+        is_second = serve_once(rt, office, &mut node, delivery, is_second);
     }
     unreachable!()
 }
@@ -156,7 +191,9 @@ pub(crate) fn serve<R: Wait>(
 // Says again what is not answered.
 fn tick<R: Wait>(rt: &R, office: &Office, node: &mut ClientNode)
     requires { node.old.office ≡ office.now }
-    ensures { IsSameClient node.old node.new }
+    ensures same { IsSameClient node.old node.new }
+    ensures ticks { ClientTicks node.old node.new }
+    ensures once { node.new.given ≡ suc node.old.given }
 {
     let _ = node.turn(rt, office, ClientOrder::Tick);
 }
