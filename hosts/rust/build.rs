@@ -5,9 +5,24 @@ use std::path::{Path, PathBuf};
 fn main() {
     let library = library_folder();
     let kit = kit_folder();
-    println!("cargo:rerun-if-changed={}", library.join("libkrl_embed.a").display());
+    warn_without(
+        &library.join("libkrl_embed.a"),
+        "run `rt lib` in crates/krl_embed, which proves and makes it, or name its folder by KRL_LIBRARY",
+    );
+    warn_without(
+        &kit.join("liblibc_c.a"),
+        "put the kit's `rt` on the PATH, or name the kit's folder `c` by KRL_KIT_C",
+    );
     link(&library, "krl_embed");
     link(&kit, "libc_c");
+}
+
+/// A check takes no library: so one that is missing is no error before something is linked.
+fn warn_without(library: &Path, remedy: &str) {
+    println!("cargo:rerun-if-changed={}", library.display());
+    if !library.exists() {
+        println!("cargo:warning=there is no {}: {remedy}", library.display());
+    }
 }
 
 fn link(folder: &Path, name: &str) {
