@@ -42,9 +42,9 @@ pub fn run(folder: &Path) -> Found {
         let before = server.status();
         let applied = write_all(&at, folder, writers)?;
         let after = server.status();
-        let keeps = after.keeps - before.keeps;
+        let commits = after.commits - before.commits;
         println!(
-            "{writers} writers: {} writes a second, {keeps} transactions",
+            "{writers} writers: {} writes a second, {commits} transactions",
             applied / WRITING.as_secs()
         );
     }
@@ -63,7 +63,7 @@ fn filled(file: &Path) -> Result<SqliteStore, Box<dyn Error>> {
     const TIMES: u64 = 12;
     let mut store = SqliteStore::open(file)?;
     let rows: Vec<Change> = (1..=ROWS).map(row).collect();
-    (0..TIMES).try_for_each(|_| store.keep(&rows))?;
+    (0..TIMES).try_for_each(|_| store.commit(&rows))?;
     Ok(store)
 }
 
@@ -175,7 +175,7 @@ fn sqlite_alone(file: &Path) -> Done {
         let changes: Vec<Change> = (1..=batch).map(row).collect();
         let (begun, mut kept) = (Instant::now(), 0);
         while begun.elapsed() < WRITING {
-            store.keep(&changes)?;
+            store.commit(&changes)?;
             kept += batch;
         }
         println!(

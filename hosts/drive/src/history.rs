@@ -5,7 +5,7 @@
 //! before the read ended. A write that is never answered, since its client was killed, may have
 //! changed the table or not.
 use crate::log::Note;
-use krl::{Saved, Value};
+use krl::{Snapshot, Value};
 use std::collections::HashMap;
 
 #[derive(Clone, Copy, Debug)]
@@ -110,9 +110,9 @@ impl History {
     }
 
     /// Compares the store with the writes, in the end.
-    pub fn compare_store(&self, saved: &Saved, tally: &mut Tally) {
+    pub fn compare_store(&self, snapshot: &Snapshot, tally: &mut Tally) {
         for key in self.writes.keys() {
-            let value = saved.rows.get(key).and_then(Value::number);
+            let value = snapshot.rows.get(key).and_then(Value::to_u64);
             if !self.allows(*key, value, u64::MAX, u64::MAX) {
                 tally.wrong += 1;
                 eprintln!(
@@ -120,7 +120,7 @@ impl History {
                 );
             }
         }
-        for key in saved.rows.keys().filter(|key| !self.writes.contains_key(key)) {
+        for key in snapshot.rows.keys().filter(|key| !self.writes.contains_key(key)) {
             tally.wrong += 1;
             eprintln!("WRONG: {key} is in the store and was never written");
         }
@@ -186,7 +186,7 @@ mod tests {
         let wrong = |rows: &[(u64, u64)]| {
             let rows = rows.iter().map(|(key, value)| (*key, Value::from(*value))).collect();
             let mut tally = Tally::default();
-            history.compare_store(&Saved { rows, ..Saved::default() }, &mut tally);
+            history.compare_store(&Snapshot { rows, ..Snapshot::default() }, &mut tally);
             tally.wrong
         };
         assert_eq!(wrong(&[(7, 6)]), 0);

@@ -208,8 +208,8 @@ impl Drive {
         for number in READERS.into_iter().chain(WRITERS) {
             history.compare(&notes(&self.folder, number)?, down, &mut tally);
         }
-        let saved = SqliteStore::open(store_file(&self.folder))?.load()?;
-        history.compare_store(&saved, &mut tally);
+        let snapshot = SqliteStore::open(store_file(&self.folder))?.load()?;
+        history.compare_store(&snapshot, &mut tally);
         Ok(tally)
     }
 }

@@ -11,7 +11,7 @@ const ONE_IN: u64 = 10;
 const LONGEST: u64 = 1 << 21;
 
 /// How long a message that is held back waits for the next one.
-const PATIENCE: Duration = Duration::from_secs(5);
+const TIMEOUT: Duration = Duration::from_secs(5);
 
 /// Starts the network, and says where clients connect.
 pub fn start(server: SocketAddr) -> std::io::Result<SocketAddr> {
@@ -31,7 +31,7 @@ pub fn start(server: SocketAddr) -> std::io::Result<SocketAddr> {
 fn join(client: TcpStream, server: TcpStream, seed: u64) -> std::io::Result<()> {
     for stream in [&client, &server] {
         stream.set_nodelay(true)?;
-        stream.set_write_timeout(Some(PATIENCE))?;
+        stream.set_write_timeout(Some(TIMEOUT))?;
     }
     let (from, to) = (client.try_clone()?, server.try_clone()?);
     thread::spawn(move || pass(from, to, Draws(2 * seed)));

@@ -19,7 +19,7 @@ const KEYS: u64 = 10;
 const STEP: u64 = 10;
 
 /// How long a call of a client waits.
-const PATIENCE: Duration = Duration::from_secs(3);
+const TIMEOUT: Duration = Duration::from_secs(3);
 
 /// A drive ends when this file is there.
 pub fn end_file(folder: &Path) -> PathBuf {
@@ -57,15 +57,15 @@ pub fn server(address: &str, folder: &Path, store: &str) -> Found {
 fn join(number: u8, address: &str, folder: &Path) -> Result<Client, Box<dyn Error>> {
     let lock = folder.join(format!("client-{number}.lock"));
     let address: Address = address.parse()?;
-    // A server that gathers, or is being started, answers late.
-    Ok(Client::join_within(address, number, lock, 5 * PATIENCE)?)
+    // A server that recovers, or is being started, answers late.
+    Ok(Client::builder(address).number(number).lock_file(lock).timeout(5 * TIMEOUT).join()?)
 }
 
 /// Reads every writer's ranges again and again, in two threads: one reads from the cache alone, and never waits; the
 /// other asks the server for what the cache lacks.
 pub fn reader(number: u8, address: &str, folder: &Path) -> Found {
-    let mut client = join(number, address, folder)?;
-    client.set_patience(PATIENCE);
+    let client = join(number, address, folder)?;
+    client.set_timeout(TIMEOUT);
     let log = Mutex::new(Log::open(folder, number)?);
     let [first, second] = WRITERS.map(range_of);
     let [third, fourth] = WRITERS.map(still_range_of);
@@ -106,14 +106,14 @@ fn read_again(
 fn answered<T>(result: Result<T, Refused>) -> Result<Option<T>, Refused> {
     match result {
         Ok(found) => Ok(Some(found)),
-        Err(Refused::Unanswered) => Ok(None),
+        Err(Refused::TimedOut) => Ok(None),
         Err(refused) => Err(refused),
     }
 }
 
 fn note_of(from: u64, keys: &Range<u64>, rows: &[Row]) -> Option<Note> {
     let to = now();
-    let numbers = rows.iter().map(|row| row.value.number().map(|value| (row.key, value)));
+    let numbers = rows.iter().map(|row| row.value.to_u64().map(|value| (row.key, value)));
     Some(Note::Read {
         from,
         to,
@@ -126,8 +126,8 @@ fn note_of(from: u64, keys: &Range<u64>, rows: &[Row]) -> Option<Note> {
 /// Writes its keys, one after the other: an insert where there is no entry, now and then a delete,
 /// else a put. It reads the key from its cache then.
 pub fn writer(number: u8, address: &str, folder: &Path) -> Found {
-    let mut client = join(number, address, folder)?;
-    client.set_patience(PATIENCE);
+    let client = join(number, address, folder)?;
+    client.set_timeout(TIMEOUT);
     let mut log = Log::open(folder, number)?;
     fill(&client, number, &mut log)?;
     let range = range_of(number);

@@ -10,7 +10,7 @@ use std::time::{Duration, Instant};
 const SOON: Duration = Duration::from_secs(2);
 
 /// How much memory the strangers may cost, in bytes.
-const MOST_MEMORY: u64 = 64 << 20;
+const MAX_MEMORY: u64 = 64 << 20;
 
 /// A Hello of client 50, incarnation 1, in its frame.
 const HELLO: [u8; 26] =
@@ -62,7 +62,7 @@ fn beside_strangers(folder: &std::path::Path) -> Found {
     other.leave()?;
     server.stop()?;
     // The one that is no message, and nothing else, was a string to be judged.
-    Ok(grown < MOST_MEMORY && status.refused == 1)
+    Ok(grown < MAX_MEMORY && status.refused == 1)
 }
 
 fn connect(at: SocketAddr) -> Result<TcpStream, Box<dyn Error>> {

@@ -8,7 +8,7 @@ use crate::strangers::memory;
 use std::ptr;
 
 const DONE: u32 = 0;
-const UNSAID: u32 = 1;
+const REPLY_LOST: u32 = 1;
 const BAD_MESSAGE: u32 = 8;
 const ALARM: u32 = 12;
 const RANGE_S_S: u32 = 4;
@@ -16,7 +16,7 @@ const RANGE_I_N: u32 = 6;
 
 /// How much memory the strings may cost, in bytes: none of them is longer than a hundred bytes or
 /// so, whatever counts and lengths it promises.
-const MOST_MEMORY: u64 = 16 << 20;
+const MAX_MEMORY: u64 = 16 << 20;
 
 /// The longest random string.
 const LONGEST: u64 = 120;
@@ -68,7 +68,7 @@ pub fn run(count: u64, changed: u64) -> Found {
     table.close();
     let grown = memory()?.saturating_sub(before);
     println!("{} wrong in all, {} kB more memory", random_wrong + table.wrong, grown >> 10);
-    Ok(random_wrong + table.wrong == 0 && grown < MOST_MEMORY)
+    Ok(random_wrong + table.wrong == 0 && grown < MAX_MEMORY)
 }
 
 fn pick<'m>(messages: &'m [Vec<u8>], draws: &mut Draws) -> &'m [u8] {
@@ -205,7 +205,7 @@ impl Table {
 
     fn judge(&mut self, string: &[u8], is_spelling: bool, code: u32) {
         self.taken += u64::from(is_spelling);
-        let is_taken = matches!(code, DONE | UNSAID | ALARM);
+        let is_taken = matches!(code, DONE | REPLY_LOST | ALARM);
         if is_taken != is_spelling || !is_taken && code != BAD_MESSAGE {
             eprintln!("WRONG: code {code} for {string:02x?}");
             self.wrong += 1;

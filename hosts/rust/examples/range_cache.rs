@@ -93,7 +93,7 @@ fn node(number: u8, folder: &Path) -> Done {
                 match client.read(keys.clone()) {
                     Ok(rows) => rows,
                     // The server is down, and what the node lacks nobody can tell just now.
-                    Err(Refused::Unanswered) => continue,
+                    Err(Refused::TimedOut) => continue,
                     Err(refused) => return Err(refused.into()),
                 }
             }
@@ -111,7 +111,7 @@ fn node(number: u8, folder: &Path) -> Done {
 }
 
 fn shown(rows: &[Row]) -> String {
-    let pairs = rows.iter().map(|row| format!("{}={}", row.key, row.value.number().unwrap_or(0)));
+    let pairs = rows.iter().map(|row| format!("{}={}", row.key, row.value.to_u64().unwrap_or(0)));
     pairs.collect::<Vec<_>>().join(" ")
 }
 
@@ -124,7 +124,7 @@ fn write(folder: &Path) -> Done {
     println!("writer ({}): the table is there", std::process::id());
     for key in KEYS.into_iter().cycle() {
         match add_one(&client, key) {
-            Ok(Outcome::Applied) | Err(Refused::Unanswered) => {}
+            Ok(Outcome::Applied) | Err(Refused::TimedOut) => {}
             Ok(outcome) => println!("writer: {key} was not written: {outcome}"),
             Err(refused) => return Err(refused.into()),
         }
@@ -135,7 +135,7 @@ fn write(folder: &Path) -> Done {
 
 fn add_one(client: &Client, key: u64) -> Result<Outcome, Refused> {
     let rows = client.read(key..key + 1)?;
-    let number = rows.first().and_then(|row| row.value.number()).unwrap_or(0);
+    let number = rows.first().and_then(|row| row.value.to_u64()).unwrap_or(0);
     client.put(key, Value::from(number + 1))
 }
 

@@ -78,7 +78,7 @@ pub enum Change {
 
 /// All that survives.
 #[derive(Clone, Debug, Default, PartialEq, Eq)]
-pub struct Saved {
+pub struct Snapshot {
     /// How many times a server has started.
     pub epoch: u64,
     /// The rows.
@@ -87,7 +87,7 @@ pub struct Saved {
     pub records: Vec<Record>,
 }
 
-impl Saved {
+impl Snapshot {
     /// Makes one change.
     pub fn apply(&mut self, change: &Change) {
         match *change {

@@ -1,4 +1,5 @@
 //! A client over a network.
+use crate::builder::{ClientBuilder, TIMEOUT};
 use crate::change::{Outcome, Write};
 use crate::handle::{ClientHandle, Scan};
 use crate::jobs::{Answer, Job, Jobs, is_key};
@@ -10,19 +11,17 @@ use crate::stream::Address;
 use std::ops::Range;
 use std::path::Path;
 use std::sync::Arc;
+use std::sync::atomic::{AtomicU64, Ordering};
 use std::thread::{self, JoinHandle};
 use std::time::{Duration, Instant};
-
-/// How long a client waits for an answer, unless `set_patience` says otherwise.
-const PATIENCE: Duration = Duration::from_secs(10);
 
 /// How long a client that is dropped waits until its Bye is kept.
 const FAREWELL: Duration = Duration::from_secs(1);
 
 /// A client waits no longer than this, a year.
-const LONGEST_PATIENCE: Duration = Duration::from_secs(365 * 24 * 3600);
+const MAX_TIMEOUT: Duration = Duration::from_secs(365 * 24 * 3600);
 
-const MOST_CLIENTS: u8 = 64;
+const MAX_CLIENTS: u8 = 64;
 
 /// A client of a number from 0 to 63. Its calls may come from several threads; a thread of its own
 /// keeps the connection, makes it again where it breaks, and says again what is not answered.
@@ -33,7 +32,8 @@ const MOST_CLIENTS: u8 = 64;
 pub struct Client {
     link: Arc<Link>,
     thread: Option<JoinHandle<()>>,
-    patience: Duration,
+    /// In nanoseconds.
+    timeout: AtomicU64,
     /// Others may take the number when this is closed.
     _lock_file: LockFile,
 }
@@ -58,37 +58,59 @@ impl Client {
         number: u8,
         lock_file: impl AsRef<Path>,
     ) -> Result<Client, JoinError> {
-        Client::join_within(server, number, lock_file, PATIENCE)
+        Client::start(server.into(), number, lock_file.as_ref(), TIMEOUT)
     }
 
-    /// The same, by a client that waits so long for an answer, here and in each later call.
-    pub fn join_within(
-        server: impl Into<Address>,
+    /// Says more of a client before it joins: how long its calls wait.
+    ///
+    /// ```no_run
+    /// # use krl::{Address, Client};
+    /// # use std::time::Duration;
+    /// let address: Address = "127.0.0.1:7400".parse()?;
+    /// let client = Client::builder(address)
+    ///     .number(3)
+    ///     .lock_file("client-3.lock")
+    ///     .timeout(Duration::from_secs(2))
+    ///     .join()?;
+    /// # Ok::<(), Box<dyn std::error::Error>>(())
+    /// ```
+    pub fn builder(server: impl Into<Address>) -> ClientBuilder {
+        ClientBuilder::new(server.into())
+    }
+
+    pub(crate) fn start(
+        server: Address,
         number: u8,
-        lock_file: impl AsRef<Path>,
-        patience: Duration,
+        lock_file: &Path,
+        timeout: Duration,
     ) -> Result<Client, JoinError> {
-        if number >= MOST_CLIENTS {
+        if number >= MAX_CLIENTS {
             return Err(JoinError::BadNumber);
         }
         // The incarnation is on the disk before the Hello leaves.
-        let (lock_file, incarnation) = LockFile::take(lock_file.as_ref(), number)?;
+        let (lock_file, incarnation) = LockFile::take(lock_file, number)?;
         let handle = ClientHandle::open(number, incarnation).map_err(JoinError::Refused)?;
-        let link = Arc::new(Link::new(server.into(), Jobs::new(handle)));
+        let link = Arc::new(Link::new(server, Jobs::new(handle)));
         let run = Arc::clone(&link);
         let thread =
             thread::Builder::new().spawn(move || run.run()).map_err(JoinError::NoThread)?;
-        let patience = patience.min(LONGEST_PATIENCE);
-        let client = Client { link, thread: Some(thread), patience, _lock_file: lock_file };
+        let timeout = AtomicU64::new(nanoseconds(timeout));
+        let client = Client { link, thread: Some(thread), timeout, _lock_file: lock_file };
         match client.run(Job::Join) {
             Ok(_) => Ok(client),
             Err(_) => Err(JoinError::NoAnswer),
         }
     }
 
-    /// From now on, each call waits so long for an answer.
-    pub fn set_patience(&mut self, patience: Duration) {
-        self.patience = patience.min(LONGEST_PATIENCE);
+    /// From now on, each call waits so long for an answer, a year at most. A call that waits already
+    /// goes on as it began.
+    pub fn set_timeout(&self, timeout: Duration) {
+        self.timeout.store(nanoseconds(timeout), Ordering::Relaxed);
+    }
+
+    /// How long each call waits for an answer.
+    pub fn timeout(&self) -> Duration {
+        Duration::from_nanos(self.timeout.load(Ordering::Relaxed))
     }
 
     /// The rows of the range: from the cache, with no message, where the client holds it; else it
@@ -97,12 +119,12 @@ impl Client {
     ///
     /// # Errors
     ///
-    /// `BadRange` where the range does not begin below its end, or ends above 2^63; `Unanswered`;
+    /// `BadRange` where the range does not begin below its end, or ends above 2^63; `TimedOut`;
     /// `OutOfMemory`.
     pub fn read(&self, keys: Range<u64>) -> Result<Vec<Row>, Refused> {
         match self.run(Job::Read(keys))? {
             Answer::Rows(rows) => Ok(rows),
-            _ => Err(Refused::Unanswered),
+            _ => Err(Refused::TimedOut),
         }
     }
 
@@ -130,7 +152,7 @@ impl Client {
     ///
     /// # Errors
     ///
-    /// `BadKey` for a key of 2^63 - 1 or more; `Unanswered`: then the table may have changed or may
+    /// `BadKey` for a key of 2^63 - 1 or more; `TimedOut`: then the table may have changed or may
     /// still change; `OutOfMemory`.
     pub fn insert(&self, key: u64, value: Value) -> Result<Outcome, Refused> {
         self.write(Write::Insert(Row { key, value }))
@@ -160,7 +182,7 @@ impl Client {
         }
         match self.run(Job::Write(write))? {
             Answer::Outcome(outcome) => Ok(outcome),
-            _ => Err(Refused::Unanswered),
+            _ => Err(Refused::TimedOut),
         }
     }
 
@@ -181,7 +203,7 @@ impl Client {
     ///
     /// # Errors
     ///
-    /// `BadRange`; `Pinned` where the range meets a pin; `Unanswered`; `OutOfMemory`.
+    /// `BadRange`; `Pinned` where the range meets a pin; `TimedOut`; `OutOfMemory`.
     pub fn forget(&self, keys: Range<u64>) -> Result<(), Refused> {
         self.run(Job::Forget(keys)).map(drop)
     }
@@ -190,10 +212,10 @@ impl Client {
     ///
     /// # Errors
     ///
-    /// `Unanswered`: other clients may wait for what this one held then, until it is evicted.
+    /// `TimedOut`: other clients may wait for what this one held then, until it is evicted.
     pub fn leave(mut self) -> Result<(), Refused> {
-        let patience = self.patience;
-        self.end(patience)
+        let timeout = self.timeout();
+        self.end(timeout)
     }
 
     fn run(&self, job: Job) -> Result<Answer, Refused> {
@@ -203,24 +225,24 @@ impl Client {
             Some(ended) => ended,
             None => {
                 self.link.jobs().drop_job(id);
-                Err(Refused::Unanswered)
+                Err(Refused::TimedOut)
             }
         }
     }
 
     fn deadline(&self) -> Instant {
-        Instant::now() + self.patience
+        Instant::now() + self.timeout()
     }
 
-    fn end(&mut self, patience: Duration) -> Result<(), Refused> {
+    fn end(&mut self, timeout: Duration) -> Result<(), Refused> {
         let Some(thread) = self.thread.take() else { return Ok(()) };
         self.link.leave();
-        let end = Instant::now() + patience;
+        let end = Instant::now() + timeout;
         let gone = self.link.wait(end, |_| self.link.is_gone().then_some(()));
         self.link.end();
         // A panic of that thread has been told by itself.
         let _ = thread.join();
-        gone.ok_or(Refused::Unanswered)
+        gone.ok_or(Refused::TimedOut)
     }
 }
 
@@ -235,6 +257,10 @@ impl Drop for Pin<'_> {
         // The pin is this one's, and a client that has left has none.
         let _ = self.link.jobs().client.unpin(self.id);
     }
+}
+
+fn nanoseconds(timeout: Duration) -> u64 {
+    u64::try_from(timeout.min(MAX_TIMEOUT).as_nanos()).unwrap_or(u64::MAX)
 }
 
 /// Ends the client of this number for good: an operator's call for a client whose process is gone

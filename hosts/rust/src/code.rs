@@ -34,7 +34,7 @@ macro_rules! codes {
 
 codes! {
     Done = 0, "it is done";
-    Unsaid = 1, "it is done, but memory for what it says was refused";
+    ReplyLost = 1, "it is done, but memory for what it says was refused";
     OutOfMemory = 2, "memory was refused";
     Closed = 3, "the handle is closed";
     OpenAlready = 4, "the handle is open already";

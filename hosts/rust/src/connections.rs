@@ -10,11 +10,11 @@ use std::thread::{self, JoinHandle};
 use std::time::Duration;
 
 /// The most connections that are open at once. One more is closed as it comes.
-const MOST_CONNECTIONS: usize = 256;
+const MAX_CONNECTIONS: usize = 256;
 
 /// The most messages that wait to be judged, and the most batches that wait to be written to one
 /// connection.
-const MOST_WAITING: usize = 256;
+const MAX_WAITING: usize = 256;
 
 /// A connection on which nothing comes for so long is closed: clients tick more often.
 const SILENCE: Duration = Duration::from_secs(30);
@@ -34,7 +34,7 @@ pub(crate) enum Event {
     Stop,
 }
 
-/// The way out to one connection.
+/// What writes to one connection.
 pub(crate) struct Outgoing {
     batches: SyncSender<Vec<u8>>,
     stream: Stream,
@@ -126,7 +126,7 @@ impl Listening {
     pub fn start(listener: Listener) -> io::Result<(Listening, Receiver<Event>)> {
         let address = listener.address()?;
         let stopped = Arc::new(AtomicBool::new(false));
-        let (events, waiting) = sync_channel(MOST_WAITING);
+        let (events, waiting) = sync_channel(MAX_WAITING);
         let (told, is_stopped) = (events.clone(), Arc::clone(&stopped));
         let thread = spawn(move || accept(&listener, &told, &is_stopped))?;
         Ok((Listening { address, stopped, events, thread: Some(thread) }, waiting))
@@ -170,7 +170,7 @@ fn accept(listener: &Listener, events: &SyncSender<Event>, stopped: &AtomicBool)
             thread::sleep(Duration::from_millis(10));
             continue;
         };
-        if count.load(Ordering::Acquire) < MOST_CONNECTIONS {
+        if count.load(Ordering::Acquire) < MAX_CONNECTIONS {
             // A connection for which the system has no room or no thread is closed.
             let _ = begin(connection, stream, events, &count);
         }
@@ -186,13 +186,13 @@ fn begin(
 ) -> io::Result<()> {
     stream.set_timeouts(SILENCE, STALL)?;
     let (reading, writing) = (stream.try_clone()?, stream.try_clone()?);
-    let (batches, waiting) = sync_channel(MOST_WAITING);
+    let (batches, waiting) = sync_channel(MAX_WAITING);
     let outgoing = Outgoing { batches, stream };
     spawn(move || write(writing, &waiting))?;
-    let seat = Seat::take(count);
+    let permit = Permit::take(count);
     let events = events.clone();
     spawn(move || {
-        let _seat = seat;
+        let _permit = permit;
         // Where nobody hears it, the server has ended.
         if events.send(Event::Opened(connection, outgoing)).is_ok() {
             read(connection, reading, &events);
@@ -203,16 +203,16 @@ fn begin(
 }
 
 /// One of the connections that may be open at once.
-struct Seat(Arc<AtomicUsize>);
+struct Permit(Arc<AtomicUsize>);
 
-impl Seat {
-    fn take(count: &Arc<AtomicUsize>) -> Seat {
+impl Permit {
+    fn take(count: &Arc<AtomicUsize>) -> Permit {
         count.fetch_add(1, Ordering::AcqRel);
-        Seat(Arc::clone(count))
+        Permit(Arc::clone(count))
     }
 }
 
-impl Drop for Seat {
+impl Drop for Permit {
     fn drop(&mut self) {
         self.0.fetch_sub(1, Ordering::AcqRel);
     }

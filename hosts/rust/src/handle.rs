@@ -1,5 +1,5 @@
 //! Safe owners of the library's handles.
-use crate::change::{Change, Outcome, Record, Saved, Write};
+use crate::change::{Change, Outcome, Record, Snapshot, Write};
 use crate::code::Code;
 use crate::ffi;
 use crate::row::Row;
@@ -61,7 +61,7 @@ fn code(reply: ffi::Reply) -> Code {
 /// What was done, or why not. A call that could not say something has done what it should.
 fn done(reply: ffi::Reply) -> Result<u64, Code> {
     match code(reply) {
-        Code::Done | Code::Unsaid => Ok(reply.detail),
+        Code::Done | Code::ReplyLost => Ok(reply.detail),
         refused => Err(refused),
     }
 }
@@ -206,15 +206,15 @@ pub(crate) struct ServerHandle(Handle);
 impl ServerHandle {
     /// Starts a server on what was kept, and says its epoch: it has to be kept before anything is
     /// sent.
-    pub fn open(saved: &Saved) -> Result<(ServerHandle, u64), Code> {
+    pub fn open(snapshot: &Snapshot) -> Result<(ServerHandle, u64), Code> {
         let rows: Vec<Row> =
-            saved.rows.iter().map(|(key, value)| Row { key: *key, value: *value }).collect();
-        let records: Vec<_> = saved.records.iter().map(raw_record).collect();
+            snapshot.rows.iter().map(|(key, value)| Row { key: *key, value: *value }).collect();
+        let records: Vec<_> = snapshot.records.iter().map(raw_record).collect();
         let mut handle = Handle::closed();
         let reply = unsafe {
             ffi::krl_server_open(
                 handle.raw(),
-                saved.epoch,
+                snapshot.epoch,
                 rows.as_ptr(),
                 rows.len(),
                 records.as_ptr(),

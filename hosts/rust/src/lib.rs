@@ -17,6 +17,7 @@
 //! client.leave()?;
 //! # Ok::<(), Box<dyn std::error::Error>>(())
 //! ```
+mod builder;
 mod change;
 mod client;
 mod code;
@@ -39,16 +40,17 @@ mod store;
 mod stream;
 mod watch;
 
-pub use change::{Change, Outcome, Record, Saved, Write};
+pub use builder::ClientBuilder;
+pub use change::{Change, Outcome, Record, Snapshot, Write};
 pub use client::{Client, Pin, evict};
 pub use code::Code;
 pub use lock_file::LockFileError;
 pub use refused::{JoinError, Refused};
-pub use row::{END, MOST_BYTES, Row, Value};
+pub use row::{END, MAX_VALUE_BYTES, Row, Value};
 pub use server::{ServeError, Server};
 #[cfg(feature = "sqlite")]
 pub use sqlite::SqliteStore;
 pub use status::Status;
 pub use store::{MemoryStore, Store, StoreError};
 pub use stream::{Address, BadAddress, Listener};
-pub use watch::{Holding, Wait};
+pub use watch::{HeldSlots, Wait};

@@ -24,13 +24,13 @@ const STALL: Duration = Duration::from_secs(5);
 
 /// What the thread of the connection and the callers share.
 ///
-/// `way_out` is taken before `jobs` and never after it, and no stream is touched while `jobs` is
+/// `writer` is taken before `jobs` and never after it, and no stream is touched while `jobs` is
 /// held: so a scan of the cache waits for no network.
 pub(crate) struct Link {
     address: Address,
     jobs: Mutex<Jobs>,
     changed: Condvar,
-    way_out: Mutex<WayOut>,
+    writer: Mutex<Writer>,
     is_ending: AtomicBool,
     is_leaving: AtomicBool,
     /// The server has said that the Bye is kept.
@@ -38,7 +38,7 @@ pub(crate) struct Link {
 }
 
 #[derive(Default)]
-struct WayOut {
+struct Writer {
     stream: Option<Stream>,
     frames: Vec<u8>,
 }
@@ -49,7 +49,7 @@ impl Link {
             address,
             jobs: Mutex::new(jobs),
             changed: Condvar::new(),
-            way_out: Mutex::default(),
+            writer: Mutex::default(),
             is_ending: AtomicBool::new(false),
             is_leaving: AtomicBool::new(false),
             is_gone: AtomicBool::new(false),
@@ -60,8 +60,8 @@ impl Link {
         self.jobs.lock().unwrap_or_else(PoisonError::into_inner)
     }
 
-    fn way_out(&self) -> MutexGuard<'_, WayOut> {
-        self.way_out.lock().unwrap_or_else(PoisonError::into_inner)
+    fn writer(&self) -> MutexGuard<'_, Writer> {
+        self.writer.lock().unwrap_or_else(PoisonError::into_inner)
     }
 
     /// Waits until `found` finds something, or until the deadline.
@@ -83,8 +83,8 @@ impl Link {
 
     /// Sends what the client says. What can't be sent is lost: a tick says it again.
     pub fn flush(&self) {
-        let mut way_out = self.way_out();
-        let WayOut { stream, frames } = &mut *way_out;
+        let mut writer = self.writer();
+        let Writer { stream, frames } = &mut *writer;
         frames.clear();
         let taken = self.jobs().client.take(frames);
         if taken.is_err() || frames.is_empty() {
@@ -113,7 +113,7 @@ impl Link {
     /// Ends the thread.
     pub fn end(&self) {
         self.is_ending.store(true, Ordering::Release);
-        if let Some(stream) = &self.way_out().stream {
+        if let Some(stream) = &self.writer().stream {
             stream.shut();
         }
     }
@@ -124,7 +124,7 @@ impl Link {
         while !self.is_ending() {
             if let Ok(stream) = self.connect() {
                 self.serve(stream);
-                self.way_out().stream = None;
+                self.writer().stream = None;
                 pause = PAUSE;
             }
             if !self.is_ending() {
@@ -142,7 +142,7 @@ impl Link {
         let stream = Stream::connect(&self.address, CONNECT)?;
         stream.set_timeouts(BUSY_TICK, STALL)?;
         let out = stream.try_clone()?;
-        self.way_out().stream = Some(out);
+        self.writer().stream = Some(out);
         Ok(stream)
     }
 

@@ -8,10 +8,10 @@ use std::io;
 #[derive(Clone, Copy, Debug, PartialEq, Eq)]
 #[non_exhaustive]
 pub enum Refused {
-    /// No answer came within the client's patience. A read or a forget has changed nothing that is
+    /// No answer came within the client's timeout. A read or a forget has changed nothing that is
     /// seen. A write may have changed the table or may still change it: the client goes on to ask
     /// for it, until it is answered or the client is gone.
-    Unanswered,
+    TimedOut,
     /// The range does not begin below its end, or ends above 2^63.
     BadRange,
     /// A key of 2^63 - 1 or more.
@@ -34,7 +34,9 @@ pub enum JoinError {
     LockFile(LockFileError),
     /// A number above 63.
     BadNumber,
-    /// The server did not answer within the client's patience. There is none, or it knows a greater
+    /// A builder was not told this.
+    Incomplete(&'static str),
+    /// The server did not answer within the client's timeout. There is none, or it knows a greater
     /// incarnation of this number.
     NoAnswer,
     /// The system has no thread for the client's connection.
@@ -59,7 +61,7 @@ impl From<Code> for Refused {
 impl fmt::Display for Refused {
     fn fmt(&self, f: &mut fmt::Formatter<'_>) -> fmt::Result {
         match self {
-            Refused::Unanswered => f.write_str("no answer came in time"),
+            Refused::TimedOut => f.write_str("no answer came in time"),
             Refused::BadRange => {
                 f.write_str("the range does not begin below its end, or ends above 2^63")
             }
@@ -77,6 +79,7 @@ impl fmt::Display for JoinError {
         match self {
             JoinError::LockFile(error) => error.fmt(f),
             JoinError::BadNumber => f.write_str("a client's number is 0 to 63"),
+            JoinError::Incomplete(what) => write!(f, "a client can't join without {what}"),
             JoinError::NoAnswer => f.write_str("the server did not answer in time"),
             JoinError::NoThread(error) => write!(f, "the client gets no thread: {error}"),
             JoinError::Refused(code) => code.fmt(f),

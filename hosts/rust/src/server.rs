@@ -18,8 +18,8 @@ use std::sync::{Arc, Mutex, PoisonError};
 use std::thread::{self, JoinHandle};
 use std::time::{Duration, Instant};
 
-/// The most messages that are judged before what they changed is kept.
-const MOST_AT_ONCE: usize = 256;
+/// The most messages that are judged before what they changed is committed.
+const MAX_AT_ONCE: usize = 256;
 
 /// How often a client that seems stuck is told again what it may have missed, and the server is
 /// asked who waits for whom.
@@ -47,11 +47,11 @@ pub enum ServeError {
 }
 
 impl Server {
-    /// Serves what the store keeps, for ever: the call comes back with an error alone.
+    /// Serves what the store has. It blocks, and returns only with an error.
     ///
     /// # Errors
     ///
-    /// Those of `start`; and `Store` where a change could not be kept. Nothing that rests on it was
+    /// Those of `start`; and `Store` where a change could not be committed. Nothing that rests on it was
     /// sent.
     pub fn serve(
         listener: impl Into<Listener>,
@@ -71,14 +71,14 @@ impl Server {
         listener: impl Into<Listener>,
         mut store: impl Store + 'static,
     ) -> Result<Server, ServeError> {
-        let saved = store.load()?;
-        let (server, epoch) = ServerHandle::open(&saved).map_err(ServeError::Refused)?;
+        let snapshot = store.load()?;
+        let (server, epoch) = ServerHandle::open(&snapshot).map_err(ServeError::Refused)?;
         // The epoch is kept before anything is sent.
-        store.keep(&[Change::Started { epoch }])?;
+        store.commit(&[Change::Started { epoch }])?;
         let (listening, waiting) = Listening::start(listener.into())?;
         let status = Arc::new(Mutex::new(Status { epoch, ..Status::default() }));
         let shown = Arc::clone(&status);
-        let turns = Turns {
+        let turns = EventLoop {
             server,
             store,
             waiting,
@@ -105,13 +105,12 @@ impl Server {
     }
 
     /// A reader of the status that may live in another thread.
-    pub fn watch(&self) -> impl Fn() -> Status + Send + use<> {
+    pub fn status_reader(&self) -> impl Fn() -> Status + Send + use<> {
         let status = Arc::clone(&self.status);
         move || status.lock().unwrap_or_else(PoisonError::into_inner).clone()
     }
 
-    /// Waits until the server ends, which it does by an error alone: nobody can stop it but its
-    /// owner, which waits here.
+    /// Blocks until the server fails. It can't be stopped meanwhile: this call owns it.
     pub fn wait(mut self) -> Result<Infallible, ServeError> {
         self.join()?;
         Err(ServeError::Panicked)
@@ -143,7 +142,7 @@ impl Drop for Server {
 }
 
 /// The one thread that owns the server and its store.
-struct Turns<S> {
+struct EventLoop<S> {
     server: ServerHandle,
     store: S,
     waiting: Receiver<Event>,
@@ -155,7 +154,7 @@ struct Turns<S> {
     frames: Vec<u8>,
 }
 
-impl<S: Store> Turns<S> {
+impl<S: Store> EventLoop<S> {
     fn run(mut self, shown: &Mutex<Status>) -> Result<(), ServeError> {
         while self.turn()? {
             self.show(shown);
@@ -163,7 +162,7 @@ impl<S: Store> Turns<S> {
         Ok(())
     }
 
-    /// Takes what waits, judges it all, keeps what it changed, and only then sends. It answers
+    /// Takes what waits, judges it all, commits what it changed, and only then sends. It answers
     /// whether to go on.
     fn turn(&mut self) -> Result<bool, ServeError> {
         let mut changes = Vec::new();
@@ -178,7 +177,7 @@ impl<S: Store> Turns<S> {
             }
         }
         self.nudge();
-        self.keep(&changes)?;
+        self.commit(&changes)?;
         self.send()?;
         Ok(true)
     }
@@ -189,7 +188,7 @@ impl<S: Store> Turns<S> {
             Err(RecvTimeoutError::Timeout) => return Vec::new(),
             Err(RecvTimeoutError::Disconnected) => Event::Stop,
         };
-        let more = self.waiting.try_iter().take(MOST_AT_ONCE - 1);
+        let more = self.waiting.try_iter().take(MAX_AT_ONCE - 1);
         std::iter::once(first).chain(more).collect()
     }
 
@@ -254,11 +253,11 @@ impl<S: Store> Turns<S> {
         self.status.holdings = self.watch.holdings().to_vec();
     }
 
-    fn keep(&mut self, changes: &[Change]) -> Result<(), ServeError> {
+    fn commit(&mut self, changes: &[Change]) -> Result<(), ServeError> {
         if !changes.is_empty() {
-            self.store.keep(changes)?;
+            self.store.commit(changes)?;
             self.status.changes += changes.len() as u64;
-            self.status.keeps += 1;
+            self.status.commits += 1;
         }
         Ok(())
     }

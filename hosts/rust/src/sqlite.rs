@@ -1,19 +1,19 @@
 //! A store over SQLite.
-use crate::change::{Change, Outcome, Record, Saved, Write};
+use crate::change::{Change, Outcome, Record, Snapshot, Write};
 use crate::row::{Row, Value};
 use crate::store::{Store, StoreError};
 use rusqlite::{Connection, Row as SqlRow, Transaction, params};
 use std::path::Path;
 use std::time::Duration;
 
-/// A store in one file of SQLite, in WAL mode with synchronous=FULL: `keep` returns once the
+/// A store in one file of SQLite, in WAL mode with synchronous=FULL: `commit` returns once the
 /// changes are on the disk. A write's row and its client's record change in one transaction.
 pub struct SqliteStore {
     connection: Connection,
 }
 
 /// How long it waits for another process that has the file open.
-const PATIENCE: Duration = Duration::from_millis(200);
+const TIMEOUT: Duration = Duration::from_millis(200);
 
 const TABLES: &str = "
     CREATE TABLE IF NOT EXISTS epoch (id INTEGER PRIMARY KEY CHECK (id = 0), epoch INTEGER NOT NULL);
@@ -40,7 +40,7 @@ impl SqliteStore {
     /// this fail, and every later open of another process fails while this store lives.
     pub fn open(path: impl AsRef<Path>) -> Result<SqliteStore, StoreError> {
         let connection = Connection::open(path)?;
-        connection.busy_timeout(PATIENCE)?;
+        connection.busy_timeout(TIMEOUT)?;
         connection.pragma_update(None, "locking_mode", "EXCLUSIVE")?;
         let mode: String =
             connection.query_row("PRAGMA journal_mode = WAL", [], |row| row.get(0))?;
@@ -54,33 +54,33 @@ impl SqliteStore {
 }
 
 impl Store for SqliteStore {
-    fn load(&mut self) -> Result<Saved, StoreError> {
+    fn load(&mut self) -> Result<Snapshot, StoreError> {
         let epoch = self.connection.query_row("SELECT epoch FROM epoch", [], |row| row.get(0))?;
-        let mut saved = Saved { epoch: positive(epoch)?, ..Saved::default() };
+        let mut snapshot = Snapshot { epoch: positive(epoch)?, ..Snapshot::default() };
         let mut entries = self.connection.prepare("SELECT key, value FROM entry")?;
         let mut rows = entries.query([])?;
         while let Some(row) = rows.next()? {
             let Row { key, value } = row_of(row)?;
-            saved.rows.insert(key, value);
+            snapshot.rows.insert(key, value);
         }
         let mut records = self.connection.prepare(
             "SELECT client, incarnation, last, outcome, has_left FROM record ORDER BY place",
         )?;
         let mut rows = records.query([])?;
         while let Some(row) = rows.next()? {
-            saved.records.push(record_of(row)?);
+            snapshot.records.push(record_of(row)?);
         }
-        Ok(saved)
+        Ok(snapshot)
     }
 
-    fn keep(&mut self, changes: &[Change]) -> Result<(), StoreError> {
+    fn commit(&mut self, changes: &[Change]) -> Result<(), StoreError> {
         let transaction = self.connection.transaction()?;
-        changes.iter().try_for_each(|change| keep_one(&transaction, change))?;
+        changes.iter().try_for_each(|change| commit_one(&transaction, change))?;
         Ok(transaction.commit()?)
     }
 }
 
-fn keep_one(transaction: &Transaction<'_>, change: &Change) -> Result<(), StoreError> {
+fn commit_one(transaction: &Transaction<'_>, change: &Change) -> Result<(), StoreError> {
     match change {
         Change::Started { epoch } => run(transaction, EPOCH, params![signed(*epoch)?]),
         Change::Registered { client, incarnation } => {
@@ -90,14 +90,14 @@ fn keep_one(transaction: &Transaction<'_>, change: &Change) -> Result<(), StoreE
         Change::Judged { client, number, write, outcome } => {
             run(transaction, JUDGE, params![client, signed(*number)?, outcome.tag()])?;
             match outcome {
-                Outcome::Applied => keep_write(transaction, write),
+                Outcome::Applied => commit_write(transaction, write),
                 _ => Ok(()),
             }
         }
     }
 }
 
-fn keep_write(transaction: &Transaction<'_>, write: &Write) -> Result<(), StoreError> {
+fn commit_write(transaction: &Transaction<'_>, write: &Write) -> Result<(), StoreError> {
     match write {
         Write::Insert(Row { key, value }) | Write::Put(Row { key, value }) => {
             run(transaction, PUT, params![signed(*key)?, &value[..]])
@@ -184,15 +184,15 @@ mod tests {
         let folder = std::env::temp_dir().join(format!("krl-sqlite-{}", std::process::id()));
         std::fs::create_dir_all(&folder).unwrap();
         let file = folder.join("table.db");
-        let mut expected = Saved::default();
+        let mut expected = Snapshot::default();
         assert_eq!(SqliteStore::open(&file).unwrap().load().unwrap(), expected);
         for change in changes() {
-            SqliteStore::open(&file).unwrap().keep(&[change]).unwrap();
+            SqliteStore::open(&file).unwrap().commit(&[change]).unwrap();
             expected.apply(&change);
             assert_eq!(SqliteStore::open(&file).unwrap().load().unwrap(), expected, "{change:?}");
         }
         let mut at_once = SqliteStore::open(folder.join("other.db")).unwrap();
-        at_once.keep(&changes()).unwrap();
+        at_once.commit(&changes()).unwrap();
         assert_eq!(at_once.load().unwrap(), expected);
         assert!(SqliteStore::open(folder.join("other.db")).is_err(), "one process at a time");
         std::fs::remove_dir_all(&folder).unwrap();
@@ -206,8 +206,8 @@ mod tests {
         std::fs::create_dir_all(&folder).unwrap();
         let mut store = SqliteStore::open(folder.join("table.db")).unwrap();
         let bad = Change::Registered { client: 1, incarnation: u64::MAX };
-        assert!(store.keep(&[Change::Started { epoch: 4 }, bad]).is_err());
-        assert_eq!(store.load().unwrap(), Saved::default());
+        assert!(store.commit(&[Change::Started { epoch: 4 }, bad]).is_err());
+        assert_eq!(store.load().unwrap(), Snapshot::default());
         std::fs::remove_dir_all(&folder).unwrap();
     }
 }

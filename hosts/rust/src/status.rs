@@ -1,5 +1,5 @@
 //! What an operator sees of a server.
-use crate::watch::{Holding, Wait};
+use crate::watch::{HeldSlots, Wait};
 use std::fmt::{self, Write};
 
 /// A server at one moment.
@@ -16,7 +16,7 @@ pub struct Status {
     /// The clients that wait for a lock.
     pub waits: Vec<Wait>,
     /// The clients that hold something.
-    pub holdings: Vec<Holding>,
+    pub holdings: Vec<HeldSlots>,
     /// The clients whose report contradicted what the server knows, each once: two processes under
     /// one number, or a server on an older store.
     pub alarms: Vec<u8>,
@@ -34,8 +34,8 @@ pub struct Status {
     pub held_back: u64,
     /// The changes that were kept.
     pub changes: u64,
-    /// How often the store was asked to keep changes.
-    pub keeps: u64,
+    /// How often the store was asked to commit changes.
+    pub commits: u64,
 }
 
 impl Status {
@@ -60,7 +60,7 @@ impl Status {
             ("messages_refused_total", "counter", self.refused),
             ("pushes_held_back_total", "counter", self.held_back),
             ("changes_total", "counter", self.changes),
-            ("keeps_total", "counter", self.keeps),
+            ("keeps_total", "counter", self.commits),
         ]
     }
 
@@ -86,7 +86,7 @@ impl Status {
             line(text, format_args!("krl_waits_for{{client=\"{client}\",other=\"{other}\"}} 1"));
         }
         line(text, format_args!("# TYPE krl_held_slots gauge"));
-        for Holding { client, slots } in &self.holdings {
+        for HeldSlots { client, slots } in &self.holdings {
             line(text, format_args!("krl_held_slots{{client=\"{client}\"}} {slots}"));
         }
     }
@@ -111,7 +111,7 @@ fn list(clients: &[u8]) -> String {
 
 impl fmt::Display for Status {
     fn fmt(&self, f: &mut fmt::Formatter<'_>) -> fmt::Result {
-        let phase = if self.is_serving { "serving" } else { "gathering reports" };
+        let phase = if self.is_serving { "serving" } else { "recovering" };
         writeln!(f, "epoch {}, {phase}", self.epoch)?;
         if !self.is_serving {
             writeln!(f, "missing: {}", list(&self.missing))?;
@@ -122,7 +122,7 @@ impl fmt::Display for Status {
             let (ms, whom) = (wait.waited.as_millis(), list(&wait.waits_for));
             writeln!(f, "client {client} waits for {whom}: {mode} at {point}, for {ms} ms")?;
         }
-        for Holding { client, slots } in &self.holdings {
+        for HeldSlots { client, slots } in &self.holdings {
             writeln!(f, "client {client} holds {slots} slots")?;
         }
         if !self.alarms.is_empty() {
@@ -137,7 +137,7 @@ impl fmt::Display for Status {
             f,
             "messages: {taken} taken, {sent} sent, {refused} refused, {held_back} held back"
         )?;
-        writeln!(f, "store: {} changes in {} transactions", self.changes, self.keeps)
+        writeln!(f, "store: {} changes in {} transactions", self.changes, self.commits)
     }
 }
 
@@ -159,7 +159,7 @@ mod tests {
             missing: vec![1],
             connected: vec![0, 3],
             waits: vec![wait],
-            holdings: vec![Holding { client: 2, slots: 7 }],
+            holdings: vec![HeldSlots { client: 2, slots: 7 }],
             ..Status::default()
         }
     }
@@ -167,9 +167,9 @@ mod tests {
     #[test]
     fn text() {
         let text = status().to_string();
-        assert!(text.starts_with(
-            "epoch 4, gathering reports\nmissing: 1\nconnected: 0, 3 (0 connections)\n"
-        ));
+        assert!(
+            text.starts_with("epoch 4, recovering\nmissing: 1\nconnected: 0, 3 (0 connections)\n")
+        );
         assert!(text.contains("client 3 waits for 0, 2: RangeX-X at 10, for 40 ms\n"));
         assert!(text.contains("client 2 holds 7 slots\n"));
         assert!(!text.contains("ALARM"));

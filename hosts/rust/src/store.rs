@@ -1,16 +1,16 @@
 //! Where a server keeps what survives it.
-use crate::change::{Change, Saved};
+use crate::change::{Change, Snapshot};
 use std::fmt;
 
 /// What survives a server. Nobody else may write to it while the server runs.
 pub trait Store: Send {
     /// All that was kept.
-    fn load(&mut self) -> Result<Saved, StoreError>;
+    fn load(&mut self) -> Result<Snapshot, StoreError>;
 
-    /// Keeps the changes, in their order: all or none. When it returns they are on the disk, and no
+    /// Commits the changes, in their order: all or none. When it returns they are on the disk, and no
     /// crash of the process or of the machine takes them away. After an error the server ends, and
     /// sends nothing more.
-    fn keep(&mut self, changes: &[Change]) -> Result<(), StoreError>;
+    fn commit(&mut self, changes: &[Change]) -> Result<(), StoreError>;
 }
 
 /// A store that failed, and why.
@@ -40,26 +40,26 @@ impl std::error::Error for StoreError {
 #[derive(Clone, Debug, Default)]
 pub struct MemoryStore {
     /// What is kept.
-    pub saved: Saved,
+    pub snapshot: Snapshot,
 }
 
 impl Store for MemoryStore {
-    fn load(&mut self) -> Result<Saved, StoreError> {
-        Ok(self.saved.clone())
+    fn load(&mut self) -> Result<Snapshot, StoreError> {
+        Ok(self.snapshot.clone())
     }
 
-    fn keep(&mut self, changes: &[Change]) -> Result<(), StoreError> {
-        changes.iter().for_each(|change| self.saved.apply(change));
+    fn commit(&mut self, changes: &[Change]) -> Result<(), StoreError> {
+        changes.iter().for_each(|change| self.snapshot.apply(change));
         Ok(())
     }
 }
 
 impl Store for Box<dyn Store> {
-    fn load(&mut self) -> Result<Saved, StoreError> {
+    fn load(&mut self) -> Result<Snapshot, StoreError> {
         (**self).load()
     }
 
-    fn keep(&mut self, changes: &[Change]) -> Result<(), StoreError> {
-        (**self).keep(changes)
+    fn commit(&mut self, changes: &[Change]) -> Result<(), StoreError> {
+        (**self).commit(changes)
     }
 }

@@ -15,15 +15,15 @@ pub struct Wait {
     pub mode: &'static str,
     /// For how long it was seen to wait.
     pub waited: Duration,
-    /// The clients that it waits for: those that wait before it, and those that hold what does not
-    /// go beside what it wants. None where it has to acknowledge a push first, or where the server
-    /// gathers reports.
+    /// The clients that it waits for: those that wait before it, and those that hold what
+    /// is not compatible with what it wants. None if it has to acknowledge a push first, or while the
+    /// server recovers.
     pub waits_for: Vec<u8>,
 }
 
 /// How much a client holds.
 #[derive(Clone, Copy, Debug, PartialEq, Eq)]
-pub struct Holding {
+pub struct HeldSlots {
     /// The client.
     pub client: u8,
     /// The number of slots, each an entry with the gap below it, of which it holds something.
@@ -55,7 +55,7 @@ struct Seen {
 #[derive(Default)]
 pub(crate) struct Watch {
     seen: Vec<Seen>,
-    holdings: Vec<Holding>,
+    holdings: Vec<HeldSlots>,
     counted: u8,
 }
 
@@ -88,13 +88,13 @@ impl Watch {
     pub fn counted(&mut self, client: u8, slots: u64) {
         self.holdings.retain(|holding| holding.client != client);
         if slots > 0 {
-            self.holdings.push(Holding { client, slots });
+            self.holdings.push(HeldSlots { client, slots });
             self.holdings.sort_by_key(|holding| holding.client);
         }
     }
 
     /// The clients that hold something, by number, as they were last counted.
-    pub fn holdings(&self) -> &[Holding] {
+    pub fn holdings(&self) -> &[HeldSlots] {
         &self.holdings
     }
 }
@@ -142,6 +142,6 @@ mod tests {
         watch.counted(1, 2);
         watch.counted(3, 8);
         watch.counted(1, 0);
-        assert_eq!(watch.holdings(), [Holding { client: 3, slots: 8 }]);
+        assert_eq!(watch.holdings(), [HeldSlots { client: 3, slots: 8 }]);
     }
 }

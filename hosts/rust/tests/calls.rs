@@ -98,7 +98,7 @@ fn a_file_that_is_no_socket_is_left_alone() {
 fn what_is_refused() {
     let folder = Folder::new("refused");
     let server = server("127.0.0.1:0");
-    let mut client = folder.join(&server, 1);
+    let client = folder.join(&server, 1);
     assert_eq!(client.read(5..5), Err(Refused::BadRange));
     assert_eq!(client.read(0..u64::MAX), Err(Refused::BadRange));
     assert_eq!(client.insert(krl::END, Value::default()), Err(Refused::BadKey));
@@ -106,7 +106,8 @@ fn what_is_refused() {
     assert_eq!(client.read(0..1 << 63), Ok(vec![]));
     let join = |number, lock: &Path| {
         let wait = Duration::from_millis(300);
-        Client::join_within(server.address().clone(), number, lock, wait).err()
+        let server = Client::builder(server.address().clone());
+        server.number(number).lock_file(lock).timeout(wait).join().err()
     };
     let taken = join(1, &folder.lock(1));
     assert!(matches!(taken, Some(JoinError::LockFile(LockFileError::Taken))));
@@ -119,16 +120,18 @@ fn what_is_refused() {
     drop(pins);
     assert_eq!(client.forget(0..4), Ok(()));
     server.stop().unwrap();
-    client.set_patience(Duration::from_millis(200));
-    assert_eq!(client.read(0..9), Err(Refused::Unanswered));
-    assert_eq!(client.leave(), Err(Refused::Unanswered));
+    client.set_timeout(Duration::from_millis(200));
+    assert_eq!(client.read(0..9), Err(Refused::TimedOut));
+    assert_eq!(client.leave(), Err(Refused::TimedOut));
 }
 
 #[test]
 fn a_server_that_does_not_run_answers_nobody() {
     let folder = Folder::new("nobody");
     let address: Address = "127.0.0.1:1".parse().unwrap();
-    let joined = Client::join_within(address, 1, folder.lock(1), Duration::from_millis(200));
+    let wait = Duration::from_millis(200);
+    let client = Client::builder(address).number(1).lock_file(folder.lock(1));
+    let joined = client.timeout(wait).join();
     assert!(matches!(joined.err(), Some(JoinError::NoAnswer)));
 }
 

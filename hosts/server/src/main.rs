@@ -18,7 +18,7 @@ const USAGE: &str =
     "usage: krl-server serve ADDRESS STORE [STATUS] | krl-server evict ADDRESS NUMBER LOCK";
 
 /// How long an operator's connection may take.
-const PATIENCE: Duration = Duration::from_secs(2);
+const TIMEOUT: Duration = Duration::from_secs(2);
 
 fn main() -> ExitCode {
     let words: Vec<String> = std::env::args().skip(1).collect();
@@ -46,7 +46,7 @@ fn serve(address: &str, store: &str, status: Option<&str>) -> Result<(), Box<dyn
     let server = Server::start(listener, SqliteStore::open(store)?)?;
     eprintln!("krl-server: epoch {}, at {}", server.status().epoch, server.address());
     if let Some(status) = status {
-        show(TcpListener::bind(status)?, server.watch());
+        show(TcpListener::bind(status)?, server.status_reader());
     }
     server.wait()?;
     Ok(())
@@ -72,8 +72,8 @@ fn show(listener: TcpListener, status: impl Fn() -> Status + Send + 'static) {
 }
 
 fn answer(mut stream: TcpStream, status: &Status) -> std::io::Result<()> {
-    stream.set_read_timeout(Some(PATIENCE))?;
-    stream.set_write_timeout(Some(PATIENCE))?;
+    stream.set_read_timeout(Some(TIMEOUT))?;
+    stream.set_write_timeout(Some(TIMEOUT))?;
     let mut request = [0; 1024];
     let length = stream.read(&mut request)?;
     let body = match request[..length].starts_with(b"GET /metrics ") {

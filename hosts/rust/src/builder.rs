@@ -1,0 +1,57 @@
+//! How a client is told to join.
+use crate::client::Client;
+use crate::refused::JoinError;
+use crate::stream::Address;
+use std::path::PathBuf;
+use std::time::Duration;
+
+/// How long a client waits for an answer, unless it is told otherwise.
+pub(crate) const TIMEOUT: Duration = Duration::from_secs(10);
+
+/// What a client is told before it joins: its server, its number and its lock file, and how long
+/// its calls wait. The number and the lock file have to be said.
+#[derive(Clone, Debug)]
+#[must_use = "a builder does nothing before `join`"]
+pub struct ClientBuilder {
+    server: Address,
+    number: Option<u8>,
+    lock_file: Option<PathBuf>,
+    timeout: Duration,
+}
+
+impl ClientBuilder {
+    pub(crate) fn new(server: Address) -> ClientBuilder {
+        ClientBuilder { server, number: None, lock_file: None, timeout: TIMEOUT }
+    }
+
+    /// The client's number, from 0 to 63. One process at a time may be the client of a number.
+    pub fn number(mut self, number: u8) -> ClientBuilder {
+        self.number = Some(number);
+        self
+    }
+
+    /// The file that keeps a second process of this machine off the number, and that holds the
+    /// incarnation of the last one. It is made if there is none.
+    pub fn lock_file(mut self, path: impl Into<PathBuf>) -> ClientBuilder {
+        self.lock_file = Some(path.into());
+        self
+    }
+
+    /// How long `join` and each later call wait for an answer: ten seconds if this is not called,
+    /// and a year at most.
+    pub fn timeout(mut self, timeout: Duration) -> ClientBuilder {
+        self.timeout = timeout;
+        self
+    }
+
+    /// Joins the server.
+    ///
+    /// # Errors
+    ///
+    /// `Incomplete` if the number or the lock file was not said; else those of [`Client::join`].
+    pub fn join(self) -> Result<Client, JoinError> {
+        let number = self.number.ok_or(JoinError::Incomplete("a number"))?;
+        let lock_file = self.lock_file.ok_or(JoinError::Incomplete("a lock file"))?;
+        Client::start(self.server, number, &lock_file, self.timeout)
+    }
+}
