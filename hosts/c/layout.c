@@ -16,6 +16,8 @@ SIZE(krl_record, 32);
 AT(krl_record, last, 16);
 AT(krl_record, outcome, 24);
 AT(krl_record, left, 28);
+SIZE(krl_recorded, 48);
+AT(krl_recorded, record, 16);
 SIZE(krl_change, 80);
 AT(krl_change, outcome, 4);
 AT(krl_change, client, 8);

@@ -1,5 +1,6 @@
 //! The connections of a server: threads that read and write, so that no slow peer stops the others.
 use crate::frames::{Frames, LONGEST_TO_SERVER};
+use crate::routing::Routes;
 use crate::stream::{Address, Listener, Stream};
 use std::collections::HashMap;
 use std::io::{self, ErrorKind, Write};
@@ -60,7 +61,7 @@ impl Drop for Outgoing {
 #[derive(Default)]
 pub(crate) struct Connections {
     open: HashMap<u64, Outgoing>,
-    routes: HashMap<u8, u64>,
+    routes: Routes,
     batches: HashMap<u64, Vec<u8>>,
 }
 
@@ -71,19 +72,17 @@ impl Connections {
 
     pub fn close(&mut self, connection: u64) {
         self.open.remove(&connection);
-        self.routes.retain(|_, to| *to != connection);
+        self.routes.close(connection);
     }
 
     /// From now on the client's messages go to this connection.
     pub fn route(&mut self, client: u8, connection: u64) {
-        self.routes.insert(client, connection);
+        self.routes.set(client, connection);
     }
 
     /// The clients that are connected, by number.
     pub fn clients(&self) -> Vec<u8> {
-        let mut clients: Vec<u8> = self.routes.keys().copied().collect();
-        clients.sort_unstable();
-        clients
+        self.routes.clients()
     }
 
     pub fn count(&self) -> usize {
@@ -93,8 +92,8 @@ impl Connections {
     /// Puts the frame behind those that leave with the next `send`. Without a connection it is
     /// lost.
     pub fn put_for(&mut self, client: u8, frame: &[u8]) {
-        if let Some(connection) = self.routes.get(&client) {
-            self.batches.entry(*connection).or_default().extend_from_slice(frame);
+        if let Some(connection) = self.routes.of(client) {
+            self.put(connection, frame);
         }
     }
 

@@ -28,6 +28,13 @@ pub struct RawRecord {
 
 #[repr(C)]
 #[derive(Clone, Copy, Debug)]
+pub struct RawRecorded {
+    pub reply: Reply,
+    pub record: RawRecord,
+}
+
+#[repr(C)]
+#[derive(Clone, Copy, Debug)]
 pub struct RawChange {
     pub kind: u32,
     pub outcome: u32,
@@ -122,6 +129,7 @@ unsafe extern "C" {
     pub fn krl_server_nudge(handle: *mut Handle, client: u64) -> Reply;
     pub fn krl_server_status(handle: *mut Handle) -> ServerState;
     pub fn krl_server_missing(handle: *mut Handle, clients: *mut u64, room: usize) -> Reply;
+    pub fn krl_server_record(handle: *mut Handle, client: u64) -> RawRecorded;
     pub fn krl_server_waiter(handle: *mut Handle, client: u64) -> RawWaiting;
     pub fn krl_server_waited_for(
         handle: *mut Handle,
@@ -149,6 +157,7 @@ mod tests {
         assert_eq!([offset_of!(Row, key), offset_of!(Row, value)], [0, 8]);
         assert_eq!([size_of::<RawRecord>(), offset_of!(RawRecord, last)], [32, 16]);
         assert_eq!([offset_of!(RawRecord, outcome), offset_of!(RawRecord, left)], [24, 28]);
+        assert_eq!([size_of::<RawRecorded>(), offset_of!(RawRecorded, record)], [48, 16]);
         assert_eq!([size_of::<RawChange>(), offset_of!(RawChange, client)], [80, 8]);
         assert_eq!([offset_of!(RawChange, number), offset_of!(RawChange, write)], [16, 24]);
         assert_eq!([offset_of!(RawChange, outcome), offset_of!(RawChange, row)], [4, 32]);

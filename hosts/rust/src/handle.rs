@@ -250,6 +250,15 @@ impl ServerHandle {
         listed(reply, &clients)
     }
 
+    /// What is kept of the client, if it ever registered.
+    pub fn record(&mut self, client: u8) -> Result<Option<Record>, Code> {
+        let raw = unsafe { ffi::krl_server_record(self.0.raw(), client.into()) };
+        match code(raw.reply) {
+            Code::BadClient => Ok(None),
+            _ => done(raw.reply).map(|_| record_of(&raw.record)),
+        }
+    }
+
     /// The clients that wait for a lock, by number, each with those that it waits for.
     pub fn waiting(&mut self) -> Result<Vec<Waiting>, Code> {
         (0..CLIENTS).filter_map(|client| self.waiting_of(client).transpose()).collect()
@@ -298,6 +307,13 @@ fn raw_record(record: &Record) -> ffi::RawRecord {
         outcome,
         left: record.left.into(),
     }
+}
+
+fn record_of(raw: &ffi::RawRecord) -> Option<Record> {
+    let ffi::RawRecord { incarnation, last, outcome, left, .. } = *raw;
+    let client = u8::try_from(raw.client).ok()?;
+    let last = Outcome::of_tag(outcome.into()).map(|outcome| (last, outcome));
+    Some(Record { client, incarnation, last, left: left != 0 })
 }
 
 fn change_of(raw: &ffi::RawChange) -> Result<Option<Change>, Code> {

@@ -31,6 +31,7 @@ mod link;
 mod lock_file;
 mod message;
 mod refused;
+mod routing;
 mod row;
 mod server;
 #[cfg(feature = "sqlite")]

@@ -14,6 +14,11 @@ pub(crate) fn client_of(message: &[u8]) -> Option<u8> {
     (client < 64).then_some(client)
 }
 
+/// The incarnation of the client that a message names.
+pub(crate) fn incarnation_of(message: &[u8]) -> Option<u64> {
+    number(message, 10)
+}
+
 /// What the message is about. Only of messages that the library wrote or took.
 pub(crate) fn kind_of(message: &[u8]) -> Kind {
     match message.get(1) {
@@ -43,5 +48,15 @@ mod tests {
             }
         }
         assert_eq!(kind_of(&[]), Kind::Other);
+        assert_eq!(incarnation_of(&[1; 17]), None);
+    }
+
+    #[test]
+    fn fields_stand_in_their_places() {
+        let mut bye = vec![1, 1];
+        bye.extend_from_slice(&3u64.to_le_bytes());
+        bye.extend_from_slice(&(1u64 << 60).to_le_bytes());
+        assert_eq!(kind_of(&bye), Kind::Bye);
+        assert_eq!((client_of(&bye), incarnation_of(&bye)), (Some(3), Some(1 << 60)));
     }
 }

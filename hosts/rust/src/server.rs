@@ -5,7 +5,8 @@ use crate::connections::{Connections, Event, Listening};
 use crate::frames;
 use crate::handle::ServerHandle;
 use crate::held_back::HeldBack;
-use crate::message::{Kind, client_of, kind_of};
+use crate::message::{Kind, client_of, incarnation_of, kind_of};
+use crate::routing::{Sender, sender};
 use crate::status::Status;
 use crate::store::{Store, StoreError};
 use crate::stream::{Address, Listener};
@@ -211,15 +212,25 @@ impl<S: Store> EventLoop<S> {
             Err(code) => return Err(ServeError::Refused(code)),
         };
         self.status.taken += 1;
-        if let Some(client) = client_of(message) {
-            self.connections.route(client, connection);
-        }
-        if kind_of(message) == Kind::Bye {
-            // It leaves after what it says is kept, and tells the client that it need not say Bye
-            // again.
-            self.connections.put(connection, &frames::EMPTY);
-        }
+        self.route(connection, message)?;
         Ok(change)
+    }
+
+    /// Takes the connection for that of the client that the message names, if it is the client's.
+    fn route(&mut self, connection: u64, message: &[u8]) -> Result<(), ServeError> {
+        let (Some(client), Some(incarnation)) = (client_of(message), incarnation_of(message))
+        else {
+            return Ok(());
+        };
+        let record = self.server.record(client).map_err(ServeError::Refused)?;
+        match (sender(record.as_ref(), incarnation), kind_of(message)) {
+            (Sender::Registered, _) => self.connections.route(client, connection),
+            // The frame leaves after the change is on the disk, and tells the client that it need
+            // not say Bye again.
+            (Sender::Left, Kind::Bye) => self.connections.put(connection, &frames::EMPTY),
+            (Sender::Left | Sender::Stranger, _) => {}
+        }
+        Ok(())
     }
 
     fn alarm(&mut self, message: &[u8]) {
