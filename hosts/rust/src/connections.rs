@@ -20,6 +20,9 @@ const MAX_WAITING: usize = 256;
 /// A connection on which nothing comes for so long is closed: clients tick more often.
 const SILENCE: Duration = Duration::from_secs(30);
 
+/// How long to wait before another connection is taken where the system had no room for one.
+const NO_ROOM: Duration = Duration::from_millis(50);
+
 /// A peer that takes nothing for so long loses its connection.
 const STALL: Duration = Duration::from_secs(5);
 
@@ -31,6 +34,8 @@ pub(crate) enum Event {
     Message(u64, Vec<u8>),
     /// Nothing more will come.
     Closed(u64),
+    /// No connection can be taken any more.
+    Deaf(io::Error),
     /// The server is to end.
     Stop,
 }
@@ -123,6 +128,7 @@ pub(crate) struct Listening {
 impl Listening {
     /// Takes connections, each in threads of its own, and tells what they say.
     pub fn start(listener: Listener) -> io::Result<(Listening, Receiver<Event>)> {
+        listener.wait_in_accept()?;
         let address = listener.address()?;
         let stopped = Arc::new(AtomicBool::new(false));
         let (events, waiting) = sync_channel(MAX_WAITING);
@@ -164,15 +170,45 @@ fn accept(listener: &Listener, events: &SyncSender<Event>, stopped: &AtomicBool)
         if stopped.load(Ordering::Acquire) {
             return;
         }
-        let Ok(stream) = accepted else {
-            // The system has no room for another connection just now.
-            thread::sleep(Duration::from_millis(10));
-            continue;
-        };
-        if count.load(Ordering::Acquire) < MAX_CONNECTIONS {
-            // A connection for which the system has no room or no thread is closed.
-            let _ = begin(connection, stream, events, &count);
+        match accepted {
+            Ok(stream) => {
+                if count.load(Ordering::Acquire) < MAX_CONNECTIONS {
+                    // A connection for which the system has no room or no thread is closed.
+                    let _ = begin(connection, stream, events, &count);
+                }
+            }
+            Err(error) => match after(&error) {
+                Next::AtOnce => {}
+                Next::Later => thread::sleep(NO_ROOM),
+                Next::End => {
+                    // Where nobody hears it, the server has ended.
+                    let _ = events.send(Event::Deaf(error));
+                    return;
+                }
+            },
         }
+    }
+}
+
+/// What to do after an `accept` that failed.
+#[derive(Clone, Copy, Debug, PartialEq, Eq)]
+enum Next {
+    /// The connection is gone, and the next one may be there already.
+    AtOnce,
+    /// The system has no room for another connection just now, or the network is not there.
+    Later,
+    /// The socket takes no connection any more.
+    End,
+}
+
+fn after(error: &io::Error) -> Next {
+    const EBADF: i32 = 9;
+    const EINVAL: i32 = 22;
+    const ENOTSOCK: i32 = 88;
+    match (error.kind(), error.raw_os_error()) {
+        (ErrorKind::Interrupted | ErrorKind::ConnectionAborted, _) => Next::AtOnce,
+        (_, Some(EBADF | EINVAL | ENOTSOCK)) => Next::End,
+        _ => Next::Later,
     }
 }
 
@@ -246,4 +282,31 @@ fn write(mut stream: Stream, batches: &Receiver<Vec<u8>>) {
         }
     }
     stream.shut();
+}
+
+#[cfg(test)]
+mod tests {
+    use super::*;
+
+    #[test]
+    fn a_failed_accept_is_no_end_unless_the_socket_is_gone() {
+        const EINTR: i32 = 4;
+        const EBADF: i32 = 9;
+        const ENOMEM: i32 = 12;
+        const EINVAL: i32 = 22;
+        const ENFILE: i32 = 23;
+        const EMFILE: i32 = 24;
+        const ECONNABORTED: i32 = 103;
+        const ENOBUFS: i32 = 105;
+        let next = |number| after(&io::Error::from_raw_os_error(number));
+        for number in [EINTR, ECONNABORTED] {
+            assert_eq!(next(number), Next::AtOnce, "{number}");
+        }
+        for number in [ENOMEM, ENFILE, EMFILE, ENOBUFS] {
+            assert_eq!(next(number), Next::Later, "{number}");
+        }
+        for number in [EBADF, EINVAL] {
+            assert_eq!(next(number), Next::End, "{number}");
+        }
+    }
 }

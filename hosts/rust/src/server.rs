@@ -166,7 +166,7 @@ impl<S: Store> EventLoop<S> {
     /// Takes what waits, judges it all, commits what it changed, and only then sends. It answers
     /// whether to go on.
     fn turn(&mut self) -> Result<bool, ServeError> {
-        let mut changes = Vec::new();
+        let (mut changes, mut ended) = (Vec::new(), None);
         for event in self.take_what_waits() {
             match event {
                 Event::Opened(connection, outgoing) => self.connections.open(connection, outgoing),
@@ -174,13 +174,14 @@ impl<S: Store> EventLoop<S> {
                 Event::Message(connection, message) => {
                     changes.extend(self.judge(connection, &message)?);
                 }
-                Event::Stop => return Ok(false),
+                Event::Deaf(error) => ended = Some(Err(error.into())),
+                Event::Stop => ended = Some(Ok(false)),
             }
         }
         self.nudge();
         self.commit(&changes)?;
         self.send()?;
-        Ok(true)
+        ended.unwrap_or(Ok(true))
     }
 
     fn take_what_waits(&mut self) -> Vec<Event> {

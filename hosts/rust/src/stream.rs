@@ -1,12 +1,17 @@
 //! Connections over TCP or over a Unix socket.
 use std::fmt;
-use std::io::{self, Read, Write};
+use std::io::{self, ErrorKind, Read, Write};
 use std::net::{Shutdown, SocketAddr, TcpListener, TcpStream};
 use std::os::unix::fs::FileTypeExt;
 use std::os::unix::net::{UnixListener, UnixStream};
-use std::path::PathBuf;
+use std::path::{Path, PathBuf};
 use std::str::FromStr;
+use std::sync::mpsc::channel;
+use std::thread;
 use std::time::Duration;
+
+/// How long a server may take to show that it listens at a Unix socket.
+const PROBE: Duration = Duration::from_secs(1);
 
 /// Where a server listens. As text: `127.0.0.1:7400`, or `unix:` and a path.
 #[derive(Clone, Debug, PartialEq, Eq)]
@@ -66,13 +71,17 @@ pub enum Listener {
 
 impl Listener {
     /// Listens at the address. The file of a Unix socket at which nobody listens any more is
-    /// replaced; another file is left alone.
+    /// replaced. Any other file is left alone, and so is a socket of which that can't be known.
+    ///
+    /// # Errors
+    ///
+    /// Those of the system: the address is in use, or is none of this machine, or this process has
+    /// no right to it.
     pub fn bind(address: &Address) -> io::Result<Listener> {
         match address {
             Address::Tcp(address) => TcpListener::bind(address).map(Listener::Tcp),
             Address::Unix(path) => {
-                let is_socket = path.metadata().is_ok_and(|file| file.file_type().is_socket());
-                if is_socket && UnixStream::connect(path).is_err() {
+                if is_socket(path) && is_abandoned(&probe(path)) {
                     std::fs::remove_file(path)?;
                 }
                 UnixListener::bind(path).map(Listener::Unix)
@@ -81,6 +90,10 @@ impl Listener {
     }
 
     /// Where it listens.
+    ///
+    /// # Errors
+    ///
+    /// Those of the system; and a Unix socket without a path has no address.
     pub fn address(&self) -> io::Result<Address> {
         match self {
             Listener::Tcp(listener) => listener.local_addr().map(Address::Tcp),
@@ -92,12 +105,42 @@ impl Listener {
         }
     }
 
+    /// `accept` waits from now on, whatever the socket was told before.
+    pub(crate) fn wait_in_accept(&self) -> io::Result<()> {
+        match self {
+            Listener::Tcp(listener) => listener.set_nonblocking(false),
+            Listener::Unix(listener) => listener.set_nonblocking(false),
+        }
+    }
+
     pub(crate) fn accept(&self) -> io::Result<Stream> {
         match self {
             Listener::Tcp(listener) => Stream::of_tcp(listener.accept()?.0),
             Listener::Unix(listener) => Ok(Stream::Unix(listener.accept()?.0)),
         }
     }
+}
+
+fn is_socket(path: &Path) -> bool {
+    path.metadata().is_ok_and(|file| file.file_type().is_socket())
+}
+
+/// Connects to a Unix socket, in a thread of its own: a server that takes no connection just now
+/// would hold it up for as long as it likes.
+fn probe(path: &Path) -> io::Result<()> {
+    let (told, outcome) = channel();
+    let path = path.to_path_buf();
+    thread::Builder::new().name("krl-probe".into()).spawn(move || {
+        // Nobody hears it that comes too late.
+        let _ = told.send(UnixStream::connect(path).map(drop));
+    })?;
+    outcome.recv_timeout(PROBE).unwrap_or_else(|_| Err(ErrorKind::TimedOut.into()))
+}
+
+/// Whether a connect shows that nobody listens at a Unix socket any more. A missing right or a
+/// server that is slow does not show it.
+fn is_abandoned(connected: &io::Result<()>) -> bool {
+    connected.as_ref().is_err_and(|error| error.kind() == ErrorKind::ConnectionRefused)
 }
 
 impl From<TcpListener> for Listener {
@@ -180,5 +223,36 @@ impl Write for Stream {
 
     fn flush(&mut self) -> io::Result<()> {
         Ok(())
+    }
+}
+
+#[cfg(test)]
+mod tests {
+    use super::*;
+
+    #[test]
+    fn only_a_refused_connect_shows_that_nobody_listens() {
+        assert!(is_abandoned(&Err(ErrorKind::ConnectionRefused.into())));
+        assert!(!is_abandoned(&Ok(())));
+        for kind in [
+            ErrorKind::PermissionDenied,
+            ErrorKind::TimedOut,
+            ErrorKind::WouldBlock,
+            ErrorKind::NotFound,
+            ErrorKind::Other,
+        ] {
+            assert!(!is_abandoned(&Err(kind.into())), "{kind}");
+        }
+    }
+
+    #[test]
+    fn a_socket_is_taken_over_when_its_server_is_gone_and_not_before() {
+        let path = std::env::temp_dir().join(format!("krl-stream-{}", std::process::id()));
+        let address = Address::Unix(path.clone());
+        let living = Listener::bind(&address).unwrap();
+        assert!(Listener::bind(&address).is_err(), "its server lives");
+        drop(living);
+        drop(Listener::bind(&address).unwrap());
+        std::fs::remove_file(path).unwrap();
     }
 }
