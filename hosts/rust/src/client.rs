@@ -1,14 +1,17 @@
 //! A client over a network.
 use crate::builder::{ClientBuilder, TIMEOUT};
 use crate::change::{Outcome, Write};
+use crate::code::Code;
 use crate::handle::{ClientHandle, Scan};
-use crate::jobs::{Answer, Job, Jobs, is_key};
+use crate::jobs::{Asked, Jobs};
 use crate::link::Link;
 use crate::lock_file::LockFile;
+use crate::range::keys_of;
 use crate::refused::{JoinError, Refused};
-use crate::row::{Row, Value};
+use crate::row::{END, Row, Value};
 use crate::stream::Address;
-use std::ops::Range;
+use std::fmt;
+use std::ops::RangeBounds;
 use std::path::Path;
 use std::sync::Arc;
 use std::sync::atomic::{AtomicU64, Ordering};
@@ -24,12 +27,13 @@ const MAX_TIMEOUT: Duration = Duration::from_secs(365 * 24 * 3600);
 const MAX_CLIENTS: u8 = 64;
 
 /// A client of a number from 0 to 63. Its calls may come from several threads; a thread of its own
-/// keeps the connection, makes it again where it breaks, and says again what is not answered.
+/// keeps the connection, makes it again when it breaks, and says again what is not answered.
 ///
-/// Where it is dropped, it says Bye and waits a second at most. What a process leaves behind that
-/// ends without a Bye keeps other clients waiting, until a client of its number joins again or it
-/// is evicted.
+/// When it is dropped, it says Bye, and waits a second at most until the server has kept that. What
+/// a process leaves behind that ends without a Bye keeps other clients waiting, until a client of
+/// its number joins again or it is evicted.
 pub struct Client {
+    number: u8,
     link: Arc<Link>,
     thread: Option<JoinHandle<()>>,
     /// In nanoseconds.
@@ -39,6 +43,7 @@ pub struct Client {
 }
 
 /// A pinned range: no other client takes away what the client holds of it, as long as this lives.
+#[must_use = "the range is free again as soon as this is dropped"]
 pub struct Pin<'c> {
     link: &'c Link,
     id: u64,
@@ -51,8 +56,9 @@ impl Client {
     ///
     /// # Errors
     ///
-    /// `BadNumber` above 63; `LockFile` where another process has the file, or it can't be used;
-    /// `NoThread`; `Refused` where memory is refused; `NoAnswer`.
+    /// `BadNumber` above 63; `LockFile` if another process has the file, or it can't be used;
+    /// `NoThread`; `Refused` if memory is refused; `NoAnswer`, with the reason if the connection
+    /// failed; `Stopped`.
     pub fn join(
         server: impl Into<Address>,
         number: u8,
@@ -92,13 +98,29 @@ impl Client {
         let handle = ClientHandle::open(number, incarnation).map_err(JoinError::Refused)?;
         let link = Arc::new(Link::new(server, Jobs::new(handle)));
         let run = Arc::clone(&link);
-        let thread =
-            thread::Builder::new().spawn(move || run.run()).map_err(JoinError::NoThread)?;
+        let thread = thread::Builder::new().name(format!("krl-client-{number}"));
+        let thread = thread.spawn(move || run.run()).map_err(JoinError::NoThread)?;
         let timeout = AtomicU64::new(nanoseconds(timeout));
-        let client = Client { link, thread: Some(thread), timeout, _lock_file: lock_file };
-        match client.run(Job::Join) {
-            Ok(_) => Ok(client),
-            Err(_) => Err(JoinError::NoAnswer),
+        let client = Client { number, link, thread: Some(thread), timeout, _lock_file: lock_file };
+        match client.ask(Jobs::join) {
+            Ok(()) => Ok(client),
+            Err(refused) => Err(client.not_joined(refused)),
+        }
+    }
+
+    /// Ends a client that has not joined: it says Bye, and waits for nothing.
+    fn not_joined(mut self, refused: Refused) -> JoinError {
+        let fault = self.link.take_fault();
+        let _ = self.end(Duration::ZERO);
+        match refused {
+            Refused::TimedOut => JoinError::NoAnswer(fault),
+            Refused::Stopped => JoinError::Stopped,
+            Refused::OutOfMemory => JoinError::Refused(Code::OutOfMemory),
+            Refused::Other(code) => JoinError::Refused(code),
+            // No other refusal is one of a join.
+            Refused::BadRange | Refused::BadKey | Refused::Pinned | Refused::TooManyPins => {
+                JoinError::Refused(Code::NotJoined)
+            }
         }
     }
 
@@ -113,32 +135,40 @@ impl Client {
         Duration::from_nanos(self.timeout.load(Ordering::Relaxed))
     }
 
-    /// The rows of the range: from the cache, with no message, where the client holds it; else it
-    /// locks what it lacks and waits. They are that range of the server's table at one moment of
-    /// the call.
+    /// The rows of the range: from the cache, with no message and no waiting, if the client holds
+    /// it; else it locks what it lacks and waits. They are that range of the server's table at one
+    /// moment of the call. An empty range has no rows.
     ///
     /// # Errors
     ///
-    /// `BadRange` where the range does not begin below its end, or ends above 2^63; `TimedOut`;
-    /// `OutOfMemory`.
-    pub fn read(&self, keys: Range<u64>) -> Result<Vec<Row>, Refused> {
-        match self.run(Job::Read(keys))? {
-            Answer::Rows(rows) => Ok(rows),
-            _ => Err(Refused::TimedOut),
+    /// `BadRange` if the range begins above its end, or ends above 2^63; `TimedOut`; `OutOfMemory`;
+    /// `Stopped`.
+    pub fn read(&self, keys: impl RangeBounds<u64>) -> Result<Vec<Row>, Refused> {
+        let keys = keys_of(&keys)?;
+        match self.cached(keys.clone()) {
+            Some(rows) => Ok(rows),
+            None => self.ask(|jobs| jobs.read(keys)),
         }
     }
 
-    /// The rows of the range where the cache covers it, else `None`. It sends nothing and waits for
+    /// The rows of the range if the cache covers it, else `None`. It sends nothing and waits for
     /// nobody. The rows are that range of the server's table at this moment, also while the server
-    /// is down.
-    pub fn cached(&self, keys: Range<u64>) -> Option<Vec<Row>> {
+    /// is down. An empty range has no rows; of a range that is none, as [`Client::read`] tells, the
+    /// cache knows nothing.
+    pub fn cached(&self, keys: impl RangeBounds<u64>) -> Option<Vec<Row>> {
         let mut rows = Vec::new();
         self.cached_into(keys, &mut rows).then_some(rows)
     }
 
-    /// The same, into `rows`, whose room is used again. Where the answer is `false`, the rows say
+    /// The same, into `rows`, whose room is used again. If the answer is `false`, the rows say
     /// nothing.
-    pub fn cached_into(&self, keys: Range<u64>, rows: &mut Vec<Row>) -> bool {
+    #[must_use]
+    pub fn cached_into(&self, keys: impl RangeBounds<u64>, rows: &mut Vec<Row>) -> bool {
+        let Ok(keys) = keys_of(&keys) else { return false };
+        if keys.is_empty() {
+            rows.clear();
+            return true;
+        }
         match self.link.jobs().scan(&keys, rows) {
             Ok(Scan::Rows(count)) => {
                 rows.truncate(count);
@@ -153,7 +183,7 @@ impl Client {
     /// # Errors
     ///
     /// `BadKey` for a key of 2^63 - 1 or more; `TimedOut`: then the table may have changed or may
-    /// still change; `OutOfMemory`.
+    /// still change; `OutOfMemory`; `Stopped`, of which the same holds.
     pub fn insert(&self, key: u64, value: Value) -> Result<Outcome, Refused> {
         self.write(Write::Insert(Row { key, value }))
     }
@@ -177,72 +207,77 @@ impl Client {
     }
 
     fn write(&self, write: Write) -> Result<Outcome, Refused> {
-        if !is_key(write.key()) {
+        if write.key() >= END {
             return Err(Refused::BadKey);
         }
-        match self.run(Job::Write(write))? {
-            Answer::Outcome(outcome) => Ok(outcome),
-            _ => Err(Refused::TimedOut),
-        }
+        self.ask(|jobs| jobs.write(write))
     }
 
     /// Pins the range: what the client holds of it, or is granted while the pin lives, no callback
-    /// and no forget takes. Other clients that want it wait until the pin is dropped. A client has
-    /// at most eight pins.
+    /// and no forget takes. Other clients that want it wait until the pin is dropped; what they
+    /// called back meanwhile the client then gives back. A client has at most eight pins.
     ///
     /// # Errors
     ///
-    /// `BadRange`; `TooManyPins`.
-    pub fn pin(&self, keys: Range<u64>) -> Result<Pin<'_>, Refused> {
-        let id = self.link.jobs().client.pin(&keys)?;
+    /// `BadRange` if the range is empty, begins above its end, or ends above 2^63; `TooManyPins`.
+    pub fn pin(&self, keys: impl RangeBounds<u64>) -> Result<Pin<'_>, Refused> {
+        let keys = keys_of(&keys)?;
+        let id = self.link.jobs().pin(keys)?;
         Ok(Pin { link: &self.link, id })
     }
 
-    /// Gives back what the client holds of the range. Where a write is on its way it waits for the
-    /// answer first.
+    /// Gives back what the client holds of the range. While a write is on its way it waits for the
+    /// answer first. Of an empty range there is nothing to give.
     ///
     /// # Errors
     ///
-    /// `BadRange`; `Pinned` where the range meets a pin; `TimedOut`; `OutOfMemory`.
-    pub fn forget(&self, keys: Range<u64>) -> Result<(), Refused> {
-        self.run(Job::Forget(keys)).map(drop)
+    /// `BadRange` if the range begins above its end, or ends above 2^63; `Pinned` if it meets a
+    /// pin; `TimedOut`; `OutOfMemory`; `Stopped`.
+    pub fn forget(&self, keys: impl RangeBounds<u64>) -> Result<(), Refused> {
+        let keys = keys_of(&keys)?;
+        if keys.is_empty() { Ok(()) } else { self.ask(|jobs| jobs.forget(keys)) }
     }
 
     /// Gives back all that the client holds, and waits until the server has kept that it left.
     ///
     /// # Errors
     ///
-    /// `TimedOut`: other clients may wait for what this one held then, until it is evicted.
+    /// `TimedOut`, `Stopped`: other clients may wait for what this one held then, until it is
+    /// evicted.
     pub fn leave(mut self) -> Result<(), Refused> {
         let timeout = self.timeout();
         self.end(timeout)
     }
 
-    fn run(&self, job: Job) -> Result<Answer, Refused> {
-        let id = self.link.jobs().add(job);
-        self.link.flush();
-        match self.link.wait(self.deadline(), |jobs| jobs.take(id)) {
-            Some(ended) => ended,
-            None => {
-                self.link.jobs().drop_job(id);
-                Err(Refused::TimedOut)
-            }
-        }
+    fn ask<T>(&self, ask: impl FnOnce(&mut Jobs) -> Asked<T>) -> Result<T, Refused> {
+        self.link.ask(Instant::now() + self.timeout(), ask)
     }
 
-    fn deadline(&self) -> Instant {
-        Instant::now() + self.timeout()
-    }
-
+    /// Leaves. A thread that hangs at the deadline ends by itself later, and says nothing more.
     fn end(&mut self, timeout: Duration) -> Result<(), Refused> {
         let Some(thread) = self.thread.take() else { return Ok(()) };
-        self.link.leave();
         let end = Instant::now() + timeout;
-        let gone = self.link.wait(end, |_| self.link.is_gone().then_some(()));
+        let left = self.link.ask(end, Jobs::leave);
         self.link.end();
-        // A panic of that thread has been told by itself.
-        let _ = thread.join();
-        gone.ok_or(Refused::TimedOut)
+        if self.link.has_ended(end) {
+            // A panic of that thread has been told by itself.
+            let _ = thread.join();
+        }
+        left
+    }
+}
+
+impl fmt::Debug for Client {
+    fn fmt(&self, f: &mut fmt::Formatter<'_>) -> fmt::Result {
+        let mut shown = f.debug_struct("Client");
+        shown.field("number", &self.number).field("server", self.link.address());
+        shown.field("timeout", &self.timeout()).finish_non_exhaustive()
+    }
+}
+
+impl fmt::Debug for Pin<'_> {
+    fn fmt(&self, f: &mut fmt::Formatter<'_>) -> fmt::Result {
+        f.debug_struct("Pin").field("id", &self.id).finish_non_exhaustive()
     }
 }
 
@@ -254,8 +289,8 @@ impl Drop for Client {
 
 impl Drop for Pin<'_> {
     fn drop(&mut self) {
-        // The pin is this one's, and a client that has left has none.
-        let _ = self.link.jobs().client.unpin(self.id);
+        self.link.jobs().unpin(self.id);
+        self.link.flush();
     }
 }
 
@@ -273,11 +308,12 @@ fn nanoseconds(timeout: Duration) -> u64 {
 ///
 /// # Errors
 ///
-/// Those of `Client::join`: `LockFile` where a process on this machine is that client.
+/// Those of `Client::join`: `LockFile` if a process on this machine is that client.
 pub fn evict(
     server: impl Into<Address>,
     number: u8,
     lock_file: impl AsRef<Path>,
 ) -> Result<(), JoinError> {
-    Client::join(server, number, lock_file)?.leave().map_err(|_| JoinError::NoAnswer)
+    let client = Client::join(server, number, lock_file)?;
+    client.leave().map_err(|_| JoinError::NoAnswer(None))
 }

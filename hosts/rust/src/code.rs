@@ -21,6 +21,8 @@ macro_rules! codes {
             }
         }
 
+        impl std::error::Error for Code {}
+
         impl fmt::Display for Code {
             fn fmt(&self, f: &mut fmt::Formatter<'_>) -> fmt::Result {
                 match self {

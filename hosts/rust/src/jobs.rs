@@ -2,35 +2,59 @@
 use crate::change::{Outcome, Write};
 use crate::code::Code;
 use crate::handle::{ClientHandle, Mode, Scan, Shown};
+use crate::message::called_back;
+use crate::pins::Pins;
 use crate::refused::Refused;
-use crate::row::{END, Row};
-use std::collections::BTreeMap;
+use crate::row::Row;
 use std::ops::Range;
+use std::sync::mpsc::{Receiver, SyncSender, sync_channel};
 
 /// The name of a job.
 pub(crate) type JobId = u64;
 
-/// Something that takes answers of the server.
-#[derive(Clone, Debug)]
-pub(crate) enum Job {
-    Join,
-    Read(Range<u64>),
-    Write(Write),
-    /// The write is on its way, under this number.
-    Written(Write, u64),
-    Forget(Range<u64>),
+/// A job that was asked for: its name, and where its answer comes.
+pub(crate) struct Asked<T> {
+    pub id: JobId,
+    pub answer: Receiver<Result<T, Refused>>,
 }
 
-/// What a job came to.
-#[derive(Clone, Debug, PartialEq, Eq)]
-pub(crate) enum Answer {
-    Joined,
-    Rows(Vec<Row>),
-    Outcome(Outcome),
-    Forgotten,
+/// Where the answer to a job goes, once.
+struct Reply<T>(SyncSender<Result<T, Refused>>);
+
+impl<T> Reply<T> {
+    fn end(self, answer: Result<T, Refused>) {
+        // One who waits no longer hears nothing.
+        let _ = self.0.send(answer);
+    }
+
+    /// Gives the answer, if there is one. Else the job goes on.
+    fn give(self, found: Result<Option<T>, Code>) -> Option<Reply<T>> {
+        match found.transpose() {
+            Some(answer) => {
+                self.end(answer.map_err(Refused::from));
+                None
+            }
+            None => Some(self),
+        }
+    }
 }
 
-pub(crate) type Ended = Result<Answer, Refused>;
+/// Something that takes answers of the server, with where its own answer goes.
+enum Job {
+    Join(Reply<()>),
+    Read(Range<u64>, Reply<Vec<Row>>),
+    Write(Write, Reply<Outcome>),
+    Forget(Range<u64>, Reply<()>),
+    Leave(Reply<()>),
+}
+
+/// The write that is on its way. A client has one at most.
+struct Written {
+    id: JobId,
+    write: Write,
+    number: u64,
+    reply: Reply<Outcome>,
+}
 
 /// Whether a job may ask for a lock just now.
 ///
@@ -43,112 +67,122 @@ pub(crate) enum Asking {
     Later,
 }
 
+/// Whether the client is still there.
+#[derive(Clone, Copy, Debug, PartialEq, Eq)]
+enum Stage {
+    Here,
+    /// It says Bye.
+    Leaving,
+    /// The server has said that the Bye is kept.
+    Gone,
+    /// Its thread has ended, and no job goes on.
+    Ended,
+}
+
 /// The client and its jobs. Each call of it takes microseconds, and none waits.
 pub(crate) struct Jobs {
-    pub client: ClientHandle,
+    client: ClientHandle,
     /// In the order in which they came.
-    open: BTreeMap<JobId, Job>,
-    ended: BTreeMap<JobId, Ended>,
+    open: Vec<(JobId, Job)>,
+    written: Option<Written>,
     next: JobId,
     /// The job for which the last lock was asked.
     asker: Option<JobId>,
     asking: Asking,
     room: Vec<Row>,
+    pins: Pins,
+    /// What was called back while it was pinned, and is no more.
+    owed: Vec<Range<u64>>,
+    stage: Stage,
 }
 
 impl Jobs {
     pub fn new(client: ClientHandle) -> Jobs {
-        let (open, ended) = (BTreeMap::new(), BTreeMap::new());
-        let room = vec![Row::default(); 64];
-        Jobs { client, open, ended, next: 0, asker: None, asking: Asking::Allowed, room }
+        Jobs {
+            client,
+            open: Vec::new(),
+            written: None,
+            next: 0,
+            asker: None,
+            asking: Asking::Allowed,
+            room: vec![Row::default(); 64],
+            pins: Pins::default(),
+            owed: Vec::new(),
+            stage: Stage::Here,
+        }
     }
 
-    pub fn add(&mut self, job: Job) -> JobId {
+    /// Waits until the server has said its epoch.
+    pub fn join(&mut self) -> Asked<()> {
+        self.add(Job::Join)
+    }
+
+    /// The rows of a range that is not empty.
+    pub fn read(&mut self, keys: Range<u64>) -> Asked<Vec<Row>> {
+        self.add(|reply| Job::Read(keys, reply))
+    }
+
+    pub fn write(&mut self, write: Write) -> Asked<Outcome> {
+        self.add(|reply| Job::Write(write, reply))
+    }
+
+    /// Gives back a range that is not empty.
+    pub fn forget(&mut self, keys: Range<u64>) -> Asked<()> {
+        self.add(|reply| Job::Forget(keys, reply))
+    }
+
+    /// Says Bye, and says it again with each tick until the server has kept it.
+    pub fn leave(&mut self) -> Asked<()> {
+        if self.stage == Stage::Here {
+            self.stage = Stage::Leaving;
+            // If there is no memory for it just now, the next tick says it.
+            let _ = self.client.leave();
+        }
+        self.add(Job::Leave)
+    }
+
+    fn add<T>(&mut self, job: impl FnOnce(Reply<T>) -> Job) -> Asked<T> {
         self.next += 1;
-        self.open.insert(self.next, job);
-        self.advance(Asking::Allowed);
-        self.next
-    }
-
-    /// What the job came to, once.
-    pub fn take(&mut self, job: JobId) -> Option<Ended> {
-        self.ended.remove(&job)
+        let (reply, answer) = sync_channel(1);
+        if self.stage != Stage::Ended {
+            self.open.push((self.next, job(Reply(reply))));
+            self.advance(Asking::Allowed);
+        }
+        Asked { id: self.next, answer }
     }
 
     /// Nobody waits for the job any more.
-    pub fn drop_job(&mut self, job: JobId) {
-        self.open.remove(&job);
-        self.ended.remove(&job);
+    pub fn abandon(&mut self, job: JobId) {
+        self.open.retain(|(id, _)| *id != job);
+        self.written.take_if(|written| written.id == job);
     }
 
+    /// The client's thread has ended: no job goes on, and whoever waits for one hears that.
+    pub fn end(&mut self) {
+        self.stage = Stage::Ended;
+        self.open.clear();
+        self.written = None;
+    }
+
+    /// Whether something is asked that the server has not answered.
     pub fn are_open(&self) -> bool {
-        !self.open.is_empty()
+        let is_asked = !self.open.is_empty() || self.written.is_some() || !self.owed.is_empty();
+        is_asked || self.stage == Stage::Leaving
     }
 
-    /// Goes on with every job as far as it comes without another message. It answers whether one
-    /// ended.
-    pub fn advance(&mut self, asking: Asking) -> bool {
-        self.asking = asking;
-        let before = self.ended.len();
-        if let Ok(shown) = self.client.status() {
-            self.end_written(&shown);
-        }
-        let jobs: Vec<JobId> = self.open.keys().copied().collect();
-        for id in jobs {
-            if let Some(job) = self.open.remove(&id) {
-                self.advance_one(id, job);
-            }
-        }
-        self.ended.len() > before
+    /// Pins a range that is not empty, and says the pin's name.
+    pub fn pin(&mut self, keys: Range<u64>) -> Result<u64, Code> {
+        let id = self.client.pin(&keys)?;
+        self.pins.add(id, keys);
+        Ok(id)
     }
 
-    /// Ends the job whose write was judged, before another write takes its place.
-    fn end_written(&mut self, shown: &Shown) {
-        let Some(outcome) = shown.outcome else { return };
-        let written = self.open.iter().find_map(|(id, job)| match job {
-            Job::Written(write, number) if *number == shown.number => Some((*id, *write)),
-            _ => None,
-        });
-        match written {
-            // The table was the server's to judge by: the client asks for what it lacks, and writes
-            // again.
-            Some((id, write)) if outcome == Outcome::NotHeld => {
-                self.open.insert(id, Job::Write(write));
-            }
-            Some((id, _)) => {
-                self.open.remove(&id);
-                self.ended.insert(id, Ok(Answer::Outcome(outcome)));
-            }
-            None => {}
-        }
-    }
-
-    fn advance_one(&mut self, id: JobId, job: Job) {
-        let ended = match &job {
-            Job::Join => {
-                self.client.status().map(|shown| shown.is_joined.then_some(Answer::Joined))
-            }
-            Job::Read(keys) => self.read(id, keys).map(|rows| rows.map(Answer::Rows)),
-            Job::Write(write) => match self.write(id, write) {
-                Ok(Step::Sent(number)) => {
-                    self.open.insert(id, Job::Written(*write, number));
-                    return;
-                }
-                Ok(Step::Waits) => Ok(None),
-                Ok(Step::Known(outcome)) => Ok(Some(Answer::Outcome(outcome))),
-                Err(code) => Err(code),
-            },
-            Job::Written(..) => Ok(None),
-            Job::Forget(keys) => self.forget(keys).map(|done| done.then_some(Answer::Forgotten)),
-        };
-        match ended.transpose() {
-            Some(ended) => {
-                self.ended.insert(id, ended.map_err(Refused::from));
-            }
-            None => {
-                self.open.insert(id, job);
-            }
-        }
+    /// Frees a pin, and gives back what was called back meanwhile.
+    pub fn unpin(&mut self, id: u64) {
+        // The pin is there, and a client that has left has none.
+        let _ = self.client.unpin(id);
+        self.owed.extend(self.pins.remove(id));
+        self.give_back();
     }
 
     /// The rows of the range, from the cache.
@@ -161,7 +195,107 @@ impl Jobs {
         }
     }
 
-    fn read(&mut self, id: JobId, keys: &Range<u64>) -> Result<Option<Vec<Row>>, Code> {
+    /// Gives the client a message of the server, and goes on with its jobs at once: a callback
+    /// behind it may take away what it gave.
+    pub fn hear(&mut self, message: &[u8]) -> Result<(), Code> {
+        if message.is_empty() {
+            if self.stage == Stage::Leaving {
+                self.stage = Stage::Gone;
+            }
+        } else {
+            if let Some(span) = called_back(message) {
+                self.pins.note(&span);
+            }
+            match self.client.step(message) {
+                // If memory was refused the message is as good as lost, and a client that has left
+                // hears nothing.
+                Ok(()) | Err(Code::OutOfMemory | Code::Gone) => {}
+                Err(code) => return Err(code),
+            }
+        }
+        self.advance(Asking::Later);
+        Ok(())
+    }
+
+    /// Says again what is not answered. A tick for which there is no memory is a message that is
+    /// lost.
+    pub fn tick(&mut self) {
+        let _ = match self.stage {
+            Stage::Here => self.client.tick(),
+            Stage::Leaving => self.client.leave(),
+            Stage::Gone | Stage::Ended => Ok(()),
+        };
+    }
+
+    /// Appends what the client says. What there is no memory for is lost, and a tick says it again.
+    pub fn take(&mut self, frames: &mut Vec<u8>) {
+        let _ = self.client.take(frames);
+    }
+
+    /// Goes on with every job as far as it comes without another message.
+    pub fn advance(&mut self, asking: Asking) {
+        self.asking = asking;
+        if let Ok(shown) = self.client.status() {
+            self.end_written(&shown);
+        }
+        for (id, job) in std::mem::take(&mut self.open) {
+            if let Some(job) = self.advance_one(id, job) {
+                self.open.push((id, job));
+            }
+        }
+        self.give_back();
+    }
+
+    /// Ends the job whose write was judged, before another write takes its place.
+    fn end_written(&mut self, shown: &Shown) {
+        let Some(outcome) = shown.outcome else { return };
+        let judged = self.written.take_if(|written| written.number == shown.number);
+        let Some(Written { id, write, reply, .. }) = judged else { return };
+        if outcome == Outcome::NotHeld {
+            // The table was the server's to judge by: the client asks for what it lacks, and writes
+            // again.
+            let place = self.open.partition_point(|(other, _)| *other < id);
+            self.open.insert(place, (id, Job::Write(write, reply)));
+        } else {
+            reply.end(Ok(outcome));
+        }
+    }
+
+    /// The job as far as it has come, unless it has ended or its write is on its way.
+    fn advance_one(&mut self, id: JobId, job: Job) -> Option<Job> {
+        match job {
+            Job::Join(reply) => {
+                let shown = self.client.status();
+                reply.give(shown.map(|shown| shown.is_joined.then_some(()))).map(Job::Join)
+            }
+            Job::Read(keys, reply) => {
+                let rows = self.try_read(id, &keys);
+                reply.give(rows).map(|reply| Job::Read(keys, reply))
+            }
+            Job::Write(write, reply) => self.advance_write(id, write, reply),
+            Job::Forget(keys, reply) => {
+                let is_done = self.try_forget(&keys);
+                let done = is_done.map(|is_done| is_done.then_some(()));
+                reply.give(done).map(|reply| Job::Forget(keys, reply))
+            }
+            Job::Leave(reply) => {
+                let is_gone = self.stage == Stage::Gone;
+                reply.give(Ok(is_gone.then_some(()))).map(Job::Leave)
+            }
+        }
+    }
+
+    fn advance_write(&mut self, id: JobId, write: Write, reply: Reply<Outcome>) -> Option<Job> {
+        match self.try_write(id, &write) {
+            Ok(Step::Waits) => return Some(Job::Write(write, reply)),
+            Ok(Step::Sent(number)) => self.written = Some(Written { id, write, number, reply }),
+            Ok(Step::Known(outcome)) => reply.end(Ok(outcome)),
+            Err(code) => reply.end(Err(code.into())),
+        }
+        None
+    }
+
+    fn try_read(&mut self, id: JobId, keys: &Range<u64>) -> Result<Option<Vec<Row>>, Code> {
         let mut room = std::mem::take(&mut self.room);
         let found = self.scan(keys, &mut room);
         let rows = match found {
@@ -174,7 +308,7 @@ impl Jobs {
         rows
     }
 
-    fn write(&mut self, id: JobId, write: &Write) -> Result<Step, Code> {
+    fn try_write(&mut self, id: JobId, write: &Write) -> Result<Step, Code> {
         if self.asker == Some(id) && self.is_told_absent(write) {
             self.asker = None;
             return Ok(Step::Known(Outcome::Absent));
@@ -200,8 +334,8 @@ impl Jobs {
             Write::Put(_) => (key..key + 1, Mode::X),
             // The client reads this point, and there is no entry.
             Write::Delete(_) if self.is_empty_at(key) => return Ok(Step::Known(Outcome::Absent)),
-            // It takes the entry and the gap behind it. The second slot is asked for by itself
-            // where it was not free.
+            // It takes the entry and the gap behind it. The second slot is asked for by itself if
+            // it was not free.
             Write::Delete(_) if self.client.has_all(key) => (key + 1..key + 2, Mode::RangeXX),
             Write::Delete(_) => (key..key + 2, Mode::RangeXX),
         };
@@ -229,11 +363,26 @@ impl Jobs {
         }
     }
 
-    fn forget(&mut self, keys: &Range<u64>) -> Result<bool, Code> {
+    /// Gives back what the client holds of the keys, if nothing hinders it just now.
+    fn try_forget(&mut self, keys: &Range<u64>) -> Result<bool, Code> {
         match self.client.forget(keys) {
             Ok(()) => Ok(true),
             Err(Code::Writing | Code::NotJoined) => Ok(false),
             Err(code) => Err(code),
+        }
+    }
+
+    /// Gives back what was called back while it was pinned, as far as no other pin has it and
+    /// nothing hinders it just now.
+    fn give_back(&mut self) {
+        for span in std::mem::take(&mut self.owed) {
+            for part in self.pins.free_parts(span) {
+                // If memory is refused, the next call comes back to it. Nothing else refuses it.
+                let is_done = self.try_forget(&part).unwrap_or_else(|code| code == Code::Gone);
+                if !is_done {
+                    self.owed.push(part);
+                }
+            }
         }
     }
 }
@@ -245,7 +394,5 @@ enum Step {
     Known(Outcome),
 }
 
-/// Whether a write of this key can be made at all.
-pub(crate) fn is_key(key: u64) -> bool {
-    key < END
-}
+#[cfg(test)]
+mod tests;

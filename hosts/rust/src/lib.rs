@@ -17,6 +17,7 @@
 //! client.leave()?;
 //! # Ok::<(), Box<dyn std::error::Error>>(())
 //! ```
+mod backoff;
 mod builder;
 mod change;
 mod client;
@@ -30,6 +31,8 @@ mod jobs;
 mod link;
 mod lock_file;
 mod message;
+mod pins;
+mod range;
 mod refused;
 mod routing;
 mod row;
@@ -40,6 +43,7 @@ mod status;
 mod store;
 mod stream;
 mod watch;
+mod writer;
 
 pub use builder::ClientBuilder;
 pub use change::{Change, Outcome, Record, Snapshot, Write};

@@ -1,46 +1,51 @@
 //! The thread of a client that keeps its connection, and what it shares with the callers.
+use crate::backoff::Backoff;
 use crate::code::Code;
 use crate::frames::{Frames, LONGEST_TO_CLIENT};
-use crate::jobs::{Asking, Jobs};
+use crate::jobs::{Asked, Asking, Jobs};
+use crate::refused::Refused;
 use crate::stream::{Address, Stream};
-use std::io::{ErrorKind, Write};
-use std::sync::atomic::{AtomicBool, Ordering};
+use crate::writer::{ATTEMPT, Writer};
+use std::convert::Infallible;
+use std::io::{self, ErrorKind};
+use std::sync::mpsc::RecvTimeoutError;
 use std::sync::{Condvar, Mutex, MutexGuard, PoisonError};
-use std::thread;
 use std::time::{Duration, Instant};
 
-/// How long a connection may take to be made, and the pause before another attempt: the first one,
-/// and the longest.
+/// How long a connection may take to be made.
 const CONNECT: Duration = Duration::from_secs(1);
-const PAUSE: Duration = Duration::from_millis(5);
-const LONGEST_PAUSE: Duration = Duration::from_millis(100);
 
 /// How often a client says again what is not answered, and how often it says that it is there.
 const BUSY_TICK: Duration = Duration::from_millis(20);
 const IDLE_TICK: Duration = Duration::from_millis(250);
 
-/// A server that takes nothing for so long loses the connection.
-const STALL: Duration = Duration::from_secs(5);
-
 /// What the thread of the connection and the callers share.
 ///
-/// `writer` is taken before `jobs` and never after it, and no stream is touched while `jobs` is
-/// held: so a scan of the cache waits for no network.
+/// The writer's locks are taken before `jobs` and never after it, and no stream is touched while
+/// `jobs` is held: so a scan of the cache waits for no network.
 pub(crate) struct Link {
     address: Address,
     jobs: Mutex<Jobs>,
+    writer: Writer,
+    thread: Mutex<Thread>,
     changed: Condvar,
-    writer: Mutex<Writer>,
-    is_ending: AtomicBool,
-    is_leaving: AtomicBool,
-    /// The server has said that the Bye is kept.
-    is_gone: AtomicBool,
+    /// Why there is no connection, if there is none.
+    fault: Mutex<Option<io::Error>>,
 }
 
-#[derive(Default)]
-struct Writer {
-    stream: Option<Stream>,
-    frames: Vec<u8>,
+/// The state of the thread of the connection.
+#[derive(Clone, Copy, Debug, PartialEq, Eq)]
+enum Thread {
+    Runs,
+    IsToEnd,
+    HasEnded,
+}
+
+/// How a connection went.
+struct Served {
+    /// A message came.
+    was_answered: bool,
+    end: io::Error,
 }
 
 impl Link {
@@ -48,181 +53,236 @@ impl Link {
         Link {
             address,
             jobs: Mutex::new(jobs),
+            writer: Writer::default(),
+            thread: Mutex::new(Thread::Runs),
             changed: Condvar::new(),
-            writer: Mutex::default(),
-            is_ending: AtomicBool::new(false),
-            is_leaving: AtomicBool::new(false),
-            is_gone: AtomicBool::new(false),
+            fault: Mutex::default(),
         }
+    }
+
+    /// Where the server is.
+    pub fn address(&self) -> &Address {
+        &self.address
     }
 
     pub fn jobs(&self) -> MutexGuard<'_, Jobs> {
-        self.jobs.lock().unwrap_or_else(PoisonError::into_inner)
+        lock(&self.jobs)
     }
 
-    fn writer(&self) -> MutexGuard<'_, Writer> {
-        self.writer.lock().unwrap_or_else(PoisonError::into_inner)
-    }
-
-    /// Waits until `found` finds something, or until the deadline.
-    pub fn wait<T>(
+    /// Asks for something, and waits for the answer until the deadline.
+    pub fn ask<T>(
         &self,
         end: Instant,
-        mut found: impl FnMut(&mut Jobs) -> Option<T>,
-    ) -> Option<T> {
-        let mut jobs = self.jobs();
-        loop {
-            if let Some(it) = found(&mut jobs) {
-                return Some(it);
-            }
-            let left = end.checked_duration_since(Instant::now())?;
-            let woken = self.changed.wait_timeout(jobs, left);
-            jobs = woken.unwrap_or_else(PoisonError::into_inner).0;
-        }
-    }
-
-    /// Sends what the client says. What can't be sent is lost: a tick says it again.
-    pub fn flush(&self) {
-        let mut writer = self.writer();
-        let Writer { stream, frames } = &mut *writer;
-        frames.clear();
-        let taken = self.jobs().client.take(frames);
-        if taken.is_err() || frames.is_empty() {
-            return;
-        }
-        let Some(open) = stream else { return };
-        if open.write_all(frames).is_err() {
-            // Half a message may be on its way.
-            open.shut();
-            *stream = None;
-        }
-    }
-
-    /// Says Bye, and says it again with each tick.
-    pub fn leave(&self) {
-        self.is_leaving.store(true, Ordering::Release);
-        // Where there is no memory for it just now, the next tick says it.
-        let _ = self.jobs().client.leave();
+        ask: impl FnOnce(&mut Jobs) -> Asked<T>,
+    ) -> Result<T, Refused> {
+        let asked = ask(&mut self.jobs());
         self.flush();
-    }
-
-    pub fn is_gone(&self) -> bool {
-        self.is_gone.load(Ordering::Acquire)
-    }
-
-    /// Ends the thread.
-    pub fn end(&self) {
-        self.is_ending.store(true, Ordering::Release);
-        if let Some(stream) = &self.writer().stream {
-            stream.shut();
+        match asked.answer.recv_timeout(end.saturating_duration_since(Instant::now())) {
+            Ok(answer) => answer,
+            Err(RecvTimeoutError::Disconnected) => Err(Refused::Stopped),
+            Err(RecvTimeoutError::Timeout) => {
+                self.jobs().abandon(asked.id);
+                // It may have come meanwhile.
+                asked.answer.try_recv().unwrap_or(Err(Refused::TimedOut))
+            }
         }
+    }
+
+    /// Sends what the client says, as far as the connection takes it at once. What can't be sent is
+    /// lost: a tick says it again.
+    pub fn flush(&self) {
+        self.writer.put(|frames| self.jobs().take(frames));
+        self.writer.write();
+    }
+
+    /// Why there is no connection just now, if there is none. It is said once.
+    pub fn take_fault(&self) -> Option<io::Error> {
+        lock(&self.fault).take()
+    }
+
+    /// Tells the thread to end.
+    pub fn end(&self) {
+        let mut thread = lock(&self.thread);
+        if *thread == Thread::Runs {
+            *thread = Thread::IsToEnd;
+        }
+        drop(thread);
+        self.changed.notify_all();
+        self.writer.close();
+    }
+
+    /// Waits until the thread has ended, or until the deadline. It answers whether it has.
+    pub fn has_ended(&self, end: Instant) -> bool {
+        let left = end.saturating_duration_since(Instant::now());
+        let waited = self
+            .changed
+            .wait_timeout_while(lock(&self.thread), left, |thread| *thread != Thread::HasEnded);
+        !waited.unwrap_or_else(PoisonError::into_inner).1.timed_out()
     }
 
     /// Keeps the connection until the client ends.
     pub fn run(&self) {
-        let mut pause = PAUSE;
-        while !self.is_ending() {
-            if let Ok(stream) = self.connect() {
-                self.serve(stream);
-                self.writer().stream = None;
-                pause = PAUSE;
-            }
-            if !self.is_ending() {
-                thread::sleep(pause);
-                pause = LONGEST_PAUSE.min(2 * pause);
-            }
+        let _ended = Ended(self);
+        let mut backoff = Backoff::new();
+        while self.runs() {
+            let served = self.connect().map(|stream| self.serve(stream));
+            self.writer.close();
+            let fault = match served {
+                Ok(Served { was_answered, end }) => {
+                    if was_answered {
+                        backoff.reset();
+                    }
+                    end
+                }
+                Err(error) => error,
+            };
+            *lock(&self.fault) = Some(fault);
+            self.rest(backoff.pause());
         }
     }
 
-    fn is_ending(&self) -> bool {
-        self.is_ending.load(Ordering::Acquire)
+    fn runs(&self) -> bool {
+        *lock(&self.thread) == Thread::Runs
     }
 
-    fn connect(&self) -> std::io::Result<Stream> {
+    /// Waits so long, or until the client ends.
+    fn rest(&self, pause: Duration) {
+        let thread = lock(&self.thread);
+        let waited =
+            self.changed.wait_timeout_while(thread, pause, |thread| *thread == Thread::Runs);
+        drop(waited.unwrap_or_else(PoisonError::into_inner));
+    }
+
+    fn connect(&self) -> io::Result<Stream> {
         let stream = Stream::connect(&self.address, CONNECT)?;
-        stream.set_timeouts(BUSY_TICK, STALL)?;
-        let out = stream.try_clone()?;
-        self.writer().stream = Some(out);
+        stream.set_timeouts(BUSY_TICK, ATTEMPT)?;
+        self.writer.open(stream.try_clone()?);
+        *lock(&self.fault) = None;
         Ok(stream)
     }
 
     /// Hears what the server says, until the connection ends.
-    fn serve(&self, mut stream: Stream) {
+    fn serve(&self, mut stream: Stream) -> Served {
+        let mut was_answered = false;
+        let Err(end) = self.turns(&mut stream, &mut was_answered);
+        stream.shut();
+        Served { was_answered, end }
+    }
+
+    /// Takes what the server says and ticks, until the connection ends.
+    fn turns(&self, stream: &mut Stream, was_answered: &mut bool) -> io::Result<Infallible> {
         let mut frames = Frames::new(LONGEST_TO_CLIENT);
-        let mut ticked = self.tick();
-        while !self.is_ending() {
-            match frames.fill(&mut stream) {
-                Ok(0) => return,
-                Ok(_) => {}
-                Err(error) if is_silence(error.kind()) => {}
-                Err(_) => return,
-            }
-            while let Ok(Some(message)) = frames.next() {
-                if self.hear(message).is_err() {
-                    return stream.shut();
-                }
-            }
-            if frames.is_broken() {
-                return stream.shut();
-            }
-            self.advance(Asking::Allowed);
-            if ticked.elapsed() > self.pace() {
-                ticked = self.tick();
+        let mut ticked: Option<Instant> = None;
+        while self.runs() {
+            if ticked.is_none_or(|ticked| ticked.elapsed() > self.pace()) {
+                self.jobs().tick();
+                ticked = Some(Instant::now());
             }
             self.flush();
-        }
-    }
-
-    /// Gives the client a message, and goes on with its jobs at once: a callback behind it may take
-    /// away what it gave.
-    fn hear(&self, message: &[u8]) -> Result<(), Code> {
-        if message.is_empty() {
-            if self.is_leaving.load(Ordering::Acquire) {
-                self.is_gone.store(true, Ordering::Release);
-                let _jobs = self.jobs();
-                self.changed.notify_all();
+            match frames.fill(stream) {
+                Ok(0) => return Err(ErrorKind::UnexpectedEof.into()),
+                Ok(_) => {}
+                Err(error) if is_silence(error.kind()) => {}
+                Err(error) => return Err(error),
             }
-            return Ok(());
+            *was_answered |= self.hear_all(&mut frames)?;
+            self.jobs().advance(Asking::Allowed);
         }
-        let mut jobs = self.jobs();
-        match jobs.client.step(message) {
-            // Where memory was refused the message is as good as lost, and a client that has left
-            // hears nothing.
-            Ok(()) | Err(Code::OutOfMemory | Code::Gone) => {}
-            Err(code) => return Err(code),
-        }
-        if jobs.advance(Asking::Later) {
-            self.changed.notify_all();
-        }
-        Ok(())
+        Err(ErrorKind::Interrupted.into())
     }
 
-    fn advance(&self, asking: Asking) {
-        if self.jobs().advance(asking) {
-            self.changed.notify_all();
+    /// Gives the client what came. It answers whether something did.
+    fn hear_all(&self, frames: &mut Frames) -> io::Result<bool> {
+        let mut was_answered = false;
+        while let Ok(Some(message)) = frames.next() {
+            self.jobs().hear(message).map_err(bad_message)?;
+            was_answered = true;
         }
+        if frames.is_broken() { Err(bad_message(Code::BadMessage)) } else { Ok(was_answered) }
     }
 
     fn pace(&self) -> Duration {
-        let is_busy = self.is_leaving.load(Ordering::Acquire) || self.jobs().are_open();
-        if is_busy { BUSY_TICK } else { IDLE_TICK }
+        if self.jobs().are_open() { BUSY_TICK } else { IDLE_TICK }
     }
+}
 
-    /// Says again what is not answered. A tick for which there is no memory is a message that is
-    /// lost.
-    fn tick(&self) -> Instant {
-        let mut jobs = self.jobs();
-        let _ = match self.is_leaving.load(Ordering::Acquire) {
-            true => jobs.client.leave(),
-            false => jobs.client.tick(),
-        };
-        drop(jobs);
-        self.flush();
-        Instant::now()
+/// Says that the thread has ended, also if it panics: nobody waits for it then.
+struct Ended<'l>(&'l Link);
+
+impl Drop for Ended<'_> {
+    fn drop(&mut self) {
+        self.0.writer.close();
+        self.0.jobs().end();
+        *lock(&self.0.thread) = Thread::HasEnded;
+        self.0.changed.notify_all();
     }
+}
+
+fn lock<T>(mutex: &Mutex<T>) -> MutexGuard<'_, T> {
+    mutex.lock().unwrap_or_else(PoisonError::into_inner)
+}
+
+fn bad_message(code: Code) -> io::Error {
+    io::Error::new(ErrorKind::InvalidData, format!("the server says what no server says: {code}"))
 }
 
 /// Whether nothing came in time, which is no fault of the connection.
 fn is_silence(kind: ErrorKind) -> bool {
     matches!(kind, ErrorKind::WouldBlock | ErrorKind::TimedOut | ErrorKind::Interrupted)
+}
+
+#[cfg(test)]
+mod tests {
+    use super::*;
+    use crate::handle::ClientHandle;
+    use std::os::unix::net::UnixStream;
+
+    const SHORT: Duration = Duration::from_millis(100);
+
+    fn link() -> Link {
+        Link::new("unix:nowhere".parse().unwrap(), Jobs::new(ClientHandle::open(1, 1).unwrap()))
+    }
+
+    #[test]
+    fn a_peer_that_takes_nothing_holds_no_call_beyond_its_deadline() {
+        let (link, (ours, _theirs)) = (link(), UnixStream::pair().unwrap());
+        let stream = Stream::Unix(ours);
+        stream.set_timeouts(BUSY_TICK, ATTEMPT).unwrap();
+        link.writer.open(stream);
+        link.writer.put(|frames| frames.resize(1 << 21, 0));
+        std::thread::scope(|scope| {
+            for _ in 0..8 {
+                scope.spawn(|| {
+                    let begun = Instant::now();
+                    let read = link.ask(begun + SHORT, |jobs| jobs.read(0..9));
+                    assert_eq!(read, Err(Refused::TimedOut));
+                    assert!(begun.elapsed() < 3 * SHORT, "{:?}", begun.elapsed());
+                });
+            }
+            let begun = Instant::now();
+            for _ in 0..1000 {
+                assert!(link.jobs().scan(&(0..9), &mut Vec::new()).is_ok());
+            }
+            assert!(begun.elapsed() < SHORT, "a look into the cache waits for no stream");
+        });
+    }
+
+    #[test]
+    fn callers_hear_that_the_thread_has_panicked() {
+        let link = link();
+        std::thread::scope(|scope| {
+            let read =
+                scope.spawn(|| link.ask(Instant::now() + 50 * SHORT, |jobs| jobs.read(0..9)));
+            std::thread::sleep(SHORT);
+            let panicked = scope.spawn(|| {
+                let _ended = Ended(&link);
+                panic!("the test's");
+            });
+            assert!(panicked.join().is_err());
+            assert_eq!(read.join().unwrap(), Err(Refused::Stopped));
+        });
+        assert!(link.has_ended(Instant::now()));
+        let later = link.ask(Instant::now() + 50 * SHORT, |jobs| jobs.read(0..9));
+        assert_eq!(later, Err(Refused::Stopped));
+    }
 }

@@ -97,7 +97,14 @@ impl fmt::Display for LockFileError {
     }
 }
 
-impl std::error::Error for LockFileError {}
+impl std::error::Error for LockFileError {
+    fn source(&self) -> Option<&(dyn std::error::Error + 'static)> {
+        match self {
+            LockFileError::File(error) => Some(error),
+            LockFileError::Taken | LockFileError::Strange => None,
+        }
+    }
+}
 
 impl From<io::Error> for LockFileError {
     fn from(error: io::Error) -> LockFileError {

@@ -1,5 +1,7 @@
 //! The fields of messages that a host looks at. `docs/WIRE.md` has the table.
 
+use std::ops::Range;
+
 /// What a message is about, as far as a host cares.
 #[derive(Clone, Copy, Debug, PartialEq, Eq)]
 pub(crate) enum Kind {
@@ -17,6 +19,15 @@ pub(crate) fn client_of(message: &[u8]) -> Option<u8> {
 /// The incarnation of the client that a message names.
 pub(crate) fn incarnation_of(message: &[u8]) -> Option<u64> {
     number(message, 10)
+}
+
+/// The points that a message to a client calls back, if it is a callback.
+pub(crate) fn called_back(message: &[u8]) -> Option<Range<u64>> {
+    const CALLBACK: u8 = 20;
+    if message.get(1) != Some(&CALLBACK) {
+        return None;
+    }
+    Some(number(message, 26)?..number(message, 34)?)
 }
 
 /// What the message is about. Only of messages that the library wrote or took.
@@ -49,6 +60,19 @@ mod tests {
         }
         assert_eq!(kind_of(&[]), Kind::Other);
         assert_eq!(incarnation_of(&[1; 17]), None);
+    }
+
+    #[test]
+    fn a_callback_has_its_span() {
+        let mut message = vec![1, 20];
+        for number in [3u64, 2, 1, 100, 200] {
+            message.extend_from_slice(&number.to_le_bytes());
+        }
+        message.push(0);
+        assert_eq!(called_back(&message), Some(100..200));
+        assert_eq!(called_back(&message[..40]), None);
+        message[1] = 17;
+        assert_eq!(called_back(&message), None);
     }
 
     #[test]

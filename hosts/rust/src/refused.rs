@@ -12,7 +12,10 @@ pub enum Refused {
     /// seen. A write may have changed the table or may still change it: the client goes on to ask
     /// for it, until it is answered or the client is gone.
     TimedOut,
-    /// The range does not begin below its end, or ends above 2^63.
+    /// The client's own thread has ended by a panic: it answers nothing more but from its cache. A
+    /// write that was not answered may have changed the table.
+    Stopped,
+    /// The range begins above its end, ends above 2^63, or is empty and may not be.
     BadRange,
     /// A key of 2^63 - 1 or more.
     BadKey,
@@ -36,9 +39,11 @@ pub enum JoinError {
     BadNumber,
     /// A builder was not told this.
     Incomplete(&'static str),
-    /// The server did not answer within the client's timeout. There is none, or it knows a greater
-    /// incarnation of this number.
-    NoAnswer,
+    /// The server did not answer within the client's timeout. There is none, which the error of the
+    /// connection shows; or it recovers, or knows a greater incarnation of this number.
+    NoAnswer(Option<io::Error>),
+    /// The client's own thread has ended by a panic.
+    Stopped,
     /// The system has no thread for the client's connection.
     NoThread(io::Error),
     /// The library refused the start.
@@ -62,9 +67,10 @@ impl fmt::Display for Refused {
     fn fmt(&self, f: &mut fmt::Formatter<'_>) -> fmt::Result {
         match self {
             Refused::TimedOut => f.write_str("no answer came in time"),
-            Refused::BadRange => {
-                f.write_str("the range does not begin below its end, or ends above 2^63")
-            }
+            Refused::Stopped => f.write_str("the client's thread has panicked"),
+            Refused::BadRange => f.write_str(
+                "a range of keys may not begin above its end, nor end above 2^63, and a pin's is not empty",
+            ),
             Refused::BadKey => f.write_str("the key is 2^63 - 1 or more"),
             Refused::Pinned => f.write_str("the range meets a pin"),
             Refused::TooManyPins => f.write_str("the client has eight pins"),
@@ -80,16 +86,37 @@ impl fmt::Display for JoinError {
             JoinError::LockFile(error) => error.fmt(f),
             JoinError::BadNumber => f.write_str("a client's number is 0 to 63"),
             JoinError::Incomplete(what) => write!(f, "a client can't join without {what}"),
-            JoinError::NoAnswer => f.write_str("the server did not answer in time"),
+            JoinError::NoAnswer(None) => f.write_str("the server did not answer in time"),
+            JoinError::NoAnswer(Some(error)) => {
+                write!(f, "the server did not answer in time: {error}")
+            }
+            JoinError::Stopped => f.write_str("the client's thread has panicked"),
             JoinError::NoThread(error) => write!(f, "the client gets no thread: {error}"),
             JoinError::Refused(code) => code.fmt(f),
         }
     }
 }
 
-impl std::error::Error for Refused {}
+impl std::error::Error for Refused {
+    fn source(&self) -> Option<&(dyn std::error::Error + 'static)> {
+        match self {
+            Refused::Other(code) => Some(code),
+            _ => None,
+        }
+    }
+}
 
-impl std::error::Error for JoinError {}
+impl std::error::Error for JoinError {
+    fn source(&self) -> Option<&(dyn std::error::Error + 'static)> {
+        match self {
+            JoinError::LockFile(error) => Some(error),
+            JoinError::NoAnswer(error) => error.as_ref().map(|error| error as _),
+            JoinError::NoThread(error) => Some(error),
+            JoinError::Refused(code) => Some(code),
+            JoinError::BadNumber | JoinError::Incomplete(_) | JoinError::Stopped => None,
+        }
+    }
+}
 
 impl From<LockFileError> for JoinError {
     fn from(error: LockFileError) -> JoinError {

@@ -320,7 +320,16 @@ impl fmt::Display for ServeError {
     }
 }
 
-impl std::error::Error for ServeError {}
+impl std::error::Error for ServeError {
+    fn source(&self) -> Option<&(dyn std::error::Error + 'static)> {
+        match self {
+            ServeError::Store(error) => Some(error),
+            ServeError::Refused(code) => Some(code),
+            ServeError::Network(error) => Some(error),
+            ServeError::Panicked => None,
+        }
+    }
+}
 
 impl From<StoreError> for ServeError {
     fn from(error: StoreError) -> ServeError {

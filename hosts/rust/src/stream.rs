@@ -156,6 +156,7 @@ impl From<UnixListener> for Listener {
 }
 
 /// One connection.
+#[derive(Debug)]
 pub(crate) enum Stream {
     Tcp(TcpStream),
     Unix(UnixStream),

@@ -45,6 +45,9 @@ fn row(key: u64, text: &str) -> Row {
 
 fn each_call(server: &Server, folder: &Folder) {
     let (first, second) = (folder.join(server, 0), folder.join(server, 63));
+    assert_eq!(first.cached(5..5), Some(vec![]));
+    assert_eq!(first.read(5..5), Ok(vec![]));
+    assert_eq!(first.forget(5..5), Ok(()));
     assert_eq!(first.cached(0..100), None);
     assert_eq!(first.read(0..100), Ok(vec![]));
     assert_eq!(first.cached(0..100), Some(vec![]));
@@ -55,6 +58,7 @@ fn each_call(server: &Server, folder: &Folder) {
     assert_eq!(second.put(20, value("c")), Ok(Outcome::Applied));
     assert_eq!(second.put(21, value("c")), Ok(Outcome::Absent));
     assert_eq!(first.read(20..21), Ok(vec![row(20, "c")]));
+    assert_eq!(first.read(..=20).unwrap().last(), Some(&row(20, "c")));
     assert_eq!(first.delete(10), Ok(Outcome::Applied));
     assert_eq!(first.delete(10), Ok(Outcome::Absent));
     assert_eq!(second.read(0..100), Ok(vec![row(20, "c")]));
@@ -99,10 +103,12 @@ fn what_is_refused() {
     let folder = Folder::new("refused");
     let server = server("127.0.0.1:0");
     let client = folder.join(&server, 1);
-    assert_eq!(client.read(5..5), Err(Refused::BadRange));
     assert_eq!(client.read(0..u64::MAX), Err(Refused::BadRange));
+    assert_eq!(client.read(0..=1 << 63), Err(Refused::BadRange));
+    assert_eq!(client.forget(0..=1 << 63), Err(Refused::BadRange));
+    assert_eq!(client.cached(0..=1 << 63), None);
+    assert_eq!(client.pin(5..5).err(), Some(Refused::BadRange));
     assert_eq!(client.insert(krl::END, Value::default()), Err(Refused::BadKey));
-    assert_eq!(client.cached(5..5), None);
     assert_eq!(client.read(0..1 << 63), Ok(vec![]));
     let join = |number, lock: &Path| {
         let wait = Duration::from_millis(300);
@@ -132,7 +138,7 @@ fn a_server_that_does_not_run_answers_nobody() {
     let wait = Duration::from_millis(200);
     let client = Client::builder(address).number(1).lock_file(folder.lock(1));
     let joined = client.timeout(wait).join();
-    assert!(matches!(joined.err(), Some(JoinError::NoAnswer)));
+    assert!(matches!(joined.err(), Some(JoinError::NoAnswer(Some(_)))));
 }
 
 #[test]

@@ -1,0 +1,59 @@
+//! How long a client waits before it connects again.
+use std::collections::hash_map::RandomState;
+use std::hash::{BuildHasher, Hasher};
+use std::time::Duration;
+
+/// The first pause, and the longest.
+const FIRST: Duration = Duration::from_millis(5);
+const LONGEST: Duration = Duration::from_secs(1);
+
+/// The pauses between attempts: each is twice the one before, and up to a quarter longer by chance,
+/// so that clients that lost one server do not all come back to it at once.
+#[derive(Debug)]
+pub(crate) struct Backoff {
+    pause: Duration,
+}
+
+impl Backoff {
+    pub fn new() -> Backoff {
+        Backoff { pause: FIRST }
+    }
+
+    /// The server has said something: the next pause is the first one again. A connection alone
+    /// says nothing: a server that has no room for it takes it and ends it.
+    pub fn reset(&mut self) {
+        self.pause = FIRST;
+    }
+
+    /// How long to wait now.
+    pub fn pause(&mut self) -> Duration {
+        let pause = self.pause;
+        self.pause = LONGEST.min(2 * pause);
+        pause + pause.mul_f64(chance() / 4.0)
+    }
+}
+
+/// A number from 0 to 1. The standard library seeds its hashes by chance.
+fn chance() -> f64 {
+    let drawn = RandomState::new().build_hasher().finish();
+    f64::from(u32::try_from(drawn >> 32).unwrap_or(u32::MAX)) / f64::from(u32::MAX)
+}
+
+#[cfg(test)]
+mod tests {
+    use super::*;
+
+    #[test]
+    fn pauses_double_until_a_second_and_differ_by_a_quarter() {
+        let mut backoff = Backoff::new();
+        let mut least = FIRST;
+        for _ in 0..20 {
+            let pause = backoff.pause();
+            assert!(least <= pause && pause <= least.mul_f64(1.25), "{least:?} {pause:?}");
+            least = LONGEST.min(2 * least);
+        }
+        assert_eq!(least, LONGEST);
+        backoff.reset();
+        assert!(backoff.pause() < 2 * FIRST);
+    }
+}

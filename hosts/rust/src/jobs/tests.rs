@@ -1,0 +1,190 @@
+//! A server and two clients of the library, whose messages are handed over one by one.
+use super::*;
+use crate::change::Snapshot;
+use crate::frames::split;
+use crate::handle::ServerHandle;
+use crate::message::client_of;
+use crate::row::Value;
+
+struct World {
+    server: ServerHandle,
+    clients: [Jobs; 2],
+}
+
+fn messages(take: impl FnOnce(&mut Vec<u8>)) -> Vec<Vec<u8>> {
+    let mut frames = Vec::new();
+    take(&mut frames);
+    split(&frames).map(|(message, _)| message.to_vec()).collect()
+}
+
+impl World {
+    fn new() -> World {
+        let (server, _) = ServerHandle::open(&Snapshot::default()).unwrap();
+        let clients = [0, 1].map(|number| Jobs::new(ClientHandle::open(number, 1).unwrap()));
+        let mut world = World { server, clients };
+        let joined = [0, 1].map(|place: usize| world.clients[place].join());
+        assert!(joined.iter().all(|joined| joined.answer.try_recv().is_err()), "too early");
+        world.settle();
+        assert!(joined.iter().all(|joined| joined.answer.try_recv() == Ok(Ok(()))));
+        world
+    }
+
+    /// What the client says.
+    fn said(&mut self, client: usize) -> Vec<Vec<u8>> {
+        messages(|frames| self.clients[client].take(frames))
+    }
+
+    fn tell_server(&mut self, said: &[Vec<u8>]) {
+        said.iter().for_each(|message| drop(self.server.step(message)));
+    }
+
+    /// Hands over what the server says.
+    fn tell_clients(&mut self) -> usize {
+        let said = messages(|frames| self.server.take(frames).unwrap());
+        for message in &said {
+            let client = usize::from(client_of(message).unwrap());
+            self.clients[client].hear(message).unwrap();
+        }
+        said.len()
+    }
+
+    /// Hands messages over until nobody says anything.
+    fn settle(&mut self) {
+        loop {
+            let said: Vec<_> = [0, 1].into_iter().flat_map(|client| self.said(client)).collect();
+            self.tell_server(&said);
+            let heard = self.tell_clients();
+            self.clients.iter_mut().for_each(|jobs| jobs.advance(Asking::Allowed));
+            if said.is_empty() && heard == 0 {
+                return;
+            }
+        }
+    }
+
+    fn write(&mut self, client: usize, write: Write) -> Outcome {
+        let asked = self.clients[client].write(write);
+        self.settle();
+        asked.answer.try_recv().unwrap().unwrap()
+    }
+
+    fn read(&mut self, client: usize, keys: Range<u64>) -> Vec<Row> {
+        let asked = self.clients[client].read(keys);
+        self.settle();
+        asked.answer.try_recv().unwrap().unwrap()
+    }
+
+    fn is_cached(&mut self, client: usize, keys: Range<u64>) -> bool {
+        matches!(self.clients[client].scan(&keys, &mut Vec::new()), Ok(Scan::Rows(_)))
+    }
+}
+
+fn row(key: u64, number: u64) -> Row {
+    Row { key, value: Value::from(number) }
+}
+
+#[test]
+fn each_job_has_its_answer() {
+    let mut world = World::new();
+    assert_eq!(world.write(0, Write::Insert(row(10, 1))), Outcome::Applied);
+    assert_eq!(world.write(1, Write::Insert(row(10, 2))), Outcome::Exists);
+    assert_eq!(world.write(1, Write::Put(row(10, 3))), Outcome::Applied);
+    assert_eq!(world.write(1, Write::Put(row(11, 3))), Outcome::Absent);
+    assert_eq!(world.read(0, 0..20), [row(10, 3)]);
+    assert_eq!(world.write(0, Write::Delete(11)), Outcome::Absent);
+    assert_eq!(world.write(0, Write::Delete(10)), Outcome::Applied);
+    assert_eq!(world.read(1, 0..20), []);
+    assert!(!world.clients[0].are_open() && !world.clients[1].are_open());
+}
+
+#[test]
+fn a_write_whose_lock_is_called_back_is_asked_again() {
+    const DELETE: u8 = 6;
+    let mut world = World::new();
+    for key in [10, 20] {
+        assert_eq!(world.write(0, Write::Insert(row(key, 1))), Outcome::Applied);
+    }
+    world.read(0, 0..30);
+    let deleted = world.clients[0].write(Write::Delete(10));
+    // The grant comes, and the delete is on its way.
+    let mut delayed = Vec::new();
+    for _ in 0..4 {
+        let (deletes, others): (Vec<_>, Vec<_>) =
+            world.said(0).into_iter().partition(|message| message[1] == DELETE);
+        delayed.extend(deletes);
+        world.tell_server(&others);
+        world.tell_clients();
+        world.clients[0].advance(Asking::Allowed);
+    }
+    assert_eq!(delayed.len(), 1);
+    // Another client reads the gap behind the key: the release overtakes the delete.
+    let read = world.clients[1].read(11..15);
+    let said = world.said(1);
+    world.tell_server(&said);
+    world.tell_clients();
+    let released = world.said(0);
+    world.tell_server(&released);
+    world.tell_server(&delayed);
+    world.settle();
+    assert_eq!(read.answer.try_recv(), Ok(Ok(vec![])));
+    assert_eq!(deleted.answer.try_recv(), Ok(Ok(Outcome::Applied)));
+    assert_eq!(world.read(1, 0..30), [row(20, 1)]);
+}
+
+#[test]
+fn an_abandoned_job_keeps_no_other_one_waiting() {
+    let mut world = World::new();
+    let (first, second) = (world.clients[0].read(0..5), world.clients[0].read(0..9));
+    world.clients[0].abandon(first.id);
+    world.settle();
+    assert_eq!(second.answer.try_recv(), Ok(Ok(vec![])));
+    assert!(first.answer.try_recv().is_err());
+    let write = world.clients[0].write(Write::Insert(row(3, 1)));
+    world.clients[0].abandon(write.id);
+    assert_eq!(world.write(0, Write::Insert(row(4, 1))), Outcome::Applied);
+}
+
+#[test]
+fn a_client_has_left_when_the_server_says_so() {
+    let mut world = World::new();
+    world.clients[0].hear(&[]).unwrap();
+    let left = world.clients[0].leave();
+    world.settle();
+    assert!(world.clients[0].are_open() && left.answer.try_recv().is_err());
+    world.clients[0].tick();
+    assert_eq!(world.said(0).len(), 1, "it says Bye again");
+    world.clients[0].hear(&[]).unwrap();
+    assert_eq!(left.answer.try_recv(), Ok(Ok(())));
+    assert!(!world.clients[0].are_open());
+}
+
+#[test]
+fn whoever_waits_hears_that_the_thread_has_ended() {
+    use std::sync::mpsc::TryRecvError;
+    let mut world = World::new();
+    let before = world.clients[0].read(0..9);
+    assert_eq!(before.answer.try_recv(), Err(TryRecvError::Empty));
+    world.clients[0].end();
+    assert_eq!(before.answer.try_recv(), Err(TryRecvError::Disconnected));
+    let after = world.clients[0].read(0..9);
+    assert_eq!(after.answer.try_recv(), Err(TryRecvError::Disconnected));
+}
+
+#[test]
+fn what_is_called_back_in_a_pin_is_given_back_behind_it() {
+    let mut world = World::new();
+    world.write(1, Write::Insert(row(10, 1)));
+    world.read(0, 0..30);
+    let pins = [5..15, 20..25].map(|keys| world.clients[0].pin(keys).unwrap());
+    let put = world.clients[1].write(Write::Put(row(10, 2)));
+    world.settle();
+    assert!(put.answer.try_recv().is_err(), "the key is pinned");
+    world.clients[0].unpin(pins[1]);
+    world.settle();
+    assert!(put.answer.try_recv().is_err(), "the key is pinned");
+    world.clients[0].unpin(pins[0]);
+    world.settle();
+    assert_eq!(put.answer.try_recv(), Ok(Ok(Outcome::Applied)));
+    assert!(!world.is_cached(0, 10..11));
+    assert!(world.is_cached(0, 20..25), "nobody called that back");
+    assert_eq!(world.read(0, 0..30), [row(10, 2)]);
+}

@@ -1,0 +1,238 @@
+//! What a client writes to its connection. No caller waits for a server that takes nothing.
+use crate::stream::Stream;
+use std::io::{self, ErrorKind, Write};
+use std::sync::{Mutex, MutexGuard, PoisonError, TryLockError};
+use std::time::{Duration, Instant};
+
+/// How long one attempt to write may take.
+pub(crate) const ATTEMPT: Duration = Duration::from_millis(10);
+
+/// A server that takes nothing for so long loses the connection.
+const STALL: Duration = Duration::from_secs(5);
+
+/// While so many bytes wait, what is put behind them is lost. A report is shorter.
+const MAX_PENDING: usize = 1 << 22;
+
+/// The frames that wait, and the connection.
+///
+/// `connection` is taken before `pending` and never after it, and no stream is touched while
+/// `pending` is held.
+#[derive(Debug, Default)]
+pub(crate) struct Writer {
+    pending: Mutex<Pending>,
+    connection: Mutex<Option<Connection>>,
+}
+
+#[derive(Debug, Default)]
+struct Pending {
+    frames: Vec<u8>,
+    is_connected: bool,
+}
+
+#[derive(Debug)]
+struct Connection {
+    stream: Stream,
+    /// The frames that are being written, and how many of their bytes are.
+    frames: Vec<u8>,
+    written: usize,
+    /// Since when the server takes nothing.
+    stuck: Option<Instant>,
+}
+
+/// How far an attempt to write has come.
+#[derive(Clone, Copy, Debug, PartialEq, Eq)]
+enum Progress {
+    All,
+    Part,
+    Failed,
+}
+
+impl Writer {
+    /// From now on frames go to this connection. What waited for another one is lost.
+    pub fn open(&self, stream: Stream) {
+        let mut connection = self.connection();
+        *self.pending() = Pending { frames: Vec::new(), is_connected: true };
+        *connection = Some(Connection { stream, frames: Vec::new(), written: 0, stuck: None });
+    }
+
+    /// Ends the connection. What waits is lost, and so is what is put before there is another one.
+    pub fn close(&self) {
+        close(&mut self.connection(), &mut self.pending());
+    }
+
+    /// Lets `put` append frames, in the order of these calls. It may take no stream.
+    pub fn put(&self, put: impl FnOnce(&mut Vec<u8>)) {
+        let mut pending = self.pending();
+        let old = pending.frames.len();
+        put(&mut pending.frames);
+        if !pending.is_connected || old > MAX_PENDING {
+            // A tick says it again.
+            pending.frames.truncate(old);
+        }
+    }
+
+    /// Writes what waits, as far as the connection takes it at once. If another thread writes just
+    /// now, that thread takes it along.
+    pub fn write(&self) {
+        while self.write_some() && !self.pending().frames.is_empty() {}
+    }
+
+    /// Writes once. It answers whether all that was there is written.
+    fn write_some(&self) -> bool {
+        let mut connection = match self.connection.try_lock() {
+            Ok(connection) => connection,
+            Err(TryLockError::Poisoned(poisoned)) => poisoned.into_inner(),
+            Err(TryLockError::WouldBlock) => return false,
+        };
+        let Some(open) = &mut *connection else { return false };
+        open.fill(&mut self.pending());
+        match open.write(Instant::now()) {
+            Progress::All => true,
+            Progress::Part => false,
+            Progress::Failed => {
+                close(&mut connection, &mut self.pending());
+                false
+            }
+        }
+    }
+
+    fn pending(&self) -> MutexGuard<'_, Pending> {
+        self.pending.lock().unwrap_or_else(PoisonError::into_inner)
+    }
+
+    fn connection(&self) -> MutexGuard<'_, Option<Connection>> {
+        self.connection.lock().unwrap_or_else(PoisonError::into_inner)
+    }
+}
+
+fn close(connection: &mut Option<Connection>, pending: &mut Pending) {
+    if let Some(open) = connection.take() {
+        // Half a message may be on its way.
+        open.stream.shut();
+    }
+    *pending = Pending::default();
+}
+
+impl Connection {
+    /// Takes what waits, if all before it is written.
+    fn fill(&mut self, pending: &mut Pending) {
+        if self.written == self.frames.len() {
+            self.frames.clear();
+            self.written = 0;
+            std::mem::swap(&mut self.frames, &mut pending.frames);
+        }
+    }
+
+    fn write(&mut self, now: Instant) -> Progress {
+        if self.written == self.frames.len() {
+            return Progress::All;
+        }
+        let wrote = self.stream.write(&self.frames[self.written..]);
+        self.note(&wrote, now)
+    }
+
+    /// Notes what one attempt has come to.
+    fn note(&mut self, wrote: &io::Result<usize>, now: Instant) -> Progress {
+        match wrote {
+            Ok(0) => Progress::Failed,
+            Ok(count) => {
+                self.written += count;
+                self.stuck = None;
+                if self.written == self.frames.len() { Progress::All } else { Progress::Part }
+            }
+            Err(error) if is_full(error.kind()) => {
+                let since = *self.stuck.get_or_insert(now);
+                if now.duration_since(since) < STALL { Progress::Part } else { Progress::Failed }
+            }
+            Err(_) => Progress::Failed,
+        }
+    }
+}
+
+/// Whether the connection takes nothing just now, which is no fault of it.
+fn is_full(kind: ErrorKind) -> bool {
+    matches!(kind, ErrorKind::WouldBlock | ErrorKind::TimedOut | ErrorKind::Interrupted)
+}
+
+#[cfg(test)]
+mod tests {
+    use super::*;
+    use std::io::Read;
+    use std::os::unix::net::UnixStream;
+
+    /// A writer, and the end of its connection that reads.
+    fn pair() -> (Writer, UnixStream) {
+        let (ours, theirs) = UnixStream::pair().unwrap();
+        let stream = Stream::Unix(ours);
+        stream.set_timeouts(ATTEMPT, ATTEMPT).unwrap();
+        theirs.set_read_timeout(Some(Duration::from_millis(200))).unwrap();
+        let writer = Writer::default();
+        writer.open(stream);
+        (writer, theirs)
+    }
+
+    fn put(writer: &Writer, bytes: &[u8]) {
+        writer.put(|frames| frames.extend_from_slice(bytes));
+    }
+
+    #[test]
+    fn what_is_put_is_written_in_order() {
+        let (writer, mut theirs) = pair();
+        put(&writer, b"one");
+        put(&writer, b"two");
+        writer.write();
+        put(&writer, b"three");
+        writer.write();
+        let mut heard = [0; 11];
+        theirs.read_exact(&mut heard).unwrap();
+        assert_eq!(&heard, b"onetwothree");
+    }
+
+    #[test]
+    fn a_peer_that_takes_nothing_holds_nobody_up_and_loses_nothing_that_waits() {
+        let (writer, mut theirs) = pair();
+        let sent: Vec<u8> = (0..2_000_000u32).map(|place| (place % 251) as u8).collect();
+        put(&writer, &sent);
+        for _ in 0..20 {
+            let begun = Instant::now();
+            writer.write();
+            assert!(begun.elapsed() < 10 * ATTEMPT, "{:?}", begun.elapsed());
+        }
+        let mut heard = Vec::new();
+        while heard.len() < sent.len() {
+            let mut bytes = [0; 1 << 16];
+            let count = theirs.read(&mut bytes).unwrap();
+            heard.extend_from_slice(&bytes[..count]);
+            writer.write();
+        }
+        assert!(heard == sent, "it is another string");
+    }
+
+    #[test]
+    fn a_connection_that_is_stuck_for_long_is_ended() {
+        let (writer, _theirs) = pair();
+        let mut guard = writer.connection();
+        let open = guard.as_mut().unwrap();
+        open.frames = b"abc".to_vec();
+        let (start, full) = (Instant::now(), || Err(ErrorKind::WouldBlock.into()));
+        assert_eq!(open.note(&full(), start), Progress::Part);
+        assert_eq!(open.note(&full(), start + STALL / 2), Progress::Part);
+        assert_eq!(open.note(&Ok(1), start + STALL / 2), Progress::Part);
+        assert_eq!(open.note(&full(), start + STALL), Progress::Part);
+        assert_eq!(open.note(&full(), start + 2 * STALL), Progress::Failed);
+        assert_eq!(open.note(&Ok(2), start + 2 * STALL), Progress::All);
+        assert_eq!(open.note(&Err(ErrorKind::BrokenPipe.into()), start), Progress::Failed);
+    }
+
+    #[test]
+    fn without_a_connection_nothing_piles_up() {
+        let writer = Writer::default();
+        put(&writer, b"lost");
+        assert!(writer.pending().frames.is_empty());
+        let (writer, _theirs) = pair();
+        writer.close();
+        put(&writer, b"lost");
+        writer.write();
+        assert!(writer.pending().frames.is_empty());
+    }
+}
