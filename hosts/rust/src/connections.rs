@@ -1,14 +1,17 @@
 //! The connections of a server: threads that read and write, so that no slow peer stops the others.
+use crate::change::Snapshot;
 use crate::frames::{Frames, LONGEST_TO_SERVER};
 use crate::routing::Routes;
+use crate::store::StoreError;
 use crate::stream::{Address, Listener, Stream};
 use std::collections::HashMap;
+use std::convert::Infallible;
 use std::io::{self, ErrorKind, Write};
 use std::sync::Arc;
 use std::sync::atomic::{AtomicBool, AtomicUsize, Ordering};
-use std::sync::mpsc::{Receiver, SyncSender, TrySendError, sync_channel};
+use std::sync::mpsc::{Receiver, Sender, SyncSender, TrySendError, channel, sync_channel};
 use std::thread::{self, JoinHandle};
-use std::time::Duration;
+use std::time::{Duration, Instant};
 
 /// The most connections that are open at once. One more is closed as it comes.
 const MAX_CONNECTIONS: usize = 256;
@@ -36,13 +39,18 @@ pub(crate) enum Event {
     Closed(u64),
     /// No connection can be taken any more.
     Deaf(io::Error),
+    /// Somebody asks for all that the store has.
+    Snapshot(SyncSender<Result<Snapshot, StoreError>>),
     /// The server is to end.
     Stop,
 }
 
 /// What writes to one connection.
 pub(crate) struct Outgoing {
-    batches: SyncSender<Vec<u8>>,
+    /// None when no more is sent.
+    batches: Option<SyncSender<Vec<u8>>>,
+    /// Tells nothing, and ends when the thread that writes has ended.
+    written: Receiver<Infallible>,
     stream: Stream,
 }
 
@@ -50,9 +58,16 @@ impl Outgoing {
     /// Sends the frames, unless so much waits already that the peer seems stuck: then they are
     /// lost.
     fn send(&self, frames: Vec<u8>) {
-        if let Err(TrySendError::Disconnected(_)) = self.batches.try_send(frames) {
+        let Some(batches) = &self.batches else { return };
+        if let Err(TrySendError::Disconnected(_)) = batches.try_send(frames) {
             self.stream.shut();
         }
+    }
+
+    /// Waits until all that was sent is written, but not longer than `until`.
+    fn wait(&self, until: Instant) {
+        // It ends by a timeout, or since the other side is gone.
+        let _ = self.written.recv_timeout(until.saturating_duration_since(Instant::now()));
     }
 }
 
@@ -107,6 +122,18 @@ impl Connections {
         self.batches.entry(connection).or_default().extend_from_slice(frame);
     }
 
+    /// Ends all connections. What was sent is written first, as far as the peers take it until
+    /// then.
+    pub fn finish(&mut self, until: Instant) {
+        for outgoing in self.open.values_mut() {
+            outgoing.batches = None;
+        }
+        for (_, outgoing) in self.open.drain() {
+            outgoing.wait(until);
+        }
+        self.routes = Routes::default();
+    }
+
     /// Sends what was put.
     pub fn send(&mut self) {
         for (connection, frames) in self.batches.drain() {
@@ -140,6 +167,11 @@ impl Listening {
     /// Where it listens.
     pub fn address(&self) -> &Address {
         &self.address
+    }
+
+    /// Where events are told.
+    pub fn events(&self) -> SyncSender<Event> {
+        self.events.clone()
     }
 
     /// Tells the server to end.
@@ -222,8 +254,9 @@ fn begin(
     stream.set_timeouts(SILENCE, STALL)?;
     let (reading, writing) = (stream.try_clone()?, stream.try_clone()?);
     let (batches, waiting) = sync_channel(MAX_WAITING);
-    let outgoing = Outgoing { batches, stream };
-    spawn(move || write(writing, &waiting))?;
+    let (writes, written) = channel();
+    let outgoing = Outgoing { batches: Some(batches), written, stream };
+    spawn(move || write(writing, &waiting, &writes))?;
     let permit = Permit::take(count);
     let events = events.clone();
     spawn(move || {
@@ -275,7 +308,7 @@ fn read(connection: u64, mut stream: Stream, events: &SyncSender<Event>) {
 }
 
 /// Writes each batch, until the stream fails or nothing more can come.
-fn write(mut stream: Stream, batches: &Receiver<Vec<u8>>) {
+fn write(mut stream: Stream, batches: &Receiver<Vec<u8>>, _writes: &Sender<Infallible>) {
     while let Ok(batch) = batches.recv() {
         if stream.write_all(&batch).is_err() {
             break;

@@ -2,6 +2,9 @@
 
 use std::ops::Range;
 
+/// Where a Lock and a Grant have the number of their request: behind the head and two numbers.
+const REQUEST_AT: usize = 34;
+
 /// What a message is about, as far as a host cares.
 #[derive(Clone, Copy, Debug, PartialEq, Eq)]
 pub(crate) enum Kind {
@@ -39,14 +42,76 @@ pub(crate) fn kind_of(message: &[u8]) -> Kind {
     }
 }
 
+/// The messages between which a server measures time.
+#[derive(Clone, Copy, Debug, PartialEq, Eq)]
+pub(crate) enum Timed {
+    Hello,
+    Lock { request: u64 },
+    Release,
+    Grant { request: u64 },
+    Callback,
+    Other,
+}
+
+/// What the message is, as far as a server measures time by it. Only of messages that the library
+/// wrote or took.
+pub(crate) fn timed_of(message: &[u8]) -> Timed {
+    match (message.get(1), number(message, REQUEST_AT)) {
+        (Some(0), _) => Timed::Hello,
+        (Some(3), Some(request)) => Timed::Lock { request },
+        (Some(7), _) => Timed::Release,
+        (Some(17), Some(request)) => Timed::Grant { request },
+        (Some(20), _) => Timed::Callback,
+        _ => Timed::Other,
+    }
+}
+
 fn number(message: &[u8], at: usize) -> Option<u64> {
     let bytes = message.get(at..)?.first_chunk()?;
     Some(u64::from_le_bytes(*bytes))
 }
 
 #[cfg(test)]
-mod tests {
+pub(crate) mod tests {
     use super::*;
+
+    /// A message with these numbers behind its kind.
+    fn message(kind: u8, numbers: &[u64]) -> Vec<u8> {
+        let mut bytes = vec![1, kind];
+        numbers.iter().for_each(|number| bytes.extend_from_slice(&number.to_le_bytes()));
+        bytes
+    }
+
+    pub(crate) fn hello(client: u64) -> Vec<u8> {
+        message(0, &[client, 2])
+    }
+
+    pub(crate) fn lock(client: u64, request: u64) -> Vec<u8> {
+        message(3, &[client, 2, 1, 4, request, 10, 258])
+    }
+
+    pub(crate) fn release(client: u64) -> Vec<u8> {
+        message(7, &[client, 2, 1, 4, 0, 11])
+    }
+
+    pub(crate) fn grant(client: u64, request: u64) -> Vec<u8> {
+        message(17, &[client, 2, 1, 4, request])
+    }
+
+    pub(crate) fn callback(client: u64) -> Vec<u8> {
+        message(20, &[client, 2, 1, 0, 11])
+    }
+
+    #[test]
+    fn requests_have_their_numbers() {
+        assert_eq!(timed_of(&lock(3, 5)), Timed::Lock { request: 5 });
+        assert_eq!(timed_of(&grant(3, 5)), Timed::Grant { request: 5 });
+        assert_eq!(timed_of(&callback(3)), Timed::Callback);
+        assert_eq!(timed_of(&release(3)), Timed::Release);
+        assert_eq!(timed_of(&hello(3)), Timed::Hello);
+        assert_eq!(timed_of(&message(8, &[3, 2, 1, 4])), Timed::Other);
+        assert_eq!(timed_of(&lock(3, 5)[..40]), Timed::Other);
+    }
 
     #[test]
     fn short_strings_have_no_fields() {

@@ -6,10 +6,12 @@ use crate::frames;
 use crate::handle::ServerHandle;
 use crate::held_back::HeldBack;
 use crate::message::{Kind, client_of, incarnation_of, kind_of};
+use crate::monitor::Monitor;
 use crate::routing::{Sender, sender};
 use crate::status::Status;
 use crate::store::{Store, StoreError};
 use crate::stream::{Address, Listener};
+use crate::timings::{Open, Timings};
 use crate::watch::Watch;
 use std::convert::Infallible;
 use std::fmt;
@@ -26,10 +28,14 @@ const MAX_AT_ONCE: usize = 256;
 /// asked who waits for whom.
 const NUDGE: Duration = Duration::from_millis(50);
 
+/// How long a server that ends waits until what it sent is written.
+const LAST_WRITES: Duration = Duration::from_millis(500);
+
 /// A server that runs in threads of its own. It ends where it is dropped.
 pub struct Server {
     listening: Listening,
     status: Arc<Mutex<Status>>,
+    timings: Arc<Timings>,
     thread: Option<JoinHandle<Result<(), ServeError>>>,
 }
 
@@ -79,6 +85,7 @@ impl Server {
         let (listening, waiting) = Listening::start(listener.into())?;
         let status = Arc::new(Mutex::new(Status { epoch, ..Status::default() }));
         let shown = Arc::clone(&status);
+        let timings = Arc::new(Timings::new());
         let turns = EventLoop {
             server,
             store,
@@ -88,10 +95,12 @@ impl Server {
             watch: Watch::default(),
             status: Status { epoch, ..Status::default() },
             nudged: Instant::now(),
+            timings: Arc::clone(&timings),
+            open: Open::new(),
             frames: Vec::new(),
         };
         let thread = thread::Builder::new().spawn(move || turns.run(&shown))?;
-        Ok(Server { listening, status, thread: Some(thread) })
+        Ok(Server { listening, status, timings, thread: Some(thread) })
     }
 
     /// Where it listens.
@@ -103,6 +112,22 @@ impl Server {
     /// milliseconds ago at most, and what a client holds as of some three seconds ago.
     pub fn status(&self) -> Status {
         self.status.lock().unwrap_or_else(PoisonError::into_inner).clone()
+    }
+
+    /// A view of the server that may live in another thread.
+    #[must_use]
+    pub fn monitor(&self) -> Monitor {
+        Monitor {
+            status: Arc::clone(&self.status),
+            timings: Arc::clone(&self.timings),
+            events: self.listening.events(),
+        }
+    }
+
+    /// Whether it still serves. One that does not has failed, and `stop` says why.
+    #[must_use]
+    pub fn is_running(&self) -> bool {
+        self.thread.as_ref().is_some_and(|thread| !thread.is_finished())
     }
 
     /// A reader of the status that may live in another thread.
@@ -117,8 +142,9 @@ impl Server {
         Err(ServeError::Panicked)
     }
 
-    /// Ends the server, and says how it ended. What it kept stays; its clients answer from their
-    /// caches.
+    /// Ends the server in order, and says how it ended: the messages that wait are judged, what
+    /// they change is committed, and the answers are written, as far as the peers take them within
+    /// half a second. What it kept stays; its clients answer from their caches.
     pub fn stop(mut self) -> Result<(), ServeError> {
         self.listening.stop();
         self.join()
@@ -152,6 +178,8 @@ struct EventLoop<S> {
     watch: Watch,
     status: Status,
     nudged: Instant,
+    timings: Arc<Timings>,
+    open: Open,
     frames: Vec<u8>,
 }
 
@@ -160,6 +188,8 @@ impl<S: Store> EventLoop<S> {
         while self.turn()? {
             self.show(shown);
         }
+        self.show(shown);
+        self.connections.finish(Instant::now() + LAST_WRITES);
         Ok(())
     }
 
@@ -167,7 +197,9 @@ impl<S: Store> EventLoop<S> {
     /// whether to go on.
     fn turn(&mut self) -> Result<bool, ServeError> {
         let (mut changes, mut ended) = (Vec::new(), None);
-        for event in self.take_what_waits() {
+        let events = self.take_what_waits();
+        let began = Instant::now();
+        for event in events {
             match event {
                 Event::Opened(connection, outgoing) => self.connections.open(connection, outgoing),
                 Event::Closed(connection) => self.connections.close(connection),
@@ -175,12 +207,17 @@ impl<S: Store> EventLoop<S> {
                     changes.extend(self.judge(connection, &message)?);
                 }
                 Event::Deaf(error) => ended = Some(Err(error.into())),
+                Event::Snapshot(reply) => {
+                    // Who asks and goes away gets no answer.
+                    let _ = reply.send(self.store.load());
+                }
                 Event::Stop => ended = Some(Ok(false)),
             }
         }
         self.nudge();
         self.commit(&changes)?;
         self.send()?;
+        self.timings.turned(began);
         ended.unwrap_or(Ok(true))
     }
 
@@ -225,7 +262,10 @@ impl<S: Store> EventLoop<S> {
         };
         let record = self.server.record(client).map_err(ServeError::Refused)?;
         match (sender(record.as_ref(), incarnation), kind_of(message)) {
-            (Sender::Registered, _) => self.connections.route(client, connection),
+            (Sender::Registered, _) => {
+                self.open.heard(client, message, Instant::now(), &self.timings);
+                self.connections.route(client, connection);
+            }
             // The frame leaves after the change is on the disk, and tells the client that it need
             // not say Bye again.
             (Sender::Left, Kind::Bye) => self.connections.put(connection, &frames::EMPTY),
@@ -267,7 +307,9 @@ impl<S: Store> EventLoop<S> {
 
     fn commit(&mut self, changes: &[Change]) -> Result<(), ServeError> {
         if !changes.is_empty() {
+            let began = Instant::now();
             self.store.commit(changes)?;
+            self.timings.committed(changes.len(), began);
             self.status.changes += changes.len() as u64;
             self.status.commits += 1;
         }
@@ -292,6 +334,7 @@ impl<S: Store> EventLoop<S> {
         if kind_of(message) == Kind::Push && self.held_back.holds(client, message, now) {
             return;
         }
+        self.open.said(client, message, now, &self.timings);
         self.connections.put_for(client, frame);
         self.status.sent += 1;
     }

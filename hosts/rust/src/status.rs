@@ -1,6 +1,6 @@
 //! What an operator sees of a server.
 use crate::watch::{HeldSlots, Wait};
-use std::fmt::{self, Write};
+use std::fmt;
 
 /// A server at one moment.
 #[derive(Clone, Debug, Default, PartialEq, Eq)]
@@ -39,67 +39,10 @@ pub struct Status {
 }
 
 impl Status {
-    /// The status in Prometheus' text format.
-    pub fn prometheus(&self) -> String {
-        let mut text = String::new();
-        for (name, kind, value) in self.numbers() {
-            line(&mut text, format_args!("# TYPE krl_{name} {kind}\nkrl_{name} {value}"));
-        }
-        self.put_clients(&mut text);
-        text
-    }
-
-    fn numbers(&self) -> [(&'static str, &'static str, u64); 10] {
-        [
-            ("epoch", "gauge", self.epoch),
-            ("serving", "gauge", self.is_serving.into()),
-            ("connections", "gauge", self.connections),
-            ("alarms_total", "counter", self.alarms_raised),
-            ("messages_taken_total", "counter", self.taken),
-            ("messages_sent_total", "counter", self.sent),
-            ("messages_refused_total", "counter", self.refused),
-            ("pushes_held_back_total", "counter", self.held_back),
-            ("changes_total", "counter", self.changes),
-            ("keeps_total", "counter", self.commits),
-        ]
-    }
-
-    fn put_clients(&self, text: &mut String) {
-        line(text, format_args!("# TYPE krl_missing gauge"));
-        for client in &self.missing {
-            line(text, format_args!("krl_missing{{client=\"{client}\"}} 1"));
-        }
-        line(text, format_args!("# TYPE krl_connected gauge"));
-        for client in &self.connected {
-            line(text, format_args!("krl_connected{{client=\"{client}\"}} 1"));
-        }
-        line(text, format_args!("# TYPE krl_wait_seconds gauge"));
-        for wait in &self.waits {
-            let Wait { client, point, mode, .. } = wait;
-            let seconds = wait.waited.as_secs_f64();
-            let labels =
-                format_args!("client=\"{client}\",point=\"{point}\",mode=\"{mode}\"").to_string();
-            line(text, format_args!("krl_wait_seconds{{{labels}}} {seconds}"));
-        }
-        line(text, format_args!("# TYPE krl_waits_for gauge"));
-        for (client, other) in self.pairs() {
-            line(text, format_args!("krl_waits_for{{client=\"{client}\",other=\"{other}\"}} 1"));
-        }
-        line(text, format_args!("# TYPE krl_held_slots gauge"));
-        for HeldSlots { client, slots } in &self.holdings {
-            line(text, format_args!("krl_held_slots{{client=\"{client}\"}} {slots}"));
-        }
-    }
-
     /// Each client that waits, with each one that it waits for.
-    fn pairs(&self) -> impl Iterator<Item = (u8, u8)> {
+    pub(crate) fn pairs(&self) -> impl Iterator<Item = (u8, u8)> {
         self.waits.iter().flat_map(|wait| wait.waits_for.iter().map(|other| (wait.client, *other)))
     }
-}
-
-/// A line of text. Writing to a string does not fail.
-fn line(text: &mut String, words: fmt::Arguments<'_>) {
-    let _ = writeln!(text, "{words}");
 }
 
 fn list(clients: &[u8]) -> String {
@@ -173,18 +116,5 @@ mod tests {
         assert!(text.contains("client 3 waits for 0, 2: RangeX-X at 10, for 40 ms\n"));
         assert!(text.contains("client 2 holds 7 slots\n"));
         assert!(!text.contains("ALARM"));
-    }
-
-    #[test]
-    fn prometheus() {
-        let text = status().prometheus();
-        assert!(text.contains("# TYPE krl_epoch gauge\nkrl_epoch 4\n"));
-        assert!(text.contains("krl_missing{client=\"1\"} 1\n"));
-        assert!(
-            text.contains("krl_wait_seconds{client=\"3\",point=\"10\",mode=\"RangeX-X\"} 0.04\n")
-        );
-        assert!(text.contains("krl_waits_for{client=\"3\",other=\"2\"} 1\n"));
-        assert!(text.contains("krl_held_slots{client=\"2\"} 7\n"));
-        assert!(text.lines().all(|line| line.len() < 200 && !line.is_empty()));
     }
 }

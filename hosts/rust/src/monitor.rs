@@ -1,0 +1,86 @@
+//! What a server lets other threads see of it while it runs.
+use crate::change::Snapshot;
+use crate::connections::Event;
+use crate::status::Status;
+use crate::store::StoreError;
+use crate::timings::{Measured, Timings};
+use std::fmt;
+use std::sync::mpsc::{SyncSender, sync_channel};
+use std::sync::{Arc, Mutex, PoisonError};
+use std::time::Duration;
+
+/// A view of a server that may live in another thread, and longer than the server.
+#[derive(Clone)]
+pub struct Monitor {
+    pub(crate) status: Arc<Mutex<Status>>,
+    pub(crate) timings: Arc<Timings>,
+    pub(crate) events: SyncSender<Event>,
+}
+
+/// Why a server gave no snapshot.
+#[derive(Debug)]
+#[non_exhaustive]
+pub enum SnapshotError {
+    /// The server has ended, or ends before its turn comes to this.
+    Ended,
+    /// The store failed. The server goes on.
+    Store(StoreError),
+}
+
+impl Monitor {
+    /// What the server looks like now, or a few milliseconds ago; if it has ended, at its end.
+    #[must_use]
+    pub fn status(&self) -> Status {
+        self.status.lock().unwrap_or_else(PoisonError::into_inner).clone()
+    }
+
+    /// What the server has measured since it started.
+    #[must_use]
+    pub fn measured(&self) -> Measured {
+        self.timings.read()
+    }
+
+    /// How long ago the server's loop last ended a turn. A loop that is idle turns twenty times a
+    /// second.
+    #[must_use]
+    pub fn since_last_turn(&self) -> Duration {
+        self.timings.since_last_turn()
+    }
+
+    /// All that the store has at one moment between two commits. The server serves nobody while
+    /// its store reads that, which is once through the table. Waits until the server's turn comes
+    /// to it.
+    ///
+    /// # Errors
+    ///
+    /// `Ended` if the server has ended; `Store` if its store can't read what it keeps.
+    pub fn snapshot(&self) -> Result<Snapshot, SnapshotError> {
+        let (reply, answer) = sync_channel(1);
+        self.events.send(Event::Snapshot(reply)).map_err(|_| SnapshotError::Ended)?;
+        answer.recv().map_err(|_| SnapshotError::Ended)?.map_err(SnapshotError::Store)
+    }
+}
+
+impl fmt::Debug for Monitor {
+    fn fmt(&self, f: &mut fmt::Formatter<'_>) -> fmt::Result {
+        f.debug_struct("Monitor").field("status", &self.status()).finish_non_exhaustive()
+    }
+}
+
+impl fmt::Display for SnapshotError {
+    fn fmt(&self, f: &mut fmt::Formatter<'_>) -> fmt::Result {
+        match self {
+            SnapshotError::Ended => f.write_str("the server has ended"),
+            SnapshotError::Store(error) => error.fmt(f),
+        }
+    }
+}
+
+impl std::error::Error for SnapshotError {
+    fn source(&self) -> Option<&(dyn std::error::Error + 'static)> {
+        match self {
+            SnapshotError::Ended => None,
+            SnapshotError::Store(error) => Some(error),
+        }
+    }
+}
