@@ -42,6 +42,10 @@ mod row;
 mod server;
 #[cfg(feature = "sqlite")]
 mod sqlite;
+#[cfg(feature = "sqlite")]
+mod sqlite_copy;
+#[cfg(feature = "sqlite")]
+mod sqlite_version;
 mod status;
 mod store;
 mod stream;
@@ -60,6 +64,8 @@ pub use row::{END, MAX_VALUE_BYTES, Row, Value};
 pub use server::{ServeError, Server};
 #[cfg(feature = "sqlite")]
 pub use sqlite::SqliteStore;
+#[cfg(feature = "sqlite")]
+pub use sqlite_copy::StoreFile;
 pub use status::Status;
 pub use store::{MemoryStore, Store, StoreError};
 pub use stream::{Address, BadAddress, Listener};

@@ -247,6 +247,6 @@ mod tests {
                 assert!(helped.contains(family(line)), "{line}");
             }
         }
-        assert_eq!(helped.len(), 21);
+        assert_eq!(helped.len(), 22);
     }
 }

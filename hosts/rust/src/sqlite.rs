@@ -1,6 +1,7 @@
 //! A store over SQLite.
 use crate::change::{Change, Outcome, Record, Snapshot, Write};
 use crate::row::{Row, Value};
+use crate::sqlite_version::{self, Found};
 use crate::store::{Store, StoreError};
 use rusqlite::{Connection, Row as SqlRow, Transaction, params};
 use std::path::Path;
@@ -38,39 +39,36 @@ const DELETE: &str = "DELETE FROM entry WHERE key = ?1";
 impl SqliteStore {
     /// Opens the file, and makes it where there is none. Another process that has it open makes
     /// this fail, and every later open of another process fails while this store lives.
+    ///
+    /// The file says that it is a store, and of which version. One that an older krl made says
+    /// nothing of that yet, and says it from now on.
+    ///
+    /// # Errors
+    ///
+    /// If another process has the file open; if it is a database of another program, or a store of
+    /// a version that this program does not know; if SQLite can't read, make or write it.
     pub fn open(path: impl AsRef<Path>) -> Result<SqliteStore, StoreError> {
         let connection = Connection::open(path)?;
         connection.busy_timeout(TIMEOUT)?;
         connection.pragma_update(None, "locking_mode", "EXCLUSIVE")?;
+        // A file that is no store is left as it is.
+        let found = sqlite_version::look(&connection)?;
         let mode: String =
             connection.query_row("PRAGMA journal_mode = WAL", [], |row| row.get(0))?;
         if mode != "wal" {
             return Err(StoreError::says("SQLite gives no WAL mode for this file"));
         }
         connection.pragma_update(None, "synchronous", "FULL")?;
-        connection.execute_batch(TABLES)?;
+        if found != Found::Current {
+            prepare(&connection)?;
+        }
         Ok(SqliteStore { connection })
     }
 }
 
 impl Store for SqliteStore {
     fn load(&mut self) -> Result<Snapshot, StoreError> {
-        let epoch = self.connection.query_row("SELECT epoch FROM epoch", [], |row| row.get(0))?;
-        let mut snapshot = Snapshot { epoch: positive(epoch)?, ..Snapshot::default() };
-        let mut entries = self.connection.prepare("SELECT key, value FROM entry")?;
-        let mut rows = entries.query([])?;
-        while let Some(row) = rows.next()? {
-            let Row { key, value } = row_of(row)?;
-            snapshot.rows.insert(key, value);
-        }
-        let mut records = self.connection.prepare(
-            "SELECT client, incarnation, last, outcome, has_left FROM record ORDER BY place",
-        )?;
-        let mut rows = records.query([])?;
-        while let Some(row) = rows.next()? {
-            snapshot.records.push(record_of(row)?);
-        }
-        Ok(snapshot)
+        load(&self.connection)
     }
 
     fn commit(&mut self, changes: &[Change]) -> Result<(), StoreError> {
@@ -78,6 +76,56 @@ impl Store for SqliteStore {
         changes.iter().try_for_each(|change| commit_one(&transaction, change))?;
         Ok(transaction.commit()?)
     }
+}
+
+/// Gives the file the tables of a store, and the marks of this version, all or none.
+pub(crate) fn prepare(connection: &Connection) -> Result<(), StoreError> {
+    let transaction = connection.unchecked_transaction()?;
+    transaction.execute_batch(TABLES)?;
+    sqlite_version::mark(&transaction)?;
+    Ok(transaction.commit()?)
+}
+
+/// All that the file has.
+pub(crate) fn load(connection: &Connection) -> Result<Snapshot, StoreError> {
+    let epoch = connection.query_row("SELECT epoch FROM epoch", [], |row| row.get(0))?;
+    let mut snapshot = Snapshot { epoch: positive(epoch)?, ..Snapshot::default() };
+    let mut entries = connection.prepare("SELECT key, value FROM entry")?;
+    let mut rows = entries.query([])?;
+    while let Some(row) = rows.next()? {
+        let Row { key, value } = row_of(row)?;
+        snapshot.rows.insert(key, value);
+    }
+    let mut records = connection.prepare(
+        "SELECT client, incarnation, last, outcome, has_left FROM record ORDER BY place",
+    )?;
+    let mut rows = records.query([])?;
+    while let Some(row) = rows.next()? {
+        snapshot.records.push(record_of(row)?);
+    }
+    Ok(snapshot)
+}
+
+/// Gives a file that has the tables of a store and no more all of the snapshot.
+pub(crate) fn save(connection: &mut Connection, snapshot: &Snapshot) -> Result<(), StoreError> {
+    let transaction = connection.transaction()?;
+    commit_one(&transaction, &Change::Started { epoch: snapshot.epoch })?;
+    for (key, value) in &snapshot.rows {
+        commit_write(&transaction, &Write::Insert(Row { key: *key, value: *value }))?;
+    }
+    for record in &snapshot.records {
+        save_record(&transaction, record)?;
+    }
+    Ok(transaction.commit()?)
+}
+
+fn save_record(transaction: &Transaction<'_>, record: &Record) -> Result<(), StoreError> {
+    let Record { client, incarnation, last, left } = *record;
+    run(transaction, REGISTER, params![client, signed(incarnation)?])?;
+    if let Some((number, outcome)) = last {
+        run(transaction, JUDGE, params![client, signed(number)?, outcome.tag()])?;
+    }
+    if left { run(transaction, LEAVE, params![client]) } else { Ok(()) }
 }
 
 fn commit_one(transaction: &Transaction<'_>, change: &Change) -> Result<(), StoreError> {

@@ -1,0 +1,215 @@
+//! Stores as files: one that is read, and a new one that is written.
+use crate::change::Snapshot;
+use crate::sqlite::{self, SqliteStore};
+use crate::sqlite_version::{Found, VERSION, look};
+use crate::store::StoreError;
+use rusqlite::{Connection, OpenFlags};
+use std::ffi::OsString;
+use std::fs::{File, OpenOptions};
+use std::io::{self, ErrorKind};
+use std::os::unix::fs::OpenOptionsExt;
+use std::path::{Path, PathBuf};
+
+/// What a file has that is only read.
+#[derive(Clone, Debug, PartialEq, Eq)]
+pub struct StoreFile {
+    /// The version of its tables: 0 in a file of before there were versions.
+    pub version: i64,
+    /// All that was kept.
+    pub snapshot: Snapshot,
+}
+
+impl SqliteStore {
+    /// Reads the file, and changes nothing in it.
+    ///
+    /// # Errors
+    ///
+    /// If there is no such file, it is no store, or its version is unknown; if another process has
+    /// it open.
+    pub fn read(path: impl AsRef<Path>) -> Result<StoreFile, StoreError> {
+        let flags = OpenFlags::SQLITE_OPEN_READ_ONLY | OpenFlags::SQLITE_OPEN_NO_MUTEX;
+        let connection = Connection::open_with_flags(path, flags)?;
+        let version = match look(&connection)? {
+            Found::New => return Err(StoreError::says("the file has no tables: it is no store")),
+            Found::Unnumbered => 0,
+            Found::Current => VERSION,
+        };
+        Ok(StoreFile { version, snapshot: sqlite::load(&connection)? })
+    }
+
+    /// Writes the snapshot as a new store, which only its owner may read and write. When this
+    /// returns, the file is on the disk under its name. If it fails there is no file of that name.
+    ///
+    /// # Errors
+    ///
+    /// If there is a file of that name already, or if it can't be written.
+    pub fn create(path: impl AsRef<Path>, snapshot: &Snapshot) -> Result<(), StoreError> {
+        let path = path.as_ref();
+        if path.symlink_metadata().is_ok() {
+            return Err(exists(path));
+        }
+        let part = Part::new(path)?;
+        write(&part.path, snapshot)?;
+        File::open(&part.path)?.sync_all()?;
+        // A link fails if the name is taken meanwhile, and a rename would replace that file.
+        std::fs::hard_link(&part.path, path).map_err(|error| match error.kind() {
+            ErrorKind::AlreadyExists => exists(path),
+            _ => error.into(),
+        })?;
+        drop(part);
+        sync_folder_of(path).map_err(Into::into)
+    }
+}
+
+fn exists(path: &Path) -> StoreError {
+    StoreError::says(&format!("there is a file {} already", path.display()))
+}
+
+fn write(path: &Path, snapshot: &Snapshot) -> Result<(), StoreError> {
+    let mut connection = Connection::open(path)?;
+    sqlite::prepare(&connection)?;
+    sqlite::save(&mut connection, snapshot)?;
+    connection.close().map_err(|(_, error)| error.into())
+}
+
+/// A file that is written under a name of its own. It is gone when this value is.
+struct Part {
+    path: PathBuf,
+}
+
+impl Part {
+    fn new(path: &Path) -> io::Result<Part> {
+        let mut name = OsString::from(path);
+        name.push(format!(".{}.part", std::process::id()));
+        let path = PathBuf::from(name);
+        OpenOptions::new().write(true).create_new(true).mode(0o600).open(&path)?;
+        Ok(Part { path })
+    }
+}
+
+impl Drop for Part {
+    fn drop(&mut self) {
+        // A file that can't be removed is a name too many, and no harm.
+        let _ = std::fs::remove_file(&self.path);
+    }
+}
+
+/// A new name is on the disk only when its folder is synced.
+fn sync_folder_of(path: &Path) -> io::Result<()> {
+    match path.parent() {
+        Some(folder) if !folder.as_os_str().is_empty() => File::open(folder)?.sync_all(),
+        _ => File::open(".")?.sync_all(),
+    }
+}
+
+impl From<io::Error> for StoreError {
+    fn from(error: io::Error) -> StoreError {
+        StoreError(Box::new(error))
+    }
+}
+
+#[cfg(test)]
+mod tests {
+    use super::*;
+    use crate::change::{Outcome, Record};
+    use crate::row::Value;
+    use crate::store::Store;
+    use std::os::unix::fs::PermissionsExt;
+
+    struct Folder(PathBuf);
+
+    impl Folder {
+        fn new(name: &str) -> Folder {
+            let folder =
+                std::env::temp_dir().join(format!("krl-copy-{}-{name}", std::process::id()));
+            std::fs::create_dir_all(&folder).unwrap();
+            Folder(folder)
+        }
+
+        fn names(&self) -> Vec<String> {
+            let names = std::fs::read_dir(&self.0).unwrap();
+            let names = names.map(|it| it.unwrap().file_name().into_string().unwrap());
+            let mut names: Vec<_> = names.collect();
+            names.sort();
+            names
+        }
+    }
+
+    impl Drop for Folder {
+        fn drop(&mut self) {
+            let _ = std::fs::remove_dir_all(&self.0);
+        }
+    }
+
+    fn snapshot() -> Snapshot {
+        let record =
+            |client, last, left| Record { client, incarnation: 5 + u64::from(client), last, left };
+        Snapshot {
+            epoch: 7,
+            rows: (0..1000).map(|key| (3 * key, Value::from(key))).collect(),
+            records: vec![
+                record(9, Some((4, Outcome::Exists)), false),
+                record(2, None, true),
+                record(63, Some((1, Outcome::Applied)), false),
+            ],
+        }
+    }
+
+    #[test]
+    fn a_new_store_has_the_snapshot() {
+        let folder = Folder::new("new");
+        let file = folder.0.join("copy.db");
+        SqliteStore::create(&file, &snapshot()).unwrap();
+        assert_eq!(folder.names(), ["copy.db"]);
+        assert_eq!(file.metadata().unwrap().permissions().mode() & 0o777, 0o600);
+        let expected = StoreFile { version: 1, snapshot: snapshot() };
+        assert_eq!(SqliteStore::read(&file).unwrap(), expected);
+        assert_eq!(folder.names(), ["copy.db"]);
+        assert_eq!(SqliteStore::open(&file).unwrap().load().unwrap(), snapshot());
+    }
+
+    #[test]
+    fn a_file_that_is_there_is_left_alone() {
+        let folder = Folder::new("there");
+        let file = folder.0.join("copy.db");
+        std::fs::write(&file, "mine").unwrap();
+        let refused = SqliteStore::create(&file, &snapshot()).unwrap_err().to_string();
+        assert!(refused.contains("there is a file"), "{refused}");
+        assert_eq!(std::fs::read(&file).unwrap(), b"mine");
+        let nowhere = folder.0.join("none").join("copy.db");
+        assert!(SqliteStore::create(nowhere, &snapshot()).is_err());
+        assert_eq!(folder.names(), ["copy.db"]);
+    }
+
+    #[test]
+    fn what_is_no_store_is_not_read() {
+        let folder = Folder::new("other");
+        let file = folder.0.join("other.db");
+        assert!(SqliteStore::read(&file).is_err(), "there is none");
+        assert!(!file.exists());
+        std::fs::write(&file, "this is a text, and no database of SQLite").unwrap();
+        assert!(SqliteStore::read(&file).is_err());
+        std::fs::remove_file(&file).unwrap();
+        Connection::open(&file).unwrap().execute_batch("CREATE TABLE t (a)").unwrap();
+        for refused in [SqliteStore::read(&file).map(drop), SqliteStore::open(&file).map(drop)] {
+            let refused = refused.unwrap_err().to_string();
+            assert!(refused.contains("another program"), "{refused}");
+        }
+    }
+
+    #[test]
+    fn an_older_store_is_read_as_it_is_and_raised_when_it_is_opened() {
+        let folder = Folder::new("older");
+        let file = folder.0.join("old.db");
+        SqliteStore::create(&file, &snapshot()).unwrap();
+        let unmark = "PRAGMA application_id = 0; PRAGMA user_version = 0;";
+        Connection::open(&file).unwrap().execute_batch(unmark).unwrap();
+        let version = |file| SqliteStore::read(file).map(|it| it.version).unwrap();
+        assert_eq!([version(&file), version(&file)], [0, 0]);
+        assert_eq!(SqliteStore::open(&file).unwrap().load().unwrap(), snapshot());
+        assert_eq!(version(&file), 1);
+        Connection::open(&file).unwrap().execute_batch("PRAGMA user_version = 2").unwrap();
+        let refused = SqliteStore::open(&file).map(drop).unwrap_err().to_string();
+        assert!(refused.contains("version 2"), "{refused}");
+    }
+}

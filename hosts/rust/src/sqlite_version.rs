@@ -1,0 +1,86 @@
+//! Which files of SQLite are stores, and of which version.
+use crate::store::StoreError;
+use rusqlite::Connection;
+
+/// What a store has as SQLite's application id: "krl1" in ASCII.
+const APPLICATION: i64 = 0x6b72_6c31;
+
+/// The version of the tables, as SQLite's user version.
+pub(crate) const VERSION: i64 = 1;
+
+/// The tables of a store, by name.
+const NAMES: [&str; 3] = ["entry", "epoch", "record"];
+
+/// What a file of SQLite is.
+#[derive(Clone, Copy, Debug, PartialEq, Eq)]
+pub(crate) enum Found {
+    /// It has nothing yet.
+    New,
+    /// A store of before there were versions. Its tables are those of version 1.
+    Unnumbered,
+    /// A store of this version.
+    Current,
+}
+
+/// What the file is, by its application id, its user version and the names of its tables.
+fn found(application: i64, version: i64, tables: &[String]) -> Result<Found, String> {
+    match (application, version) {
+        (0, 0) if tables.is_empty() => Ok(Found::New),
+        (0, 0) if tables == NAMES => Ok(Found::Unnumbered),
+        (APPLICATION, VERSION) => Ok(Found::Current),
+        (APPLICATION, other) => {
+            Err(format!("the store has version {other}, and this program reads version {VERSION}"))
+        }
+        _ => Err("the file is a database of another program, and no store of krl".to_string()),
+    }
+}
+
+/// What the file of this connection is.
+pub(crate) fn look(connection: &Connection) -> Result<Found, StoreError> {
+    let number = |pragma| connection.query_row(pragma, [], |row| row.get(0));
+    let application = number("PRAGMA application_id")?;
+    let version = number("PRAGMA user_version")?;
+    let mut names =
+        connection.prepare("SELECT name FROM sqlite_master WHERE type = 'table' ORDER BY name")?;
+    let tables = names.query_map([], |row| row.get(0))?.collect::<Result<Vec<String>, _>>()?;
+    found(application, version, &tables).map_err(|what| StoreError::says(&what))
+}
+
+/// Makes the file a store of this version. Both numbers change with the transaction that is open.
+pub(crate) fn mark(connection: &Connection) -> Result<(), StoreError> {
+    connection.pragma_update(None, "application_id", APPLICATION)?;
+    connection.pragma_update(None, "user_version", VERSION)?;
+    Ok(())
+}
+
+#[cfg(test)]
+mod tests {
+    use super::*;
+
+    fn tables(names: &[&str]) -> Vec<String> {
+        names.iter().map(ToString::to_string).collect()
+    }
+
+    #[test]
+    fn each_kind_of_file() {
+        let ours = tables(&NAMES);
+        assert_eq!(found(0, 0, &[]), Ok(Found::New));
+        assert_eq!(found(0, 0, &ours), Ok(Found::Unnumbered));
+        assert_eq!(found(APPLICATION, 1, &ours), Ok(Found::Current));
+        for (application, version, tables) in [
+            (0, 0, tables(&["entry", "epoch"])),
+            (0, 0, tables(&["entry", "epoch", "other", "record"])),
+            (0, 1, ours.clone()),
+            (0, 1, Vec::new()),
+            (7, 0, Vec::new()),
+            (7, 1, ours.clone()),
+        ] {
+            let what = found(application, version, &tables).unwrap_err();
+            assert!(what.contains("another program"), "{application} {version} {tables:?}: {what}");
+        }
+        for version in [0, 2, -1] {
+            let what = found(APPLICATION, version, &ours).unwrap_err();
+            assert!(what.contains(&format!("version {version},")), "{what}");
+        }
+    }
+}
