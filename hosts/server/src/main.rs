@@ -1,85 +1,80 @@
-//! A krl server over SQLite, and what its operator needs.
-//!
-//! ```text
-//! krl-server serve ADDRESS STORE [STATUS]   serves STORE at ADDRESS, and its status by HTTP at STATUS
-//! krl-server evict ADDRESS NUMBER LOCK      ends the client NUMBER, whose process is dead, for good
-//! ```
-//!
-//! An address is `127.0.0.1:7400`, or `unix:` and a path. STATUS is as `127.0.0.1:7401`: `/` has
-//! the text, `/metrics` Prometheus' lines.
-use krl::{Address, Listener, Server, SqliteStore, Status, evict};
+//! A krl server over SQLite, and what its operator needs. `krl-server --help` says its words, and
+//! `docs/OPERATING.md` how it is run.
+mod backup;
+mod check;
+mod command_line;
+mod http;
+mod log;
+mod owner;
+mod pages;
+mod serve;
+mod settings;
+mod status_port;
+
+use clap::{ArgMatches, CommandFactory, FromArgMatches};
+use command_line::{Command, CommandLine, ServeOptions};
+use krl::Address;
+use settings::{BadSetting, Settings};
 use std::error::Error;
-use std::io::{Read, Write};
-use std::net::{TcpListener, TcpStream};
+use std::path::Path;
 use std::process::ExitCode;
-use std::time::Duration;
 
-const USAGE: &str =
-    "usage: krl-server serve ADDRESS STORE [STATUS] | krl-server evict ADDRESS NUMBER LOCK";
-
-/// How long an operator's connection may take.
-const TIMEOUT: Duration = Duration::from_secs(2);
+/// The exit status if the command line, the environment or the configuration file is wrong.
+const USAGE: u8 = 2;
 
 fn main() -> ExitCode {
-    let words: Vec<String> = std::env::args().skip(1).collect();
-    let words: Vec<&str> = words.iter().map(String::as_str).collect();
-    let ended = match words[..] {
-        ["serve", address, store] => serve(address, store, None),
-        ["serve", address, store, status] => serve(address, store, Some(status)),
-        ["evict", address, number, lock] => evict_client(address, number, lock),
-        _ => {
-            eprintln!("{USAGE}");
-            return ExitCode::from(2);
-        }
-    };
-    match ended {
-        Ok(()) => ExitCode::SUCCESS,
+    let matches = CommandLine::command().get_matches();
+    let words = CommandLine::from_arg_matches(&matches).unwrap_or_else(|error| error.exit());
+    let options = matches.subcommand().map_or(&matches, |(_, options)| options);
+    match run(words.command, options) {
+        Ok(status) => status,
         Err(error) => {
-            eprintln!("krl-server: {error}");
-            ExitCode::FAILURE
+            eprintln!("krl-server: {}", sentence(error.as_ref()));
+            let is_usage = error.is::<BadSetting>();
+            if is_usage { ExitCode::from(USAGE) } else { ExitCode::FAILURE }
         }
     }
 }
 
-fn serve(address: &str, store: &str, status: Option<&str>) -> Result<(), Box<dyn Error>> {
-    let listener = Listener::bind(&address.parse::<Address>()?)?;
-    let server = Server::start(listener, SqliteStore::open(store)?)?;
-    eprintln!("krl-server: epoch {}, at {}", server.status().epoch, server.address());
-    if let Some(status) = status {
-        show(TcpListener::bind(status)?, server.status_reader());
+fn run(command: Command, matches: &ArgMatches) -> Result<ExitCode, Box<dyn Error>> {
+    match command {
+        Command::Serve(options) => return Ok(serve::serve(&settings(&options, matches)?)),
+        Command::Config(options) => print!("{}", settings(&options, matches)?),
+        Command::Status { address, json } => print!("{}", pages::fetch(&address, json)?),
+        Command::Evict { address, number, lock_file } => evict(&address, number, &lock_file)?,
+        Command::Backup { address, file } => backup::ask(&address, &file)?,
+        Command::Check { file } => return check::check(&file),
     }
-    server.wait()?;
-    Ok(())
+    Ok(ExitCode::SUCCESS)
 }
 
-fn evict_client(address: &str, number: &str, lock: &str) -> Result<(), Box<dyn Error>> {
+fn settings(options: &ServeOptions, matches: &ArgMatches) -> Result<Settings, BadSetting> {
+    Settings::of(options, matches)
+}
+
+fn evict(address: &str, number: u8, lock_file: &Path) -> Result<(), Box<dyn Error>> {
     eprintln!(
-        "krl-server: client {number} must be dead: one that still runs would answer from its cache what is not so"
+        "krl-server: client {number} must be dead: one that still runs would answer from its \
+         cache what is not so"
     );
-    evict(address.parse::<Address>()?, number.parse()?, lock)?;
+    let server: Address =
+        address.parse().map_err(|error| BadSetting::new(format!("'{address}': {error}")))?;
+    krl::evict(server, number, lock_file)?;
     eprintln!("krl-server: client {number} has left");
     Ok(())
 }
 
-/// Answers what an operator asks by HTTP, one connection after the other.
-fn show(listener: TcpListener, status: impl Fn() -> Status + Send + 'static) {
-    std::thread::spawn(move || {
-        for stream in listener.incoming().flatten() {
-            // Who asks and goes away gets no answer.
-            let _ = answer(stream, &status());
+/// An error and what caused it, as one line. What the error itself has told of its cause is not
+/// told again.
+fn sentence(error: &dyn Error) -> String {
+    let mut text = error.to_string();
+    let mut cause = error.source();
+    while let Some(error) = cause {
+        let more = error.to_string();
+        if !text.contains(&more) {
+            text = format!("{text}: {more}");
         }
-    });
-}
-
-fn answer(mut stream: TcpStream, status: &Status) -> std::io::Result<()> {
-    stream.set_read_timeout(Some(TIMEOUT))?;
-    stream.set_write_timeout(Some(TIMEOUT))?;
-    let mut request = [0; 1024];
-    let length = stream.read(&mut request)?;
-    let body = match request[..length].starts_with(b"GET /metrics ") {
-        true => status.prometheus(),
-        false => status.to_string(),
-    };
-    let head = "HTTP/1.0 200 OK\r\nContent-Type: text/plain; version=0.0.4\r\n";
-    write!(stream, "{head}Content-Length: {}\r\n\r\n{body}", body.len())
+        cause = error.source();
+    }
+    text
 }

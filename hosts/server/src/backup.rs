@@ -1,0 +1,49 @@
+//! A copy of the store of a running server.
+use crate::http;
+use hyper::StatusCode;
+use krl::{Monitor, SqliteStore};
+use serde::{Deserialize, Serialize};
+use std::error::Error;
+use std::path::{Path, PathBuf};
+use std::time::Duration;
+
+/// How long a backup may take: a table has at most 65,536 rows.
+pub const TIMEOUT: Duration = Duration::from_secs(60);
+
+/// The path at which a status port takes the order.
+pub const PATH: &str = "/backup";
+
+/// The order to make a backup.
+#[derive(Debug, Deserialize, Serialize)]
+#[serde(deny_unknown_fields)]
+pub struct Order {
+    /// The new file, from the root.
+    pub file: PathBuf,
+}
+
+/// Has the server at this status port copy its store into a new file.
+pub fn ask(address: &str, file: &Path) -> Result<(), Box<dyn Error>> {
+    let file = std::path::absolute(file)?;
+    let order = serde_json::to_string(&Order { file })?;
+    let reply = http::post(address, PATH, order, TIMEOUT)?;
+    match reply.status {
+        StatusCode::CREATED => {
+            print!("{}", reply.text);
+            Ok(())
+        }
+        _ => Err(format!("no backup: {}", reply.text.trim_end()).into()),
+    }
+}
+
+/// Makes the backup, and says what it has. The server stops for as long as its store is read.
+pub fn make(monitor: &Monitor, order: &Order) -> Result<String, Box<dyn Error + Send + Sync>> {
+    let file = &order.file;
+    if !file.is_absolute() {
+        return Err("the path of a backup has to begin at the root".into());
+    }
+    let snapshot = monitor.snapshot()?;
+    SqliteStore::create(file, &snapshot).map_err(|error| error.0)?;
+    let (rows, epoch) = (snapshot.rows.len(), snapshot.epoch);
+    tracing::info!(file = %file.display(), rows, epoch, "backup");
+    Ok(format!("{}: {rows} rows, as of epoch {epoch}\n", file.display()))
+}

@@ -1,0 +1,41 @@
+//! What a store holds, and whether a server can start on it.
+use crate::owner;
+use krl::{Record, SqliteStore};
+use std::error::Error;
+use std::path::Path;
+use std::process::ExitCode;
+
+/// Prints what the file holds. The exit status is 1 if no server can start on it.
+pub fn check(path: &Path) -> Result<ExitCode, Box<dyn Error>> {
+    if let Some(by) = owner::served_by(path) {
+        return Err(format!("the store {} is served, by {by}", path.display()).into());
+    }
+    let file = SqliteStore::read(path)
+        .map_err(|error| format!("{} can't be read as a store: {}", path.display(), error.0))?;
+    let snapshot = &file.snapshot;
+    let (gone, there): (Vec<_>, Vec<_>) = snapshot.records.iter().partition(|it| it.left);
+    println!("version: {}", file.version);
+    println!("epoch: {}", snapshot.epoch);
+    println!("rows: {}", snapshot.rows.len());
+    println!("clients that have not left: {}", list(&there));
+    println!("clients that have left: {}", list(&gone));
+    match snapshot.judge() {
+        Ok(()) => {
+            println!("a server can start on it");
+            Ok(ExitCode::SUCCESS)
+        }
+        Err(code) => {
+            println!("no server can start on it: {code}");
+            Ok(ExitCode::FAILURE)
+        }
+    }
+}
+
+fn list(records: &[&Record]) -> String {
+    if records.is_empty() {
+        return "none".to_string();
+    }
+    let mut numbers: Vec<_> = records.iter().map(|record| record.client).collect();
+    numbers.sort_unstable();
+    numbers.iter().map(u8::to_string).collect::<Vec<_>>().join(", ")
+}

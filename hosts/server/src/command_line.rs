@@ -1,0 +1,109 @@
+//! The words of the command line.
+use clap::{Args, Parser, Subcommand};
+use std::path::PathBuf;
+
+/// A key-range lock server over an SQLite file.
+#[derive(Debug, Parser)]
+#[command(
+    name = "krl-server",
+    version,
+    arg_required_else_help = true,
+    after_help = STATUSES,
+    after_long_help = MORE
+)]
+pub struct CommandLine {
+    /// What to do.
+    #[command(subcommand)]
+    pub command: Command,
+}
+
+const STATUSES: &str = "\
+Exit statuses:
+  0  it is done; a server that was told to stop has stopped in order
+  1  it failed, and standard error says why
+  2  the command line, the environment or the configuration file is wrong";
+
+const MORE: &str = "\
+Exit statuses:
+  0  it is done; a server that was told to stop has stopped in order
+  1  it failed, and standard error says why
+  2  the command line, the environment or the configuration file is wrong
+
+Examples:
+  krl-server serve
+      Serves krl.db of this folder at 127.0.0.1:7400, and its status at 127.0.0.1:7401
+  krl-server serve --listen 10.0.0.5:7400 --store /var/lib/krl/krl.db --log-format json
+  krl-server serve --config /etc/krl/krl.toml
+  krl-server status
+  krl-server backup 127.0.0.1:7401 /var/lib/krl/monday.db
+  krl-server check /var/lib/krl/monday.db
+  krl-server evict 127.0.0.1:7400 3 client-3.lock";
+
+#[derive(Debug, Subcommand)]
+pub enum Command {
+    /// Serve the table of a store until SIGTERM or SIGINT comes
+    Serve(ServeOptions),
+    /// Print the settings that `serve` would use, and where each comes from
+    Config(ServeOptions),
+    /// Print what a server shows of itself
+    Status {
+        /// The server's status port
+        #[arg(default_value = crate::settings::STATUS)]
+        address: String,
+        /// Print it as JSON
+        #[arg(long)]
+        json: bool,
+    },
+    /// End a client for good whose process is dead
+    #[command(long_about = "\
+End a client for good whose process is dead.
+
+What the client held is free then, and a server that starts again does not wait for it. Evict a
+client only when its process is dead, not when it is silent: one that still runs would go on to
+answer from its cache what is no longer so.")]
+    Evict {
+        /// Where the server listens: 127.0.0.1:7400, or unix: and a path
+        address: String,
+        /// The client's number
+        #[arg(value_parser = clap::value_parser!(u8).range(0..64))]
+        number: u8,
+        /// The client's lock file, or a new file if that is lost
+        lock_file: PathBuf,
+    },
+    /// Have a running server copy its store into a new file
+    Backup {
+        /// The server's status port, such as 127.0.0.1:7401
+        address: String,
+        /// The new file. The server makes it, with the rights of the server's process
+        file: PathBuf,
+    },
+    /// Say what a store holds, and whether a server can start on it
+    Check {
+        /// The store. It is only read, and no server may run on it
+        file: PathBuf,
+    },
+}
+
+/// How a server runs. What is not given here comes from the environment, then from the
+/// configuration file, then from the defaults.
+#[derive(Args, Debug)]
+pub struct ServeOptions {
+    /// Where clients connect: 127.0.0.1:7400, or unix: and a path
+    #[arg(long, env = "KRL_LISTEN", value_name = "ADDRESS")]
+    pub listen: Option<String>,
+    /// The SQLite file that keeps the table. It is made if there is none
+    #[arg(long, env = "KRL_STORE", value_name = "FILE")]
+    pub store: Option<String>,
+    /// Where the status is served by HTTP: 127.0.0.1:7401, or off
+    #[arg(long, env = "KRL_STATUS", value_name = "ADDRESS")]
+    pub status: Option<String>,
+    /// The least severe events that are logged: error, warn, info, debug or trace
+    #[arg(long, env = "KRL_LOG_LEVEL", value_name = "LEVEL")]
+    pub log_level: Option<String>,
+    /// How events are logged to standard error: text or json
+    #[arg(long, env = "KRL_LOG_FORMAT", value_name = "FORMAT")]
+    pub log_format: Option<String>,
+    /// A configuration file in TOML, with the keys listen, store, status, log-level, log-format
+    #[arg(long, env = "KRL_CONFIG", value_name = "FILE")]
+    pub config: Option<PathBuf>,
+}

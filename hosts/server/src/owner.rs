@@ -1,0 +1,115 @@
+//! Who serves a store: a file beside it that says so.
+use std::ffi::OsString;
+use std::fmt;
+use std::fs::{File, OpenOptions, TryLockError};
+use std::io::{self, Read, Seek, SeekFrom, Write};
+use std::path::{Path, PathBuf};
+
+/// The right to serve a store. Another process may take it when this value is gone, or the process
+/// is. The file stays, and says who served last.
+#[derive(Debug)]
+pub struct Owner {
+    _file: File,
+}
+
+/// Why a store can't be served.
+#[derive(Debug)]
+pub enum NotOwned {
+    /// Another process serves it.
+    Served { store: PathBuf, by: String },
+    /// The file beside it can't be used.
+    File { path: PathBuf, error: io::Error },
+}
+
+/// The longest line that is read from the file.
+const MAX_LINE: u64 = 1000;
+
+impl Owner {
+    /// Takes the right to serve the store, and says in the file beside it who has it.
+    pub fn take(store: &Path, address: &dyn fmt::Display) -> Result<Owner, NotOwned> {
+        let path = path_of(store);
+        let fails = |error| NotOwned::File { path: path.clone(), error };
+        let mut options = OpenOptions::new();
+        options.read(true).write(true).create(true).truncate(false);
+        let mut file = options.open(&path).map_err(fails)?;
+        match file.try_lock() {
+            Ok(()) => {}
+            Err(TryLockError::WouldBlock) => {
+                let store = store.to_path_buf();
+                return Err(NotOwned::Served { store, by: line_of(&file) });
+            }
+            Err(TryLockError::Error(error)) => return Err(fails(error)),
+        }
+        note(&mut file, address).map_err(fails)?;
+        Ok(Owner { _file: file })
+    }
+}
+
+/// Who serves the store now, if somebody does.
+pub fn served_by(store: &Path) -> Option<String> {
+    let file = File::open(path_of(store)).ok()?;
+    match file.try_lock_shared() {
+        Err(TryLockError::WouldBlock) => Some(line_of(&file)),
+        _ => None,
+    }
+}
+
+fn path_of(store: &Path) -> PathBuf {
+    let mut name = OsString::from(store);
+    name.push(".lock");
+    name.into()
+}
+
+fn note(file: &mut File, address: &dyn fmt::Display) -> io::Result<()> {
+    file.set_len(0)?;
+    file.seek(SeekFrom::Start(0))?;
+    writeln!(file, "process {}, at {address}", std::process::id())
+}
+
+/// What the file says, if it says something.
+fn line_of(file: &File) -> String {
+    let mut text = String::new();
+    // What can't be read is not told.
+    let _ = file.take(MAX_LINE).read_to_string(&mut text);
+    match text.trim_end() {
+        "" => "another process".to_string(),
+        line => line.to_string(),
+    }
+}
+
+impl fmt::Display for NotOwned {
+    fn fmt(&self, f: &mut fmt::Formatter<'_>) -> fmt::Result {
+        match self {
+            NotOwned::Served { store, by } => {
+                write!(f, "the store {} is served already, by {by}", store.display())
+            }
+            NotOwned::File { path, error } => {
+                write!(f, "the lock file {} can't be used: {error}", path.display())
+            }
+        }
+    }
+}
+
+impl std::error::Error for NotOwned {}
+
+#[cfg(test)]
+mod tests {
+    use super::*;
+
+    #[test]
+    fn one_owner_at_a_time() {
+        let folder = tempfile::tempdir().unwrap();
+        let store = folder.path().join("krl.db");
+        let owner = Owner::take(&store, &"127.0.0.1:7400").unwrap();
+        let refused = Owner::take(&store, &"127.0.0.1:1").unwrap_err().to_string();
+        let by = format!("served already, by process {}, at 127.0.0.1:7400", std::process::id());
+        assert!(refused.ends_with(&by), "{refused}");
+        assert!(served_by(&store).is_some_and(|by| by.ends_with("at 127.0.0.1:7400")));
+        drop(owner);
+        assert_eq!(served_by(&store), None);
+        drop(Owner::take(&store, &"x").unwrap());
+        let line = std::fs::read_to_string(path_of(&store)).unwrap();
+        assert_eq!(line, format!("process {}, at x\n", std::process::id()));
+        assert!(Owner::take(&folder.path().join("none/krl.db"), &"x").is_err());
+    }
+}

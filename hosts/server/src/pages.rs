@@ -1,0 +1,235 @@
+//! What the status port answers.
+use crate::backup::{self, Order};
+use crate::http;
+use hyper::header::{ACCEPT, ALLOW, CONTENT_TYPE};
+use hyper::{Body, Method, Request, Response, StatusCode};
+use krl::{HeldSlots, Monitor, Status, Wait};
+use serde_json::json;
+use std::error::Error;
+use std::time::Duration;
+
+const TEXT: &str = "text/plain; charset=utf-8";
+const JSON: &str = "application/json";
+const METRICS: &str = "text/plain; version=0.0.4; charset=utf-8";
+
+const PATHS: &str = "there is /healthz, /readyz, /status, /status.json and /metrics\n";
+
+/// A server whose loop has not turned for so long is not healthy.
+const MAX_TURN: Duration = Duration::from_secs(1);
+
+/// The most bytes of an order.
+const MAX_ORDER: u64 = 1 << 16;
+
+/// How long `krl-server status` waits for an answer.
+const WAIT: Duration = Duration::from_secs(5);
+
+/// A page and its status.
+#[derive(Debug, PartialEq, Eq)]
+struct Page {
+    status: StatusCode,
+    kind: &'static str,
+    text: String,
+}
+
+impl Page {
+    fn new(status: StatusCode, kind: &'static str, text: String) -> Page {
+        Page { status, kind, text }
+    }
+
+    fn text(status: StatusCode, text: impl Into<String>) -> Page {
+        Page::new(status, TEXT, text.into())
+    }
+}
+
+/// The status of the server whose status port this is.
+pub fn fetch(address: &str, json: bool) -> Result<String, Box<dyn Error>> {
+    let kind = if json { JSON } else { TEXT };
+    let reply = http::get(address, "/status", kind, WAIT)?;
+    if reply.status == StatusCode::OK {
+        return Ok(reply.text);
+    }
+    Err(format!("{address} is no status port of krl: it answered {}", reply.status).into())
+}
+
+/// What a request is answered.
+pub async fn answer(request: Request<Body>, monitor: Monitor) -> Response<Body> {
+    let path = request.uri().path();
+    let page = match (request.method(), path) {
+        (&Method::POST, backup::PATH) => order(request, monitor).await,
+        (_, backup::PATH) => return refused_method("POST"),
+        (&Method::GET | &Method::HEAD, _) => {
+            let accepts = request.headers().get(ACCEPT).and_then(|value| value.to_str().ok());
+            shown(path, accepts.unwrap_or(""), &monitor)
+        }
+        _ => return refused_method("GET, HEAD"),
+    };
+    response(page)
+}
+
+fn response(page: Page) -> Response<Body> {
+    let mut response = Response::new(Body::from(page.text));
+    *response.status_mut() = page.status;
+    response.headers_mut().insert(CONTENT_TYPE, page.kind.parse().expect("a constant"));
+    response
+}
+
+fn refused_method(allowed: &'static str) -> Response<Body> {
+    let text = format!("this takes {allowed} alone\n");
+    let mut response = response(Page::text(StatusCode::METHOD_NOT_ALLOWED, text));
+    response.headers_mut().insert(ALLOW, allowed.parse().expect("a constant"));
+    response
+}
+
+fn shown(path: &str, accepts: &str, monitor: &Monitor) -> Page {
+    match path {
+        "/healthz" => health(monitor.since_last_turn()),
+        "/readyz" => readiness(&monitor.status()),
+        "/status" if accepts.contains(JSON) => as_json(&monitor.status()),
+        "/status" => Page::text(StatusCode::OK, monitor.status().to_string()),
+        "/status.json" => as_json(&monitor.status()),
+        "/metrics" => Page::new(StatusCode::OK, METRICS, monitor.metrics()),
+        _ => Page::text(StatusCode::NOT_FOUND, PATHS),
+    }
+}
+
+/// Whether the server's loop turns.
+fn health(since_last_turn: Duration) -> Page {
+    if since_last_turn < MAX_TURN {
+        return Page::text(StatusCode::OK, "ok\n");
+    }
+    let ms = since_last_turn.as_millis();
+    let text = format!("the server's loop last turned {ms} ms ago\n");
+    Page::text(StatusCode::SERVICE_UNAVAILABLE, text)
+}
+
+/// Whether the server answers requests, and if not, for whom it waits.
+fn readiness(status: &Status) -> Page {
+    if status.is_serving {
+        return Page::text(StatusCode::OK, "serving\n");
+    }
+    let missing: Vec<_> = status.missing.iter().map(u8::to_string).collect();
+    let text = format!(
+        "recovering: waits for the reports of the clients {}, which have to report or to be \
+         evicted\n",
+        missing.join(", ")
+    );
+    Page::text(StatusCode::SERVICE_UNAVAILABLE, text)
+}
+
+fn as_json(status: &Status) -> Page {
+    let waits = |wait: &Wait| {
+        json!({
+            "client": wait.client,
+            "point": wait.point,
+            "mode": wait.mode,
+            "waited_seconds": wait.waited.as_secs_f64(),
+            "waits_for": wait.waits_for,
+        })
+    };
+    let holds = |held: &HeldSlots| json!({ "client": held.client, "slots": held.slots });
+    let text = json!({
+        "version": env!("CARGO_PKG_VERSION"),
+        "epoch": status.epoch,
+        "phase": if status.is_serving { "serving" } else { "recovering" },
+        "missing": status.missing,
+        "connected": status.connected,
+        "connections": status.connections,
+        "waits": status.waits.iter().map(waits).collect::<Vec<_>>(),
+        "holdings": status.holdings.iter().map(holds).collect::<Vec<_>>(),
+        "alarms": status.alarms,
+        "alarms_total": status.alarms_raised,
+        "messages_taken_total": status.taken,
+        "messages_sent_total": status.sent,
+        "messages_refused_total": status.refused,
+        "pushes_held_back_total": status.held_back,
+        "changes_total": status.changes,
+        "commits_total": status.commits,
+    });
+    Page::new(StatusCode::OK, JSON, format!("{text:#}\n"))
+}
+
+/// Takes the order to make a backup. Its kind has to be JSON, which no page of another site can
+/// send without asking first.
+async fn order(request: Request<Body>, monitor: Monitor) -> Page {
+    let kind = request.headers().get(CONTENT_TYPE).and_then(|value| value.to_str().ok());
+    if kind != Some(JSON) {
+        return Page::text(StatusCode::UNSUPPORTED_MEDIA_TYPE, format!("an order is {JSON}\n"));
+    }
+    let bytes = match body(request).await {
+        Ok(bytes) => bytes,
+        Err(page) => return page,
+    };
+    let order: Order = match serde_json::from_slice(&bytes) {
+        Ok(order) => order,
+        Err(error) => {
+            let text = format!("an order is {{\"file\": \"/path/of/a/new/file\"}}: {error}\n");
+            return Page::text(StatusCode::BAD_REQUEST, text);
+        }
+    };
+    // Files are written in another thread, so that other pages are served meanwhile.
+    let made = tokio::task::spawn_blocking(move || backup::make(&monitor, &order)).await;
+    match made {
+        Ok(Ok(text)) => Page::text(StatusCode::CREATED, text),
+        Ok(Err(error)) => Page::text(StatusCode::CONFLICT, format!("{error}\n")),
+        Err(_) => Page::text(StatusCode::INTERNAL_SERVER_ERROR, "the backup panicked\n"),
+    }
+}
+
+/// The bytes of a request, if they are not too many.
+async fn body(request: Request<Body>) -> Result<hyper::body::Bytes, Page> {
+    use hyper::body::HttpBody;
+    let length = request.body().size_hint().upper();
+    if length.is_none_or(|length| length > MAX_ORDER) {
+        let text = format!("an order has at most {MAX_ORDER} bytes, and says how many\n");
+        return Err(Page::text(StatusCode::PAYLOAD_TOO_LARGE, text));
+    }
+    hyper::body::to_bytes(request.into_body())
+        .await
+        .map_err(|error| Page::text(StatusCode::BAD_REQUEST, format!("{error}\n")))
+}
+
+#[cfg(test)]
+mod tests {
+    use super::*;
+
+    #[test]
+    fn a_loop_that_hangs_is_not_healthy() {
+        assert_eq!(health(Duration::from_millis(999)), Page::text(StatusCode::OK, "ok\n"));
+        let page = health(Duration::from_secs(1));
+        assert_eq!(page.status, StatusCode::SERVICE_UNAVAILABLE);
+        assert!(page.text.contains("1000 ms"), "{}", page.text);
+    }
+
+    #[test]
+    fn a_server_that_recovers_is_not_ready() {
+        let mut status = Status { missing: vec![1, 7], ..Status::default() };
+        let page = readiness(&status);
+        assert_eq!(page.status, StatusCode::SERVICE_UNAVAILABLE);
+        assert!(page.text.contains("clients 1, 7,"), "{}", page.text);
+        status.is_serving = true;
+        assert_eq!(readiness(&status).status, StatusCode::OK);
+    }
+
+    #[test]
+    fn json_has_the_status() {
+        let wait = Wait {
+            client: 3,
+            point: 10,
+            mode: "RangeX-X",
+            waited: Duration::from_millis(40),
+            waits_for: vec![0, 2],
+        };
+        let holdings = vec![HeldSlots { client: 2, slots: 7 }];
+        let status =
+            Status { epoch: 4, waits: vec![wait], holdings, commits: 9, ..Status::default() };
+        let page = as_json(&status);
+        let value: serde_json::Value = serde_json::from_str(&page.text).unwrap();
+        assert_eq!(value["epoch"], 4);
+        assert_eq!(value["phase"], "recovering");
+        assert_eq!(value["commits_total"], 9);
+        assert_eq!(value["waits"][0]["waits_for"], json!([0, 2]));
+        assert_eq!(value["waits"][0]["waited_seconds"], 0.04);
+        assert_eq!(value["holdings"], json!([{ "client": 2, "slots": 7 }]));
+        assert_eq!(page.kind, JSON);
+    }
+}
