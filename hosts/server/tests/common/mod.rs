@@ -1,0 +1,139 @@
+//! The program in a process of its own.
+#![allow(dead_code, reason = "each test takes what it needs")]
+use krl::{Address, Client};
+use serde_json::Value;
+use std::io::{BufRead, BufReader, Read, Write};
+use std::net::TcpStream;
+use std::path::{Path, PathBuf};
+use std::process::{Child, Command, ExitStatus, Output, Stdio};
+use std::thread::{self, JoinHandle};
+use std::time::{Duration, Instant};
+
+/// The program, with none of its variables in the environment.
+pub fn program() -> Command {
+    let mut command = Command::new(env!("CARGO_BIN_EXE_krl-server"));
+    for variable in ["LISTEN", "STORE", "STATUS", "LOG_LEVEL", "LOG_FORMAT", "CONFIG"] {
+        command.env_remove(format!("KRL_{variable}"));
+    }
+    command.env_remove("NOTIFY_SOCKET");
+    command
+}
+
+/// Runs the program with these words until it ends.
+pub fn run(words: &[&str]) -> Output {
+    program().args(words).output().unwrap()
+}
+
+pub fn errors(output: &Output) -> String {
+    String::from_utf8(output.stderr.clone()).unwrap()
+}
+
+pub fn text(output: &Output) -> String {
+    String::from_utf8(output.stdout.clone()).unwrap()
+}
+
+/// A server. It is killed when this value is gone.
+pub struct Serving {
+    pub process: Child,
+    pub address: Address,
+    pub status: String,
+    log: Option<JoinHandle<Vec<Value>>>,
+}
+
+/// What a server has left when it has ended.
+pub struct Ended {
+    pub status: ExitStatus,
+    pub took: Duration,
+    pub log: Vec<Value>,
+}
+
+impl Serving {
+    pub fn start(store: &Path) -> Serving {
+        Serving::start_by(program().arg("serve").arg("--store").arg(store))
+    }
+
+    /// Starts a server at free ports, and waits until it serves.
+    pub fn start_by(command: &mut Command) -> Serving {
+        let words = ["--listen", "127.0.0.1:0", "--status", "127.0.0.1:0", "--log-format", "json"];
+        let mut process = command.args(words).stderr(Stdio::piped()).spawn().unwrap();
+        let mut lines = BufReader::new(process.stderr.take().unwrap()).lines();
+        let mut status = String::new();
+        let address = loop {
+            let line = lines.next().expect("the server ended").unwrap();
+            let event: Value = serde_json::from_str(&line).expect(&line);
+            let address = event["address"].as_str().unwrap_or_default();
+            match event["message"].as_str() {
+                Some("status port") => status = address.to_string(),
+                Some("serving") if !address.is_empty() => break address.parse().unwrap(),
+                _ => {}
+            }
+        };
+        let log = thread::spawn(move || {
+            lines.map(|line| serde_json::from_str(&line.unwrap()).unwrap()).collect()
+        });
+        Serving { process, address, status, log: Some(log) }
+    }
+
+    pub fn join(&self, folder: &Path, number: u8) -> Client {
+        Client::join(self.address.clone(), number, lock_file(folder, number)).unwrap()
+    }
+
+    pub fn signal(&self, signals: &[&str]) {
+        for signal in signals {
+            let words = [format!("-{signal}"), self.process.id().to_string()];
+            assert!(Command::new("kill").args(words).status().unwrap().success());
+        }
+    }
+
+    /// Waits until the server has ended.
+    pub fn ended(mut self) -> Ended {
+        let began = Instant::now();
+        let status = self.process.wait().unwrap();
+        let took = began.elapsed();
+        Ended { status, took, log: self.log.take().unwrap().join().unwrap() }
+    }
+
+    /// The status and the body of a page.
+    pub fn get(&self, path: &str) -> (u16, String) {
+        self.ask(&format!("GET {path} HTTP/1.1\r\nHost: krl\r\n\r\n"))
+    }
+
+    pub fn ask(&self, request: &str) -> (u16, String) {
+        let mut stream = TcpStream::connect(&self.status).unwrap();
+        stream.set_read_timeout(Some(Duration::from_secs(10))).unwrap();
+        stream.write_all(request.as_bytes()).unwrap();
+        let mut reply = String::new();
+        stream.read_to_string(&mut reply).unwrap();
+        let (head, body) = reply.split_once("\r\n\r\n").expect(&reply);
+        let status = head.split(' ').nth(1).and_then(|it| it.parse().ok()).expect(head);
+        (status, body.to_string())
+    }
+
+    /// The sample of this name, with its labels.
+    pub fn sample(&self, name: &str) -> f64 {
+        let (_, page) = self.get("/metrics");
+        let value = page.lines().find_map(|line| line.strip_prefix(name)?.strip_prefix(' '));
+        value.expect(&page).parse().unwrap()
+    }
+}
+
+impl Drop for Serving {
+    fn drop(&mut self) {
+        // One that has ended needs no end.
+        let _ = self.process.kill();
+        let _ = self.process.wait();
+    }
+}
+
+pub fn lock_file(folder: &Path, number: u8) -> PathBuf {
+    folder.join(format!("client-{number}.lock"))
+}
+
+/// Waits until it is so.
+pub fn until(what: &str, mut is_so: impl FnMut() -> bool) {
+    let end = Instant::now() + Duration::from_secs(10);
+    while !is_so() {
+        assert!(Instant::now() < end, "not within ten seconds: {what}");
+        thread::sleep(Duration::from_millis(10));
+    }
+}

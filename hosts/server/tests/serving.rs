@@ -1,0 +1,309 @@
+//! A server that starts, is looked at, and stops.
+mod common;
+
+use common::{Serving, errors, lock_file, program, run, text, until};
+use krl::{Outcome, SqliteStore, Value};
+use std::collections::BTreeMap;
+use std::os::unix::net::UnixDatagram;
+use std::os::unix::process::ExitStatusExt;
+use std::path::Path;
+use std::sync::atomic::{AtomicBool, AtomicU64, Ordering};
+use std::thread;
+use std::time::Duration;
+
+/// Inserts keys for as long as the server answers, and says which were Applied.
+fn insert_all(serving: &Serving, folder: &Path, number: u8, count: &AtomicU64) -> Vec<u64> {
+    let mut client = serving.join(folder, number);
+    client.set_timeout(Duration::from_millis(300));
+    let mut applied = Vec::new();
+    for key in (0..).map(|key| key * 64 + u64::from(number)) {
+        match client.insert(key, Value::from(key)) {
+            Ok(Outcome::Applied) => applied.push(key),
+            Ok(other) => panic!("an insert of {key} was {other}"),
+            Err(_) => return applied,
+        }
+        count.fetch_add(1, Ordering::Relaxed);
+    }
+    applied
+}
+
+#[test]
+fn a_signal_under_load_loses_nothing_that_was_applied() {
+    let folder = tempfile::tempdir().unwrap();
+    let store = folder.path().join("krl.db");
+    for signal in ["TERM", "INT"] {
+        let serving = Serving::start(&store);
+        let count = AtomicU64::new(0);
+        let applied = thread::scope(|scope| {
+            let first = if signal == "TERM" { 0 } else { 4 };
+            let insert = |number| {
+                let (serving, folder, count) = (&serving, folder.path(), &count);
+                scope.spawn(move || insert_all(serving, folder, number, count))
+            };
+            let writers: Vec<_> = (first..first + 4).map(insert).collect();
+            until("200 inserts", || count.load(Ordering::Relaxed) >= 200);
+            serving.signal(&[signal]);
+            writers.into_iter().flat_map(|it| it.join().unwrap()).collect::<Vec<_>>()
+        });
+        let ended = serving.ended();
+        assert_eq!(ended.status.code(), Some(0));
+        assert!(ended.log.iter().any(|it| it["message"] == "stopped"), "{:?}", ended.log);
+        let rows = SqliteStore::read(&store).unwrap().snapshot.rows;
+        assert!(applied.len() >= 200);
+        for key in applied {
+            assert_eq!(rows.get(&key), Some(&Value::from(key)), "{key} is lost after {signal}");
+        }
+    }
+}
+
+#[test]
+fn a_signal_ends_a_server_within_a_second() {
+    let folder = tempfile::tempdir().unwrap();
+    let serving = Serving::start(&folder.path().join("krl.db"));
+    let client = serving.join(folder.path(), 5);
+    assert_eq!(client.insert(7, Value::from(7)), Ok(Outcome::Applied));
+    serving.signal(&["TERM"]);
+    let ended = serving.ended();
+    assert_eq!(ended.status.code(), Some(0));
+    assert!(ended.took < Duration::from_secs(1), "{:?}", ended.took);
+    assert_eq!(client.cached(7..8).map(|rows| rows.len()), Some(1));
+}
+
+#[test]
+fn a_second_signal_ends_a_server_at_once() {
+    let folder = tempfile::tempdir().unwrap();
+    let serving = Serving::start(&folder.path().join("krl.db"));
+    // Both signals wait until the process goes on, and come one after the other.
+    serving.signal(&["STOP", "TERM", "INT", "CONT"]);
+    let ended = serving.ended();
+    assert_eq!((ended.status.code(), ended.status.signal()), (Some(1), None));
+}
+
+#[test]
+fn a_store_has_one_server() {
+    let folder = tempfile::tempdir().unwrap();
+    let store = folder.path().join("krl.db");
+    let serving = Serving::start(&store);
+    let name = store.to_str().unwrap();
+    let words = ["serve", "--store", name, "--listen", "127.0.0.1:0", "--status", "off"];
+    let second = run(&words);
+    let by = format!("served already, by process {}, at 127.0.0.1:0", serving.process.id());
+    assert_eq!(second.status.code(), Some(1));
+    assert!(errors(&second).contains(&by), "{}", errors(&second));
+    let check = run(&["check", name]);
+    assert_eq!(check.status.code(), Some(1));
+    assert!(errors(&check).contains(&format!("process {}", serving.process.id())));
+    serving.signal(&["TERM"]);
+    assert_eq!(serving.ended().status.code(), Some(0));
+    drop(Serving::start(&store));
+}
+
+#[test]
+fn an_address_that_is_taken_is_told() {
+    let folder = tempfile::tempdir().unwrap();
+    let serving = Serving::start(&folder.path().join("krl.db"));
+    let other = folder.path().join("other.db");
+    let other = other.to_str().unwrap();
+    let address = serving.address.to_string();
+    for (listen, status) in [(address.as_str(), "off"), ("127.0.0.1:0", serving.status.as_str())] {
+        let words = ["serve", "--store", other, "--listen", listen, "--status", status];
+        let output = run(&words);
+        assert_eq!(output.status.code(), Some(1));
+        assert!(errors(&output).contains("in use"), "{}", errors(&output));
+    }
+}
+
+#[test]
+fn pages_of_the_status_port() {
+    let folder = tempfile::tempdir().unwrap();
+    let serving = Serving::start(&folder.path().join("krl.db"));
+    let client = serving.join(folder.path(), 5);
+    assert_eq!(client.insert(7, Value::from(7)), Ok(Outcome::Applied));
+    assert_eq!(serving.get("/healthz"), (200, "ok\n".to_string()));
+    until("the server serves", || serving.get("/readyz") == (200, "serving\n".to_string()));
+    let (status, text) = serving.get("/status");
+    assert!(status == 200 && text.starts_with("epoch 1, serving\nconnected: 5 "), "{text}");
+    let by_accept = "GET /status HTTP/1.1\r\nHost: krl\r\nAccept: application/json\r\n\r\n";
+    for (status, json) in [serving.get("/status.json"), serving.ask(by_accept)] {
+        let json: serde_json::Value = serde_json::from_str(&json).unwrap();
+        assert_eq!((status, &json["epoch"]), (200, &serde_json::json!(1)));
+        assert_eq!(json["connected"], serde_json::json!([5]));
+    }
+    assert_eq!(serving.get("/nothing").0, 404);
+    assert_eq!(serving.get("/").0, 404);
+    assert_eq!(serving.ask("POST /status HTTP/1.1\r\nHost: krl\r\n\r\n").0, 405);
+    assert_eq!(serving.get("/backup").0, 405);
+    let said = run(&["status", &serving.status]);
+    assert!(common::text(&said).starts_with("epoch 1, serving\n"));
+    let said = run(&["status", &serving.status, "--json"]);
+    assert!(common::text(&said).starts_with("{\n"));
+    serving.signal(&["TERM"]);
+    let address = serving.status.clone();
+    serving.ended();
+    let said = run(&["status", &address]);
+    assert_eq!(said.status.code(), Some(1));
+    assert!(errors(&said).contains(&address));
+}
+
+#[test]
+fn metrics_count_what_was_done() {
+    let folder = tempfile::tempdir().unwrap();
+    let serving = Serving::start(&folder.path().join("krl.db"));
+    let (first, second) = (serving.join(folder.path(), 1), serving.join(folder.path(), 2));
+    for key in 0..10 {
+        let writer = if key % 2 == 0 { &first } else { &second };
+        assert_eq!(writer.insert(key, Value::from(key)), Ok(Outcome::Applied));
+        assert_eq!(first.read(0..20).map(|rows| rows.len() as u64), Ok(key + 1));
+    }
+    for (name, least) in [
+        ("krl_grant_seconds_count", 10.0),
+        ("krl_release_seconds_count", 5.0),
+        ("krl_commit_seconds_count", 12.0),
+        ("krl_commit_changes_sum", 12.0),
+        ("krl_turn_seconds_count", 12.0),
+        ("krl_commits_total", 12.0),
+        ("krl_build_info{version=\"0.1.0\"}", 1.0),
+    ] {
+        let value = serving.sample(name);
+        assert!(value >= least, "{name} is {value}, and not {least} at least");
+    }
+    assert!(serving.sample("krl_grant_seconds_sum") > 0.0);
+    assert!(serving.sample("krl_last_turn_seconds") < 1.0);
+}
+
+#[test]
+fn a_server_is_ready_when_nobody_is_missing() {
+    let folder = tempfile::tempdir().unwrap();
+    let store = folder.path().join("krl.db");
+    let serving = Serving::start(&store);
+    let client = serving.join(folder.path(), 3);
+    assert_eq!(client.insert(7, Value::from(7)), Ok(Outcome::Applied));
+    serving.signal(&["KILL"]);
+    serving.ended();
+    // It can't say Bye, as there is no server.
+    drop(client);
+    let serving = Serving::start(&store);
+    let (status, text) = serving.get("/readyz");
+    assert!(status == 503 && text.contains("clients 3,"), "{status} {text}");
+    assert_eq!(serving.get("/healthz").0, 200);
+    let lock = lock_file(folder.path(), 3);
+    let evicted = run(&["evict", &serving.address.to_string(), "3", lock.to_str().unwrap()]);
+    assert_eq!(evicted.status.code(), Some(0), "{}", errors(&evicted));
+    until("the server serves", || serving.get("/readyz").0 == 200);
+}
+
+#[test]
+fn a_backup_under_load_is_the_table_at_a_moment() {
+    let folder = tempfile::tempdir().unwrap();
+    let serving = Serving::start(&folder.path().join("krl.db"));
+    let (count, ends) = (AtomicU64::new(0), AtomicBool::new(false));
+    thread::scope(|scope| {
+        scope.spawn(|| {
+            let client = serving.join(folder.path(), 9);
+            for key in 0.. {
+                assert_eq!(client.insert(key, Value::from(key)), Ok(Outcome::Applied));
+                count.store(key + 1, Ordering::SeqCst);
+                if ends.load(Ordering::Relaxed) {
+                    break;
+                }
+            }
+        });
+        for number in 0..5 {
+            until("50 inserts", || count.load(Ordering::SeqCst) > 50 * number);
+            let file = folder.path().join(format!("{number}.db"));
+            let before = count.load(Ordering::SeqCst);
+            let output = run(&["backup", &serving.status, file.to_str().unwrap()]);
+            let after = count.load(Ordering::SeqCst);
+            assert_eq!(output.status.code(), Some(0), "{}", errors(&output));
+            is_moment(&file, before, after + 1);
+        }
+        ends.store(true, Ordering::Relaxed);
+    });
+}
+
+/// One client inserts 0, 1, 2, and so on: so a table at a moment has just the keys below some
+/// number, and the client's record says that this was its last write.
+fn is_moment(file: &Path, least: u64, most: u64) {
+    let snapshot = SqliteStore::read(file).unwrap().snapshot;
+    let rows = snapshot.rows.len() as u64;
+    assert!((least..=most).contains(&rows), "{rows} rows, and not {least} to {most}");
+    let expected: BTreeMap<_, _> = (0..rows).map(|key| (key, Value::from(key))).collect();
+    assert_eq!(snapshot.rows, expected);
+    let record = snapshot.records[0];
+    assert_eq!((record.client, record.left), (9, false));
+    assert_eq!(record.last, Some((rows, Outcome::Applied)));
+    let check = run(&["check", file.to_str().unwrap()]);
+    assert_eq!(check.status.code(), Some(0), "{}", errors(&check));
+    let said = text(&check);
+    for line in [&format!("rows: {rows}"), "epoch: 1", "clients that have not left: 9"] {
+        assert!(said.lines().any(|it| it == line), "no {line} in {said}");
+    }
+}
+
+#[test]
+fn a_backup_that_can_not_be_is_told() {
+    let folder = tempfile::tempdir().unwrap();
+    let serving = Serving::start(&folder.path().join("krl.db"));
+    let taken = folder.path().join("taken");
+    std::fs::write(&taken, "mine").unwrap();
+    let nowhere = folder.path().join("none").join("copy.db");
+    for (file, said) in [(&taken, "there is a file"), (&nowhere, "No such file")] {
+        let output = run(&["backup", &serving.status, file.to_str().unwrap()]);
+        assert_eq!(output.status.code(), Some(1));
+        assert!(errors(&output).contains(said), "{}", errors(&output));
+    }
+    assert_eq!(std::fs::read(&taken).unwrap(), b"mine");
+    let order = |kind: &str, body: &str| {
+        let length = body.len();
+        serving.ask(&format!(
+            "POST /backup HTTP/1.1\r\nHost: krl\r\nContent-Type: {kind}\r\n\
+             Content-Length: {length}\r\n\r\n{body}"
+        ))
+    };
+    let path = folder.path().join("new.db");
+    let good = serde_json::json!({ "file": &path }).to_string();
+    assert_eq!(order("text/plain", &good).0, 415);
+    assert_eq!(order("application/json", "{\"file\": \"new.db\"}").0, 409);
+    assert_eq!(order("application/json", "{}").0, 400);
+    assert!(!path.exists());
+    assert_eq!(order("application/json", &good).0, 201);
+    assert!(path.exists());
+}
+
+#[test]
+fn what_is_no_store_is_told() {
+    let folder = tempfile::tempdir().unwrap();
+    let file = folder.path().join("text");
+    std::fs::write(&file, "no database").unwrap();
+    for path in [&file, &folder.path().join("none.db")] {
+        let name = path.to_str().unwrap();
+        let output = run(&["check", name]);
+        assert_eq!((output.status.code(), text(&output).as_str()), (Some(1), ""));
+        assert!(errors(&output).contains(name));
+    }
+    let words = ["serve", "--listen", "127.0.0.1:0", "--status", "off", "--store"];
+    let output = program().args(words).arg(&file).output().unwrap();
+    assert_eq!(output.status.code(), Some(1));
+    assert!(errors(&output).contains("not a database"), "{}", errors(&output));
+}
+
+#[test]
+fn a_service_manager_is_told() {
+    let folder = tempfile::tempdir().unwrap();
+    let path = folder.path().join("notify");
+    let socket = UnixDatagram::bind(&path).unwrap();
+    socket.set_read_timeout(Some(Duration::from_secs(10))).unwrap();
+    let said = || {
+        let mut text = [0; 100];
+        let length = socket.recv(&mut text).unwrap();
+        String::from_utf8(text[..length].to_vec()).unwrap()
+    };
+    let store = folder.path().join("krl.db");
+    let mut command = program();
+    command.arg("serve").arg("--store").arg(&store).env("NOTIFY_SOCKET", &path);
+    let serving = Serving::start_by(&mut command);
+    assert_eq!(said(), "READY=1\n");
+    serving.signal(&["TERM"]);
+    assert_eq!(said(), "STOPPING=1\n");
+    assert_eq!(serving.ended().status.code(), Some(0));
+}

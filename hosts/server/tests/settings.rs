@@ -1,0 +1,131 @@
+//! Settings by flags, by the environment and by a file, and those that can't be used.
+mod common;
+
+use common::{errors, program, run, text};
+use std::path::Path;
+use std::process::Output;
+
+const DEFAULTS: &str = "\
+listen = \"127.0.0.1:7400\" # by default
+store = \"krl.db\" # by default
+status = \"127.0.0.1:7401\" # by default
+log-level = \"info\" # by default
+log-format = \"text\" # by default
+";
+
+fn file(folder: &Path, text: &str) -> String {
+    let path = folder.join("krl.toml");
+    std::fs::write(&path, text).unwrap();
+    path.to_str().unwrap().to_string()
+}
+
+/// The status is 2, nothing is printed, and the sentence has all of these words.
+fn is_refused(output: &Output, words: &[&str]) {
+    let said = errors(output);
+    assert_eq!(output.status.code(), Some(2), "{said}");
+    assert_eq!(text(output), "");
+    assert!(words.iter().all(|word| said.contains(word)), "{words:?} are not in: {said}");
+}
+
+#[test]
+fn defaults() {
+    let output = run(&["config"]);
+    assert_eq!((text(&output).as_str(), output.status.code()), (DEFAULTS, Some(0)));
+}
+
+#[test]
+fn a_flag_comes_before_the_environment_and_that_before_the_file() {
+    let folder = tempfile::tempdir().unwrap();
+    let path = file(
+        folder.path(),
+        "listen = \"127.0.0.1:1\"\nstore = \"1.db\"\nstatus = \"127.0.0.1:1\"\nlog-level = \"warn\"\n",
+    );
+    let mut command = program();
+    command.env("KRL_LISTEN", "127.0.0.1:2").env("KRL_STORE", "2.db").env("KRL_STATUS", "off");
+    command.args(["config", "--config", &path, "--listen", "unix:/run/krl", "--status", "[::1]:3"]);
+    let output = command.output().unwrap();
+    let expected = format!(
+        "listen = \"unix:/run/krl\" # from the flag --listen\n\
+         store = \"2.db\" # from the environment, KRL_STORE\n\
+         status = \"[::1]:3\" # from the flag --status\n\
+         log-level = \"warn\" # from the file {path}\n\
+         log-format = \"text\" # by default\n"
+    );
+    assert_eq!((text(&output), output.status.code()), (expected, Some(0)));
+}
+
+#[test]
+fn what_is_printed_is_a_file_that_says_the_same() {
+    let folder = tempfile::tempdir().unwrap();
+    let words = ["config", "--store", "a \"b\" # c.db", "--log-format", "json", "--status", "off"];
+    let printed = text(&run(&words));
+    let path = file(folder.path(), &printed);
+    let again = text(&run(&["config", "--config", &path]));
+    let values = |text: &str| -> Vec<String> {
+        let value = |line: &str| line.rsplit_once(" # ").unwrap().0.to_string();
+        text.lines().map(value).collect()
+    };
+    assert_eq!(values(&printed), values(&again));
+    assert!(again.lines().all(|line| line.ends_with(&path)), "{again}");
+}
+
+#[test]
+fn a_bad_value_is_told_with_its_key_and_what_is_expected() {
+    let folder = tempfile::tempdir().unwrap();
+    for (key, value, expected) in [
+        ("listen", "here", "an address such as 127.0.0.1:7400"),
+        ("store", "", "the path of a file"),
+        ("status", "127.0.0.1", "127.0.0.1:7401, or off"),
+        ("log-level", "loud", "error, warn, info, debug or trace"),
+        ("log-format", "xml", "text or json"),
+    ] {
+        let found = format!("{key} is '{value}'");
+        let flag = format!("--{key}");
+        is_refused(&run(&["serve", &flag, value]), &[&found, expected, &flag]);
+        let variable = format!("KRL_{}", key.replace('-', "_").to_uppercase());
+        let output = program().arg("config").env(&variable, value).output().unwrap();
+        is_refused(&output, &[&found, expected, &variable]);
+        let path = file(folder.path(), &format!("{key} = \"{value}\"\n"));
+        is_refused(&run(&["serve", "--config", &path]), &[&found, expected, &path]);
+    }
+}
+
+#[test]
+fn a_bad_file_is_told() {
+    let folder = tempfile::tempdir().unwrap();
+    let path = file(folder.path(), "lisen = \"127.0.0.1:1\"\n");
+    let words = ["lisen", "expected one of", "listen", "line 1", &path];
+    is_refused(&run(&["serve", "--config", &path]), &words);
+    let path = file(folder.path(), "store = 5\n");
+    is_refused(&run(&["config", "--config", &path]), &["integer `5`", "a string", "store", &path]);
+    let path = file(folder.path(), "store\n");
+    is_refused(&run(&["config", "--config", &path]), &["line 1", &path]);
+    let path = folder.path().join("none.toml");
+    let path = path.to_str().unwrap();
+    is_refused(&run(&["serve", "--config", path]), &["No such file", path]);
+}
+
+#[test]
+fn bad_words_are_told() {
+    for words in [&[][..], &["serv"], &["serve", "x"], &["serve", "--speed", "3"], &["evict"]] {
+        let output = run(words);
+        assert_eq!(output.status.code(), Some(2), "{words:?}");
+        assert!(errors(&output).contains("Usage: krl-server"), "{words:?}");
+    }
+    is_refused(&run(&["evict", "127.0.0.1:1", "64", "x.lock"]), &["64", "0..64"]);
+    is_refused(&run(&["evict", "nowhere", "3", "x.lock"]), &["nowhere", "127.0.0.1:7400"]);
+}
+
+#[test]
+fn help_and_version() {
+    let help = run(&["--help"]);
+    assert_eq!(help.status.code(), Some(0));
+    let help = text(&help);
+    for word in
+        ["serve", "config", "status", "evict", "backup", "check", "Exit statuses", "Examples"]
+    {
+        assert!(help.contains(word), "no {word} in {help}");
+    }
+    let version = run(&["--version"]);
+    assert_eq!(text(&version), format!("krl-server {}\n", env!("CARGO_PKG_VERSION")));
+}
