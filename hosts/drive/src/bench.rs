@@ -107,7 +107,7 @@ fn scans(at: &Address, folder: &Path) -> Done {
     println!("cached scan of {SCAN} rows: {cached:?}");
     let one = median(20_000, |turn| {
         let lo = range(7 * turn).start;
-        expect(client.cached_into(lo..lo + 1, &mut rows) && rows.len() == 1, "a row is cached")
+        expect(client.cached_into(lo..=lo, &mut rows) && rows.len() == 1, "a row is cached")
     })?;
     println!("cached scan of 1 row: {one:?}");
     client.leave()?;

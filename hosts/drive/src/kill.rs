@@ -58,8 +58,8 @@ pub fn run(folder: &Path, rounds: u64, store: &str, net: &str) -> Found {
     let hung = drive.end()?;
     let tally = drive.compare(&killed.down)?;
     println!(
-        "{} kills of the server and {} of clients: {} ranges read, {} keys in them compared, {} of them while \
-         no server ran; {} writes answered; {} wrong, {hung} processes hung",
+        "{} kills of the server and {} of clients: {} ranges read, {} keys in them compared, \
+         {} of them while no server ran; {} writes answered; {} wrong, {hung} processes hung",
         killed.down.len(),
         killed.clients,
         tally.reads,

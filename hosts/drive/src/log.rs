@@ -27,9 +27,9 @@ impl Note {
             }
             Note::Answered { at, key, applied } => format!("A {at} {key} {}\n", u8::from(*applied)),
             Note::Read { from, to, lo, hi, rows } => {
-                let rows: String =
+                let rows: Vec<String> =
                     rows.iter().map(|(key, value)| format!(" {key} {value}")).collect();
-                format!("R {from} {to} {lo} {hi}{rows}\n")
+                format!("R {from} {to} {lo} {hi}{}\n", rows.concat())
             }
         }
     }

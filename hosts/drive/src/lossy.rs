@@ -74,7 +74,7 @@ fn read_frame(stream: &mut TcpStream) -> Option<Vec<u8>> {
     (frame.len() as u64 == 8 + count).then_some(frame)
 }
 
-/// Numbers drawn from a seed (SplitMix64).
+/// Numbers drawn from a seed (`SplitMix64`).
 pub struct Draws(pub u64);
 
 impl Draws {
@@ -87,5 +87,10 @@ impl Draws {
 
     pub fn below(&mut self, limit: u64) -> u64 {
         self.next() % limit
+    }
+
+    /// A place in a list of so many.
+    pub fn place(&mut self, count: usize) -> usize {
+        usize::try_from(self.below(count as u64)).unwrap_or(0)
     }
 }

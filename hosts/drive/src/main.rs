@@ -1,7 +1,7 @@
 //! Drives servers and clients of krl, each in a process of its own, and checks what they read.
 //!
 //! ```text
-//! krl_drive kill FOLDER ROUNDS [sqlite|unsynced] [direct|lossy]   kills servers and clients while others read and write
+//! krl_drive kill FOLDER ROUNDS [sqlite|unsynced] [direct|lossy]   kills servers and clients
 //! krl_drive strangers                                             connects what is no client
 //! krl_drive strings COUNT CHANGED                                 hands strings to both decoders
 //! krl_drive bench FOLDER                                          takes measurements

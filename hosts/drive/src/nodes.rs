@@ -61,8 +61,8 @@ fn join(number: u8, address: &str, folder: &Path) -> Result<Client, Box<dyn Erro
     Ok(Client::builder(address).number(number).lock_file(lock).timeout(5 * TIMEOUT).join()?)
 }
 
-/// Reads every writer's ranges again and again, in two threads: one reads from the cache alone, and never waits; the
-/// other asks the server for what the cache lacks.
+/// Reads every writer's ranges again and again, in two threads: one reads from the cache alone, and
+/// never waits; the other asks the server for what the cache lacks.
 pub fn reader(number: u8, address: &str, folder: &Path) -> Found {
     let client = join(number, address, folder)?;
     client.set_timeout(TIMEOUT);

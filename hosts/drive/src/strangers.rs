@@ -49,7 +49,7 @@ fn beside_strangers(folder: &std::path::Path) -> Found {
         kept.extend(attack(at)?);
         let begun = Instant::now();
         let outcome = client.insert(key, Value::from(key))?;
-        let rows = other.read(0..key + 1)?;
+        let rows = other.read(0..=key)?;
         if outcome != Outcome::Applied || rows.len() as u64 != key || begun.elapsed() > SOON {
             println!("beside {name}: {outcome}, {} rows, {:?}", rows.len(), begun.elapsed());
             return Ok(false);

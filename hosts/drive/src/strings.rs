@@ -18,6 +18,9 @@ const RANGE_I_N: u32 = 6;
 /// so, whatever counts and lengths it promises.
 const MAX_MEMORY: u64 = 16 << 20;
 
+/// The kinds of messages.
+const KINDS: [u8; 14] = [0, 1, 2, 3, 4, 5, 6, 7, 8, 16, 17, 18, 19, 20];
+
 /// The longest random string.
 const LONGEST: u64 = 120;
 
@@ -72,7 +75,7 @@ pub fn run(count: u64, changed: u64) -> Found {
 }
 
 fn pick<'m>(messages: &'m [Vec<u8>], draws: &mut Draws) -> &'m [u8] {
-    &messages[draws.below(messages.len() as u64) as usize]
+    &messages[draws.place(messages.len())]
 }
 
 /// A string that often begins as a message does.
@@ -81,7 +84,7 @@ fn random(draws: &mut Draws) -> Vec<u8> {
     let mut string: Vec<u8> = (0..length).map(|_| (draws.next() >> 56) as u8).collect();
     if draws.below(4) > 0 && string.len() > 18 {
         string[0] = 1;
-        string[1] = [0, 1, 2, 3, 4, 5, 6, 7, 8, 16, 17, 18, 19, 20][draws.below(14) as usize];
+        string[1] = KINDS[draws.place(KINDS.len())];
         // Small numbers make spans and counts that can be.
         for byte in &mut string[2..] {
             *byte = if draws.below(3) == 0 { *byte % 9 } else { 0 };
@@ -93,7 +96,7 @@ fn random(draws: &mut Draws) -> Vec<u8> {
 /// The message with a bit, a byte, its length or its end changed.
 fn change(message: &[u8], other: &[u8], draws: &mut Draws) -> Vec<u8> {
     let mut string = message.to_vec();
-    let at = draws.below(string.len() as u64) as usize;
+    let at = draws.place(string.len());
     match draws.below(6) {
         0 => string[at] ^= 1 << draws.below(8),
         1 => string[at] = (draws.next() >> 56) as u8,
@@ -115,40 +118,50 @@ fn closed() -> ffi::Handle {
 impl Table {
     fn open() -> Table {
         let (mut server, mut client) = (closed(), closed());
+        // SAFETY: the handle and what it is given live longer than the call.
         let opened =
-            unsafe { ffi::krl_server_open(&mut server, 0, ptr::null(), 0, ptr::null(), 0) };
+            unsafe { ffi::krl_server_open(&raw mut server, 0, ptr::null(), 0, ptr::null(), 0) };
         assert_eq!(opened.code, DONE, "a server opens");
-        let opened = unsafe { ffi::krl_client_open(&mut client, 0, 1) };
+        // SAFETY: the handle and what it is given live longer than the call.
+        let opened = unsafe { ffi::krl_client_open(&raw mut client, 0, 1) };
         assert_eq!(opened.code, DONE, "a client opens");
         Table { server, client, spelling: vec![0; 1 << 16], taken: 0, wrong: 0 }
     }
 
     fn close(&mut self) {
+        // SAFETY: the handle and what it is given live longer than the call.
         unsafe {
-            ffi::krl_close(&mut self.server);
-            ffi::krl_close(&mut self.client);
+            ffi::krl_close(&raw mut self.server);
+            ffi::krl_close(&raw mut self.client);
         }
     }
 
     /// What a client and a server say to each other in a short life.
     fn real_messages(&mut self) -> (Vec<Vec<u8>>, Vec<Vec<u8>>) {
         let (mut up, mut down) = (Vec::new(), Vec::new());
-        let client: *mut ffi::Handle = &mut self.client;
+        let client: *mut ffi::Handle = &raw mut self.client;
         self.settle(&mut up, &mut down);
         for key in [10, 20, 30, 40] {
+            // SAFETY: the handle and what it is given live longer than the call.
             unsafe { ffi::krl_client_lock(client, key, key + 1, RANGE_I_N) };
             self.settle(&mut up, &mut down);
+            // SAFETY: the handle and what it is given live longer than the call.
             unsafe { ffi::krl_client_insert(client, key, [1, 2, 3].as_ptr(), 3) };
             self.settle(&mut up, &mut down);
         }
+        // SAFETY: the handle and what it is given live longer than the call.
         unsafe { ffi::krl_client_lock(client, 0, 35, RANGE_S_S) };
         self.settle(&mut up, &mut down);
+        // SAFETY: the handle and what it is given live longer than the call.
         unsafe { ffi::krl_client_put(client, 20, [9; 32].as_ptr(), 32) };
         self.settle(&mut up, &mut down);
+        // SAFETY: the handle and what it is given live longer than the call.
         unsafe { ffi::krl_client_forget(client, 0, 15) };
         self.settle(&mut up, &mut down);
+        // SAFETY: the handle and what it is given live longer than the call.
         unsafe { ffi::krl_client_lock(client, 99, 100, 3) };
         self.settle(&mut up, &mut down);
+        // SAFETY: the handle and what it is given live longer than the call.
         unsafe { ffi::krl_client_tick(client) };
         self.settle(&mut up, &mut down);
         (up, down)
@@ -159,11 +172,17 @@ impl Table {
         loop {
             let said = take(&mut self.client);
             for message in &said {
-                unsafe { ffi::krl_server_step(&mut self.server, message.as_ptr(), message.len()) };
+                // SAFETY: the handle and what it is given live longer than the call.
+                unsafe {
+                    ffi::krl_server_step(&raw mut self.server, message.as_ptr(), message.len())
+                };
             }
             let answers = take(&mut self.server);
             for message in &answers {
-                unsafe { ffi::krl_client_step(&mut self.client, message.as_ptr(), message.len()) };
+                // SAFETY: the handle and what it is given live longer than the call.
+                unsafe {
+                    ffi::krl_client_step(&raw mut self.client, message.as_ptr(), message.len())
+                };
             }
             if said.is_empty() && answers.is_empty() {
                 return;
@@ -175,15 +194,17 @@ impl Table {
 
     fn try_both(&mut self, string: &[u8]) {
         let is_spelling = self.respells(string, krl_respell_to_server);
+        // SAFETY: the handle and what it is given live longer than the call.
         let stepped =
-            unsafe { ffi::krl_server_step(&mut self.server, string.as_ptr(), string.len()) };
+            unsafe { ffi::krl_server_step(&raw mut self.server, string.as_ptr(), string.len()) };
         self.judge(string, is_spelling, stepped.reply.code);
         if stepped.reply.code == BAD_MESSAGE && stepped.change.kind != 0 {
             self.wrong += 1;
         }
         let is_spelling = self.respells(string, krl_respell_to_client);
+        // SAFETY: the handle and what it is given live longer than the call.
         let reply =
-            unsafe { ffi::krl_client_step(&mut self.client, string.as_ptr(), string.len()) };
+            unsafe { ffi::krl_client_step(&raw mut self.client, string.as_ptr(), string.len()) };
         self.judge(string, is_spelling, reply.code);
         // What they say to it would pile up.
         take(&mut self.server);
@@ -193,9 +214,10 @@ impl Table {
     /// Whether the string is taken. If so it is spelled again, and has to be the same.
     fn respells(&mut self, string: &[u8], respell: Respell) -> bool {
         let room = self.spelling.len();
+        // SAFETY: the handle and what it is given live longer than the call.
         let reply =
             unsafe { respell(string.as_ptr(), string.len(), self.spelling.as_mut_ptr(), room) };
-        let is_same = self.spelling.get(..reply.detail as usize) == Some(string);
+        let is_same = self.spelling.get(..length_of(reply.detail)) == Some(string);
         if reply.code == DONE && !is_same {
             eprintln!("WRONG: taken, and spelled otherwise: {string:02x?}");
             self.wrong += 1;
@@ -213,15 +235,22 @@ impl Table {
     }
 }
 
+/// The length that the library says. One beyond all memory is no length of anything.
+fn length_of(detail: u64) -> usize {
+    usize::try_from(detail).unwrap_or(usize::MAX)
+}
+
 /// What waits to be sent, message by message.
 fn take(handle: &mut ffi::Handle) -> Vec<Vec<u8>> {
-    let length = unsafe { ffi::krl_take(handle, ptr::null_mut(), 0) }.detail as usize;
+    // SAFETY: the handle and what it is given live longer than the call.
+    let length = length_of(unsafe { ffi::krl_take(handle, ptr::null_mut(), 0) }.detail);
     let mut frames = vec![0; length];
+    // SAFETY: the handle and what it is given live longer than the call.
     let reply = unsafe { ffi::krl_take(handle, frames.as_mut_ptr(), length) };
     assert_eq!(reply.code, DONE, "what waits is taken");
     let (mut messages, mut rest) = (Vec::new(), &frames[..]);
     while let Some((length, behind)) = rest.split_first_chunk() {
-        let (message, behind) = behind.split_at(u64::from_le_bytes(*length) as usize);
+        let (message, behind) = behind.split_at(length_of(u64::from_le_bytes(*length)));
         messages.push(message.to_vec());
         rest = behind;
     }

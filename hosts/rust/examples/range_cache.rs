@@ -83,19 +83,16 @@ fn node(number: u8, folder: &Path) -> Done {
     let client = join(number, folder)?;
     let (mut cached, mut fetched, mut told) = (0, 0, Instant::now());
     loop {
-        let rows = match client.cached(keys.clone()) {
-            Some(rows) => {
-                cached += 1;
-                rows
-            }
-            None => {
-                fetched += 1;
-                match client.read(keys.clone()) {
-                    Ok(rows) => rows,
-                    // The server is down, and what the node lacks nobody can tell just now.
-                    Err(Refused::TimedOut) => continue,
-                    Err(refused) => return Err(refused.into()),
-                }
+        let rows = if let Some(rows) = client.cached(keys.clone()) {
+            cached += 1;
+            rows
+        } else {
+            fetched += 1;
+            match client.read(keys.clone()) {
+                Ok(rows) => rows,
+                // The server is down, and what the node lacks nobody can tell just now.
+                Err(Refused::TimedOut) => continue,
+                Err(refused) => return Err(refused.into()),
             }
         };
         if told.elapsed() > Duration::from_secs(1) {
@@ -134,7 +131,7 @@ fn write(folder: &Path) -> Done {
 }
 
 fn add_one(client: &Client, key: u64) -> Result<Outcome, Refused> {
-    let rows = client.read(key..key + 1)?;
+    let rows = client.read(key..=key)?;
     let number = rows.first().and_then(|row| row.value.to_u64()).unwrap_or(0);
     client.put(key, Value::from(number + 1))
 }

@@ -127,6 +127,7 @@ impl Snapshot {
 
 impl Write {
     /// The key that the write is about.
+    #[must_use]
     pub fn key(&self) -> u64 {
         match self {
             Write::Insert(row) | Write::Put(row) => row.key,

@@ -1,7 +1,6 @@
 //! A client over a network.
 use crate::builder::{ClientBuilder, TIMEOUT};
 use crate::change::{Outcome, Write};
-use crate::code::Code;
 use crate::handle::{ClientHandle, Scan};
 use crate::jobs::{Asked, Jobs};
 use crate::link::Link;
@@ -57,8 +56,8 @@ impl Client {
     /// # Errors
     ///
     /// `BadNumber` above 63; `LockFile` if another process has the file, or it can't be used;
-    /// `NoThread`; `Refused` if memory is refused; `NoAnswer`, with the reason if the connection
-    /// failed; `Stopped`.
+    /// `NoThread`; `NoAnswer`, with the reason if the connection failed; `Refused` if memory is
+    /// refused.
     pub fn join(
         server: impl Into<Address>,
         number: u8,
@@ -95,7 +94,7 @@ impl Client {
         }
         // The incarnation is on the disk before the Hello leaves.
         let (lock_file, incarnation) = LockFile::take(lock_file, number)?;
-        let handle = ClientHandle::open(number, incarnation).map_err(JoinError::Refused)?;
+        let handle = ClientHandle::open(number, incarnation).map_err(Refused::from)?;
         let link = Arc::new(Link::new(server, Jobs::new(handle)));
         let run = Arc::clone(&link);
         let thread = thread::Builder::new().name(format!("krl-client-{number}"));
@@ -114,18 +113,12 @@ impl Client {
         let _ = self.end(Duration::ZERO);
         match refused {
             Refused::TimedOut => JoinError::NoAnswer(fault),
-            Refused::Stopped => JoinError::Stopped,
-            Refused::OutOfMemory => JoinError::Refused(Code::OutOfMemory),
-            Refused::Other(code) => JoinError::Refused(code),
-            // No other refusal is one of a join.
-            Refused::BadRange | Refused::BadKey | Refused::Pinned | Refused::TooManyPins => {
-                JoinError::Refused(Code::NotJoined)
-            }
+            refused => JoinError::Refused(refused),
         }
     }
 
-    /// From now on, each call waits so long for an answer, a year at most. A call that waits already
-    /// goes on as it began.
+    /// From now on, each call waits so long for an answer, a year at most. A call that waits
+    /// already goes on as it began.
     pub fn set_timeout(&self, timeout: Duration) {
         self.timeout.store(nanoseconds(timeout), Ordering::Relaxed);
     }

@@ -27,7 +27,9 @@ macro_rules! codes {
             fn fmt(&self, f: &mut fmt::Formatter<'_>) -> fmt::Result {
                 match self {
                     $(Code::$name => f.write_str($says),)*
-                    Code::Other(number) => write!(f, "the library answered by the unknown code {number}"),
+                    Code::Other(number) => {
+                        write!(f, "the library answered by the unknown code {number}")
+                    }
                 }
             }
         }

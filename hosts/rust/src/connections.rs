@@ -13,8 +13,9 @@ use std::sync::mpsc::{Receiver, Sender, SyncSender, TrySendError, channel, sync_
 use std::thread::{self, JoinHandle};
 use std::time::{Duration, Instant};
 
-/// The most connections that are open at once. One more is closed as it comes.
-const MAX_CONNECTIONS: usize = 256;
+/// The most connections that are open at once, unless a server is told otherwise. One more is
+/// closed as it comes.
+pub(crate) const MAX_CONNECTIONS: usize = 256;
 
 /// The most messages that wait to be judged, and the most batches that wait to be written to one
 /// connection.
@@ -154,13 +155,18 @@ pub(crate) struct Listening {
 
 impl Listening {
     /// Takes connections, each in threads of its own, and tells what they say.
-    pub fn start(listener: Listener) -> io::Result<(Listening, Receiver<Event>)> {
+    pub fn start(
+        listener: Listener,
+        max_connections: usize,
+    ) -> io::Result<(Listening, Receiver<Event>)> {
         listener.wait_in_accept()?;
         let address = listener.address()?;
         let stopped = Arc::new(AtomicBool::new(false));
         let (events, waiting) = sync_channel(MAX_WAITING);
         let (told, is_stopped) = (events.clone(), Arc::clone(&stopped));
-        let thread = spawn(move || accept(&listener, &told, &is_stopped))?;
+        let thread = spawn("krl-accept".into(), move || {
+            accept(&listener, max_connections, &told, &is_stopped);
+        })?;
         Ok((Listening { address, stopped, events, thread: Some(thread) }, waiting))
     }
 
@@ -191,11 +197,16 @@ impl Listening {
     }
 }
 
-fn spawn(run: impl FnOnce() + Send + 'static) -> io::Result<JoinHandle<()>> {
-    thread::Builder::new().spawn(run)
+fn spawn(name: String, run: impl FnOnce() + Send + 'static) -> io::Result<JoinHandle<()>> {
+    thread::Builder::new().name(name).spawn(run)
 }
 
-fn accept(listener: &Listener, events: &SyncSender<Event>, stopped: &AtomicBool) {
+fn accept(
+    listener: &Listener,
+    max_connections: usize,
+    events: &SyncSender<Event>,
+    stopped: &AtomicBool,
+) {
     let count = Arc::new(AtomicUsize::new(0));
     for connection in 0.. {
         let accepted = listener.accept();
@@ -204,7 +215,7 @@ fn accept(listener: &Listener, events: &SyncSender<Event>, stopped: &AtomicBool)
         }
         match accepted {
             Ok(stream) => {
-                if count.load(Ordering::Acquire) < MAX_CONNECTIONS {
+                if count.load(Ordering::Acquire) < max_connections {
                     // A connection for which the system has no room or no thread is closed.
                     let _ = begin(connection, stream, events, &count);
                 }
@@ -253,13 +264,13 @@ fn begin(
 ) -> io::Result<()> {
     stream.set_timeouts(SILENCE, STALL)?;
     let (reading, writing) = (stream.try_clone()?, stream.try_clone()?);
-    let (batches, waiting) = sync_channel(MAX_WAITING);
+    let (batches, queue) = sync_channel(MAX_WAITING);
     let (writes, written) = channel();
     let outgoing = Outgoing { batches: Some(batches), written, stream };
-    spawn(move || write(writing, &waiting, &writes))?;
+    spawn(format!("krl-write-{connection}"), move || write(writing, &queue, &writes))?;
     let permit = Permit::take(count);
     let events = events.clone();
-    spawn(move || {
+    spawn(format!("krl-read-{connection}"), move || {
         let _permit = permit;
         // Where nobody hears it, the server has ended.
         if events.send(Event::Opened(connection, outgoing)).is_ok() {

@@ -10,9 +10,9 @@ use std::ptr;
 /// An open handle. It stays in its place: the library's caller may not copy it.
 struct Handle(Box<ffi::Handle>);
 
-// What a handle keeps may go to another thread: the library's proof says so. A handle serves one
-// call at a time, since each call takes it by `&mut`; a mutex makes each thread see what the one
-// before it did.
+// SAFETY: what a handle keeps may go to another thread, as the library's proof says. A handle
+// serves one call at a time, since each call takes it by `&mut`; a mutex makes each thread see what
+// the one before it did.
 unsafe impl Send for Handle {}
 
 impl Handle {
@@ -21,7 +21,7 @@ impl Handle {
     }
 
     fn raw(&mut self) -> *mut ffi::Handle {
-        &mut *self.0
+        &raw mut *self.0
     }
 
     /// Appends what waits to be sent, as frames: of each message its length in eight bytes, and the
@@ -31,6 +31,7 @@ impl Handle {
         let mut room = 0;
         loop {
             frames.resize(old + room, 0);
+            // SAFETY: as for any handle, and there is so much room to be written to.
             let reply = unsafe { ffi::krl_take(self.raw(), frames[old..].as_mut_ptr(), room) };
             let length = usize::try_from(reply.detail).map_err(|_| Code::OutOfMemory)?;
             match Code::of(reply.code) {
@@ -50,6 +51,7 @@ impl Handle {
 
 impl Drop for Handle {
     fn drop(&mut self) {
+        // SAFETY: the handle stays in its place, and `&mut` gives it to this call alone.
         unsafe { ffi::krl_close(self.raw()) }
     }
 }
@@ -110,20 +112,24 @@ pub(crate) struct ClientHandle(Handle);
 impl ClientHandle {
     pub fn open(number: u8, incarnation: u64) -> Result<ClientHandle, Code> {
         let mut handle = Handle::closed();
+        // SAFETY: the handle stays in its place, and `&mut` gives it to this call alone.
         done(unsafe { ffi::krl_client_open(handle.raw(), number.into(), incarnation) })?;
         Ok(ClientHandle(handle))
     }
 
     pub fn step(&mut self, message: &[u8]) -> Result<(), Code> {
+        // SAFETY: as for any handle, and so many bytes of the message are there to be read.
         let reply = unsafe { ffi::krl_client_step(self.0.raw(), message.as_ptr(), message.len()) };
         done(reply).map(drop)
     }
 
     pub fn tick(&mut self) -> Result<(), Code> {
+        // SAFETY: the handle stays in its place, and `&mut` gives it to this call alone.
         done(unsafe { ffi::krl_client_tick(self.0.raw()) }).map(drop)
     }
 
     pub fn lock(&mut self, points: Range<u64>, mode: Mode) -> Result<(), Code> {
+        // SAFETY: the handle stays in its place, and `&mut` gives it to this call alone.
         let reply =
             unsafe { ffi::krl_client_lock(self.0.raw(), points.start, points.end, mode as u32) };
         done(reply).map(drop)
@@ -133,12 +139,17 @@ impl ClientHandle {
     pub fn write(&mut self, write: &Write) -> Result<u64, Code> {
         let handle = self.0.raw();
         done(match write {
-            Write::Insert(row) => unsafe {
-                ffi::krl_client_insert(handle, row.key, row.value.as_ptr(), row.value.len())
-            },
-            Write::Put(row) => unsafe {
-                ffi::krl_client_put(handle, row.key, row.value.as_ptr(), row.value.len())
-            },
+            Write::Insert(Row { key, value }) => {
+                let bytes = value.as_bytes();
+                // SAFETY: as for any handle, and so many bytes of the value are there to be read.
+                unsafe { ffi::krl_client_insert(handle, *key, bytes.as_ptr(), bytes.len()) }
+            }
+            Write::Put(Row { key, value }) => {
+                let bytes = value.as_bytes();
+                // SAFETY: as for any handle, and so many bytes of the value are there to be read.
+                unsafe { ffi::krl_client_put(handle, *key, bytes.as_ptr(), bytes.len()) }
+            }
+            // SAFETY: the handle stays in its place, and `&mut` gives it to this call alone.
             Write::Delete(key) => unsafe { ffi::krl_client_delete(handle, *key) },
         })?;
         Ok(self.status()?.number)
@@ -146,6 +157,7 @@ impl ClientHandle {
 
     /// Scans the cache into `rows`. Nothing is sent, and nothing waits.
     pub fn scan(&mut self, keys: &Range<u64>, rows: &mut [Row]) -> Result<Scan, Code> {
+        // SAFETY: as for any handle, and there is so much room to be written to.
         let reply = unsafe {
             ffi::krl_client_scan(self.0.raw(), keys.start, keys.end, rows.as_mut_ptr(), rows.len())
         };
@@ -160,26 +172,31 @@ impl ClientHandle {
     }
 
     pub fn forget(&mut self, keys: &Range<u64>) -> Result<(), Code> {
+        // SAFETY: the handle stays in its place, and `&mut` gives it to this call alone.
         done(unsafe { ffi::krl_client_forget(self.0.raw(), keys.start, keys.end) }).map(drop)
     }
 
     pub fn pin(&mut self, keys: &Range<u64>) -> Result<u64, Code> {
+        // SAFETY: the handle stays in its place, and `&mut` gives it to this call alone.
         done(unsafe { ffi::krl_client_pin(self.0.raw(), keys.start, keys.end) })
     }
 
     pub fn unpin(&mut self, pin: u64) -> Result<(), Code> {
+        // SAFETY: the handle stays in its place, and `&mut` gives it to this call alone.
         done(unsafe { ffi::krl_client_unpin(self.0.raw(), pin) }).map(drop)
     }
 
     /// Whether no other client may read or change the gap at this point, nor the entry there.
     pub fn has_all(&mut self, point: u64) -> bool {
         const X: u32 = 3;
+        // SAFETY: the handle stays in its place, and `&mut` gives it to this call alone.
         let held = unsafe { ffi::krl_client_held(self.0.raw(), point) };
         held.range == X && held.key == X
     }
 
     pub fn status(&mut self) -> Result<Shown, Code> {
         const LOCK_ABSENT: u32 = 3;
+        // SAFETY: the handle stays in its place, and `&mut` gives it to this call alone.
         let state = unsafe { ffi::krl_client_status(self.0.raw()) };
         done(state.reply)?;
         Ok(Shown {
@@ -192,6 +209,7 @@ impl ClientHandle {
 
     /// Says Bye. After that only this call, which says it again, and `take` do anything.
     pub fn leave(&mut self) -> Result<(), Code> {
+        // SAFETY: the handle stays in its place, and `&mut` gives it to this call alone.
         done(unsafe { ffi::krl_client_leave(self.0.raw()) }).map(drop)
     }
 
@@ -211,6 +229,7 @@ impl ServerHandle {
             snapshot.rows.iter().map(|(key, value)| Row { key: *key, value: *value }).collect();
         let records: Vec<_> = snapshot.records.iter().map(raw_record).collect();
         let mut handle = Handle::closed();
+        // SAFETY: as for any handle, and so many rows and records are there to be read.
         let reply = unsafe {
             ffi::krl_server_open(
                 handle.raw(),
@@ -227,6 +246,7 @@ impl ServerHandle {
 
     /// Gives the server a message, and says what has to be kept before anything more is sent.
     pub fn step(&mut self, message: &[u8]) -> Result<Option<Change>, Code> {
+        // SAFETY: as for any handle, and so many bytes of the message are there to be read.
         let stepped =
             unsafe { ffi::krl_server_step(self.0.raw(), message.as_ptr(), message.len()) };
         done(stepped.reply)?;
@@ -234,11 +254,13 @@ impl ServerHandle {
     }
 
     pub fn nudge(&mut self, client: u8) -> Result<(), Code> {
+        // SAFETY: the handle stays in its place, and `&mut` gives it to this call alone.
         done(unsafe { ffi::krl_server_nudge(self.0.raw(), client.into()) }).map(drop)
     }
 
     pub fn is_serving(&mut self) -> bool {
         const SERVING: u64 = 1;
+        // SAFETY: the handle stays in its place, and `&mut` gives it to this call alone.
         unsafe { ffi::krl_server_status(self.0.raw()) }.phase == SERVING
     }
 
@@ -246,12 +268,14 @@ impl ServerHandle {
     pub fn missing(&mut self) -> Result<Vec<u8>, Code> {
         let mut clients = [0; CLIENTS as usize];
         let room = clients.len();
+        // SAFETY: as for any handle, and there is so much room to be written to.
         let reply = unsafe { ffi::krl_server_missing(self.0.raw(), clients.as_mut_ptr(), room) };
         listed(reply, &clients)
     }
 
     /// What is kept of the client, if it ever registered.
     pub fn record(&mut self, client: u8) -> Result<Option<Record>, Code> {
+        // SAFETY: the handle stays in its place, and `&mut` gives it to this call alone.
         let raw = unsafe { ffi::krl_server_record(self.0.raw(), client.into()) };
         match code(raw.reply) {
             Code::BadClient => Ok(None),
@@ -265,6 +289,7 @@ impl ServerHandle {
     }
 
     fn waiting_of(&mut self, client: u8) -> Result<Option<Waiting>, Code> {
+        // SAFETY: the handle stays in its place, and `&mut` gives it to this call alone.
         let raw = unsafe { ffi::krl_server_waiter(self.0.raw(), client.into()) };
         done(raw.reply)?;
         if raw.waits == 0 {
@@ -278,12 +303,14 @@ impl ServerHandle {
     fn waited_for(&mut self, client: u8) -> Result<Vec<u8>, Code> {
         let mut clients = [0; CLIENTS as usize];
         let (at, room) = (clients.as_mut_ptr(), clients.len());
+        // SAFETY: as for any handle, and there is so much room to be written to.
         let reply = unsafe { ffi::krl_server_waited_for(self.0.raw(), client.into(), at, room) };
         listed(reply, &clients)
     }
 
     /// At how many slots the client holds something.
     pub fn held(&mut self, client: u8) -> Result<u64, Code> {
+        // SAFETY: the handle stays in its place, and `&mut` gives it to this call alone.
         done(unsafe { ffi::krl_server_held(self.0.raw(), client.into()) })
     }
 

@@ -10,7 +10,7 @@
 //!
 //! let listener = std::net::TcpListener::bind("127.0.0.1:7400")?;
 //! let server = Server::start(listener, SqliteStore::open("table.db")?)?;
-//! let client = Client::join(server.address().clone(), 0, "client-0.lock")?;
+//! let client = Client::join(server.address(), 0, "client-0.lock")?;
 //! client.insert(15, Value::from(5))?;
 //! let rows = client.read(10..20)?;
 //! assert_eq!(client.cached(10..20), Some(rows)); // no message
@@ -40,6 +40,7 @@ mod refused;
 mod routing;
 mod row;
 mod server;
+mod server_builder;
 #[cfg(feature = "sqlite")]
 mod sqlite;
 #[cfg(feature = "sqlite")]
@@ -60,8 +61,9 @@ pub use code::Code;
 pub use lock_file::LockFileError;
 pub use monitor::{Monitor, SnapshotError};
 pub use refused::{JoinError, Refused};
-pub use row::{END, MAX_VALUE_BYTES, Row, Value};
+pub use row::{END, MAX_VALUE_BYTES, Row, TooLong, Value};
 pub use server::{ServeError, Server};
+pub use server_builder::ServerBuilder;
 #[cfg(feature = "sqlite")]
 pub use sqlite::SqliteStore;
 #[cfg(feature = "sqlite")]

@@ -70,7 +70,8 @@ fn remember(called: &mut Vec<Range<u64>>, part: Range<u64>) {
     if called.len() > MAX_CALLED {
         let start = called.iter().map(|part| part.start).min().unwrap_or(0);
         let end = called.iter().map(|part| part.end).max().unwrap_or(0);
-        *called = vec![start..end];
+        called.clear();
+        called.push(start..end);
     }
 }
 
@@ -96,9 +97,9 @@ mod tests {
         pins.add(0, 12..14);
         pins.add(1, 16..18);
         assert_eq!(pins.free_parts(10..20), [10..12, 14..16, 18..20]);
-        assert_eq!(pins.remove(1), [16..18]);
-        assert_eq!(pins.free_parts(16..18), [16..18]);
-        assert_eq!(pins.remove(0), [12..14]);
+        assert_eq!(pins.remove(1), vec![Range { start: 16, end: 18 }]);
+        assert_eq!(pins.free_parts(16..18), vec![Range { start: 16, end: 18 }]);
+        assert_eq!(pins.remove(0), vec![Range { start: 12, end: 14 }]);
     }
 
     #[test]

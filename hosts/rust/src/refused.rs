@@ -42,12 +42,10 @@ pub enum JoinError {
     /// The server did not answer within the client's timeout. There is none, which the error of the
     /// connection shows; or it recovers, or knows a greater incarnation of this number.
     NoAnswer(Option<io::Error>),
-    /// The client's own thread has ended by a panic.
-    Stopped,
     /// The system has no thread for the client's connection.
     NoThread(io::Error),
-    /// The library refused the start.
-    Refused(Code),
+    /// The client refused to start.
+    Refused(Refused),
 }
 
 impl From<Code> for Refused {
@@ -69,7 +67,8 @@ impl fmt::Display for Refused {
             Refused::TimedOut => f.write_str("no answer came in time"),
             Refused::Stopped => f.write_str("the client's thread has panicked"),
             Refused::BadRange => f.write_str(
-                "a range of keys may not begin above its end, nor end above 2^63, and a pin's is not empty",
+                "a range of keys begins at its end or below, and ends at 2^63 or below; \
+                 a pin's is not empty",
             ),
             Refused::BadKey => f.write_str("the key is 2^63 - 1 or more"),
             Refused::Pinned => f.write_str("the range meets a pin"),
@@ -90,9 +89,8 @@ impl fmt::Display for JoinError {
             JoinError::NoAnswer(Some(error)) => {
                 write!(f, "the server did not answer in time: {error}")
             }
-            JoinError::Stopped => f.write_str("the client's thread has panicked"),
             JoinError::NoThread(error) => write!(f, "the client gets no thread: {error}"),
-            JoinError::Refused(code) => code.fmt(f),
+            JoinError::Refused(refused) => refused.fmt(f),
         }
     }
 }
@@ -112,9 +110,15 @@ impl std::error::Error for JoinError {
             JoinError::LockFile(error) => Some(error),
             JoinError::NoAnswer(error) => error.as_ref().map(|error| error as _),
             JoinError::NoThread(error) => Some(error),
-            JoinError::Refused(code) => Some(code),
-            JoinError::BadNumber | JoinError::Incomplete(_) | JoinError::Stopped => None,
+            JoinError::Refused(refused) => Some(refused),
+            JoinError::BadNumber | JoinError::Incomplete(_) => None,
         }
+    }
+}
+
+impl From<Refused> for JoinError {
+    fn from(refused: Refused) -> JoinError {
+        JoinError::Refused(refused)
     }
 }
 

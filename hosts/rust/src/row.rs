@@ -1,11 +1,10 @@
 //! Rows: keys and values.
 use std::fmt;
-use std::ops::Deref;
 
 /// One past the greatest key, 2^63 - 1. Ranges of keys may end one past it.
 pub const END: u64 = (1 << 63) - 1;
 
-/// The most bytes of a value.
+/// The greatest number of bytes in a value.
 pub const MAX_VALUE_BYTES: usize = 32;
 
 /// A value: 0 to 32 bytes.
@@ -26,8 +25,16 @@ pub struct Row {
     pub value: Value,
 }
 
+/// Bytes that are too many for a value.
+#[derive(Clone, Copy, Debug, PartialEq, Eq)]
+pub struct TooLong {
+    /// How many there are.
+    pub length: usize,
+}
+
 impl Value {
-    /// The value of these bytes, or `None` where there are more than 32.
+    /// The value of these bytes, or `None` if there are more than 32.
+    #[must_use]
     pub fn new(from: &[u8]) -> Option<Value> {
         let mut bytes = [0; MAX_VALUE_BYTES];
         bytes.get_mut(..from.len())?.copy_from_slice(from);
@@ -35,11 +42,44 @@ impl Value {
         Some(Value { length, bytes })
     }
 
+    /// The bytes of the value.
+    #[must_use]
+    pub fn as_bytes(&self) -> &[u8] {
+        let length = usize::try_from(self.length).unwrap_or(MAX_VALUE_BYTES);
+        &self.bytes[..length.min(MAX_VALUE_BYTES)]
+    }
+
     /// The number whose eight bytes the value is, the highest first, if it has eight.
+    #[must_use]
     pub fn to_u64(&self) -> Option<u64> {
-        self.as_ref().try_into().ok().map(u64::from_be_bytes)
+        self.as_bytes().try_into().ok().map(u64::from_be_bytes)
     }
 }
+
+impl TryFrom<&[u8]> for Value {
+    type Error = TooLong;
+
+    fn try_from(bytes: &[u8]) -> Result<Value, TooLong> {
+        Value::new(bytes).ok_or(TooLong { length: bytes.len() })
+    }
+}
+
+impl TryFrom<&str> for Value {
+    type Error = TooLong;
+
+    /// The bytes of the text in UTF-8.
+    fn try_from(text: &str) -> Result<Value, TooLong> {
+        text.as_bytes().try_into()
+    }
+}
+
+impl fmt::Display for TooLong {
+    fn fmt(&self, f: &mut fmt::Formatter<'_>) -> fmt::Result {
+        write!(f, "a value has at most {MAX_VALUE_BYTES} bytes, and this one {}", self.length)
+    }
+}
+
+impl std::error::Error for TooLong {}
 
 impl From<u64> for Value {
     /// The eight bytes of the number, the highest first.
@@ -57,24 +97,41 @@ impl Default for Value {
     }
 }
 
-impl Deref for Value {
-    type Target = [u8];
-
-    fn deref(&self) -> &[u8] {
-        let length = usize::try_from(self.length).unwrap_or(MAX_VALUE_BYTES);
-        &self.bytes[..length.min(MAX_VALUE_BYTES)]
-    }
-}
-
 impl AsRef<[u8]> for Value {
     fn as_ref(&self) -> &[u8] {
-        self
+        self.as_bytes()
     }
 }
 
 impl fmt::Debug for Value {
     fn fmt(&self, f: &mut fmt::Formatter<'_>) -> fmt::Result {
         f.write_str("x")?;
-        self.iter().try_for_each(|byte| write!(f, "{byte:02x}"))
+        self.as_bytes().iter().try_for_each(|byte| write!(f, "{byte:02x}"))
+    }
+}
+
+#[cfg(test)]
+mod tests {
+    use super::*;
+
+    #[test]
+    fn values_have_their_bytes() {
+        let value: Value = "abc".try_into().unwrap();
+        assert_eq!((value.as_bytes(), value.as_ref()), (&b"abc"[..], &b"abc"[..]));
+        assert_eq!(format!("{value:?}"), "x616263");
+        assert_eq!(Value::default().as_bytes(), b"");
+        assert_eq!(Value::try_from(&[7; 32][..]).unwrap().as_bytes(), [7; 32]);
+        assert_eq!(Value::try_from(&[7; 33][..]), Err(TooLong { length: 33 }));
+        assert_eq!(
+            TooLong { length: 33 }.to_string(),
+            "a value has at most 32 bytes, and this one 33"
+        );
+    }
+
+    #[test]
+    fn numbers_are_eight_bytes() {
+        assert_eq!(Value::from(5).as_bytes(), [0, 0, 0, 0, 0, 0, 0, 5]);
+        assert_eq!(Value::from(u64::MAX).to_u64(), Some(u64::MAX));
+        assert_eq!(Value::try_from("four").unwrap().to_u64(), None);
     }
 }

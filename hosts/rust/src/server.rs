@@ -8,6 +8,7 @@ use crate::held_back::HeldBack;
 use crate::message::{Kind, client_of, incarnation_of, kind_of};
 use crate::monitor::Monitor;
 use crate::routing::{Sender, sender};
+use crate::server_builder::ServerBuilder;
 use crate::status::Status;
 use crate::store::{Store, StoreError};
 use crate::stream::{Address, Listener};
@@ -16,6 +17,7 @@ use crate::watch::Watch;
 use std::convert::Infallible;
 use std::fmt;
 use std::io;
+use std::panic::{AssertUnwindSafe, catch_unwind};
 use std::sync::mpsc::{Receiver, RecvTimeoutError};
 use std::sync::{Arc, Mutex, PoisonError};
 use std::thread::{self, JoinHandle};
@@ -31,7 +33,7 @@ const NUDGE: Duration = Duration::from_millis(50);
 /// How long a server that ends waits until what it sent is written.
 const LAST_WRITES: Duration = Duration::from_millis(500);
 
-/// A server that runs in threads of its own. It ends where it is dropped.
+/// A server that runs in threads of its own. It ends when it is dropped.
 pub struct Server {
     listening: Listening,
     status: Arc<Mutex<Status>>,
@@ -58,8 +60,8 @@ impl Server {
     ///
     /// # Errors
     ///
-    /// Those of `start`; and `Store` where a change could not be committed. Nothing that rests on it was
-    /// sent.
+    /// Those of [`Server::start`]; `Store` if a change could not be committed: nothing that rests
+    /// on it was sent; `Panicked`.
     pub fn serve(
         listener: impl Into<Listener>,
         store: impl Store + 'static,
@@ -72,17 +74,33 @@ impl Server {
     ///
     /// # Errors
     ///
-    /// `Store` where the store fails; `Refused` where what it gives is not what a server kept, or
-    /// memory is refused; `Network` where the listener fails or there is no thread.
+    /// `Store` if the store fails; `Refused` if what it gives is not what a server committed, or
+    /// memory is refused; `Network` if the listener fails or there is no thread.
     pub fn start(
         listener: impl Into<Listener>,
+        store: impl Store + 'static,
+    ) -> Result<Server, ServeError> {
+        Server::builder(listener, store).start()
+    }
+
+    /// Says more of a server before it starts: how many connections it takes.
+    pub fn builder<S: Store + 'static>(
+        listener: impl Into<Listener>,
+        store: S,
+    ) -> ServerBuilder<S> {
+        ServerBuilder::new(listener.into(), store)
+    }
+
+    pub(crate) fn start_with(
+        listener: Listener,
         mut store: impl Store + 'static,
+        max_connections: usize,
     ) -> Result<Server, ServeError> {
         let snapshot = store.load()?;
         let (server, epoch) = ServerHandle::open(&snapshot).map_err(ServeError::Refused)?;
         // The epoch is kept before anything is sent.
         store.commit(&[Change::Started { epoch }])?;
-        let (listening, waiting) = Listening::start(listener.into())?;
+        let (listening, waiting) = Listening::start(listener, max_connections)?;
         let status = Arc::new(Mutex::new(Status { epoch, ..Status::default() }));
         let shown = Arc::clone(&status);
         let timings = Arc::new(Timings::new());
@@ -99,17 +117,20 @@ impl Server {
             open: Open::new(),
             frames: Vec::new(),
         };
-        let thread = thread::Builder::new().spawn(move || turns.run(&shown))?;
+        let thread = thread::Builder::new().name("krl-server".into());
+        let thread = thread.spawn(move || turns.run_to_the_end(&shown))?;
         Ok(Server { listening, status, timings, thread: Some(thread) })
     }
 
     /// Where it listens.
+    #[must_use]
     pub fn address(&self) -> &Address {
         self.listening.address()
     }
 
     /// What it looks like now, or a few milliseconds ago. Who waits for whom is as of 50
     /// milliseconds ago at most, and what a client holds as of some three seconds ago.
+    #[must_use]
     pub fn status(&self) -> Status {
         self.status.lock().unwrap_or_else(PoisonError::into_inner).clone()
     }
@@ -124,7 +145,8 @@ impl Server {
         }
     }
 
-    /// Whether it still serves. One that does not has failed, and `stop` says why.
+    /// Whether it still serves. One that does not has failed: its status shows why, and `stop` says
+    /// so.
     #[must_use]
     pub fn is_running(&self) -> bool {
         self.thread.as_ref().is_some_and(|thread| !thread.is_finished())
@@ -137,6 +159,10 @@ impl Server {
     }
 
     /// Blocks until the server fails. It can't be stopped meanwhile: this call owns it.
+    ///
+    /// # Errors
+    ///
+    /// Always: those of [`Server::serve`].
     pub fn wait(mut self) -> Result<Infallible, ServeError> {
         self.join()?;
         Err(ServeError::Panicked)
@@ -145,6 +171,10 @@ impl Server {
     /// Ends the server in order, and says how it ended: the messages that wait are judged, what
     /// they change is committed, and the answers are written, as far as the peers take them within
     /// half a second. What it kept stays; its clients answer from their caches.
+    ///
+    /// # Errors
+    ///
+    /// Those of [`Server::serve`], if it had failed before.
     pub fn stop(mut self) -> Result<(), ServeError> {
         self.listening.stop();
         self.join()
@@ -156,6 +186,12 @@ impl Server {
         let ended = thread.join().unwrap_or(Err(ServeError::Panicked));
         self.listening.end();
         ended
+    }
+}
+
+impl fmt::Debug for Server {
+    fn fmt(&self, f: &mut fmt::Formatter<'_>) -> fmt::Result {
+        f.debug_struct("Server").field("address", self.address()).finish_non_exhaustive()
     }
 }
 
@@ -184,6 +220,18 @@ struct EventLoop<S> {
 }
 
 impl<S: Store> EventLoop<S> {
+    /// Serves until it is stopped or fails, and shows how it failed.
+    fn run_to_the_end(self, shown: &Mutex<Status>) -> Result<(), ServeError> {
+        let run = catch_unwind(AssertUnwindSafe(|| self.run(shown)));
+        let ended = run.unwrap_or(Err(ServeError::Panicked));
+        if let Err(error) = &ended {
+            let mut shown = shown.lock().unwrap_or_else(PoisonError::into_inner);
+            shown.is_serving = false;
+            shown.failure = Some(error.to_string());
+        }
+        ended
+    }
+
     fn run(mut self, shown: &Mutex<Status>) -> Result<(), ServeError> {
         while self.turn()? {
             self.show(shown);

@@ -148,7 +148,7 @@ fn commit_one(transaction: &Transaction<'_>, change: &Change) -> Result<(), Stor
 fn commit_write(transaction: &Transaction<'_>, write: &Write) -> Result<(), StoreError> {
     match write {
         Write::Insert(Row { key, value }) | Write::Put(Row { key, value }) => {
-            run(transaction, PUT, params![signed(*key)?, &value[..]])
+            run(transaction, PUT, params![signed(*key)?, value.as_bytes()])
         }
         Write::Delete(key) => run(transaction, DELETE, params![signed(*key)?]),
     }

@@ -36,6 +36,8 @@ pub struct Status {
     pub changes: u64,
     /// How often the store was asked to commit changes.
     pub commits: u64,
+    /// Why the server has ended, if it has failed. All else is as it was last.
+    pub failure: Option<String>,
 }
 
 impl Status {
@@ -54,8 +56,15 @@ fn list(clients: &[u8]) -> String {
 
 impl fmt::Display for Status {
     fn fmt(&self, f: &mut fmt::Formatter<'_>) -> fmt::Result {
-        let phase = if self.is_serving { "serving" } else { "recovering" };
+        let phase = match self {
+            Status { failure: Some(_), .. } => "ended",
+            Status { is_serving: true, .. } => "serving",
+            _ => "recovering",
+        };
         writeln!(f, "epoch {}, {phase}", self.epoch)?;
+        if let Some(failure) = &self.failure {
+            writeln!(f, "FAILED: {failure}")?;
+        }
         if !self.is_serving {
             writeln!(f, "missing: {}", list(&self.missing))?;
         }

@@ -4,12 +4,20 @@ use std::fmt;
 
 /// What survives a server. Nobody else may write to it while the server runs.
 pub trait Store: Send {
-    /// All that was kept.
+    /// All that was committed.
+    ///
+    /// # Errors
+    ///
+    /// If it can't be read, or is not what a server commits.
     fn load(&mut self) -> Result<Snapshot, StoreError>;
 
-    /// Commits the changes, in their order: all or none. When it returns they are on the disk, and no
-    /// crash of the process or of the machine takes them away. After an error the server ends, and
-    /// sends nothing more.
+    /// Commits the changes, in their order: all or none. When it returns they are on the disk, and
+    /// no crash of the process or of the machine takes them away. After an error the server ends,
+    /// and sends nothing more.
+    ///
+    /// # Errors
+    ///
+    /// If they are not on the disk, whatever the reason.
     fn commit(&mut self, changes: &[Change]) -> Result<(), StoreError>;
 }
 
@@ -19,6 +27,7 @@ pub struct StoreError(pub Box<dyn std::error::Error + Send + Sync>);
 
 impl StoreError {
     /// An error that is just a sentence.
+    #[must_use]
     pub fn says(what: &str) -> StoreError {
         StoreError(what.into())
     }
@@ -49,7 +58,9 @@ impl Store for MemoryStore {
     }
 
     fn commit(&mut self, changes: &[Change]) -> Result<(), StoreError> {
-        changes.iter().for_each(|change| self.snapshot.apply(change));
+        for change in changes {
+            self.snapshot.apply(change);
+        }
         Ok(())
     }
 }

@@ -1,7 +1,7 @@
 //! Connections over TCP or over a Unix socket.
 use std::fmt;
 use std::io::{self, ErrorKind, Read, Write};
-use std::net::{Shutdown, SocketAddr, TcpListener, TcpStream};
+use std::net::{Shutdown, SocketAddr, TcpListener, TcpStream, ToSocketAddrs};
 use std::os::unix::fs::FileTypeExt;
 use std::os::unix::net::{UnixListener, UnixStream};
 use std::path::{Path, PathBuf};
@@ -13,11 +13,15 @@ use std::time::Duration;
 /// How long a server may take to show that it listens at a Unix socket.
 const PROBE: Duration = Duration::from_secs(1);
 
-/// Where a server listens. As text: `127.0.0.1:7400`, or `unix:` and a path.
+/// Where a server listens. As text: `127.0.0.1:7400`, `localhost:7400`, or `unix:` and a path.
 #[derive(Clone, Debug, PartialEq, Eq)]
+#[non_exhaustive]
 pub enum Address {
     /// TCP.
     Tcp(SocketAddr),
+    /// TCP at a port of a host, whose name is looked up at each connect. Each address that it has
+    /// is tried in turn.
+    Host(String, u16),
     /// A Unix socket.
     Unix(PathBuf),
 }
@@ -28,7 +32,7 @@ pub struct BadAddress;
 
 impl fmt::Display for BadAddress {
     fn fmt(&self, f: &mut fmt::Formatter<'_>) -> fmt::Result {
-        f.write_str("an address is written as 127.0.0.1:7400, or as unix: and a path")
+        f.write_str("an address is written as 127.0.0.1:7400, localhost:7400, or unix:/a/path")
     }
 }
 
@@ -39,16 +43,32 @@ impl FromStr for Address {
 
     fn from_str(text: &str) -> Result<Address, BadAddress> {
         match text.strip_prefix("unix:") {
+            Some("") => Err(BadAddress),
             Some(path) => Ok(Address::Unix(path.into())),
-            None => text.parse().map(Address::Tcp).map_err(|_| BadAddress),
+            None => text.parse().map(Address::Tcp).or_else(|_| host(text)),
         }
     }
+}
+
+/// The name of a host and a port.
+fn host(text: &str) -> Result<Address, BadAddress> {
+    let (name, port) = text.rsplit_once(':').ok_or(BadAddress)?;
+    let port = port.parse().map_err(|_| BadAddress)?;
+    if is_host(name) { Ok(Address::Host(name.into(), port)) } else { Err(BadAddress) }
+}
+
+/// Whether a name may be a host's. One whose last part is a number is an address that is wrong.
+fn is_host(name: &str) -> bool {
+    let is_letter = |byte: u8| byte.is_ascii_alphanumeric() || b"-._".contains(&byte);
+    let last = name.trim_end_matches('.').rsplit('.').next().unwrap_or("");
+    name.bytes().all(is_letter) && last.bytes().any(|byte| !byte.is_ascii_digit())
 }
 
 impl fmt::Display for Address {
     fn fmt(&self, f: &mut fmt::Formatter<'_>) -> fmt::Result {
         match self {
             Address::Tcp(address) => address.fmt(f),
+            Address::Host(name, port) => write!(f, "{name}:{port}"),
             Address::Unix(path) => write!(f, "unix:{}", path.display()),
         }
     }
@@ -57,6 +77,12 @@ impl fmt::Display for Address {
 impl From<SocketAddr> for Address {
     fn from(address: SocketAddr) -> Address {
         Address::Tcp(address)
+    }
+}
+
+impl From<&Address> for Address {
+    fn from(address: &Address) -> Address {
+        address.clone()
     }
 }
 
@@ -80,6 +106,9 @@ impl Listener {
     pub fn bind(address: &Address) -> io::Result<Listener> {
         match address {
             Address::Tcp(address) => TcpListener::bind(address).map(Listener::Tcp),
+            Address::Host(name, port) => {
+                TcpListener::bind((name.as_str(), *port)).map(Listener::Tcp)
+            }
             Address::Unix(path) => {
                 if is_socket(path) && is_abandoned(&probe(path)) {
                     std::fs::remove_file(path)?;
@@ -166,6 +195,10 @@ impl Stream {
     pub fn connect(address: &Address, wait: Duration) -> io::Result<Stream> {
         match address {
             Address::Tcp(address) => Stream::of_tcp(TcpStream::connect_timeout(address, wait)?),
+            Address::Host(name, port) => {
+                let connected = connect_to_one((name.as_str(), *port).to_socket_addrs()?, wait);
+                Stream::of_tcp(connected?)
+            }
             Address::Unix(path) => UnixStream::connect(path).map(Stream::Unix),
         }
     }
@@ -203,6 +236,21 @@ impl Stream {
             Stream::Unix(stream) => stream.shutdown(Shutdown::Both),
         };
     }
+}
+
+/// Connects to the first address that takes it. Each may take so long.
+fn connect_to_one(
+    addresses: impl Iterator<Item = SocketAddr>,
+    wait: Duration,
+) -> io::Result<TcpStream> {
+    let mut failure = io::Error::new(ErrorKind::NotFound, "the host has no address");
+    for address in addresses {
+        match TcpStream::connect_timeout(&address, wait) {
+            Ok(stream) => return Ok(stream),
+            Err(error) => failure = error,
+        }
+    }
+    Err(failure)
 }
 
 impl Read for Stream {
@@ -244,6 +292,48 @@ mod tests {
         ] {
             assert!(!is_abandoned(&Err(kind.into())), "{kind}");
         }
+    }
+
+    #[test]
+    fn addresses_are_read_as_they_are_written() {
+        for text in
+            ["127.0.0.1:7400", "[::1]:7400", "localhost:7400", "a-b.c_d.example.:1", "unix:/a"]
+        {
+            assert_eq!(text.parse::<Address>().unwrap().to_string(), text);
+        }
+        assert!(matches!("[::1]:7400".parse(), Ok(Address::Tcp(_))));
+        assert_eq!("db1:7400".parse(), Ok(Address::Host("db1".into(), 7400)));
+        for text in [
+            "",
+            ":",
+            "localhost",
+            "localhost:",
+            ":7400",
+            "localhost:65536",
+            "127.0.0.1",
+            "unix:",
+            "127.0.0.256:7400",
+            "1.2.3.4.5:7400",
+            "::1:7400",
+            "a b:7400",
+            "a/b:7400",
+            "...:7400",
+        ] {
+            assert_eq!(text.parse::<Address>(), Err(BadAddress), "{text}");
+        }
+    }
+
+    #[test]
+    fn each_address_of_a_host_is_tried() {
+        let living = TcpListener::bind("127.0.0.1:0").unwrap();
+        let dead = TcpListener::bind("127.0.0.1:0").unwrap().local_addr().unwrap();
+        let both = [dead, living.local_addr().unwrap()];
+        let connected = connect_to_one(both.into_iter(), PROBE).unwrap();
+        assert_eq!(connected.peer_addr().unwrap(), both[1]);
+        let refused = connect_to_one([dead].into_iter(), PROBE).unwrap_err();
+        assert_eq!(refused.kind(), ErrorKind::ConnectionRefused);
+        let nobody = connect_to_one(std::iter::empty(), PROBE).unwrap_err();
+        assert_eq!(nobody.kind(), ErrorKind::NotFound);
     }
 
     #[test]

@@ -15,8 +15,8 @@ pub struct Wait {
     pub mode: &'static str,
     /// For how long it was seen to wait.
     pub waited: Duration,
-    /// The clients that it waits for: those that wait before it, and those that hold what
-    /// is not compatible with what it wants. None if it has to acknowledge a push first, or while the
+    /// The clients that it waits for: those that wait before it, and those that hold what is not
+    /// compatible with what it wants. None if it has to acknowledge a push first, or while the
     /// server recovers.
     pub waits_for: Vec<u8>,
 }

@@ -200,7 +200,7 @@ mod tests {
         }
         let mut heard = Vec::new();
         while heard.len() < sent.len() {
-            let mut bytes = [0; 1 << 16];
+            let mut bytes = [0; 1 << 14];
             let count = theirs.read(&mut bytes).unwrap();
             heard.extend_from_slice(&bytes[..count]);
             writer.write();

@@ -120,7 +120,7 @@ fn what_is_refused() {
     let strange = join(2, &folder.0.join("none").join("lock"));
     assert!(matches!(strange, Some(JoinError::LockFile(LockFileError::File(_)))));
     assert!(matches!(join(64, &folder.lock(2)), Some(JoinError::BadNumber)));
-    let pins: Vec<_> = (0..8).map(|lo| client.pin(lo..lo + 1).unwrap()).collect();
+    let pins: Vec<_> = (0..8).map(|lo| client.pin(lo..=lo).unwrap()).collect();
     assert_eq!(client.pin(0..1).err(), Some(Refused::TooManyPins));
     assert_eq!(client.forget(0..4), Err(Refused::Pinned));
     drop(pins);
@@ -185,7 +185,8 @@ fn an_evicted_client_keeps_nobody_waiting() {
     let (address, living) = (server.address().clone(), folder.join(&server, 1));
     living.insert(10, value("a")).unwrap();
     assert!(evict(address.clone(), 1, folder.lock(1)).is_err(), "its process lives");
-    // A client that is gone without a Bye: this one's thread goes on, but nobody hears it after the eviction.
+    // A client that is gone without a Bye: this one's thread goes on, but nobody hears it after the
+    // eviction.
     evict(address, 1, folder.0.join("lost.lock")).unwrap();
     let other = folder.join(&server, 2);
     assert_eq!(other.put(10, value("b")), Ok(Outcome::Applied));
@@ -203,7 +204,7 @@ fn threads_share_a_client() {
                 for turn in 0..25u64 {
                     let key = 100 * place + turn;
                     assert_eq!(client.insert(key, Value::from(turn)), Ok(Outcome::Applied));
-                    let rows = client.read(100 * place..key + 1).unwrap();
+                    let rows = client.read(100 * place..=key).unwrap();
                     assert_eq!(rows.len() as u64, turn + 1);
                 }
             });

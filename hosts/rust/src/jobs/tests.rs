@@ -35,7 +35,10 @@ impl World {
     }
 
     fn tell_server(&mut self, said: &[Vec<u8>]) {
-        said.iter().for_each(|message| drop(self.server.step(message)));
+        for message in said {
+            // A message that is refused is one that is lost.
+            let _ = self.server.step(message);
+        }
     }
 
     /// Hands over what the server says.
@@ -54,7 +57,9 @@ impl World {
             let said: Vec<_> = [0, 1].into_iter().flat_map(|client| self.said(client)).collect();
             self.tell_server(&said);
             let heard = self.tell_clients();
-            self.clients.iter_mut().for_each(|jobs| jobs.advance(Asking::Allowed));
+            for jobs in &mut self.clients {
+                jobs.advance(Asking::Allowed);
+            }
             if said.is_empty() && heard == 0 {
                 return;
             }
@@ -104,7 +109,7 @@ fn a_write_whose_lock_is_called_back_is_asked_again() {
         assert_eq!(world.write(0, Write::Insert(row(key, 1))), Outcome::Applied);
     }
     world.read(0, 0..30);
-    let deleted = world.clients[0].write(Write::Delete(10));
+    let answer = world.clients[0].write(Write::Delete(10));
     // The grant comes, and the delete is on its way.
     let mut delayed = Vec::new();
     for _ in 0..4 {
@@ -126,7 +131,7 @@ fn a_write_whose_lock_is_called_back_is_asked_again() {
     world.tell_server(&delayed);
     world.settle();
     assert_eq!(read.answer.try_recv(), Ok(Ok(vec![])));
-    assert_eq!(deleted.answer.try_recv(), Ok(Ok(Outcome::Applied)));
+    assert_eq!(answer.answer.try_recv(), Ok(Ok(Outcome::Applied)));
     assert_eq!(world.read(1, 0..30), [row(20, 1)]);
 }
 

@@ -1,0 +1,104 @@
+//! Servers that are full, and servers that fail.
+use krl::{Change, Client, JoinError, MemoryStore, Refused, ServeError, Server, Snapshot};
+use krl::{Store, StoreError, Value};
+use std::net::TcpListener;
+use std::path::PathBuf;
+use std::thread;
+use std::time::{Duration, Instant};
+
+fn listener() -> TcpListener {
+    TcpListener::bind("127.0.0.1:0").unwrap()
+}
+
+fn lock_file(name: &str) -> PathBuf {
+    std::env::temp_dir().join(format!("krl-servers-{}-{name}.lock", std::process::id()))
+}
+
+/// Waits until it is so, for ten seconds at most.
+fn wait_until(is_so: impl Fn() -> bool) -> bool {
+    let end = Instant::now() + Duration::from_secs(10);
+    while !is_so() && Instant::now() < end {
+        thread::sleep(Duration::from_millis(10));
+    }
+    is_so()
+}
+
+#[test]
+fn a_full_server_takes_a_client_when_another_one_has_left() {
+    let server = Server::builder(listener(), MemoryStore::default()).max_connections(1);
+    let server = server.start().unwrap();
+    let locks = [lock_file("one"), lock_file("two")];
+    let first = Client::join(server.address(), 1, &locks[0]).unwrap();
+    let second = || Client::builder(server.address()).number(2).lock_file(&locks[1]);
+    let refused = second().timeout(Duration::from_millis(500)).join().unwrap_err();
+    assert!(matches!(refused, JoinError::NoAnswer(Some(_))), "{refused:?}");
+    first.leave().unwrap();
+    assert!(wait_until(|| server.status().connections == 0));
+    second().join().unwrap().leave().unwrap();
+    for lock in locks {
+        std::fs::remove_file(lock).unwrap();
+    }
+}
+
+/// A store that takes so many batches, and then fails as it is told.
+struct Failing {
+    store: MemoryStore,
+    batches: usize,
+    fail: fn() -> StoreError,
+}
+
+impl Store for Failing {
+    fn load(&mut self) -> Result<Snapshot, StoreError> {
+        self.store.load()
+    }
+
+    fn commit(&mut self, changes: &[Change]) -> Result<(), StoreError> {
+        if self.batches == 0 {
+            return Err((self.fail)());
+        }
+        self.batches -= 1;
+        self.store.commit(changes)
+    }
+}
+
+/// A server whose store fails at the write of its client, and how it ended.
+fn fails(name: &str, fail: fn() -> StoreError) -> (String, ServeError) {
+    // The start and the join are two batches.
+    let store = Failing { store: MemoryStore::default(), batches: 2, fail };
+    let (server, lock) = (Server::start(listener(), store).unwrap(), lock_file(name));
+    let client = Client::join(server.address(), 1, &lock).unwrap();
+    assert!(server.is_running() && server.status().failure.is_none());
+    client.set_timeout(Duration::from_millis(300));
+    assert_eq!(client.insert(1, Value::from(1)), Err(Refused::TimedOut));
+    assert!(wait_until(|| !server.is_running()));
+    let status = server.status();
+    assert!(!status.is_serving);
+    assert!(status.to_string().contains(status.failure.as_ref().unwrap()), "{status}");
+    drop(client);
+    std::fs::remove_file(lock).unwrap();
+    (status.failure.unwrap(), server.stop().unwrap_err())
+}
+
+#[test]
+fn a_server_whose_store_fails_says_so() {
+    let (shown, error) = fails("fails", || StoreError::says("the disk is gone"));
+    assert_eq!(shown, "the store failed: the disk is gone");
+    assert!(matches!(error, ServeError::Store(_)), "{error:?}");
+}
+
+#[test]
+fn a_server_that_panics_says_so() {
+    let (shown, error) = fails("panics", || panic!("the test's"));
+    assert_eq!(shown, "a thread of the server panicked");
+    assert!(matches!(error, ServeError::Panicked), "{error:?}");
+}
+
+#[test]
+fn a_client_joins_by_a_name_of_the_host() {
+    let (server, lock) =
+        (Server::start(listener(), MemoryStore::default()).unwrap(), lock_file("name"));
+    let port = server.address().to_string().rsplit(':').next().unwrap().to_string();
+    let address: krl::Address = format!("localhost:{port}").parse().unwrap();
+    Client::join(&address, 1, &lock).unwrap().leave().unwrap();
+    std::fs::remove_file(lock).unwrap();
+}
