@@ -78,7 +78,9 @@ pub(crate) mod tests {
     /// A message with these numbers behind its kind.
     fn message(kind: u8, numbers: &[u64]) -> Vec<u8> {
         let mut bytes = vec![1, kind];
-        numbers.iter().for_each(|number| bytes.extend_from_slice(&number.to_le_bytes()));
+        for number in numbers {
+            bytes.extend_from_slice(&number.to_le_bytes());
+        }
         bytes
     }
 

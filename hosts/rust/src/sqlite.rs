@@ -9,6 +9,7 @@ use std::time::Duration;
 
 /// A store in one file of SQLite, in WAL mode with synchronous=FULL: `commit` returns once the
 /// changes are on the disk. A write's row and its client's record change in one transaction.
+#[derive(Debug)]
 pub struct SqliteStore {
     connection: Connection,
 }

@@ -13,7 +13,7 @@ use std::time::Duration;
 
 /// Inserts keys for as long as the server answers, and says which were Applied.
 fn insert_all(serving: &Serving, folder: &Path, number: u8, count: &AtomicU64) -> Vec<u64> {
-    let mut client = serving.join(folder, number);
+    let client = serving.join(folder, number);
     client.set_timeout(Duration::from_millis(300));
     let mut applied = Vec::new();
     for key in (0..).map(|key| key * 64 + u64::from(number)) {
