@@ -1,5 +1,6 @@
 //! The connections of a server: threads that read and write, so that no slow peer stops the others.
 use crate::change::Snapshot;
+use crate::event_log::{self, Seldom};
 use crate::frames::{Frames, LONGEST_TO_SERVER};
 use crate::routing::Routes;
 use crate::store::StoreError;
@@ -208,6 +209,7 @@ fn accept(
     stopped: &AtomicBool,
 ) {
     let count = Arc::new(AtomicUsize::new(0));
+    let (mut full, mut failed) = (Seldom::default(), Seldom::default());
     for connection in 0.. {
         let accepted = listener.accept();
         if stopped.load(Ordering::Acquire) {
@@ -215,14 +217,20 @@ fn accept(
         }
         match accepted {
             Ok(stream) => {
-                if count.load(Ordering::Acquire) < max_connections {
-                    // A connection for which the system has no room or no thread is closed.
-                    let _ = begin(connection, stream, events, &count);
+                let open = count.load(Ordering::Acquire);
+                if open >= max_connections {
+                    event_log::full(&mut full, open);
+                } else if let Err(error) = begin(connection, stream, events, &count) {
+                    // The system has no room or no thread for it: it is closed.
+                    event_log::not_accepted(&mut failed, &error);
                 }
             }
             Err(error) => match after(&error) {
                 Next::AtOnce => {}
-                Next::Later => thread::sleep(NO_ROOM),
+                Next::Later => {
+                    event_log::not_accepted(&mut failed, &error);
+                    thread::sleep(NO_ROOM);
+                }
                 Next::End => {
                     // Where nobody hears it, the server has ended.
                     let _ = events.send(Event::Deaf(error));

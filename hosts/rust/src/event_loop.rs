@@ -2,6 +2,7 @@
 use crate::change::Change;
 use crate::code::Code;
 use crate::connections::{Connections, Event};
+use crate::event_log::{self, EventLog};
 use crate::frames;
 use crate::handle::ServerHandle;
 use crate::held_back::HeldBack;
@@ -39,6 +40,7 @@ pub(crate) struct EventLoop<S> {
     nudged: Instant,
     timings: Arc<Timings>,
     open: Open,
+    log: EventLog,
     frames: Vec<u8>,
 }
 
@@ -50,6 +52,7 @@ impl<S: Store> EventLoop<S> {
         waiting: Receiver<Event>,
         timings: Arc<Timings>,
         epoch: u64,
+        log: EventLog,
     ) -> EventLoop<S> {
         EventLoop {
             server,
@@ -62,6 +65,7 @@ impl<S: Store> EventLoop<S> {
             nudged: Instant::now(),
             timings,
             open: Open::new(),
+            log,
             frames: Vec::new(),
         }
     }
@@ -71,6 +75,7 @@ impl<S: Store> EventLoop<S> {
         let run = catch_unwind(AssertUnwindSafe(|| self.run(shown)));
         let ended = run.unwrap_or(Err(ServeError::Panicked));
         if let Err(error) = &ended {
+            event_log::failed(error);
             let mut shown = shown.lock().unwrap_or_else(PoisonError::into_inner);
             shown.is_serving = false;
             shown.failure = Some(error.to_string());
@@ -132,6 +137,7 @@ impl<S: Store> EventLoop<S> {
             Ok(change) => change,
             Err(Code::BadMessage) => {
                 self.status.refused += 1;
+                self.log.bad_message(connection, message.len());
                 self.connections.close(connection);
                 return Ok(None);
             }
@@ -163,13 +169,15 @@ impl<S: Store> EventLoop<S> {
             // The frame leaves after the change is on the disk, and tells the client that it need
             // not say Bye again.
             (Sender::Left, Kind::Bye) => self.connections.put(connection, &frames::EMPTY),
-            (Sender::Left | Sender::Stranger, _) => {}
+            (Sender::Left, _) => {}
+            (Sender::Stranger, _) => self.log.stranger(connection, client, incarnation),
         }
         Ok(())
     }
 
     fn alarm(&mut self, message: &[u8]) {
         self.status.alarms_raised += 1;
+        self.log.alarm(client_of(message));
         // A client repeats its report.
         let known = &mut self.status.alarms;
         known.extend(client_of(message).filter(|client| !known.contains(client)));
@@ -204,6 +212,7 @@ impl<S: Store> EventLoop<S> {
             let began = Instant::now();
             self.store.commit(changes)?;
             self.timings.committed(changes.len(), began);
+            self.log.committed(changes);
             self.status.changes += changes.len() as u64;
             self.status.commits += 1;
         }
@@ -239,6 +248,7 @@ impl<S: Store> EventLoop<S> {
         if let Ok(missing) = self.server.missing() {
             self.status.missing = missing;
         }
+        self.log.phase(self.status.is_serving, &self.status.missing);
         self.status.connected = self.connections.clients();
         self.status.connections = self.connections.count() as u64;
         self.status.held_back = self.held_back.count();

@@ -23,6 +23,7 @@ mod change;
 mod client;
 mod code;
 mod connections;
+mod event_log;
 mod event_loop;
 mod ffi;
 mod frames;

@@ -1,6 +1,7 @@
 //! The thread of a client that keeps its connection, and what it shares with the callers.
 use crate::backoff::Backoff;
 use crate::code::Code;
+use crate::event_log;
 use crate::frames::{Frames, LONGEST_TO_CLIENT};
 use crate::jobs::{Asked, Asking, Jobs};
 use crate::refused::Refused;
@@ -136,6 +137,7 @@ impl Link {
                 }
                 Err(error) => error,
             };
+            event_log::disconnected(&self.address, &fault);
             *lock(&self.fault) = Some(fault);
             self.rest(backoff.pause());
         }
@@ -158,6 +160,7 @@ impl Link {
         stream.set_timeouts(BUSY_TICK, ATTEMPT)?;
         self.writer.open(stream.try_clone()?);
         *lock(&self.fault) = None;
+        event_log::connected(&self.address);
         Ok(stream)
     }
 

@@ -2,6 +2,7 @@
 use crate::change::Change;
 use crate::code::Code;
 use crate::connections::Listening;
+use crate::event_log::EventLog;
 use crate::event_loop::EventLoop;
 use crate::handle::ServerHandle;
 use crate::monitor::Monitor;
@@ -87,7 +88,9 @@ impl Server {
         let status = Arc::new(Mutex::new(Status { epoch, ..Status::default() }));
         let shown = Arc::clone(&status);
         let timings = Arc::new(Timings::new());
-        let events = EventLoop::new(server, store, waiting, Arc::clone(&timings), epoch);
+        let (rows, records) = (snapshot.rows.len(), &snapshot.records);
+        let log = EventLog::started(epoch, listening.address(), rows, records);
+        let events = EventLoop::new(server, store, waiting, Arc::clone(&timings), epoch, log);
         let thread = thread::Builder::new().name("krl-server".into());
         let thread = thread.spawn(move || events.run_to_the_end(&shown))?;
         Ok(Server { listening, status, timings, thread: Some(thread) })

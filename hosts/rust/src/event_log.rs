@@ -1,0 +1,209 @@
+//! What a server and a client tell a log: by `tracing`, if the feature of this name is on.
+#![cfg_attr(
+    not(feature = "tracing"),
+    allow(
+        unused_variables,
+        clippy::if_same_then_else,
+        clippy::single_match,
+        reason = "without the feature nothing is told"
+    )
+)]
+use crate::change::{Change, Record};
+use crate::stream::Address;
+use std::collections::BTreeMap;
+use std::fmt::Display;
+use std::time::{Duration, Instant};
+
+/// How long a repeated event waits until it is told again.
+const PAUSE: Duration = Duration::from_secs(1);
+
+macro_rules! tell {
+    ($level:ident, $($event:tt)*) => {{
+        #[cfg(feature = "tracing")]
+        tracing::$level!($($event)*);
+    }};
+}
+
+/// Lets an event through once a second, and counts those between.
+#[derive(Debug, Default)]
+pub(crate) struct Seldom {
+    told: Option<Instant>,
+    passed_over: u64,
+}
+
+impl Seldom {
+    /// How many were passed over since the last one that was told, if this one is to be told.
+    pub fn lets(&mut self, now: Instant) -> Option<u64> {
+        if self.told.is_some_and(|told| now.saturating_duration_since(told) < PAUSE) {
+            self.passed_over += 1;
+            return None;
+        }
+        self.told = Some(now);
+        Some(std::mem::take(&mut self.passed_over))
+    }
+}
+
+/// What a server has told, so that nothing is told twice.
+#[derive(Debug)]
+pub(crate) struct EventLog {
+    /// The clients that ever registered: the incarnation, and whether it has left.
+    clients: BTreeMap<u8, (u64, bool)>,
+    is_serving: Option<bool>,
+    missing: Vec<u8>,
+    bad_messages: Seldom,
+    strangers: Seldom,
+    alarms: Seldom,
+}
+
+impl EventLog {
+    /// A server has started on these records.
+    pub fn started(epoch: u64, address: &Address, rows: usize, records: &[Record]) -> EventLog {
+        tell!(info, epoch, %address, rows, clients = records.len(), "the server has started");
+        let clients = records.iter().map(|it| (it.client, (it.incarnation, it.left))).collect();
+        EventLog {
+            clients,
+            is_serving: None,
+            missing: Vec::new(),
+            bad_messages: Seldom::default(),
+            strangers: Seldom::default(),
+            alarms: Seldom::default(),
+        }
+    }
+
+    /// The phase of the server, and the clients whose reports are missing. It tells when they
+    /// change.
+    pub fn phase(&mut self, is_serving: bool, missing: &[u8]) {
+        if self.is_serving == Some(is_serving) && self.missing == missing {
+            return;
+        }
+        if is_serving {
+            tell!(info, "the server serves");
+        } else {
+            tell!(info, ?missing, "the server recovers: reports are missing");
+        }
+        self.is_serving = Some(is_serving);
+        missing.clone_into(&mut self.missing);
+    }
+
+    /// These changes are committed.
+    pub fn committed(&mut self, changes: &[Change]) {
+        for change in changes {
+            match *change {
+                Change::Registered { client, incarnation } => self.joined(client, incarnation),
+                Change::Left { client } => self.left(client),
+                Change::Started { .. } | Change::Judged { .. } => {}
+            }
+        }
+    }
+
+    fn joined(&mut self, client: u8, incarnation: u64) {
+        match self.clients.insert(client, (incarnation, false)) {
+            Some((before, false)) => {
+                tell!(
+                    warn,
+                    client,
+                    incarnation,
+                    before,
+                    "a client is replaced that had not left: it was started again, or is evicted"
+                );
+            }
+            Some((_, true)) | None => tell!(info, client, incarnation, "a client has joined"),
+        }
+    }
+
+    fn left(&mut self, client: u8) {
+        if let Some((incarnation, has_left)) = self.clients.get_mut(&client) {
+            *has_left = true;
+            tell!(info, client, incarnation = *incarnation, "a client has left");
+        }
+    }
+
+    /// A connection said what is no message, and is closed.
+    pub fn bad_message(&mut self, connection: u64, length: usize) {
+        if let Some(passed_over) = self.bad_messages.lets(Instant::now()) {
+            tell!(
+                warn,
+                connection,
+                length,
+                passed_over,
+                "a connection is closed: it said what is no message"
+            );
+        }
+    }
+
+    /// A message names an incarnation that is not the client's.
+    pub fn stranger(&mut self, connection: u64, client: u8, incarnation: u64) {
+        if let Some(passed_over) = self.strangers.lets(Instant::now()) {
+            let registered = self.clients.get(&client).map(|(incarnation, _)| *incarnation);
+            tell!(
+                warn,
+                connection,
+                client,
+                incarnation,
+                registered,
+                passed_over,
+                "a message is passed over: it is of another incarnation than the client's"
+            );
+        }
+    }
+
+    /// A report contradicts what the server knows.
+    pub fn alarm(&mut self, client: Option<u8>) {
+        if let Some(passed_over) = self.alarms.lets(Instant::now()) {
+            tell!(
+                error,
+                client,
+                passed_over,
+                "ALARM: a report contradicts what the server knows: two processes are one client, \
+                 or the store is an older one"
+            );
+        }
+    }
+}
+
+/// The server has ended by an error.
+pub(crate) fn failed(error: &dyn Display) {
+    tell!(error, %error, "the server has failed");
+}
+
+/// A connection is closed as it comes, since so many are open.
+pub(crate) fn full(seldom: &mut Seldom, open: usize) {
+    if let Some(passed_over) = seldom.lets(Instant::now()) {
+        tell!(warn, open, passed_over, "a connection is closed: no more may be open");
+    }
+}
+
+/// The system gives no connection just now.
+pub(crate) fn not_accepted(seldom: &mut Seldom, error: &dyn Display) {
+    if let Some(passed_over) = seldom.lets(Instant::now()) {
+        tell!(warn, %error, passed_over, "the system gives no connection");
+    }
+}
+
+/// A client has a connection.
+pub(crate) fn connected(server: &Address) {
+    tell!(debug, %server, "a client is connected");
+}
+
+/// A client has no connection, or has lost it.
+pub(crate) fn disconnected(server: &Address, error: &dyn Display) {
+    tell!(debug, %server, %error, "a client is not connected");
+}
+
+#[cfg(test)]
+mod tests {
+    use super::*;
+
+    #[test]
+    fn a_repeated_event_is_told_once_a_second_and_counted() {
+        let (mut seldom, start) = (Seldom::default(), Instant::now());
+        assert_eq!(seldom.lets(start), Some(0));
+        for _ in 0..5 {
+            assert_eq!(seldom.lets(start + PAUSE / 2), None);
+        }
+        assert_eq!(seldom.lets(start + PAUSE), Some(5));
+        assert_eq!(seldom.lets(start + PAUSE), None);
+        assert_eq!(seldom.lets(start + 3 * PAUSE), Some(1));
+        assert_eq!(seldom.lets(start + 4 * PAUSE), Some(0));
+    }
+}

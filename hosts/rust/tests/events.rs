@@ -1,0 +1,102 @@
+//! What a server tells a log in a short life. It is one test, since a process has one log.
+#![cfg(feature = "tracing")]
+use krl::{Change, Client, MemoryStore, Server, Store, Value, evict};
+use std::fmt::{Debug, Write as _};
+use std::io::{Read, Write as _};
+use std::net::{TcpListener, TcpStream};
+use std::sync::{Arc, Mutex};
+use std::time::{Duration, Instant};
+use tracing::field::{Field, Visit};
+use tracing::span::{Attributes, Id, Record};
+use tracing::{Event, Level, Metadata, Subscriber};
+
+/// A log that keeps each event as a line.
+#[derive(Clone, Default)]
+struct Lines(Arc<Mutex<Vec<String>>>);
+
+struct Line(String);
+
+impl Visit for Line {
+    fn record_debug(&mut self, field: &Field, value: &dyn Debug) {
+        write!(self.0, " {}={value:?}", field.name()).unwrap();
+    }
+}
+
+impl Subscriber for Lines {
+    fn enabled(&self, metadata: &Metadata<'_>) -> bool {
+        *metadata.level() <= Level::INFO
+    }
+
+    fn event(&self, event: &Event<'_>) {
+        let mut line = Line(event.metadata().level().to_string());
+        event.record(&mut line);
+        self.0.lock().unwrap().push(line.0);
+    }
+
+    fn new_span(&self, _: &Attributes<'_>) -> Id {
+        Id::from_u64(1)
+    }
+
+    fn record(&self, _: &Id, _: &Record<'_>) {}
+
+    fn record_follows_from(&self, _: &Id, _: &Id) {}
+
+    fn enter(&self, _: &Id) {}
+
+    fn exit(&self, _: &Id) {}
+}
+
+impl Lines {
+    /// How many lines have all the words.
+    fn count(&self, words: &[&str]) -> usize {
+        let lines = self.0.lock().unwrap();
+        lines.iter().filter(|line| words.iter().all(|word| line.contains(word))).count()
+    }
+
+    /// Waits until so many lines have all the words, for ten seconds at most.
+    #[track_caller]
+    fn expect(&self, count: usize, words: &[&str]) {
+        let end = Instant::now() + Duration::from_secs(10);
+        while self.count(words) != count && Instant::now() < end {
+            std::thread::sleep(Duration::from_millis(10));
+        }
+        assert_eq!(self.count(words), count, "{words:?} in {:#?}", self.0.lock().unwrap());
+    }
+}
+
+#[test]
+fn a_server_tells_what_happens_once() {
+    let lines = Lines::default();
+    tracing::subscriber::set_global_default(lines.clone()).unwrap();
+    let folder = std::env::temp_dir().join(format!("krl-events-{}", std::process::id()));
+    std::fs::create_dir_all(&folder).unwrap();
+    // Client 9 has not left: the server recovers, and asks for its report.
+    let mut store = MemoryStore::default();
+    store.commit(&[Change::Registered { client: 9, incarnation: 4 }]).unwrap();
+    let listener = TcpListener::bind("127.0.0.1:0").unwrap();
+    let server = Server::start(listener, store).unwrap();
+    lines.expect(1, &["INFO", "the server has started", "epoch=1", "rows=0", "clients=1"]);
+    lines.expect(1, &["INFO", "the server recovers", "[9]"]);
+    evict(server.address(), 9, folder.join("evict.lock")).unwrap();
+    lines.expect(1, &["WARN", "a client is replaced that had not left", "client=9", "before=4"]);
+    lines.expect(1, &["INFO", "a client has left", "client=9"]);
+    lines.expect(1, &["INFO", "the server serves"]);
+    let client = Client::join(server.address(), 3, folder.join("client.lock")).unwrap();
+    lines.expect(1, &["INFO", "a client has joined", "client=3"]);
+    client.insert(1, Value::from(1)).unwrap();
+    // A Hello of an older incarnation, again and again, and a string that is no message.
+    let mut stranger = TcpStream::connect(server.address().to_string()).unwrap();
+    let hello = [&[18, 0, 0, 0, 0, 0, 0, 0, 1, 0, 3][..], &[0; 7], &[1], &[0; 7]].concat();
+    for _ in 0..50 {
+        stranger.write_all(&hello).unwrap();
+    }
+    lines.expect(1, &["WARN", "another incarnation", "client=3", "incarnation=1 "]);
+    stranger.write_all(&[1, 0, 0, 0, 0, 0, 0, 0, 99]).unwrap();
+    assert_eq!(stranger.read(&mut [0; 8]).unwrap_or(0), 0, "it is closed");
+    lines.expect(1, &["WARN", "no message", "length=1"]);
+    client.leave().unwrap();
+    lines.expect(1, &["INFO", "a client has left", "client=3"]);
+    server.stop().unwrap();
+    assert_eq!(lines.count(&["ERROR"]), 0);
+    std::fs::remove_dir_all(folder).unwrap();
+}
