@@ -1,8 +1,10 @@
 //! Clients of servers that do not answer, take nothing, or end each connection.
-use krl::{Client, JoinError};
-use std::io::Read;
-use std::net::{SocketAddr, TcpListener};
+use krl::{Client, JoinError, MemoryStore, Outcome, Refused, Server, Value};
+use std::io::{Read, Write};
+use std::net::{SocketAddr, TcpListener, TcpStream};
 use std::path::PathBuf;
+use std::sync::Arc;
+use std::sync::atomic::{AtomicBool, Ordering};
 use std::sync::mpsc::{Receiver, channel};
 use std::thread;
 use std::time::{Duration, Instant};
@@ -40,11 +42,11 @@ fn closes_all() -> (SocketAddr, Receiver<Instant>) {
 #[test]
 fn a_server_that_ends_each_connection_is_asked_once_a_second() {
     let (address, times) = closes_all();
-    let (error, took) = fails_to_join(address, "closes", Duration::from_secs(5));
-    assert!(took < Duration::from_secs(5) + LATE, "{took:?}");
+    let (error, took) = fails_to_join(address, "closes", Duration::from_secs(6));
+    assert!(took < Duration::from_secs(6) + LATE, "{took:?}");
     assert!(matches!(error, JoinError::NoAnswer(Some(_))), "{error:?}");
     let times: Vec<Instant> = times.try_iter().collect();
-    assert!((8..=13).contains(&times.len()), "{} connections in five seconds", times.len());
+    assert!((9..=14).contains(&times.len()), "{} connections in six seconds", times.len());
     let pauses: Vec<Duration> = times.windows(2).map(|pair| pair[1] - pair[0]).collect();
     assert!(pauses[pauses.len() - 2..].iter().all(|pause| pause.as_millis() >= 990), "{pauses:?}");
 }
@@ -72,4 +74,65 @@ fn a_server_that_takes_nothing_holds_no_call_beyond_its_timeout() {
     stream.read_to_end(&mut said).unwrap();
     let kinds: Vec<u8> = said.chunks(26).map(|frame| frame[9]).collect();
     assert_eq!((kinds.first(), kinds.last()), (Some(&0), Some(&1)), "{kinds:?}");
+}
+
+/// A network between a client and its server that hands nothing over while it is frozen.
+fn network(server: SocketAddr) -> (SocketAddr, Arc<AtomicBool>) {
+    let listener = TcpListener::bind("127.0.0.1:0").unwrap();
+    let (address, frozen) = (listener.local_addr().unwrap(), Arc::new(AtomicBool::new(false)));
+    let is_frozen = Arc::clone(&frozen);
+    thread::spawn(move || {
+        for client in listener.incoming().flatten() {
+            let server = TcpStream::connect(server).unwrap();
+            let ends = [(&client, &server), (&server, &client)];
+            for (from, to) in ends.map(|(from, to)| (from.try_clone(), to.try_clone())) {
+                let (from, to, is_frozen) = (from.unwrap(), to.unwrap(), Arc::clone(&is_frozen));
+                thread::spawn(move || hand_over(from, to, &is_frozen));
+            }
+        }
+    });
+    (address, frozen)
+}
+
+fn hand_over(mut from: TcpStream, mut to: TcpStream, is_frozen: &AtomicBool) {
+    let mut bytes = [0; 4096];
+    while let Ok(count @ 1..) = from.read(&mut bytes) {
+        while is_frozen.load(Ordering::Acquire) {
+            thread::sleep(Duration::from_millis(1));
+        }
+        if to.write_all(&bytes[..count]).is_err() {
+            return;
+        }
+    }
+}
+
+#[test]
+fn reads_of_the_cache_go_on_while_a_write_hangs() {
+    let listener = TcpListener::bind("127.0.0.1:0").unwrap();
+    let (address, lock) = (listener.local_addr().unwrap(), lock_file("cache"));
+    let server = Server::start(listener, MemoryStore::default()).unwrap();
+    let (network, frozen) = network(address);
+    let client = Client::builder(network).number(5).lock_file(&lock);
+    let client = client.timeout(Duration::from_secs(5)).join().unwrap();
+    assert_eq!(client.insert(10, Value::from(1)), Ok(Outcome::Applied));
+    let rows = client.read(0..20).unwrap();
+    frozen.store(true, Ordering::Release);
+    client.set_timeout(Duration::from_secs(1));
+    thread::scope(|scope| {
+        let written = scope.spawn(|| client.insert(30, Value::from(2)));
+        thread::sleep(Duration::from_millis(100));
+        let begun = Instant::now();
+        for _ in 0..1000 {
+            assert_eq!(client.read(0..20).as_ref(), Ok(&rows));
+        }
+        assert!(begun.elapsed() < LATE, "{:?}", begun.elapsed());
+        assert_eq!(client.read(40..50), Err(Refused::TimedOut), "the cache lacks that");
+        assert_eq!(written.join().unwrap(), Err(Refused::TimedOut));
+    });
+    frozen.store(false, Ordering::Release);
+    client.set_timeout(Duration::from_secs(5));
+    assert_eq!(client.read(0..20).unwrap(), rows);
+    client.leave().unwrap();
+    server.stop().unwrap();
+    std::fs::remove_file(lock).unwrap();
 }

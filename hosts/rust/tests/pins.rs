@@ -1,0 +1,49 @@
+//! Pins that come one after the other.
+use krl::{Client, MemoryStore, Outcome, Server, Value};
+use std::net::TcpListener;
+use std::path::PathBuf;
+use std::sync::atomic::{AtomicBool, Ordering};
+use std::thread;
+use std::time::{Duration, Instant};
+
+fn lock_file(number: u8) -> PathBuf {
+    std::env::temp_dir().join(format!("krl-pins-{}-{number}.lock", std::process::id()))
+}
+
+#[test]
+fn a_writer_that_pins_again_at_once_keeps_no_reader_out() {
+    const READS: u64 = 20;
+    let listener = TcpListener::bind("127.0.0.1:0").unwrap();
+    let server = Server::start(listener, MemoryStore::default()).unwrap();
+    let [writer, reader] =
+        [1, 2].map(|number| Client::join(server.address(), number, lock_file(number)).unwrap());
+    writer.insert(10, Value::from(0)).unwrap();
+    let is_over = AtomicBool::new(false);
+    let written = thread::scope(|scope| {
+        let thread = scope.spawn(|| {
+            let mut count = 0;
+            while !is_over.load(Ordering::Acquire) {
+                let _pin = writer.pin(5..15).unwrap();
+                count += 1;
+                assert_eq!(writer.put(10, Value::from(count)), Ok(Outcome::Applied));
+            }
+            count
+        });
+        let mut last = 0;
+        for _ in 0..READS {
+            thread::sleep(Duration::from_millis(5));
+            let begun = Instant::now();
+            let number = reader.read(0..20).unwrap()[0].value.to_u64().unwrap();
+            assert!(begun.elapsed() < Duration::from_secs(1), "{:?}", begun.elapsed());
+            assert!(last <= number, "{number} behind {last}");
+            last = number;
+        }
+        is_over.store(true, Ordering::Release);
+        thread.join().unwrap()
+    });
+    assert!(written >= READS / 2, "{written} writes beside {READS} reads");
+    for (client, number) in [(writer, 1), (reader, 2)] {
+        client.leave().unwrap();
+        std::fs::remove_file(lock_file(number)).unwrap();
+    }
+}
