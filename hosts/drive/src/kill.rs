@@ -105,7 +105,7 @@ fn start_server(folder: &Path, at: SocketAddr, store: &str) -> Result<Process, B
     Ok(server)
 }
 
-/// A process of the drive. It dies with the drive, also where that fails.
+/// A process of the drive. It dies with the drive, also if that fails.
 struct Process(Child);
 
 impl Process {

@@ -19,7 +19,7 @@ pub fn start(server: SocketAddr) -> std::io::Result<SocketAddr> {
     let address = listener.local_addr()?;
     thread::spawn(move || {
         for (seed, client) in (1..).zip(listener.incoming().flatten()) {
-            // Where no server runs, the client's connection ends.
+            // If no server runs, the client's connection ends.
             if let Ok(server) = TcpStream::connect(server) {
                 let _ = join(client, server, seed);
             }

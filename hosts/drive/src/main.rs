@@ -7,7 +7,7 @@
 //! krl_drive bench FOLDER                                          takes measurements
 //! ```
 //!
-//! The status is 0 where all is well, 3 where something wrong was read or lost, and 1 where the
+//! The status is 0 if all is well, 3 if something wrong was read or lost, and 1 if the
 //! drive itself failed.
 mod bench;
 mod ffi;
@@ -29,7 +29,7 @@ use std::error::Error;
 use std::path::Path;
 use std::process::ExitCode;
 
-/// What a run found: `false` where something was wrong.
+/// What a run found: `false` if something was wrong.
 pub type Found = Result<bool, Box<dyn Error>>;
 
 fn main() -> ExitCode {

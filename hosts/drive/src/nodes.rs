@@ -123,7 +123,7 @@ fn note_of(from: u64, keys: &Range<u64>, rows: &[Row]) -> Option<Note> {
     })
 }
 
-/// Writes its keys, one after the other: an insert where there is no entry, now and then a delete,
+/// Writes its keys, one after the other: an insert if there is no entry, now and then a delete,
 /// else a put. It reads the key from its cache then.
 pub fn writer(number: u8, address: &str, folder: &Path) -> Found {
     let client = join(number, address, folder)?;
@@ -154,7 +154,7 @@ pub fn writer(number: u8, address: &str, folder: &Path) -> Found {
 /// Inserts the rows of the still range that are not there.
 fn fill(client: &Client, number: u8, log: &mut Log) -> Result<(), Box<dyn Error>> {
     let range = still_range_of(number);
-    // Where no answer comes, another turn of this number does it.
+    // If no answer comes, another turn of this number does it.
     let Ok(rows) = client.read(range.clone()) else { return Ok(()) };
     for key in (1..=KEYS).map(|place| range.start + STEP * place) {
         if rows.iter().all(|row| row.key != key) {
@@ -164,7 +164,7 @@ fn fill(client: &Client, number: u8, log: &mut Log) -> Result<(), Box<dyn Error>
     Ok(())
 }
 
-/// A put of the value, or a delete where there is none.
+/// A put of the value, or a delete if there is none.
 fn write(
     client: &Client,
     key: u64,

@@ -62,7 +62,7 @@ pub enum Change {
         /// The client.
         client: u8,
     },
-    /// A write was judged. It changes the rows where the outcome is `Applied`, and its client's
+    /// A write was judged. It changes the rows if the outcome is `Applied`, and its client's
     /// record in any case.
     Judged {
         /// The client.

@@ -25,7 +25,7 @@ const MAX_WAITING: usize = 256;
 /// A connection on which nothing comes for so long is closed: clients tick more often.
 const SILENCE: Duration = Duration::from_secs(30);
 
-/// How long to wait before another connection is taken where the system had no room for one.
+/// How long to wait before another connection is taken if the system had no room for one.
 const NO_ROOM: Duration = Duration::from_millis(50);
 
 /// A peer that takes nothing for so long loses its connection.
@@ -183,7 +183,7 @@ impl Listening {
 
     /// Tells the server to end.
     pub fn stop(&self) {
-        // Where nobody hears it, the server has ended already.
+        // If nobody hears it, the server has ended already.
         let _ = self.events.send(Event::Stop);
     }
 
@@ -191,7 +191,7 @@ impl Listening {
     pub fn end(&mut self) {
         self.stopped.store(true, Ordering::Release);
         let Some(thread) = self.thread.take() else { return };
-        // A connection wakes it. Where none can be made nothing would, and it goes on to wait.
+        // A connection wakes it. If none can be made, nothing would, and it goes on to wait.
         if Stream::connect(&self.address, Duration::from_secs(1)).is_ok() {
             let _ = thread.join();
         }
@@ -232,7 +232,7 @@ fn accept(
                     thread::sleep(NO_ROOM);
                 }
                 Next::End => {
-                    // Where nobody hears it, the server has ended.
+                    // If nobody hears it, the server has ended.
                     let _ = events.send(Event::Deaf(error));
                     return;
                 }
@@ -280,7 +280,7 @@ fn begin(
     let events = events.clone();
     spawn(format!("krl-read-{connection}"), move || {
         let _permit = permit;
-        // Where nobody hears it, the server has ended.
+        // If nobody hears it, the server has ended.
         if events.send(Event::Opened(connection, outgoing)).is_ok() {
             read(connection, reading, &events);
             let _ = events.send(Event::Closed(connection));

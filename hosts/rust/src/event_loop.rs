@@ -244,7 +244,7 @@ impl<S: Store> EventLoop<S> {
 
     fn show(&mut self, shown: &Mutex<Status>) {
         self.status.is_serving = self.server.is_serving();
-        // Where there is no memory for it, it is shown as it was.
+        // If there is no memory for it, it is shown as it was.
         if let Ok(missing) = self.server.missing() {
             self.status.missing = missing;
         }

@@ -35,7 +35,7 @@ impl Frames {
         Frames { bytes: Vec::new(), taken: 0, longest }
     }
 
-    /// Reads once from the stream, and says how many bytes came: none where it has ended.
+    /// Reads once from the stream, and says how many bytes came: none if it has ended.
     pub fn fill(&mut self, stream: &mut impl Read) -> io::Result<usize> {
         self.bytes.drain(..self.taken);
         self.taken = 0;

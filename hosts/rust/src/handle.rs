@@ -319,7 +319,7 @@ impl ServerHandle {
     }
 }
 
-/// The numbers of clients that a call wrote, where it did.
+/// The numbers of clients that a call wrote, if it did.
 fn listed(reply: ffi::Reply, clients: &[u64]) -> Result<Vec<u8>, Code> {
     let count = usize::try_from(done(reply)?).map_err(|_| Code::OutOfMemory)?;
     Ok(clients.iter().take(count).filter_map(|client| u8::try_from(*client).ok()).collect())

@@ -3,7 +3,7 @@ use std::time::{Duration, Instant};
 
 /// How long a repeat of a push is held back.
 ///
-/// A server says a push again where a client seems not to have seen it, and a client acknowledges
+/// A server says a push again if a client seems not to have seen it, and a client acknowledges
 /// what it hears again. Without this, one late acknowledgement brings a repeat, the repeat another
 /// late acknowledgement, and so on for ever.
 const PAUSE: Duration = Duration::from_millis(5);

@@ -29,11 +29,11 @@ pub enum LockFileError {
 const FORM: &str = "krl client 00 incarnation 00000000000000000000\n";
 
 impl LockFile {
-    /// Takes the file for the client of this number, makes it where there is none, and gives the
+    /// Takes the file for the client of this number, makes it if there is none, and gives the
     /// client's incarnation: greater than every one before. It is on the disk when this returns.
     ///
-    /// The incarnation is the time in nanoseconds, or one more than the last one where the clock
-    /// went back. So it rises even where the file was lost.
+    /// The incarnation is the time in nanoseconds, or one more than the last one if the clock
+    /// went back. So it rises even if the file was lost.
     pub fn take(path: &Path, number: u8) -> Result<(LockFile, u64), LockFileError> {
         let mut options = OpenOptions::new();
         let file = options.read(true).write(true).create(true).truncate(false).open(path)?;
@@ -49,7 +49,7 @@ impl LockFile {
         Ok((lock, incarnation))
     }
 
-    /// The incarnation in the file, or 0 where it is new.
+    /// The incarnation in the file, or 0 if it is new.
     fn last(&mut self, number: u8) -> Result<u64, LockFileError> {
         let mut text = String::new();
         let mut start = (&self.file).take(FORM.len() as u64 + 1);

@@ -1,4 +1,4 @@
-//! Where a server keeps what survives it.
+//! What survives a server, and the store that commits it.
 use crate::change::{Change, Snapshot};
 use std::fmt;
 
