@@ -372,16 +372,16 @@ impl Jobs {
         }
     }
 
-    /// Gives back what was called back while it was pinned, as far as no other pin has it and
-    /// nothing hinders it just now.
+    /// Gives back what was called back while it was pinned, if it meets no other pin and nothing
+    /// hinders it just now.
     fn give_back(&mut self) {
         for span in std::mem::take(&mut self.owed) {
-            for part in self.pins.free_parts(span) {
-                // If memory is refused, the next call comes back to it. Nothing else refuses it.
-                let is_done = self.try_forget(&part).unwrap_or_else(|code| code == Code::Gone);
-                if !is_done {
-                    self.owed.push(part);
-                }
+            // If memory is refused, the next call comes back to it. A client that has left owes
+            // nothing.
+            let is_owed = self.pins.are_off(&span)
+                && matches!(self.try_forget(&span), Ok(false) | Err(Code::OutOfMemory));
+            if is_owed {
+                self.owed.push(span);
             }
         }
     }

@@ -14,8 +14,9 @@ pub(crate) struct Pins {
 struct Pinned {
     id: u64,
     keys: Range<u64>,
-    /// What was called back of these keys. No callback takes what is pinned, and nobody calls
-    /// again as soon as the pin is gone: so the client gives it back by itself then.
+    /// What was called back and meets these keys. The client obeys no such callback, and nobody
+    /// calls again as soon as the pin is gone: so it gives the spans back by itself then. It gives
+    /// them back whole, since the server counts a slot as released only with all its points.
     called: Vec<Range<u64>>,
 }
 
@@ -24,52 +25,39 @@ impl Pins {
         self.pins.push(Pinned { id, keys, called: Vec::new() });
     }
 
-    /// The span was called back. Each pin that meets it remembers what it has of it.
+    /// The span was called back. Each pin that meets it remembers it.
     pub fn note(&mut self, span: &Range<u64>) {
-        for pin in &mut self.pins {
-            let part = common(&pin.keys, span);
-            if !part.is_empty() {
-                remember(&mut pin.called, part);
-            }
+        for pin in self.pins.iter_mut().filter(|pin| meet(&pin.keys, span)) {
+            remember(&mut pin.called, span.clone());
         }
     }
 
-    /// The pin is gone. It answers what was called back of it meanwhile.
+    /// The pin is gone. It answers what was called back meanwhile.
     pub fn remove(&mut self, id: u64) -> Vec<Range<u64>> {
         let place = self.pins.iter().position(|pin| pin.id == id);
         place.map(|place| self.pins.swap_remove(place).called).unwrap_or_default()
     }
 
-    /// The parts of a span that no pin has. The pins remember the others.
-    pub fn free_parts(&mut self, span: Range<u64>) -> Vec<Range<u64>> {
-        self.note(&span);
-        let mut free = vec![span];
-        for pin in &self.pins {
-            free = free.iter().flat_map(|span| without(span, &pin.keys)).collect();
-        }
-        free
+    /// Whether a span that was called back meets no pin any more. Else the pins that it meets
+    /// remember it.
+    pub fn are_off(&mut self, span: &Range<u64>) -> bool {
+        self.note(span);
+        !self.pins.iter().any(|pin| meet(&pin.keys, span))
     }
 }
 
-fn common(one: &Range<u64>, other: &Range<u64>) -> Range<u64> {
-    one.start.max(other.start)..one.end.min(other.end)
+fn meet(one: &Range<u64>, other: &Range<u64>) -> bool {
+    one.start < other.end && other.start < one.end
 }
 
-/// What lies below the hole and what lies above it.
-fn without(span: &Range<u64>, hole: &Range<u64>) -> Vec<Range<u64>> {
-    let below = span.start..span.end.min(hole.start);
-    let above = span.start.max(hole.end)..span.end;
-    [below, above].into_iter().filter(|part| !part.is_empty()).collect()
-}
-
-fn remember(called: &mut Vec<Range<u64>>, part: Range<u64>) {
-    if called.contains(&part) {
+fn remember(called: &mut Vec<Range<u64>>, span: Range<u64>) {
+    if called.contains(&span) {
         return;
     }
-    called.push(part);
+    called.push(span);
     if called.len() > MAX_CALLED {
-        let start = called.iter().map(|part| part.start).min().unwrap_or(0);
-        let end = called.iter().map(|part| part.end).max().unwrap_or(0);
+        let start = called.iter().map(|span| span.start).min().unwrap_or(0);
+        let end = called.iter().map(|span| span.end).max().unwrap_or(0);
         called.clear();
         called.push(start..end);
     }
@@ -80,26 +68,27 @@ mod tests {
     use super::*;
 
     #[test]
-    fn a_pin_remembers_its_part_of_what_is_called_back() {
+    fn a_pin_remembers_what_is_called_back_and_meets_it() {
         let mut pins = Pins::default();
         pins.add(4, 10..20);
-        pins.note(&(0..12));
-        pins.note(&(0..12));
-        pins.note(&(20..30));
-        pins.note(&(15..30));
-        assert_eq!(pins.remove(4), [10..12, 15..20]);
+        for span in [0..10, 0..12, 0..12, 19..21, 20..30] {
+            pins.note(&span);
+        }
+        assert_eq!(pins.remove(4), [0..12, 19..21]);
         assert!(pins.remove(4).is_empty());
     }
 
     #[test]
-    fn what_another_pin_has_waits_for_that_pin() {
+    fn what_meets_another_pin_waits_for_that_pin() {
         let mut pins = Pins::default();
-        pins.add(0, 12..14);
-        pins.add(1, 16..18);
-        assert_eq!(pins.free_parts(10..20), [10..12, 14..16, 18..20]);
-        assert_eq!(pins.remove(1), vec![Range { start: 16, end: 18 }]);
-        assert_eq!(pins.free_parts(16..18), vec![Range { start: 16, end: 18 }]);
-        assert_eq!(pins.remove(0), vec![Range { start: 12, end: 14 }]);
+        pins.add(0, 10..15);
+        pins.add(1, 15..20);
+        assert!(pins.are_off(&(0..10)) && pins.are_off(&(20..30)));
+        assert!(!pins.are_off(&(14..16)));
+        assert_eq!(pins.remove(0).len(), 1);
+        assert!(!pins.are_off(&(14..16)));
+        assert_eq!(pins.remove(1).len(), 1);
+        assert!(pins.are_off(&(14..16)));
     }
 
     #[test]

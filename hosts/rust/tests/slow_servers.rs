@@ -114,12 +114,14 @@ fn reads_of_the_cache_go_on_while_a_write_hangs() {
     let (network, frozen) = network(address);
     let client = Client::builder(network).number(5).lock_file(&lock);
     let client = client.timeout(Duration::from_secs(5)).join().unwrap();
-    assert_eq!(client.insert(10, Value::from(1)), Ok(Outcome::Applied));
+    for key in [10, 30] {
+        assert_eq!(client.insert(key, Value::from(1)), Ok(Outcome::Applied));
+    }
     let rows = client.read(0..20).unwrap();
     frozen.store(true, Ordering::Release);
     client.set_timeout(Duration::from_secs(1));
     thread::scope(|scope| {
-        let written = scope.spawn(|| client.insert(30, Value::from(2)));
+        let written = scope.spawn(|| client.insert(50, Value::from(2)));
         thread::sleep(Duration::from_millis(100));
         let begun = Instant::now();
         for _ in 0..1000 {
