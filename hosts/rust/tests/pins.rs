@@ -10,9 +10,19 @@ fn lock_file(number: u8) -> PathBuf {
     std::env::temp_dir().join(format!("krl-pins-{}-{number}.lock", std::process::id()))
 }
 
+/// Says that the test is over, also if it fails: else the writer would go on for ever.
+struct Over<'f>(&'f AtomicBool);
+
+impl Drop for Over<'_> {
+    fn drop(&mut self) {
+        self.0.store(true, Ordering::Release);
+    }
+}
+
 #[test]
 fn a_writer_that_pins_again_at_once_keeps_no_reader_out() {
     const READS: u64 = 20;
+    const WORK: Duration = Duration::from_millis(10);
     let listener = TcpListener::bind("127.0.0.1:0").unwrap();
     let server = Server::start(listener, MemoryStore::default()).unwrap();
     let [writer, reader] =
@@ -26,9 +36,12 @@ fn a_writer_that_pins_again_at_once_keeps_no_reader_out() {
                 let _pin = writer.pin(5..15).unwrap();
                 count += 1;
                 assert_eq!(writer.put(10, Value::from(count)), Ok(Outcome::Applied));
+                // Nearly each callback comes while the range is pinned.
+                thread::sleep(WORK);
             }
             count
         });
+        let over = Over(&is_over);
         let mut last = 0;
         for _ in 0..READS {
             thread::sleep(Duration::from_millis(5));
@@ -38,7 +51,7 @@ fn a_writer_that_pins_again_at_once_keeps_no_reader_out() {
             assert!(last <= number, "{number} behind {last}");
             last = number;
         }
-        is_over.store(true, Ordering::Release);
+        drop(over);
         thread.join().unwrap()
     });
     assert!(written >= READS / 2, "{written} writes beside {READS} reads");

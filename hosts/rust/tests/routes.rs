@@ -3,6 +3,7 @@ use krl::{Client, MemoryStore, Outcome, Server, Value};
 use std::io::{ErrorKind, Read, Write};
 use std::net::{TcpListener, TcpStream};
 use std::path::PathBuf;
+use std::thread;
 use std::time::{Duration, Instant};
 
 const HELLO: u8 = 0;
@@ -68,14 +69,21 @@ impl Peer {
 
 #[test]
 fn a_forged_bye_of_an_older_incarnation_is_not_answered() {
-    let (server, lock) = (server(), lock_file("bye"));
-    let client = Client::join(server.address().clone(), 3, &lock).unwrap();
+    let (server, lock, other) = (server(), lock_file("bye"), lock_file("writer"));
+    let client = Client::join(server.address(), 3, &lock).unwrap();
+    let writer = Client::join(server.address(), 4, &other).unwrap();
     let mut stranger = Peer::new(&server);
-    stranger.say(&frame(BYE, 3, incarnation(&lock) - 1, &[]));
-    assert_eq!(stranger.hear(QUIET), []);
-    assert_eq!(client.insert(10, Value::from(1)), Ok(Outcome::Applied));
+    for turn in 0..5 {
+        client.read(0..20).unwrap();
+        // Behind it nothing comes from the client before it is called back.
+        stranger.say(&frame(BYE, 3, incarnation(&lock) - 1, &[]));
+        thread::sleep(Duration::from_millis(10));
+        assert!(writer.insert(turn, Value::from(1)).is_ok());
+    }
     assert_eq!(stranger.hear(QUIET), [], "it takes none of the client's messages");
     client.leave().unwrap();
+    writer.leave().unwrap();
+    std::fs::remove_file(other).unwrap();
     // The client that has left may say so again, and is answered.
     stranger.say(&frame(BYE, 3, incarnation(&lock), &[]));
     assert_eq!(stranger.hear(QUIET), [0; 8]);
