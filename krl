@@ -1,11 +1,18 @@
 #!/bin/sh
-# Runs krl with the words and the standard input that it is given:
+# Runs the server, its client or the simulator, with the words and the standard input that it is given:
 #
+#     ./krl serve
+#     ./krl client get 15
 #     ./krl script < examples/first.krl
 #
-# Where the program is proved and built, and none of its sources is newer, that program runs. Where it is not, the same
-# sources run unproved, within about a minute. With --prove before the words, or alone, every crate of the program is
-# proved first, and the program is built. Only these two ask for `rt`, the command of the Rattle kit.
+# The server and the client are programs in Rust over the proved library krl_embed. What of that is missing, or older
+# than its sources, is proved and built first.
+#
+# The simulator is a proved program. If it is proved and built, and none of its sources is newer, that program runs. If
+# it is not, the same sources run unproved, within about a minute. With --prove before the words, or alone, every crate
+# of the simulator is proved first, and the program is built.
+#
+# Only what is to be proved, or runs unproved, needs `rt`, the command of the Rattle kit.
 set -eu
 
 # The folder of this file itself, whatever link it was called by.
@@ -42,11 +49,41 @@ is_built() {
         -o -type f -newer "$program" -print | head -n 1)" ]
 }
 
+# The three programs.
+help() {
+    cat <<'text'
+A key-range lock server with client range caches
+
+Usage: ./krl <COMMAND>
+
+The server and its client, over TCP and SQLite:
+  serve [OPTIONS]    Serve the table of krl.db in this folder at 127.0.0.1:7400
+  client [WORDS]     Read and write a server's table; without a command, at a prompt
+
+The simulator, in which a world of one server and up to 64 clients runs in one process:
+  script  Run a script from standard input, and write its transcript to standard output
+  random  Drive a world through steps that are drawn, and say whether it stayed sound
+  nodes   Run a server and two clients, each on a thread of its own, and print a scan's rows
+
+Options:
+  --prove        Prove and build the simulator first, and then run what follows, if something does
+  -h, --help     Print this; behind serve, client, script, random or nodes print the help of that
+  -V, --version  Print the version of the simulator
+
+The server and the client are built over a library whose proof takes about half an hour on four
+processors, once. They then start within a second. The simulator runs unproved at once, within about
+a minute, and proved within milliseconds after --prove.
+
+Examples:
+  ./krl serve
+  ./krl client insert 15 hello
+  ./krl script < examples/first.krl
+text
+}
+
 # Answers as the program itself does where its words ask for no run.
 answer() {
     case "$#:${1-}:${2-}" in
-    0:*) text=none ;;
-    *:--help:* | *:-h:* | 1:help:*) text=help ;;
     *:--version:* | *:-V:*) text=version ;;
     2:script:--help | 2:script:-h | 2:help:script) text=script ;;
     2:random:--help | 2:random:-h | 2:help:random) text=random ;;
@@ -86,7 +123,11 @@ run_unproved() {
 made_of() {
     awk -v top="$1" '
         { sub(/#.*/, ""); colon = index($0, ":") }
-        colon { name[++count] = substr($0, 1, colon - 1); uses[count] = substr($0, colon + 1) }
+        colon {
+            split(substr($0, 1, colon - 1), head, " ")
+            name[++count] = head[1]
+            uses[count] = substr($0, colon + 1)
+        }
         END {
             needed[top]
             for (i = count; i > 0; i--)
@@ -99,13 +140,14 @@ made_of() {
         }' "$top/crates.txt"
 }
 
-# The crates that the program is made of, those first for which the longest chain of proofs waits: by the lines of a crate
+# The crates $all, those first for which the longest chain of proofs waits: by the lines of a crate
 # and of the longest chain above it.
 by_chain() {
     for name in $all; do
-        echo "$name $(find "$top/crates/$name/src" -name '*.rt' -exec cat {} + | wc -l) $(grep "^$name:" "$top/crates.txt")"
+        lines=$(find "$top/crates/$name/src" -name '*.rt' -exec cat {} + | wc -l)
+        echo "$name $lines $(sed -n "s/^$name\( [^:]*\)*://p" "$top/crates.txt")"
     done | awk '
-        { name[NR] = $1; lines[NR] = $2; $1 = $2 = $3 = ""; uses[NR] = $0 }
+        { name[NR] = $1; lines[NR] = $2; $1 = $2 = ""; uses[NR] = $0 }
         END {
             for (i = NR; i > 0; i--) {
                 chain = lines[i] + above[name[i]]
@@ -131,7 +173,7 @@ call_rt() {
 
 # The first crate of the longest chain that is not proved.
 next_of_chain() {
-    for name in $libraries krl; do
+    for name in $libraries $last; do
         [ -d "$work/proved/$name" ] || { echo "$name"; return; }
     done
 }
@@ -230,31 +272,41 @@ prove_side_by_side() {
     return "$failed"
 }
 
-# Proves all that the program is made of, lowest first, and builds it.
-prove_and_build() {
-    need_rt "a proof"
+# Proves all that the crate $1 is made of, lowest first.
+prove_below() {
+    last=$1
     began=$(date +%s)
-    all=$(made_of krl)
+    all=$(made_of "$last")
     count=$(echo "$all" | wc -l)
-    libraries=$(by_chain | grep -vFx krl)
+    libraries=$(by_chain | grep -vFx "$last")
     mkdir "$work/below" "$work/taken" "$work/proved"
     for name in $libraries; do
         made_of "$name" >"$work/below/$name"
     done
-    say "proving and building the program: about 20 minutes on four processors the first time, less after an edit"
     if has_room_for_two; then
         prove_side_by_side || exit 1
     else
         prove_as_they_come prove "$top" || exit 1
     fi
-    tell krl
+    tell "$last"
+}
+
+minutes() {
+    echo "$((($(date +%s) - began) / 60)) minutes"
+}
+
+# Proves all that the simulator is made of, and builds it.
+prove_and_build() {
+    need_rt "a proof"
+    say "proving and building the program: about 20 minutes on four processors the first time, less after an edit"
+    prove_below krl
     # A script of no lines writes nothing, so the run that rt makes after the build can't be seen.
     call_rt "$crate" krl run -- script || {
         say "the program is not built; the lines above say why"
         exit 1
     }
     touch "$program"
-    say "proved and built, in $((($(date +%s) - began) / 60)) minutes"
+    say "proved and built, in $(minutes)"
 }
 
 asked=
@@ -262,11 +314,20 @@ if [ "${1-}" = --prove ]; then
     asked=--prove
     shift
 fi
-if is_built; then
+# Where the help of a program is asked for, that program gives it.
+case "$#:${1-}" in
+0:) [ -n "$asked" ] || { help >&2; exit 2; } ;;
+*:--help | *:-h | 1:help) help; exit 0 ;;
+esac
+case ${1-} in
+serve | client) ;;
+*) is_simulator=yes ;;
+esac
+if [ -n "${is_simulator-}" ] && is_built; then
     [ -z "$asked" ] || [ $# -gt 0 ] || { say "proved and built"; exit 0; }
     exec "$program" "$@"
 fi
-[ -n "$asked" ] || answer "$@"
+[ -n "$asked" ] || [ -z "${is_simulator-}" ] || answer "$@"
 
 # Whatever ends the launcher ends what it started.
 running='' other=''
@@ -280,6 +341,13 @@ work=$(mktemp -d)
 trap clear EXIT
 trap 'exit 130' INT
 trap 'exit 143' TERM HUP
+case ${1-} in
+serve | client)
+    # shellcheck source=hosts/launch.sh
+    . "$top/hosts/launch.sh"
+    run "$@"
+    ;;
+esac
 [ -n "$asked" ] || run_unproved "$@"
 prove_and_build
 [ $# -gt 0 ] || exit 0

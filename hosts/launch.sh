@@ -1,0 +1,93 @@
+# Part of the launcher, ./krl, which reads it: how the server and the client are built and run.
+# shellcheck shell=sh disable=SC2154
+
+# What they are made of, and where cargo leaves them.
+library=${KRL_LIBRARY-$top/crates/krl_embed/out}/libkrl_embed.a
+target=${CARGO_TARGET_DIR-$top/hosts/target}
+debian=/usr/share/cargo/registry
+
+# Whether the file $1 is there, and nothing below the other folders is newer.
+is_newest() {
+    newest=$1
+    shift
+    [ -f "$newest" ] && [ -z "$(find "$@" \( -name out -o -name target -o -name must-fail -o -name wrong \) -prune \
+        -o -type f -newer "$newest" -print | head -n 1)" ]
+}
+
+# The folders of the crates that the library is made of.
+library_folders() {
+    made_of krl_embed | sed "s|^|$top/crates/|"
+}
+
+# Proves and makes the library. A library that KRL_LIBRARY names is taken as it is.
+make_library() {
+    if [ -n "${KRL_LIBRARY-}" ]; then
+        [ -f "$library" ] && return
+        say "there is no $library, and KRL_LIBRARY names its folder"
+        exit 1
+    fi
+    # The names of crates have no spaces, but the folder of the tree may have some.
+    (
+        IFS='
+'
+        # shellcheck disable=SC2046
+        is_newest "$library" "$top/crates.txt" $(library_folders)
+    ) && return
+    need_rt "the proof of the server's library"
+    say "step 1 of 2: proving the library: 20 to 30 minutes on four processors the first time, less after an edit"
+    say "there is no faster way, as the kit makes no library that is not proved"
+    prove_below krl_embed
+    call_rt "$top/crates/krl_embed" krl_embed lib || {
+        say "the library is not made; the lines above say why"
+        exit 1
+    }
+    touch "$library"
+    say "the library is proved and made, in $(minutes)"
+}
+
+# Whether cargo finds each package that it needs in the folder of Debian's packages.
+has_debian_packages() {
+    (cd "$top/hosts" && cargo fetch --quiet --config debian.toml) >/dev/null 2>&1
+}
+
+# Builds the program $1 of the hosts.
+build_host() {
+    command -v cargo >/dev/null || {
+        say "'cargo' is not on the PATH, and builds the server and the client: it comes with Rust 1.89 or newer"
+        exit 1
+    }
+    if [ -d "$debian" ] && has_debian_packages; then
+        say "step 2 of 2: building $1 by cargo over Debian's packages, within about two minutes"
+        set -- "$1" --config debian.toml
+    else
+        say "step 2 of 2: building $1 by cargo over the public registry, within about two minutes"
+    fi
+    (cd "$top/hosts" && exec cargo build --release --package "$@") </dev/null >"$work/cargo.log" 2>&1 || {
+        tail -n 40 "$work/cargo.log" >&2
+        say "$1 is not built; the lines above say why"
+        exit 1
+    }
+    touch "$target/release/$1"
+}
+
+# Runs the server or the client with these words.
+run() {
+    case $1 in
+    serve) run_host krl-server server "$@" ;;
+    *)
+        shift
+        run_host krl-client client "$@"
+        ;;
+    esac
+}
+
+# Runs the program $1, whose sources are in the folder $2, with the words behind them.
+run_host() {
+    host=$1 folder=$2
+    shift 2
+    program=$target/release/$host
+    make_library
+    is_newest "$program" "$library" "$top/hosts/Cargo.toml" "$top/hosts/rust" "$top/hosts/$folder" || build_host "$host"
+    rm -rf "$work"
+    exec "$program" "$@"
+}
