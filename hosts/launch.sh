@@ -57,10 +57,10 @@ build_host() {
         exit 1
     }
     if [ -d "$debian" ] && has_debian_packages; then
-        say "step 2 of 2: building $1 by cargo over Debian's packages, within about two minutes"
+        say "step 2 of 2: building $1 by cargo over Debian's packages: a minute or two on four processors"
         set -- "$1" --config debian.toml
     else
-        say "step 2 of 2: building $1 by cargo over the public registry, within about two minutes"
+        say "step 2 of 2: building $1 by cargo over the public registry: a minute or two on four processors"
     fi
     (cd "$top/hosts" && exec cargo build --release --package "$@") </dev/null >"$work/cargo.log" 2>&1 || {
         tail -n 40 "$work/cargo.log" >&2

@@ -57,7 +57,7 @@ fn run(settings: &Settings) -> Result<(), Box<dyn Error>> {
         epoch = status.epoch,
         address = %server.address(),
         store = %path.display(),
-        "serving"
+        "ready"
     );
     tell(&[NotifyState::Ready]);
     let signal = wait(&server, &signal);

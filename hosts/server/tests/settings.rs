@@ -106,6 +106,16 @@ fn a_bad_file_is_told() {
 }
 
 #[test]
+fn the_packaged_file_sets_each_key() {
+    let path = concat!(env!("CARGO_MANIFEST_DIR"), "/../packaging/krl.toml");
+    let output = run(&["config", "--config", path]);
+    let end = format!("# from the file {path}");
+    let said = text(&output);
+    assert_eq!((said.lines().count(), output.status.code()), (5, Some(0)), "{}", errors(&output));
+    assert!(said.lines().all(|line| line.ends_with(&end)), "{said}");
+}
+
+#[test]
 fn bad_words_are_told() {
     for words in [&[][..], &["serv"], &["serve", "x"], &["serve", "--speed", "3"], &["evict"]] {
         let output = run(words);

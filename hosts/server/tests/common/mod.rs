@@ -64,7 +64,7 @@ impl Serving {
             let address = event["address"].as_str().unwrap_or_default();
             match event["message"].as_str() {
                 Some("status port") => status = address.to_string(),
-                Some("serving") if !address.is_empty() => break address.parse().unwrap(),
+                Some("ready") => break address.parse().unwrap(),
                 _ => {}
             }
         };
