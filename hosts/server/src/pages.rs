@@ -107,13 +107,13 @@ fn readiness(status: &Status) -> Page {
     if status.is_serving {
         return Page::text(StatusCode::OK, "serving\n");
     }
-    let missing: Vec<_> = status.missing.iter().map(u8::to_string).collect();
-    let text = format!(
-        "recovering: waits for the reports of the clients {}, which have to report or to be \
-         evicted\n",
-        missing.join(", ")
-    );
-    Page::text(StatusCode::SERVICE_UNAVAILABLE, text)
+    let missing = status.missing.iter().map(u8::to_string).collect::<Vec<_>>().join(", ");
+    let why = match &status.failure {
+        Some(failure) => format!("failed: {failure}\n"),
+        None if missing.is_empty() => "starting\n".to_string(),
+        None => format!("recovering: the clients {missing} have to report, or to be evicted\n"),
+    };
+    Page::text(StatusCode::SERVICE_UNAVAILABLE, why)
 }
 
 fn as_json(status: &Status) -> Page {
@@ -131,6 +131,7 @@ fn as_json(status: &Status) -> Page {
         "version": env!("CARGO_PKG_VERSION"),
         "epoch": status.epoch,
         "phase": if status.is_serving { "serving" } else { "recovering" },
+        "failure": status.failure,
         "missing": status.missing,
         "connected": status.connected,
         "connections": status.connections,
@@ -205,7 +206,10 @@ mod tests {
         let mut status = Status { missing: vec![1, 7], ..Status::default() };
         let page = readiness(&status);
         assert_eq!(page.status, StatusCode::SERVICE_UNAVAILABLE);
-        assert!(page.text.contains("clients 1, 7,"), "{}", page.text);
+        assert_eq!(page.text, "recovering: the clients 1, 7 have to report, or to be evicted\n");
+        let failed = Status { failure: Some("no disk".to_string()), ..status.clone() };
+        assert_eq!(readiness(&failed).text, "failed: no disk\n");
+        assert_eq!(readiness(&Status::default()).text, "starting\n");
         status.is_serving = true;
         assert_eq!(readiness(&status).status, StatusCode::OK);
     }

@@ -1,8 +1,8 @@
 //! A server that starts, is looked at, and stops.
 mod common;
 
-use common::{Serving, errors, lock_file, program, run, text, until};
-use krl::{Outcome, SqliteStore, Value};
+use common::{Serving, errors, join, lock_file, program, run, text, until};
+use krl::{Address, Outcome, SqliteStore, Value};
 use std::collections::BTreeMap;
 use std::os::unix::net::UnixDatagram;
 use std::os::unix::process::ExitStatusExt;
@@ -12,8 +12,8 @@ use std::thread;
 use std::time::Duration;
 
 /// Inserts keys for as long as the server answers, and says which were Applied.
-fn insert_all(serving: &Serving, folder: &Path, number: u8, count: &AtomicU64) -> Vec<u64> {
-    let client = serving.join(folder, number);
+fn insert_all(address: &Address, folder: &Path, number: u8, count: &AtomicU64) -> Vec<u64> {
+    let client = join(address, folder, number);
     client.set_timeout(Duration::from_millis(300));
     let mut applied = Vec::new();
     for key in (0..).map(|key| key * 64 + u64::from(number)) {
@@ -29,24 +29,24 @@ fn insert_all(serving: &Serving, folder: &Path, number: u8, count: &AtomicU64) -
 
 #[test]
 fn a_signal_under_load_loses_nothing_that_was_applied() {
-    let folder = tempfile::tempdir().unwrap();
-    let store = folder.path().join("krl.db");
     for signal in ["TERM", "INT"] {
+        let folder = tempfile::tempdir().unwrap();
+        let store = folder.path().join("krl.db");
         let serving = Serving::start(&store);
-        let count = AtomicU64::new(0);
-        let applied = thread::scope(|scope| {
-            let first = if signal == "TERM" { 0 } else { 4 };
+        let (address, count) = (serving.address.clone(), AtomicU64::new(0));
+        let (ended, applied) = thread::scope(|scope| {
             let insert = |number| {
-                let (serving, folder, count) = (&serving, folder.path(), &count);
-                scope.spawn(move || insert_all(serving, folder, number, count))
+                let (address, folder, count) = (&address, folder.path(), &count);
+                scope.spawn(move || insert_all(address, folder, number, count))
             };
-            let writers: Vec<_> = (first..first + 4).map(insert).collect();
+            let writers: Vec<_> = (0..4).map(insert).collect();
             until("200 inserts", || count.load(Ordering::Relaxed) >= 200);
             serving.signal(&[signal]);
-            writers.into_iter().flat_map(|it| it.join().unwrap()).collect::<Vec<_>>()
+            let ended = serving.ended();
+            (ended, writers.into_iter().flat_map(|it| it.join().unwrap()).collect::<Vec<_>>())
         });
-        let ended = serving.ended();
         assert_eq!(ended.status.code(), Some(0));
+        assert!(ended.took < Duration::from_secs(1), "{:?}", ended.took);
         assert!(ended.log.iter().any(|it| it["message"] == "stopped"), "{:?}", ended.log);
         let rows = SqliteStore::read(&store).unwrap().snapshot.rows;
         assert!(applied.len() >= 200);
@@ -183,8 +183,10 @@ fn a_server_is_ready_when_nobody_is_missing() {
     // It can't say Bye, as there is no server.
     drop(client);
     let serving = Serving::start(&store);
-    let (status, text) = serving.get("/readyz");
-    assert!(status == 503 && text.contains("clients 3,"), "{status} {text}");
+    until("the server says who is missing", || {
+        let (status, text) = serving.get("/readyz");
+        status == 503 && text.contains("clients 3 have")
+    });
     assert_eq!(serving.get("/healthz").0, 200);
     let lock = lock_file(folder.path(), 3);
     let evicted = run(&["evict", &serving.address.to_string(), "3", lock.to_str().unwrap()]);

@@ -75,7 +75,7 @@ impl Serving {
     }
 
     pub fn join(&self, folder: &Path, number: u8) -> Client {
-        Client::join(self.address.clone(), number, lock_file(folder, number)).unwrap()
+        join(&self.address, folder, number)
     }
 
     pub fn signal(&self, signals: &[&str]) {
@@ -125,15 +125,19 @@ impl Drop for Serving {
     }
 }
 
+pub fn join(address: &Address, folder: &Path, number: u8) -> Client {
+    Client::join(address, number, lock_file(folder, number)).unwrap()
+}
+
 pub fn lock_file(folder: &Path, number: u8) -> PathBuf {
     folder.join(format!("client-{number}.lock"))
 }
 
 /// Waits until it is so.
 pub fn until(what: &str, mut is_so: impl FnMut() -> bool) {
-    let end = Instant::now() + Duration::from_secs(10);
+    let end = Instant::now() + Duration::from_secs(30);
     while !is_so() {
-        assert!(Instant::now() < end, "not within ten seconds: {what}");
+        assert!(Instant::now() < end, "not within thirty seconds: {what}");
         thread::sleep(Duration::from_millis(10));
     }
 }
