@@ -361,4 +361,24 @@ mod tests {
             assert_eq!(next(number), Next::End, "{number}");
         }
     }
+
+    #[test]
+    fn what_was_sent_is_written_before_the_end() {
+        const LENGTH: usize = 1 << 24;
+        let bound = std::net::TcpListener::bind("127.0.0.1:0").unwrap();
+        let mut peer = std::net::TcpStream::connect(bound.local_addr().unwrap()).unwrap();
+        let (_listening, events) = Listening::start(bound.into(), 4).unwrap();
+        let mut connections = Connections::default();
+        let Ok(Event::Opened(connection, outgoing)) = events.recv() else { panic!("not opened") };
+        connections.open(connection, outgoing);
+        connections.put(connection, &vec![7; LENGTH]);
+        connections.send();
+        let reads = thread::spawn(move || {
+            thread::sleep(Duration::from_millis(100));
+            let mut bytes = Vec::new();
+            io::Read::read_to_end(&mut peer, &mut bytes).map(|_| bytes.len())
+        });
+        connections.finish(Instant::now() + Duration::from_secs(20));
+        assert_eq!(reads.join().unwrap().unwrap(), LENGTH);
+    }
 }
