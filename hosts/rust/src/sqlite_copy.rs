@@ -7,6 +7,7 @@ use rusqlite::{Connection, OpenFlags};
 use std::ffi::OsString;
 use std::fs::{File, OpenOptions};
 use std::io::{self, ErrorKind};
+use std::os::unix::ffi::OsStrExt;
 use std::os::unix::fs::OpenOptionsExt;
 use std::path::{Path, PathBuf};
 
@@ -20,15 +21,13 @@ pub struct StoreFile {
 }
 
 impl SqliteStore {
-    /// Reads the file, and changes nothing in it.
+    /// Reads the file, and changes nothing in it. Nobody may write to it meanwhile.
     ///
     /// # Errors
     ///
-    /// If there is no such file, it is no store, or its version is unknown; if another process has
-    /// it open.
+    /// If there is no such file, it is no store, or its version is unknown; if a server runs on it.
     pub fn read(path: impl AsRef<Path>) -> Result<StoreFile, StoreError> {
-        let flags = OpenFlags::SQLITE_OPEN_READ_ONLY | OpenFlags::SQLITE_OPEN_NO_MUTEX;
-        let connection = Connection::open_with_flags(path, flags)?;
+        let connection = open_to_read(path.as_ref())?;
         let version = match look(&connection)? {
             Found::New => return Err(StoreError::says("the file has no tables: it is no store")),
             Found::Unnumbered => 0,
@@ -61,6 +60,37 @@ impl SqliteStore {
     }
 }
 
+/// A store whose server has ended in order has no log, or an empty one. Then SQLite is told that
+/// nobody writes to the file, and leaves no files beside it. A log with something in it is read too,
+/// and a server that runs has one and keeps others off.
+fn open_to_read(path: &Path) -> Result<Connection, StoreError> {
+    let flags = OpenFlags::SQLITE_OPEN_READ_ONLY | OpenFlags::SQLITE_OPEN_NO_MUTEX;
+    let log = beside(path, "-wal").metadata();
+    if log.is_ok_and(|file| file.len() > 0) {
+        return Ok(Connection::open_with_flags(path, flags)?);
+    }
+    let uri = format!("file:{}?immutable=1", percent_encoded(path));
+    Ok(Connection::open_with_flags(uri, flags | OpenFlags::SQLITE_OPEN_URI)?)
+}
+
+/// The path as a part of a URI.
+fn percent_encoded(path: &Path) -> String {
+    let encoded = |byte: &u8| match byte {
+        b'/' | b'.' | b'-' | b'_' | b'0'..=b'9' | b'a'..=b'z' | b'A'..=b'Z' => {
+            char::from(*byte).to_string()
+        }
+        _ => format!("%{byte:02X}"),
+    };
+    path.as_os_str().as_bytes().iter().map(encoded).collect()
+}
+
+/// The path with something behind it.
+fn beside(path: &Path, end: &str) -> PathBuf {
+    let mut name = OsString::from(path);
+    name.push(end);
+    name.into()
+}
+
 fn exists(path: &Path) -> StoreError {
     StoreError::says(&format!("there is a file {} already", path.display()))
 }
@@ -79,9 +109,7 @@ struct Part {
 
 impl Part {
     fn new(path: &Path) -> io::Result<Part> {
-        let mut name = OsString::from(path);
-        name.push(format!(".{}.part", std::process::id()));
-        let path = PathBuf::from(name);
+        let path = beside(path, &format!(".{}.part", std::process::id()));
         OpenOptions::new().write(true).create_new(true).mode(0o600).open(&path)?;
         Ok(Part { path })
     }
@@ -111,7 +139,7 @@ impl From<io::Error> for StoreError {
 #[cfg(test)]
 mod tests {
     use super::*;
-    use crate::change::{Outcome, Record};
+    use crate::change::{Change, Outcome, Record};
     use crate::row::Value;
     use crate::store::Store;
     use std::os::unix::fs::PermissionsExt;
@@ -166,6 +194,26 @@ mod tests {
         assert_eq!(SqliteStore::read(&file).unwrap(), expected);
         assert_eq!(folder.names(), ["copy.db"]);
         assert_eq!(SqliteStore::open(&file).unwrap().load().unwrap(), snapshot());
+    }
+
+    #[test]
+    fn a_store_is_read_and_nothing_is_left_beside_it() {
+        let folder = Folder::new("read");
+        let file = folder.0.join("a b?#%41é.db");
+        let mut store = SqliteStore::open(&file).unwrap();
+        let change = Change::Started { epoch: 7 };
+        store.commit(&[change]).unwrap();
+        assert!(SqliteStore::read(&file).is_err(), "a server runs on it");
+        // What a server leaves behind that is killed: its log is not in the file yet.
+        let killed = folder.0.join("killed.db");
+        std::fs::copy(&file, &killed).unwrap();
+        std::fs::copy(beside(&file, "-wal"), beside(&killed, "-wal")).unwrap();
+        drop(store);
+        assert_eq!(SqliteStore::read(&killed).unwrap().snapshot.epoch, 7);
+        std::fs::remove_file(&killed).unwrap();
+        let names = folder.names();
+        assert_eq!(SqliteStore::read(&file).unwrap().snapshot.epoch, 7);
+        assert_eq!(folder.names(), names);
     }
 
     #[test]
