@@ -61,8 +61,8 @@ impl SqliteStore {
 }
 
 /// A store whose server has ended in order has no log, or an empty one. Then SQLite is told that
-/// nobody writes to the file, and leaves no files beside it. A log with something in it is read too,
-/// and a server that runs has one and keeps others off.
+/// nobody writes to the file, and leaves no files beside it. A log that has something in it is read
+/// too. A server that runs has one, and keeps others off.
 fn open_to_read(path: &Path) -> Result<Connection, StoreError> {
     let flags = OpenFlags::SQLITE_OPEN_READ_ONLY | OpenFlags::SQLITE_OPEN_NO_MUTEX;
     let log = beside(path, "-wal").metadata();

@@ -38,7 +38,10 @@ fn a_flag_comes_before_the_environment_and_that_before_the_file() {
     let folder = tempfile::tempdir().unwrap();
     let path = file(
         folder.path(),
-        "listen = \"127.0.0.1:1\"\nstore = \"1.db\"\nstatus = \"127.0.0.1:1\"\nlog-level = \"warn\"\n",
+        "listen = \"127.0.0.1:1\"\n\
+         store = \"1.db\"\n\
+         status = \"127.0.0.1:1\"\n\
+         log-level = \"warn\"\n",
     );
     let mut command = program();
     command.env("KRL_LISTEN", "127.0.0.1:2").env("KRL_STORE", "2.db").env("KRL_STATUS", "off");
