@@ -6,6 +6,7 @@ use hyper::{Body, Method, Request, Response, StatusCode};
 use krl::{HeldSlots, Monitor, Status, Wait};
 use serde_json::json;
 use std::error::Error;
+use std::net::IpAddr;
 use std::time::Duration;
 
 const TEXT: &str = "text/plain; charset=utf-8";
@@ -51,10 +52,14 @@ pub fn fetch(address: &str, json: bool) -> Result<String, Box<dyn Error>> {
     Err(format!("{address} is no status port of krl: it answered {}", reply.status).into())
 }
 
-/// What a request is answered.
-pub async fn answer(request: Request<Body>, monitor: Monitor) -> Response<Body> {
+/// What a request of this peer is answered.
+pub async fn answer(request: Request<Body>, peer: IpAddr, monitor: Monitor) -> Response<Body> {
     let path = request.uri().path();
     let page = match (request.method(), path) {
+        (&Method::POST, backup::PATH) if !may_order(peer) => Page::text(
+            StatusCode::FORBIDDEN,
+            "a backup is ordered on the server's machine, at a loopback address\n",
+        ),
         (&Method::POST, backup::PATH) => order(request, monitor).await,
         (_, backup::PATH) => return refused_method("POST"),
         (&Method::GET | &Method::HEAD, _) => {
@@ -90,6 +95,12 @@ fn shown(path: &str, accepts: &str, monitor: &Monitor) -> Page {
         "/metrics" => Page::new(StatusCode::OK, METRICS, monitor.metrics()),
         _ => Page::text(StatusCode::NOT_FOUND, PATHS),
     }
+}
+
+/// Whether this peer may have the server write a file: the file is on the server's machine, and so
+/// is who wants it.
+fn may_order(peer: IpAddr) -> bool {
+    peer.to_canonical().is_loopback()
 }
 
 /// Whether the server's loop turns.
@@ -192,6 +203,21 @@ async fn body(request: Request<Body>) -> Result<hyper::body::Bytes, Page> {
 #[cfg(test)]
 mod tests {
     use super::*;
+
+    #[test]
+    fn only_the_servers_machine_orders_backups() {
+        for (peer, may) in [
+            ("127.0.0.1", true),
+            ("127.8.9.1", true),
+            ("::1", true),
+            ("::ffff:127.0.0.1", true),
+            ("10.0.0.5", false),
+            ("::ffff:10.0.0.5", false),
+            ("fe80::1", false),
+        ] {
+            assert_eq!(may_order(peer.parse().unwrap()), may, "{peer}");
+        }
+    }
 
     #[test]
     fn a_loop_that_hangs_is_not_healthy() {

@@ -44,7 +44,7 @@ async fn serve(listener: TcpListener, monitor: Monitor) -> io::Result<()> {
     let places = Arc::new(Semaphore::new(MAX_CONNECTIONS));
     loop {
         let Ok(place) = Arc::clone(&places).acquire_owned().await else { return Ok(()) };
-        let Ok((stream, _)) = listener.accept().await else {
+        let Ok((stream, peer)) = listener.accept().await else {
             sleep(PAUSE).await;
             continue;
         };
@@ -53,7 +53,7 @@ async fn serve(listener: TcpListener, monitor: Monitor) -> io::Result<()> {
             let _place = place;
             let answer = service_fn(|request| {
                 let monitor = monitor.clone();
-                async move { Ok::<_, Infallible>(pages::answer(request, monitor).await) }
+                async move { Ok::<_, Infallible>(pages::answer(request, peer.ip(), monitor).await) }
             });
             let mut http = Http::new();
             http.http1_only(true).http1_keep_alive(false).http1_header_read_timeout(HEAD);
