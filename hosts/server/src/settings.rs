@@ -7,7 +7,6 @@ use serde::Deserialize;
 use std::fmt;
 use std::net::{SocketAddr, ToSocketAddrs};
 use std::path::{Path, PathBuf};
-use std::str::FromStr;
 use tracing::level_filters::LevelFilter;
 
 /// Where clients connect if nothing says otherwise.
@@ -133,20 +132,14 @@ impl Settings {
         let path = options.config.as_deref();
         let file = path.map(ConfigFile::read).transpose()?.unwrap_or_default();
         let given = Given { matches, path };
+        let ServeOptions { listen, store, status, log_level, log_format, .. } = options;
+        let (level, format) = (log_level.as_ref(), log_format.as_ref());
         Ok(Settings {
-            listen: given.setting(&LISTEN_KEY, options.listen.as_ref(), file.listen)?,
-            store: given
-                .setting::<StorePath>(&STORE_KEY, options.store.as_ref(), file.store)?
-                .into(),
-            status: given.setting(&STATUS_KEY, options.status.as_ref(), file.status)?,
-            log_level: given
-                .setting::<Level>(&LOG_LEVEL_KEY, options.log_level.as_ref(), file.log_level)?
-                .into(),
-            log_format: given.setting(
-                &LOG_FORMAT_KEY,
-                options.log_format.as_ref(),
-                file.log_format,
-            )?,
+            listen: given.setting(&LISTEN_KEY, listen.as_ref(), file.listen, parse_address)?,
+            store: given.setting(&STORE_KEY, store.as_ref(), file.store, parse_path)?,
+            status: given.setting(&STATUS_KEY, status.as_ref(), file.status, parse_status)?,
+            log_level: given.setting(&LOG_LEVEL_KEY, level, file.log_level, parse_level)?,
+            log_format: given.setting(&LOG_FORMAT_KEY, format, file.log_format, parse_format)?,
         })
     }
 }
@@ -158,24 +151,24 @@ struct Given<'a> {
 }
 
 impl Given<'_> {
-    fn setting<T: FromStr>(
+    fn setting<T>(
         &self,
         key: &Key,
         option: Option<&String>,
         in_file: Option<String>,
+        parse: fn(&str) -> Option<T>,
     ) -> Result<Setting<T>, BadSetting> {
         let (text, source) = match (option, in_file) {
             (Some(text), _) => (text.clone(), self.option_source(key)),
             (None, Some(text)) => (text, Source::File(self.path.unwrap_or(Path::new("")).into())),
             (None, None) => (key.default.to_string(), Source::Default),
         };
-        match text.parse() {
-            Ok(value) => Ok(Setting { value, source }),
-            Err(_) => Err(BadSetting(format!(
-                "{} is '{text}' ({source}), and has to be {}",
-                key.name, key.expected
-            ))),
-        }
+        let Some(value) = parse(&text) else {
+            let Key { name, expected, .. } = key;
+            let says = format!("{name} is '{text}' ({source}), and has to be {expected}");
+            return Err(BadSetting(says));
+        };
+        Ok(Setting { value, source })
     }
 
     fn option_source(&self, key: &Key) -> Source {
@@ -195,68 +188,37 @@ impl ConfigFile {
     }
 }
 
-/// The path of a store, which is not empty.
-struct StorePath(PathBuf);
+fn parse_address(text: &str) -> Option<Address> {
+    text.parse().ok()
+}
 
-/// A level of the log.
-struct Level(LevelFilter);
+fn parse_path(text: &str) -> Option<PathBuf> {
+    (!text.is_empty()).then(|| text.into())
+}
 
-impl FromStr for StorePath {
-    type Err = ();
-
-    fn from_str(text: &str) -> Result<StorePath, ()> {
-        if text.is_empty() { Err(()) } else { Ok(StorePath(text.into())) }
+fn parse_status(text: &str) -> Option<StatusAddress> {
+    match text {
+        "off" => Some(StatusAddress::Off),
+        _ => text.to_socket_addrs().ok()?.next().map(StatusAddress::At),
     }
 }
 
-impl FromStr for Level {
-    type Err = ();
-
-    fn from_str(text: &str) -> Result<Level, ()> {
-        Ok(Level(match text {
-            "error" => LevelFilter::ERROR,
-            "warn" => LevelFilter::WARN,
-            "info" => LevelFilter::INFO,
-            "debug" => LevelFilter::DEBUG,
-            "trace" => LevelFilter::TRACE,
-            _ => return Err(()),
-        }))
+fn parse_level(text: &str) -> Option<LevelFilter> {
+    match text {
+        "error" => Some(LevelFilter::ERROR),
+        "warn" => Some(LevelFilter::WARN),
+        "info" => Some(LevelFilter::INFO),
+        "debug" => Some(LevelFilter::DEBUG),
+        "trace" => Some(LevelFilter::TRACE),
+        _ => None,
     }
 }
 
-impl FromStr for StatusAddress {
-    type Err = ();
-
-    fn from_str(text: &str) -> Result<StatusAddress, ()> {
-        if text == "off" {
-            return Ok(StatusAddress::Off);
-        }
-        let mut found = text.to_socket_addrs().map_err(|_| ())?;
-        found.next().map(StatusAddress::At).ok_or(())
-    }
-}
-
-impl FromStr for LogFormat {
-    type Err = ();
-
-    fn from_str(text: &str) -> Result<LogFormat, ()> {
-        match text {
-            "text" => Ok(LogFormat::Text),
-            "json" => Ok(LogFormat::Json),
-            _ => Err(()),
-        }
-    }
-}
-
-impl From<Setting<StorePath>> for Setting<PathBuf> {
-    fn from(setting: Setting<StorePath>) -> Setting<PathBuf> {
-        Setting { value: setting.value.0, source: setting.source }
-    }
-}
-
-impl From<Setting<Level>> for Setting<LevelFilter> {
-    fn from(setting: Setting<Level>) -> Setting<LevelFilter> {
-        Setting { value: setting.value.0, source: setting.source }
+fn parse_format(text: &str) -> Option<LogFormat> {
+    match text {
+        "text" => Some(LogFormat::Text),
+        "json" => Some(LogFormat::Json),
+        _ => None,
     }
 }
 
@@ -289,6 +251,12 @@ impl fmt::Display for LogFormat {
     }
 }
 
+impl BadSetting {
+    pub fn new(text: String) -> BadSetting {
+        BadSetting(text)
+    }
+}
+
 impl fmt::Display for BadSetting {
     fn fmt(&self, f: &mut fmt::Formatter<'_>) -> fmt::Result {
         f.write_str(&self.0)
@@ -317,10 +285,4 @@ fn line(
 ) -> fmt::Result {
     let value = toml::Value::String(value.to_string());
     writeln!(f, "{} = {value} # {source}", key.name)
-}
-
-impl BadSetting {
-    pub fn new(text: String) -> BadSetting {
-        BadSetting(text)
-    }
 }
