@@ -33,7 +33,7 @@ const MAX_CLIENTS: u8 = 64;
 /// its number joins again or it is evicted.
 pub struct Client {
     number: u8,
-    link: Arc<Link>,
+    pub(crate) link: Arc<Link>,
     thread: Option<JoinHandle<()>>,
     /// In nanoseconds.
     timeout: AtomicU64,
@@ -216,7 +216,11 @@ impl Client {
     pub fn pin(&self, keys: impl RangeBounds<u64>) -> Result<Pin<'_>, Refused> {
         let keys = keys_of(&keys)?;
         let id = self.link.jobs().pin(keys)?;
-        Ok(Pin { link: &self.link, id })
+        Ok(self.pin_of(id))
+    }
+
+    pub(crate) fn pin_of(&self, id: u64) -> Pin<'_> {
+        Pin { link: &self.link, id }
     }
 
     /// Gives back what the client holds of the range. While a write is on its way it waits for the
@@ -242,7 +246,7 @@ impl Client {
         self.end(timeout)
     }
 
-    fn ask<T>(&self, ask: impl FnOnce(&mut Jobs) -> Asked<T>) -> Result<T, Refused> {
+    pub(crate) fn ask<T>(&self, ask: impl FnOnce(&mut Jobs) -> Asked<T>) -> Result<T, Refused> {
         self.link.ask(Instant::now() + self.timeout(), ask)
     }
 

@@ -75,6 +75,8 @@ pub(crate) enum Mode {
     X = 3,
     /// To read entries and the gaps below them.
     RangeSS = 4,
+    /// To read the same, and to be the only one who may change the entries next.
+    RangeSU = 5,
     /// To insert into a gap.
     RangeIN = 6,
     /// To read and change all.
@@ -96,8 +98,10 @@ pub(crate) enum Scan {
 /// What a client shows of itself.
 #[derive(Clone, Copy, Debug)]
 pub(crate) struct Shown {
-    /// It has joined an epoch.
-    pub is_joined: bool,
+    /// The epoch that it has joined, or 0.
+    pub epoch: u64,
+    /// The last lock that it asked for was granted.
+    pub is_granted: bool,
     /// There was no entry to lock.
     pub is_absent: bool,
     /// The number of its last write.
@@ -194,13 +198,23 @@ impl ClientHandle {
         held.range == X && held.key == X
     }
 
+    /// Whether the client holds the entry of this key so that it alone may change it next.
+    pub fn may_update(&mut self, key: u64) -> bool {
+        const U: u32 = 2;
+        // SAFETY: the handle stays in its place, and `&mut` gives it to this call alone.
+        let held = unsafe { ffi::krl_client_held(self.0.raw(), key) };
+        code(held.reply) == Code::Done && held.key >= U
+    }
+
     pub fn status(&mut self) -> Result<Shown, Code> {
+        const LOCK_GRANTED: u32 = 2;
         const LOCK_ABSENT: u32 = 3;
         // SAFETY: the handle stays in its place, and `&mut` gives it to this call alone.
         let state = unsafe { ffi::krl_client_status(self.0.raw()) };
         done(state.reply)?;
         Ok(Shown {
-            is_joined: state.epoch > 0,
+            epoch: state.epoch,
+            is_granted: state.lock == LOCK_GRANTED,
             is_absent: state.lock == LOCK_ABSENT,
             number: state.number,
             outcome: Outcome::of_tag(state.outcome),

@@ -1,13 +1,22 @@
 //! What a client has been asked to do, as far as it has come.
+mod hold;
+mod watched;
+mod writing;
+
 use crate::change::{Outcome, Write};
 use crate::code::Code;
-use crate::handle::{ClientHandle, Mode, Scan, Shown};
+use crate::handle::{ClientHandle, Mode, Scan};
 use crate::message::called_back;
 use crate::pins::Pins;
 use crate::refused::Refused;
 use crate::row::Row;
 use std::ops::Range;
 use std::sync::mpsc::{Receiver, SyncSender, sync_channel};
+
+use hold::Taking;
+pub(crate) use hold::{Held, Purpose};
+use watched::Watched;
+use writing::Written;
 
 /// The name of a job.
 pub(crate) type JobId = u64;
@@ -45,15 +54,8 @@ enum Job {
     Read(Range<u64>, Reply<Vec<Row>>),
     Write(Write, Reply<Outcome>),
     Forget(Range<u64>, Reply<()>),
+    Hold(Taking, Reply<Held>),
     Leave(Reply<()>),
-}
-
-/// The write that is on its way. A client has one at most.
-struct Written {
-    id: JobId,
-    write: Write,
-    number: u64,
-    reply: Reply<Outcome>,
 }
 
 /// Whether a job may ask for a lock just now.
@@ -85,6 +87,9 @@ pub(crate) struct Jobs {
     /// In the order in which they came.
     open: Vec<(JobId, Job)>,
     written: Option<Written>,
+    watched: Vec<Watched>,
+    /// What the client knows may have changed since the watched ranges were looked at.
+    is_changed: bool,
     next: JobId,
     /// The job for which the last lock was asked.
     asker: Option<JobId>,
@@ -102,6 +107,8 @@ impl Jobs {
             client,
             open: Vec::new(),
             written: None,
+            watched: Vec::new(),
+            is_changed: false,
             next: 0,
             asker: None,
             asking: Asking::Allowed,
@@ -137,6 +144,7 @@ impl Jobs {
             self.stage = Stage::Leaving;
             // If there is no memory for it just now, the next tick says it.
             let _ = self.client.leave();
+            self.is_changed = true;
         }
         self.add(Job::Leave)
     }
@@ -153,8 +161,12 @@ impl Jobs {
 
     /// Nobody waits for the job any more.
     pub fn abandon(&mut self, job: JobId) {
-        self.open.retain(|(id, _)| *id != job);
         self.written.take_if(|written| written.id == job);
+        self.watched.retain(|watched| watched.id != job);
+        let place = self.open.iter().position(|(id, _)| *id == job);
+        if let Some((_, Job::Hold(taking, _))) = place.map(|place| self.open.remove(place)) {
+            self.give_up(&taking);
+        }
     }
 
     /// The client's thread has ended: no job goes on, and whoever waits for one hears that.
@@ -162,6 +174,7 @@ impl Jobs {
         self.stage = Stage::Ended;
         self.open.clear();
         self.written = None;
+        self.watched.clear();
     }
 
     /// Whether something is asked that the server has not answered.
@@ -213,6 +226,7 @@ impl Jobs {
                 Err(code) => return Err(code),
             }
         }
+        self.is_changed = true;
         self.advance(Asking::Later);
         Ok(())
     }
@@ -244,21 +258,7 @@ impl Jobs {
             }
         }
         self.give_back();
-    }
-
-    /// Ends the job whose write was judged, before another write takes its place.
-    fn end_written(&mut self, shown: &Shown) {
-        let Some(outcome) = shown.outcome else { return };
-        let judged = self.written.take_if(|written| written.number == shown.number);
-        let Some(Written { id, write, reply, .. }) = judged else { return };
-        if outcome == Outcome::NotHeld {
-            // The table was the server's to judge by: the client asks for what it lacks, and writes
-            // again.
-            let place = self.open.partition_point(|(other, _)| *other < id);
-            self.open.insert(place, (id, Job::Write(write, reply)));
-        } else {
-            reply.end(Ok(outcome));
-        }
+        self.tell_changes();
     }
 
     /// The job as far as it has come, unless it has ended or its write is on its way.
@@ -266,7 +266,7 @@ impl Jobs {
         match job {
             Job::Join(reply) => {
                 let shown = self.client.status();
-                reply.give(shown.map(|shown| shown.is_joined.then_some(()))).map(Job::Join)
+                reply.give(shown.map(|shown| (shown.epoch > 0).then_some(()))).map(Job::Join)
             }
             Job::Read(keys, reply) => {
                 let rows = self.try_read(id, &keys);
@@ -278,6 +278,7 @@ impl Jobs {
                 let done = is_done.map(|is_done| is_done.then_some(()));
                 reply.give(done).map(|reply| Job::Forget(keys, reply))
             }
+            Job::Hold(taking, reply) => self.advance_hold(id, taking, reply),
             Job::Leave(reply) => {
                 let is_gone = self.stage == Stage::Gone;
                 reply.give(Ok(is_gone.then_some(()))).map(Job::Leave)
@@ -285,22 +286,12 @@ impl Jobs {
         }
     }
 
-    fn advance_write(&mut self, id: JobId, write: Write, reply: Reply<Outcome>) -> Option<Job> {
-        match self.try_write(id, &write) {
-            Ok(Step::Waits) => return Some(Job::Write(write, reply)),
-            Ok(Step::Sent(number)) => self.written = Some(Written { id, write, number, reply }),
-            Ok(Step::Known(outcome)) => reply.end(Ok(outcome)),
-            Err(code) => reply.end(Err(code.into())),
-        }
-        None
-    }
-
     fn try_read(&mut self, id: JobId, keys: &Range<u64>) -> Result<Option<Vec<Row>>, Code> {
         let mut room = std::mem::take(&mut self.room);
         let found = self.scan(keys, &mut room);
         let rows = match found {
             Ok(Scan::Rows(count)) => Ok(room.get(..count).map(<[Row]>::to_vec)),
-            Ok(Scan::Miss(point)) => self.ask(id, point..keys.end, Mode::RangeSS).map(|()| None),
+            Ok(Scan::Miss(point)) => self.ask(id, point..keys.end, Mode::RangeSS).map(|_| None),
             Ok(Scan::Pending | Scan::TooShort(_)) => Ok(None),
             Err(code) => Err(code),
         };
@@ -308,57 +299,17 @@ impl Jobs {
         rows
     }
 
-    fn try_write(&mut self, id: JobId, write: &Write) -> Result<Step, Code> {
-        if self.asker == Some(id) && self.is_told_absent(write) {
-            self.asker = None;
-            return Ok(Step::Known(Outcome::Absent));
-        }
-        match self.client.write(write) {
-            Ok(number) => Ok(Step::Sent(number)),
-            Err(Code::Writing | Code::NotJoined) => Ok(Step::Waits),
-            Err(Code::NotHeld) => self.lock_for(id, write),
-            Err(code) => Err(code),
-        }
-    }
-
-    /// The server said that there is no entry to put another value to.
-    fn is_told_absent(&mut self, write: &Write) -> bool {
-        let is_absent = self.client.status().is_ok_and(|shown| shown.is_absent);
-        is_absent && matches!(write, Write::Put(_))
-    }
-
-    fn lock_for(&mut self, id: JobId, write: &Write) -> Result<Step, Code> {
-        let key = write.key();
-        let (points, mode) = match write {
-            Write::Insert(_) => (key..key + 1, Mode::RangeIN),
-            Write::Put(_) => (key..key + 1, Mode::X),
-            // The client reads this point, and there is no entry.
-            Write::Delete(_) if self.is_empty_at(key) => return Ok(Step::Known(Outcome::Absent)),
-            // It takes the entry and the gap behind it. The second slot is asked for by itself if
-            // it was not free.
-            Write::Delete(_) if self.client.has_all(key) => (key + 1..key + 2, Mode::RangeXX),
-            Write::Delete(_) => (key..key + 2, Mode::RangeXX),
-        };
-        self.ask(id, points, mode)?;
-        Ok(Step::Waits)
-    }
-
-    fn is_empty_at(&mut self, key: u64) -> bool {
-        let mut row = [Row::default()];
-        matches!(self.client.scan(&(key..key + 1), &mut row), Ok(Scan::Rows(0)))
-    }
-
-    /// Asks for a lock, if the client may ask just now.
-    fn ask(&mut self, id: JobId, points: Range<u64>, mode: Mode) -> Result<(), Code> {
+    /// Asks for a lock, if the client may ask just now. It answers whether it has.
+    fn ask(&mut self, id: JobId, points: Range<u64>, mode: Mode) -> Result<bool, Code> {
         if self.asking == Asking::Later {
-            return Ok(());
+            return Ok(false);
         }
         match self.client.lock(points, mode) {
             Ok(()) => {
                 self.asker = Some(id);
-                Ok(())
+                Ok(true)
             }
-            Err(Code::Busy | Code::NotJoined) => Ok(()),
+            Err(Code::Busy | Code::NotJoined) => Ok(false),
             Err(code) => Err(code),
         }
     }
@@ -366,7 +317,10 @@ impl Jobs {
     /// Gives back what the client holds of the keys, if nothing hinders it just now.
     fn try_forget(&mut self, keys: &Range<u64>) -> Result<bool, Code> {
         match self.client.forget(keys) {
-            Ok(()) => Ok(true),
+            Ok(()) => {
+                self.is_changed = true;
+                Ok(true)
+            }
             Err(Code::Writing | Code::NotJoined) => Ok(false),
             Err(code) => Err(code),
         }
@@ -385,13 +339,6 @@ impl Jobs {
             }
         }
     }
-}
-
-/// How far a write has come.
-enum Step {
-    Sent(u64),
-    Waits,
-    Known(Outcome),
 }
 
 #[cfg(test)]

@@ -49,6 +49,7 @@ mod sqlite;
 mod sqlite_copy;
 #[cfg(feature = "sqlite")]
 mod sqlite_version;
+mod standing;
 mod status;
 mod store;
 mod stream;

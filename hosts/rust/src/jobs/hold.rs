@@ -1,0 +1,143 @@
+//! Taking a range part by part, and pinning what is taken.
+use super::{Asked, Job, JobId, Jobs, Reply};
+use crate::code::Code;
+use crate::handle::{Mode, Scan};
+use crate::row::Row;
+use std::ops::Range;
+
+/// What a range is held for.
+#[derive(Clone, Copy, Debug, PartialEq, Eq)]
+pub(crate) enum Purpose {
+    Read,
+    Update,
+}
+
+/// The rows of a range that is held, and its pin.
+#[derive(Debug, PartialEq, Eq)]
+pub(crate) struct Held {
+    pub rows: Vec<Row>,
+    pub pin: u64,
+}
+
+/// A range that is taken in ascending order.
+///
+/// Only the part that is held is pinned, and it grows in the same step in which a grant comes. So
+/// whoever waits for a point has nothing pinned there or above it, and no two wait for one another.
+#[derive(Debug)]
+pub(super) struct Taking {
+    keys: Range<u64>,
+    purpose: Purpose,
+    /// All points of the range below this one are held and pinned.
+    next: u64,
+    pin: Option<u64>,
+    /// Where the last lock that was asked for begins, until its grant was looked at.
+    asked: Option<u64>,
+}
+
+impl Taking {
+    fn mode(&self) -> Mode {
+        match self.purpose {
+            Purpose::Read => Mode::RangeSS,
+            Purpose::Update => Mode::RangeSU,
+        }
+    }
+}
+
+impl Jobs {
+    /// The rows of a range that is not empty, and a pin of it.
+    pub fn hold(&mut self, keys: Range<u64>, purpose: Purpose) -> Asked<Held> {
+        let next = keys.start;
+        let taking = Taking { keys, purpose, next, pin: None, asked: None };
+        self.add(|reply| Job::Hold(taking, reply))
+    }
+
+    pub(super) fn advance_hold(
+        &mut self,
+        id: JobId,
+        mut taking: Taking,
+        reply: Reply<Held>,
+    ) -> Option<Job> {
+        let held = self.try_hold(id, &mut taking);
+        if held.is_err() {
+            self.give_up(&taking);
+        }
+        reply.give(held).map(|reply| Job::Hold(taking, reply))
+    }
+
+    /// Frees what is pinned of a range that nobody waits for.
+    pub(super) fn give_up(&mut self, taking: &Taking) {
+        if let Some(pin) = taking.pin {
+            self.unpin(pin);
+        }
+    }
+
+    /// Pins what is held by now, and asks for what comes next.
+    fn try_hold(&mut self, id: JobId, taking: &mut Taking) -> Result<Option<Held>, Code> {
+        let is_granted = self.asker == Some(id) && self.client.status()?.is_granted;
+        // A grant is looked at once: a callback may come behind it.
+        let granted = if is_granted { taking.asked.take() } else { None };
+        let mut rows = Vec::new();
+        let (known, count) = match self.scan(&taking.keys, &mut rows)? {
+            Scan::Rows(count) => (taking.keys.end, Some(count)),
+            Scan::Miss(point) => (point, None),
+            Scan::Pending | Scan::TooShort(_) => return Ok(None),
+        };
+        let held = match taking.purpose {
+            Purpose::Read => known,
+            Purpose::Update => self.held_for_update(taking, known, granted)?,
+        };
+        self.pin_to(taking, held)?;
+        if let (Some(pin), Some(count)) = (taking.pin, count)
+            && held == taking.keys.end
+        {
+            rows.truncate(count);
+            return Ok(Some(Held { rows, pin }));
+        }
+        if self.ask(id, held..taking.keys.end, taking.mode())? {
+            taking.asked = Some(held);
+        }
+        Ok(None)
+    }
+
+    /// How far the range is held for an update, below the first point that is not known.
+    ///
+    /// The client shows what it holds of an entry, and so of each row. What it holds of the slot
+    /// behind the last row shows by a grant alone that begins behind that row.
+    fn held_for_update(
+        &mut self,
+        taking: &Taking,
+        known: u64,
+        granted: Option<u64>,
+    ) -> Result<u64, Code> {
+        if known <= taking.next {
+            return Ok(taking.next);
+        }
+        let mut rows = Vec::new();
+        let Scan::Rows(count) = self.scan(&(taking.next..known), &mut rows)? else {
+            return Ok(taking.next);
+        };
+        let mut held = taking.next;
+        for row in rows.iter().take(count) {
+            if !self.client.may_update(row.key) {
+                return Ok(held);
+            }
+            held = row.key + 1;
+        }
+        let is_end_held = granted == Some(held) && known == taking.keys.end;
+        Ok(if is_end_held { taking.keys.end } else { held })
+    }
+
+    /// Pins the range below this point.
+    fn pin_to(&mut self, taking: &mut Taking, end: u64) -> Result<(), Code> {
+        if end <= taking.next {
+            return Ok(());
+        }
+        let wider = self.pin(taking.keys.start..end)?;
+        taking.next = end;
+        if let Some(narrower) = taking.pin.replace(wider) {
+            // What was called back of it, the wider one remembers.
+            self.unpin(narrower);
+        }
+        Ok(())
+    }
+}

@@ -1,0 +1,61 @@
+//! Ranges whose changes a caller waits for.
+use super::{Asked, JobId, Jobs, Reply};
+use crate::code::Code;
+use crate::handle::Scan;
+use crate::row::Row;
+use std::ops::Range;
+use std::sync::mpsc::sync_channel;
+
+/// A caller waits until the client no longer knows that the range has these rows.
+pub(super) struct Watched {
+    pub id: JobId,
+    keys: Range<u64>,
+    rows: Vec<Row>,
+    reply: Reply<()>,
+}
+
+impl Jobs {
+    /// Ends when the client no longer knows that the range has these rows. It asks for nothing.
+    pub fn watch(&mut self, keys: Range<u64>, rows: Vec<Row>) -> Asked<()> {
+        self.next += 1;
+        let (reply, answer) = sync_channel(1);
+        if self.stage != super::Stage::Ended {
+            self.watched.push(Watched { id: self.next, keys, rows, reply: Reply(reply) });
+            self.is_changed = true;
+            self.tell_changes();
+        }
+        Asked { id: self.next, answer }
+    }
+
+    /// The epoch that the client has joined.
+    pub fn epoch(&mut self) -> Result<u64, Code> {
+        Ok(self.client.status()?.epoch)
+    }
+
+    /// Tells those who wait for a change, if there may be one.
+    pub(super) fn tell_changes(&mut self) {
+        if !std::mem::take(&mut self.is_changed) {
+            return;
+        }
+        for watched in std::mem::take(&mut self.watched) {
+            if self.knows(&watched.keys, &watched.rows) {
+                self.watched.push(watched);
+            } else {
+                watched.reply.end(Ok(()));
+            }
+        }
+    }
+
+    /// Whether the client knows that the range has these rows. While a write of its own is not
+    /// answered it has learnt nothing else.
+    fn knows(&mut self, keys: &Range<u64>, rows: &[Row]) -> bool {
+        let mut room = std::mem::take(&mut self.room);
+        let is_known = match self.scan(keys, &mut room) {
+            Ok(Scan::Rows(count)) => room.get(..count) == Some(rows),
+            Ok(Scan::Pending) => true,
+            _ => false,
+        };
+        self.room = room;
+        is_known
+    }
+}

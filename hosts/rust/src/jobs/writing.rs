@@ -1,0 +1,93 @@
+//! Writes: the locks that each needs, and how it was judged.
+use super::{Job, JobId, Jobs, Reply};
+use crate::change::{Outcome, Write};
+use crate::code::Code;
+use crate::handle::{Mode, Scan, Shown};
+use crate::row::Row;
+
+/// The write that is on its way. A client has one at most.
+pub(super) struct Written {
+    pub id: JobId,
+    write: Write,
+    number: u64,
+    reply: Reply<Outcome>,
+}
+
+/// How far a write has come.
+enum Step {
+    Sent(u64),
+    Waits,
+    Known(Outcome),
+}
+
+impl Jobs {
+    /// Ends the job whose write was judged, before another write takes its place.
+    pub(super) fn end_written(&mut self, shown: &Shown) {
+        let Some(outcome) = shown.outcome else { return };
+        let judged = self.written.take_if(|written| written.number == shown.number);
+        let Some(Written { id, write, reply, .. }) = judged else { return };
+        if outcome == Outcome::NotHeld {
+            // The table was the server's to judge by: the client asks for what it lacks, and writes
+            // again.
+            let place = self.open.partition_point(|(other, _)| *other < id);
+            self.open.insert(place, (id, Job::Write(write, reply)));
+        } else {
+            reply.end(Ok(outcome));
+        }
+    }
+
+    pub(super) fn advance_write(
+        &mut self,
+        id: JobId,
+        write: Write,
+        reply: Reply<Outcome>,
+    ) -> Option<Job> {
+        match self.try_write(id, &write) {
+            Ok(Step::Waits) => return Some(Job::Write(write, reply)),
+            Ok(Step::Sent(number)) => self.written = Some(Written { id, write, number, reply }),
+            Ok(Step::Known(outcome)) => reply.end(Ok(outcome)),
+            Err(code) => reply.end(Err(code.into())),
+        }
+        None
+    }
+
+    fn try_write(&mut self, id: JobId, write: &Write) -> Result<Step, Code> {
+        if self.asker == Some(id) && self.is_told_absent(write) {
+            self.asker = None;
+            return Ok(Step::Known(Outcome::Absent));
+        }
+        match self.client.write(write) {
+            Ok(number) => Ok(Step::Sent(number)),
+            Err(Code::Writing | Code::NotJoined) => Ok(Step::Waits),
+            Err(Code::NotHeld) => self.lock_for(id, write),
+            Err(code) => Err(code),
+        }
+    }
+
+    /// The server said that there is no entry to put another value to.
+    fn is_told_absent(&mut self, write: &Write) -> bool {
+        let is_absent = self.client.status().is_ok_and(|shown| shown.is_absent);
+        is_absent && matches!(write, Write::Put(_))
+    }
+
+    fn lock_for(&mut self, id: JobId, write: &Write) -> Result<Step, Code> {
+        let key = write.key();
+        let (points, mode) = match write {
+            Write::Insert(_) => (key..key + 1, Mode::RangeIN),
+            Write::Put(_) => (key..key + 1, Mode::X),
+            // The client reads this point, and there is no entry.
+            Write::Delete(_) if self.is_empty_at(key) => return Ok(Step::Known(Outcome::Absent)),
+            // It takes the entry and the gap behind it. The second slot is asked for by itself if
+            // it was not free.
+            Write::Delete(_) if self.client.has_all(key) => (key + 1..key + 2, Mode::RangeXX),
+            Write::Delete(_) => (key..key + 2, Mode::RangeXX),
+        };
+        self.ask(id, points, mode)?;
+        Ok(Step::Waits)
+    }
+
+    fn is_empty_at(&mut self, key: u64) -> bool {
+        let mut row = [Row::default()];
+        matches!(self.client.scan(&(key..key + 1), &mut row), Ok(Scan::Rows(0)))
+    }
+}
