@@ -1,7 +1,62 @@
-//! The client of krl for the command line. It has no command yet.
+//! The client of krl for the command line. `krl-client --help` says what it does.
+mod arguments;
+mod bench;
+mod commands;
+mod failure;
+mod holding;
+mod output;
+mod prompt;
+mod session;
+mod signals;
+mod values;
+mod watching;
+mod words;
+
+use crate::arguments::{Arguments, Command, Options};
+use crate::commands::Context;
+use crate::failure::Failure;
+use crate::output::Printer;
+use crate::session::Session;
+use crate::signals::Signals;
+use clap::Parser;
 use std::process::ExitCode;
 
 fn main() -> ExitCode {
-    eprintln!("krl-client: it has no command yet");
-    ExitCode::from(2)
+    let arguments = Arguments::parse();
+    let ended = run(&arguments).unwrap_or_else(|failure| {
+        failure.tell();
+        failure.status()
+    });
+    ExitCode::from(ended)
+}
+
+fn run(arguments: &Arguments) -> Result<u8, Failure> {
+    let options = &arguments.options;
+    let signals = Signals::take()?;
+    if let Some(Command::Bench(words)) = &arguments.command {
+        return bench::run(options, words, &signals);
+    }
+    let session = Session::join(options)?;
+    signals.ends(&session.client);
+    let context = Context {
+        session: &session,
+        server: &options.server,
+        printer: Printer::of(options),
+        signals: &signals,
+    };
+    let ended = match &arguments.command {
+        Some(command) => run_one(command, options, &context),
+        None => prompt::run(&mut |command| run_one(command, options, &context)),
+    };
+    session.leave();
+    ended
+}
+
+fn run_one(command: &Command, options: &Options, context: &Context<'_>) -> Result<u8, Failure> {
+    let ended = match command {
+        Command::Client(command) => context.run(command),
+        Command::Bench(words) => bench::run(options, words, context.signals),
+    };
+    context.signals.settle();
+    ended
 }

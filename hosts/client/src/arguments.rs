@@ -1,0 +1,372 @@
+//! The words of the command line.
+use crate::failure::Failure;
+use crate::values::ValueForm;
+use crate::words::{self, Numbers};
+use clap::{Args, Parser, Subcommand, ValueEnum};
+use krl::Address;
+use std::ffi::OsString;
+use std::ops::Range;
+use std::path::PathBuf;
+use std::time::Duration;
+
+const HELP: &str = "\
+Keys are 0 to 2^63 - 2. A range is LO HI or LO..HI, and has LO and not HI; END
+stands for 2^63 - 1.
+
+Values have at most 32 bytes. A value is text, or
+  hex:cafe    the bytes ca fe
+  u64:5       the eight bytes of the number 5, the highest first
+  text:u64:5  the text behind text:
+--hex and --number-values read and show values without a prefix as hexadecimal
+digits, or as numbers (and x with digits for what is no number, as the scripts
+of krl do).
+
+A row is printed as KEY=VALUE, one a line. What is printed reads back: insert
+and put take KEY=VALUE in place of KEY VALUE. A value that is no text is
+printed as u64: and a number if it has eight bytes, else as hex: and digits.
+
+The client's number: one process at a time is the client of a number, from 0
+to 63. Without --number the first free one from 63 down to 56 is taken, so
+eight commands run at once. Lock files in $XDG_STATE_HOME/krl, or
+~/.local/state/krl, tell which are free. So keep these eight numbers for one
+user of one machine, and give --number, or KRL_NUMBER, to others, as 40-47.
+
+Without a command it is a prompt; lines from a pipe or a file are run until the
+first one fails.
+
+Exit status:
+  0    it is done
+  1    it was refused (there is such a row, there is none, the table is full)
+  2    a word can't be understood
+  3    the server did not answer in time
+  4    the client could not join
+  126  hold: the command can't be run; 127: there is no such command; else the
+       status is the command's
+  130  Ctrl-C ended it (watch: 0)
+
+Examples:
+  krl-client insert 15 one
+  krl-client scan 10 20
+  krl-client watch 10..20 --count 1
+  krl-client hold 10..20 --update -- ./rebuild.sh
+  krl-client bench --clients 4 --seconds 5";
+
+/// Reads, writes, watches and holds ranges of a krl server.
+#[derive(Debug, Parser)]
+#[command(name = "krl-client", version, after_help = HELP, disable_help_subcommand = true)]
+pub struct Arguments {
+    #[command(flatten)]
+    pub options: Options,
+    #[command(subcommand)]
+    pub command: Option<Command>,
+}
+
+/// What holds for every command.
+#[derive(Clone, Debug, Args)]
+pub struct Options {
+    /// Where the server listens: 127.0.0.1:7400, localhost:7400, or unix: and a path
+    #[arg(
+        long,
+        global = true,
+        env = "KRL_SERVER",
+        value_name = "ADDRESS",
+        default_value = "127.0.0.1:7400"
+    )]
+    pub server: Address,
+    /// The client's number, 0 to 63, or two as in 40-47: the greatest free one of them is taken
+    #[arg(long, global = true, env = "KRL_NUMBER", value_name = "NUMBER", default_value = "56-63")]
+    pub number: Numbers,
+    /// The lock file, in place of one in the user's folder. It needs a --number that is one
+    #[arg(long, global = true, env = "KRL_LOCK_FILE", value_name = "FILE")]
+    pub lock_file: Option<PathBuf>,
+    /// How long a call waits for an answer, as 10s, 500ms or 1min
+    #[arg(
+        long,
+        global = true,
+        env = "KRL_TIMEOUT",
+        value_name = "TIME",
+        default_value = "10s",
+        value_parser = humantime::parse_duration
+    )]
+    pub timeout: Duration,
+    /// Answers are lines of text, or a JSON value a line
+    #[arg(long, global = true, env = "KRL_FORMAT", value_enum, default_value_t = Format::Text)]
+    pub format: Format,
+    /// Values without a prefix are hexadecimal digits
+    #[arg(long, global = true, conflicts_with = "number_values")]
+    hex: bool,
+    /// Values without a prefix are numbers of eight bytes, or x and hexadecimal digits
+    #[arg(long, global = true)]
+    number_values: bool,
+}
+
+impl Options {
+    pub fn values(&self) -> ValueForm {
+        match (self.hex, self.number_values) {
+            (true, _) => ValueForm::Hex,
+            (_, true) => ValueForm::Number,
+            _ => ValueForm::Text,
+        }
+    }
+}
+
+/// How answers are printed.
+#[derive(Clone, Copy, Debug, PartialEq, Eq, ValueEnum)]
+pub enum Format {
+    Text,
+    // One value a line.
+    Json,
+}
+
+/// Commands are typed as they stand behind krl-client. Quotes keep spaces, and # begins a comment.
+#[derive(Debug, Parser)]
+#[command(multicall = true)]
+pub struct Line {
+    #[command(subcommand)]
+    pub command: LineCommand,
+}
+
+#[derive(Debug, Subcommand)]
+pub enum LineCommand {
+    #[command(flatten)]
+    Command(Command),
+    /// Ends the prompt
+    #[command(alias = "exit")]
+    Quit,
+}
+
+#[derive(Debug, Subcommand)]
+pub enum Command {
+    #[command(flatten)]
+    Client(ClientCommand),
+    /// Measures a server with clients of its own, on keys that have no row
+    Bench(BenchWords),
+}
+
+/// A command of one client.
+#[derive(Debug, Subcommand)]
+pub enum ClientCommand {
+    /// Prints the row of a key
+    Get {
+        /// The key
+        key: String,
+    },
+    /// Prints the rows of a range
+    Scan {
+        #[command(flatten)]
+        range: RangeWords,
+    },
+    /// Makes a new row; refused if there is one
+    Insert {
+        #[command(flatten)]
+        row: RowWords,
+    },
+    /// Gives a row another value; refused if there is none
+    Put {
+        #[command(flatten)]
+        row: RowWords,
+    },
+    /// Deletes a row; refused if there is none
+    Delete {
+        /// The key
+        key: String,
+    },
+    /// Tells how long the server takes to answer: it reads the greatest key
+    Ping,
+    /// Prints a range, and again whenever it changes, until Ctrl-C
+    Watch {
+        #[command(flatten)]
+        range: RangeWords,
+        /// Ends after so many changes
+        #[arg(long, value_name = "N")]
+        count: Option<u64>,
+    },
+    /// Holds a range while a command runs: nobody changes it meanwhile
+    Hold {
+        #[command(flatten)]
+        range: RangeWords,
+        /// Nobody else holds it with --update either; others still read it
+        #[arg(long)]
+        update: bool,
+        /// The command and its arguments
+        #[arg(last = true, required = true, value_name = "COMMAND")]
+        words: Vec<OsString>,
+    },
+}
+
+/// A range in one word or two.
+#[derive(Clone, Debug, Args)]
+pub struct RangeWords {
+    /// The least key, or the whole range as LO..HI
+    #[arg(value_name = "LO")]
+    first: String,
+    /// One past the greatest key
+    #[arg(value_name = "HI")]
+    second: Option<String>,
+}
+
+impl RangeWords {
+    pub fn range(&self) -> Result<Range<u64>, Failure> {
+        words::range(&self.first, self.second.as_deref())
+    }
+}
+
+/// A row in one word or two.
+#[derive(Clone, Debug, Args)]
+pub struct RowWords {
+    /// The key, or the whole row as KEY=VALUE
+    #[arg(value_name = "KEY")]
+    first: String,
+    /// The value
+    #[arg(value_name = "VALUE")]
+    second: Option<String>,
+}
+
+impl RowWords {
+    pub fn row(&self, values: ValueForm) -> Result<krl::Row, Failure> {
+        let (key, value) = match &self.second {
+            Some(value) => (self.first.as_str(), value.as_str()),
+            None => self.first.split_once('=').ok_or_else(|| {
+                Failure::Usage(format!("'{}' has no value: KEY VALUE is expected", self.first))
+            })?,
+        };
+        Ok(krl::Row { key: words::key(key)?, value: values.read(value)? })
+    }
+}
+
+/// What is measured.
+#[derive(Clone, Debug, Args)]
+pub struct BenchWords {
+    /// Clients, each with a number and a cache of its own
+    #[arg(
+        long,
+        value_name = "N",
+        default_value_t = 1,
+        value_parser = clap::value_parser!(u8).range(1..=64)
+    )]
+    pub clients: u8,
+    /// Threads of each client
+    #[arg(
+        long,
+        value_name = "N",
+        default_value_t = 1,
+        value_parser = clap::value_parser!(u16).range(1..=256)
+    )]
+    pub threads: u16,
+    /// How long it measures, in seconds
+    #[arg(
+        long,
+        value_name = "S",
+        default_value_t = 5,
+        value_parser = clap::value_parser!(u64).range(1..=86_400)
+    )]
+    pub seconds: u64,
+    /// How many of a hundred calls read, and how many write
+    #[arg(long, value_name = "READ,WRITE", default_value = "95,5")]
+    pub mix: Mix,
+    /// Rows that it makes, reads and deletes again
+    #[arg(
+        long,
+        value_name = "N",
+        default_value_t = 1000,
+        value_parser = clap::value_parser!(u64).range(1..=65_536)
+    )]
+    pub keys: u64,
+    /// The least key of these rows
+    #[arg(long, value_name = "KEY", default_value_t = 0)]
+    pub first_key: u64,
+    /// Which keys are read and written: uniform, or zipf[:EXPONENT], as zipf:1.0
+    #[arg(long, value_name = "SKEW", default_value = "uniform")]
+    pub skew: Skew,
+    /// Rows of each read
+    #[arg(
+        long,
+        value_name = "N",
+        default_value_t = 10,
+        value_parser = clap::value_parser!(u64).range(1..=65_536)
+    )]
+    pub rows: u64,
+}
+
+/// How many of a hundred calls read. The others write.
+#[derive(Clone, Copy, Debug, PartialEq, Eq)]
+pub struct Mix {
+    pub reads: u32,
+}
+
+impl std::str::FromStr for Mix {
+    type Err = String;
+
+    fn from_str(word: &str) -> Result<Mix, String> {
+        let parts = word.split_once(',').and_then(|(reads, writes)| {
+            Some((reads.parse::<u32>().ok()?, writes.parse::<u32>().ok()?))
+        });
+        parts
+            .filter(|(reads, writes)| reads.checked_add(*writes) == Some(100))
+            .map(|(reads, _)| Mix { reads })
+            .ok_or_else(|| "two numbers with the sum 100 are expected, as 95,5".into())
+    }
+}
+
+/// Which keys are chosen.
+#[derive(Clone, Copy, Debug, PartialEq)]
+pub enum Skew {
+    Uniform,
+    /// The key of rank r has the weight 1 / r^exponent.
+    Zipf(f64),
+}
+
+impl std::str::FromStr for Skew {
+    type Err = String;
+
+    fn from_str(word: &str) -> Result<Skew, String> {
+        let exponent = match word {
+            "uniform" => return Ok(Skew::Uniform),
+            "zipf" => Some(1.0),
+            _ => word.strip_prefix("zipf:").and_then(|exponent| exponent.parse().ok()),
+        };
+        exponent
+            .filter(|exponent: &f64| (0.0..=10.0).contains(exponent))
+            .map(Skew::Zipf)
+            .ok_or_else(|| "uniform, zipf, or zipf:EXPONENT of 0 to 10 is expected".into())
+    }
+}
+
+#[cfg(test)]
+mod tests {
+    use super::*;
+    use clap::CommandFactory;
+
+    #[test]
+    fn the_grammar_is_consistent() {
+        Arguments::command().debug_assert();
+        Line::command().debug_assert();
+    }
+
+    #[test]
+    fn mixes_and_skews() {
+        assert_eq!("95,5".parse(), Ok(Mix { reads: 95 }));
+        assert_eq!("100,0".parse(), Ok(Mix { reads: 100 }));
+        for word in ["95", "95,6", "a,b", "-5,105", "4294967295,101"] {
+            assert!(word.parse::<Mix>().is_err(), "{word}");
+        }
+        assert_eq!("zipf".parse(), Ok(Skew::Zipf(1.0)));
+        assert_eq!("zipf:0.5".parse(), Ok(Skew::Zipf(0.5)));
+        for word in ["zipf:", "zipf:-1", "zipf:NaN", "zipf:inf", "normal"] {
+            assert!(word.parse::<Skew>().is_err(), "{word}");
+        }
+    }
+
+    #[test]
+    fn rows() {
+        let words = |first: &str, second: Option<&str>| RowWords {
+            first: first.into(),
+            second: second.map(Into::into),
+        };
+        let row = |first, second| words(first, second).row(ValueForm::Text).unwrap();
+        assert_eq!(row("15", Some("a=b")), row("15=a=b", None));
+        assert_eq!(row("15=", None).value.as_ref(), b"");
+        assert!(words("15", None).row(ValueForm::Text).is_err());
+        assert!(words("END=a", None).row(ValueForm::Text).is_err());
+    }
+}

@@ -1,0 +1,128 @@
+//! Why a command did not do what it should, and the exit status that tells it.
+use krl::{JoinError, LockFileError, Refused};
+use std::fmt;
+use std::io;
+
+/// The status of a process that a signal ended, less the signal's number.
+pub const SIGNALLED: u8 = 128;
+
+const SIGPIPE: u8 = 13;
+
+/// A command that failed.
+#[derive(Debug)]
+pub enum Failure {
+    /// The table refused it, or has no such row.
+    Refused(String),
+    /// A word that can't be understood.
+    Usage(String),
+    /// The server did not answer in time.
+    NoAnswer(String),
+    /// The client could not join.
+    NotJoined(String),
+    /// The output can't be written.
+    Output(io::Error),
+    /// A command that `hold` should run does not start.
+    NotStarted(String, io::ErrorKind),
+}
+
+impl Failure {
+    /// The exit status.
+    pub fn status(&self) -> u8 {
+        match self {
+            Failure::Usage(_) => 2,
+            Failure::NoAnswer(_) => 3,
+            Failure::NotJoined(_) => 4,
+            Failure::Output(error) if error.kind() == io::ErrorKind::BrokenPipe => {
+                SIGNALLED + SIGPIPE
+            }
+            Failure::Refused(_) | Failure::Output(_) => 1,
+            Failure::NotStarted(_, io::ErrorKind::NotFound) => 127,
+            Failure::NotStarted(..) => 126,
+        }
+    }
+
+    /// Tells standard error what failed. If nobody reads the output any more, that is no news.
+    pub fn tell(&self) {
+        match self {
+            Failure::Output(error) if error.kind() == io::ErrorKind::BrokenPipe => {}
+            failure => eprintln!("krl-client: {failure}"),
+        }
+    }
+}
+
+impl fmt::Display for Failure {
+    fn fmt(&self, f: &mut fmt::Formatter<'_>) -> fmt::Result {
+        match self {
+            Failure::Refused(why)
+            | Failure::Usage(why)
+            | Failure::NoAnswer(why)
+            | Failure::NotJoined(why)
+            | Failure::NotStarted(why, _) => f.write_str(why),
+            Failure::Output(error) => write!(f, "the output can't be written: {error}"),
+        }
+    }
+}
+
+impl From<io::Error> for Failure {
+    fn from(error: io::Error) -> Failure {
+        Failure::Output(error)
+    }
+}
+
+impl From<Refused> for Failure {
+    fn from(refused: Refused) -> Failure {
+        match refused {
+            Refused::TimedOut => Failure::NoAnswer(
+                "the server did not answer in time: it is away, or another client holds what \
+                 this command needs (its status page says who waits for whom)"
+                    .into(),
+            ),
+            Refused::BadRange | Refused::BadKey => Failure::Usage(refused.to_string()),
+            other => Failure::Refused(other.to_string()),
+        }
+    }
+}
+
+impl Failure {
+    /// A client that did not join under this number.
+    pub fn of_join(error: JoinError, number: u8, server: &krl::Address) -> Failure {
+        match error {
+            JoinError::NoAnswer(Some(fault)) => {
+                Failure::NoAnswer(format!("the server at {server} can't be reached: {fault}"))
+            }
+            JoinError::NoAnswer(None) => Failure::NoAnswer(format!(
+                "the server at {server} did not answer in time: it may wait for clients that it \
+                 misses after a restart, which its status page tells, or know a later client of \
+                 number {number}"
+            )),
+            JoinError::LockFile(LockFileError::Taken) => Failure::NotJoined(format!(
+                "another process is the client of number {number}: give this one another --number"
+            )),
+            error => {
+                Failure::NotJoined(format!("the client of number {number} can't join: {error}"))
+            }
+        }
+    }
+}
+
+#[cfg(test)]
+mod tests {
+    use super::*;
+
+    #[test]
+    fn each_failure_has_its_status() {
+        let of_kind = |kind: io::ErrorKind| Failure::Output(kind.into()).status();
+        assert_eq!(Failure::Refused(String::new()).status(), 1);
+        assert_eq!(Failure::Usage(String::new()).status(), 2);
+        assert_eq!(Failure::from(Refused::TimedOut).status(), 3);
+        assert_eq!(Failure::from(Refused::BadRange).status(), 2);
+        assert_eq!(Failure::from(Refused::Pinned).status(), 1);
+        assert_eq!(of_kind(io::ErrorKind::BrokenPipe), 141);
+        assert_eq!(of_kind(io::ErrorKind::StorageFull), 1);
+        let server = "127.0.0.1:1".parse().unwrap();
+        assert_eq!(Failure::of_join(JoinError::NoAnswer(None), 1, &server).status(), 3);
+        assert_eq!(Failure::of_join(JoinError::BadNumber, 64, &server).status(), 4);
+        let taken = JoinError::LockFile(LockFileError::Taken);
+        assert_eq!(Failure::of_join(taken, 1, &server).status(), 4);
+    }
+}

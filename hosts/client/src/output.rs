@@ -1,0 +1,78 @@
+//! What is printed, as text and as JSON.
+use crate::arguments::{Format, Options};
+use crate::failure::Failure;
+use crate::values::{ValueForm, digits_of};
+use krl::{Outcome, Row};
+use serde_json::{Value as Json, json};
+use std::io::{self, Write};
+
+/// Prints what commands answer.
+#[derive(Clone, Copy, Debug)]
+pub struct Printer {
+    pub format: Format,
+    pub values: ValueForm,
+}
+
+impl Printer {
+    pub fn of(options: &Options) -> Printer {
+        Printer { format: options.format, values: options.values() }
+    }
+
+    /// The rows, one a line; or an object that has them.
+    pub fn rows(self, rows: &[Row]) -> Result<(), Failure> {
+        match self.format {
+            Format::Text => print(&self.lines(rows)),
+            Format::Json => print_json(&json!({ "rows": self.json_rows(rows) })),
+        }
+    }
+
+    /// How a write was judged.
+    pub fn outcome(self, outcome: Outcome) -> Result<(), Failure> {
+        match (self.format, outcome) {
+            (Format::Json, _) => {
+                print_json(&json!({ "outcome": outcome.to_string().to_lowercase() }))
+            }
+            (Format::Text, Outcome::Applied) => print("applied\n"),
+            // The sentence on standard error tells it.
+            (Format::Text, _) => Ok(()),
+        }
+    }
+
+    /// What a watched range has after so many changes.
+    pub fn change(self, number: u64, rows: &[Row]) -> Result<(), Failure> {
+        match self.format {
+            Format::Text => {
+                let head = format!("# change {number}, rows {}\n", rows.len());
+                print(&(head + &self.lines(rows)))
+            }
+            Format::Json => print_json(&json!({ "change": number, "rows": self.json_rows(rows) })),
+        }
+    }
+
+    fn lines(self, rows: &[Row]) -> String {
+        rows.iter().fold(String::new(), |lines, row| {
+            lines + &format!("{}={}\n", row.key, self.values.show(&row.value))
+        })
+    }
+
+    fn json_rows(self, rows: &[Row]) -> Json {
+        let of_row = |row: &Row| {
+            let hex = digits_of(row.value.as_ref());
+            json!({ "key": row.key, "value": self.values.show(&row.value), "hex": hex })
+        };
+        rows.iter().map(of_row).collect()
+    }
+}
+
+/// Prints a text, whole and at once.
+pub fn print(text: &str) -> Result<(), Failure> {
+    let mut out = io::stdout().lock();
+    out.write_all(text.as_bytes())?;
+    out.flush()?;
+    Ok(())
+}
+
+/// Prints a JSON value in a line.
+pub fn print_json(value: &Json) -> Result<(), Failure> {
+    print(&format!("{value}\n"))
+}

@@ -1,0 +1,143 @@
+//! Commands that are read line by line: from a terminal with a history, or from a pipe or a file.
+use crate::arguments::{Command, Line, LineCommand};
+use crate::failure::Failure;
+use crate::session;
+use clap::Parser;
+use rustyline::Editor;
+use rustyline::error::ReadlineError;
+use std::io::{self, BufRead, IsTerminal};
+use std::path::PathBuf;
+
+const PROMPT: &str = "krl> ";
+
+/// Runs a command of a line.
+pub type Run<'r> = dyn FnMut(&Command) -> Result<u8, Failure> + 'r;
+
+/// What a line is.
+enum Told {
+    Nothing,
+    Command(Box<Command>),
+    Quit,
+}
+
+/// Runs the lines of standard input, and answers the exit status.
+pub fn run(run: &mut Run<'_>) -> Result<u8, Failure> {
+    if io::stdin().is_terminal() { run_prompt(run) } else { run_lines(io::stdin().lock(), run) }
+}
+
+/// Runs the lines until the first one that fails, whose status is the answer.
+fn run_lines(lines: impl BufRead, run: &mut Run<'_>) -> Result<u8, Failure> {
+    for (place, line) in (1..).zip(lines.lines()) {
+        let line = line.map_err(|error| Failure::Usage(format!("line {place}: {error}")))?;
+        let status = match parse(&line) {
+            Ok(Told::Nothing) => 0,
+            Ok(Told::Quit) => return Ok(0),
+            Ok(Told::Command(command)) => run(&command).unwrap_or_else(|failure| {
+                failure.tell();
+                failure.status()
+            }),
+            Err(failure) => {
+                failure.tell();
+                failure.status()
+            }
+        };
+        if status != 0 {
+            eprintln!("krl-client: line {place} ended with status {status}: {line}");
+            return Ok(status);
+        }
+    }
+    Ok(0)
+}
+
+/// Runs what is typed, until it is `quit` or Ctrl-D.
+fn run_prompt(run: &mut Run<'_>) -> Result<u8, Failure> {
+    let mut editor = Editor::<()>::new();
+    let history = history();
+    if let Some(history) = &history {
+        // There is none at the first time.
+        let _ = editor.load_history(history);
+    }
+    let ended = loop {
+        let line = match editor.readline(PROMPT) {
+            Ok(line) => line,
+            Err(ReadlineError::Interrupted) => continue,
+            Err(ReadlineError::Eof) => break Ok(0),
+            Err(error) => break Err(Failure::Output(io::Error::other(error))),
+        };
+        editor.add_history_entry(&line);
+        match parse(&line) {
+            Ok(Told::Nothing) => {}
+            Ok(Told::Quit) => break Ok(0),
+            Ok(Told::Command(command)) => tell(run(&command)),
+            Err(failure) => failure.tell(),
+        }
+    };
+    if let Some(history) = &history
+        && let Err(error) = editor.save_history(history)
+    {
+        eprintln!("krl-client: the history can't be saved: {error}");
+    }
+    ended
+}
+
+fn tell(ended: Result<u8, Failure>) {
+    match ended {
+        Ok(0) => {}
+        Ok(status) => eprintln!("krl-client: the command ended with status {status}"),
+        Err(failure) => failure.tell(),
+    }
+}
+
+fn history() -> Option<PathBuf> {
+    session::folder().ok().map(|folder| folder.join("history"))
+}
+
+/// The words of a line are those of a shell: quotes keep spaces.
+fn parse(line: &str) -> Result<Told, Failure> {
+    let words = shlex::split(line)
+        .ok_or_else(|| Failure::Usage(format!("a quote is not closed: {line}")))?;
+    if words.is_empty() {
+        return Ok(Told::Nothing);
+    }
+    match Line::try_parse_from(words) {
+        Ok(Line { command: LineCommand::Command(command) }) => Ok(Told::Command(Box::new(command))),
+        Ok(Line { command: LineCommand::Quit }) => Ok(Told::Quit),
+        Err(help) if !help.use_stderr() => {
+            help.print()?;
+            Ok(Told::Nothing)
+        }
+        Err(error) => {
+            let text = error.to_string();
+            Err(Failure::Usage(text.strip_prefix("error: ").unwrap_or(&text).trim_end().into()))
+        }
+    }
+}
+
+#[cfg(test)]
+mod tests {
+    use super::*;
+
+    fn run_text(text: &str) -> (u8, usize) {
+        let mut count = 0;
+        let mut run = |command: &Command| {
+            count += 1;
+            match command {
+                Command::Bench(_) => Err(Failure::Refused("no".into())),
+                Command::Client(_) => Ok(0),
+            }
+        };
+        let status = run_lines(text.as_bytes(), &mut run).unwrap();
+        (status, count)
+    }
+
+    #[test]
+    fn lines_run_until_one_fails() {
+        assert_eq!(run_text(""), (0, 0));
+        assert_eq!(run_text("# a comment\n\nget 5\nput 5 'a b' # more\n"), (0, 2));
+        assert_eq!(run_text("get 5\nquit\nget 6\n"), (0, 1));
+        assert_eq!(run_text("get 5\nbench\nget 6\n"), (1, 2));
+        assert_eq!(run_text("get 5\nget 'a\nget 6\n"), (2, 1));
+        assert_eq!(run_text("take 5\nget 6\n"), (2, 0));
+        assert_eq!(run_text("help\nget 6\n"), (0, 1));
+    }
+}

@@ -1,0 +1,120 @@
+//! A client that has joined: its number, its lock file, and how it leaves.
+use crate::arguments::Options;
+use crate::failure::Failure;
+use krl::{Client, JoinError, LockFileError};
+use std::env;
+use std::fs::DirBuilder;
+use std::os::unix::fs::DirBuilderExt;
+use std::path::{Path, PathBuf};
+use std::sync::Arc;
+use std::time::{Duration, Instant};
+
+/// A client that has joined.
+pub struct Session {
+    pub client: Arc<Client>,
+    pub number: u8,
+    /// How long the join took.
+    pub joined_in: Duration,
+}
+
+impl Session {
+    /// Joins by the greatest number of the options that is free.
+    pub fn join(options: &Options) -> Result<Session, Failure> {
+        let mut sessions = Session::join_some(options, 1)?;
+        sessions.pop().ok_or_else(|| none_is_free(options))
+    }
+
+    /// Joins so many clients, the greatest free numbers first.
+    pub fn join_some(options: &Options, count: usize) -> Result<Vec<Session>, Failure> {
+        let files = LockFiles::of(options)?;
+        let mut sessions = Vec::new();
+        for number in options.number.0.clone().rev() {
+            if sessions.len() == count {
+                break;
+            }
+            sessions.extend(join_as(options, number, &files.of_number(number))?);
+        }
+        if sessions.len() < count { Err(none_is_free(options)) } else { Ok(sessions) }
+    }
+
+    /// Gives all back. If the server does not answer, it tells what others may notice.
+    pub fn leave(self) {
+        if self.client.depart(self.client.timeout()).is_err() {
+            eprintln!(
+                "krl-client: the server did not hear that client {} left: others may wait for what \
+                 it held until a client of its number joins again",
+                self.number
+            );
+        }
+    }
+}
+
+/// The client of this number, or `None` if another process is it and there is a choice.
+fn join_as(options: &Options, number: u8, file: &Path) -> Result<Option<Session>, Failure> {
+    let begun = Instant::now();
+    let builder = Client::builder(options.server.clone());
+    match builder.number(number).lock_file(file).timeout(options.timeout).join() {
+        Ok(client) => {
+            let client = Arc::new(client);
+            Ok(Some(Session { client, number, joined_in: begun.elapsed() }))
+        }
+        Err(JoinError::LockFile(LockFileError::Taken)) if options.number.only().is_none() => {
+            Ok(None)
+        }
+        Err(error) => Err(Failure::of_join(error, number, &options.server)),
+    }
+}
+
+fn none_is_free(options: &Options) -> Failure {
+    let numbers = &options.number.0;
+    Failure::NotJoined(format!(
+        "too few of the client numbers {} to {} are free: other processes of this user have them; \
+         give others by --number",
+        numbers.start(),
+        numbers.end()
+    ))
+}
+
+/// Where the lock files are.
+enum LockFiles {
+    One(PathBuf),
+    In(PathBuf),
+}
+
+impl LockFiles {
+    fn of(options: &Options) -> Result<LockFiles, Failure> {
+        match (&options.lock_file, options.number.only()) {
+            (Some(file), Some(_)) => Ok(LockFiles::One(file.clone())),
+            (Some(_), None) => {
+                let why = "a lock file is of one number: --lock-file needs --number and one number";
+                Err(Failure::Usage(why.into()))
+            }
+            (None, _) => folder().map(LockFiles::In),
+        }
+    }
+
+    fn of_number(&self, number: u8) -> PathBuf {
+        match self {
+            LockFiles::One(file) => file.clone(),
+            LockFiles::In(folder) => folder.join(format!("client-{number}.lock")),
+        }
+    }
+}
+
+/// The user's folder of lock files and of the prompt's history. It is made if there is none.
+pub fn folder() -> Result<PathBuf, Failure> {
+    let absolute = |name: &str| env::var_os(name).map(PathBuf::from).filter(|at| at.is_absolute());
+    let state = absolute("XDG_STATE_HOME")
+        .or_else(|| absolute("HOME").map(|home| home.join(".local/state")));
+    let folder = state.map(|state| state.join("krl")).ok_or_else(|| {
+        Failure::NotJoined(
+            "there is no folder for lock files: set HOME or XDG_STATE_HOME to an absolute path, or \
+             give --number and --lock-file"
+                .into(),
+        )
+    })?;
+    DirBuilder::new().recursive(true).mode(0o700).create(&folder).map_err(|error| {
+        Failure::NotJoined(format!("the folder {} can't be made: {error}", folder.display()))
+    })?;
+    Ok(folder)
+}

@@ -1,0 +1,61 @@
+//! Watching a range: it is printed, and again whenever it changes.
+use crate::commands::Context;
+use crate::failure::Failure;
+use crate::signals::Taken;
+use krl::{Client, Refused, Row};
+use std::ops::Range;
+use std::time::Duration;
+
+/// How often a watch looks whether a signal ends it.
+const LOOK: Duration = Duration::from_millis(200);
+
+/// Prints the range, and again after each change, so many times or until a signal.
+///
+/// Between two changes the client holds the range, and the server is asked nothing.
+pub fn watch(context: &Context<'_>, keys: &Range<u64>, count: Option<u64>) -> Result<(), Failure> {
+    let client = &context.session.client;
+    let mut rows = client.read(keys.clone())?;
+    let signals = context.signals.to_loop();
+    context.printer.change(0, &rows)?;
+    let timeout = client.timeout();
+    // A signal is seen soon, also while the server is away.
+    client.set_timeout(LOOK);
+    let mut ended = Ok(());
+    for number in 1..=count.unwrap_or(u64::MAX) {
+        match next_change(client, keys, &rows, &signals) {
+            Ok(Some(changed)) => rows = changed,
+            Ok(None) => break,
+            Err(refused) => {
+                ended = Err(refused.into());
+                break;
+            }
+        }
+        ended = context.printer.change(number, &rows);
+        if ended.is_err() {
+            break;
+        }
+    }
+    client.set_timeout(timeout);
+    ended
+}
+
+/// The rows of the range once they are others, or `None` if a signal came before.
+fn next_change(
+    client: &Client,
+    keys: &Range<u64>,
+    rows: &[Row],
+    signals: &Taken<'_>,
+) -> Result<Option<Vec<Row>>, Refused> {
+    while !signals.is_ended() {
+        if !client.wait_for_change(keys.clone(), rows, LOOK) {
+            continue;
+        }
+        match client.read(keys.clone()) {
+            Ok(read) if read != rows => return Ok(Some(read)),
+            // It is as it was, or somebody has it still.
+            Ok(_) | Err(Refused::TimedOut) => {}
+            Err(refused) => return Err(refused),
+        }
+    }
+    Ok(None)
+}

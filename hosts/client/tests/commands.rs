@@ -1,0 +1,247 @@
+//! The commands that ask once: what they print, and their exit statuses.
+mod support;
+
+use krl::{Outcome, Value};
+use std::io::Read;
+use std::process::Stdio;
+use std::time::{Duration, Instant};
+use support::{Ended, World, wait_for};
+
+fn ended(status: i32, out: &str, errors: &str) -> Ended {
+    Ended { status, out: out.into(), errors: errors.into() }
+}
+
+#[test]
+fn rows_are_made_read_changed_and_deleted() {
+    let world = World::new("rows");
+    assert_eq!(world.run(&["insert", "15", "one"]), ended(0, "applied\n", ""));
+    assert_eq!(world.run(&["insert", "20=two words"]), ended(0, "applied\n", ""));
+    let exists = "krl-client: there is a row of key 15 already\n";
+    assert_eq!(world.run(&["insert", "15", "two"]), ended(1, "", exists));
+    assert_eq!(world.prints(&["get", "15"]), "15=one\n");
+    assert_eq!(world.prints(&["scan", "0", "100"]), "15=one\n20=two words\n");
+    assert_eq!(world.prints(&["scan", "0..20"]), "15=one\n");
+    assert_eq!(world.prints(&["scan", "16", "20"]), "");
+    assert_eq!(world.prints(&["put", "15", "1"]), "applied\n");
+    assert_eq!(world.prints(&["get", "15"]), "15=1\n");
+    let absent = "krl-client: there is no row of key 16\n";
+    assert_eq!(world.run(&["put", "16", "a"]), ended(1, "", absent));
+    assert_eq!(world.run(&["get", "16"]), ended(1, "", absent));
+    assert_eq!(world.run(&["delete", "16"]), ended(1, "", absent));
+    assert_eq!(world.prints(&["delete", "15"]), "applied\n");
+    assert_eq!(world.prints(&["scan", ".."]), "20=two words\n");
+}
+
+#[test]
+fn a_client_that_has_ended_holds_nothing() {
+    let world = World::new("leaves");
+    world.prints(&["insert", "15", "one"]);
+    world.prints(&["scan", "0", "END"]);
+    let client = world.client(1);
+    let begun = Instant::now();
+    assert_eq!(client.put(15, Value::from(2)), Ok(Outcome::Applied));
+    assert!(begun.elapsed() < Duration::from_secs(5), "nobody had to be waited for");
+    assert!(world.server.status().holdings.iter().all(|it| it.client != 63 || it.slots == 0));
+}
+
+#[test]
+fn values_are_text_digits_or_numbers() {
+    let world = World::new("values");
+    world.prints(&["insert", "1", "text:u64:5"]);
+    world.prints(&["insert", "2", "u64:5"]);
+    world.prints(&["insert", "3", "hex:cafe"]);
+    world.prints(&["insert", "4", "beef", "--hex"]);
+    world.prints(&["--number-values", "insert", "5", "258"]);
+    world.prints(&["--number-values", "insert", "6", "xff"]);
+    let text = "1=text:u64:5\n2=u64:5\n3=hex:cafe\n4=hex:beef\n5=u64:258\n6=hex:ff\n";
+    assert_eq!(world.prints(&["scan", "..",]), text);
+    let numbers = "1=x7536343a35\n2=5\n3=xcafe\n4=xbeef\n5=258\n6=xff\n";
+    assert_eq!(world.prints(&["scan", "..", "--number-values"]), numbers);
+    let digits = "2=0000000000000005\n3=cafe\n";
+    assert_eq!(world.prints(&["scan", "2", "4", "--hex"]), digits);
+}
+
+#[test]
+fn what_is_printed_reads_back() {
+    let world = World::new("back");
+    for word in ["1=one", "2=u64:5", "3=hex:00ff", "4=", "5=text:hex:", "6=\u{e4}"] {
+        world.prints(&["insert", word]);
+    }
+    for form in [&[][..], &["--hex"], &["--number-values"]] {
+        let printed = world.prints(&[&["scan", ".."], form].concat());
+        let lines = printed.replace('\n', "'\n");
+        let lines = lines.lines().fold(String::new(), |all, row| all + "put '" + row + "\n");
+        let read = world.run_lines(form, &lines);
+        assert_eq!((read.status, read.out.lines().count()), (0, 6), "{read:?}");
+        assert_eq!(world.prints(&[&["scan", ".."], form].concat()), printed);
+    }
+}
+
+#[test]
+fn answers_as_json() {
+    let world = World::new("json");
+    let json = |words: &[&str]| -> (i32, serde_json::Value) {
+        let ended = world.run(&[words, &["--format", "json"]].concat());
+        (ended.status, serde_json::from_str(&ended.out).unwrap())
+    };
+    assert_eq!(json(&["insert", "15", "one"]), (0, serde_json::json!({ "outcome": "applied" })));
+    assert_eq!(json(&["insert", "15", "one"]), (1, serde_json::json!({ "outcome": "exists" })));
+    assert_eq!(json(&["delete", "16"]), (1, serde_json::json!({ "outcome": "absent" })));
+    let row = serde_json::json!({ "key": 15, "value": "one", "hex": "6f6e65" });
+    assert_eq!(json(&["get", "15"]), (0, serde_json::json!({ "rows": [row] })));
+    assert_eq!(json(&["get", "16"]), (1, serde_json::json!({ "rows": [] })));
+    let (status, ping) = json(&["ping"]);
+    assert_eq!((status, &ping["epoch"], &ping["client"]), (0, &1.into(), &63.into()));
+    assert!(ping["round_trip_seconds"].as_f64().unwrap() > 0.0);
+}
+
+#[test]
+fn ping_tells_the_server_and_the_epoch() {
+    let world = World::new("ping");
+    let said = world.prints(&["ping"]);
+    let head = format!("{} answered in ", world.server.address());
+    assert!(said.starts_with(&head) && said.ends_with(", epoch 1\n"), "{said}");
+}
+
+#[test]
+fn words_that_cannot_be_understood_are_status_2() {
+    let world = World::new("words");
+    for (words, told) in [
+        (&["get", "ten"][..], "'ten' is no key: a number of 0 to 2^63 - 2 is expected"),
+        (&["get", "9223372036854775807"], "is no key"),
+        (&["scan", "20", "10"], "'20 10' is no range: LO HI or LO..HI is expected"),
+        (&["scan", "10"], "'10' is no range"),
+        (&["insert", "15"], "'15' has no value: KEY VALUE is expected"),
+        (&["insert", "15", "hex:abc"], "an even number of hexadecimal digits is expected"),
+        (&["put", "15", &"a".repeat(33)], "a value has at most 32 bytes"),
+        (&["put", "15", "x", "--number-values", "--hex"], "cannot be used with"),
+        (&["fetch", "15"], "fetch"),
+        (&["get"], "<KEY>"),
+        (&["--server", "nowhere", "get", "1"], "--server"),
+        (&["--number", "64", "get", "1"], "a number of 0 to 63, or two as in 56-63, is expected"),
+        (&["--timeout", "soon", "get", "1"], "--timeout"),
+        (&["--lock-file", "file", "get", "1"], "--lock-file needs --number and one number"),
+        (&["bench", "--mix", "90,5"], "two numbers with the sum 100 are expected"),
+        (&["bench", "--keys", "5", "--rows", "6"], "a read of 6 rows needs as many --keys"),
+        (&["bench", "--first-key", "9223372036854775800"], "give a lower --first-key"),
+        (&["hold", "1", "2"], "COMMAND"),
+        (&["hold", "2", "1", "--", "true"], "is no range"),
+        (&["watch", "1", "1"], "is no range"),
+    ] {
+        let ended = world.run(words);
+        assert_eq!((ended.status, ended.out.as_str()), (2, ""), "{words:?}: {ended:?}");
+        assert!(ended.errors.contains(told), "{words:?}: {}", ended.errors);
+    }
+}
+
+#[test]
+fn help_says_the_statuses_and_the_forms() {
+    let world = World::new("help");
+    let help = world.prints(&["--help"]);
+    for word in ["Exit status:", "126", "hex:cafe", "KEY=VALUE", "56", "KRL_SERVER", "Examples:"] {
+        assert!(help.contains(word), "{word}: {help}");
+    }
+    assert!(help.lines().all(|line| line.len() <= 100), "{help}");
+    assert!(world.prints(&["hold", "--help"]).contains("--update"));
+    assert!(world.prints(&["--version"]).starts_with("krl-client "));
+}
+
+#[test]
+fn a_server_that_does_not_answer_is_status_3() {
+    let world = World::new("nobody");
+    let told = world.run(&["--server", "127.0.0.1:1", "--timeout", "300ms", "get", "1"]);
+    assert_eq!(told.status, 3, "{told:?}");
+    assert!(
+        told.errors.contains("the server at 127.0.0.1:1 can't be reached: Connection refused"),
+        "{told:?}"
+    );
+    let client = world.client(1);
+    client.insert(15, Value::from(1)).unwrap();
+    let (_, pin) = client.pin_for_read(10..20).unwrap();
+    let told = world.run(&["--timeout", "300ms", "put", "15", "a"]);
+    assert_eq!((told.status, told.out.as_str()), (3, ""), "{told:?}");
+    assert!(told.errors.contains("another client holds what this command needs"), "{told:?}");
+    drop(pin);
+    assert_eq!(world.prints(&["put", "15", "a"]), "applied\n");
+}
+
+#[test]
+fn a_client_that_cannot_join_is_status_4() {
+    let world = World::new("join");
+    let file = world.folder.join("own-5.lock");
+    let lock_file = file.to_str().unwrap();
+    let client = world.client(5);
+    let words = ["--number", "5", "--lock-file", lock_file, "get", "1"];
+    let told = world.run(&words);
+    assert_eq!(told.status, 4, "{told:?}");
+    assert!(told.errors.contains("another process is the client of number 5"), "{told:?}");
+    client.leave().unwrap();
+    // A process that another test starts just now has the file open too, for a moment.
+    wait_for("the lock file is free", || world.run(&words).status == 1);
+    std::fs::write(&file, "mine").unwrap();
+    let told = world.run(&words);
+    assert_eq!(told.status, 4, "{told:?}");
+    assert!(told.errors.contains("no lock file of this client number"), "{told:?}");
+    let blocked = world.command(&["get", "1"]).env("XDG_STATE_HOME", &file).output().unwrap();
+    let blocked = Ended::from(blocked);
+    assert_eq!(blocked.status, 4, "{blocked:?}");
+    assert!(blocked.errors.contains("can't be made"), "{blocked:?}");
+}
+
+#[test]
+fn the_greatest_free_number_is_taken() {
+    let world = World::new("numbers");
+    let number = |range: &str| -> (i32, String) {
+        let ended = world.run(&["--number", range, "--format", "json", "ping"]);
+        let said: serde_json::Value = serde_json::from_str(&ended.out).unwrap_or_default();
+        (ended.status, said["client"].to_string())
+    };
+    let mut first = world.spawn(&["hold", "1", "2", "--", "sleep", "60"]);
+    world.wait_until_held(63);
+    assert_eq!(number("56-63"), (0, "62".into()));
+    assert_eq!(number("40-47"), (0, "47".into()));
+    assert_eq!(number("7"), (0, "7".into()));
+    let told = world.run(&["--number", "63-63", "ping"]);
+    assert_eq!(told.status, 4, "{told:?}");
+    let told = world.run(&["--number", "62-63", "bench", "--clients", "2"]);
+    assert_eq!(told.status, 4, "{told:?}");
+    assert!(told.errors.contains("too few of the client numbers 62 to 63 are free"), "{told:?}");
+    support::signal(&first, nix::sys::signal::Signal::SIGTERM);
+    first.wait().unwrap();
+    assert_eq!(number("56-63"), (0, "63".into()));
+}
+
+#[test]
+fn lines_of_a_pipe_run_until_one_fails() {
+    let world = World::new("lines");
+    let lines = "# rows\ninsert 1 'a b'\ninsert 2 c\n\nscan 0..9\n";
+    let ended = world.run_lines(&[], lines);
+    assert_eq!((ended.status, ended.errors.as_str()), (0, ""), "{ended:?}");
+    assert_eq!(ended.out, "applied\napplied\n1=a b\n2=c\n");
+    let ended = world.run_lines(&[], "put 1 d\nput 3 d\nput 2 d\n");
+    assert_eq!((ended.status, ended.out.as_str()), (1, "applied\n"), "{ended:?}");
+    assert!(ended.errors.contains("line 2 ended with status 1: put 3 d"), "{ended:?}");
+    assert_eq!(world.prints(&["scan", "0..9"]), "1=d\n2=c\n");
+    let ended = world.run_lines(&[], "put 1 'd\n");
+    assert_eq!(ended.status, 2, "{ended:?}");
+    assert!(ended.errors.contains("a quote is not closed"), "{ended:?}");
+    let ended = world.run_lines(&[], "hold 0 9 -- sh -c 'exit 7'\nput 1 e\n");
+    assert_eq!((ended.status, ended.out.as_str()), (7, ""), "{ended:?}");
+}
+
+#[test]
+fn an_output_that_nobody_reads_ends_it_quietly() {
+    let world = World::new("pipe");
+    for key in 0..9 {
+        world.prints(&["insert", &key.to_string(), "a"]);
+    }
+    let mut program = world.command(&[]).stdin(Stdio::piped()).spawn().unwrap();
+    drop(program.stdout.take());
+    let input = program.stdin.take().unwrap();
+    std::io::Write::write_all(&mut &input, b"scan ..\nscan ..\n").unwrap();
+    drop(input);
+    let mut errors = String::new();
+    program.stderr.take().unwrap().read_to_string(&mut errors).unwrap();
+    assert_eq!(program.wait().unwrap().code(), Some(141));
+    assert!(!errors.contains("output") && !errors.contains("panicked"), "{errors}");
+}
