@@ -65,11 +65,12 @@ CannotBegin entries r = (e : IndexRefused) × Refuses entries e × (r ≡ refuse
 abbrev pub CannotOpen : Durable → Refused → Type 0
 CannotOpen d r = (r ≡ refused.OutOfMemory) ⊎ ((r ≡ refused.Spent) × (server.can_start d ≡ false))
 
--- why no world begins with what survived when values were numbers: it can't be migrated, or there is no epoch for the
--- start; or memory was not there
+-- why no world begins with what survived when values were numbers: it can't be migrated; or else there is no epoch for
+-- the start; or memory was not there
 abbrev pub CannotMigrate : DurableV1 → Refused → Type 0
 CannotMigrate d r =
-    ((e : NotMigrated) × migrations.CannotMigrate d e × (r ≡ refused_by_migration e)) ⊎ CannotOpen (migrated d) r
+    ((e : NotMigrated) × migrations.CannotMigrate d e × (r ≡ refused_by_migration e))
+    ⊎ ((missing_order d.register ≡ []) × CannotOpen (migrated d) r)
 
 -- Refusals, apart from memory: the first reason in the written order
 
