@@ -6,9 +6,11 @@
  * A handle serves one call at a time, on any thread. Where several threads use it, each call sees what the one before
  * did: a mutex does that, or the start or the end of a thread. Two threads may use two handles at once. No call waits.
  *
- * No pointer may be null but one to no bytes, rows or records. Any other number may be anything: each call tests
- * what it is given and says by its code what was wrong. A call whose code is neither KRL_DONE nor KRL_UNSAID has
- * changed nothing.
+ * No pointer may be null but one to no bytes, rows or records. The rooms that a call writes overlap neither the handle
+ * nor another argument. Any other number may be anything: each call tests what it is given and says by its code what was
+ * wrong. A call whose code is neither KRL_DONE nor KRL_UNSAID has changed nothing.
+ *
+ * No call takes more than 32,000 bytes of stack.
  */
 #ifndef KRL_H
 #define KRL_H
@@ -28,8 +30,8 @@ extern "C" {
 
 /* Starts a client of this number in a closed handle, and says Hello. The number is from 0 to 63, and the incarnation
  * from 1 to KRL_END: greater than in any earlier start of that number. The host keeps it on its disk before it sends
- * anything. Refused by KRL_OPEN_ALREADY, KRL_BAD_CLIENT, KRL_SPENT (an incarnation above KRL_END),
- * KRL_OUT_OF_MEMORY. */
+ * anything. Refused, in this order, by KRL_OPEN_ALREADY, KRL_BAD_CLIENT, KRL_BAD_INCARNATION (0), KRL_SPENT (above
+ * KRL_END), KRL_OUT_OF_MEMORY. */
 krl_reply krl_client_open(krl_handle *handle, uint64_t number, uint64_t incarnation);
 
 /* Gives the client the bytes of one message. One that is not meant for it is passed over. Refused by
@@ -89,8 +91,9 @@ krl_reply krl_client_leave(krl_handle *handle);
 
 /* Starts a server in a closed handle on what was kept: the epoch (0 at first), the entries in any order, and the
  * records in order of first registration. The detail is the new epoch, one more, which has to be kept before
- * anything is sent. Refused by KRL_OPEN_ALREADY, KRL_SPENT (an epoch of KRL_END or more), KRL_BAD_VALUE,
- * KRL_BAD_RECORD, KRL_FULL, KRL_BAD_KEY, KRL_TWICE, KRL_OUT_OF_MEMORY. */
+ * anything is sent. Refused, in this order, by KRL_OPEN_ALREADY, KRL_SPENT (an epoch of KRL_END or more),
+ * KRL_BAD_VALUE, KRL_BAD_RECORD, KRL_FULL, and the first entry that has a key of KRL_END or more, by KRL_BAD_KEY, or
+ * one that stands before, by KRL_TWICE; and by KRL_OUT_OF_MEMORY at any point. */
 krl_reply krl_server_open(krl_handle *handle, uint64_t epoch, const krl_row *entries, size_t entries_length,
                           const krl_record *records, size_t records_length);
 
@@ -127,6 +130,11 @@ krl_reply krl_server_waited_for(krl_handle *handle, uint64_t client, uint64_t *c
 /* At how many slots a client holds a mode other than N: the detail. It takes time in proportion to the slots at which
  * anybody holds or waits. */
 krl_reply krl_server_held(krl_handle *handle, uint64_t client);
+
+/* What a client holds on the first slot, from the point `from` on, at which its mode is not N. A caller that begins at 0
+ * and goes on at `hi` each time sees all that the client holds. It takes time in proportion to the slots from `from` on,
+ * as far as that one, at which anybody holds or waits. */
+krl_held_slot krl_server_next_held(krl_handle *handle, uint64_t client, uint64_t from);
 
 /* Either. */
 

@@ -88,7 +88,9 @@ enum krl_code {
     /* A write is not answered yet, or the span contains its key. */
     KRL_WRITING = 27,
     /* The client has eight pins. */
-    KRL_TOO_MANY_PINS = 28
+    KRL_TOO_MANY_PINS = 28,
+    /* An incarnation of 0, which no server hears. */
+    KRL_BAD_INCARNATION = 29
 };
 
 /* What is wrong with bytes that are no message: the first fault from the left. */
@@ -314,5 +316,17 @@ typedef struct krl_waiting {
     /* 1 where it waits. */
     uint32_t waits;
 } krl_waiting;
+
+/* What a client holds at a slot of a server. But where the code is KRL_DONE and it holds something all else is 0. */
+typedef struct krl_held_slot {
+    krl_reply reply;
+    /* The slot's points, from `lo` on below `hi`. The last one, `hi` - 1, is its entry, or KRL_END. */
+    uint64_t lo;
+    uint64_t hi;
+    /* A `krl_mode` other than KRL_N. */
+    uint32_t mode;
+    /* 1 where it holds something. */
+    uint32_t holds;
+} krl_held_slot;
 
 #endif

@@ -1,6 +1,6 @@
 -- What opening a client or a server does.
 use Rattle.std.specs.Prelude.{◌≡◌, ◌≤◌, ◌<◌, ℕ, suc, List, [], ◌∷◌, length, map, Option, Some, None, nat_eq, true}
-use Rattle.std.specs.Prelude.{if◌then◌else◌}
+use Rattle.std.specs.Prelude.{if◌then◌else◌, ◌==◌, nat_lt, unwrap_or}
 use Rattle.std.specs.List.{AllByRecursion, IsDistinct}
 use Rattle.std.specs.Map.{keys_of}
 use Rattle.krl_modes.specs.declared.point.TheConstants.{END}
@@ -13,12 +13,9 @@ use Rattle.krl_durable.specs.Registers.{Durable}
 use Rattle.krl_durable.specs.InitialEntries.{of_parts, Refuses, AreGood}
 use Rattle.krl_durable.specs.Writes.{most_entries}
 use Rattle.krl_client.specs.Clients.{begun}
-use Rattle.krl_client.specs.Commands.{start_refusal}
 use Rattle.krl_client.specs.Ticks.{says_hello}
 use Rattle.krl_client.specs.Fields.{Fields}
 use Rattle.krl_client.specs.Fields as clients
-use Rattle.krl_client.specs.declared.refused.StartRefused.{StartRefused}
-use Rattle.krl_client.specs.declared.refused.StartRefused.TheVariants as due
 use Rattle.krl_server.specs.declared.state.State.{State}
 use Rattle.krl_server.specs.StateMeaning as servers
 use Rattle.krl_server.specs.Steps.{start}
@@ -47,17 +44,18 @@ IsBegun number incarnation e =
     IsBegunRole number incarnation e.role
     × (e.outgoing ≡ said_frames (says_hello (begun number incarnation) ∷ []))
 
--- why none starts: what is due, or memory
-abbrev pub why : Option StartRefused → Code
-why None = code.OutOfMemory
-why (Some due.BadClient) = code.BadClient
-why (Some due.Spent) = code.Spent
+-- why no client starts, apart from memory: the first of these
+abbrev pub client_refusal : ℕ → ℕ → Option Code
+client_refusal number incarnation =
+    if nat_lt 63 number then Some code.BadClient
+    else (if incarnation == 0 then Some code.BadIncarnation
+    else (if nat_lt END incarnation then Some code.Spent else None))
 
 -- a closed handle is open afterwards exactly where the code is Done
 abbrev pub BeginsClosed : ℕ → ℕ → Option Endpoint → Reply → Type 0
-BeginsClosed number incarnation None r = IsCode (why (start_refusal number incarnation)) r
+BeginsClosed number incarnation None r = IsCode (unwrap_or (client_refusal number incarnation) code.OutOfMemory) r
 BeginsClosed number incarnation (Some e) r =
-    IsCode code.Done r × (start_refusal number incarnation ≡ None) × IsBegun number incarnation e
+    IsCode code.Done r × (client_refusal number incarnation ≡ None) × IsBegun number incarnation e
 
 abbrev pub Begins : ℕ → ℕ → Option Endpoint → Option Endpoint → Reply → Type 0
 Begins number incarnation None after r = BeginsClosed number incarnation after r
@@ -93,14 +91,30 @@ RefusesRecordsAs records i _ = ⊥
 abbrev pub RefusesRecords : List RecordRow → Reply → Type 0
 RefusesRecords records r = RefusesRecordsAs records r.detail (code_of r)
 
--- why none starts
+-- there is an epoch for the start, and each value fits
+abbrev pub HasValues : ℕ → List Row → Type 0
+HasValues epoch entries = (epoch < END) × AllByRecursion HasValue entries
+
+-- besides, each record is a client's, and no client has two
+pub record HasParts (epoch : ℕ) (entries : List Row) (records : List RecordRow) : Type 0 where
+  pub below : epoch < END
+  pub values : AllByRecursion HasValue entries
+  pub each : AllByRecursion (λ r. is_record r ≡ true) records
+  pub once : IsDistinct nat_eq (keys_of (map record_of records))
+
+-- no index begins with the entries, of which nothing else is wrong
+abbrev pub RefusesEntries : ℕ → List Row → List RecordRow → ℕ → Refused → Type 0
+RefusesEntries epoch entries records i why =
+    HasParts epoch entries records × Refuses (map entry_of entries) why × (i ≡ 0)
+
+-- why none starts: the first reason in the order of these lines, or memory
 abbrev pub RefusesParts : ℕ → List Row → List RecordRow → ℕ → Option Code → Type 0
 RefusesParts epoch entries records i (Some code.Spent) = (END ≤ epoch) × (i ≡ 0)
-RefusesParts epoch entries records i (Some code.BadValue) = IsTooLong entries i
-RefusesParts epoch entries records i (Some code.BadRecord) = IsFirstBad records i
-RefusesParts epoch entries records i (Some code.Full) = Refuses (map entry_of entries) refused.Full × (i ≡ 0)
-RefusesParts epoch entries records i (Some code.BadKey) = Refuses (map entry_of entries) refused.BadKey × (i ≡ 0)
-RefusesParts epoch entries records i (Some code.Twice) = Refuses (map entry_of entries) refused.Twice × (i ≡ 0)
+RefusesParts epoch entries records i (Some code.BadValue) = (epoch < END) × IsTooLong entries i
+RefusesParts epoch entries records i (Some code.BadRecord) = HasValues epoch entries × IsFirstBad records i
+RefusesParts epoch entries records i (Some code.Full) = RefusesEntries epoch entries records i refused.Full
+RefusesParts epoch entries records i (Some code.BadKey) = RefusesEntries epoch entries records i refused.BadKey
+RefusesParts epoch entries records i (Some code.Twice) = RefusesEntries epoch entries records i refused.Twice
 RefusesParts epoch entries records i (Some code.OutOfMemory) = i ≡ 0
 RefusesParts epoch entries records i _ = ⊥
 
@@ -109,10 +123,7 @@ RefusesOpening epoch entries records r = RefusesParts epoch entries records r.de
 
 -- nothing is wrong with what was kept
 pub record MayOpen (epoch : ℕ) (entries : List Row) (records : List RecordRow) : Type 0 where
-  pub below : epoch < END
-  pub values : AllByRecursion HasValue entries
-  pub each : AllByRecursion (λ r. is_record r ≡ true) records
-  pub once : IsDistinct nat_eq (keys_of (map record_of records))
+  pub parts : HasParts epoch entries records
   pub few : length (map entry_of entries) ≤ most_entries
   pub keys : AreGood (map entry_of entries) (length (map entry_of entries))
 

@@ -10,7 +10,8 @@ all_codes =
     code.Done ∷ code.Unsaid ∷ code.OutOfMemory ∷ code.Closed ∷ code.OpenAlready ∷ code.NoClient ∷ code.NoServer
     ∷ code.Gone ∷ code.BadMessage ∷ code.TooShort ∷ code.Miss ∷ code.Pending ∷ code.Alarm ∷ code.BadClient ∷ code.Spent
     ∷ code.BadRecord ∷ code.BadValue ∷ code.BadKey ∷ code.Twice ∷ code.Full ∷ code.BadMode ∷ code.BadPoint
-    ∷ code.BadSpan ∷ code.NotJoined ∷ code.Busy ∷ code.NotHeld ∷ code.Pinned ∷ code.Writing ∷ code.TooManyPins ∷ []
+    ∷ code.BadSpan ∷ code.NotJoined ∷ code.Busy ∷ code.NotHeld ∷ code.Pinned ∷ code.Writing ∷ code.TooManyPins
+    ∷ code.BadIncarnation ∷ []
 
 -- the code of a number, where it is one's
 unfoldable pub code_at : ℕ → Option Code

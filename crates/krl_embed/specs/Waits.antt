@@ -1,15 +1,18 @@
--- Who waits at a server, for whom, and how much clients hold, as C sees it.
-use Rattle.std.specs.Prelude.{◌≡◌, ◌≤◌, ◌<◌, ℕ, List, Option, Some, None}
+-- Who waits at a server, for whom, and what clients hold, as C sees it.
+use Rattle.std.specs.Prelude.{◌≡◌, ◌⊎◌, ◌≤◌, ◌<◌, ℕ, List, Option, Some, None}
 use Rattle.krl_queue.specs.declared.waiter.Waiter.{Waiter}
+use Rattle.krl_messages.specs.declared.holding.Holding.{Holding}
 use Rattle.krl_table.specs.Holds.{HoldsAt}
 use Rattle.krl_wire.specs.Spelling.{mode_tag}
 use Rattle.krl_server.specs.declared.state.State.{State}
 use Rattle.krl_server.specs.StateMeaning.{meaning}
-use Rattle.krl_server.specs.Waits.{waiter_of, waited_for}
+use Rattle.krl_server.specs.Servers.{Server}
+use Rattle.krl_server.specs.Waits.{waiter_of, waited_for, HoldsNoMore, IsNextHolding}
 use Rattle.krl_embed.specs.declared.code.Code.{Code}
 use Rattle.krl_embed.specs.declared.code.Code.TheVariants as code
 use Rattle.krl_embed.specs.declared.reply.Reply.{Reply}
 use Rattle.krl_embed.specs.declared.server_shows.Waiting.{Waiting}
+use Rattle.krl_embed.specs.declared.server_shows.HeldSlot.{HeldSlot}
 use Rattle.krl_embed.specs.Replies.{code_of}
 use Rattle.krl_embed.specs.Endpoints.{IsCode, IsUntold}
 use Rattle.krl_embed.specs.Shown.{Copies}
@@ -42,3 +45,22 @@ pub record IsHolding (s : State) (c : ℕ) (r : Reply) : Type 0 where
 
 abbrev pub TellsHeld : ℕ → State → Reply → Type 0
 TellsHeld c s r = OfNumber IsCode c (IsHolding s c) r
+
+-- this is a slot's span, and the client's mode there
+abbrev pub ShowsHolding : Holding → HeldSlot → Type 0
+ShowsHolding h r = (r.holds ≡ 1) × (r.lo ≡ h.span.lo) × (r.hi ≡ h.span.hi) × (r.mode ≡ mode_tag h.mode)
+
+abbrev pub ShowsNoHolding : HeldSlot → Type 0
+ShowsNoHolding r = (r.holds ≡ 0) × (r.lo ≡ 0) × (r.hi ≡ 0) × (r.mode ≡ 0)
+
+abbrev pub IsNoHolding : Code → HeldSlot → Type 0
+IsNoHolding c r = IsCode c r.reply × ShowsNoHolding r
+
+-- what the client holds first from this point on; or none, where it holds no more
+abbrev pub ShowsNext : Server → ℕ → ℕ → HeldSlot → Type 0
+ShowsNext s c from r =
+    ((h : Holding) × IsNextHolding s c from h × ShowsHolding h r) ⊎ (HoldsNoMore s c from × ShowsNoHolding r)
+
+abbrev pub TellsNext : ℕ → ℕ → State → HeldSlot → Type 0
+TellsNext c from s r =
+    OfNumber IsNoHolding c (λ r. IsCode code.Done r.reply × ShowsNext (meaning s) c from r) r

@@ -1,8 +1,8 @@
 //! Exports on clients.
-ghost use Rattle.std.specs.Prelude.{◌≡◌, Some, None, OnOk, IfOk, IfErr};
-ghost use Rattle.krl_client.specs.Commands.{start_refusal};
+ghost use Rattle.std.specs.Prelude.{◌≡◌, Some, None, OnOk, IfOk, IfErr, unwrap_or};
 ghost use Rattle.krl_client.specs.Fields.{meaning};
 ghost use Rattle.krl_embed.specs.Opening as opening;
+ghost use Rattle.krl_embed.specs.declared.code.Code.TheVariants as code;
 ghost use Rattle.krl_embed.specs.Shown as shown;
 ghost use Rattle.krl_messages.specs.declared.write_op.WriteOp.TheVariants as op;
 ghost use Rattle.krl_embed.specs.Clients as calls;
@@ -21,12 +21,21 @@ use krl_client::{Client, StartRefused};
 use krl_messages::{Value, WriteOp};
 use std::alloc::Global;
 
-// A client that starts, and its Hello.
+/// Clients are numbered below this.
+const CLIENTS: u64 = 64;
+
+// A client that starts, and its Hello. The library's own start takes an incarnation of 0, of which
+// no server hears anything.
 fn start(alloc: Global, number: u64, incarnation: u64) -> Result<Endpoint, Code>
-    ensures none_due { OnOk result (start_refusal number incarnation ≡ None) }
+    ensures none_due { OnOk result (opening.client_refusal number incarnation ≡ None) }
     ensures begun { IfOk result (opening.IsBegun number incarnation) }
-    ensures why { IfErr result (λ code. code ≡ opening.why (start_refusal number incarnation)) }
+    ensures why { IfErr result
+        (λ refused. refused
+        ≡ unwrap_or (opening.client_refusal number incarnation) code.OutOfMemory) }
 {
+    if number < CLIENTS && incarnation == 0 {
+        return Err(Code::BadIncarnation);
+    }
     let (client, hello) = match Client::start(alloc, number, incarnation) {
         Ok(started) => started,
         Err(StartRefused::BadClient) => return Err(Code::BadClient),

@@ -65,6 +65,8 @@ pub enum Code {
     Writing,
     /// The client has eight pins.
     TooManyPins,
+    /// An incarnation of 0, which is nobody's.
+    BadIncarnation,
 }
 
 impl From<AllocError> for Code {

@@ -16,7 +16,7 @@ use crate::records::RecordRow;
 use crate::reply::Reply;
 use crate::rows::Row;
 use crate::server_calls::{self, Recorded, ServerState, Stepped};
-use crate::server_shows::{self, Waiting};
+use crate::server_shows::{self, HeldSlot, Waiting};
 use std::alloc::Global;
 
 /// Starts a server on what was kept, in a closed handle. The detail is its epoch.
@@ -183,4 +183,25 @@ pub extern "C" fn krl_server_held(alloc: Global, handle: &mut Handle, client: u6
     let reply = server_shows::held_slots(&endpoint, client);
     put(handle, endpoint);
     reply
+}
+
+/// What a client holds on the first slot from a point on where its mode is not N.
+#[unsafe(no_mangle)]
+pub extern "C" fn krl_server_next_held(
+    alloc: Global,
+    handle: &mut Handle,
+    client: u64,
+    from: u64,
+) -> HeldSlot
+    ensures unchanged { handle.new.owned.value ≡ handle.old.owned.value }
+    ensures answer { Shows waits.IsNoHolding
+        (OfServer waits.IsNoHolding (waits.TellsNext client from))
+        handle.old.owned.value result }
+{
+    let Some(endpoint) = take(alloc, handle) else {
+        return HeldSlot::blank(Code::Closed);
+    };
+    let held = server_shows::next_held(&endpoint, client, from);
+    put(handle, endpoint);
+    held
 }

@@ -1,4 +1,4 @@
-//! Who waits at a server, for whom, and how much clients hold, as C sees it.
+//! Who waits at a server, for whom, and what clients hold, as C sees it.
 ghost use Rattle.krl_embed.specs.declared.code.Code.TheVariants as code;
 ghost use Rattle.krl_embed.specs.Endpoints.{IsCode, IsUntold, OfServer};
 ghost use Rattle.krl_embed.specs.Waits as waits;
@@ -8,6 +8,7 @@ use crate::code::Code;
 use crate::endpoint::{Endpoint, Role};
 use crate::reply::Reply;
 use crate::server_calls::copy_clients;
+use krl_messages::Holding;
 use krl_queue::Waiter;
 use krl_server::Server;
 
@@ -59,6 +60,45 @@ impl Waiting {
     }
 }
 
+/// What a client holds at a slot of a server.
+#[repr(C)]
+#[derive(Clone, Copy)]
+pub struct HeldSlot {
+    reply: Reply,
+    lo: u64,
+    hi: u64,
+    mode: u32,
+    holds: u32,
+}
+
+impl HeldSlot {
+    /// It holds nothing, by this code.
+    pub(crate) fn blank(code: Code) -> HeldSlot
+        ensures { waits.IsNoHolding code result }
+    {
+        HeldSlot {
+            reply: Reply::of(code),
+            lo: 0,
+            hi: 0,
+            mode: 0,
+            holds: 0,
+        }
+    }
+
+    fn of(holding: &Holding) -> HeldSlot
+        ensures code { IsCode code.Done result.reply }
+        ensures holding { waits.ShowsHolding holding.now result }
+    {
+        HeldSlot {
+            reply: Reply::of(Code::Done),
+            lo: holding.span.lo(),
+            hi: holding.span.hi(),
+            mode: holding.mode as u32,
+            holds: 1,
+        }
+    }
+}
+
 /// How the client waits at the server.
 pub(crate) fn waiter(endpoint: &Endpoint, client: u64) -> Waiting
     ensures { OfServer IsNoWait (waits.TellsWait client) endpoint.now.role result }
@@ -98,5 +138,27 @@ pub(crate) fn held_slots(endpoint: &Endpoint, client: u64) -> Reply
         Role::Server(_) if client >= CLIENTS => Reply::of(Code::BadClient),
         Role::Server(server) => Reply::with(Code::Done, server.held_slots(client)),
         Role::Client(_) | Role::Left(_) => Reply::of(Code::NoServer),
+    }
+}
+
+fn next_of(server: &Server, client: u64, from: u64) -> HeldSlot
+    ensures { waits.TellsNext client from server.now result }
+{
+    if client >= CLIENTS {
+        return HeldSlot::blank(Code::BadClient);
+    }
+    match server.next_holding(client, from) {
+        Some(holding) => HeldSlot::of(&holding),
+        None => HeldSlot::blank(Code::Done),
+    }
+}
+
+/// What the client holds on the first slot from this point on where its mode is not N.
+pub(crate) fn next_held(endpoint: &Endpoint, client: u64, from: u64) -> HeldSlot
+    ensures { OfServer waits.IsNoHolding (waits.TellsNext client from) endpoint.now.role result }
+{
+    match &endpoint.role {
+        Role::Server(server) => next_of(server, client, from),
+        Role::Client(_) | Role::Left(_) => HeldSlot::blank(Code::NoServer),
     }
 }

@@ -1,17 +1,24 @@
 -- A server may go to another thread.
 use denote.Struct.Declared.{shape}
-use denote.Param.Send.{IsSend, struct_send, recorded_send, view_send, array_send, sendable}
+use denote.Param.Send.{IsSend, struct_send, recorded_send, view_send, sendable}
 use Rattle.std.proofs.Crossing.{Vec-send}
 use Rattle.krl_messages.proofs.Crosses.{push_body_sent}
 use Rattle.krl_durable.proofs.Crosses.{durable_sent}
 use Rattle.krl_table.proofs.Crosses.{table_sent}
 use Rattle.krl_server.specs.contracts.session.Session as session
+use Rattle.krl_server.specs.contracts.sessions.Sessions as sessions
 use Rattle.krl_server.specs.contracts.missing.Missing as missing
 use Rattle.krl_server.specs.contracts.state.State as state
 use Rattle.krl_server.specs.contracts.server.Server as server
 
 session_sent : IsSend session.the_row
 session_sent = let a = push_body_sent in search sendable depth 24 fits 4000
+
+sessions_inside : IsSend sessions.TheInside.the_row
+sessions_inside = let a = session_sent in search (sendable, Vec-send) depth 24 fits 4000
+
+sessions_sent : IsSend (sessions.the_field).row
+sessions_sent = view_send _ _ _ _ _ sessions_inside
 
 missing_inside : IsSend missing.TheInside.the_row
 missing_inside = search (sendable, Vec-send) depth 24 fits 4000
@@ -21,7 +28,7 @@ missing_sent = view_send _ _ _ _ _ missing_inside
 
 state_sent : IsSend (state.the_field).row
 state_sent =
-    struct_send (shape state.the_type) (durable_sent, (table_sent, (array_send _ 64 session_sent, (missing_sent, tt))))
+    struct_send (shape state.the_type) (durable_sent, (table_sent, (sessions_sent, (missing_sent, tt))))
 
 server_inside : IsSend server.TheInside.the_row
 server_inside = recorded_send _ _ (server.TheInside.the_type).to (server.TheInside.the_type).to_one

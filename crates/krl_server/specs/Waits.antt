@@ -1,10 +1,13 @@
--- Who waits for whom: what an operator sees of a server.
-use Rattle.std.specs.Prelude.{ℕ, zero, suc, Bool, false, not, ◌||◌, List, [], ◌∷◌, Option, None, Some, if◌then◌else◌}
+-- Who waits for whom, and who holds what: what an operator sees of a server.
+use Rattle.std.specs.Prelude.{◌≡◌, ℕ, zero, suc, Bool, false, not, ◌||◌, List, [], ◌∷◌, Option, None, Some, if◌then◌else◌}
 use Rattle.krl_queue.specs.declared.waiter.Waiter.{Waiter}
 use Rattle.krl_queue.specs.Waiting.{goes_before}
 use Rattle.krl_durable.specs.Index.{slot_of}
 use Rattle.krl_table.specs.Rows as table
 use Rattle.krl_table.specs.Rows.{most_clients}
+use Rattle.krl_table.specs.Holds.{AreHeld, IsNextHeld}
+use Rattle.krl_messages.specs.declared.holding.Holding.{Holding}
+use Rattle.krl_server.specs.Effects.{holding}
 use Rattle.krl_server.specs.Servers.{Server}
 use Rattle.krl_server.specs.Callbacks.{is_compatible}
 
@@ -33,3 +36,11 @@ waited_from s c d (suc k) = if waits_for s c d then d ∷ waited_from s c (suc d
 -- the clients that c waits for, in ascending order
 abbrev pub waited_for : Server → ℕ → List ℕ
 waited_for s c = waited_from s c 0 most_clients
+
+-- the client holds this on the first slot from this point on where its mode is not N
+abbrev pub IsNextHolding : Server → ℕ → ℕ → Holding → Type 0
+IsNextHolding s c from h = (n : ℕ) × IsNextHeld s.rows c from n × (h ≡ holding s n c)
+
+-- it holds no other mode than N from this point on
+abbrev pub HoldsNoMore : Server → ℕ → ℕ → Type 0
+HoldsNoMore s c from = AreHeld s.rows c from []

@@ -17,7 +17,6 @@ ghost use Rattle.krl_server.specs.Effects.{lowers};
 ghost use Rattle.krl_server.specs.Effects.{queues, writes, answers};
 
 use crate::out::Outbox;
-use crate::session::Session;
 use crate::state::State;
 use krl_messages::{Outcome, Pieces, PushBody, WriteOp};
 use krl_modes::{Mode, Point, Span};
@@ -43,7 +42,7 @@ impl State {
     {
         self.durable.register(client, incarnation)?;
         self.table.clear(client);
-        self.sessions[client as usize] = Session::blank();
+        self.sessions.clear(client);
         self.missing.remove(client);
         Ok(())
     }

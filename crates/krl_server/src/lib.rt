@@ -13,6 +13,7 @@ mod out;
 mod phase;
 mod server;
 mod session;
+mod sessions;
 mod shown;
 mod start_refused;
 mod state;

@@ -1,29 +1,29 @@
 //! The server, as a host runs it.
-ghost use Rattle.std.specs.Prelude.{◌≡◌, ◌<◌, ◌≤◌, ℕ, false, [], length, MatchResult, IfOk, OnErr};
+ghost use Rattle.std.specs.Prelude.{◌≡◌, ◌<◌, ◌≤◌, ℕ, false, [], length, MatchOption, MatchResult, IfOk, OnErr};
 ghost use Rattle.krl_durable.specs.Registers.{missing_order};
 ghost use Rattle.krl_durable.specs.Changes.{IsChange};
 ghost use Rattle.krl_table.specs.Rows.{blank_row};
 ghost use Rattle.krl_table.specs.Kept.{rows_of, IsOver};
-ghost use Rattle.krl_server.specs.Servers.{is_recovering, phase_of};
+ghost use Rattle.krl_server.specs.Servers.{blank_session, is_recovering, phase_of};
 ghost use Rattle.krl_server.specs.Answering.{Answered};
 ghost use Rattle.krl_server.specs.Steps.{nudge, crash};
 ghost use Rattle.krl_server.specs.Termination.{most_messages};
-ghost use Rattle.krl_server.specs.StateMeaning.{meaning};
+ghost use Rattle.krl_server.specs.StateMeaning.{meaning, sessions_of};
 ghost use Rattle.krl_server.specs.CodeSteps.{IsStarted, IsNotStarted, HasStepped, IsServer};
 ghost use Rattle.krl_server.specs.Outputs.{may_change_durable, HasCallbacks, AnswersWrite};
 ghost use Rattle.krl_server.specs.Outputs.{PushesStand};
-ghost use Rattle.krl_server.specs.Waits.{waiter_of, waited_for};
+ghost use Rattle.krl_server.specs.Waits.{waiter_of, waited_for, HoldsNoMore, IsNextHolding};
 ghost use Rattle.krl_table.specs.Holds.{HoldsAt};
 
 use crate::missing::Missing;
 use crate::out::ServerOut;
 use crate::phase::Phase;
-use crate::session::blank_sessions;
+use crate::sessions::Sessions;
 use crate::start_refused::{NotStarted, StartRefused};
 use crate::state::State;
 use arrayvec::ArrayVec;
 use krl_durable::Durable;
-use krl_messages::{Items, ToClient, ToServer};
+use krl_messages::{Holding, Items, ToClient, ToServer};
 use krl_modes::END;
 use krl_queue::Waiter;
 use krl_table::Table;
@@ -62,15 +62,18 @@ impl Model for Server {
 }
 
 // What a start takes memory for.
-fn table_and_missing(alloc: Global, durable: &Durable) -> Result<(Table, Missing), AllocError>
+fn parts_of(alloc: Global, durable: &Durable) -> Result<(Table, Sessions, Missing), AllocError>
     ensures rows { IfOk result (λ parts. (n : ℕ) → rows_of parts.0 n ≡ blank_row) }
     ensures slots { IfOk result (λ parts. IsOver durable.now.index parts.0) }
-    ensures missing { IfOk result (λ parts. parts.1 ≡ missing_order durable.now.register) }
+    ensures full { IfOk result (λ parts. length parts.1 ≡ 64) }
+    ensures blank { IfOk result (λ parts. (c : ℕ) → sessions_of parts.1 c ≡ blank_session) }
+    ensures missing { IfOk result (λ parts. parts.2 ≡ missing_order durable.now.register) }
 {
     let _kept = durable.epoch();
     let clients = durable.missing_order(alloc)?;
+    let sessions = Sessions::blank(alloc)?;
     let table = Table::new(alloc)?;
-    Ok((table, Missing::new(clients)))
+    Ok((table, sessions, Missing::new(clients)))
 }
 
 impl Server {
@@ -91,15 +94,15 @@ impl Server {
                 durable,
             });
         }
-        match table_and_missing(alloc, &durable) {
-            Ok((table, missing)) => {
+        match parts_of(alloc, &durable) {
+            Ok((table, sessions, missing)) => {
                 let mut durable = durable;
                 durable.next_epoch();
                 Ok(Server {
                     state: State {
                         durable,
                         table,
-                        sessions: blank_sessions(),
+                        sessions,
                         missing,
                     },
                 })
@@ -236,5 +239,18 @@ impl Server {
         ensures { HoldsAt (meaning self.now).rows client result }
     {
         self.state.table.held_slots(client)
+    }
+
+    /// What the client holds on the first slot from this point on where its mode is not N: the
+    /// slot's span, the mode, and the entry's value where the mode reads it. None where there is no
+    /// such slot. So a caller that begins at 0, and goes on at the span's end each time, sees all
+    /// that the client holds. It looks at the rows that the table keeps from the point on as far as
+    /// that slot, and takes no memory.
+    pub fn next_holding(&self, client: u64, from: u64) -> Option<Holding>
+        requires { client < 64 }
+        ensures { MatchOption result (HoldsNoMore (meaning self.now) client from)
+            (IsNextHolding (meaning self.now) client from) }
+    {
+        self.state.next_holding(client, from)
     }
 }

@@ -1,7 +1,6 @@
 //! A client's session: the numbers between the server and it.
-ghost use Rattle.std.specs.Prelude.{◌≡◌, ℕ, length};
+ghost use Rattle.std.specs.Prelude.{◌≡◌};
 ghost use Rattle.krl_server.specs.Servers.{blank_session};
-ghost use Rattle.krl_server.specs.StateMeaning.{sessions_of};
 ghost use Rattle.krl_server.specs.Answering.{can_push};
 
 use krl_messages::PushBody;
@@ -38,12 +37,4 @@ impl Session {
     {
         self.unacked.is_none() && self.last_push < END
     }
-}
-
-/// A blank session for each client.
-pub(crate) fn blank_sessions() -> [Session; 64]
-    ensures full { length result ≡ 64 }
-    ensures blank { (c : ℕ) → sessions_of result c ≡ blank_session }
-{
-    [Session::blank(); 64]
 }

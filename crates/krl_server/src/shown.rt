@@ -1,11 +1,13 @@
-//! Who waits for whom.
-ghost use Rattle.std.specs.Prelude.{◌≡◌, ◌<◌, not};
+//! Who waits for whom, and who holds what.
+ghost use Rattle.std.specs.Prelude.{◌≡◌, ◌<◌, not, MatchOption};
 ghost use Rattle.krl_server.specs.Callbacks.{is_compatible};
 ghost use Rattle.krl_server.specs.StateMeaning.{meaning, IsFormed};
 ghost use Rattle.krl_server.specs.Waits.{waiter_of, is_in_the_way, waits_for, waited_for};
+ghost use Rattle.krl_server.specs.Waits.{HoldsNoMore, IsNextHolding};
 
 use crate::state::State;
 use arrayvec::ArrayVec;
+use krl_messages::Holding;
 use krl_queue::Waiter;
 
 impl State {
@@ -72,5 +74,18 @@ impl State {
             }
         }
         others
+    }
+
+    /// What the client holds on the first slot from this point on where its mode is not N.
+    pub(crate) fn next_holding(&self, client: u64, from: u64) -> Option<Holding>
+        requires formed { IsFormed self.now }
+        requires client { client < 64 }
+        ensures { MatchOption result (HoldsNoMore (meaning self.now) client from)
+            (IsNextHolding (meaning self.now) client from) }
+    {
+        match self.table.next_held(client, from) {
+            Some(slot) => Some(self.holding(slot, client)),
+            None => None,
+        }
     }
 }

@@ -13,6 +13,7 @@ ghost use Rattle.krl_server.specs.Effects.{acknowledged, holding, holdings, push
 use crate::missing::Missing;
 use crate::out::Outbox;
 use crate::session::Session;
+use crate::sessions::Sessions;
 use krl_durable::Durable;
 use krl_messages::{Holding, Holdings, PushBody, ToClient, ToClientBody, Value};
 use krl_modes::{END, KeyPart, Mode, Point, Span};
@@ -26,7 +27,7 @@ pub struct State {
     /// Who holds which mode on which slot, and who waits there.
     pub(crate) table: Table,
     /// What was pushed and asked, by client.
-    pub(crate) sessions: [Session; 64],
+    pub(crate) sessions: Sessions,
     /// Who is missing.
     pub(crate) missing: Missing,
 }
@@ -48,7 +49,7 @@ impl State {
         requires client { client < 64 }
         ensures { result.now ≡ sessions_of self.now.sessions client }
     {
-        &self.sessions[client as usize]
+        self.sessions.of(client)
     }
 
     /// The client's registered incarnation, or 0.
@@ -94,7 +95,7 @@ impl State {
         ensures { as_list result
             ≡ pushed_again (meaning self.now) client ((meaning self.now).sessions client).unacked }
     {
-        let session = self.sessions.get(client as usize)?;
+        let session = self.sessions.find(client)?;
         let body = session.unacked.as_ref()?;
         Some(self.push_to(client, session.last_push, body))
     }
@@ -155,7 +156,7 @@ impl State {
         ensures rest { self.new ≡ record self.old { sessions = self.new.sessions } }
         ensures formed { IsFormed self.new }
     {
-        self.sessions[client as usize].unacked = None;
+        self.sessions.acknowledge(client);
     }
 
     /// The client's last push counts as acknowledged, and its request of this number is the last
@@ -169,9 +170,7 @@ impl State {
               { unacked = None; last_request = req });
         } }
     {
-        let session = &mut self.sessions[client as usize];
-        session.unacked = None;
-        session.last_request = req;
+        self.sessions.note_request(client, req);
     }
 
     /// Sends the client its next push. Where its number is spent nothing is sent.
@@ -191,8 +190,6 @@ impl State {
         }
         let number = last_push + 1;
         outbox.send(self.push_to(client, number, body));
-        let session = &mut self.sessions[client as usize];
-        session.last_push = number;
-        session.unacked = Some(*body);
+        self.sessions.note_push(client, number, body);
     }
 }

@@ -66,4 +66,5 @@ codes! {
     Pinned = 26, "the range meets a pin";
     Writing = 27, "a write is not answered yet";
     TooManyPins = 28, "the client has eight pins";
+    BadIncarnation = 29, "a client's incarnation is 0";
 }

@@ -1,5 +1,5 @@
 -- A server that starts, and one that has taken a step.
-use Rattle.krl_server.proofs.Names.{replicate, Session, ◌≡◌, ℕ, zero, suc, ◌≤◌, ◌<◌, List, length, refl, sym, ap, subst, ◌∙◌, fun_ext, lt-ltb, END, ToServer, ToClient, Durable, missing_order, IsKept}
+use Rattle.krl_server.proofs.Names.{Session, ◌≡◌, ℕ, zero, suc, ◌≤◌, ◌<◌, List, [], ◌∷◌, ◌++◌, length, refl, sym, ap, subst, ◌∙◌, fun_ext, lt-ltb, END, ToServer, ToClient, Durable, missing_order, IsKept}
 use Rattle.krl_server.proofs.Names.{blank_row, rows_of, IsOver, State, ServerOut, Server, blank_session, meaning, sessions_of, IsFormed, ServerStep, start, IsSettled, IsSound, Result, Ok, Err, IfOk}
 use Rattle.krl_server.proofs.Names.{OnOk, OnErr, most_messages, IsServer, IsStarted, HasStepped, IsWithin, AreRegistered}
 use Rattle.krl_server.specs.Invariant.{IsOrdered}
@@ -51,11 +51,9 @@ pub few_sent : {E : Type 0} (old new : State) (m : ToServer) (r : Result ServerO
 few_sent old new m (Ok out) i stepped = all_end.few (meaning old) (meaning new) m out.messages i.sound i.ordered.table stepped.step
 few_sent old new m (Err e) i stepped = tt
 
--- a blank session for each client
-blank_all : (n c : ℕ) → sessions_of (replicate n blank_session) c ≡ blank_session
-blank_all zero c = refl
-blank_all (suc n) zero = refl
-blank_all (suc n) (suc c) = blank_all n c
-
-pub blank_each : (n : ℕ) (x : Session) → x ≡ blank_session → (c : ℕ) → sessions_of (replicate n x) c ≡ blank_session
-blank_each n x e c = subst (λ y. sessions_of (replicate n y) c ≡ blank_session) (sym e) (blank_all n c)
+-- one blank session more
+pub blank_push : (xs : List Session) (x : Session) → x ≡ blank_session → ((c : ℕ) → sessions_of xs c ≡ blank_session) → (c : ℕ) → sessions_of (xs ++ x ∷ []) c ≡ blank_session
+blank_push [] x e h zero = e
+blank_push [] x e h (suc c) = refl
+blank_push (y ∷ ys) x e h zero = h zero
+blank_push (y ∷ ys) x e h (suc c) = blank_push ys x e (λ d. h (suc d)) c

@@ -1,10 +1,10 @@
 //! What a client holds, and whom it waits behind.
-ghost use Rattle.std.specs.Prelude.{◌≡◌, ◌≢◌, ◌<◌, ℕ, true, false, None};
+ghost use Rattle.std.specs.Prelude.{◌≡◌, ◌≢◌, ◌<◌, ℕ, true, false, [], None, MatchOption};
 ghost use Rattle.std.specs.FinMap as map;
 ghost use Rattle.krl_modes.specs.declared.point.TheConstants.{END};
 ghost use Rattle.krl_modes.specs.declared.mode.Mode.TheVariants as mode;
 ghost use Rattle.krl_queue.specs.Waiting.{goes_before};
-ghost use Rattle.krl_table.specs.Holds.{HoldsAt};
+ghost use Rattle.krl_table.specs.Holds.{AreHeld, HoldsAt, IsNextHeld};
 ghost use Rattle.krl_table.specs.Kept.{rows_of};
 ghost use Rattle.krl_table.specs.Rows.{mode_at};
 
@@ -32,6 +32,16 @@ impl Table {
     {
         count_held(&self.rows, client)
     }
+
+    /// The first slot from this point on at which the client holds a mode other than N. It looks at
+    /// the rows that are kept from there on as far as that slot, with two searches for each.
+    pub fn next_held(&self, client: u64, from: u64) -> Option<u64>
+        requires { client < 64 }
+        ensures { MatchOption result (AreHeld (rows_of self.now) client from [])
+            (IsNextHeld (rows_of self.now) client from) }
+    {
+        next_held(&self.rows, client, from)
+    }
 }
 
 // Whether the client holds a mode other than N on the slot.
@@ -44,6 +54,23 @@ fn holds(rows: &Store<SlotRow>, slot: u64, client: u64) -> bool
         Some(row) => row.mode(client) != Mode::N,
         None => false,
     }
+}
+
+// The first slot from this point on at which it does.
+fn next_held(rows: &Store<SlotRow>, client: u64, from: u64) -> Option<u64>
+    requires near { (n : ℕ) → END < n → map.get rows.now.map n ≡ None }
+    requires client { client < 64 }
+    ensures { MatchOption result (AreHeld (rows_of rows.now.map) client from [])
+        (IsNextHeld (rows_of rows.now.map) client from) }
+{
+    let mut at = from;
+    while let Some(slot) = rows.next(at) {
+        if holds(rows, slot, client) {
+            return Some(slot);
+        }
+        at = slot + 1;
+    }
+    None
 }
 
 // At how many slots it does.

@@ -1,12 +1,11 @@
-use Rattle.krl_server.proofs.Names.{◌+◌, ◌<◌, Some, length, set, ap, subst, ◌∙◌, arith, get_or, get_or_default, END, Session, blank_session, sessions_of, meaning}
+use Rattle.krl_server.proofs.Names.{◌+◌, ◌<◌, Some, length, set, ap, subst, ◌∙◌, arith, END, Session, sessions_of, meaning}
 use Rattle.krl_server.proofs.Functions.StateChanges.{pushed_means}
 use Rattle.krl_server.proofs.state.State.push.Goals as goal
 
 pub returns-clause-server : goal.returns-clause-server
 returns-clause-server c =
     let st = c.args.self.now in let own = c.args.client in
-    let d = c.index-self-client.result in
     let lt : own < length st.sessions = omega (arith, c.requires.client, c.requires.formed.full) in
-    ap (λ n. meaning (record st { sessions = set st.sessions own (record { last_push = n + 1; unacked = Some c.args.body.now; last_request = (get_or st.sessions own d).last_request }) })) (ap (λ (x : Session). x.last_push) c.session.ensures)
-    ∙ ap (λ n. meaning (record st { sessions = set st.sessions own (record { last_push = (sessions_of st.sessions own).last_push + 1; unacked = Some c.args.body.now; last_request = n }) })) (ap (λ (x : Session). x.last_request) (get_or_default st.sessions own d blank_session lt))
+    ap (λ l. meaning (record st { sessions = l })) c.note_push.ensures
+    ∙ ap (λ n. meaning (record st { sessions = set st.sessions own (record (sessions_of st.sessions own) { last_push = n + 1; unacked = Some c.args.body.now }) })) (ap (λ (x : Session). x.last_push) c.session.ensures)
     ∙ pushed_means st own c.args.body.now lt (subst (λ (x : Session). x.last_push < END) c.session.ensures c.if-last_push-ge-END.false)
