@@ -1,0 +1,4 @@
+pub mod Rounds
+pub mod Laws
+pub mod Answers
+pub mod Writes

@@ -1,0 +1,15 @@
+-- An outstanding write.
+use Rattle.std.specs.Prelude.{◌≡◌, ℕ, ◌<◌, true, Some, length}
+use Rattle.krl_modes.specs.declared.point.TheConstants.{END}
+use Rattle.krl_messages.specs.declared.write_op.WriteOp.{WriteOp}
+use Rattle.krl_client.specs.Clients.{Client, outstanding}
+use Rattle.krl_world.specs.States.{State, client_of, is_serving}
+use Rattle.krl_world.specs.Steps.{IsReachable}
+use Rattle.krl_progress.specs.Rounds.{Rounds}
+
+-- a client whose write is outstanding accepts a further push within n good rounds, whatever was lost before them
+abbrev pub WritesMoveOnIn : ℕ → Type 0
+WritesMoveOnIn n =
+    (w v : State) (c : ℕ) (k l : Client) (op : WriteOp) → IsReachable w → is_serving w.server ≡ true →
+    client_of w c ≡ Some k → outstanding k.written ≡ Some op → k.seen < END → Rounds n (length w.sent) w v →
+    client_of v c ≡ Some l → k.seen < l.seen

@@ -1,0 +1,40 @@
+//! What becomes of every world in good rounds: each function's contract is a law, and its body is
+//! empty.
+ghost use Rattle.krl_progress.specs.Laws.{RecoveryEndsIn, RoundsCanBeMade};
+ghost use Rattle.krl_progress.specs.Writes.{WritesMoveOnIn};
+ghost use Rattle.krl_progress.specs.Answers.{AnswersAtOnce, GivesWay, CallbackFrees};
+
+/// After any past: where the server runs, and each client whose report is missing runs, the server
+/// serves after five good rounds.
+pub fn recovery_ends()
+    ensures { RecoveryEndsIn 5 }
+{}
+
+/// A first waiter that can be answered once a message has been judged is answered in that very
+/// step.
+pub fn answers_at_once()
+    ensures { AnswersAtOnce }
+{}
+
+/// When the last client that blocks a first waiter gives way, the waiter is answered in that very
+/// step.
+pub fn gives_way()
+    ensures { GivesWay }
+{}
+
+/// In every reachable world: a callback to the last client that blocks a first waiter, and the
+/// Release that answers it, bring the waiter its Grant or Absent.
+pub fn callback_frees()
+    ensures { CallbackFrees }
+{}
+
+/// After any past: a client whose write is outstanding accepts a further push within three good
+/// rounds.
+pub fn writes_move_on()
+    ensures { WritesMoveOnIn 3 }
+{}
+
+/// From each reachable world good rounds can be made, as many as you like.
+pub fn rounds_can_be_made()
+    ensures { RoundsCanBeMade }
+{}
