@@ -3,6 +3,7 @@
 //! ```text
 //! krl_drive kill FOLDER ROUNDS [sqlite|unsynced] [direct|lossy]   kills servers and clients
 //! krl_drive strangers                                             connects what is no client
+//! krl_drive reports                                               reports in the worst orders
 //! krl_drive strings COUNT CHANGED                                 hands strings to both decoders
 //! krl_drive bench FOLDER                                          takes measurements
 //! ```
@@ -14,6 +15,7 @@ mod ffi;
 mod history;
 mod kill;
 mod log;
+mod long_reports;
 mod lossy;
 mod nodes;
 mod strangers;
@@ -54,6 +56,7 @@ fn run(words: &[&str]) -> Found {
             kill::run(Path::new(folder), rounds.parse()?, store, net)
         }
         ["strangers"] => strangers::run(),
+        ["reports"] => long_reports::run(),
         ["strings", count, changed] => strings::run(count.parse()?, changed.parse()?),
         ["bench", folder] => bench::run(Path::new(folder)),
         // The processes that `kill` starts.
