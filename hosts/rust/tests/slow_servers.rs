@@ -10,7 +10,7 @@ use std::thread;
 use std::time::{Duration, Instant};
 
 /// How much later than its deadline a call may come back on a busy machine.
-const LATE: Duration = Duration::from_millis(300);
+const LATE: Duration = Duration::from_millis(800);
 
 fn lock_file(name: &str) -> PathBuf {
     std::env::temp_dir().join(format!("krl-slow-{}-{name}.lock", std::process::id()))
