@@ -1,5 +1,0 @@
-use Rattle.krl_durable.proofs.SlotLaws.{near_end}
-use Rattle.krl_server.proofs.server.table_and_missing.Goals as goal
-
-pub returns-clause-slots : goal.returns-clause-slots
-returns-clause-slots c = c.in_ok-table.ensures.slots c.args.durable.now.index (near_end c.args.durable.now.index c.epoch-kept.ensures.kept.keys)
