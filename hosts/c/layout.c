@@ -45,3 +45,8 @@ AT(krl_waiting, point, 24);
 AT(krl_waiting, hi, 32);
 AT(krl_waiting, mode, 40);
 AT(krl_waiting, waits, 44);
+SIZE(krl_held_slot, 40);
+AT(krl_held_slot, lo, 16);
+AT(krl_held_slot, hi, 24);
+AT(krl_held_slot, mode, 32);
+AT(krl_held_slot, holds, 36);

@@ -2,6 +2,7 @@
 use crate::change::Snapshot;
 use crate::event_log::{self, Seldom};
 use crate::frames::{Frames, LONGEST_TO_SERVER};
+use crate::locks::{Page, Search};
 use crate::routing::Routes;
 use crate::store::StoreError;
 use crate::stream::{Address, Listener, Stream};
@@ -43,6 +44,8 @@ pub(crate) enum Event {
     Deaf(io::Error),
     /// Somebody asks for all that the store has.
     Snapshot(SyncSender<Result<Snapshot, StoreError>>),
+    /// Somebody asks who holds what.
+    Locks(Search, SyncSender<Page>),
     /// The server is to end.
     Stop,
 }

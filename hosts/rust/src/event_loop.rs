@@ -6,6 +6,7 @@ use crate::event_log::{self, EventLog};
 use crate::frames;
 use crate::handle::ServerHandle;
 use crate::held_back::HeldBack;
+use crate::locks::{HeldSlot, Page, Search};
 use crate::message::{Kind, client_of, incarnation_of, kind_of};
 use crate::routing::{Sender, sender};
 use crate::server::ServeError;
@@ -24,6 +25,9 @@ const MAX_AT_ONCE: usize = 256;
 /// How often a client that seems stuck is told again what it may have missed, and the server is
 /// asked who waits for whom.
 const NUDGE: Duration = Duration::from_millis(50);
+
+/// How long a turn looks up who holds what, if somebody asks.
+const LOOKS: Duration = Duration::from_millis(10);
 
 /// How long a server that ends waits until what it sent is written.
 const LAST_WRITES: Duration = Duration::from_millis(500);
@@ -95,7 +99,7 @@ impl<S: Store> EventLoop<S> {
     /// Takes what waits, judges it all, commits what it changed, and only then sends. It answers
     /// whether to go on.
     fn turn(&mut self) -> Result<bool, ServeError> {
-        let (mut changes, mut ended) = (Vec::new(), None);
+        let (mut changes, mut ended, mut looks_end) = (Vec::new(), None, None);
         let events = self.take_what_waits();
         let began = Instant::now();
         for event in events {
@@ -109,6 +113,10 @@ impl<S: Store> EventLoop<S> {
                 Event::Snapshot(reply) => {
                     // Who asks and goes away gets no answer.
                     let _ = reply.send(self.store.load());
+                }
+                Event::Locks(search, reply) => {
+                    let end = *looks_end.get_or_insert_with(|| Instant::now() + LOOKS);
+                    let _ = reply.send(self.look_up(search, end));
                 }
                 Event::Stop => ended = Some(Ok(false)),
             }
@@ -195,11 +203,31 @@ impl<S: Store> EventLoop<S> {
         self.look();
     }
 
+    /// Who holds and who waits: a page of what is searched.
+    fn look_up(&mut self, mut search: Search, end: Instant) -> Page {
+        self.look_at_waits(Instant::now());
+        let held =
+            search.page(|client, from| self.next_held(client, from), || Instant::now() >= end);
+        Page { held, waits: self.status.waits.clone(), rest: search }
+    }
+
+    /// A client that has not registered, or has left, holds nothing: the table is not searched.
+    fn next_held(&mut self, client: u8, from: u64) -> Option<HeldSlot> {
+        match self.server.record(client) {
+            Ok(Some(record)) if !record.left => self.server.next_held(client, from),
+            _ => None,
+        }
+    }
+
+    fn look_at_waits(&mut self, now: Instant) {
+        if let Ok(waiting) = self.server.waiting() {
+            self.status.waits = self.watch.waits(waiting, now);
+        }
+    }
+
     /// Sees who waits for whom, and how much one client holds, the next in its turn.
     fn look(&mut self) {
-        if let Ok(waiting) = self.server.waiting() {
-            self.status.waits = self.watch.waits(waiting, self.nudged);
-        }
+        self.look_at_waits(self.nudged);
         let client = self.watch.next_counted();
         if let Ok(slots) = self.server.held(client) {
             self.watch.counted(client, slots);

@@ -90,6 +90,16 @@ pub struct RawWaiting {
     pub waits: u32,
 }
 
+#[repr(C)]
+#[derive(Clone, Copy, Debug)]
+pub struct RawHeldSlot {
+    pub reply: Reply,
+    pub lo: u64,
+    pub hi: u64,
+    pub mode: u32,
+    pub holds: u32,
+}
+
 unsafe extern "C" {
     pub fn krl_client_open(handle: *mut Handle, number: u64, incarnation: u64) -> Reply;
     pub fn krl_client_step(handle: *mut Handle, bytes: *const u8, length: usize) -> Reply;
@@ -138,6 +148,7 @@ unsafe extern "C" {
         room: usize,
     ) -> Reply;
     pub fn krl_server_held(handle: *mut Handle, client: u64) -> Reply;
+    pub fn krl_server_next_held(handle: *mut Handle, client: u64, from: u64) -> RawHeldSlot;
 
     pub fn krl_take(handle: *mut Handle, bytes: *mut u8, room: usize) -> Reply;
     pub fn krl_close(handle: *mut Handle);
@@ -173,5 +184,8 @@ mod tests {
         assert_eq!([size_of::<RawWaiting>(), offset_of!(RawWaiting, request)], [48, 16]);
         assert_eq!([offset_of!(RawWaiting, point), offset_of!(RawWaiting, hi)], [24, 32]);
         assert_eq!([offset_of!(RawWaiting, mode), offset_of!(RawWaiting, waits)], [40, 44]);
+        assert_eq!([size_of::<RawHeldSlot>(), offset_of!(RawHeldSlot, lo)], [40, 16]);
+        assert_eq!([offset_of!(RawHeldSlot, hi), offset_of!(RawHeldSlot, mode)], [24, 32]);
+        assert_eq!(offset_of!(RawHeldSlot, holds), 36);
     }
 }

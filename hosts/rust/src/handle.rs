@@ -2,8 +2,9 @@
 use crate::change::{Change, Outcome, Record, Snapshot, Write};
 use crate::code::Code;
 use crate::ffi;
+use crate::locks::HeldSlot;
 use crate::row::Row;
-use crate::watch::{CLIENTS, Waiting};
+use crate::watch::{CLIENTS, Waiting, mode_name};
 use std::ops::Range;
 use std::ptr;
 
@@ -309,9 +310,9 @@ impl ServerHandle {
         if raw.waits == 0 {
             return Ok(None);
         }
-        let ffi::RawWaiting { request, point, mode, .. } = raw;
+        let ffi::RawWaiting { request, point, hi, mode, .. } = raw;
         let waits_for = self.waited_for(client)?;
-        Ok(Some(Waiting { client, request, point, mode, waits_for }))
+        Ok(Some(Waiting { client, request, point, hi, mode, waits_for }))
     }
 
     fn waited_for(&mut self, client: u8) -> Result<Vec<u8>, Code> {
@@ -326,6 +327,14 @@ impl ServerHandle {
     pub fn held(&mut self, client: u8) -> Result<u64, Code> {
         // SAFETY: the handle stays in its place, and `&mut` gives it to this call alone.
         done(unsafe { ffi::krl_server_held(self.0.raw(), client.into()) })
+    }
+
+    /// The first slot that ends behind this point and of which the client holds something.
+    pub fn next_held(&mut self, client: u8, from: u64) -> Option<HeldSlot> {
+        // SAFETY: the handle stays in its place, and `&mut` gives it to this call alone.
+        let raw = unsafe { ffi::krl_server_next_held(self.0.raw(), client.into(), from) };
+        let ffi::RawHeldSlot { lo, hi, mode, holds, .. } = raw;
+        (holds != 0).then(|| HeldSlot { lo, hi, client, mode: mode_name(mode) })
     }
 
     pub fn take(&mut self, frames: &mut Vec<u8>) -> Result<(), Code> {

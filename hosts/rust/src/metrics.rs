@@ -183,6 +183,7 @@ mod tests {
         let wait = Wait {
             client: 3,
             point: 10,
+            hi: 20,
             mode: "RangeX-X",
             waited: Duration::from_millis(40),
             waits_for: vec![0, 2],

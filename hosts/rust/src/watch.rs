@@ -9,8 +9,10 @@ pub(crate) const CLIENTS: u8 = 64;
 pub struct Wait {
     /// The client.
     pub client: u8,
-    /// The point at which it asks for a lock.
+    /// It asks for a lock from this point on, and waits at the slot of this one.
     pub point: u64,
+    /// It asks for the points below this one.
+    pub hi: u64,
     /// The name of the mode that it asks for.
     pub mode: &'static str,
     /// For how long it was seen to wait.
@@ -40,6 +42,7 @@ pub(crate) struct Waiting {
     pub client: u8,
     pub request: u64,
     pub point: u64,
+    pub hi: u64,
     pub mode: u32,
     pub waits_for: Vec<u8>,
 }
@@ -100,10 +103,15 @@ impl Watch {
 }
 
 fn wait(waiting: Waiting, since: Instant, now: Instant) -> Wait {
-    let Waiting { client, point, mode, waits_for, .. } = waiting;
+    let Waiting { client, point, hi, mode, waits_for, .. } = waiting;
+    let (mode, waited) = (mode_name(mode), now.saturating_duration_since(since));
+    Wait { client, point, hi, mode, waited, waits_for }
+}
+
+/// The name of a mode by its number in `krl.h`.
+pub(crate) fn mode_name(mode: u32) -> &'static str {
     let place = usize::try_from(mode).ok();
-    let mode = place.and_then(|place| MODES.get(place)).copied().unwrap_or("unknown");
-    Wait { client, point, mode, waited: now.saturating_duration_since(since), waits_for }
+    place.and_then(|place| MODES.get(place)).copied().unwrap_or("unknown")
 }
 
 #[cfg(test)]
@@ -111,7 +119,7 @@ mod tests {
     use super::*;
 
     fn waiting(client: u8, request: u64) -> Waiting {
-        Waiting { client, request, point: 5, mode: 6, waits_for: vec![0] }
+        Waiting { client, request, point: 5, hi: 9, mode: 6, waits_for: vec![0] }
     }
 
     #[test]
@@ -123,6 +131,7 @@ mod tests {
         let expected = Wait {
             client: 1,
             point: 5,
+            hi: 9,
             mode: "RangeI-N",
             waited: later - start,
             waits_for: vec![0],

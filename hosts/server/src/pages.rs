@@ -132,6 +132,7 @@ fn as_json(status: &Status) -> Page {
         json!({
             "client": wait.client,
             "point": wait.point,
+            "hi": wait.hi,
             "mode": wait.mode,
             "waited_seconds": wait.waited.as_secs_f64(),
             "waits_for": wait.waits_for,
@@ -245,6 +246,7 @@ mod tests {
         let wait = Wait {
             client: 3,
             point: 10,
+            hi: 20,
             mode: "RangeX-X",
             waited: Duration::from_millis(40),
             waits_for: vec![0, 2],

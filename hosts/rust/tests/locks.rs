@@ -1,0 +1,146 @@
+//! Who holds what, as a monitor is told while the server runs.
+use krl::{Client, END, HeldSlot, Listener, Locks, LocksError, MemoryStore, Outcome, Server};
+use krl::{Snapshot, Value};
+use std::path::PathBuf;
+use std::sync::atomic::{AtomicBool, Ordering};
+use std::thread;
+use std::time::{Duration, Instant};
+
+/// A server over a table, and a folder that is gone when the test is.
+struct World {
+    server: Server,
+    folder: PathBuf,
+}
+
+impl World {
+    fn new(name: &str, keys: impl Iterator<Item = u64>) -> World {
+        let folder = std::env::temp_dir().join(format!("krl-locks-{}-{name}", std::process::id()));
+        std::fs::create_dir_all(&folder).unwrap();
+        let listener = Listener::bind(&"127.0.0.1:0".parse().unwrap()).unwrap();
+        let rows = keys.map(|key| (key, Value::from(key))).collect();
+        let store = MemoryStore { snapshot: Snapshot { rows, ..Snapshot::default() } };
+        World { server: Server::start(listener, store).unwrap(), folder }
+    }
+
+    fn join(&self, number: u8) -> Client {
+        let lock_file = self.folder.join(format!("client-{number}.lock"));
+        Client::join(self.server.address().clone(), number, lock_file).unwrap()
+    }
+
+    fn locks(&self, points: std::ops::Range<u64>, most: usize) -> Locks {
+        self.server.monitor().locks(points, most).unwrap()
+    }
+}
+
+impl Drop for World {
+    fn drop(&mut self) {
+        let _ = std::fs::remove_dir_all(&self.folder);
+    }
+}
+
+fn slot(lo: u64, hi: u64, client: u8, mode: &'static str) -> HeldSlot {
+    HeldSlot { lo, hi, client, mode }
+}
+
+#[test]
+fn two_hold_and_one_waits() {
+    let world = World::new("waits", [10, 20, 30].into_iter());
+    let (first, second, third) = (world.join(1), world.join(2), world.join(3));
+    assert_eq!(world.locks(0..END + 1, 100).held, []);
+    let (_, pin) = first.pin_for_read(0..21).unwrap();
+    second.read(15..).unwrap();
+    let expected = [
+        slot(0, 11, 1, "RangeS-S"),
+        slot(11, 21, 1, "RangeS-S"),
+        slot(11, 21, 2, "RangeS-S"),
+        slot(21, 31, 2, "RangeS-S"),
+        slot(31, END + 1, 2, "RangeS-S"),
+    ];
+    let locks = world.locks(0..END + 1, 100);
+    assert_eq!((locks.held.as_slice(), locks.next), (expected.as_slice(), None));
+    assert!(locks.is_of_one_moment && locks.waits.is_empty());
+    assert_eq!(world.locks(20..21, 100).held, expected[1..3]);
+    assert_eq!(world.locks(11..22, 100).held, expected[1..4]);
+    assert_eq!(world.locks(END..END + 1, 100).held, expected[4..]);
+    assert_eq!(world.locks(END + 1..END + 1, 100).held, []);
+    thread::scope(|scope| {
+        let put = scope.spawn(|| third.put(10, Value::from(7)));
+        let end = Instant::now() + Duration::from_secs(10);
+        let waits = loop {
+            let Locks { waits, .. } = world.locks(0..END + 1, 100);
+            match waits.first() {
+                Some(wait) if wait.waits_for == [1] => break waits,
+                _ => assert!(Instant::now() < end, "client 3 does not wait for 1: {waits:?}"),
+            }
+        };
+        let wait = &waits[0];
+        assert_eq!((waits.len(), wait.client, wait.point, wait.hi), (1, 3, 10, 11));
+        assert_eq!(world.locks(10..11, 100).waits.len(), 1);
+        assert_eq!(world.locks(11..END, 100).waits, []);
+        drop(pin);
+        assert_eq!(put.join().unwrap(), Ok(Outcome::Applied));
+    });
+    let held = world.locks(0..11, 100).held;
+    assert!(held.iter().any(|it| it.client == 3 && it.hi == 11), "{held:?}");
+}
+
+#[test]
+fn what_is_no_range_is_refused() {
+    let world = World::new("refused", 0..3);
+    let monitor = world.server.monitor();
+    let (above, below) = (6, 5);
+    assert_eq!(monitor.locks(above..below, 100), Err(LocksError::BadRange));
+    assert_eq!(monitor.locks(0..END + 2, 100), Err(LocksError::BadRange));
+    assert_eq!(monitor.locks(.., 100).map(|it| it.held), Ok(Vec::new()));
+}
+
+#[test]
+fn a_server_that_has_ended_tells_nothing() {
+    let listener = Listener::bind(&"127.0.0.1:0".parse().unwrap()).unwrap();
+    let server = Server::start(listener, MemoryStore::default()).unwrap();
+    let monitor = server.monitor();
+    server.stop().unwrap();
+    assert_eq!(monitor.locks(.., 100), Err(LocksError::Ended));
+}
+
+/// Has a client read again and again from the server, and says how long each read took.
+fn read_times(client: &Client, ends: &AtomicBool) -> Vec<Duration> {
+    let mut times = Vec::new();
+    while !ends.load(Ordering::Relaxed) {
+        client.forget(7..8).unwrap();
+        let began = Instant::now();
+        client.read(7..8).unwrap();
+        times.push(began.elapsed());
+    }
+    times.sort_unstable();
+    times
+}
+
+#[test]
+fn a_full_table_comes_in_pages_between_the_turns() {
+    const ROWS: u64 = 65_536;
+    let world = World::new("full", 0..ROWS);
+    let (holder, other) = (world.join(1), world.join(2));
+    holder.set_timeout(Duration::from_secs(120));
+    assert_eq!(holder.read(..).map(|rows| rows.len() as u64), Ok(ROWS));
+    let ends = AtomicBool::new(false);
+    let (locks, times) = thread::scope(|scope| {
+        let reads = scope.spawn(|| read_times(&other, &ends));
+        let locks: Vec<_> = (0..10).map(|_| world.locks(0..END + 1, 100_000)).collect();
+        ends.store(true, Ordering::Relaxed);
+        (locks, reads.join().unwrap())
+    });
+    let expected: Vec<_> = (0..ROWS)
+        .map(|key| slot(key, key + 1, 1, "RangeS-S"))
+        .chain([slot(ROWS, END + 1, 1, "RangeS-S")])
+        .collect();
+    for Locks { held, next, is_of_one_moment, .. } in locks {
+        assert_eq!((next, is_of_one_moment), (None, false));
+        assert!(held.into_iter().filter(|it| it.client == 1).eq(expected.iter().copied()));
+    }
+    // A machine that is busy with something else may hold up one in twenty.
+    let time = times[times.len() * 19 / 20];
+    assert!(time < Duration::from_millis(100), "{} reads, one in twenty {time:?}", times.len());
+    let cut = world.locks(0..END + 1, 1000);
+    assert_eq!((cut.held.len(), cut.next), (1000, Some(999)));
+}
