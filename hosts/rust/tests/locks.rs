@@ -121,7 +121,7 @@ fn a_full_table_comes_in_pages_between_the_turns() {
     const ROWS: u64 = 65_536;
     let world = World::new("full", 0..ROWS);
     let (holder, other) = (world.join(1), world.join(2));
-    holder.set_timeout(Duration::from_secs(120));
+    holder.set_timeout(Duration::from_secs(600));
     assert_eq!(holder.read(..).map(|rows| rows.len() as u64), Ok(ROWS));
     let ends = AtomicBool::new(false);
     let (locks, times) = thread::scope(|scope| {

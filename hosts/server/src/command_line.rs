@@ -1,5 +1,5 @@
 //! The words of the command line.
-use clap::{Args, Parser, Subcommand};
+use clap::{Args, Parser, Subcommand, ValueEnum};
 use std::path::PathBuf;
 
 /// A key-range lock server over an SQLite file.
@@ -35,6 +35,7 @@ Examples:
   krl-server serve --listen 10.0.0.5:7400 --store /var/lib/krl/krl.db --log-format json
   krl-server serve --config /etc/krl/krl.toml
   krl-server status
+  krl-server locks 10 20
   krl-server backup 127.0.0.1:7401 /var/lib/krl/monday.db
   krl-server check /var/lib/krl/monday.db
   krl-server evict 127.0.0.1:7400 3 client-3.lock";
@@ -54,6 +55,13 @@ pub enum Command {
         #[arg(long)]
         json: bool,
     },
+    /// Print who holds which slots of a range, in which mode, and who waits there
+    #[command(long_about = "\
+Print who holds which slots of a range, in which mode, and who waits there.
+
+A slot is the key of a row and the gap below it; the last slot has the gap behind all rows. Without
+a range the whole table is meant.")]
+    Locks(LocksOptions),
     /// End a client for good whose process is dead
     #[command(long_about = "\
 End a client for good whose process is dead.
@@ -82,6 +90,32 @@ answer from its cache what is no longer so.")]
         /// The store. It is only read, and no server may run on it
         file: PathBuf,
     },
+}
+
+/// Whose locks are printed, and how.
+#[derive(Args, Debug)]
+pub struct LocksOptions {
+    /// The first point of the range
+    #[arg(requires = "hi")]
+    pub lo: Option<u64>,
+    /// One past the last point of the range: 9223372036854775808 at most
+    pub hi: Option<u64>,
+    /// The server's status port
+    #[arg(long, value_name = "ADDRESS", default_value = crate::settings::STATUS)]
+    pub status: String,
+    /// The most slots that are printed: 64 to 10000
+    #[arg(long, value_name = "COUNT", default_value_t = crate::locks::LIMIT)]
+    pub limit: usize,
+    /// How they are printed
+    #[arg(long, value_enum, default_value_t = Format::Text)]
+    pub format: Format,
+}
+
+/// How an answer is printed.
+#[derive(Clone, Copy, Debug, PartialEq, Eq, ValueEnum)]
+pub enum Format {
+    Text,
+    Json,
 }
 
 /// How a server runs. What is not given here comes from the environment, then from the

@@ -4,6 +4,7 @@ mod backup;
 mod check;
 mod command_line;
 mod http;
+mod locks;
 mod log;
 mod owner;
 mod pages;
@@ -41,6 +42,7 @@ fn run(command: Command, matches: &ArgMatches) -> Result<ExitCode, Box<dyn Error
         Command::Serve(options) => return Ok(serve::serve(&settings(&options, matches)?)),
         Command::Config(options) => print!("{}", settings(&options, matches)?),
         Command::Status { address, json } => print!("{}", pages::fetch(&address, json)?),
+        Command::Locks(options) => print!("{}", locks::ask(&options)?),
         Command::Evict { address, number, lock_file } => evict(&address, number, &lock_file)?,
         Command::Backup { address, file } => backup::ask(&address, &file)?,
         Command::Check { file } => return check::check(&file),

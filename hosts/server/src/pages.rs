@@ -1,6 +1,7 @@
 //! What the status port answers.
 use crate::backup::{self, Order};
 use crate::http;
+use crate::locks::{self, Question};
 use hyper::header::{ACCEPT, ALLOW, CONTENT_TYPE};
 use hyper::{Body, Method, Request, Response, StatusCode};
 use krl::{HeldSlots, Monitor, Status, Wait};
@@ -9,11 +10,11 @@ use std::error::Error;
 use std::net::IpAddr;
 use std::time::Duration;
 
-const TEXT: &str = "text/plain; charset=utf-8";
-const JSON: &str = "application/json";
+pub const TEXT: &str = "text/plain; charset=utf-8";
+pub const JSON: &str = "application/json";
 const METRICS: &str = "text/plain; version=0.0.4; charset=utf-8";
 
-const PATHS: &str = "there is /healthz, /readyz, /status, /status.json and /metrics\n";
+const PATHS: &str = "there is /healthz, /readyz, /status, /status.json, /locks and /metrics\n";
 
 /// A server whose loop has not turned for so long is not healthy.
 const MAX_TURN: Duration = Duration::from_secs(1);
@@ -62,13 +63,18 @@ pub async fn answer(request: Request<Body>, peer: IpAddr, monitor: Monitor) -> R
         ),
         (&Method::POST, backup::PATH) => order(request, monitor).await,
         (_, backup::PATH) => return refused_method("POST"),
-        (&Method::GET | &Method::HEAD, _) => {
-            let accepts = request.headers().get(ACCEPT).and_then(|value| value.to_str().ok());
-            shown(path, accepts.unwrap_or(""), &monitor)
+        (&Method::GET | &Method::HEAD, locks::PATH) => {
+            let query = request.uri().query().unwrap_or("");
+            locks_page(query, accepts(&request).contains(JSON), monitor).await
         }
+        (&Method::GET | &Method::HEAD, _) => shown(path, accepts(&request), &monitor),
         _ => return refused_method("GET, HEAD"),
     };
     response(page)
+}
+
+fn accepts(request: &Request<Body>) -> &str {
+    request.headers().get(ACCEPT).and_then(|value| value.to_str().ok()).unwrap_or("")
 }
 
 fn response(page: Page) -> Response<Body> {
@@ -127,17 +133,34 @@ fn readiness(status: &Status) -> Page {
     Page::text(StatusCode::SERVICE_UNAVAILABLE, why)
 }
 
-fn as_json(status: &Status) -> Page {
-    let waits = |wait: &Wait| {
-        json!({
-            "client": wait.client,
-            "point": wait.point,
-            "hi": wait.hi,
-            "mode": wait.mode,
-            "waited_seconds": wait.waited.as_secs_f64(),
-            "waits_for": wait.waits_for,
-        })
+/// Who holds what, as the server tells it between its turns. Other pages are served meanwhile.
+async fn locks_page(query: &str, as_json: bool, monitor: Monitor) -> Page {
+    let question = match Question::of_query(query) {
+        Ok(question) => question,
+        Err(text) => return Page::text(StatusCode::BAD_REQUEST, format!("{text}\n")),
     };
+    let (points, limit) = (question.points.clone(), question.limit);
+    let told = tokio::task::spawn_blocking(move || monitor.locks(points, limit)).await;
+    match told {
+        Ok(Ok(locks)) if as_json => Page::new(StatusCode::OK, JSON, question.as_json(&locks)),
+        Ok(Ok(locks)) => Page::text(StatusCode::OK, question.as_text(&locks)),
+        Ok(Err(error)) => Page::text(StatusCode::SERVICE_UNAVAILABLE, format!("{error}\n")),
+        Err(_) => Page::text(StatusCode::INTERNAL_SERVER_ERROR, "the question panicked\n"),
+    }
+}
+
+pub fn wait_as_json(wait: &Wait) -> serde_json::Value {
+    json!({
+        "client": wait.client,
+        "point": wait.point,
+        "hi": wait.hi,
+        "mode": wait.mode,
+        "waited_seconds": wait.waited.as_secs_f64(),
+        "waits_for": wait.waits_for,
+    })
+}
+
+fn as_json(status: &Status) -> Page {
     let holds = |held: &HeldSlots| json!({ "client": held.client, "slots": held.slots });
     let text = json!({
         "version": env!("CARGO_PKG_VERSION"),
@@ -147,7 +170,7 @@ fn as_json(status: &Status) -> Page {
         "missing": status.missing,
         "connected": status.connected,
         "connections": status.connections,
-        "waits": status.waits.iter().map(waits).collect::<Vec<_>>(),
+        "waits": status.waits.iter().map(wait_as_json).collect::<Vec<_>>(),
         "holdings": status.holdings.iter().map(holds).collect::<Vec<_>>(),
         "alarms": status.alarms,
         "alarms_total": status.alarms_raised,

@@ -1,0 +1,220 @@
+//! Who holds what: the question, its answer as text and as JSON, and the command that asks.
+use crate::command_line::{Format, LocksOptions};
+use crate::http;
+use crate::pages::{self, JSON, TEXT};
+use crate::settings::BadSetting;
+use form_urlencoded::parse;
+use hyper::StatusCode;
+use krl::{END, HeldSlot, Locks, Wait};
+use serde_json::json;
+use std::error::Error;
+use std::ops::{Range, RangeInclusive};
+use std::time::Duration;
+
+/// The path at which a status port tells it.
+pub const PATH: &str = "/locks";
+
+/// The most slots that are told if nothing else is asked for.
+pub const LIMIT: usize = 1000;
+
+/// The limits that may be asked for.
+const LIMITS: RangeInclusive<usize> = 64..=10_000;
+
+/// One past the last point.
+const TOP: u64 = END + 1;
+
+/// How long `krl-server locks` waits for an answer.
+const WAIT: Duration = Duration::from_secs(30);
+
+/// What is asked for: the slots that meet the points, and at most so many.
+#[derive(Clone, Debug, PartialEq, Eq)]
+pub struct Question {
+    pub points: Range<u64>,
+    pub limit: usize,
+}
+
+impl Question {
+    fn new(points: Range<u64>, limit: usize) -> Result<Question, String> {
+        let Range { start: lo, end: hi } = points;
+        if lo >= hi || hi > TOP {
+            return Err(format!(
+                "the range is {lo} to {hi}: it has to begin below its end, {TOP} at most"
+            ));
+        }
+        if !LIMITS.contains(&limit) {
+            let (least, most) = LIMITS.into_inner();
+            return Err(format!("the limit is {limit}: it has to be {least} to {most}"));
+        }
+        Ok(Question { points, limit })
+    }
+
+    /// The question of a request: `lo=10&hi=20&limit=100`, of which each may be left out.
+    pub fn of_query(query: &str) -> Result<Question, String> {
+        let (mut points, mut limit) = (0..TOP, LIMIT);
+        for (name, value) in parse(query.as_bytes()) {
+            match &*name {
+                "lo" => points.start = number(&name, &value)?,
+                "hi" => points.end = number(&name, &value)?,
+                "limit" => limit = number(&name, &value)?,
+                _ => return Err(format!("'{name}' is unknown: there is lo, hi and limit")),
+            }
+        }
+        Question::new(points, limit)
+    }
+
+    fn of_words(options: &LocksOptions) -> Result<Question, BadSetting> {
+        let points = options.lo.unwrap_or(0)..options.hi.unwrap_or(TOP);
+        Question::new(points, options.limit).map_err(BadSetting::new)
+    }
+
+    fn path(&self) -> String {
+        let Question { points, limit } = self;
+        format!("{PATH}?lo={}&hi={}&limit={limit}", points.start, points.end)
+    }
+
+    pub fn as_json(&self, locks: &Locks) -> String {
+        let held = |slot: &HeldSlot| {
+            let HeldSlot { lo, hi, mode, client } = slot;
+            json!({ "lo": lo, "hi": hi, "mode": mode, "client": client })
+        };
+        let text = json!({
+            "lo": self.points.start,
+            "hi": self.points.end,
+            "locks": locks.held.iter().map(held).collect::<Vec<_>>(),
+            "waits": locks.waits.iter().map(pages::wait_as_json).collect::<Vec<_>>(),
+            "next": locks.next,
+            "is_of_one_moment": locks.is_of_one_moment,
+        });
+        format!("{text:#}\n")
+    }
+
+    pub fn as_text(&self, locks: &Locks) -> String {
+        let mut lines = vec![line(["from", "below", "mode", "client"])];
+        lines.extend(locks.held.iter().map(|slot| {
+            let HeldSlot { lo, hi, mode, client } = slot;
+            line([&lo.to_string(), &hi.to_string(), mode, &client.to_string()])
+        }));
+        lines.extend(locks.waits.iter().map(waiting));
+        if !locks.is_of_one_moment {
+            lines.push("the server went on meanwhile: this is not of one moment".to_string());
+        }
+        if let Some(next) = locks.next {
+            let hi = self.points.end;
+            lines.push(format!("there are more from {next} on: ask for {next} to {hi} next"));
+        }
+        lines.join("\n") + "\n"
+    }
+}
+
+fn number<N: std::str::FromStr>(name: &str, value: &str) -> Result<N, String> {
+    value.parse().map_err(|_| format!("{name} is '{value}': it has to be a number from 0 on"))
+}
+
+fn line([lo, hi, mode, client]: [&str; 4]) -> String {
+    format!("{lo:>19} {hi:>19} {mode:<8} {client:>6}")
+}
+
+fn waiting(wait: &Wait) -> String {
+    let Wait { client, point, hi, mode, waited, waits_for } = wait;
+    let whom = match waits_for.as_slice() {
+        [] => "nobody".to_string(),
+        some => some.iter().map(u8::to_string).collect::<Vec<_>>().join(", "),
+    };
+    let ms = waited.as_millis();
+    format!("client {client} waits for {whom}: {mode} from {point} below {hi}, for {ms} ms")
+}
+
+/// Asks a status port, and answers what it says.
+pub fn ask(options: &LocksOptions) -> Result<String, Box<dyn Error>> {
+    let question = Question::of_words(options)?;
+    let address = &options.status;
+    let kind = match options.format {
+        Format::Text => TEXT,
+        Format::Json => JSON,
+    };
+    let reply = http::get(address, &question.path(), kind, WAIT)?;
+    match reply.status {
+        StatusCode::OK => Ok(reply.text),
+        StatusCode::NOT_FOUND => {
+            Err(format!("{address} is no status port that tells who holds what").into())
+        }
+        _ => Err(format!("{address} does not tell: {}", reply.text.trim_end()).into()),
+    }
+}
+
+#[cfg(test)]
+mod tests {
+    use super::*;
+
+    fn question(points: Range<u64>, limit: usize) -> Question {
+        Question { points, limit }
+    }
+
+    #[test]
+    fn queries() {
+        assert_eq!(Question::of_query(""), Ok(question(0..TOP, LIMIT)));
+        assert_eq!(Question::of_query("lo=10&hi=2%30"), Ok(question(10..20, LIMIT)));
+        assert_eq!(Question::of_query("limit=64&hi=20"), Ok(question(0..20, 64)));
+        let last = question(END..TOP, LIMIT);
+        assert_eq!(Question::of_query(&last.path()[PATH.len() + 1..]), Ok(last));
+        for (query, said) in [
+            ("lo=20&hi=20", "begin below its end"),
+            ("lo=21&hi=20", "begin below its end"),
+            ("hi=9223372036854775809", "9223372036854775808 at most"),
+            ("lo=ten", "lo is 'ten': it has to be a number"),
+            ("hi=-1", "hi is '-1'"),
+            ("hi=", "hi is ''"),
+            ("limit=63", "it has to be 64 to 10000"),
+            ("limit=10001", "it has to be 64 to 10000"),
+            ("low=1", "'low' is unknown: there is lo, hi and limit"),
+        ] {
+            let refused = Question::of_query(query).unwrap_err();
+            assert!(refused.contains(said), "{query}: {refused}");
+        }
+    }
+
+    fn locks() -> Locks {
+        let wait = Wait {
+            client: 3,
+            point: 10,
+            hi: 20,
+            mode: "RangeX-X",
+            waited: Duration::from_millis(40),
+            waits_for: vec![1, 2],
+        };
+        Locks {
+            held: vec![
+                HeldSlot { lo: 0, hi: 11, client: 1, mode: "RangeS-S" },
+                HeldSlot { lo: 11, hi: TOP, client: 2, mode: "X" },
+            ],
+            next: None,
+            waits: vec![wait],
+            is_of_one_moment: true,
+        }
+    }
+
+    #[test]
+    fn text() {
+        let question = question(0..20, 64);
+        let whole = "               from               below mode     client\n\
+                     \x20                 0                  11 RangeS-S      1\n\
+                     \x20                11 9223372036854775808 X             2\n\
+                     client 3 waits for 1, 2: RangeX-X from 10 below 20, for 40 ms\n";
+        assert_eq!(question.as_text(&locks()), whole);
+        let part = Locks { next: Some(7), is_of_one_moment: false, ..locks() };
+        let part = question.as_text(&part);
+        let notes = part.strip_prefix(whole).unwrap();
+        assert!(notes.contains("not of one moment\n"), "{notes}");
+        assert!(notes.ends_with("there are more from 7 on: ask for 7 to 20 next\n"), "{notes}");
+    }
+
+    #[test]
+    fn json() {
+        let text = question(0..20, 64).as_json(&Locks { next: Some(7), ..locks() });
+        let value: serde_json::Value = serde_json::from_str(&text).unwrap();
+        assert_eq!(value["locks"][1], json!({ "lo": 11, "hi": TOP, "mode": "X", "client": 2 }));
+        assert_eq!(value["waits"][0]["hi"], 20);
+        assert_eq!((&value["next"], &value["is_of_one_moment"]), (&json!(7), &json!(true)));
+        assert_eq!((&value["lo"], &value["hi"]), (&json!(0), &json!(20)));
+    }
+}
