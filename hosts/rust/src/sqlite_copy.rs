@@ -41,11 +41,15 @@ impl SqliteStore {
     ///
     /// # Errors
     ///
-    /// If there is a file of that name already, or if it can't be written.
+    /// If there is a file of that name already, or one that SQLite would take for a log of the new
+    /// store; or if it can't be written.
     pub fn create(path: impl AsRef<Path>, snapshot: &Snapshot) -> Result<(), StoreError> {
         let path = path.as_ref();
-        if path.symlink_metadata().is_ok() {
-            return Err(exists(path));
+        for end in ["", "-wal", "-shm", "-journal"] {
+            let taken = beside(path, end);
+            if taken.symlink_metadata().is_ok() {
+                return Err(exists(&taken));
+            }
         }
         let part = Part::new(path)?;
         write(&part.path, snapshot)?;
@@ -227,6 +231,21 @@ mod tests {
         let nowhere = folder.0.join("none").join("copy.db");
         assert!(SqliteStore::create(nowhere, &snapshot()).is_err());
         assert_eq!(folder.names(), ["copy.db"]);
+    }
+
+    #[test]
+    fn a_log_of_another_store_is_not_taken_for_that_of_a_new_one() {
+        let folder = Folder::new("log");
+        let file = folder.0.join("copy.db");
+        for end in ["-wal", "-shm", "-journal"] {
+            let log = beside(&file, end);
+            std::fs::write(&log, "of another store").unwrap();
+            let refused = SqliteStore::create(&file, &snapshot()).unwrap_err().to_string();
+            assert!(refused.contains(log.to_str().unwrap()), "{refused}");
+            assert!(!file.exists());
+            std::fs::remove_file(&log).unwrap();
+        }
+        assert!(SqliteStore::create(&file, &snapshot()).is_ok());
     }
 
     #[test]

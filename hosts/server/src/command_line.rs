@@ -38,6 +38,7 @@ Examples:
   krl-server locks 10 20
   krl-server backup 127.0.0.1:7401 /var/lib/krl/monday.db
   krl-server check /var/lib/krl/monday.db
+  krl-server restore /var/lib/krl/monday.db --store /var/lib/krl/krl.db --clients-are-stopped
   krl-server evict 127.0.0.1:7400 3 client-3.lock";
 
 #[derive(Debug, Subcommand)]
@@ -84,6 +85,24 @@ answer from its cache what is no longer so.")]
         address: String,
         /// The new file. The server makes it, with the rights of the server's process
         file: PathBuf,
+    },
+    /// Make a new store of a backup, on which a server serves at once
+    #[command(long_about = "\
+Make a new store of a backup, on which a server serves at once.
+
+What was written after the backup is lost. All clients have to be stopped before: one that still
+runs may know of writes that the backup does not have, and would go on to answer from its cache what
+is no longer so. In the new store each client counts as left, so the server waits for nobody, and
+the epoch is 4294967296 greater than in the backup, so that no client has seen it.")]
+    Restore {
+        /// The backup. It is only read, and no server may run on it
+        file: PathBuf,
+        /// The new store. A file that exists is never replaced
+        #[arg(long, value_name = "NEW")]
+        store: PathBuf,
+        /// Every client's process has ended
+        #[arg(long)]
+        clients_are_stopped: bool,
     },
     /// Say what a store holds, and whether a server can start on it
     Check {

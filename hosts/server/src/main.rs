@@ -8,6 +8,7 @@ mod locks;
 mod log;
 mod owner;
 mod pages;
+mod restore;
 mod serve;
 mod settings;
 mod status_port;
@@ -45,6 +46,9 @@ fn run(command: Command, matches: &ArgMatches) -> Result<ExitCode, Box<dyn Error
         Command::Locks(options) => print!("{}", locks::ask(&options)?),
         Command::Evict { address, number, lock_file } => evict(&address, number, &lock_file)?,
         Command::Backup { address, file } => backup::ask(&address, &file)?,
+        Command::Restore { file, store, clients_are_stopped } => {
+            restore::restore(&file, &store, clients_are_stopped)?;
+        }
         Command::Check { file } => return check::check(&file),
     }
     Ok(ExitCode::SUCCESS)

@@ -2,7 +2,7 @@
 mod common;
 
 use common::{Serving, errors, join, lock_file, program, run, text, until};
-use krl::{Address, Outcome, SqliteStore, Value};
+use krl::{Address, END, Outcome, Row, Snapshot, SqliteStore, Value};
 use std::collections::BTreeMap;
 use std::os::unix::net::UnixDatagram;
 use std::os::unix::process::ExitStatusExt;
@@ -275,6 +275,74 @@ fn a_backup_that_can_not_be_is_told() {
     assert!(!path.exists());
     assert_eq!(order("application/json", &good).0, 201);
     assert!(path.exists());
+}
+
+#[test]
+fn a_restored_backup_is_served_at_once() {
+    let folder = tempfile::tempdir().unwrap();
+    let path = |name: &str| folder.path().join(name).to_str().unwrap().to_string();
+    let [old, backup, new] = [path("old.db"), path("backup.db"), path("new.db")];
+    let serving = Serving::start(Path::new(&old));
+    let (client, other) = (serving.join(folder.path(), 3), serving.join(folder.path(), 4));
+    assert_eq!(client.insert(1, Value::from(1)), Ok(Outcome::Applied));
+    assert_eq!(other.insert(9, Value::from(9)), Ok(Outcome::Applied));
+    assert_eq!(run(&["backup", &serving.status, &backup]).status.code(), Some(0));
+    assert_eq!(client.insert(2, Value::from(2)), Ok(Outcome::Applied));
+    assert_eq!(client.put(1, Value::from(7)), Ok(Outcome::Applied));
+    let words = ["restore", &backup, "--store", &new, "--clients-are-stopped"];
+    let refused = run(&["restore", &old, "--store", &new, "--clients-are-stopped"]);
+    assert_eq!(refused.status.code(), Some(1), "a server runs on it");
+    assert!(errors(&refused).contains("is served, by process"), "{}", errors(&refused));
+    serving.signal(&["KILL"]);
+    serving.ended();
+    // They can't say Bye, as there is no server.
+    drop((client, other));
+
+    let refused = run(&words[..4]);
+    assert_eq!(refused.status.code(), Some(2));
+    assert!(errors(&refused).contains("stop every client"), "{}", errors(&refused));
+    assert!(!Path::new(&new).exists());
+    let restored = run(&words);
+    assert_eq!(restored.status.code(), Some(0), "{}", errors(&restored));
+    assert!(text(&restored).contains("2 rows, epoch 4294967297 after 1"), "{}", text(&restored));
+    let check = text(&run(&["check", &new]));
+    for line in [
+        "epoch: 4294967297",
+        "rows: 2",
+        "clients that have not left: none",
+        "clients that have left: 3, 4",
+        "a server can start on it",
+    ] {
+        assert!(check.lines().any(|it| it == line), "no {line} in {check}");
+    }
+    let again = run(&words);
+    assert_eq!(again.status.code(), Some(1));
+    assert!(errors(&again).contains("there is a file"), "{}", errors(&again));
+
+    let serving = Serving::start(Path::new(&new));
+    until("the server serves", || serving.get("/readyz") == (200, "serving\n".to_string()));
+    let client = serving.join(folder.path(), 3);
+    assert_eq!(client.epoch(), Ok(4_294_967_298));
+    let rows = [(1, 1), (9, 9)].map(|(key, value)| Row { key, value: Value::from(value) });
+    assert_eq!(client.read(..), Ok(rows.to_vec()));
+    assert_eq!(client.insert(2, Value::from(3)), Ok(Outcome::Applied));
+}
+
+#[test]
+fn a_restore_that_can_not_be_is_told() {
+    let folder = tempfile::tempdir().unwrap();
+    let path = |name: &str| folder.path().join(name).to_str().unwrap().to_string();
+    let [text, store, new] = [path("text"), path("store.db"), path("new.db")];
+    std::fs::write(&text, "no database").unwrap();
+    SqliteStore::create(&store, &Snapshot { epoch: END - 1, ..Snapshot::default() }).unwrap();
+    for (file, said) in [(&text, "can't be read as a store"), (&store, "the last one")] {
+        let output = run(&["restore", file, "--store", &new, "--clients-are-stopped"]);
+        assert_eq!(output.status.code(), Some(1));
+        assert!(errors(&output).contains(said), "{}", errors(&output));
+        assert!(!Path::new(&new).exists());
+    }
+    let output = run(&["restore", &store, "--clients-are-stopped"]);
+    assert_eq!(output.status.code(), Some(2), "no new store is named");
 }
 
 #[test]

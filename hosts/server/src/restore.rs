@@ -1,0 +1,95 @@
+//! A new store from a backup, for a server that takes up work again.
+use crate::owner;
+use crate::settings::BadSetting;
+use krl::{END, Snapshot, SqliteStore};
+use std::error::Error;
+use std::path::Path;
+
+/// How far the epoch of a restored store lies behind that of the backup: no server has started so
+/// often since the backup was made.
+const FAR: u64 = 1 << 32;
+
+/// Why it has to be said that all clients are stopped.
+const CLIENTS_LIVE: &str = "\
+    stop every client's process first, and say so by --clients-are-stopped: one that still runs \
+    may know of writes that the backup does not have, and would go on to answer from its cache \
+    what is no longer so";
+
+/// Writes the backup as a new store on which a server serves at once, and says what it has.
+pub fn restore(backup: &Path, store: &Path, are_stopped: bool) -> Result<(), Box<dyn Error>> {
+    if !are_stopped {
+        return Err(BadSetting::new(CLIENTS_LIVE.to_string()).into());
+    }
+    for path in [backup, store] {
+        if let Some(by) = owner::served_by(path) {
+            return Err(format!("the store {} is served, by {by}", path.display()).into());
+        }
+    }
+    let file = SqliteStore::read(backup)
+        .map_err(|error| format!("{} can't be read as a store: {}", backup.display(), error.0))?;
+    let before = file.snapshot.epoch;
+    let snapshot = restored(file.snapshot)?;
+    snapshot
+        .judge()
+        .map_err(|code| format!("no server can start on {}: {code}", backup.display()))?;
+    SqliteStore::create(store, &snapshot).map_err(|error| error.0.to_string())?;
+    let Snapshot { epoch, rows, records } = snapshot;
+    println!("{}: {} rows, epoch {epoch} after {before}", store.display(), rows.len());
+    println!("clients that count as left: {}", records.len());
+    Ok(())
+}
+
+/// What a server may serve in place of what was kept after the snapshot, if no client lives. Its
+/// epoch is one that no client has seen, and no client is waited for: whoever joins does so anew.
+fn restored(mut snapshot: Snapshot) -> Result<Snapshot, String> {
+    let epoch = snapshot.epoch;
+    let raised = epoch.checked_add(FAR).filter(|epoch| *epoch < END);
+    snapshot.epoch = raised.ok_or_else(|| {
+        format!("the backup has the epoch {epoch}: less than {FAR} are left to {END}, the last one")
+    })?;
+    for record in &mut snapshot.records {
+        record.left = true;
+    }
+    Ok(snapshot)
+}
+
+#[cfg(test)]
+mod tests {
+    use super::*;
+    use krl::{Outcome, Record, Value};
+
+    fn snapshot(epoch: u64) -> Snapshot {
+        let record = |client, last, left| Record { client, incarnation: 9, last, left };
+        Snapshot {
+            epoch,
+            rows: (0..5).map(|key| (key, Value::from(key))).collect(),
+            records: vec![
+                record(3, Some((4, Outcome::Applied)), false),
+                record(1, None, true),
+                record(63, None, false),
+            ],
+        }
+    }
+
+    #[test]
+    fn nobody_is_waited_for_and_the_epoch_is_far() {
+        let before = snapshot(7);
+        let after = restored(before.clone()).unwrap();
+        assert_eq!(after.epoch, 7 + (1 << 32));
+        assert_eq!(after.rows, before.rows);
+        assert!(after.records.iter().all(|record| record.left));
+        let as_before = |record: &Record| (record.client, record.incarnation, record.last);
+        assert!(after.records.iter().map(as_before).eq(before.records.iter().map(as_before)));
+        assert_eq!(after.judge(), Ok(()));
+    }
+
+    #[test]
+    fn no_epoch_passes_the_last_one() {
+        let last = restored(snapshot(END - 1 - FAR)).unwrap();
+        assert_eq!((last.epoch, last.judge()), (END - 1, Ok(())));
+        for epoch in [END - FAR, END - 1, u64::MAX] {
+            let refused = restored(snapshot(epoch)).unwrap_err();
+            assert!(refused.contains(&epoch.to_string()), "{refused}");
+        }
+    }
+}
