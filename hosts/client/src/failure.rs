@@ -77,6 +77,7 @@ impl From<Refused> for Failure {
                  this command needs (its status page says who waits for whom)"
                     .into(),
             ),
+            Refused::Unserved(why) => Failure::NoAnswer(why.to_string()),
             Refused::BadRange | Refused::BadKey => Failure::Usage(refused.to_string()),
             other => Failure::Refused(other.to_string()),
         }
@@ -95,6 +96,7 @@ impl Failure {
                  misses after a restart, which its status page tells, or know a later client of \
                  number {number}"
             )),
+            JoinError::Unserved(why) => Failure::NoAnswer(why.to_string()),
             JoinError::LockFile(LockFileError::Taken) => Failure::NotJoined(format!(
                 "another process is the client of number {number}: give this one another --number"
             )),
@@ -108,6 +110,7 @@ impl Failure {
 #[cfg(test)]
 mod tests {
     use super::*;
+    use krl::Refusal;
 
     #[test]
     fn each_failure_has_its_status() {
@@ -121,6 +124,10 @@ mod tests {
         assert_eq!(of_kind(io::ErrorKind::StorageFull), 1);
         let server = "127.0.0.1:1".parse().unwrap();
         assert_eq!(Failure::of_join(JoinError::NoAnswer(None), 1, &server).status(), 3);
+        let full = Refusal::Full { connections: 256 };
+        let refused = Failure::of_join(JoinError::Unserved(full), 1, &server);
+        assert_eq!((refused.status(), refused.to_string()), (3, full.to_string()));
+        assert_eq!(Failure::from(Refused::Unserved(full)).status(), 3);
         assert_eq!(Failure::of_join(JoinError::BadNumber, 64, &server).status(), 4);
         let taken = JoinError::LockFile(LockFileError::Taken);
         assert_eq!(Failure::of_join(taken, 1, &server).status(), 4);

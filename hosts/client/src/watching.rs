@@ -53,7 +53,7 @@ fn next_change(
         match client.read(keys.clone()) {
             Ok(read) if read != rows => return Ok(Some(read)),
             // It is as it was, or somebody has it still.
-            Ok(_) | Err(Refused::TimedOut) => {}
+            Ok(_) | Err(Refused::TimedOut | Refused::Unserved(_)) => {}
             Err(refused) => return Err(refused),
         }
     }

@@ -106,7 +106,7 @@ fn read_again(
 fn answered<T>(result: Result<T, Refused>) -> Result<Option<T>, Refused> {
     match result {
         Ok(found) => Ok(Some(found)),
-        Err(Refused::TimedOut) => Ok(None),
+        Err(Refused::TimedOut | Refused::Unserved(_)) => Ok(None),
         Err(refused) => Err(refused),
     }
 }

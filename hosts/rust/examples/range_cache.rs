@@ -91,7 +91,7 @@ fn node(number: u8, folder: &Path) -> Done {
             match client.read(keys.clone()) {
                 Ok(rows) => rows,
                 // The server is down, and what the node lacks nobody can tell just now.
-                Err(Refused::TimedOut) => continue,
+                Err(Refused::TimedOut | Refused::Unserved(_)) => continue,
                 Err(refused) => return Err(refused.into()),
             }
         };
@@ -121,7 +121,7 @@ fn write(folder: &Path) -> Done {
     println!("writer ({}): the table is there", std::process::id());
     for key in KEYS.into_iter().cycle() {
         match add_one(&client, key) {
-            Ok(Outcome::Applied) | Err(Refused::TimedOut) => {}
+            Ok(Outcome::Applied) | Err(Refused::TimedOut | Refused::Unserved(_)) => {}
             Ok(outcome) => println!("writer: {key} was not written: {outcome}"),
             Err(refused) => return Err(refused.into()),
         }

@@ -56,8 +56,8 @@ impl Client {
     /// # Errors
     ///
     /// `BadNumber` above 63; `LockFile` if another process has the file, or it can't be used;
-    /// `NoThread`; `NoAnswer`, with the reason if the connection failed; `Refused` if memory is
-    /// refused.
+    /// `NoThread`; `NoAnswer`, with the reason if the connection failed; `Unserved`, if the server
+    /// tells why it does not serve the client; `Refused` if memory is refused.
     pub fn join(
         server: impl Into<Address>,
         number: u8,
@@ -113,6 +113,7 @@ impl Client {
         let _ = self.end(Duration::ZERO);
         match refused {
             Refused::TimedOut => JoinError::NoAnswer(fault),
+            Refused::Unserved(refusal) => JoinError::Unserved(refusal),
             refused => JoinError::Refused(refused),
         }
     }
@@ -134,8 +135,8 @@ impl Client {
     ///
     /// # Errors
     ///
-    /// `BadRange` if the range begins above its end, or ends above 2^63; `TimedOut`; `OutOfMemory`;
-    /// `Stopped`.
+    /// `BadRange` if the range begins above its end, or ends above 2^63; `TimedOut` or `Unserved`;
+    /// `OutOfMemory`; `Stopped`.
     pub fn read(&self, keys: impl RangeBounds<u64>) -> Result<Vec<Row>, Refused> {
         let keys = keys_of(&keys)?;
         match self.cached(keys.clone()) {
@@ -175,8 +176,8 @@ impl Client {
     ///
     /// # Errors
     ///
-    /// `BadKey` for a key of 2^63 - 1 or more; `TimedOut`: then the table may have changed or may
-    /// still change; `OutOfMemory`; `Stopped`, of which the same holds.
+    /// `BadKey` for a key of 2^63 - 1 or more; `TimedOut` or `Unserved`: then the table may have
+    /// changed or may still change; `OutOfMemory`; `Stopped`, of which the same holds.
     pub fn insert(&self, key: u64, value: Value) -> Result<Outcome, Refused> {
         self.write(Write::Insert(Row { key, value }))
     }
@@ -229,7 +230,7 @@ impl Client {
     /// # Errors
     ///
     /// `BadRange` if the range begins above its end, or ends above 2^63; `Pinned` if it meets a
-    /// pin; `TimedOut`; `OutOfMemory`; `Stopped`.
+    /// pin; `TimedOut` or `Unserved`; `OutOfMemory`; `Stopped`.
     pub fn forget(&self, keys: impl RangeBounds<u64>) -> Result<(), Refused> {
         let keys = keys_of(&keys)?;
         if keys.is_empty() { Ok(()) } else { self.ask(|jobs| jobs.forget(keys)) }
@@ -239,8 +240,8 @@ impl Client {
     ///
     /// # Errors
     ///
-    /// `TimedOut`, `Stopped`: other clients may wait for what this one held then, until it is
-    /// evicted.
+    /// `TimedOut` or `Unserved`, `Stopped`: other clients may wait for what this one held then,
+    /// until it is evicted.
     pub fn leave(mut self) -> Result<(), Refused> {
         let timeout = self.timeout();
         self.end(timeout)

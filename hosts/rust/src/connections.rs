@@ -1,16 +1,18 @@
 //! The connections of a server: threads that read and write, so that no slow peer stops the others.
 use crate::change::Snapshot;
-use crate::event_log::{self, Seldom};
+use crate::event_log::Seldom;
 use crate::frames::{Frames, LONGEST_TO_SERVER};
+use crate::host_frame::FromServer;
 use crate::locks::{Page, Search};
+use crate::refusal::Refusal;
 use crate::routing::Routes;
 use crate::store::StoreError;
-use crate::stream::{Address, Listener, Stream};
+use crate::stream::Stream;
 use std::collections::HashMap;
 use std::convert::Infallible;
 use std::io::{self, ErrorKind, Write};
 use std::sync::Arc;
-use std::sync::atomic::{AtomicBool, AtomicUsize, Ordering};
+use std::sync::atomic::{AtomicUsize, Ordering};
 use std::sync::mpsc::{Receiver, Sender, SyncSender, TrySendError, channel, sync_channel};
 use std::thread::{self, JoinHandle};
 use std::time::{Duration, Instant};
@@ -21,13 +23,10 @@ pub(crate) const MAX_CONNECTIONS: usize = 256;
 
 /// The most messages that wait to be judged, and the most batches that wait to be written to one
 /// connection.
-const MAX_WAITING: usize = 256;
+pub(crate) const MAX_WAITING: usize = 256;
 
 /// A connection on which nothing comes for so long is closed: clients tick more often.
 const SILENCE: Duration = Duration::from_secs(30);
-
-/// How long to wait before another connection is taken if the system had no room for one.
-const NO_ROOM: Duration = Duration::from_millis(50);
 
 /// A peer that takes nothing for so long loses its connection.
 const STALL: Duration = Duration::from_secs(5);
@@ -82,22 +81,69 @@ impl Drop for Outgoing {
     }
 }
 
+/// What the host of a peer that takes host frames has been told.
+#[derive(Default)]
+struct Host {
+    refusals: [Seldom; Refusal::REASONS],
+}
+
+/// A connection that is open.
+struct Peer {
+    outgoing: Outgoing,
+    /// None if the peer has not said that it takes host frames.
+    host: Option<Host>,
+    /// Nothing more is heard of it, and what waits is the last that is written.
+    is_ended: bool,
+}
+
 /// All open connections, and to which of them each client's messages go.
 #[derive(Default)]
 pub(crate) struct Connections {
-    open: HashMap<u64, Outgoing>,
+    open: HashMap<u64, Peer>,
     routes: Routes,
     batches: HashMap<u64, Vec<u8>>,
 }
 
 impl Connections {
     pub fn open(&mut self, connection: u64, outgoing: Outgoing) {
-        self.open.insert(connection, outgoing);
+        self.open.insert(connection, Peer { outgoing, host: None, is_ended: false });
     }
 
     pub fn close(&mut self, connection: u64) {
         self.open.remove(&connection);
         self.routes.close(connection);
+    }
+
+    /// Hears nothing more of the connection, and closes it when all is written that leaves with the
+    /// next `send`.
+    pub fn end(&mut self, connection: u64) {
+        if let Some(peer) = self.open.get_mut(&connection) {
+            peer.is_ended = true;
+        }
+        self.routes.close(connection);
+    }
+
+    /// Whether the connection may still say something.
+    pub fn hears(&self, connection: u64) -> bool {
+        self.open.get(&connection).is_some_and(|peer| !peer.is_ended)
+    }
+
+    /// The host of this peer takes host frames, and hears that this one does.
+    pub fn greet(&mut self, connection: u64) {
+        if let Some(peer) = self.open.get_mut(&connection) {
+            peer.host.get_or_insert_default();
+            self.put(connection, &FromServer::Hello.frame());
+        }
+    }
+
+    /// Tells the peer's host why its client is not served: each reason once a second at most, and
+    /// none to a host that takes no host frames.
+    pub fn refuse(&mut self, connection: u64, refusal: Refusal) {
+        let peer = self.open.get_mut(&connection);
+        let Some(host) = peer.and_then(|peer| peer.host.as_mut()) else { return };
+        if host.refusals[refusal.reason()].lets(Instant::now()).is_some() {
+            self.put(connection, &FromServer::Refused(refusal).frame());
+        }
     }
 
     /// From now on the client's messages go to this connection.
@@ -130,11 +176,11 @@ impl Connections {
     /// Ends all connections. What was sent is written first, as far as the peers take it until
     /// then.
     pub fn finish(&mut self, until: Instant) {
-        for outgoing in self.open.values_mut() {
-            outgoing.batches = None;
+        for peer in self.open.values_mut() {
+            peer.outgoing.batches = None;
         }
-        for (_, outgoing) in self.open.drain() {
-            outgoing.wait(until);
+        for (_, peer) in self.open.drain() {
+            peer.outgoing.wait(until);
         }
         self.routes = Routes::default();
     }
@@ -142,132 +188,26 @@ impl Connections {
     /// Sends what was put.
     pub fn send(&mut self) {
         for (connection, frames) in self.batches.drain() {
-            if let Some(outgoing) = self.open.get(&connection) {
-                outgoing.send(frames);
+            if let Some(peer) = self.open.get(&connection) {
+                peer.outgoing.send(frames);
             }
         }
-    }
-}
-
-/// The thread that takes connections.
-pub(crate) struct Listening {
-    address: Address,
-    stopped: Arc<AtomicBool>,
-    events: SyncSender<Event>,
-    thread: Option<JoinHandle<()>>,
-}
-
-impl Listening {
-    /// Takes connections, each in threads of its own, and tells what they say.
-    pub fn start(
-        listener: Listener,
-        max_connections: usize,
-    ) -> io::Result<(Listening, Receiver<Event>)> {
-        listener.wait_in_accept()?;
-        let address = listener.address()?;
-        let stopped = Arc::new(AtomicBool::new(false));
-        let (events, waiting) = sync_channel(MAX_WAITING);
-        let (told, is_stopped) = (events.clone(), Arc::clone(&stopped));
-        let thread = spawn("krl-accept".into(), move || {
-            accept(&listener, max_connections, &told, &is_stopped);
-        })?;
-        Ok((Listening { address, stopped, events, thread: Some(thread) }, waiting))
-    }
-
-    /// Where it listens.
-    pub fn address(&self) -> &Address {
-        &self.address
-    }
-
-    /// Where events are told.
-    pub fn events(&self) -> SyncSender<Event> {
-        self.events.clone()
-    }
-
-    /// Tells the server to end.
-    pub fn stop(&self) {
-        // If nobody hears it, the server has ended already.
-        let _ = self.events.send(Event::Stop);
-    }
-
-    /// Ends the thread, and gives the address free.
-    pub fn end(&mut self) {
-        self.stopped.store(true, Ordering::Release);
-        let Some(thread) = self.thread.take() else { return };
-        // A connection wakes it. If none can be made, nothing would, and it goes on to wait.
-        if Stream::connect(&self.address, Duration::from_secs(1)).is_ok() {
-            let _ = thread.join();
+        // Who writes to it ends it then.
+        for peer in self.open.values_mut().filter(|peer| peer.is_ended) {
+            peer.outgoing.batches = None;
         }
     }
 }
 
-fn spawn(name: String, run: impl FnOnce() + Send + 'static) -> io::Result<JoinHandle<()>> {
+pub(crate) fn spawn(
+    name: String,
+    run: impl FnOnce() + Send + 'static,
+) -> io::Result<JoinHandle<()>> {
     thread::Builder::new().name(name).spawn(run)
 }
 
-fn accept(
-    listener: &Listener,
-    max_connections: usize,
-    events: &SyncSender<Event>,
-    stopped: &AtomicBool,
-) {
-    let count = Arc::new(AtomicUsize::new(0));
-    let (mut full, mut failed) = (Seldom::default(), Seldom::default());
-    for connection in 0.. {
-        let accepted = listener.accept();
-        if stopped.load(Ordering::Acquire) {
-            return;
-        }
-        match accepted {
-            Ok(stream) => {
-                let open = count.load(Ordering::Acquire);
-                if open >= max_connections {
-                    event_log::full(&mut full, open);
-                } else if let Err(error) = begin(connection, stream, events, &count) {
-                    // The system has no room or no thread for it: it is closed.
-                    event_log::not_accepted(&mut failed, &error);
-                }
-            }
-            Err(error) => match after(&error) {
-                Next::AtOnce => {}
-                Next::Later => {
-                    event_log::not_accepted(&mut failed, &error);
-                    thread::sleep(NO_ROOM);
-                }
-                Next::End => {
-                    // If nobody hears it, the server has ended.
-                    let _ = events.send(Event::Deaf(error));
-                    return;
-                }
-            },
-        }
-    }
-}
-
-/// What to do after an `accept` that failed.
-#[derive(Clone, Copy, Debug, PartialEq, Eq)]
-enum Next {
-    /// The connection is gone, and the next one may be there already.
-    AtOnce,
-    /// The system has no room for another connection just now, or the network is not there.
-    Later,
-    /// The socket takes no connection any more.
-    End,
-}
-
-fn after(error: &io::Error) -> Next {
-    const EBADF: i32 = 9;
-    const EINVAL: i32 = 22;
-    const ENOTSOCK: i32 = 88;
-    match (error.kind(), error.raw_os_error()) {
-        (ErrorKind::Interrupted | ErrorKind::ConnectionAborted, _) => Next::AtOnce,
-        (_, Some(EBADF | EINVAL | ENOTSOCK)) => Next::End,
-        _ => Next::Later,
-    }
-}
-
 /// Starts the two threads of a connection.
-fn begin(
+pub(crate) fn begin(
     connection: u64,
     stream: Stream,
     events: &SyncSender<Event>,
@@ -293,10 +233,10 @@ fn begin(
 }
 
 /// One of the connections that may be open at once.
-struct Permit(Arc<AtomicUsize>);
+pub(crate) struct Permit(Arc<AtomicUsize>);
 
 impl Permit {
-    fn take(count: &Arc<AtomicUsize>) -> Permit {
+    pub fn take(count: &Arc<AtomicUsize>) -> Permit {
         count.fetch_add(1, Ordering::AcqRel);
         Permit(Arc::clone(count))
     }
@@ -342,28 +282,7 @@ fn write(mut stream: Stream, batches: &Receiver<Vec<u8>>, _writes: &Sender<Infal
 #[cfg(test)]
 mod tests {
     use super::*;
-
-    #[test]
-    fn a_failed_accept_is_no_end_unless_the_socket_is_gone() {
-        const EINTR: i32 = 4;
-        const EBADF: i32 = 9;
-        const ENOMEM: i32 = 12;
-        const EINVAL: i32 = 22;
-        const ENFILE: i32 = 23;
-        const EMFILE: i32 = 24;
-        const ECONNABORTED: i32 = 103;
-        const ENOBUFS: i32 = 105;
-        let next = |number| after(&io::Error::from_raw_os_error(number));
-        for number in [EINTR, ECONNABORTED] {
-            assert_eq!(next(number), Next::AtOnce, "{number}");
-        }
-        for number in [ENOMEM, ENFILE, EMFILE, ENOBUFS] {
-            assert_eq!(next(number), Next::Later, "{number}");
-        }
-        for number in [EBADF, EINVAL] {
-            assert_eq!(next(number), Next::End, "{number}");
-        }
-    }
+    use crate::listening::Listening;
 
     #[test]
     fn what_was_sent_is_written_before_the_end() {

@@ -1,13 +1,15 @@
 //! The thread that owns a server and its store: it judges, commits and sends.
-use crate::change::Change;
+use crate::change::{Change, Record};
 use crate::code::Code;
 use crate::connections::{Connections, Event};
 use crate::event_log::{self, EventLog};
 use crate::frames;
 use crate::handle::ServerHandle;
 use crate::held_back::HeldBack;
+use crate::host_frame::{self, FromClient};
 use crate::locks::{HeldSlot, Page, Search};
-use crate::message::{Kind, client_of, incarnation_of, kind_of};
+use crate::message::{self, Kind, client_number, client_of, incarnation_of, kind_of};
+use crate::refusal::{ClientSet, Refusal};
 use crate::routing::{Sender, sender};
 use crate::server::ServeError;
 use crate::status::Status;
@@ -107,7 +109,7 @@ impl<S: Store> EventLoop<S> {
                 Event::Opened(connection, outgoing) => self.connections.open(connection, outgoing),
                 Event::Closed(connection) => self.connections.close(connection),
                 Event::Message(connection, message) => {
-                    changes.extend(self.judge(connection, &message)?);
+                    changes.extend(self.hear(connection, &message)?);
                 }
                 Event::Deaf(error) => ended = Some(Err(error.into())),
                 Event::Snapshot(reply) => {
@@ -138,6 +140,20 @@ impl<S: Store> EventLoop<S> {
         std::iter::once(first).chain(more).collect()
     }
 
+    /// Takes what came on a connection, and says what has to be kept.
+    fn hear(&mut self, connection: u64, frame: &[u8]) -> Result<Option<Change>, ServeError> {
+        if !self.connections.hears(connection) {
+            return Ok(None);
+        }
+        if host_frame::is_of_host(frame) {
+            if let Some(FromClient::Hello) = FromClient::read(frame) {
+                self.connections.greet(connection);
+            }
+            return Ok(None);
+        }
+        self.judge(connection, frame)
+    }
+
     /// Gives the server one message, and says what has to be kept. A string that is no message ends
     /// its connection.
     fn judge(&mut self, connection: u64, message: &[u8]) -> Result<Option<Change>, ServeError> {
@@ -146,7 +162,11 @@ impl<S: Store> EventLoop<S> {
             Err(Code::BadMessage) => {
                 self.status.refused += 1;
                 self.log.bad_message(connection, message.len());
-                self.connections.close(connection);
+                if message::is_of_another_version(message) {
+                    let refusal = Refusal::Version { read: message::VERSION };
+                    self.connections.refuse(connection, refusal);
+                }
+                self.connections.end(connection);
                 return Ok(None);
             }
             Err(Code::Alarm) => {
@@ -164,8 +184,12 @@ impl<S: Store> EventLoop<S> {
 
     /// Takes the connection for that of the client that the message names, if it is the client's.
     fn route(&mut self, connection: u64, message: &[u8]) -> Result<(), ServeError> {
-        let (Some(client), Some(incarnation)) = (client_of(message), incarnation_of(message))
+        let (Some(number), Some(incarnation)) = (client_number(message), incarnation_of(message))
         else {
+            return Ok(());
+        };
+        let Some(client) = client_of(message) else {
+            self.connections.refuse(connection, Refusal::ClientNumber { number });
             return Ok(());
         };
         let record = self.server.record(client).map_err(ServeError::Refused)?;
@@ -180,7 +204,22 @@ impl<S: Store> EventLoop<S> {
             (Sender::Left, _) => {}
             (Sender::Stranger, _) => self.log.stranger(connection, client, incarnation),
         }
+        if let Some(refusal) = self.refusal(record.as_ref(), incarnation) {
+            self.connections.refuse(connection, refusal);
+        }
         Ok(())
+    }
+
+    /// Why the sender of a message of this incarnation is not served just now, if that is known.
+    fn refusal(&self, record: Option<&Record>, incarnation: u64) -> Option<Refusal> {
+        let missing: ClientSet = self.status.missing.iter().copied().collect();
+        match record {
+            Some(&Record { client, incarnation: registered, .. }) if registered > incarnation => {
+                Some(Refusal::Incarnation { client, registered })
+            }
+            _ if missing != ClientSet::default() => Some(Refusal::Missing(missing)),
+            _ => None,
+        }
     }
 
     fn alarm(&mut self, message: &[u8]) {

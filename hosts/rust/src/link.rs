@@ -3,7 +3,10 @@ use crate::backoff::Backoff;
 use crate::code::Code;
 use crate::event_log;
 use crate::frames::{Frames, LONGEST_TO_CLIENT};
+use crate::greeting::{Greeting, Heard};
+use crate::host_frame::{self, FromClient, FromServer};
 use crate::jobs::{Asked, Asking, Jobs};
+use crate::refusal::Refusal;
 use crate::refused::Refused;
 use crate::stream::{Address, Stream};
 use crate::writer::{ATTEMPT, Writer};
@@ -20,6 +23,10 @@ const CONNECT: Duration = Duration::from_secs(1);
 const BUSY_TICK: Duration = Duration::from_millis(20);
 const IDLE_TICK: Duration = Duration::from_millis(250);
 
+/// A server that does not serve a client tells why once a second, and when the client connects
+/// again. What it has told before that is so no more.
+const HINT: Duration = Duration::from_secs(2);
+
 /// What the thread of the connection and the callers share.
 ///
 /// The writer's locks are taken before `jobs` and never after it, and no stream is touched while
@@ -32,6 +39,8 @@ pub(crate) struct Link {
     changed: Condvar,
     /// Why there is no connection, if there is none.
     fault: Mutex<Option<io::Error>>,
+    /// Why the server does not serve the client, as it told last, and when.
+    refusal: Mutex<Option<(Refusal, Instant)>>,
 }
 
 /// The state of the thread of the connection.
@@ -44,8 +53,7 @@ enum Thread {
 
 /// How a connection went.
 struct Served {
-    /// A message came.
-    was_answered: bool,
+    heard: Heard,
     end: io::Error,
 }
 
@@ -58,6 +66,7 @@ impl Link {
             thread: Mutex::new(Thread::Runs),
             changed: Condvar::new(),
             fault: Mutex::default(),
+            refusal: Mutex::default(),
         }
     }
 
@@ -84,8 +93,16 @@ impl Link {
             Err(RecvTimeoutError::Timeout) => {
                 self.jobs().abandon(asked.id);
                 // It may have come meanwhile.
-                asked.answer.try_recv().unwrap_or(Err(Refused::TimedOut))
+                asked.answer.try_recv().unwrap_or_else(|_| Err(self.timed_out()))
             }
+        }
+    }
+
+    /// That no answer came in time, with the reason if the server tells one.
+    fn timed_out(&self) -> Refused {
+        match *lock(&self.refusal) {
+            Some((refusal, told)) if told.elapsed() < HINT => Refused::Unserved(refusal),
+            _ => Refused::TimedOut,
         }
     }
 
@@ -124,13 +141,14 @@ impl Link {
     /// Keeps the connection until the client ends.
     pub fn run(&self) {
         let _ended = Ended(self);
-        let mut backoff = Backoff::new();
+        let (mut backoff, mut greeting) = (Backoff::new(), Greeting::default());
         while self.runs() {
-            let served = self.connect().map(|stream| self.serve(stream));
+            let served = self.connect(&greeting).map(|stream| self.serve(stream));
             self.writer.close();
             let fault = match served {
-                Ok(Served { was_answered, end }) => {
-                    if was_answered {
+                Ok(Served { heard, end }) => {
+                    greeting.note(heard);
+                    if heard.message {
                         backoff.reset();
                     }
                     end
@@ -155,10 +173,11 @@ impl Link {
         drop(waited.unwrap_or_else(PoisonError::into_inner));
     }
 
-    fn connect(&self) -> io::Result<Stream> {
+    fn connect(&self, greeting: &Greeting) -> io::Result<Stream> {
         let stream = Stream::connect(&self.address, CONNECT)?;
         stream.set_timeouts(BUSY_TICK, ATTEMPT)?;
-        self.writer.open(stream.try_clone()?);
+        let first = if greeting.is_said() { FromClient::Hello.frame() } else { Vec::new() };
+        self.writer.open(stream.try_clone()?, first);
         *lock(&self.fault) = None;
         event_log::connected(&self.address);
         Ok(stream)
@@ -166,14 +185,14 @@ impl Link {
 
     /// Hears what the server says, until the connection ends.
     fn serve(&self, mut stream: Stream) -> Served {
-        let mut was_answered = false;
-        let Err(end) = self.turns(&mut stream, &mut was_answered);
+        let mut heard = Heard::default();
+        let Err(end) = self.turns(&mut stream, &mut heard);
         stream.shut();
-        Served { was_answered, end }
+        Served { heard, end }
     }
 
     /// Takes what the server says and ticks, until the connection ends.
-    fn turns(&self, stream: &mut Stream, was_answered: &mut bool) -> io::Result<Infallible> {
+    fn turns(&self, stream: &mut Stream, heard: &mut Heard) -> io::Result<Infallible> {
         let mut frames = Frames::new(LONGEST_TO_CLIENT);
         let mut ticked: Option<Instant> = None;
         while self.runs() {
@@ -188,20 +207,34 @@ impl Link {
                 Err(error) if is_silence(error.kind()) => {}
                 Err(error) => return Err(error),
             }
-            *was_answered |= self.hear_all(&mut frames)?;
+            self.hear_all(&mut frames, heard)?;
             self.jobs().advance(Asking::Allowed);
         }
         Err(ErrorKind::Interrupted.into())
     }
 
-    /// Gives the client what came. It answers whether something did.
-    fn hear_all(&self, frames: &mut Frames) -> io::Result<bool> {
-        let mut was_answered = false;
-        while let Ok(Some(message)) = frames.next() {
-            self.jobs().hear(message).map_err(bad_message)?;
-            was_answered = true;
+    /// Gives the client what came.
+    fn hear_all(&self, frames: &mut Frames, heard: &mut Heard) -> io::Result<()> {
+        while let Ok(Some(frame)) = frames.next() {
+            if host_frame::is_of_host(frame) {
+                heard.host_frame = true;
+                self.hear_host(frame);
+            } else {
+                heard.message = true;
+                self.jobs().hear(frame).map_err(bad_message)?;
+            }
         }
-        if frames.is_broken() { Err(bad_message(Code::BadMessage)) } else { Ok(was_answered) }
+        if frames.is_broken() { Err(bad_message(Code::BadMessage)) } else { Ok(()) }
+    }
+
+    /// Takes what the server's host says beneath the messages.
+    fn hear_host(&self, frame: &[u8]) {
+        match FromServer::read(frame) {
+            Some(FromServer::Refused(refusal)) => {
+                *lock(&self.refusal) = Some((refusal, Instant::now()));
+            }
+            Some(FromServer::Hello) | None => {}
+        }
     }
 
     fn pace(&self) -> Duration {
@@ -252,7 +285,7 @@ mod tests {
         let (link, (ours, _theirs)) = (link(), UnixStream::pair().unwrap());
         let stream = Stream::Unix(ours);
         stream.set_timeouts(BUSY_TICK, ATTEMPT).unwrap();
-        link.writer.open(stream);
+        link.writer.open(stream, Vec::new());
         link.writer.put(|frames| frames.resize(1 << 21, 0));
         std::thread::scope(|scope| {
             for _ in 0..8 {

@@ -5,6 +5,9 @@ use std::ops::Range;
 /// Where a Lock and a Grant have the number of their request: behind the head and two numbers.
 const REQUEST_AT: usize = 34;
 
+/// The version of the messages that the library reads.
+pub(crate) const VERSION: u8 = 1;
+
 /// What a message is about, as far as a host cares.
 #[derive(Clone, Copy, Debug, PartialEq, Eq)]
 pub(crate) enum Kind {
@@ -15,8 +18,18 @@ pub(crate) enum Kind {
 
 /// The client that a message names, if it is one.
 pub(crate) fn client_of(message: &[u8]) -> Option<u8> {
-    let client = u8::try_from(number(message, 2)?).ok()?;
+    let client = u8::try_from(client_number(message)?).ok()?;
     (client < 64).then_some(client)
+}
+
+/// The number that a message names as its client's.
+pub(crate) fn client_number(message: &[u8]) -> Option<u64> {
+    number(message, 2)
+}
+
+/// Whether a string is of another version than the messages that the library reads.
+pub(crate) fn is_of_another_version(message: &[u8]) -> bool {
+    message.first().is_some_and(|version| *version != VERSION)
 }
 
 /// The incarnation of the client that a message names.

@@ -1,6 +1,7 @@
 //! Why a client's call was refused.
 use crate::code::Code;
 use crate::lock_file::LockFileError;
+use crate::refusal::Refusal;
 use std::fmt;
 use std::io;
 
@@ -12,6 +13,8 @@ pub enum Refused {
     /// seen. A write may have changed the table or may still change it: the client goes on to ask
     /// for it, until it is answered or the client is gone.
     TimedOut,
+    /// The same, and the server has told just before why it does not serve the client.
+    Unserved(Refusal),
     /// The client's own thread has ended by a panic: it answers nothing more but from its cache. A
     /// write that was not answered may have changed the table.
     Stopped,
@@ -40,8 +43,12 @@ pub enum JoinError {
     /// A builder was not told this.
     Incomplete(&'static str),
     /// The server did not answer within the client's timeout. There is none, which the error of the
-    /// connection shows; or it recovers, or knows a greater incarnation of this number.
+    /// connection shows; or it recovers, or knows a greater incarnation of this number, and does
+    /// not tell so.
     NoAnswer(Option<io::Error>),
+    /// The server has told why it does not serve the client, and within the client's timeout it did
+    /// not answer.
+    Unserved(Refusal),
     /// The system has no thread for the client's connection.
     NoThread(io::Error),
     /// The client refused to start.
@@ -65,6 +72,7 @@ impl fmt::Display for Refused {
     fn fmt(&self, f: &mut fmt::Formatter<'_>) -> fmt::Result {
         match self {
             Refused::TimedOut => f.write_str("no answer came in time"),
+            Refused::Unserved(refusal) => write!(f, "no answer came in time: {refusal}"),
             Refused::Stopped => f.write_str("the client's thread has panicked"),
             Refused::BadRange => f.write_str(
                 "a range of keys begins at its end or below, and ends at 2^63 or below; \
@@ -89,6 +97,7 @@ impl fmt::Display for JoinError {
             JoinError::NoAnswer(Some(error)) => {
                 write!(f, "the server did not answer in time: {error}")
             }
+            JoinError::Unserved(refusal) => refusal.fmt(f),
             JoinError::NoThread(error) => write!(f, "the client gets no thread: {error}"),
             JoinError::Refused(refused) => refused.fmt(f),
         }
@@ -111,7 +120,7 @@ impl std::error::Error for JoinError {
             JoinError::NoAnswer(error) => error.as_ref().map(|error| error as _),
             JoinError::NoThread(error) => Some(error),
             JoinError::Refused(refused) => Some(refused),
-            JoinError::BadNumber | JoinError::Incomplete(_) => None,
+            JoinError::BadNumber | JoinError::Incomplete(_) | JoinError::Unserved(_) => None,
         }
     }
 }

@@ -1,10 +1,10 @@
 //! A server over a network and a store.
 use crate::change::Change;
 use crate::code::Code;
-use crate::connections::Listening;
 use crate::event_log::EventLog;
 use crate::event_loop::EventLoop;
 use crate::handle::ServerHandle;
+use crate::listening::Listening;
 use crate::monitor::Monitor;
 use crate::server_builder::ServerBuilder;
 use crate::status::Status;

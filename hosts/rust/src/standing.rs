@@ -25,8 +25,8 @@ impl Client {
     /// # Errors
     ///
     /// `BadRange` if the range is empty, begins above its end, or ends above 2^63; `TooManyPins`:
-    /// it takes two of the eight until it has all; `TimedOut`, `OutOfMemory`, `Stopped`. Then
-    /// nothing more is pinned than before.
+    /// it takes two of the eight until it has all; `TimedOut` or `Unserved`, `OutOfMemory`,
+    /// `Stopped`. Then nothing more is pinned than before.
     pub fn pin_for_read(
         &self,
         keys: impl RangeBounds<u64>,
@@ -95,7 +95,7 @@ impl Client {
         let Ok(keys) = keys_of(&keys) else { return true };
         let end = Instant::now() + timeout.min(MAX_WAIT);
         let changed = self.link.ask(end, |jobs| jobs.watch(keys, rows.to_vec()));
-        changed != Err(Refused::TimedOut)
+        !matches!(changed, Err(Refused::TimedOut | Refused::Unserved(_)))
     }
 
     /// The epoch that the client has joined: how many times the server had started by then.
@@ -113,8 +113,8 @@ impl Client {
     ///
     /// # Errors
     ///
-    /// `TimedOut`, `Stopped`: other clients may wait for what this one held then, until it is
-    /// evicted.
+    /// `TimedOut` or `Unserved`, `Stopped`: other clients may wait for what this one held then,
+    /// until it is evicted.
     pub fn depart(&self, timeout: Duration) -> Result<(), Refused> {
         self.link.ask(Instant::now() + timeout.min(MAX_WAIT), Jobs::leave)
     }

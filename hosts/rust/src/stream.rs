@@ -228,6 +228,15 @@ impl Stream {
         }
     }
 
+    /// Says that nothing more will be written.
+    pub fn shut_writing(&self) {
+        // One that the other side has ended is shut already.
+        let _ = match self {
+            Stream::Tcp(stream) => stream.shutdown(Shutdown::Write),
+            Stream::Unix(stream) => stream.shutdown(Shutdown::Write),
+        };
+    }
+
     /// Ends the connection for both sides, and wakes who reads from it.
     pub fn shut(&self) {
         // One that the other side has ended is shut already.

@@ -48,10 +48,11 @@ enum Progress {
 }
 
 impl Writer {
-    /// From now on frames go to this connection. What waited for another one is lost.
-    pub fn open(&self, stream: Stream) {
+    /// From now on frames go to this connection, these before all others. What waited for another
+    /// one is lost.
+    pub fn open(&self, stream: Stream, first: Vec<u8>) {
         let mut connection = self.connection();
-        *self.pending() = Pending { frames: Vec::new(), is_connected: true };
+        *self.pending() = Pending { frames: first, is_connected: true };
         *connection = Some(Connection { stream, frames: Vec::new(), written: 0, stuck: None });
     }
 
@@ -167,7 +168,7 @@ mod tests {
         stream.set_timeouts(ATTEMPT, ATTEMPT).unwrap();
         theirs.set_read_timeout(Some(Duration::from_millis(200))).unwrap();
         let writer = Writer::default();
-        writer.open(stream);
+        writer.open(stream, Vec::new());
         (writer, theirs)
     }
 

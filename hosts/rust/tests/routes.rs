@@ -1,14 +1,12 @@
 //! Whoever sends a message of another incarnation gets nothing of what is the client's.
+mod peer;
+
 use krl::{Client, MemoryStore, Outcome, Server, Value};
-use std::io::{ErrorKind, Read, Write};
-use std::net::{TcpListener, TcpStream};
+use peer::{ACK, BYE, HELLO, Peer, frame, incarnation};
+use std::net::TcpListener;
 use std::path::PathBuf;
 use std::thread;
 use std::time::{Duration, Instant};
-
-const HELLO: u8 = 0;
-const BYE: u8 = 1;
-const ACK: u8 = 8;
 
 /// Longer than a server takes to answer or to repeat a push.
 const QUIET: Duration = Duration::from_millis(400);
@@ -20,51 +18,6 @@ fn server() -> Server {
 
 fn lock_file(name: &str) -> PathBuf {
     std::env::temp_dir().join(format!("krl-routes-{}-{name}.lock", std::process::id()))
-}
-
-/// The incarnation in a lock file.
-fn incarnation(lock: &PathBuf) -> u64 {
-    let text = std::fs::read_to_string(lock).unwrap();
-    text.split_whitespace().last().unwrap().parse().unwrap()
-}
-
-/// A message of a kind, of a client and its incarnation, in its frame.
-fn frame(kind: u8, client: u64, incarnation: u64, fields: &[u64]) -> Vec<u8> {
-    let mut message = vec![1, kind];
-    for number in [client, incarnation].iter().chain(fields) {
-        message.extend_from_slice(&number.to_le_bytes());
-    }
-    [&(message.len() as u64).to_le_bytes()[..], &message].concat()
-}
-
-/// A connection that says what it likes.
-struct Peer(TcpStream);
-
-impl Peer {
-    fn new(server: &Server) -> Peer {
-        let stream = TcpStream::connect(server.address().to_string()).unwrap();
-        stream.set_read_timeout(Some(Duration::from_millis(20))).unwrap();
-        Peer(stream)
-    }
-
-    fn say(&mut self, frame: &[u8]) {
-        self.0.write_all(frame).unwrap();
-    }
-
-    /// The bytes that come within the time.
-    fn hear(&mut self, time: Duration) -> Vec<u8> {
-        let (end, mut heard) = (Instant::now() + time, Vec::new());
-        while Instant::now() < end {
-            let mut bytes = [0; 4096];
-            match self.0.read(&mut bytes) {
-                Ok(0) => break,
-                Ok(count) => heard.extend_from_slice(&bytes[..count]),
-                Err(error) if error.kind() == ErrorKind::WouldBlock => {}
-                Err(error) => panic!("{error}"),
-            }
-        }
-        heard
-    }
 }
 
 #[test]

@@ -1,6 +1,6 @@
 //! Servers that are full, and servers that fail.
-use krl::{Change, Client, JoinError, MemoryStore, Refused, ServeError, Server, Snapshot};
-use krl::{Store, StoreError, Value};
+use krl::{Change, Client, JoinError, MemoryStore, Refusal, Refused, ServeError, Server};
+use krl::{Snapshot, Store, StoreError, Value};
 use std::net::TcpListener;
 use std::path::PathBuf;
 use std::thread;
@@ -31,7 +31,9 @@ fn a_full_server_takes_a_client_when_another_one_has_left() {
     let first = Client::join(server.address(), 1, &locks[0]).unwrap();
     let second = || Client::builder(server.address()).number(2).lock_file(&locks[1]);
     let refused = second().timeout(Duration::from_millis(500)).join().unwrap_err();
-    assert!(matches!(refused, JoinError::NoAnswer(Some(_))), "{refused:?}");
+    let full = Refusal::Full { connections: 1 };
+    assert!(matches!(refused, JoinError::Unserved(why) if why == full), "{refused:?}");
+    assert_eq!(refused.to_string(), "the server has all its connections, which are 1");
     first.leave().unwrap();
     assert!(wait_until(|| server.status().connections == 0));
     second().join().unwrap().leave().unwrap();

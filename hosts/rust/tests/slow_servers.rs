@@ -68,10 +68,11 @@ fn a_server_that_takes_nothing_holds_no_call_beyond_its_timeout() {
     let (error, took) = fails_to_join(listener.local_addr().unwrap(), "mute", timeout);
     assert!(matches!(error, JoinError::NoAnswer(None)), "{error:?}");
     assert!(timeout <= took && took < timeout + LATE, "{took:?}");
-    // It has said Hello, and Bye as it gave up.
+    // Its host has said Hello, then it has, and Bye as it gave up.
     let (mut stream, _) = listener.accept().unwrap();
     let mut said = Vec::new();
     stream.read_to_end(&mut said).unwrap();
+    assert_eq!(said.drain(..10).collect::<Vec<u8>>(), [2, 0, 0, 0, 0, 0, 0, 0, 0, 0]);
     let kinds: Vec<u8> = said.chunks(26).map(|frame| frame[9]).collect();
     assert_eq!((kinds.first(), kinds.last()), (Some(&0), Some(&1)), "{kinds:?}");
 }

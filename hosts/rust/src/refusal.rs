@@ -1,0 +1,138 @@
+//! Why a server does not serve a client, as the server's host tells it.
+use std::fmt;
+
+/// Why a server does not serve a client. It is a hint for people: the library's rules don't rest
+/// on it, and a server of another kind may say none.
+#[derive(Clone, Copy, Debug, PartialEq, Eq)]
+#[non_exhaustive]
+pub enum Refusal {
+    /// The client's messages are of another version.
+    Version {
+        /// The version of the messages that the server reads.
+        read: u8,
+    },
+    /// The server has no client of this number.
+    ClientNumber {
+        /// The number.
+        number: u64,
+    },
+    /// The server knows a greater incarnation of the client.
+    Incarnation {
+        /// The client.
+        client: u8,
+        /// The incarnation that the server knows.
+        registered: u64,
+    },
+    /// As many connections are open as the server takes.
+    Full {
+        /// How many it takes.
+        connections: u64,
+    },
+    /// The server recovers, and waits for the reports of these clients.
+    Missing(ClientSet),
+}
+
+impl Refusal {
+    /// How many reasons there are.
+    pub(crate) const REASONS: usize = 5;
+
+    /// The number of the reason, below [`Refusal::REASONS`].
+    pub(crate) fn reason(self) -> usize {
+        match self {
+            Refusal::Version { .. } => 0,
+            Refusal::ClientNumber { .. } => 1,
+            Refusal::Incarnation { .. } => 2,
+            Refusal::Full { .. } => 3,
+            Refusal::Missing(_) => 4,
+        }
+    }
+}
+
+/// A set of clients.
+#[derive(Clone, Copy, Debug, Default, PartialEq, Eq)]
+pub struct ClientSet {
+    /// The bit of value `2^n` stands for client `n`.
+    bits: u64,
+}
+
+impl ClientSet {
+    pub(crate) fn of_bits(bits: u64) -> ClientSet {
+        ClientSet { bits }
+    }
+
+    pub(crate) fn bits(self) -> u64 {
+        self.bits
+    }
+
+    /// The clients by number, in ascending order.
+    pub fn iter(self) -> impl Iterator<Item = u8> {
+        (0..64).filter(move |client| self.bits >> client & 1 == 1)
+    }
+}
+
+impl FromIterator<u8> for ClientSet {
+    /// The set of these clients. A number above 63 is no client's, and is passed over.
+    fn from_iter<I: IntoIterator<Item = u8>>(clients: I) -> ClientSet {
+        let bit = |client: u8| 1u64.checked_shl(client.into()).unwrap_or(0);
+        ClientSet { bits: clients.into_iter().fold(0, |bits, client| bits | bit(client)) }
+    }
+}
+
+impl fmt::Display for ClientSet {
+    fn fmt(&self, f: &mut fmt::Formatter<'_>) -> fmt::Result {
+        let numbers: Vec<_> = self.iter().map(|client| client.to_string()).collect();
+        f.write_str(&numbers.join(", "))
+    }
+}
+
+impl fmt::Display for Refusal {
+    fn fmt(&self, f: &mut fmt::Formatter<'_>) -> fmt::Result {
+        match self {
+            Refusal::Version { read } => {
+                write!(f, "the server reads messages of version {read} alone")
+            }
+            Refusal::ClientNumber { number } => {
+                write!(f, "a client's number is 0 to 63, and the server has no client {number}")
+            }
+            Refusal::Incarnation { client, registered } => write!(
+                f,
+                "the server knows incarnation {registered} of client {client}, which is greater: \
+                 another process is that client, it was evicted, or its lock file was lost under \
+                 a clock that is behind"
+            ),
+            Refusal::Full { connections } => {
+                write!(f, "the server has all its connections, which are {connections}")
+            }
+            Refusal::Missing(clients) => write!(
+                f,
+                "the server waits for the reports of the clients {clients}, or until they are \
+                 evicted"
+            ),
+        }
+    }
+}
+
+#[cfg(test)]
+mod tests {
+    use super::*;
+
+    #[test]
+    fn a_set_has_its_clients() {
+        for clients in [&[][..], &[0], &[3, 7], &[0, 31, 32, 63]] {
+            let set: ClientSet = clients.iter().copied().collect();
+            assert_eq!(set.iter().collect::<Vec<_>>(), clients);
+            assert_eq!(ClientSet::of_bits(set.bits()), set);
+        }
+        assert_eq!([64, 200, 7, 7].into_iter().collect::<ClientSet>().to_string(), "7");
+    }
+
+    #[test]
+    fn each_reason_is_a_sentence() {
+        let missing = Refusal::Missing([7, 3].into_iter().collect()).to_string();
+        assert!(missing.contains("the reports of the clients 3, 7,"), "{missing}");
+        let older = Refusal::Incarnation { client: 3, registered: 17 }.to_string();
+        assert!(older.contains("knows incarnation 17 of client 3"), "{older}");
+        let full = Refusal::Full { connections: 256 }.to_string();
+        assert_eq!(full, "the server has all its connections, which are 256");
+    }
+}

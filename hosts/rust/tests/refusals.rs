@@ -1,0 +1,175 @@
+//! A server tells why it does not serve a client, to hosts that take host frames.
+mod peer;
+
+use krl::{Change, Client, JoinError, MemoryStore, Refusal, Refused, Server, Value};
+use peer::{HELLO, Peer, frame, incarnation};
+use std::io::{self, Read, Write};
+use std::net::{SocketAddr, TcpListener, TcpStream};
+use std::path::PathBuf;
+use std::thread;
+use std::time::Duration;
+
+/// The Hello of a host, and the answer to it.
+const HOST_HELLO: [u8; 10] = [2, 0, 0, 0, 0, 0, 0, 0, 0, 0];
+const HOST_ANSWER: [u8; 10] = [2, 0, 0, 0, 0, 0, 0, 0, 0, 16];
+
+/// Shorter than the second between two frames of one reason.
+const SHORT: Duration = Duration::from_millis(300);
+
+fn server(store: MemoryStore) -> Server {
+    Server::start(TcpListener::bind("127.0.0.1:0").unwrap(), store).unwrap()
+}
+
+/// A store of a server on which these clients registered, and from which they have not left.
+fn store(clients: &[u8]) -> MemoryStore {
+    let mut store = MemoryStore::default();
+    store.snapshot.apply(&Change::Started { epoch: 1 });
+    for client in clients {
+        store.snapshot.apply(&Change::Registered { client: *client, incarnation: 17 });
+    }
+    store
+}
+
+fn lock_file(name: &str) -> PathBuf {
+    std::env::temp_dir().join(format!("krl-refusals-{}-{name}.lock", std::process::id()))
+}
+
+/// A frame that tells a reason.
+fn refused(reason: u8, numbers: [u64; 2]) -> Vec<u8> {
+    let mut bytes = vec![19, 0, 0, 0, 0, 0, 0, 0, 0, 17, reason];
+    for number in numbers {
+        bytes.extend_from_slice(&number.to_le_bytes());
+    }
+    bytes
+}
+
+/// What a peer hears that says these frames behind its host's Hello.
+fn heard(server: &Server, said: &[Vec<u8>]) -> Vec<u8> {
+    let mut peer = Peer::new(server);
+    peer.say(&HOST_HELLO);
+    for frame in said {
+        peer.say(frame);
+    }
+    let heard = peer.hear(SHORT);
+    assert_eq!(heard.get(..10), Some(&HOST_ANSWER[..]), "the host's answer comes first");
+    heard[10..].to_vec()
+}
+
+fn of_version(version: u8) -> Vec<u8> {
+    let mut bytes = frame(HELLO, 3, 1, &[]);
+    bytes[8] = version;
+    bytes
+}
+
+#[test]
+fn a_message_of_another_version() {
+    let server = server(MemoryStore::default());
+    assert_eq!(heard(&server, &[of_version(2)]), refused(0, [1, 0]));
+    let no_message = [1, 0, 0, 0, 0, 0, 0, 0, 1].to_vec();
+    assert_eq!(heard(&server, &[no_message]), [], "its version is the right one");
+}
+
+#[test]
+fn a_number_that_no_client_has() {
+    let server = server(MemoryStore::default());
+    assert_eq!(heard(&server, &[frame(HELLO, 64, 1, &[])]), refused(1, [64, 0]));
+}
+
+#[test]
+fn each_reason_is_told_once_a_second() {
+    let server = server(store(&[]));
+    let said: Vec<_> = (0..50).map(|turn| frame(HELLO, 64 + turn % 2, 1, &[])).collect();
+    assert_eq!(heard(&server, &said), refused(1, [64, 0]));
+}
+
+#[test]
+fn a_peer_without_host_frames_is_told_nothing() {
+    let server = server(store(&[3, 7]));
+    let mut peer = Peer::new(&server);
+    peer.say(&frame(HELLO, 64, 1, &[]));
+    peer.say(&frame(HELLO, 3, 16, &[]));
+    assert_eq!(peer.hear(SHORT), []);
+    peer.say(&of_version(2));
+    assert_eq!(peer.hear(SHORT), []);
+}
+
+/// Why a client of this number does not join.
+fn not_joined(server: &Server, number: u8, name: &str) -> JoinError {
+    let (address, lock) = (server.address().clone(), lock_file(name));
+    let client = Client::builder(address).number(number).lock_file(&lock).timeout(SHORT).join();
+    std::fs::remove_file(lock).unwrap();
+    client.unwrap_err()
+}
+
+#[test]
+fn a_client_of_an_older_incarnation() {
+    let mut store = MemoryStore::default();
+    let registered = 1 << 62;
+    store.snapshot.apply(&Change::Registered { client: 3, incarnation: registered });
+    let error = not_joined(&server(store), 3, "older");
+    let expected = Refusal::Incarnation { client: 3, registered };
+    assert!(matches!(error, JoinError::Unserved(why) if why == expected), "{error:?}");
+}
+
+#[test]
+fn a_client_that_was_replaced() {
+    let (server, lock) = (server(MemoryStore::default()), lock_file("replaced"));
+    let client = Client::join(server.address().clone(), 3, &lock).unwrap();
+    let registered = incarnation(&lock) + 1;
+    Peer::new(&server).say(&frame(HELLO, 3, registered, &[]));
+    thread::sleep(SHORT);
+    client.set_timeout(Duration::from_millis(1500));
+    let expected = Refused::Unserved(Refusal::Incarnation { client: 3, registered });
+    assert_eq!(client.insert(1, Value::from(1)), Err(expected));
+    std::fs::remove_file(lock).unwrap();
+}
+
+#[test]
+fn a_server_that_misses_reports() {
+    let (server, lock) = (server(store(&[3, 7])), lock_file("missing"));
+    let client = Client::builder(server.address().clone()).number(5).lock_file(&lock);
+    // It joins, and no request is answered before the reports have come.
+    let told = match client.timeout(SHORT).join() {
+        Ok(client) => client.read(0..9).unwrap_err().to_string(),
+        Err(error) => error.to_string(),
+    };
+    assert!(told.contains("waits for the reports of the clients 3, 7,"), "{told}");
+    std::fs::remove_file(lock).unwrap();
+}
+
+/// A way to the server that ends each connection on which a host frame comes, as a server without
+/// host frames does.
+fn without_host_frames(server: &Server) -> SocketAddr {
+    let listener = TcpListener::bind("127.0.0.1:0").unwrap();
+    let (address, to) = (listener.local_addr().unwrap(), server.address().to_string());
+    thread::spawn(move || {
+        for peer in listener.incoming() {
+            let (peer, to) = (peer.unwrap(), to.clone());
+            thread::spawn(move || forward(peer, &to));
+        }
+    });
+    address
+}
+
+fn forward(mut peer: TcpStream, to: &str) -> io::Result<()> {
+    let mut first = [0; 9];
+    peer.read_exact(&mut first)?;
+    if first[8] == 0 {
+        return Ok(());
+    }
+    let mut server = TcpStream::connect(to)?;
+    server.write_all(&first)?;
+    let (mut from, mut back) = (server.try_clone()?, peer.try_clone()?);
+    thread::spawn(move || io::copy(&mut from, &mut back));
+    io::copy(&mut peer, &mut server).map(drop)
+}
+
+#[test]
+fn a_client_goes_on_with_a_server_without_host_frames() {
+    let (server, lock) = (server(MemoryStore::default()), lock_file("old"));
+    let client = Client::join(without_host_frames(&server), 3, &lock).unwrap();
+    client.insert(1, Value::from(1)).unwrap();
+    assert_eq!(server.status().refused, 0);
+    client.leave().unwrap();
+    std::fs::remove_file(lock).unwrap();
+}
