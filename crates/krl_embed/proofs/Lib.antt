@@ -6,3 +6,4 @@ pub mod Commanding
 pub mod Acting
 pub mod KeptLemmas
 pub mod Crosses
+pub mod Shared
