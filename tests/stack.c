@@ -23,6 +23,14 @@ static void client_lock(void) { krl_client_lock(&client, 0, KRL_TOP, KRL_RANGE_X
 static void client_put(void) { krl_client_put(&client, 3, rows[3].bytes, 8); }
 static void client_delete(void) { krl_client_delete(&client, 3); }
 static void client_scan(void) { krl_client_scan(&client, 0, 8, rows, ROWS); }
+static void reader_scan(void) {
+    krl_reader reader = krl_reader_of(&client);
+    krl_reader_scan(&reader, 0, 8, rows, ROWS);
+}
+static void reader_status(void) {
+    krl_reader reader = krl_reader_of(&client);
+    krl_reader_status(&reader);
+}
 static void client_forget(void) { krl_client_forget(&client, 0, KRL_TOP); }
 static void client_tick(void) { krl_client_tick(&client); }
 static void client_status(void) { krl_client_status(&client); }
@@ -85,6 +93,7 @@ int main(void) {
     }
     void (*const calls[])(void) = {server_open, client_open, client_lock, client_scan, client_put, client_delete,
                                    client_tick, server_nudge, server_held, server_next_held, client_status,
+                                   reader_scan, reader_status,
                                    client_forget, client_leave, client_close, server_close};
     for (size_t i = 0; i < sizeof calls / sizeof calls[0]; i++) {
         measure(calls[i]);

@@ -5,10 +5,11 @@
  *
  * A handle serves one call at a time, on any thread. Where several threads use it, each call sees what the one before
  * did: a mutex does that, or the start or the end of a thread. Two threads may use two handles at once. No call waits.
+ * Many threads may read one client at once: see `krl_reader_of`.
  *
- * No pointer may be null but one to no bytes, rows or records. The rooms that a call writes overlap neither the handle
- * nor another argument. Any other number may be anything: each call tests what it is given and says by its code what was
- * wrong. A call whose code is neither KRL_DONE nor KRL_UNSAID has changed nothing.
+ * No pointer may be null but one to no bytes, rows or records. The rooms that a call writes overlap no other argument. Any
+ * other number may be anything: each call tests what it is given and says by its code what was wrong. A call whose code is
+ * neither KRL_DONE nor KRL_UNSAID has changed nothing.
  *
  * No call takes more than 32,000 bytes of stack.
  */
@@ -82,6 +83,33 @@ krl_client_state krl_client_status(krl_handle *handle);
  * `krl_close` do anything more: this call says Bye again, which may be lost as any message. Refused by
  * KRL_OUT_OF_MEMORY. It never answers KRL_GONE. */
 krl_reply krl_client_leave(krl_handle *handle);
+
+/* Many readers of one client.
+ *
+ * A reader lets a thread read what a handle keeps while other threads read it too. A call that takes a reader may run
+ * at the same time as any other such call, each with a reader of its own, and never at the same time as a call that
+ * takes the handle. A lock for readers and writers does that: the one kind of call runs under its shared side, and the
+ * other kind under its exclusive side. Then no message that gives something up can leave while a scan still sees it.
+ *
+ * A call with a reader changes nothing, takes no memory, and answers what the call of the same name with the handle
+ * answers. It answers KRL_CLOSED if the reader is closed.
+ */
+
+/* A reader of what the handle keeps. It is made while no call runs that takes the handle, and serves until the next
+ * such call begins. Then it must not be used any more, and a new one is made. */
+static inline krl_reader krl_reader_of(const krl_handle *handle) {
+    krl_reader reader = {handle->is_open, handle->at};
+    return reader;
+}
+
+/* `krl_client_scan`, by a reader. */
+krl_reply krl_reader_scan(krl_reader *reader, uint64_t lo, uint64_t hi, krl_row *rows, size_t room);
+
+/* `krl_client_held`, by a reader. */
+krl_held krl_reader_held(krl_reader *reader, uint64_t point);
+
+/* `krl_client_status`, by a reader. */
+krl_client_state krl_reader_status(krl_reader *reader);
 
 /* Servers.
  *

@@ -206,11 +206,17 @@ enum krl_phase {
 };
 
 /* A client or a server. One of zeros is closed. The host keeps it where it is and neither reads, writes nor copies
- * one that is open. */
+ * one that is open, but by `krl_reader_of`. */
 typedef struct krl_handle {
     bool is_open;
     void *at;
 } krl_handle;
+
+/* What a handle keeps, as one of many threads reads it. One of zeros is closed. */
+typedef struct krl_reader {
+    bool is_open;
+    const void *at;
+} krl_reader;
 
 /* A code, and its detail: 0 where nothing is said of it. */
 typedef struct krl_reply {

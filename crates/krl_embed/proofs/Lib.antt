@@ -7,3 +7,4 @@ pub mod Acting
 pub mod KeptLemmas
 pub mod Crosses
 pub mod Shared
+pub mod Loans
