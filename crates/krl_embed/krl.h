@@ -7,9 +7,9 @@
  * did: a mutex does that, or the start or the end of a thread. Two threads may use two handles at once. No call waits.
  * Many threads may read one client at once: see `krl_reader_of`.
  *
- * No pointer may be null but one to no bytes, rows or records. The rooms that a call writes overlap no other argument. Any
- * other number may be anything: each call tests what it is given and says by its code what was wrong. A call whose code is
- * neither KRL_DONE nor KRL_UNSAID has changed nothing.
+ * No pointer may be null but one to no bytes, rows or records. The rooms that a call writes overlap no other
+ * argument. Any other number may be anything: each call tests what it is given and says by its code what was wrong. A
+ * call whose code is neither KRL_DONE nor KRL_UNSAID has changed nothing.
  *
  * No call takes more than 32,000 bytes of stack.
  */
@@ -159,9 +159,9 @@ krl_reply krl_server_waited_for(krl_handle *handle, uint64_t client, uint64_t *c
  * anybody holds or waits. */
 krl_reply krl_server_held(krl_handle *handle, uint64_t client);
 
-/* What a client holds on the first slot, from the point `from` on, at which its mode is not N. A caller that begins at 0
- * and goes on at `hi` each time sees all that the client holds. It takes time in proportion to the slots from `from` on,
- * as far as that one, at which anybody holds or waits. */
+/* What a client holds on the first slot, from the point `from` on, at which its mode is not N. A caller that
+ * begins at 0 and goes on at `hi` each time sees all that the client holds. It takes time in proportion to the
+ * slots from `from` on, as far as that one, at which anybody holds or waits. */
 krl_held_slot krl_server_next_held(krl_handle *handle, uint64_t client, uint64_t from);
 
 /* Either. */
