@@ -1,5 +1,5 @@
 //! Tests of modes, values, messages, waiting lists, maps in blocks and what survives a restart,
-//! through their public calls.
+//! and of leases, through their public calls.
 #![tactic(auto)]
 
 #[cfg(test)]
@@ -8,6 +8,8 @@ mod again;
 mod blocks;
 #[cfg(test)]
 mod durable;
+#[cfg(test)]
+mod leases;
 #[cfg(test)]
 mod messages;
 #[cfg(test)]

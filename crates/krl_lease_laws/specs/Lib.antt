@@ -1,0 +1,2 @@
+pub mod Leased
+pub mod Laws
