@@ -34,7 +34,7 @@ make_library() {
         is_newest "$library" "$top/crates.txt" $(library_folders)
     ) && return
     need_rt "the proof of the server's library"
-    say "step 1 of 2: proving the library: 20 to 30 minutes on four processors the first time, less after an edit"
+    say "step 1 of 2: proving the library: some 20 minutes on four processors the first time, less after an edit"
     say "there is no faster way, as the kit makes no library that is not proved"
     prove_below krl_embed
     call_rt "$top/crates/krl_embed" krl_embed lib || {

@@ -6,6 +6,8 @@
 
 SIZE(krl_handle, 16);
 AT(krl_handle, at, 8);
+SIZE(krl_reader, 16);
+AT(krl_reader, at, 8);
 SIZE(krl_reply, 16);
 AT(krl_reply, detail, 8);
 SIZE(krl_row, 48);

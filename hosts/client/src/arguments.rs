@@ -3,7 +3,7 @@ use crate::failure::Failure;
 use crate::values::ValueForm;
 use crate::words::{self, Numbers};
 use clap::{Args, Parser, Subcommand, ValueEnum};
-use krl::Address;
+use krl::Servers;
 use std::ffi::OsString;
 use std::ops::Range;
 use std::path::PathBuf;
@@ -64,7 +64,8 @@ pub struct Arguments {
 /// What holds for every command.
 #[derive(Clone, Debug, Args)]
 pub struct Options {
-    /// Where the server listens: 127.0.0.1:7400, localhost:7400, or unix: and a path
+    /// Where the server listens: 127.0.0.1:7400, localhost:7400, or unix: and a path. Commas
+    /// stand between several, which stand by for one another
     #[arg(
         long,
         global = true,
@@ -72,7 +73,7 @@ pub struct Options {
         value_name = "ADDRESS",
         default_value = "127.0.0.1:7400"
     )]
-    pub server: Address,
+    pub server: Servers,
     /// The client's number, 0 to 63, or two as in 40-47: the greatest free one of them is taken
     #[arg(long, global = true, env = "KRL_NUMBER", value_name = "NUMBER", default_value = "56-63")]
     pub number: Numbers,

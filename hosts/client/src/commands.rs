@@ -5,14 +5,14 @@ use crate::output::{Printer, print, print_json};
 use crate::session::Session;
 use crate::signals::Signals;
 use crate::{holding, watching, words};
-use krl::{Address, END, Outcome, Row};
+use krl::{END, Outcome, Row, Servers};
 use serde_json::json;
 use std::time::Instant;
 
 /// What commands run with.
 pub struct Context<'c> {
     pub session: &'c Session,
-    pub server: &'c Address,
+    pub server: &'c Servers,
     pub printer: Printer,
     pub signals: &'c Signals,
 }

@@ -86,7 +86,7 @@ impl From<Refused> for Failure {
 
 impl Failure {
     /// A client that did not join under this number.
-    pub fn of_join(error: JoinError, number: u8, server: &krl::Address) -> Failure {
+    pub fn of_join(error: JoinError, number: u8, server: &krl::Servers) -> Failure {
         match error {
             JoinError::NoAnswer(Some(fault)) => {
                 Failure::NoAnswer(format!("the server at {server} can't be reached: {fault}"))

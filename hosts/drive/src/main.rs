@@ -2,6 +2,7 @@
 //!
 //! ```text
 //! krl_drive kill FOLDER ROUNDS [sqlite|unsynced] [direct|lossy]   kills servers and clients
+//! krl_drive failover FOLDER ROUNDS SERVER [kill,freeze,wake,node] kills servers that stand by
 //! krl_drive strangers                                             connects what is no client
 //! krl_drive reports                                               reports in the worst orders
 //! krl_drive strings COUNT CHANGED                                 hands strings to both decoders
@@ -11,6 +12,9 @@
 //! The status is 0 if all is well, 3 if something wrong was read or lost, and 1 if the
 //! drive itself failed.
 mod bench;
+mod clients;
+mod cluster;
+mod failover;
 mod ffi;
 mod history;
 mod kill;
@@ -54,6 +58,15 @@ fn run(words: &[&str]) -> Found {
         }
         ["kill", folder, rounds, store, net] => {
             kill::run(Path::new(folder), rounds.parse()?, store, net)
+        }
+        ["failover", folder, rounds, server] => failover::run(
+            Path::new(folder),
+            rounds.parse()?,
+            Path::new(server),
+            "kill,freeze,wake,node",
+        ),
+        ["failover", folder, rounds, server, faults] => {
+            failover::run(Path::new(folder), rounds.parse()?, Path::new(server), faults)
         }
         ["strangers"] => strangers::run(),
         ["reports"] => long_reports::run(),

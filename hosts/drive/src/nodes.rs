@@ -2,7 +2,7 @@
 use crate::Found;
 use crate::log::{Log, Note, now};
 use crate::unsynced::UnsyncedStore;
-use krl::{Address, Client, Listener, Outcome, Refused, Row, Server, SqliteStore, Store, Value};
+use krl::{Client, Listener, Outcome, Refused, Row, Server, Servers, SqliteStore, Store, Value};
 use std::error::Error;
 use std::ops::Range;
 use std::path::{Path, PathBuf};
@@ -54,17 +54,17 @@ pub fn server(address: &str, folder: &Path, store: &str) -> Found {
     Ok(true)
 }
 
-fn join(number: u8, address: &str, folder: &Path) -> Result<Client, Box<dyn Error>> {
+fn join(number: u8, servers: &str, folder: &Path) -> Result<Client, Box<dyn Error>> {
     let lock = folder.join(format!("client-{number}.lock"));
-    let address: Address = address.parse()?;
+    let servers: Servers = servers.parse()?;
     // A server that recovers, or is being started, answers late.
-    Ok(Client::builder(address).number(number).lock_file(lock).timeout(5 * TIMEOUT).join()?)
+    Ok(Client::builder(servers).number(number).lock_file(lock).timeout(5 * TIMEOUT).join()?)
 }
 
 /// Reads every writer's ranges again and again, in two threads: one reads from the cache alone, and
 /// never waits; the other asks the server for what the cache lacks.
-pub fn reader(number: u8, address: &str, folder: &Path) -> Found {
-    let client = join(number, address, folder)?;
+pub fn reader(number: u8, servers: &str, folder: &Path) -> Found {
+    let client = join(number, servers, folder)?;
     client.set_timeout(TIMEOUT);
     let log = Mutex::new(Log::open(folder, number)?);
     let [first, second] = WRITERS.map(range_of);
@@ -125,8 +125,8 @@ fn note_of(from: u64, keys: &Range<u64>, rows: &[Row]) -> Option<Note> {
 
 /// Writes its keys, one after the other: an insert if there is no entry, now and then a delete,
 /// else a put. It reads the key from its cache then.
-pub fn writer(number: u8, address: &str, folder: &Path) -> Found {
-    let client = join(number, address, folder)?;
+pub fn writer(number: u8, servers: &str, folder: &Path) -> Found {
+    let client = join(number, servers, folder)?;
     client.set_timeout(TIMEOUT);
     let mut log = Log::open(folder, number)?;
     fill(&client, number, &mut log)?;

@@ -23,6 +23,10 @@ impl Store for UnsyncedStore {
         self.store.load()
     }
 
+    fn snapshot(&mut self) -> Result<Snapshot, StoreError> {
+        self.store.snapshot()
+    }
+
     fn commit(&mut self, changes: &[Change]) -> Result<(), StoreError> {
         self.waiting.extend_from_slice(changes);
         self.batches += 1;

@@ -3,7 +3,7 @@ use std::collections::hash_map::RandomState;
 use std::hash::{BuildHasher, Hasher};
 use std::time::Duration;
 
-/// The first pause, and the longest.
+/// The first pause, and the longest between two attempts at one server.
 const FIRST: Duration = Duration::from_millis(5);
 const LONGEST: Duration = Duration::from_secs(1);
 
@@ -12,11 +12,14 @@ const LONGEST: Duration = Duration::from_secs(1);
 #[derive(Debug)]
 pub(crate) struct Backoff {
     pause: Duration,
+    longest: Duration,
 }
 
 impl Backoff {
-    pub fn new() -> Backoff {
-        Backoff { pause: FIRST }
+    /// Pauses between attempts at so many servers in turn.
+    pub fn among(servers: usize) -> Backoff {
+        let servers = u32::try_from(servers.max(1)).unwrap_or(u32::MAX);
+        Backoff { pause: FIRST, longest: FIRST.max(LONGEST / servers) }
     }
 
     /// The server has said something: the next pause is the first one again. A connection alone
@@ -28,7 +31,7 @@ impl Backoff {
     /// How long to wait now.
     pub fn pause(&mut self) -> Duration {
         let pause = self.pause;
-        self.pause = LONGEST.min(2 * pause);
+        self.pause = self.longest.min(2 * pause);
         pause + pause.mul_f64(chance() / 4.0)
     }
 }
@@ -45,7 +48,7 @@ mod tests {
 
     #[test]
     fn pauses_double_until_a_second_and_differ_by_a_quarter() {
-        let mut backoff = Backoff::new();
+        let mut backoff = Backoff::among(1);
         let mut least = FIRST;
         for _ in 0..20 {
             let pause = backoff.pause();
@@ -55,5 +58,8 @@ mod tests {
         assert_eq!(least, LONGEST);
         backoff.reset();
         assert!(backoff.pause() < 2 * FIRST);
+        let mut among_four = Backoff::among(4);
+        let longest = (0..20).map(|_| among_four.pause()).max().unwrap();
+        assert!(longest <= (LONGEST / 4).mul_f64(1.25), "{longest:?}");
     }
 }

@@ -1,27 +1,27 @@
 //! How a client is told to join.
 use crate::client::Client;
 use crate::refused::JoinError;
-use crate::stream::Address;
+use crate::servers::Servers;
 use std::path::PathBuf;
 use std::time::Duration;
 
 /// How long a client waits for an answer, unless it is told otherwise.
 pub(crate) const TIMEOUT: Duration = Duration::from_secs(10);
 
-/// What a client is told before it joins: its server, its number and its lock file, and how long
+/// What a client is told before it joins: its servers, its number and its lock file, and how long
 /// its calls wait. The number and the lock file have to be said.
 #[derive(Clone, Debug)]
 #[must_use = "a builder does nothing before `join`"]
 pub struct ClientBuilder {
-    server: Address,
+    servers: Servers,
     number: Option<u8>,
     lock_file: Option<PathBuf>,
     timeout: Duration,
 }
 
 impl ClientBuilder {
-    pub(crate) fn new(server: Address) -> ClientBuilder {
-        ClientBuilder { server, number: None, lock_file: None, timeout: TIMEOUT }
+    pub(crate) fn new(servers: Servers) -> ClientBuilder {
+        ClientBuilder { servers, number: None, lock_file: None, timeout: TIMEOUT }
     }
 
     /// The client's number, from 0 to 63. One process at a time may be the client of a number.
@@ -52,6 +52,6 @@ impl ClientBuilder {
     pub fn join(self) -> Result<Client, JoinError> {
         let number = self.number.ok_or(JoinError::Incomplete("a number"))?;
         let lock_file = self.lock_file.ok_or(JoinError::Incomplete("a lock file"))?;
-        Client::start(self.server, number, &lock_file, self.timeout)
+        Client::start(self.servers, number, &lock_file, self.timeout)
     }
 }

@@ -1,14 +1,14 @@
 //! A client over a network.
 use crate::builder::{ClientBuilder, TIMEOUT};
 use crate::change::{Outcome, Write};
-use crate::handle::{ClientHandle, Scan};
+use crate::client_handle::ClientHandle;
 use crate::jobs::{Asked, Jobs};
 use crate::link::Link;
 use crate::lock_file::LockFile;
 use crate::range::keys_of;
 use crate::refused::{JoinError, Refused};
 use crate::row::{END, Row, Value};
-use crate::stream::Address;
+use crate::servers::Servers;
 use std::fmt;
 use std::ops::RangeBounds;
 use std::path::Path;
@@ -28,6 +28,11 @@ const MAX_CLIENTS: u8 = 64;
 /// A client of a number from 0 to 63. Its calls may come from several threads; a thread of its own
 /// keeps the connection, makes it again when it breaks, and says again what is not answered.
 ///
+/// If the server's store went back, since an older copy of it was brought back, the client drops its
+/// cache as if it had crashed, and joins anew: [`Refused::StoreWentBack`] tells who waits just then.
+/// Until it has joined, `cached` answers `None`, and other calls wait. A store without a history,
+/// and a server without host frames, tell nothing of it.
+///
 /// When it is dropped, it says Bye, and waits a second at most until the server has kept that. What
 /// a process leaves behind that ends without a Bye keeps other clients waiting, until a client of
 /// its number joins again or it is evicted.
@@ -37,11 +42,10 @@ pub struct Client {
     thread: Option<JoinHandle<()>>,
     /// In nanoseconds.
     timeout: AtomicU64,
-    /// Others may take the number when this is closed.
-    _lock_file: LockFile,
 }
 
-/// A pinned range: no other client takes away what the client holds of it, as long as this lives.
+/// A pinned range: no other client takes away what the client holds of it, as long as this lives. If
+/// the server's store goes back the pin is void: [`Client`] says more.
 #[must_use = "the range is free again as soon as this is dropped"]
 pub struct Pin<'c> {
     link: &'c Link,
@@ -59,11 +63,11 @@ impl Client {
     /// `NoThread`; `NoAnswer`, with the reason if the connection failed; `Unserved`, if the server
     /// tells why it does not serve the client; `Refused` if memory is refused.
     pub fn join(
-        server: impl Into<Address>,
+        servers: impl Into<Servers>,
         number: u8,
         lock_file: impl AsRef<Path>,
     ) -> Result<Client, JoinError> {
-        Client::start(server.into(), number, lock_file.as_ref(), TIMEOUT)
+        Client::start(servers.into(), number, lock_file.as_ref(), TIMEOUT)
     }
 
     /// Says more of a client before it joins: how long its calls wait.
@@ -79,12 +83,12 @@ impl Client {
     ///     .join()?;
     /// # Ok::<(), Box<dyn std::error::Error>>(())
     /// ```
-    pub fn builder(server: impl Into<Address>) -> ClientBuilder {
-        ClientBuilder::new(server.into())
+    pub fn builder(servers: impl Into<Servers>) -> ClientBuilder {
+        ClientBuilder::new(servers.into())
     }
 
     pub(crate) fn start(
-        server: Address,
+        servers: Servers,
         number: u8,
         lock_file: &Path,
         timeout: Duration,
@@ -95,12 +99,12 @@ impl Client {
         // The incarnation is on the disk before the Hello leaves.
         let (lock_file, incarnation) = LockFile::take(lock_file, number)?;
         let handle = ClientHandle::open(number, incarnation).map_err(Refused::from)?;
-        let link = Arc::new(Link::new(server, Jobs::new(handle)));
+        let link = Arc::new(Link::new(servers, Jobs::new(handle), Some(lock_file)));
         let run = Arc::clone(&link);
         let thread = thread::Builder::new().name(format!("krl-client-{number}"));
         let thread = thread.spawn(move || run.run()).map_err(JoinError::NoThread)?;
         let timeout = AtomicU64::new(nanoseconds(timeout));
-        let client = Client { number, link, thread: Some(thread), timeout, _lock_file: lock_file };
+        let client = Client { number, link, thread: Some(thread), timeout };
         match client.ask(Jobs::join) {
             Ok(()) => Ok(client),
             Err(refused) => Err(client.not_joined(refused)),
@@ -136,7 +140,7 @@ impl Client {
     /// # Errors
     ///
     /// `BadRange` if the range begins above its end, or ends above 2^63; `TimedOut` or `Unserved`;
-    /// `OutOfMemory`; `Stopped`.
+    /// `StoreWentBack`; `OutOfMemory`; `Stopped`.
     pub fn read(&self, keys: impl RangeBounds<u64>) -> Result<Vec<Row>, Refused> {
         let keys = keys_of(&keys)?;
         match self.cached(keys.clone()) {
@@ -145,39 +149,12 @@ impl Client {
         }
     }
 
-    /// The rows of the range if the cache covers it, else `None`. It sends nothing and waits for
-    /// nobody. The rows are that range of the server's table at this moment, also while the server
-    /// is down. An empty range has no rows; of a range that is none, as [`Client::read`] tells, the
-    /// cache knows nothing.
-    pub fn cached(&self, keys: impl RangeBounds<u64>) -> Option<Vec<Row>> {
-        let mut rows = Vec::new();
-        self.cached_into(keys, &mut rows).then_some(rows)
-    }
-
-    /// The same, into `rows`, whose room is used again. If the answer is `false`, the rows say
-    /// nothing.
-    #[must_use]
-    pub fn cached_into(&self, keys: impl RangeBounds<u64>, rows: &mut Vec<Row>) -> bool {
-        let Ok(keys) = keys_of(&keys) else { return false };
-        if keys.is_empty() {
-            rows.clear();
-            return true;
-        }
-        match self.link.jobs().scan(&keys, rows) {
-            Ok(Scan::Rows(count)) => {
-                rows.truncate(count);
-                true
-            }
-            _ => false,
-        }
-    }
-
     /// Inserts a row. The outcome is `Applied`, `Exists` or `Full`.
     ///
     /// # Errors
     ///
-    /// `BadKey` for a key of 2^63 - 1 or more; `TimedOut` or `Unserved`: then the table may have
-    /// changed or may still change; `OutOfMemory`; `Stopped`, of which the same holds.
+    /// `BadKey` for a key of 2^63 - 1 or more; `TimedOut`, `Unserved`, `StoreWentBack` or `Stopped`:
+    /// then the table may have changed or may still change; `OutOfMemory`.
     pub fn insert(&self, key: u64, value: Value) -> Result<Outcome, Refused> {
         self.write(Write::Insert(Row { key, value }))
     }
@@ -213,7 +190,8 @@ impl Client {
     ///
     /// # Errors
     ///
-    /// `BadRange` if the range is empty, begins above its end, or ends above 2^63; `TooManyPins`.
+    /// `BadRange` if the range is empty, begins above its end, or ends above 2^63; `TooManyPins`;
+    /// `StoreWentBack` while the client joins anew.
     pub fn pin(&self, keys: impl RangeBounds<u64>) -> Result<Pin<'_>, Refused> {
         let keys = keys_of(&keys)?;
         let id = self.link.jobs().pin(keys)?;
@@ -230,7 +208,7 @@ impl Client {
     /// # Errors
     ///
     /// `BadRange` if the range begins above its end, or ends above 2^63; `Pinned` if it meets a
-    /// pin; `TimedOut` or `Unserved`; `OutOfMemory`; `Stopped`.
+    /// pin; `TimedOut` or `Unserved`; `StoreWentBack`; `OutOfMemory`; `Stopped`.
     pub fn forget(&self, keys: impl RangeBounds<u64>) -> Result<(), Refused> {
         let keys = keys_of(&keys)?;
         if keys.is_empty() { Ok(()) } else { self.ask(|jobs| jobs.forget(keys)) }
@@ -268,7 +246,7 @@ impl Client {
 impl fmt::Debug for Client {
     fn fmt(&self, f: &mut fmt::Formatter<'_>) -> fmt::Result {
         let mut shown = f.debug_struct("Client");
-        shown.field("number", &self.number).field("server", self.link.address());
+        shown.field("number", &self.number).field("servers", self.link.servers());
         shown.field("timeout", &self.timeout()).finish_non_exhaustive()
     }
 }
@@ -282,6 +260,7 @@ impl fmt::Debug for Pin<'_> {
 impl Drop for Client {
     fn drop(&mut self) {
         let _ = self.end(FAREWELL);
+        self.link.free_number();
     }
 }
 
@@ -308,10 +287,10 @@ fn nanoseconds(timeout: Duration) -> u64 {
 ///
 /// Those of `Client::join`: `LockFile` if a process on this machine is that client.
 pub fn evict(
-    server: impl Into<Address>,
+    servers: impl Into<Servers>,
     number: u8,
     lock_file: impl AsRef<Path>,
 ) -> Result<(), JoinError> {
-    let client = Client::join(server, number, lock_file)?;
+    let client = Client::join(servers, number, lock_file)?;
     client.leave().map_err(|_| JoinError::NoAnswer(None))
 }

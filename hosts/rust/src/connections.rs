@@ -2,6 +2,7 @@
 use crate::change::Snapshot;
 use crate::event_log::Seldom;
 use crate::frames::{Frames, LONGEST_TO_SERVER};
+use crate::history::Mark;
 use crate::host_frame::FromServer;
 use crate::locks::{Page, Search};
 use crate::refusal::Refusal;
@@ -60,12 +61,14 @@ pub(crate) struct Outgoing {
 
 impl Outgoing {
     /// Sends the frames, unless so much waits already that the peer seems stuck: then they are
-    /// lost.
-    fn send(&self, frames: Vec<u8>) {
-        let Some(batches) = &self.batches else { return };
-        if let Err(TrySendError::Disconnected(_)) = batches.try_send(frames) {
+    /// lost. It answers whether they are on their way.
+    fn send(&self, frames: Vec<u8>) -> bool {
+        let Some(batches) = &self.batches else { return false };
+        let sent = batches.try_send(frames);
+        if let Err(TrySendError::Disconnected(_)) = sent {
             self.stream.shut();
         }
+        sent.is_ok()
     }
 
     /// Waits until all that was sent is written, but not longer than `until`.
@@ -85,6 +88,10 @@ impl Drop for Outgoing {
 #[derive(Default)]
 struct Host {
     refusals: [Seldom; Refusal::REASONS],
+    /// The answer to its Hello, which leaves before all else.
+    answer: Vec<u8>,
+    /// How far the store had come, as it was told last.
+    mark: Option<Mark>,
 }
 
 /// A connection that is open.
@@ -94,6 +101,25 @@ struct Peer {
     host: Option<Host>,
     /// Nothing more is heard of it, and what waits is the last that is written.
     is_ended: bool,
+}
+
+impl Peer {
+    /// Sends the frames. To a host it says before them how far the store has come, if that is news.
+    /// A connection that ends serves no client, and is told nothing of the store.
+    fn send(&mut self, frames: &[u8], mark: Option<Mark>) {
+        let Some(host) = &mut self.host else {
+            self.outgoing.send(frames.to_vec());
+            return;
+        };
+        let mut batch = std::mem::take(&mut host.answer);
+        if let Some(now) = mark.filter(|_| host.mark != mark && !self.is_ended) {
+            batch.extend_from_slice(&FromServer::Mark(now).frame());
+        }
+        batch.extend_from_slice(frames);
+        if self.outgoing.send(batch) {
+            host.mark = mark;
+        }
+    }
 }
 
 /// All open connections, and to which of them each client's messages go.
@@ -128,11 +154,11 @@ impl Connections {
         self.open.get(&connection).is_some_and(|peer| !peer.is_ended)
     }
 
-    /// The host of this peer takes host frames, and hears that this one does.
-    pub fn greet(&mut self, connection: u64) {
+    /// The host of this peer takes host frames, and its Hello is answered so.
+    pub fn greet(&mut self, connection: u64, answer: FromServer) {
         if let Some(peer) = self.open.get_mut(&connection) {
-            peer.host.get_or_insert_default();
-            self.put(connection, &FromServer::Hello.frame());
+            peer.host.get_or_insert_default().answer = answer.frame();
+            self.put(connection, &[]);
         }
     }
 
@@ -185,11 +211,11 @@ impl Connections {
         self.routes = Routes::default();
     }
 
-    /// Sends what was put.
-    pub fn send(&mut self) {
+    /// Sends what was put. So far has the store come.
+    pub fn send(&mut self, mark: Option<Mark>) {
         for (connection, frames) in self.batches.drain() {
-            if let Some(peer) = self.open.get(&connection) {
-                peer.outgoing.send(frames);
+            if let Some(peer) = self.open.get_mut(&connection) {
+                peer.send(&frames, mark);
             }
         }
         // Who writes to it ends it then.
@@ -294,7 +320,7 @@ mod tests {
         let Ok(Event::Opened(connection, outgoing)) = events.recv() else { panic!("not opened") };
         connections.open(connection, outgoing);
         connections.put(connection, &vec![7; LENGTH]);
-        connections.send();
+        connections.send(None);
         let reads = thread::spawn(move || {
             thread::sleep(Duration::from_millis(100));
             let mut bytes = Vec::new();

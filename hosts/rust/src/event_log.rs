@@ -9,6 +9,7 @@
     )
 )]
 use crate::change::{Change, Record};
+use crate::history::Mark;
 use crate::stream::Address;
 use std::collections::BTreeMap;
 use std::fmt::Display;
@@ -53,6 +54,7 @@ pub(crate) struct EventLog {
     bad_messages: Seldom,
     strangers: Seldom,
     alarms: Seldom,
+    store_alarms: Seldom,
 }
 
 impl EventLog {
@@ -67,6 +69,7 @@ impl EventLog {
             bad_messages: Seldom::default(),
             strangers: Seldom::default(),
             alarms: Seldom::default(),
+            store_alarms: Seldom::default(),
         }
     }
 
@@ -147,6 +150,19 @@ impl EventLog {
         }
     }
 
+    /// The store lacks what a client's host has seen of it.
+    pub fn store_alarm(&mut self, connection: u64, seen: Mark) {
+        if let Some(passed_over) = self.store_alarms.lets(Instant::now()) {
+            tell!(
+                error,
+                connection,
+                ?seen,
+                passed_over,
+                "ALARM: the store lacks what a client has seen: it is an older copy, or another one"
+            );
+        }
+    }
+
     /// A report contradicts what the server knows.
     pub fn alarm(&mut self, client: Option<u8>) {
         if let Some(passed_over) = self.alarms.lets(Instant::now()) {
@@ -159,6 +175,16 @@ impl EventLog {
             );
         }
     }
+}
+
+/// A client has heard that its server's store went back.
+pub(crate) fn store_went_back(server: &Address) {
+    tell!(
+        error,
+        %server,
+        "ALARM: the server's store lacks what this client has seen of it: the client drops its \
+         cache and joins anew"
+    );
 }
 
 /// The server has ended by an error.

@@ -6,7 +6,8 @@ use crate::event_log::{self, EventLog};
 use crate::frames;
 use crate::handle::ServerHandle;
 use crate::held_back::HeldBack;
-use crate::host_frame::{self, FromClient};
+use crate::history::{History, Mark};
+use crate::host_frame::{self, FromClient, FromServer};
 use crate::locks::{HeldSlot, Page, Search};
 use crate::message::{self, Kind, client_number, client_of, incarnation_of, kind_of};
 use crate::refusal::{ClientSet, Refusal};
@@ -38,6 +39,7 @@ const LAST_WRITES: Duration = Duration::from_millis(500);
 pub(crate) struct EventLoop<S> {
     server: ServerHandle,
     store: S,
+    history: Option<History>,
     waiting: Receiver<Event>,
     connections: Connections,
     held_back: HeldBack,
@@ -54,7 +56,7 @@ impl<S: Store> EventLoop<S> {
     /// A server whose epoch is committed, and that takes the events of its connections.
     pub fn new(
         server: ServerHandle,
-        store: S,
+        (store, history): (S, Option<History>),
         waiting: Receiver<Event>,
         timings: Arc<Timings>,
         epoch: u64,
@@ -63,6 +65,7 @@ impl<S: Store> EventLoop<S> {
         EventLoop {
             server,
             store,
+            history,
             waiting,
             connections: Connections::default(),
             held_back: HeldBack::new(),
@@ -114,7 +117,7 @@ impl<S: Store> EventLoop<S> {
                 Event::Deaf(error) => ended = Some(Err(error.into())),
                 Event::Snapshot(reply) => {
                     // Who asks and goes away gets no answer.
-                    let _ = reply.send(self.store.load());
+                    let _ = reply.send(self.store.snapshot());
                 }
                 Event::Locks(search, reply) => {
                     let end = *looks_end.get_or_insert_with(|| Instant::now() + LOOKS);
@@ -146,12 +149,38 @@ impl<S: Store> EventLoop<S> {
             return Ok(None);
         }
         if host_frame::is_of_host(frame) {
-            if let Some(FromClient::Hello) = FromClient::read(frame) {
-                self.connections.greet(connection);
+            if let Some(FromClient::Hello(seen)) = FromClient::read(frame) {
+                self.greet(connection, seen)?;
             }
             return Ok(None);
         }
         self.judge(connection, frame)
+    }
+
+    /// Answers the Hello of a client's host, which has seen so much of the store.
+    ///
+    /// If the store lacks that, people are told too, and nothing more is heard of the connection:
+    /// its client knows what is not so, and what it says is lost as if it had crashed. The server
+    /// goes on: it does not end by a stranger's word.
+    fn greet(&mut self, connection: u64, seen: Option<Mark>) -> Result<(), ServeError> {
+        match seen.filter(|seen| !self.has(*seen)) {
+            None => self.connections.greet(connection, FromServer::Hello),
+            Some(lacked) => {
+                // A server behind which another one has started lacks it too, and ends here.
+                self.store.commit(&[])?;
+                self.status.store_alarms += 1;
+                self.log.store_alarm(connection, lacked);
+                self.connections.greet(connection, FromServer::WentBack);
+                self.connections.end(connection);
+            }
+        }
+        Ok(())
+    }
+
+    /// Whether the store has all that was seen. One without a history told nobody a mark: whoever
+    /// has one has seen another store.
+    fn has(&self, seen: Mark) -> bool {
+        self.history.as_ref().is_some_and(|history| history.has(seen))
     }
 
     /// Gives the server one message, and says what has to be kept. A string that is no message ends
@@ -278,6 +307,9 @@ impl<S: Store> EventLoop<S> {
         if !changes.is_empty() {
             let began = Instant::now();
             self.store.commit(changes)?;
+            if let Some(history) = &mut self.history {
+                history.commit();
+            }
             self.timings.committed(changes.len(), began);
             self.log.committed(changes);
             self.status.changes += changes.len() as u64;
@@ -294,7 +326,7 @@ impl<S: Store> EventLoop<S> {
         for (message, frame) in frames::split(&frames) {
             self.put(message, frame, now);
         }
-        self.connections.send();
+        self.connections.send(self.history.as_ref().and_then(History::mark));
         self.frames = frames;
         Ok(())
     }

@@ -10,6 +10,12 @@ pub struct Handle {
 }
 
 #[repr(C)]
+pub struct Reader {
+    pub is_open: bool,
+    pub at: *const c_void,
+}
+
+#[repr(C)]
 #[derive(Clone, Copy, Debug)]
 pub struct Reply {
     pub code: u32,
@@ -113,19 +119,20 @@ unsafe extern "C" {
     ) -> Reply;
     pub fn krl_client_put(handle: *mut Handle, key: u64, bytes: *const u8, length: usize) -> Reply;
     pub fn krl_client_delete(handle: *mut Handle, key: u64) -> Reply;
-    pub fn krl_client_scan(
-        handle: *mut Handle,
+    pub fn krl_client_forget(handle: *mut Handle, lo: u64, hi: u64) -> Reply;
+    pub fn krl_client_pin(handle: *mut Handle, lo: u64, hi: u64) -> Reply;
+    pub fn krl_client_unpin(handle: *mut Handle, pin: u64) -> Reply;
+    pub fn krl_client_leave(handle: *mut Handle) -> Reply;
+
+    pub fn krl_reader_scan(
+        reader: *mut Reader,
         lo: u64,
         hi: u64,
         rows: *mut Row,
         room: usize,
     ) -> Reply;
-    pub fn krl_client_forget(handle: *mut Handle, lo: u64, hi: u64) -> Reply;
-    pub fn krl_client_pin(handle: *mut Handle, lo: u64, hi: u64) -> Reply;
-    pub fn krl_client_unpin(handle: *mut Handle, pin: u64) -> Reply;
-    pub fn krl_client_held(handle: *mut Handle, point: u64) -> Held;
-    pub fn krl_client_status(handle: *mut Handle) -> ClientState;
-    pub fn krl_client_leave(handle: *mut Handle) -> Reply;
+    pub fn krl_reader_held(reader: *mut Reader, point: u64) -> Held;
+    pub fn krl_reader_status(reader: *mut Reader) -> ClientState;
 
     pub fn krl_server_open(
         handle: *mut Handle,
@@ -163,6 +170,7 @@ mod tests {
     #[test]
     fn layouts() {
         assert_eq!([size_of::<Handle>(), offset_of!(Handle, at)], [16, 8]);
+        assert_eq!([size_of::<Reader>(), offset_of!(Reader, at)], [16, 8]);
         assert_eq!([size_of::<Reply>(), offset_of!(Reply, detail)], [16, 8]);
         assert_eq!(size_of::<Row>(), 48);
         assert_eq!([offset_of!(Row, key), offset_of!(Row, value)], [0, 8]);

@@ -11,13 +11,15 @@ pub(crate) struct Heard {
     pub message: bool,
     /// A frame of the server's host.
     pub host_frame: bool,
+    /// That the server's store went back.
+    pub went_back: bool,
 }
 
 /// Whether the host says Hello on the next connection.
 ///
-/// Once the server's host has answered, it always does. Before that, a connection that ends for
-/// another reason looks like one of a server without host frames, and one connection without Hello
-/// is made in its turn.
+/// Once the server's host has answered, it always does: so it hears if the store went back. Before
+/// that, a connection that ends for another reason looks like one of a server without host frames,
+/// and one connection without Hello is made in its turn.
 #[derive(Debug, Default)]
 pub(crate) struct Greeting {
     is_known: bool,
@@ -43,9 +45,9 @@ impl Greeting {
 mod tests {
     use super::*;
 
-    const NOTHING: Heard = Heard { message: false, host_frame: false };
-    const MESSAGE: Heard = Heard { message: true, host_frame: false };
-    const HOST_FRAME: Heard = Heard { message: false, host_frame: true };
+    const NOTHING: Heard = Heard { message: false, host_frame: false, went_back: false };
+    const MESSAGE: Heard = Heard { message: true, ..NOTHING };
+    const HOST_FRAME: Heard = Heard { host_frame: true, ..NOTHING };
 
     /// Whether Hello is said after these connections.
     fn said(connections: &[Heard]) -> bool {

@@ -2,6 +2,7 @@
 //! the messages. `docs/WIRE.md` has the table.
 //!
 //! The first byte of a host frame is 0. No message of the library begins so: its version is 1.
+use crate::history::Mark;
 use crate::refusal::{ClientSet, Refusal};
 
 const HOST: u8 = 0;
@@ -9,8 +10,9 @@ const HOST: u8 = 0;
 /// What the host of a client says.
 #[derive(Clone, Copy, Debug, PartialEq, Eq)]
 pub(crate) enum FromClient {
-    /// It takes host frames. This is the first frame of its connection.
-    Hello,
+    /// It takes host frames, and has seen so much of the store, if anything. This is the first
+    /// frame of its connection.
+    Hello(Option<Mark>),
 }
 
 /// What the host of a server says, and only to a host that has said Hello.
@@ -20,6 +22,10 @@ pub(crate) enum FromServer {
     Hello,
     /// It does not serve the client, for this reason.
     Refused(Refusal),
+    /// So much is on the disk. It leaves before the messages that rest on it.
+    Mark(Mark),
+    /// The store lacks what the client's host has seen of it.
+    WentBack,
 }
 
 /// Whether the frame, without its length, is one of a host.
@@ -32,14 +38,14 @@ impl FromClient {
 
     /// The frame, with its length.
     pub fn frame(self) -> Vec<u8> {
-        let FromClient::Hello = self;
-        framed(&[HOST, FromClient::HELLO], &[])
+        let FromClient::Hello(seen) = self;
+        framed(&[HOST, FromClient::HELLO], &seen.map(spelled_mark).unwrap_or_default())
     }
 
     /// What the frame says, or `None` if it is of another kind: then it says nothing.
     pub fn read(frame: &[u8]) -> Option<FromClient> {
         match frame {
-            [HOST, FromClient::HELLO, ..] => Some(FromClient::Hello),
+            [HOST, FromClient::HELLO, seen @ ..] => Some(FromClient::Hello(mark(seen))),
             _ => None,
         }
     }
@@ -48,15 +54,20 @@ impl FromClient {
 impl FromServer {
     const HELLO: u8 = 16;
     const REFUSED: u8 = 17;
+    const MARK: u8 = 18;
+    const WENT_BACK: u8 = 19;
 
     /// The frame, with its length.
     pub fn frame(self) -> Vec<u8> {
         match self {
             FromServer::Hello => framed(&[HOST, FromServer::HELLO], &[]),
             FromServer::Refused(refusal) => {
-                let (reason, numbers) = spelled(refusal);
+                let (reason, [first, second]) = spelled(refusal);
+                let numbers = [first.to_le_bytes(), second.to_le_bytes()].concat();
                 framed(&[HOST, FromServer::REFUSED, reason], &numbers)
             }
+            FromServer::Mark(mark) => framed(&[HOST, FromServer::MARK], &spelled_mark(mark)),
+            FromServer::WentBack => framed(&[HOST, FromServer::WENT_BACK], &[]),
         }
     }
 
@@ -67,6 +78,8 @@ impl FromServer {
             [HOST, FromServer::REFUSED, reason, numbers @ ..] => {
                 refusal(*reason, numbers).map(FromServer::Refused)
             }
+            [HOST, FromServer::MARK, numbers @ ..] => mark(numbers).map(FromServer::Mark),
+            [HOST, FromServer::WENT_BACK, ..] => Some(FromServer::WentBack),
             _ => None,
         }
     }
@@ -83,6 +96,16 @@ fn spelled(refusal: Refusal) -> (u8, [u64; 2]) {
     }
 }
 
+fn spelled_mark(Mark { start, commits }: Mark) -> Vec<u8> {
+    [&start.to_le_bytes()[..], &commits.to_le_bytes()].concat()
+}
+
+fn mark(bytes: &[u8]) -> Option<Mark> {
+    let (start, rest) = bytes.split_first_chunk()?;
+    let (commits, _) = rest.split_first_chunk()?;
+    Some(Mark { start: u128::from_le_bytes(*start), commits: u64::from_le_bytes(*commits) })
+}
+
 fn refusal(reason: u8, numbers: &[u8]) -> Option<Refusal> {
     let (first, rest) = numbers.split_first_chunk()?;
     let (second, _) = rest.split_first_chunk()?;
@@ -97,21 +120,18 @@ fn refusal(reason: u8, numbers: &[u8]) -> Option<Refusal> {
     })
 }
 
-/// A frame with its length: the head, and then the numbers.
-fn framed(head: &[u8], numbers: &[u64]) -> Vec<u8> {
-    let length = (head.len() + 8 * numbers.len()) as u64;
-    let mut frame = length.to_le_bytes().to_vec();
-    frame.extend_from_slice(head);
-    for number in numbers {
-        frame.extend_from_slice(&number.to_le_bytes());
-    }
-    frame
+/// A frame with its length: the head, and then the body.
+fn framed(head: &[u8], body: &[u8]) -> Vec<u8> {
+    let length = (head.len() + body.len()) as u64;
+    [&length.to_le_bytes(), head, body].concat()
 }
 
 #[cfg(test)]
 mod tests {
     use super::*;
     use crate::frames::split;
+
+    const MARK: Mark = Mark { start: 1 << 127 | 5, commits: 258 };
 
     fn said() -> Vec<FromServer> {
         let missing = Refusal::Missing([3, 63].into_iter().collect());
@@ -122,7 +142,8 @@ mod tests {
             Refusal::Full { connections: 256 },
             missing,
         ];
-        refusals.map(FromServer::Refused).into_iter().chain([FromServer::Hello]).collect()
+        let others = [FromServer::Hello, FromServer::Mark(MARK), FromServer::WentBack];
+        refusals.map(FromServer::Refused).into_iter().chain(others).collect()
     }
 
     fn body(frame: &[u8]) -> Vec<u8> {
@@ -140,7 +161,10 @@ mod tests {
             // A later release may say more behind it.
             assert_eq!(FromServer::read(&[&body[..], b"more"].concat()), Some(said));
         }
-        assert_eq!(FromClient::read(&body(&FromClient::Hello.frame())), Some(FromClient::Hello));
+        for seen in [None, Some(MARK)] {
+            let hello = FromClient::Hello(seen);
+            assert_eq!(FromClient::read(&body(&hello.frame())), Some(hello));
+        }
     }
 
     #[test]
@@ -148,7 +172,11 @@ mod tests {
         let refused = FromServer::Refused(Refusal::Incarnation { client: 3, registered: 258 });
         let bytes = [0, 17, 2, 3, 0, 0, 0, 0, 0, 0, 0, 2, 1, 0, 0, 0, 0, 0, 0];
         assert_eq!(body(&refused.frame()), bytes);
-        assert_eq!(FromClient::Hello.frame(), [2, 0, 0, 0, 0, 0, 0, 0, 0, 0]);
+        assert_eq!(FromClient::Hello(None).frame(), [2, 0, 0, 0, 0, 0, 0, 0, 0, 0]);
+        let marked = [5, 0, 0, 0, 0, 0, 0, 0, 0, 0, 0, 0, 0, 0, 0, 128, 2, 1, 0, 0, 0, 0, 0, 0];
+        assert_eq!(body(&FromServer::Mark(MARK).frame()), [&[0, 18][..], &marked].concat());
+        let seen = FromClient::Hello(Some(MARK));
+        assert_eq!(body(&seen.frame()), [&[0, 0][..], &marked].concat());
         assert_eq!(body(&FromServer::Hello.frame()), [0, 16]);
     }
 

@@ -1,11 +1,12 @@
 //! What a client has been asked to do, as far as it has come.
+mod anew;
 mod hold;
 mod watched;
 mod writing;
 
 use crate::change::{Outcome, Write};
+use crate::client_handle::{Cache, ClientHandle, Mode, Scan};
 use crate::code::Code;
-use crate::handle::{ClientHandle, Mode, Scan};
 use crate::message::called_back;
 use crate::pins::Pins;
 use crate::refused::Refused;
@@ -73,6 +74,8 @@ pub(crate) enum Asking {
 #[derive(Clone, Copy, Debug, PartialEq, Eq)]
 enum Stage {
     Here,
+    /// It joins anew to say Bye: the server may know it by an older incarnation.
+    Returning,
     /// It says Bye.
     Leaving,
     /// The server has said that the Bye is kept.
@@ -99,6 +102,12 @@ pub(crate) struct Jobs {
     /// What was called back while it was pinned, and is no more.
     owed: Vec<Range<u64>>,
     stage: Stage,
+    /// The client has dropped all, and has not begun anew.
+    is_void: bool,
+    /// The name of the first pin that the library's client of now may have, and of the next one.
+    /// Those before were another one's.
+    first_pin: u64,
+    next_pin: u64,
 }
 
 impl Jobs {
@@ -112,10 +121,13 @@ impl Jobs {
             next: 0,
             asker: None,
             asking: Asking::Allowed,
-            room: vec![Row::default(); 64],
+            room: Vec::with_capacity(64),
             pins: Pins::default(),
             owed: Vec::new(),
             stage: Stage::Here,
+            is_void: false,
+            first_pin: 0,
+            next_pin: 0,
         }
     }
 
@@ -140,13 +152,19 @@ impl Jobs {
 
     /// Says Bye, and says it again with each tick until the server has kept it.
     pub fn leave(&mut self) -> Asked<()> {
-        if self.stage == Stage::Here {
-            self.stage = Stage::Leaving;
-            // If there is no memory for it just now, the next tick says it.
-            let _ = self.client.leave();
-            self.is_changed = true;
+        match self.stage {
+            Stage::Here if self.is_void => self.stage = Stage::Returning,
+            Stage::Here => self.say_bye(),
+            _ => {}
         }
         self.add(Job::Leave)
+    }
+
+    fn say_bye(&mut self) {
+        self.stage = Stage::Leaving;
+        // If there is no memory for it just now, the next tick says it.
+        let _ = self.client.leave();
+        self.is_changed = true;
     }
 
     fn add<T>(&mut self, job: impl FnOnce(Reply<T>) -> Job) -> Asked<T> {
@@ -180,37 +198,40 @@ impl Jobs {
     /// Whether something is asked that the server has not answered.
     pub fn are_open(&self) -> bool {
         let is_asked = !self.open.is_empty() || self.written.is_some() || !self.owed.is_empty();
-        is_asked || self.stage == Stage::Leaving
+        is_asked || matches!(self.stage, Stage::Returning | Stage::Leaving)
     }
 
     /// Pins a range that is not empty, and says the pin's name.
     pub fn pin(&mut self, keys: Range<u64>) -> Result<u64, Code> {
-        let id = self.client.pin(&keys)?;
+        let id = self.first_pin + self.client.pin(&keys)?;
+        self.next_pin = self.next_pin.max(id + 1);
         self.pins.add(id, keys);
         Ok(id)
     }
 
     /// Frees a pin, and gives back what was called back meanwhile.
     pub fn unpin(&mut self, id: u64) {
+        // One that the client had before it began anew is gone.
+        let Some(pin) = id.checked_sub(self.first_pin) else { return };
         // The pin is there, and a client that has left has none.
-        let _ = self.client.unpin(id);
+        let _ = self.client.unpin(pin);
         self.owed.extend(self.pins.remove(id));
         self.give_back();
     }
 
-    /// The rows of the range, from the cache.
-    pub fn scan(&mut self, keys: &Range<u64>, rows: &mut Vec<Row>) -> Result<Scan, Code> {
-        loop {
-            match self.client.scan(keys, rows)? {
-                Scan::TooShort(room) => rows.resize(room, Row::default()),
-                found => return Ok(found),
-            }
-        }
+    /// What the client knows, for threads that read it beside these calls.
+    pub fn cache(&self) -> Cache {
+        self.client.cache()
     }
 
     /// Gives the client a message of the server, and goes on with its jobs at once: a callback
     /// behind it may take away what it gave.
+    ///
+    /// A client that is void hears nothing: what is said now was meant for the one before.
     pub fn hear(&mut self, message: &[u8]) -> Result<(), Code> {
+        if self.is_void {
+            return Ok(());
+        }
         if message.is_empty() {
             if self.stage == Stage::Leaving {
                 self.stage = Stage::Gone;
@@ -235,7 +256,7 @@ impl Jobs {
     /// lost.
     pub fn tick(&mut self) {
         let _ = match self.stage {
-            Stage::Here => self.client.tick(),
+            Stage::Here | Stage::Returning => self.client.tick(),
             Stage::Leaving => self.client.leave(),
             Stage::Gone | Stage::Ended => Ok(()),
         };
@@ -248,8 +269,14 @@ impl Jobs {
 
     /// Goes on with every job as far as it comes without another message.
     pub fn advance(&mut self, asking: Asking) {
+        if self.is_void {
+            return;
+        }
         self.asking = asking;
         if let Ok(shown) = self.client.status() {
+            if self.stage == Stage::Returning && shown.epoch > 0 {
+                self.say_bye();
+            }
             self.end_written(&shown);
         }
         for (id, job) in std::mem::take(&mut self.open) {
@@ -288,11 +315,10 @@ impl Jobs {
 
     fn try_read(&mut self, id: JobId, keys: &Range<u64>) -> Result<Option<Vec<Row>>, Code> {
         let mut room = std::mem::take(&mut self.room);
-        let found = self.scan(keys, &mut room);
-        let rows = match found {
-            Ok(Scan::Rows(count)) => Ok(room.get(..count).map(<[Row]>::to_vec)),
+        let rows = match self.client.scan(keys, &mut room) {
+            Ok(Scan::Rows) => Ok(Some(room.clone())),
             Ok(Scan::Miss(point)) => self.ask(id, point..keys.end, Mode::RangeSS).map(|_| None),
-            Ok(Scan::Pending | Scan::TooShort(_)) => Ok(None),
+            Ok(Scan::Pending) => Ok(None),
             Err(code) => Err(code),
         };
         self.room = room;

@@ -19,17 +19,21 @@
 //! ```
 mod backoff;
 mod builder;
+mod cached;
 mod change;
 mod client;
+mod client_handle;
 mod code;
 mod connections;
 mod event_log;
 mod event_loop;
 mod ffi;
 mod frames;
+mod gate;
 mod greeting;
 mod handle;
 mod held_back;
+mod history;
 mod host_frame;
 mod jobs;
 mod judged;
@@ -48,6 +52,8 @@ mod routing;
 mod row;
 mod server;
 mod server_builder;
+mod servers;
+mod silence;
 #[cfg(feature = "sqlite")]
 mod sqlite;
 #[cfg(feature = "sqlite")]
@@ -67,6 +73,7 @@ pub use builder::ClientBuilder;
 pub use change::{Change, Outcome, Record, Snapshot, Write};
 pub use client::{Client, Pin, evict};
 pub use code::Code;
+pub use history::{History, Mark};
 pub use lock_file::LockFileError;
 pub use locks::{HeldSlot, Locks, LocksError};
 pub use monitor::{Monitor, SnapshotError};
@@ -75,6 +82,7 @@ pub use refused::{JoinError, Refused};
 pub use row::{END, MAX_VALUE_BYTES, Row, TooLong, Value};
 pub use server::{ServeError, Server};
 pub use server_builder::ServerBuilder;
+pub use servers::Servers;
 #[cfg(feature = "sqlite")]
 pub use sqlite::SqliteStore;
 #[cfg(feature = "sqlite")]

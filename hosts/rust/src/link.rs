@@ -1,17 +1,24 @@
 //! The thread of a client that keeps its connection, and what it shares with the callers.
 use crate::backoff::Backoff;
+use crate::client_handle::{Cache, ClientHandle};
 use crate::code::Code;
 use crate::event_log;
 use crate::frames::{Frames, LONGEST_TO_CLIENT};
 use crate::greeting::{Greeting, Heard};
+use crate::history::Mark;
 use crate::host_frame::{self, FromClient, FromServer};
 use crate::jobs::{Asked, Asking, Jobs};
+use crate::lock_file::LockFile;
+use crate::message::epoch_of;
 use crate::refusal::Refusal;
 use crate::refused::Refused;
+use crate::servers::Servers;
+use crate::silence::{Silence, Silent};
 use crate::stream::{Address, Stream};
 use crate::writer::{ATTEMPT, Writer};
 use std::convert::Infallible;
 use std::io::{self, ErrorKind};
+use std::sync::atomic::{AtomicU64, Ordering};
 use std::sync::mpsc::RecvTimeoutError;
 use std::sync::{Condvar, Mutex, MutexGuard, PoisonError};
 use std::time::{Duration, Instant};
@@ -30,10 +37,11 @@ const HINT: Duration = Duration::from_secs(2);
 /// What the thread of the connection and the callers share.
 ///
 /// The writer's locks are taken before `jobs` and never after it, and no stream is touched while
-/// `jobs` is held: so a scan of the cache waits for no network.
+/// `jobs` is held. A scan of the cache takes none of these locks.
 pub(crate) struct Link {
-    address: Address,
+    servers: Servers,
     jobs: Mutex<Jobs>,
+    cache: Cache,
     writer: Writer,
     thread: Mutex<Thread>,
     changed: Condvar,
@@ -41,6 +49,12 @@ pub(crate) struct Link {
     fault: Mutex<Option<io::Error>>,
     /// Why the server does not serve the client, as it told last, and when.
     refusal: Mutex<Option<(Refusal, Instant)>>,
+    /// How much the client has seen of the server's store.
+    seen: Mutex<Option<Mark>>,
+    /// The greatest epoch that a server has said.
+    epoch: AtomicU64,
+    /// None once the client is gone.
+    lock_file: Mutex<Option<LockFile>>,
 }
 
 /// The state of the thread of the connection.
@@ -51,6 +65,14 @@ enum Thread {
     HasEnded,
 }
 
+/// One connection, while it lasts.
+struct Connected<'l> {
+    address: &'l Address,
+    stream: Stream,
+    heard: Heard,
+    silence: Silence,
+}
+
 /// How a connection went.
 struct Served {
     heard: Heard,
@@ -58,21 +80,30 @@ struct Served {
 }
 
 impl Link {
-    pub fn new(address: Address, jobs: Jobs) -> Link {
+    pub fn new(servers: Servers, jobs: Jobs, lock_file: Option<LockFile>) -> Link {
         Link {
-            address,
+            servers,
+            cache: jobs.cache(),
             jobs: Mutex::new(jobs),
             writer: Writer::default(),
             thread: Mutex::new(Thread::Runs),
             changed: Condvar::new(),
             fault: Mutex::default(),
             refusal: Mutex::default(),
+            seen: Mutex::default(),
+            epoch: AtomicU64::new(0),
+            lock_file: Mutex::new(lock_file),
         }
     }
 
-    /// Where the server is.
-    pub fn address(&self) -> &Address {
-        &self.address
+    /// Where the server is, or where it may be.
+    pub fn servers(&self) -> &Servers {
+        &self.servers
+    }
+
+    /// What the client knows. No lock is taken for it.
+    pub fn cache(&self) -> &Cache {
+        &self.cache
     }
 
     pub fn jobs(&self) -> MutexGuard<'_, Jobs> {
@@ -118,6 +149,11 @@ impl Link {
         lock(&self.fault).take()
     }
 
+    /// Gives the client's number free: another process may take it.
+    pub fn free_number(&self) {
+        lock(&self.lock_file).take();
+    }
+
     /// Tells the thread to end.
     pub fn end(&self) {
         let mut thread = lock(&self.thread);
@@ -141,21 +177,27 @@ impl Link {
     /// Keeps the connection until the client ends.
     pub fn run(&self) {
         let _ended = Ended(self);
-        let (mut backoff, mut greeting) = (Backoff::new(), Greeting::default());
-        while self.runs() {
-            let served = self.connect(&greeting).map(|stream| self.serve(stream));
+        let (mut backoff, mut greeting) =
+            (Backoff::among(self.servers.count()), Greeting::default());
+        for place in 0.. {
+            if !self.runs() {
+                return;
+            }
+            let address = self.servers.at(place);
+            let served = self.connect(address, &greeting).map(|connected| self.serve(connected));
             self.writer.close();
             let fault = match served {
                 Ok(Served { heard, end }) => {
                     greeting.note(heard);
-                    if heard.message {
+                    // A client that has to begin anew does so at once.
+                    if heard.message || heard.went_back {
                         backoff.reset();
                     }
                     end
                 }
                 Err(error) => error,
             };
-            event_log::disconnected(&self.address, &fault);
+            event_log::disconnected(address, &fault);
             *lock(&self.fault) = Some(fault);
             self.rest(backoff.pause());
         }
@@ -173,68 +215,137 @@ impl Link {
         drop(waited.unwrap_or_else(PoisonError::into_inner));
     }
 
-    fn connect(&self, greeting: &Greeting) -> io::Result<Stream> {
-        let stream = Stream::connect(&self.address, CONNECT)?;
+    fn connect<'l>(&self, address: &'l Address, greeting: &Greeting) -> io::Result<Connected<'l>> {
+        let stream = Stream::connect(address, CONNECT)?;
         stream.set_timeouts(BUSY_TICK, ATTEMPT)?;
-        let first = if greeting.is_said() { FromClient::Hello.frame() } else { Vec::new() };
+        let is_asked = greeting.is_said();
+        let first = if is_asked { self.hello() } else { Vec::new() };
         self.writer.open(stream.try_clone()?, first);
         *lock(&self.fault) = None;
-        event_log::connected(&self.address);
-        Ok(stream)
+        event_log::connected(address);
+        let silence = Silence::new(Instant::now(), is_asked);
+        Ok(Connected { address, stream, heard: Heard::default(), silence })
+    }
+
+    /// The Hello of this host.
+    fn hello(&self) -> Vec<u8> {
+        FromClient::Hello(*lock(&self.seen)).frame()
     }
 
     /// Hears what the server says, until the connection ends.
-    fn serve(&self, mut stream: Stream) -> Served {
-        let mut heard = Heard::default();
-        let Err(end) = self.turns(&mut stream, &mut heard);
-        stream.shut();
-        Served { heard, end }
+    fn serve(&self, mut connected: Connected<'_>) -> Served {
+        let Err(end) = self.turns(&mut connected);
+        connected.stream.shut();
+        Served { heard: connected.heard, end }
     }
 
     /// Takes what the server says and ticks, until the connection ends.
-    fn turns(&self, stream: &mut Stream, heard: &mut Heard) -> io::Result<Infallible> {
+    fn turns(&self, connected: &mut Connected<'_>) -> io::Result<Infallible> {
         let mut frames = Frames::new(LONGEST_TO_CLIENT);
         let mut ticked: Option<Instant> = None;
+        self.begin_anew()?;
         while self.runs() {
             if ticked.is_none_or(|ticked| ticked.elapsed() > self.pace()) {
                 self.jobs().tick();
                 ticked = Some(Instant::now());
             }
             self.flush();
-            match frames.fill(stream) {
+            match frames.fill(&mut connected.stream) {
                 Ok(0) => return Err(ErrorKind::UnexpectedEof.into()),
-                Ok(_) => {}
-                Err(error) if is_silence(error.kind()) => {}
+                Ok(_) => connected.silence.heard(Instant::now()),
+                Err(error) if is_silence(error.kind()) => self.look_for_another(connected)?,
                 Err(error) => return Err(error),
             }
-            self.hear_all(&mut frames, heard)?;
+            self.hear_all(&mut frames, connected)?;
             self.jobs().advance(Asking::Allowed);
         }
         Err(ErrorKind::Interrupted.into())
     }
 
+    /// Asks a server that is silent whether it is there, and leaves it if it is not, if there are
+    /// others.
+    fn look_for_another(&self, connected: &mut Connected<'_>) -> io::Result<()> {
+        if !self.servers.are_several() {
+            return Ok(());
+        }
+        match connected.silence.look(Instant::now()) {
+            Silent::No => {}
+            Silent::Ask => self.writer.put(|frames| frames.extend_from_slice(&self.hello())),
+            Silent::Leave => {
+                let why = "the server is silent, and there are others";
+                return Err(io::Error::new(ErrorKind::TimedOut, why));
+            }
+        }
+        Ok(())
+    }
+
     /// Gives the client what came.
-    fn hear_all(&self, frames: &mut Frames, heard: &mut Heard) -> io::Result<()> {
+    fn hear_all(&self, frames: &mut Frames, connected: &mut Connected<'_>) -> io::Result<()> {
         while let Ok(Some(frame)) = frames.next() {
             if host_frame::is_of_host(frame) {
-                heard.host_frame = true;
-                self.hear_host(frame);
+                connected.heard.host_frame = true;
+                self.hear_host(frame, connected)?;
             } else {
-                heard.message = true;
+                connected.heard.message = true;
                 self.jobs().hear(frame).map_err(bad_message)?;
+                self.compare_epochs(frame)?;
             }
         }
         if frames.is_broken() { Err(bad_message(Code::BadMessage)) } else { Ok(()) }
     }
 
-    /// Takes what the server's host says beneath the messages.
-    fn hear_host(&self, frame: &[u8]) {
+    /// Leaves a server that is of an older epoch than one that the client has heard, if there are
+    /// others: it may go on for ever, and the one that serves waits for the client's report.
+    fn compare_epochs(&self, message: &[u8]) -> io::Result<()> {
+        let Some(epoch) = epoch_of(message) else { return Ok(()) };
+        let known = self.epoch.fetch_max(epoch, Ordering::Relaxed);
+        if epoch >= known || !self.servers.are_several() {
+            return Ok(());
+        }
+        let why = format!("the server is of epoch {epoch}, and another one of epoch {known}");
+        Err(io::Error::other(why))
+    }
+
+    /// Takes what the server's host says beneath the messages. If the store went back, the
+    /// connection ends with that.
+    fn hear_host(&self, frame: &[u8], connected: &mut Connected<'_>) -> io::Result<()> {
         match FromServer::read(frame) {
             Some(FromServer::Refused(refusal)) => {
                 *lock(&self.refusal) = Some((refusal, Instant::now()));
             }
+            Some(FromServer::Mark(mark)) => *lock(&self.seen) = Some(mark),
+            Some(FromServer::WentBack) => {
+                connected.heard.went_back = true;
+                return Err(self.drop_all(connected.address));
+            }
             Some(FromServer::Hello) | None => {}
         }
+        Ok(())
+    }
+
+    /// The server's store lacks what the client has seen. From here on nothing of that is answered,
+    /// and no message that rests on it is said or taken: another connection has another
+    /// incarnation. It answers by what the connection ends with.
+    fn drop_all(&self, address: &Address) -> io::Error {
+        self.jobs().drop_all();
+        *lock(&self.seen) = None;
+        // The epochs of an older store may be older too.
+        self.epoch.store(0, Ordering::Relaxed);
+        event_log::store_went_back(address);
+        io::Error::other(Refused::StoreWentBack)
+    }
+
+    /// Gives a client that has dropped all a greater incarnation, under which it joins anew.
+    fn begin_anew(&self) -> io::Result<()> {
+        if !self.jobs().is_void() {
+            return Ok(());
+        }
+        let mut lock_file = lock(&self.lock_file);
+        let Some(file) = &mut *lock_file else { return Err(ErrorKind::Interrupted.into()) };
+        // The incarnation is on the disk before the Hello leaves.
+        let client = ClientHandle::open(file.number(), file.renew()?);
+        self.jobs().begin_anew(client.map_err(io::Error::other)?);
+        Ok(())
     }
 
     fn pace(&self) -> Duration {
@@ -268,58 +379,4 @@ fn is_silence(kind: ErrorKind) -> bool {
 }
 
 #[cfg(test)]
-mod tests {
-    use super::*;
-    use crate::handle::ClientHandle;
-    use crate::writer::STALL;
-    use std::os::unix::net::UnixStream;
-
-    const SHORT: Duration = Duration::from_millis(100);
-
-    fn link() -> Link {
-        Link::new("unix:nowhere".parse().unwrap(), Jobs::new(ClientHandle::open(1, 1).unwrap()))
-    }
-
-    #[test]
-    fn a_peer_that_takes_nothing_holds_no_call_beyond_its_deadline() {
-        let (link, (ours, _theirs)) = (link(), UnixStream::pair().unwrap());
-        let stream = Stream::Unix(ours);
-        stream.set_timeouts(BUSY_TICK, ATTEMPT).unwrap();
-        link.writer.open(stream, Vec::new());
-        link.writer.put(|frames| frames.resize(1 << 21, 0));
-        std::thread::scope(|scope| {
-            for _ in 0..8 {
-                scope.spawn(|| {
-                    let begun = Instant::now();
-                    let read = link.ask(begun + SHORT, |jobs| jobs.read(0..9));
-                    assert_eq!(read, Err(Refused::TimedOut));
-                    assert!(begun.elapsed() < STALL / 2, "{:?}", begun.elapsed());
-                });
-            }
-            let begun = Instant::now();
-            for _ in 0..1000 {
-                assert!(link.jobs().scan(&(0..9), &mut Vec::new()).is_ok());
-            }
-            assert!(begun.elapsed() < STALL / 2, "a look into the cache waits for no stream");
-        });
-    }
-
-    #[test]
-    fn callers_hear_that_the_thread_has_panicked() {
-        let link = link();
-        std::thread::scope(|scope| {
-            let read =
-                scope.spawn(|| link.ask(Instant::now() + 50 * SHORT, |jobs| jobs.read(0..9)));
-            std::thread::sleep(SHORT);
-            let panicked = scope.spawn(|| {
-                let _ended = Ended(&link);
-                panic!("the test's");
-            });
-            assert!(panicked.join().is_err());
-            assert_eq!(read.join().unwrap(), Err(Refused::Stopped));
-        });
-        assert!(link.has_ended(Instant::now()));
-        let later = link.ask(Instant::now() + 50 * SHORT, |jobs| jobs.read(0..9));
-        assert_eq!(later, Err(Refused::Stopped));
-    }
-}
+mod tests;

@@ -10,6 +10,9 @@ use std::time::{SystemTime, UNIX_EPOCH};
 #[derive(Debug)]
 pub(crate) struct LockFile {
     file: File,
+    number: u8,
+    /// The last incarnation that was given.
+    incarnation: u64,
 }
 
 /// Why a lock file was not taken.
@@ -42,31 +45,40 @@ impl LockFile {
             Err(TryLockError::WouldBlock) => return Err(LockFileError::Taken),
             Err(TryLockError::Error(error)) => return Err(error.into()),
         }
-        let mut lock = LockFile { file };
-        let incarnation = now().max(lock.last(number)? + 1);
-        lock.note(number, incarnation)?;
+        let mut lock = LockFile { file, number, incarnation: 0 };
+        lock.incarnation = lock.last()?;
+        let incarnation = lock.renew()?;
         sync_folder_of(path)?;
         Ok((lock, incarnation))
     }
 
+    /// Gives the client another incarnation, greater than every one before. It is on the disk when
+    /// this returns.
+    pub fn renew(&mut self) -> io::Result<u64> {
+        self.incarnation = now().max(self.incarnation + 1);
+        self.file.seek(SeekFrom::Start(0))?;
+        self.file.write_all(line(self.number, self.incarnation).as_bytes())?;
+        self.file.sync_all()?;
+        Ok(self.incarnation)
+    }
+
+    /// The client's number.
+    pub fn number(&self) -> u8 {
+        self.number
+    }
+
     /// The incarnation in the file, or 0 if it is new.
-    fn last(&mut self, number: u8) -> Result<u64, LockFileError> {
+    fn last(&mut self) -> Result<u64, LockFileError> {
         let mut text = String::new();
         let mut start = (&self.file).take(FORM.len() as u64 + 1);
         start.read_to_string(&mut text).map_err(|_| LockFileError::Strange)?;
         if text.is_empty() {
             return Ok(0);
         }
-        let head = format!("krl client {number:02} incarnation ");
+        let head = format!("krl client {:02} incarnation ", self.number);
         let last = text.strip_prefix(&head).and_then(|rest| rest.strip_suffix('\n'));
         let last = last.and_then(|digits| digits.parse::<u64>().ok());
         last.filter(|last| *last < u64::MAX).ok_or(LockFileError::Strange)
-    }
-
-    fn note(&mut self, number: u8, incarnation: u64) -> io::Result<()> {
-        self.file.seek(SeekFrom::Start(0))?;
-        self.file.write_all(line(number, incarnation).as_bytes())?;
-        self.file.sync_all()
     }
 }
 
@@ -133,6 +145,9 @@ mod tests {
         std::fs::write(&path, line(3, far)).unwrap();
         assert_eq!(LockFile::take(&path, 3).unwrap().1, far + 1);
         assert_eq!(std::fs::read_to_string(&path).unwrap(), line(3, far + 1));
+        let mut held = LockFile::take(&path, 3).unwrap().0;
+        assert_eq!([held.renew().unwrap(), held.renew().unwrap()], [far + 3, far + 4]);
+        assert_eq!(std::fs::read_to_string(&path).unwrap(), line(3, far + 4));
         std::fs::remove_file(&path).unwrap();
     }
 

@@ -37,6 +37,11 @@ pub(crate) fn incarnation_of(message: &[u8]) -> Option<u64> {
     number(message, 10)
 }
 
+/// The epoch that a message to a client is of.
+pub(crate) fn epoch_of(message: &[u8]) -> Option<u64> {
+    number(message, 18)
+}
+
 /// The points that a message to a client calls back, if it is a callback.
 pub(crate) fn called_back(message: &[u8]) -> Option<Range<u64>> {
     const CALLBACK: u8 = 20;
@@ -150,6 +155,7 @@ pub(crate) mod tests {
         }
         message.push(0);
         assert_eq!(called_back(&message), Some(100..200));
+        assert_eq!(epoch_of(&message), Some(1));
         assert_eq!(called_back(&message[..40]), None);
         message[1] = 17;
         assert_eq!(called_back(&message), None);

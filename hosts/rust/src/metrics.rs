@@ -77,6 +77,11 @@ impl Page {
             "Reports that contradict what the server knows",
             status.alarms_raised,
         );
+        counter(
+            "krl_store_alarms_total",
+            "Connections of clients that have seen commits which the store lacks",
+            status.store_alarms,
+        );
         counter("krl_messages_taken_total", "Messages of clients that were taken", status.taken);
         counter("krl_messages_sent_total", "Messages that were sent to clients", status.sent);
         counter(
@@ -248,6 +253,6 @@ mod tests {
                 assert!(helped.contains(family(line)), "{line}");
             }
         }
-        assert_eq!(helped.len(), 22);
+        assert_eq!(helped.len(), 23);
     }
 }

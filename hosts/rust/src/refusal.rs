@@ -64,17 +64,26 @@ impl ClientSet {
         self.bits
     }
 
+    /// Whether the client of this number is in it.
+    pub(crate) fn has(self, client: u8) -> bool {
+        client < 64 && self.bits >> client & 1 == 1
+    }
+
+    /// The set, and the client of this number. A number above 63 is no client's.
+    pub(crate) fn with(self, client: u8) -> ClientSet {
+        ClientSet { bits: self.bits | 1u64.checked_shl(client.into()).unwrap_or(0) }
+    }
+
     /// The clients by number, in ascending order.
     pub fn iter(self) -> impl Iterator<Item = u8> {
-        (0..64).filter(move |client| self.bits >> client & 1 == 1)
+        (0..64).filter(move |client| self.has(*client))
     }
 }
 
 impl FromIterator<u8> for ClientSet {
     /// The set of these clients. A number above 63 is no client's, and is passed over.
     fn from_iter<I: IntoIterator<Item = u8>>(clients: I) -> ClientSet {
-        let bit = |client: u8| 1u64.checked_shl(client.into()).unwrap_or(0);
-        ClientSet { bits: clients.into_iter().fold(0, |bits, client| bits | bit(client)) }
+        clients.into_iter().fold(ClientSet::default(), ClientSet::with)
     }
 }
 

@@ -15,6 +15,10 @@ pub enum Refused {
     TimedOut,
     /// The same, and the server has told just before why it does not serve the client.
     Unserved(Refusal),
+    /// The server's store lacks what this client has seen of it: it is an older copy, or another
+    /// store. The client has dropped its cache and its pins, and joins anew. A write may have
+    /// changed that store or not.
+    StoreWentBack,
     /// The client's own thread has ended by a panic: it answers nothing more but from its cache. A
     /// write that was not answered may have changed the table.
     Stopped,
@@ -63,6 +67,8 @@ impl From<Code> for Refused {
             Code::Pinned => Refused::Pinned,
             Code::TooManyPins => Refused::TooManyPins,
             Code::OutOfMemory => Refused::OutOfMemory,
+            // The client is about to join anew.
+            Code::Closed => Refused::StoreWentBack,
             code => Refused::Other(code),
         }
     }
@@ -73,6 +79,10 @@ impl fmt::Display for Refused {
         match self {
             Refused::TimedOut => f.write_str("no answer came in time"),
             Refused::Unserved(refusal) => write!(f, "no answer came in time: {refusal}"),
+            Refused::StoreWentBack => f.write_str(
+                "the server's store went back, and lacks what this client has seen of it: the \
+                 client has dropped its cache and its pins, and joins anew",
+            ),
             Refused::Stopped => f.write_str("the client's thread has panicked"),
             Refused::BadRange => f.write_str(
                 "a range of keys begins at its end or below, and ends at 2^63 or below; \

@@ -84,13 +84,15 @@ impl Server {
         let (server, epoch) = ServerHandle::open(&snapshot).map_err(ServeError::Refused)?;
         // The epoch is kept before anything is sent.
         store.commit(&[Change::Started { epoch }])?;
+        let history = store.history()?;
         let (listening, waiting) = Listening::start(listener, max_connections)?;
         let status = Arc::new(Mutex::new(Status { epoch, ..Status::default() }));
         let shown = Arc::clone(&status);
         let timings = Arc::new(Timings::new());
         let (rows, records) = (snapshot.rows.len(), &snapshot.records);
         let log = EventLog::started(epoch, listening.address(), rows, records);
-        let events = EventLoop::new(server, store, waiting, Arc::clone(&timings), epoch, log);
+        let events =
+            EventLoop::new(server, (store, history), waiting, Arc::clone(&timings), epoch, log);
         let thread = thread::Builder::new().name("krl-server".into());
         let thread = thread.spawn(move || events.run_to_the_end(&shown))?;
         Ok(Server { listening, status, timings, thread: Some(thread) })

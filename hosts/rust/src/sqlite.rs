@@ -1,5 +1,6 @@
 //! A store over SQLite.
 use crate::change::{Change, Outcome, Record, Snapshot, Write};
+use crate::history::{History, Mark};
 use crate::row::{Row, Value};
 use crate::sqlite_version::{self, Found};
 use crate::store::{Store, StoreError};
@@ -23,6 +24,8 @@ const TABLES: &str = "
     CREATE TABLE IF NOT EXISTS record (
         place INTEGER PRIMARY KEY, client INTEGER NOT NULL UNIQUE, incarnation INTEGER NOT NULL,
         last INTEGER NOT NULL, outcome INTEGER NOT NULL, has_left INTEGER NOT NULL);
+    CREATE TABLE IF NOT EXISTS start (
+        place INTEGER PRIMARY KEY, bits BLOB NOT NULL UNIQUE, commits INTEGER NOT NULL);
     INSERT OR IGNORE INTO epoch VALUES (0, 0);";
 
 const EPOCH: &str = "UPDATE epoch SET epoch = ?1 WHERE id = 0";
@@ -33,6 +36,10 @@ const REGISTER: &str =
     ON CONFLICT (client) DO UPDATE SET incarnation = ?2, last = 0, outcome = 0, has_left = 0";
 const LEAVE: &str = "UPDATE record SET has_left = 1 WHERE client = ?1";
 const JUDGE: &str = "UPDATE record SET last = ?2, outcome = ?3 WHERE client = ?1";
+
+const START: &str = "INSERT INTO start (bits, commits) VALUES (randomblob(16), 0)";
+const COUNT: &str =
+    "UPDATE start SET commits = commits + 1 WHERE place = (SELECT max(place) FROM start)";
 
 const PUT: &str = "INSERT OR REPLACE INTO entry (key, value) VALUES (?1, ?2)";
 const DELETE: &str = "DELETE FROM entry WHERE key = ?1";
@@ -73,9 +80,32 @@ impl Store for SqliteStore {
     }
 
     fn commit(&mut self, changes: &[Change]) -> Result<(), StoreError> {
+        if changes.is_empty() {
+            // No other process opens the file: it is still this one's.
+            return Ok(());
+        }
         let transaction = self.connection.transaction()?;
         changes.iter().try_for_each(|change| commit_one(&transaction, change))?;
+        if changes.iter().any(|change| matches!(change, Change::Started { .. })) {
+            run(&transaction, START, &[])?;
+        }
+        run(&transaction, COUNT, &[])?;
         Ok(transaction.commit()?)
+    }
+
+    fn snapshot(&mut self) -> Result<Snapshot, StoreError> {
+        load(&self.connection)
+    }
+
+    fn history(&mut self) -> Result<Option<History>, StoreError> {
+        let mut starts =
+            self.connection.prepare("SELECT bits, commits FROM start ORDER BY place")?;
+        let (mut rows, mut marks) = (starts.query([])?, Vec::new());
+        while let Some(row) = rows.next()? {
+            let start = u128::from_le_bytes(row.get(0)?);
+            marks.push(Mark { start, commits: positive(row.get(1)?)? });
+        }
+        Ok(History::new(marks))
     }
 }
 
@@ -198,7 +228,7 @@ fn positive(number: i64) -> Result<u64, StoreError> {
 
 impl From<rusqlite::Error> for StoreError {
     fn from(error: rusqlite::Error) -> StoreError {
-        StoreError(Box::new(error))
+        StoreError::Failed(Box::new(error))
     }
 }
 
@@ -244,6 +274,31 @@ mod tests {
         at_once.commit(&changes()).unwrap();
         assert_eq!(at_once.load().unwrap(), expected);
         assert!(SqliteStore::open(folder.join("other.db")).is_err(), "one process at a time");
+        std::fs::remove_dir_all(&folder).unwrap();
+    }
+
+    #[test]
+    fn each_start_and_each_batch_is_counted() {
+        let folder = std::env::temp_dir().join(format!("krl-starts-{}", std::process::id()));
+        std::fs::create_dir_all(&folder).unwrap();
+        let file = folder.join("table.db");
+        let mut store = SqliteStore::open(&file).unwrap();
+        assert_eq!(store.history().unwrap(), None);
+        store.commit(&[Change::Started { epoch: 1 }]).unwrap();
+        store.commit(&changes()[1..3]).unwrap();
+        let first = store.history().unwrap().and_then(|it| it.mark()).unwrap();
+        assert_eq!(first.commits, 2);
+        drop(store);
+        let mut store = SqliteStore::open(&file).unwrap();
+        store.commit(&[Change::Started { epoch: 2 }]).unwrap();
+        let history = store.history().unwrap().unwrap();
+        let second = history.mark().unwrap();
+        assert_eq!(second.commits, 1);
+        assert_ne!(second.start, first.start);
+        assert!(history.has(first) && !history.has(Mark { commits: 3, ..first }));
+        let bad = Change::Registered { client: 1, incarnation: u64::MAX };
+        assert!(store.commit(&[bad]).is_err());
+        assert_eq!(store.history().unwrap().unwrap(), history, "it was not committed");
         std::fs::remove_dir_all(&folder).unwrap();
     }
 

@@ -30,7 +30,7 @@ impl SqliteStore {
         let connection = open_to_read(path.as_ref())?;
         let version = match look(&connection)? {
             Found::New => return Err(StoreError::says("the file has no tables: it is no store")),
-            Found::Unnumbered => 0,
+            Found::Older(version) => version,
             Found::Current => VERSION,
         };
         Ok(StoreFile { version, snapshot: sqlite::load(&connection)? })
@@ -38,6 +38,9 @@ impl SqliteStore {
 
     /// Writes the snapshot as a new store, which only its owner may read and write. When this
     /// returns, the file is on the disk under its name. If it fails there is no file of that name.
+    ///
+    /// The new store has no history: to a client that has seen something of another one, it is a
+    /// store that went back.
     ///
     /// # Errors
     ///
@@ -136,7 +139,7 @@ fn sync_folder_of(path: &Path) -> io::Result<()> {
 
 impl From<io::Error> for StoreError {
     fn from(error: io::Error) -> StoreError {
-        StoreError(Box::new(error))
+        StoreError::Failed(Box::new(error))
     }
 }
 
@@ -194,7 +197,7 @@ mod tests {
         SqliteStore::create(&file, &snapshot()).unwrap();
         assert_eq!(folder.names(), ["copy.db"]);
         assert_eq!(file.metadata().unwrap().permissions().mode() & 0o777, 0o600);
-        let expected = StoreFile { version: 1, snapshot: snapshot() };
+        let expected = StoreFile { version: 2, snapshot: snapshot() };
         assert_eq!(SqliteStore::read(&file).unwrap(), expected);
         assert_eq!(folder.names(), ["copy.db"]);
         assert_eq!(SqliteStore::open(&file).unwrap().load().unwrap(), snapshot());
@@ -267,16 +270,40 @@ mod tests {
     #[test]
     fn an_older_store_is_read_as_it_is_and_raised_when_it_is_opened() {
         let folder = Folder::new("older");
-        let file = folder.0.join("old.db");
+        for (version, marks) in [
+            (0, "PRAGMA application_id = 0; PRAGMA user_version = 0;"),
+            (1, "PRAGMA user_version = 1;"),
+        ] {
+            let file = folder.0.join(format!("{version}.db"));
+            SqliteStore::create(&file, &snapshot()).unwrap();
+            let older = format!("DROP TABLE start; {marks}");
+            Connection::open(&file).unwrap().execute_batch(&older).unwrap();
+            let version_of = |file| SqliteStore::read(file).map(|it| it.version).unwrap();
+            assert_eq!([version_of(&file), version_of(&file)], [version, version]);
+            let mut store = SqliteStore::open(&file).unwrap();
+            assert_eq!(store.load().unwrap(), snapshot());
+            assert_eq!(store.history().unwrap(), None, "no server has started on it since");
+            store.commit(&[Change::Started { epoch: 8 }]).unwrap();
+            assert!(store.history().unwrap().is_some());
+            drop(store);
+            let expected = Snapshot { epoch: 8, ..snapshot() };
+            assert_eq!(SqliteStore::read(&file).unwrap().snapshot, expected);
+            assert_eq!(version_of(&file), 2);
+        }
+    }
+
+    #[test]
+    fn a_store_of_an_unknown_version_is_refused_and_left_alone() {
+        let folder = Folder::new("newer");
+        let file = folder.0.join("new.db");
         SqliteStore::create(&file, &snapshot()).unwrap();
-        let unmark = "PRAGMA application_id = 0; PRAGMA user_version = 0;";
-        Connection::open(&file).unwrap().execute_batch(unmark).unwrap();
-        let version = |file| SqliteStore::read(file).map(|it| it.version).unwrap();
-        assert_eq!([version(&file), version(&file)], [0, 0]);
-        assert_eq!(SqliteStore::open(&file).unwrap().load().unwrap(), snapshot());
-        assert_eq!(version(&file), 1);
-        Connection::open(&file).unwrap().execute_batch("PRAGMA user_version = 2").unwrap();
-        let refused = SqliteStore::open(&file).map(drop).unwrap_err().to_string();
-        assert!(refused.contains("version 2"), "{refused}");
+        Connection::open(&file).unwrap().execute_batch("PRAGMA user_version = 3").unwrap();
+        let before = std::fs::read(&file).unwrap();
+        for refused in [SqliteStore::read(&file).map(drop), SqliteStore::open(&file).map(drop)] {
+            let refused = refused.unwrap_err().to_string();
+            assert!(refused.contains("version 3, and"), "{refused}");
+        }
+        assert_eq!(std::fs::read(&file).unwrap(), before);
+        assert_eq!(folder.names(), ["new.db"]);
     }
 }

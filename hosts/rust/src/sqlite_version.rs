@@ -6,9 +6,9 @@ use rusqlite::Connection;
 const APPLICATION: i64 = 0x6b72_6c31;
 
 /// The version of the tables, as SQLite's user version.
-pub(crate) const VERSION: i64 = 1;
+pub(crate) const VERSION: i64 = 2;
 
-/// The tables of a store, by name.
+/// The tables of a store of before there were versions, by name.
 const NAMES: [&str; 3] = ["entry", "epoch", "record"];
 
 /// What a file of SQLite is.
@@ -16,8 +16,9 @@ const NAMES: [&str; 3] = ["entry", "epoch", "record"];
 pub(crate) enum Found {
     /// It has nothing yet.
     New,
-    /// A store of before there were versions. Its tables are those of version 1.
-    Unnumbered,
+    /// A store of this older version: 0 if it is of before there were versions. It lacks the starts
+    /// of its servers.
+    Older(i64),
     /// A store of this version.
     Current,
 }
@@ -26,11 +27,12 @@ pub(crate) enum Found {
 fn found(application: i64, version: i64, tables: &[String]) -> Result<Found, String> {
     match (application, version) {
         (0, 0) if tables.is_empty() => Ok(Found::New),
-        (0, 0) if tables == NAMES => Ok(Found::Unnumbered),
+        (0, 0) if tables == NAMES => Ok(Found::Older(0)),
+        (APPLICATION, 1) => Ok(Found::Older(1)),
         (APPLICATION, VERSION) => Ok(Found::Current),
-        (APPLICATION, other) => {
-            Err(format!("the store has version {other}, and this program reads version {VERSION}"))
-        }
+        (APPLICATION, other) => Err(format!(
+            "the store has version {other}, and this program reads versions up to {VERSION}"
+        )),
         _ => Err("the file is a database of another program, and no store of krl".to_string()),
     }
 }
@@ -65,8 +67,9 @@ mod tests {
     fn each_kind_of_file() {
         let ours = tables(&NAMES);
         assert_eq!(found(0, 0, &[]), Ok(Found::New));
-        assert_eq!(found(0, 0, &ours), Ok(Found::Unnumbered));
-        assert_eq!(found(APPLICATION, 1, &ours), Ok(Found::Current));
+        assert_eq!(found(0, 0, &ours), Ok(Found::Older(0)));
+        assert_eq!(found(APPLICATION, 1, &ours), Ok(Found::Older(1)));
+        assert_eq!(found(APPLICATION, 2, &ours), Ok(Found::Current));
         for (application, version, tables) in [
             (0, 0, tables(&["entry", "epoch"])),
             (0, 0, tables(&["entry", "epoch", "other", "record"])),
@@ -78,7 +81,7 @@ mod tests {
             let what = found(application, version, &tables).unwrap_err();
             assert!(what.contains("another program"), "{application} {version} {tables:?}: {what}");
         }
-        for version in [0, 2, -1] {
+        for version in [0, 3, -1] {
             let what = found(APPLICATION, version, &ours).unwrap_err();
             assert!(what.contains(&format!("version {version},")), "{what}");
         }

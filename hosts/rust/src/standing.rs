@@ -102,7 +102,7 @@ impl Client {
     ///
     /// # Errors
     ///
-    /// `Other` if the client has left.
+    /// `Other` if the client has left; `StoreWentBack` while it joins anew.
     pub fn epoch(&self) -> Result<u64, Refused> {
         self.link.jobs().epoch().map_err(Code::into)
     }

@@ -22,6 +22,9 @@ pub struct Status {
     pub alarms: Vec<u8>,
     /// How many such reports came.
     pub alarms_raised: u64,
+    /// How many connections came from clients that have seen commits which the store lacks: it is
+    /// an older copy, or another one.
+    pub store_alarms: u64,
     /// The open connections, those of strangers too.
     pub connections: u64,
     /// The messages that were taken.
@@ -84,6 +87,14 @@ impl fmt::Display for Status {
                 list(&self.alarms)
             )?;
         }
+        if self.store_alarms > 0 {
+            writeln!(
+                f,
+                "ALARM: the store lacks what clients have seen on {} connections: it is an older \
+                 copy, or another one",
+                self.store_alarms
+            )?;
+        }
         let Status { taken, sent, refused, held_back, .. } = self;
         writeln!(
             f,
@@ -126,5 +137,7 @@ mod tests {
         assert!(text.contains("client 3 waits for 0, 2: RangeX-X at 10, for 40 ms\n"));
         assert!(text.contains("client 2 holds 7 slots\n"));
         assert!(!text.contains("ALARM"));
+        let text = Status { store_alarms: 2, ..status() }.to_string();
+        assert!(text.contains("ALARM: the store lacks what clients have seen on 2 connections"));
     }
 }

@@ -1,47 +1,93 @@
 //! What survives a server, and the store that commits it.
 use crate::change::{Change, Snapshot};
+use crate::history::History;
 use std::fmt;
 
-/// What survives a server. Nobody else may write to it while the server runs.
+/// What survives a server.
+///
+/// Several servers may have values for one store. What a value commits rests on what it has loaded
+/// and committed itself: if anybody else has committed something meanwhile, it is refused as
+/// [`StoreError::Deposed`]. That is all that keeps an older server from changing what a newer one
+/// serves: the first that a server commits is [`Change::Started`], and from then on every older
+/// one's changes are refused. A store that lets one process at a time open it has that by itself.
 pub trait Store: Send {
-    /// All that was committed.
+    /// All that was committed, once, before anything else. What is committed from then on rests on
+    /// it.
     ///
     /// # Errors
     ///
     /// If it can't be read, or is not what a server commits.
     fn load(&mut self) -> Result<Snapshot, StoreError>;
 
-    /// Commits the changes, in their order: all or none. When it returns they are on the disk, and
-    /// no crash of the process or of the machine takes them away. After an error the server ends,
-    /// and sends nothing more.
+    /// Commits the changes, in their order. When it returns all are kept, and no crash of the
+    /// process or of a machine takes them away. After an error a first part of them may be kept,
+    /// each change whole: the server sends nothing of them, and ends, and this value commits
+    /// nothing any more. With no changes it only asks whether the store is still this value's.
     ///
     /// # Errors
     ///
-    /// If they are not on the disk, whatever the reason.
+    /// `Deposed` if somebody else has committed something: nothing is kept. `Unanswered` if it is
+    /// not known whether they are kept. `Failed` if they are not.
     fn commit(&mut self, changes: &[Change]) -> Result<(), StoreError>;
+
+    /// All that this value has loaded and committed, for a copy. What it commits rests on that as
+    /// before: nothing that another server has committed meanwhile comes into this one.
+    ///
+    /// # Errors
+    ///
+    /// If it can't be read.
+    fn snapshot(&mut self) -> Result<Snapshot, StoreError>;
+
+    /// Each start of a server that is committed, and how many batches were committed since. A store
+    /// that has a history draws the bits of a start by chance as it commits [`Change::Started`],
+    /// and counts each batch as it commits it, in one transaction with the changes. By it the
+    /// clients notice a copy from before that is brought back. A store without one has `None`, and
+    /// then nobody notices.
+    ///
+    /// # Errors
+    ///
+    /// If it can't be read.
+    fn history(&mut self) -> Result<Option<History>, StoreError> {
+        Ok(None)
+    }
 }
 
-/// A store that failed, and why.
+/// Why a store did not do what it was asked.
 #[derive(Debug)]
-pub struct StoreError(pub Box<dyn std::error::Error + Send + Sync>);
+#[non_exhaustive]
+pub enum StoreError {
+    /// Another server has the store: what it found there.
+    Deposed(String),
+    /// No answer came in time. What was asked may be done, or may still be.
+    Unanswered(Box<dyn std::error::Error + Send + Sync>),
+    /// It failed, and what was asked is not done.
+    Failed(Box<dyn std::error::Error + Send + Sync>),
+}
 
 impl StoreError {
-    /// An error that is just a sentence.
+    /// A failure that is just a sentence.
     #[must_use]
     pub fn says(what: &str) -> StoreError {
-        StoreError(what.into())
+        StoreError::Failed(what.into())
     }
 }
 
 impl fmt::Display for StoreError {
     fn fmt(&self, f: &mut fmt::Formatter<'_>) -> fmt::Result {
-        write!(f, "the store failed: {}", self.0)
+        match self {
+            StoreError::Deposed(found) => write!(f, "another server has the store: {found}"),
+            StoreError::Unanswered(why) => write!(f, "the store does not answer: {why}"),
+            StoreError::Failed(why) => write!(f, "the store failed: {why}"),
+        }
     }
 }
 
 impl std::error::Error for StoreError {
     fn source(&self) -> Option<&(dyn std::error::Error + 'static)> {
-        Some(&*self.0)
+        match self {
+            StoreError::Deposed(_) => None,
+            StoreError::Unanswered(why) | StoreError::Failed(why) => Some(&**why),
+        }
     }
 }
 
@@ -63,6 +109,10 @@ impl Store for MemoryStore {
         }
         Ok(())
     }
+
+    fn snapshot(&mut self) -> Result<Snapshot, StoreError> {
+        Ok(self.snapshot.clone())
+    }
 }
 
 impl Store for Box<dyn Store> {
@@ -72,5 +122,13 @@ impl Store for Box<dyn Store> {
 
     fn commit(&mut self, changes: &[Change]) -> Result<(), StoreError> {
         (**self).commit(changes)
+    }
+
+    fn snapshot(&mut self) -> Result<Snapshot, StoreError> {
+        (**self).snapshot()
+    }
+
+    fn history(&mut self) -> Result<Option<History>, StoreError> {
+        (**self).history()
     }
 }

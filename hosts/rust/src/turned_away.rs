@@ -80,7 +80,7 @@ mod tests {
 
     #[test]
     fn a_host_hears_the_reason_and_a_peer_without_host_frames_hears_nothing() {
-        let hello = FromClient::Hello.frame();
+        let hello = FromClient::Hello(None).frame();
         let refused = FromServer::Refused(Refusal::Full { connections: 5 }).frame();
         assert_eq!(heard(&[&hello]), refused);
         assert_eq!(heard(&[&hello[..3], &hello[3..], &[18, 0]]), refused);

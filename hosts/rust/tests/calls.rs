@@ -69,6 +69,34 @@ fn each_call(server: &Server, folder: &Folder) {
 }
 
 #[test]
+fn cached_rows_are_visited_behind_the_scan() {
+    let folder = Folder::new("visits");
+    let server = server("127.0.0.1:0");
+    let (first, second) = (folder.join(&server, 0), folder.join(&server, 1));
+    for key in [10, 20, 30] {
+        assert_eq!(first.insert(key, value("a")), Ok(Outcome::Applied));
+    }
+    let rows = first.read(0..40).unwrap();
+    let mut visited = Vec::new();
+    assert!(first.for_each_cached(0..40, |row| {
+        if visited.is_empty() {
+            // Another client takes the range away, and this one goes on with its rows.
+            assert_eq!(second.put(20, value("b")), Ok(Outcome::Applied));
+            assert_eq!(first.cached(0..40), None);
+            assert_eq!(first.cached(5..5), Some(vec![]));
+        }
+        visited.push(*row);
+    }));
+    assert_eq!(visited, rows);
+    assert!(!first.for_each_cached(0..40, |_| panic!("it is not cached any more")));
+    let mut kept = rows;
+    assert!(!first.cached_into(0..40, &mut kept));
+    assert_eq!(first.read(0..40).unwrap()[1], row(20, "b"));
+    assert!(first.cached_into(..=20, &mut kept) && kept == [row(10, "a"), row(20, "b")]);
+    assert!(first.for_each_cached(7..7, |_| panic!("it has no rows")));
+}
+
+#[test]
 fn calls_over_tcp() {
     let folder = Folder::new("tcp");
     let server = server("127.0.0.1:0");

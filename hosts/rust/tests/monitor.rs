@@ -19,6 +19,10 @@ impl Store for Hanging {
         self.store.load()
     }
 
+    fn snapshot(&mut self) -> Result<Snapshot, StoreError> {
+        self.store.snapshot()
+    }
+
     fn commit(&mut self, changes: &[Change]) -> Result<(), StoreError> {
         while self.hangs.load(Ordering::Relaxed) {
             thread::sleep(Duration::from_millis(1));

@@ -45,17 +45,25 @@ fn a_forged_bye_of_an_older_incarnation_is_not_answered() {
 
 #[test]
 fn an_incarnation_that_never_said_hello_takes_no_route() {
-    let (server, lock) = (server(), lock_file("future"));
+    let (server, lock, other) = (server(), lock_file("future"), lock_file("caller"));
     let client = Client::join(server.address().clone(), 3, &lock).unwrap();
+    let writer = Client::join(server.address().clone(), 4, &other).unwrap();
     let mut stranger = Peer::new(&server);
-    for incarnation in [0, 1, u64::MAX] {
+    for (turn, incarnation) in [0, 1, u64::MAX].into_iter().enumerate() {
+        client.read(0..20).unwrap();
+        // Behind it nothing comes from the client before it is called back.
         stranger.say(&frame(ACK, 3, incarnation, &[1, 1]));
         stranger.say(&frame(BYE, 3, incarnation, &[]));
+        thread::sleep(Duration::from_millis(10));
+        assert_eq!(writer.insert(turn as u64, Value::from(1)), Ok(Outcome::Applied));
     }
     assert_eq!(client.insert(10, Value::from(1)), Ok(Outcome::Applied));
     assert_eq!(stranger.hear(QUIET), []);
     client.leave().unwrap();
-    std::fs::remove_file(lock).unwrap();
+    writer.leave().unwrap();
+    for file in [lock, other] {
+        std::fs::remove_file(file).unwrap();
+    }
 }
 
 /// A process that was evicted and still runs says its Hello and its acknowledgements again and

@@ -1,5 +1,6 @@
 //! Servers that are full, and servers that fail.
-use krl::{Change, Client, JoinError, MemoryStore, Refusal, Refused, ServeError, Server};
+use krl::{Change, Client, History, JoinError, Listener, Mark, MemoryStore, Refusal, Refused};
+use krl::{ServeError, Server};
 use krl::{Snapshot, Store, StoreError, Value};
 use std::net::TcpListener;
 use std::path::PathBuf;
@@ -54,6 +55,10 @@ impl Store for Failing {
         self.store.load()
     }
 
+    fn snapshot(&mut self) -> Result<Snapshot, StoreError> {
+        self.store.snapshot()
+    }
+
     fn commit(&mut self, changes: &[Change]) -> Result<(), StoreError> {
         if self.batches == 0 {
             return Err((self.fail)());
@@ -102,5 +107,56 @@ fn a_client_joins_by_a_name_of_the_host() {
     let port = server.address().to_string().rsplit(':').next().unwrap().to_string();
     let address: krl::Address = format!("localhost:{port}").parse().unwrap();
     Client::join(&address, 1, &lock).unwrap().leave().unwrap();
+    std::fs::remove_file(lock).unwrap();
+}
+
+/// A store whose history has one start, and that another server may have taken over.
+struct Behind {
+    store: MemoryStore,
+    start: u128,
+    is_deposed: bool,
+}
+
+impl Store for Behind {
+    fn load(&mut self) -> Result<Snapshot, StoreError> {
+        self.store.load()
+    }
+
+    fn snapshot(&mut self) -> Result<Snapshot, StoreError> {
+        self.store.snapshot()
+    }
+
+    fn commit(&mut self, changes: &[Change]) -> Result<(), StoreError> {
+        match changes {
+            [] if self.is_deposed => Err(StoreError::Deposed("another server".to_string())),
+            _ => self.store.commit(changes),
+        }
+    }
+
+    fn history(&mut self) -> Result<Option<History>, StoreError> {
+        Ok(History::new(vec![Mark { start: self.start, commits: 1 }]))
+    }
+}
+
+/// A client that has seen more than an older server has makes it ask who has the store. It ends
+/// then, and raises no alarm: the store did not go back.
+#[test]
+fn a_server_behind_another_one_ends_and_raises_no_alarm() {
+    let lock = lock_file("behind");
+    let address = krl::Address::Unix(lock.with_extension("socket"));
+    let serve = |start, is_deposed| {
+        let store = Behind { store: MemoryStore::default(), start, is_deposed };
+        Server::start(Listener::bind(&address).unwrap(), store).unwrap()
+    };
+    let newer = serve(2, false);
+    let client = Client::join(&address, 1, &lock).unwrap();
+    assert_eq!(client.insert(1, Value::from(1)), Ok(krl::Outcome::Applied));
+    newer.stop().unwrap();
+    let older = serve(1, true);
+    assert!(wait_until(|| !older.is_running()));
+    assert_eq!(older.status().store_alarms, 0);
+    let ended = older.stop().unwrap_err();
+    assert!(matches!(ended, ServeError::Store(StoreError::Deposed(_))), "{ended:?}");
+    drop(client);
     std::fs::remove_file(lock).unwrap();
 }

@@ -1,4 +1,5 @@
 //! A copy of the store of a running server.
+use crate::cause;
 use crate::http;
 use hyper::StatusCode;
 use krl::{Monitor, SqliteStore};
@@ -42,7 +43,7 @@ pub fn make(monitor: &Monitor, order: &Order) -> Result<String, Box<dyn Error + 
         return Err("the path of a backup has to begin at the root".into());
     }
     let snapshot = monitor.snapshot()?;
-    SqliteStore::create(file, &snapshot).map_err(|error| error.0)?;
+    SqliteStore::create(file, &snapshot).map_err(|error| cause(&error))?;
     let (rows, epoch) = (snapshot.rows.len(), snapshot.epoch);
     tracing::info!(file = %file.display(), rows, epoch, "backup");
     Ok(format!("{}: {rows} rows, as of epoch {epoch}\n", file.display()))

@@ -1,4 +1,5 @@
 //! What a store holds, and whether a server can start on it.
+use crate::cause;
 use crate::owner;
 use krl::{Record, SqliteStore};
 use std::error::Error;
@@ -10,8 +11,9 @@ pub fn check(path: &Path) -> Result<ExitCode, Box<dyn Error>> {
     if let Some(by) = owner::served_by(path) {
         return Err(format!("the store {} is served, by {by}", path.display()).into());
     }
-    let file = SqliteStore::read(path)
-        .map_err(|error| format!("{} can't be read as a store: {}", path.display(), error.0))?;
+    let file = SqliteStore::read(path).map_err(|error| {
+        format!("{} can't be read as a store: {}", path.display(), cause(&error))
+    })?;
     let snapshot = &file.snapshot;
     let (gone, there): (Vec<_>, Vec<_>) = snapshot.records.iter().partition(|it| it.left);
     println!("version: {}", file.version);

@@ -1,4 +1,5 @@
 //! The words of the command line.
+use crate::settings::StorePlace;
 use clap::{Args, Parser, Subcommand, ValueEnum};
 use std::path::PathBuf;
 
@@ -97,9 +98,10 @@ the epoch is 4294967296 greater than in the backup, so that no client has seen i
     Restore {
         /// The backup. It is only read, and no server may run on it
         file: PathBuf,
-        /// The new store. A file that exists is never replaced
-        #[arg(long, value_name = "NEW")]
-        store: PathBuf,
+        /// The new store: a file, or a place in a cluster as <etcd://10.0.0.1:2379/krl/orders>. What
+        /// exists is never replaced
+        #[arg(long, value_name = "NEW", value_parser = StorePlace::parse)]
+        store: StorePlace,
         /// Every client's process has ended
         #[arg(long)]
         clients_are_stopped: bool,
@@ -144,9 +146,26 @@ pub struct ServeOptions {
     /// Where clients connect: 127.0.0.1:7400, or unix: and a path
     #[arg(long, env = "KRL_LISTEN", value_name = "ADDRESS")]
     pub listen: Option<String>,
-    /// The SQLite file that keeps the table. It is made if there is none
-    #[arg(long, env = "KRL_STORE", value_name = "FILE")]
+    /// What keeps the table: a file of SQLite, which is made if there is none, or a cluster, as
+    /// etcd://10.0.0.1:2379,10.0.0.2:2379/krl/orders. Over a cluster several servers may run: one
+    /// serves, and the others stand by
+    #[arg(long, env = "KRL_STORE", value_name = "STORE")]
     pub store: Option<String>,
+    /// The certificate of the authority that certified the cluster's nodes, as PEM
+    #[arg(long, env = "KRL_STORE_AUTHORITY", value_name = "FILE")]
+    pub store_authority: Option<String>,
+    /// The certificate that the server shows to the cluster, as PEM
+    #[arg(long, env = "KRL_STORE_CERTIFICATE", value_name = "FILE", requires = "store_key")]
+    pub store_certificate: Option<String>,
+    /// The key of that certificate, as PEM in PKCS #8
+    #[arg(long, env = "KRL_STORE_KEY", value_name = "FILE", requires = "store_certificate")]
+    pub store_key: Option<String>,
+    /// Where clients reach this server, if that is not where it listens. The store tells it
+    #[arg(long, env = "KRL_ADVERTISE", value_name = "ADDRESS")]
+    pub advertise: Option<String>,
+    /// How many seconds a server over a cluster may be silent before another takes its place
+    #[arg(long, env = "KRL_ELECTION_LEASE", value_name = "SECONDS")]
+    pub election_lease: Option<String>,
     /// Where the status is served by HTTP: 127.0.0.1:7401, or off
     #[arg(long, env = "KRL_STATUS", value_name = "ADDRESS")]
     pub status: Option<String>,
@@ -156,7 +175,7 @@ pub struct ServeOptions {
     /// How events are logged to standard error: text or json
     #[arg(long, env = "KRL_LOG_FORMAT", value_name = "FORMAT")]
     pub log_format: Option<String>,
-    /// A configuration file in TOML, with the keys listen, store, status, log-level, log-format
+    /// A configuration file in TOML. Its keys are the names of these options
     #[arg(long, env = "KRL_CONFIG", value_name = "FILE")]
     pub config: Option<PathBuf>,
 }

@@ -9,13 +9,15 @@ mod log;
 mod owner;
 mod pages;
 mod restore;
+mod role;
 mod serve;
 mod settings;
+mod stand_by;
 mod status_port;
 
 use clap::{ArgMatches, CommandFactory, FromArgMatches};
 use command_line::{Command, CommandLine, ServeOptions};
-use krl::Address;
+use krl::{Address, StoreError};
 use settings::{BadSetting, Settings};
 use std::error::Error;
 use std::path::Path;
@@ -83,4 +85,9 @@ fn sentence(error: &dyn Error) -> String {
         cause = error.source();
     }
     text
+}
+
+/// What made a store fail, without saying once more that it is a store.
+fn cause(error: &StoreError) -> String {
+    error.source().map_or_else(|| error.to_string(), ToString::to_string)
 }

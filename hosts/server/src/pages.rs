@@ -2,6 +2,7 @@
 use crate::backup::{self, Order};
 use crate::http;
 use crate::locks::{self, Question};
+use crate::role::{Role, State};
 use hyper::header::{ACCEPT, ALLOW, CONTENT_TYPE};
 use hyper::{Body, Method, Request, Response, StatusCode};
 use krl::{HeldSlots, Monitor, Status, Wait};
@@ -54,8 +55,12 @@ pub fn fetch(address: &str, json: bool) -> Result<String, Box<dyn Error>> {
 }
 
 /// What a request of this peer is answered.
-pub async fn answer(request: Request<Body>, peer: IpAddr, monitor: Monitor) -> Response<Body> {
+pub async fn answer(request: Request<Body>, peer: IpAddr, role: Role) -> Response<Body> {
     let path = request.uri().path();
+    let state = role.state();
+    let State::Serves { monitor, .. } = state.clone() else {
+        return response(without_a_server(path, accepts(&request), &state));
+    };
     let page = match (request.method(), path) {
         (&Method::POST, backup::PATH) if !may_order(peer) => Page::text(
             StatusCode::FORBIDDEN,
@@ -67,7 +72,7 @@ pub async fn answer(request: Request<Body>, peer: IpAddr, monitor: Monitor) -> R
             let query = request.uri().query().unwrap_or("");
             locks_page(query, accepts(&request).contains(JSON), monitor).await
         }
-        (&Method::GET | &Method::HEAD, _) => shown(path, accepts(&request), &monitor),
+        (&Method::GET | &Method::HEAD, _) => shown(path, accepts(&request), &monitor, &state),
         _ => return refused_method("GET, HEAD"),
     };
     response(page)
@@ -91,14 +96,50 @@ fn refused_method(allowed: &'static str) -> Response<Body> {
     response
 }
 
-fn shown(path: &str, accepts: &str, monitor: &Monitor) -> Page {
+/// What a process answers that does not serve.
+fn without_a_server(path: &str, accepts: &str, state: &State) -> Page {
+    let text = format!("role: {state}\n");
+    match path {
+        "/healthz" => Page::text(StatusCode::OK, "ok\n"),
+        "/status" if accepts.contains(JSON) => role_as_json(state),
+        "/status" => Page::text(StatusCode::OK, text),
+        "/status.json" => role_as_json(state),
+        "/metrics" => Page::new(StatusCode::OK, METRICS, role_as_metrics(state)),
+        "/readyz" | locks::PATH | backup::PATH => Page::text(StatusCode::SERVICE_UNAVAILABLE, text),
+        _ => Page::text(StatusCode::NOT_FOUND, PATHS),
+    }
+}
+
+fn role_as_json(state: &State) -> Page {
+    let leader = match state {
+        State::StandsBy { leader } => Some(leader),
+        _ => None,
+    };
+    let text = json!({
+        "version": env!("CARGO_PKG_VERSION"), "role": state.word(), "leader": leader,
+    });
+    Page::new(StatusCode::OK, JSON, format!("{text:#}\n"))
+}
+
+fn role_as_metrics(state: &State) -> String {
+    let serves = u8::from(matches!(state, State::Serves { .. }));
+    format!(
+        "# HELP krl_leader Whether this process serves: 1, or stands by: 0.\n\
+         # TYPE krl_leader gauge\n\
+         krl_leader {serves}\n"
+    )
+}
+
+fn shown(path: &str, accepts: &str, monitor: &Monitor, state: &State) -> Page {
     match path {
         "/healthz" => health(monitor.since_last_turn()),
         "/readyz" => readiness(&monitor.status()),
-        "/status" if accepts.contains(JSON) => as_json(&monitor.status()),
+        "/status" if accepts.contains(JSON) => as_json(&monitor.status(), state),
         "/status" => Page::text(StatusCode::OK, monitor.status().to_string()),
-        "/status.json" => as_json(&monitor.status()),
-        "/metrics" => Page::new(StatusCode::OK, METRICS, monitor.metrics()),
+        "/status.json" => as_json(&monitor.status(), state),
+        "/metrics" => {
+            Page::new(StatusCode::OK, METRICS, monitor.metrics() + &role_as_metrics(state))
+        }
         _ => Page::text(StatusCode::NOT_FOUND, PATHS),
     }
 }
@@ -160,10 +201,12 @@ pub fn wait_as_json(wait: &Wait) -> serde_json::Value {
     })
 }
 
-fn as_json(status: &Status) -> Page {
+fn as_json(status: &Status, state: &State) -> Page {
     let holds = |held: &HeldSlots| json!({ "client": held.client, "slots": held.slots });
     let text = json!({
         "version": env!("CARGO_PKG_VERSION"),
+        "role": state.word(),
+        "serves_since": state.since(),
         "epoch": status.epoch,
         "phase": if status.is_serving { "serving" } else { "recovering" },
         "failure": status.failure,
@@ -174,6 +217,7 @@ fn as_json(status: &Status) -> Page {
         "holdings": status.holdings.iter().map(holds).collect::<Vec<_>>(),
         "alarms": status.alarms,
         "alarms_total": status.alarms_raised,
+        "store_alarms_total": status.store_alarms,
         "messages_taken_total": status.taken,
         "messages_sent_total": status.sent,
         "messages_refused_total": status.refused,
@@ -277,7 +321,7 @@ mod tests {
         let holdings = vec![HeldSlots { client: 2, slots: 7 }];
         let status =
             Status { epoch: 4, waits: vec![wait], holdings, commits: 9, ..Status::default() };
-        let page = as_json(&status);
+        let page = as_json(&status, &State::Starts);
         let value: serde_json::Value = serde_json::from_str(&page.text).unwrap();
         assert_eq!(value["epoch"], 4);
         assert_eq!(value["phase"], "recovering");

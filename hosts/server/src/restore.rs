@@ -1,7 +1,10 @@
 //! A new store from a backup, for a server that takes up work again.
+use crate::cause;
 use crate::owner;
-use crate::settings::BadSetting;
+use crate::settings::{BadSetting, StorePlace};
+use crate::stand_by;
 use krl::{END, Snapshot, SqliteStore};
+use krl_etcd::EtcdStore;
 use std::error::Error;
 use std::path::Path;
 
@@ -16,25 +19,36 @@ const CLIENTS_LIVE: &str = "\
     what is no longer so";
 
 /// Writes the backup as a new store on which a server serves at once, and says what it has.
-pub fn restore(backup: &Path, store: &Path, are_stopped: bool) -> Result<(), Box<dyn Error>> {
+pub fn restore(backup: &Path, store: &StorePlace, are_stopped: bool) -> Result<(), Box<dyn Error>> {
     if !are_stopped {
         return Err(BadSetting::new(CLIENTS_LIVE.to_string()).into());
     }
-    for path in [backup, store] {
+    let file = match store {
+        StorePlace::File(path) => Some(path.as_path()),
+        StorePlace::Etcd(_) => None,
+    };
+    for path in [Some(backup), file].into_iter().flatten() {
         if let Some(by) = owner::served_by(path) {
             return Err(format!("the store {} is served, by {by}", path.display()).into());
         }
     }
-    let file = SqliteStore::read(backup)
-        .map_err(|error| format!("{} can't be read as a store: {}", backup.display(), error.0))?;
+    let file = SqliteStore::read(backup).map_err(|error| {
+        format!("{} can't be read as a store: {}", backup.display(), cause(&error))
+    })?;
     let before = file.snapshot.epoch;
     let snapshot = restored(file.snapshot)?;
     snapshot
         .judge()
         .map_err(|code| format!("no server can start on {}: {code}", backup.display()))?;
-    SqliteStore::create(store, &snapshot).map_err(|error| error.0.to_string())?;
+    let made = match store {
+        StorePlace::File(path) => SqliteStore::create(path, &snapshot),
+        StorePlace::Etcd(address) => {
+            EtcdStore::create(address, &stand_by::credentials_of_environment(), &snapshot)
+        }
+    };
+    made.map_err(|error| cause(&error))?;
     let Snapshot { epoch, rows, records } = snapshot;
-    println!("{}: {} rows, epoch {epoch} after {before}", store.display(), rows.len());
+    println!("{store}: {} rows, epoch {epoch} after {before}", rows.len());
     println!("clients that count as left: {}", records.len());
     Ok(())
 }

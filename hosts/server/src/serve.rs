@@ -1,15 +1,18 @@
 //! A server, from its start until it is told to stop.
+use crate::cause;
 use crate::log;
 use crate::owner::Owner;
-use crate::settings::{Settings, StatusAddress};
-use crate::status_port;
-use krl::{Listener, Server, SqliteStore};
+use crate::role::Role;
+use crate::settings::{Settings, StatusAddress, StorePlace};
+use crate::{stand_by, status_port};
+use krl::{Listener, ServeError, Server, SqliteStore};
 use sd_notify::NotifyState;
 use signal_hook::consts::{SIGINT, SIGTERM};
 use signal_hook::flag::{register, register_conditional_shutdown};
 use signal_hook::low_level::signal_name;
 use std::error::Error;
 use std::io;
+use std::path::Path;
 use std::process::ExitCode;
 use std::sync::Arc;
 use std::sync::atomic::{AtomicBool, AtomicUsize, Ordering};
@@ -38,45 +41,84 @@ pub fn serve(settings: &Settings) -> ExitCode {
 }
 
 fn run(settings: &Settings) -> Result<(), Box<dyn Error>> {
-    let signal = Signal::catch()?;
-    let (listen, path) = (&settings.listen.value, &settings.store.value);
-    let _owner = Owner::take(path, listen)?;
-    let store = SqliteStore::open(path)
-        .map_err(|error| format!("the store {} can't be opened: {}", path.display(), error.0))?;
-    let listener = Listener::bind(listen)
-        .map_err(|error| format!("can't listen for clients at {listen}: {error}"))?;
-    let server = Server::start(listener, store)?;
-    let status = server.status();
+    let (signal, role) = (Signal::catch()?, Role::default());
     if let StatusAddress::At(address) = settings.status.value {
-        let at = status_port::start(address, server.monitor())
+        let at = status_port::start(address, role.clone())
             .map_err(|error| format!("can't serve the status at {address}: {error}"))?;
         tracing::info!(address = %at, "status port");
     }
+    match &settings.store.value {
+        StorePlace::File(path) => serve_file(settings, path, &signal, &role)?,
+        StorePlace::Etcd(address) => stand_by::run(settings, address, &signal, &role)?,
+    }
+    if let Some(signal) = signal.name() {
+        tracing::info!(signal, "stopping");
+    }
+    Ok(())
+}
+
+/// Serves what a file has, which no other process serves meanwhile.
+fn serve_file(
+    settings: &Settings,
+    path: &Path,
+    signal: &Signal,
+    role: &Role,
+) -> Result<(), Box<dyn Error>> {
+    let listen = &settings.listen.value;
+    let _owner = Owner::take(path, listen)?;
+    let store = SqliteStore::open(path).map_err(|error| {
+        format!("the store {} can't be opened: {}", path.display(), cause(&error))
+    })?;
+    let listener = Listener::bind(listen)
+        .map_err(|error| format!("can't listen for clients at {listen}: {error}"))?;
+    let server = Server::start(listener, store)?;
+    ready(settings, &server, role);
+    until_it_ends(server, signal, |wait| {
+        thread::sleep(wait);
+        true
+    })?;
+    Ok(())
+}
+
+/// Tells the log, the status port and the service manager that the server serves.
+pub fn ready(settings: &Settings, server: &Server, role: &Role) {
+    role.serves(server.monitor());
     tracing::info!(
         version = env!("CARGO_PKG_VERSION"),
-        epoch = status.epoch,
+        epoch = server.status().epoch,
         address = %server.address(),
-        store = %path.display(),
+        store = %settings.store.value,
         "ready"
     );
     tell(&[NotifyState::Ready]);
-    let signal = wait(&server, &signal);
-    tell(&[NotifyState::Stopping]);
-    if let Some(signal) = signal {
-        tracing::info!(signal, "stopping");
-    }
-    Ok(server.stop()?)
 }
 
-/// Waits until a signal comes, and says which; or until the server has ended by itself.
-fn wait(server: &Server, signal: &Signal) -> Option<&'static str> {
-    while server.is_running() {
-        if let Some(name) = signal.name() {
-            return Some(name);
+/// How a server that did not fail has ended.
+#[derive(Clone, Copy, Debug, PartialEq, Eq)]
+pub enum Ended {
+    BySignal,
+    LeaseRanOut,
+}
+
+/// Waits until a signal comes, or until `runs` says after a wait that the server is to run no more,
+/// and stops the server then; or until it has failed by itself.
+pub fn until_it_ends(
+    server: Server,
+    signal: &Signal,
+    runs: impl Fn(Duration) -> bool,
+) -> Result<Ended, ServeError> {
+    let mut ended = Ended::BySignal;
+    while server.is_running() && signal.name().is_none() {
+        if !runs(LOOK) {
+            ended = Ended::LeaseRanOut;
+            break;
         }
-        thread::sleep(LOOK);
     }
-    None
+    if signal.name().is_some() {
+        tell(&[NotifyState::Stopping]);
+    }
+    server.stop()?;
+    Ok(ended)
 }
 
 /// Tells the service manager, if there is one.
@@ -87,7 +129,7 @@ fn tell(state: &[NotifyState]) {
 }
 
 /// The signal that tells the process to stop. A second one ends it at once.
-struct Signal {
+pub struct Signal {
     number: Arc<AtomicUsize>,
 }
 
@@ -104,7 +146,7 @@ impl Signal {
         Ok(Signal { number })
     }
 
-    fn name(&self) -> Option<&'static str> {
+    pub fn name(&self) -> Option<&'static str> {
         match i32::try_from(self.number.load(Ordering::Relaxed)) {
             Ok(0) | Err(_) => None,
             Ok(signal) => Some(signal_name(signal).unwrap_or("a signal")),

@@ -1,11 +1,16 @@
 //! The settings of a server, and where each comes from.
+pub mod key;
+mod value;
+
+pub use key::Key;
+pub use value::{LogFormat, Optional, Seconds, StatusAddress, StorePlace};
+
 use crate::command_line::ServeOptions;
 use clap::ArgMatches;
 use clap::parser::ValueSource;
 use krl::Address;
 use serde::Deserialize;
 use std::fmt;
-use std::net::{SocketAddr, ToSocketAddrs};
 use std::path::{Path, PathBuf};
 use tracing::level_filters::LevelFilter;
 
@@ -14,10 +19,6 @@ pub const LISTEN: &str = "127.0.0.1:7400";
 
 /// Where the status is served if nothing says otherwise.
 pub const STATUS: &str = "127.0.0.1:7401";
-
-const STORE: &str = "krl.db";
-const LOG_LEVEL: &str = "info";
-const LOG_FORMAT: &str = "text";
 
 /// A value, and where it comes from.
 #[derive(Clone, Debug, PartialEq, Eq)]
@@ -39,24 +40,15 @@ pub enum Source {
 #[derive(Debug)]
 pub struct Settings {
     pub listen: Setting<Address>,
-    pub store: Setting<PathBuf>,
+    pub store: Setting<StorePlace>,
+    pub store_authority: Setting<Optional<PathBuf>>,
+    pub store_certificate: Setting<Optional<PathBuf>>,
+    pub store_key: Setting<Optional<PathBuf>>,
+    pub advertise: Setting<Optional<Address>>,
+    pub election_lease: Setting<Seconds>,
     pub status: Setting<StatusAddress>,
     pub log_level: Setting<LevelFilter>,
     pub log_format: Setting<LogFormat>,
-}
-
-/// Where the status is served, or that it is not.
-#[derive(Clone, Copy, Debug, PartialEq, Eq)]
-pub enum StatusAddress {
-    Off,
-    At(SocketAddr),
-}
-
-/// How events are written.
-#[derive(Clone, Copy, Debug, PartialEq, Eq)]
-pub enum LogFormat {
-    Text,
-    Json,
 }
 
 /// What a configuration file may say.
@@ -65,6 +57,11 @@ pub enum LogFormat {
 struct ConfigFile {
     listen: Option<String>,
     store: Option<String>,
+    store_authority: Option<String>,
+    store_certificate: Option<String>,
+    store_key: Option<String>,
+    advertise: Option<String>,
+    election_lease: Option<u64>,
     status: Option<String>,
     log_level: Option<String>,
     log_format: Option<String>,
@@ -74,57 +71,6 @@ struct ConfigFile {
 #[derive(Debug, PartialEq, Eq)]
 pub struct BadSetting(String);
 
-/// The names of one setting.
-struct Key {
-    name: &'static str,
-    flag: &'static str,
-    variable: &'static str,
-    id: &'static str,
-    default: &'static str,
-    expected: &'static str,
-}
-
-const LISTEN_KEY: Key = Key {
-    name: "listen",
-    flag: "--listen",
-    variable: "KRL_LISTEN",
-    id: "listen",
-    default: LISTEN,
-    expected: "an address such as 127.0.0.1:7400, or unix: and a path",
-};
-const STORE_KEY: Key = Key {
-    name: "store",
-    flag: "--store",
-    variable: "KRL_STORE",
-    id: "store",
-    default: STORE,
-    expected: "the path of a file",
-};
-const STATUS_KEY: Key = Key {
-    name: "status",
-    flag: "--status",
-    variable: "KRL_STATUS",
-    id: "status",
-    default: STATUS,
-    expected: "an address such as 127.0.0.1:7401, or off",
-};
-const LOG_LEVEL_KEY: Key = Key {
-    name: "log-level",
-    flag: "--log-level",
-    variable: "KRL_LOG_LEVEL",
-    id: "log_level",
-    default: LOG_LEVEL,
-    expected: "error, warn, info, debug or trace",
-};
-const LOG_FORMAT_KEY: Key = Key {
-    name: "log-format",
-    flag: "--log-format",
-    variable: "KRL_LOG_FORMAT",
-    id: "log_format",
-    default: LOG_FORMAT,
-    expected: "text or json",
-};
-
 impl Settings {
     /// The settings of these options: a flag comes first, then the environment, then the
     /// configuration file, then the default. `matches` says which option came from where.
@@ -132,14 +78,69 @@ impl Settings {
         let path = options.config.as_deref();
         let file = path.map(ConfigFile::read).transpose()?.unwrap_or_default();
         let given = Given { matches, path };
-        let ServeOptions { listen, store, status, log_level, log_format, .. } = options;
-        let (level, format) = (log_level.as_ref(), log_format.as_ref());
+        let seconds = file.election_lease.map(|seconds| seconds.to_string());
+        let path = value::parse_optional_path;
         Ok(Settings {
-            listen: given.setting(&LISTEN_KEY, listen.as_ref(), file.listen, parse_address)?,
-            store: given.setting(&STORE_KEY, store.as_ref(), file.store, parse_path)?,
-            status: given.setting(&STATUS_KEY, status.as_ref(), file.status, parse_status)?,
-            log_level: given.setting(&LOG_LEVEL_KEY, level, file.log_level, parse_level)?,
-            log_format: given.setting(&LOG_FORMAT_KEY, format, file.log_format, parse_format)?,
+            listen: given.setting(
+                &key::LISTEN,
+                options.listen.as_ref(),
+                file.listen,
+                value::parse_address,
+            )?,
+            store: given.setting(
+                &key::STORE,
+                options.store.as_ref(),
+                file.store,
+                value::parse_store,
+            )?,
+            store_authority: given.setting(
+                &key::STORE_AUTHORITY,
+                options.store_authority.as_ref(),
+                file.store_authority,
+                path,
+            )?,
+            store_certificate: given.setting(
+                &key::STORE_CERTIFICATE,
+                options.store_certificate.as_ref(),
+                file.store_certificate,
+                path,
+            )?,
+            store_key: given.setting(
+                &key::STORE_KEY,
+                options.store_key.as_ref(),
+                file.store_key,
+                path,
+            )?,
+            advertise: given.setting(
+                &key::ADVERTISE,
+                options.advertise.as_ref(),
+                file.advertise,
+                value::parse_optional_address,
+            )?,
+            election_lease: given.setting(
+                &key::ELECTION_LEASE,
+                options.election_lease.as_ref(),
+                seconds,
+                value::parse_seconds,
+            )?,
+            status: given.setting(
+                &key::STATUS,
+                options.status.as_ref(),
+                file.status,
+                value::parse_status,
+            )?,
+            log_level: given.setting(
+                &key::LOG_LEVEL,
+                options.log_level.as_ref(),
+                file.log_level,
+                value::parse_level,
+            )?,
+            log_format: given.setting(
+                &key::LOG_FORMAT,
+                options.log_format.as_ref(),
+                file.log_format,
+                value::parse_format,
+            )?,
         })
     }
 }
@@ -188,40 +189,6 @@ impl ConfigFile {
     }
 }
 
-fn parse_address(text: &str) -> Option<Address> {
-    text.parse().ok()
-}
-
-fn parse_path(text: &str) -> Option<PathBuf> {
-    (!text.is_empty()).then(|| text.into())
-}
-
-fn parse_status(text: &str) -> Option<StatusAddress> {
-    match text {
-        "off" => Some(StatusAddress::Off),
-        _ => text.to_socket_addrs().ok()?.next().map(StatusAddress::At),
-    }
-}
-
-fn parse_level(text: &str) -> Option<LevelFilter> {
-    match text {
-        "error" => Some(LevelFilter::ERROR),
-        "warn" => Some(LevelFilter::WARN),
-        "info" => Some(LevelFilter::INFO),
-        "debug" => Some(LevelFilter::DEBUG),
-        "trace" => Some(LevelFilter::TRACE),
-        _ => None,
-    }
-}
-
-fn parse_format(text: &str) -> Option<LogFormat> {
-    match text {
-        "text" => Some(LogFormat::Text),
-        "json" => Some(LogFormat::Json),
-        _ => None,
-    }
-}
-
 impl fmt::Display for Source {
     fn fmt(&self, f: &mut fmt::Formatter<'_>) -> fmt::Result {
         match self {
@@ -230,24 +197,6 @@ impl fmt::Display for Source {
             Source::File(path) => write!(f, "from the file {}", path.display()),
             Source::Default => f.write_str("by default"),
         }
-    }
-}
-
-impl fmt::Display for StatusAddress {
-    fn fmt(&self, f: &mut fmt::Formatter<'_>) -> fmt::Result {
-        match self {
-            StatusAddress::Off => f.write_str("off"),
-            StatusAddress::At(address) => address.fmt(f),
-        }
-    }
-}
-
-impl fmt::Display for LogFormat {
-    fn fmt(&self, f: &mut fmt::Formatter<'_>) -> fmt::Result {
-        f.write_str(match self {
-            LogFormat::Text => "text",
-            LogFormat::Json => "json",
-        })
     }
 }
 
@@ -269,20 +218,42 @@ impl std::error::Error for BadSetting {}
 /// comes from.
 impl fmt::Display for Settings {
     fn fmt(&self, f: &mut fmt::Formatter<'_>) -> fmt::Result {
-        line(f, &LISTEN_KEY, &self.listen.value, &self.listen.source)?;
-        line(f, &STORE_KEY, &self.store.value.display(), &self.store.source)?;
-        line(f, &STATUS_KEY, &self.status.value, &self.status.source)?;
-        line(f, &LOG_LEVEL_KEY, &self.log_level.value, &self.log_level.source)?;
-        line(f, &LOG_FORMAT_KEY, &self.log_format.value, &self.log_format.source)
+        line(f, &key::LISTEN, &self.listen)?;
+        line(f, &key::STORE, &self.store)?;
+        optional_line(f, &key::STORE_AUTHORITY, &self.store_authority)?;
+        optional_line(f, &key::STORE_CERTIFICATE, &self.store_certificate)?;
+        optional_line(f, &key::STORE_KEY, &self.store_key)?;
+        if let StorePlace::Etcd(_) = self.store.value {
+            optional_line(f, &key::ADVERTISE, &self.advertise)?;
+            line(f, &key::ELECTION_LEASE, &self.election_lease)?;
+        }
+        line(f, &key::STATUS, &self.status)?;
+        line(f, &key::LOG_LEVEL, &self.log_level)?;
+        line(f, &key::LOG_FORMAT, &self.log_format)
     }
 }
 
-fn line(
+fn line<T: fmt::Display>(
     f: &mut fmt::Formatter<'_>,
     key: &Key,
-    value: &dyn fmt::Display,
-    source: &Source,
+    setting: &Setting<T>,
 ) -> fmt::Result {
-    let value = toml::Value::String(value.to_string());
-    writeln!(f, "{} = {value} # {source}", key.name)
+    let text = setting.value.to_string();
+    let value = match text.parse() {
+        Ok(number) if key.name == key::ELECTION_LEASE.name => toml::Value::Integer(number),
+        _ => toml::Value::String(text),
+    };
+    writeln!(f, "{} = {value} # {}", key.name, setting.source)
+}
+
+/// A setting that is left out has no line: a file can't say so otherwise.
+fn optional_line<T>(
+    f: &mut fmt::Formatter<'_>,
+    key: &Key,
+    setting: &Setting<Optional<T>>,
+) -> fmt::Result
+where
+    Optional<T>: fmt::Display,
+{
+    if setting.value.0.is_some() { line(f, key, setting) } else { Ok(()) }
 }

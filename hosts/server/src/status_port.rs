@@ -1,8 +1,8 @@
 //! The status port: HTTP in a thread of its own.
 use crate::pages;
+use crate::role::Role;
 use hyper::server::conn::Http;
 use hyper::service::service_fn;
-use krl::Monitor;
 use std::convert::Infallible;
 use std::io;
 use std::net::{SocketAddr, TcpListener};
@@ -25,13 +25,13 @@ const WHOLE: Duration = Duration::from_secs(90);
 const PAUSE: Duration = Duration::from_millis(50);
 
 /// Serves the pages at the address, and says where it listens.
-pub fn start(address: SocketAddr, monitor: Monitor) -> io::Result<SocketAddr> {
+pub fn start(address: SocketAddr, role: Role) -> io::Result<SocketAddr> {
     let listener = TcpListener::bind(address)?;
     listener.set_nonblocking(true)?;
     let at = listener.local_addr()?;
     let runtime = tokio::runtime::Builder::new_current_thread().enable_all().build()?;
     let serves = move || {
-        if let Err(error) = runtime.block_on(serve(listener, monitor)) {
+        if let Err(error) = runtime.block_on(serve(listener, role)) {
             tracing::error!(%error, "the status port ended");
         }
     };
@@ -39,7 +39,7 @@ pub fn start(address: SocketAddr, monitor: Monitor) -> io::Result<SocketAddr> {
     Ok(at)
 }
 
-async fn serve(listener: TcpListener, monitor: Monitor) -> io::Result<()> {
+async fn serve(listener: TcpListener, role: Role) -> io::Result<()> {
     let listener = tokio::net::TcpListener::from_std(listener)?;
     let places = Arc::new(Semaphore::new(MAX_CONNECTIONS));
     loop {
@@ -48,12 +48,12 @@ async fn serve(listener: TcpListener, monitor: Monitor) -> io::Result<()> {
             sleep(PAUSE).await;
             continue;
         };
-        let monitor = monitor.clone();
+        let role = role.clone();
         tokio::spawn(async move {
             let _place = place;
             let answer = service_fn(|request| {
-                let monitor = monitor.clone();
-                async move { Ok::<_, Infallible>(pages::answer(request, peer.ip(), monitor).await) }
+                let role = role.clone();
+                async move { Ok::<_, Infallible>(pages::answer(request, peer.ip(), role).await) }
             });
             let mut http = Http::new();
             http.http1_only(true).http1_keep_alive(false).http1_header_read_timeout(HEAD);

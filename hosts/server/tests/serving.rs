@@ -199,12 +199,22 @@ fn a_server_is_ready_when_nobody_is_missing() {
     until("the server serves", || serving.get("/readyz").0 == 200);
 }
 
+/// Says that the test is over, also if it fails: else the client would go on for ever.
+struct Over<'f>(&'f AtomicBool);
+
+impl Drop for Over<'_> {
+    fn drop(&mut self) {
+        self.0.store(true, Ordering::Relaxed);
+    }
+}
+
 #[test]
 fn a_backup_under_load_is_the_table_at_a_moment() {
     let folder = tempfile::tempdir().unwrap();
     let serving = Serving::start(&folder.path().join("krl.db"));
     let (count, ends) = (AtomicU64::new(0), AtomicBool::new(false));
     thread::scope(|scope| {
+        let _over = Over(&ends);
         scope.spawn(|| {
             let client = serving.join(folder.path(), 9);
             for key in 0.. {
@@ -224,7 +234,6 @@ fn a_backup_under_load_is_the_table_at_a_moment() {
             assert_eq!(output.status.code(), Some(0), "{}", errors(&output));
             is_moment(&file, before, after + 1);
         }
-        ends.store(true, Ordering::Relaxed);
     });
 }
 

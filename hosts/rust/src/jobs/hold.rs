@@ -1,7 +1,7 @@
 //! Taking a range part by part, and pinning what is taken.
 use super::{Asked, Job, JobId, Jobs, Reply};
+use crate::client_handle::{Mode, Scan};
 use crate::code::Code;
-use crate::handle::{Mode, Scan};
 use crate::row::Row;
 use std::ops::Range;
 
@@ -77,20 +77,20 @@ impl Jobs {
         // A grant is looked at once: a callback may come behind it.
         let granted = if is_granted { taking.asked.take() } else { None };
         let mut rows = Vec::new();
-        let (known, count) = match self.scan(&taking.keys, &mut rows)? {
-            Scan::Rows(count) => (taking.keys.end, Some(count)),
-            Scan::Miss(point) => (point, None),
-            Scan::Pending | Scan::TooShort(_) => return Ok(None),
+        let known = match self.client.scan(&taking.keys, &mut rows)? {
+            Scan::Rows => taking.keys.end,
+            Scan::Miss(point) => point,
+            Scan::Pending => return Ok(None),
         };
         let held = match taking.purpose {
             Purpose::Read => known,
             Purpose::Update => self.held_for_update(taking, known, granted)?,
         };
         self.pin_to(taking, held)?;
-        if let (Some(pin), Some(count)) = (taking.pin, count)
+        if let Some(pin) = taking.pin
+            && known == taking.keys.end
             && held == taking.keys.end
         {
-            rows.truncate(count);
             return Ok(Some(Held { rows, pin }));
         }
         if self.ask(id, held..taking.keys.end, taking.mode())? {
@@ -113,11 +113,11 @@ impl Jobs {
             return Ok(taking.next);
         }
         let mut rows = Vec::new();
-        let Scan::Rows(count) = self.scan(&(taking.next..known), &mut rows)? else {
+        let Scan::Rows = self.client.scan(&(taking.next..known), &mut rows)? else {
             return Ok(taking.next);
         };
         let mut held = taking.next;
-        for row in rows.iter().take(count) {
+        for row in &rows {
             if !self.client.may_update(row.key) {
                 return Ok(held);
             }

@@ -79,7 +79,7 @@ impl World {
     }
 
     fn is_cached(&mut self, client: usize, keys: Range<u64>) -> bool {
-        matches!(self.clients[client].scan(&keys, &mut Vec::new()), Ok(Scan::Rows(_)))
+        self.clients[client].cache().scan(&keys, &mut Vec::new()) == Ok(Scan::Rows)
     }
 }
 
@@ -163,6 +163,22 @@ fn a_client_has_left_when_the_server_says_so() {
 }
 
 #[test]
+fn a_cache_knows_nothing_of_what_was_dropped() {
+    let mut world = World::new();
+    let cache = world.clients[0].cache();
+    let (keys, mut rows) = (0..30, Vec::new());
+    world.read(0, keys.clone());
+    assert_eq!(cache.scan(&keys, &mut rows), Ok(Scan::Rows));
+    world.clients[0].drop_all();
+    assert_eq!(cache.scan(&keys, &mut rows), Err(Code::Closed));
+    world.clients[0].begin_anew(ClientHandle::open(0, 2).unwrap());
+    assert_eq!(cache.scan(&keys, &mut rows), Ok(Scan::Miss(0)));
+    world.settle();
+    world.read(0, keys.clone());
+    assert_eq!(cache.scan(&keys, &mut rows), Ok(Scan::Rows));
+}
+
+#[test]
 fn whoever_waits_hears_that_the_thread_has_ended() {
     use std::sync::mpsc::TryRecvError;
     let mut world = World::new();
@@ -192,4 +208,54 @@ fn what_is_called_back_in_a_pin_is_given_back_behind_it() {
     assert!(!world.is_cached(0, 10..11));
     assert!(world.is_cached(0, 20..25), "nobody called that back");
     assert_eq!(world.read(0, 0..30), [row(10, 2)]);
+}
+
+#[test]
+fn a_client_that_drops_all_answers_says_and_hears_nothing_until_it_begins_anew() {
+    let mut world = World::new();
+    assert_eq!(world.write(1, Write::Insert(row(10, 1))), Outcome::Applied);
+    world.read(0, 0..11);
+    let (read, write) = (world.clients[0].read(0..50), world.clients[0].write(Write::Delete(10)));
+    let said = world.said(0);
+    world.tell_server(&said);
+    let late = messages(|frames| world.server.take(frames).unwrap());
+    assert!(!late.is_empty());
+    world.clients[0].drop_all();
+    assert_eq!(read.answer.try_recv(), Ok(Err(Refused::StoreWentBack)));
+    assert_eq!(write.answer.try_recv(), Ok(Err(Refused::StoreWentBack)));
+    let later = world.clients[0].read(0..11);
+    for message in &late {
+        world.clients[0].hear(message).unwrap();
+    }
+    world.clients[0].tick();
+    world.clients[0].advance(Asking::Allowed);
+    assert!(!world.is_cached(0, 0..11));
+    assert_eq!(world.said(0).len(), 0);
+    assert!(later.answer.try_recv().is_err());
+    world.clients[0].begin_anew(ClientHandle::open(0, 2).unwrap());
+    assert!(!world.is_cached(0, 0..11));
+    world.clients[0].tick();
+    world.settle();
+    assert_eq!(later.answer.try_recv(), Ok(Ok(vec![row(10, 1)])));
+}
+
+#[test]
+fn a_client_that_leaves_and_drops_all_has_left_when_the_new_bye_is_kept() {
+    for leaves_first in [true, false] {
+        let mut world = World::new();
+        let before = leaves_first.then(|| world.clients[0].leave());
+        world.clients[0].drop_all();
+        let left = before.unwrap_or_else(|| world.clients[0].leave());
+        // That the old Bye is kept says nothing of the new one.
+        world.clients[0].hear(&[]).unwrap();
+        world.clients[0].begin_anew(ClientHandle::open(0, 2).unwrap());
+        world.clients[0].hear(&[]).unwrap();
+        assert!(left.answer.try_recv().is_err() && world.clients[0].are_open());
+        world.clients[0].tick();
+        world.settle();
+        let record = world.server.record(0).unwrap().unwrap();
+        assert_eq!((record.incarnation, record.left), (2, true));
+        world.clients[0].hear(&[]).unwrap();
+        assert_eq!(left.answer.try_recv(), Ok(Ok(())));
+    }
 }

@@ -1,7 +1,7 @@
 //! Ranges whose changes a caller waits for.
 use super::{Asked, JobId, Jobs, Reply};
+use crate::client_handle::Scan;
 use crate::code::Code;
-use crate::handle::Scan;
 use crate::row::Row;
 use std::ops::Range;
 use std::sync::mpsc::sync_channel;
@@ -50,8 +50,8 @@ impl Jobs {
     /// answered it has learnt nothing else.
     fn knows(&mut self, keys: &Range<u64>, rows: &[Row]) -> bool {
         let mut room = std::mem::take(&mut self.room);
-        let is_known = match self.scan(keys, &mut room) {
-            Ok(Scan::Rows(count)) => room.get(..count) == Some(rows),
+        let is_known = match self.client.scan(keys, &mut room) {
+            Ok(Scan::Rows) => room == rows,
             Ok(Scan::Pending) => true,
             _ => false,
         };

@@ -1,9 +1,9 @@
 //! Writes: the locks that each needs, and how it was judged.
 use super::{Job, JobId, Jobs, Reply};
 use crate::change::{Outcome, Write};
+use crate::client_handle::{Mode, Scan, Shown};
 use crate::code::Code;
-use crate::handle::{Mode, Scan, Shown};
-use crate::row::Row;
+use crate::refused::Refused;
 
 /// The write that is on its way. A client has one at most.
 pub(super) struct Written {
@@ -11,6 +11,12 @@ pub(super) struct Written {
     write: Write,
     number: u64,
     reply: Reply<Outcome>,
+}
+
+impl Written {
+    pub fn refuse(self, why: Refused) {
+        self.reply.end(Err(why));
+    }
 }
 
 /// How far a write has come.
@@ -87,7 +93,7 @@ impl Jobs {
     }
 
     fn is_empty_at(&mut self, key: u64) -> bool {
-        let mut row = [Row::default()];
-        matches!(self.client.scan(&(key..key + 1), &mut row), Ok(Scan::Rows(0)))
+        let mut rows = Vec::new();
+        self.client.scan(&(key..key + 1), &mut rows) == Ok(Scan::Rows) && rows.is_empty()
     }
 }

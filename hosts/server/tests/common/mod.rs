@@ -12,8 +12,8 @@ use std::time::{Duration, Instant};
 /// The program, with none of its variables in the environment.
 pub fn program() -> Command {
     let mut command = Command::new(env!("CARGO_BIN_EXE_krl-server"));
-    for variable in ["LISTEN", "STORE", "STATUS", "LOG_LEVEL", "LOG_FORMAT", "CONFIG"] {
-        command.env_remove(format!("KRL_{variable}"));
+    for (name, _) in std::env::vars().filter(|(name, _)| name.starts_with("KRL_")) {
+        command.env_remove(name);
     }
     command.env_remove("NOTIFY_SOCKET");
     command
@@ -52,19 +52,35 @@ impl Serving {
         Serving::start_by(program().arg("serve").arg("--store").arg(store))
     }
 
-    /// Starts a server at free ports, and waits until it serves.
+    /// Starts a server at this address, and waits until it serves.
+    pub fn start_at(store: &Path, listen: &Address) -> Serving {
+        let mut command = program();
+        command.arg("serve").arg("--store").arg(store).args(["--listen", &listen.to_string()]);
+        Serving::start_by(&mut command)
+    }
+
+    /// Starts a server, at free ports if nothing else is said, and waits until it serves.
     pub fn start_by(command: &mut Command) -> Serving {
-        let words = ["--listen", "127.0.0.1:0", "--status", "127.0.0.1:0", "--log-format", "json"];
+        Serving::start_until(command, "ready")
+    }
+
+    /// Starts a server, at free ports if nothing else is said, and waits until it tells this.
+    pub fn start_until(command: &mut Command, told: &str) -> Serving {
+        if !command.get_args().any(|word| word == "--listen") {
+            command.args(["--listen", "127.0.0.1:0"]);
+        }
+        let words = ["--status", "127.0.0.1:0", "--log-format", "json"];
         let mut process = command.args(words).stderr(Stdio::piped()).spawn().unwrap();
         let mut lines = BufReader::new(process.stderr.take().unwrap()).lines();
         let mut status = String::new();
         let address = loop {
             let line = lines.next().expect("the server ended").unwrap();
             let event: Value = serde_json::from_str(&line).expect(&line);
-            let address = event["address"].as_str().unwrap_or_default();
+            // One that stands by listens nowhere, and says where another one serves.
+            let address = event["address"].as_str().or(event["leader"].as_str());
             match event["message"].as_str() {
-                Some("status port") => status = address.to_string(),
-                Some("ready") => break address.parse().unwrap(),
+                Some("status port") => status = address.unwrap_or_default().to_string(),
+                Some(message) if message == told => break address.unwrap().parse().unwrap(),
                 _ => {}
             }
         };

@@ -1,0 +1,17 @@
+#!/bin/sh
+# How many scans of one client 1, 2 and 4 threads make, without and beside a client that calls back 10,000 times a second:
+# by the gate of the Rust host, and by a mutex around the same client. It prints the table of docs/BENCH.md.
+#
+#   bench/readers/run.sh [ROUNDS]      100 rounds of 4 ms if nothing is said; for KRL_LIBRARY, KRL_KIT_C and
+#                                      CARGO_TARGET_DIR see tests/hosts
+#
+# The server, both clients and their messages are in one process, without a network. The two worlds take turns, and
+# each figure is the best round. The threads scan at places that no processor can guess, among 1,000 rows. Beside the
+# writer a round counts in which it came to 8,000 callbacks a second or more.
+set -eu
+cd "$(dirname -- "$0")/../../hosts"
+config='--config debian.toml'
+cargo fetch --quiet $config >/dev/null 2>&1 || config=
+# shellcheck disable=SC2086
+KRL_ROUNDS=${1-100} cargo test --release --quiet $config -p krl --lib -- \
+    --ignored --exact client_handle::figures::many_readers --nocapture | grep '^|'

@@ -1,0 +1,160 @@
+//! The clients of a drive: four processes that read and write, and are killed in turn.
+use crate::history::{History, Tally};
+use crate::log::notes;
+use crate::nodes::{READERS, WRITERS, end_file};
+use krl::Snapshot;
+use std::error::Error;
+use std::path::{Path, PathBuf};
+use std::process::{Child, Command, ExitStatus};
+use std::thread;
+use std::time::{Duration, Instant};
+
+/// The clients die in this order.
+const DYING: [u8; 4] = [1, 0, 3, 2];
+
+/// How long the processes of a drive may take to start or to end.
+pub const ENDING: Duration = Duration::from_secs(20);
+
+/// What a drive has to come to at least, for each round: a run that does nothing says nothing.
+const LEAST_ANSWERED: u64 = 5;
+const LEAST_READS: u64 = 20;
+
+/// A process of the drive. It dies with the drive, also if that fails.
+pub struct Process(Child);
+
+impl Process {
+    pub fn start(command: &mut Command) -> std::io::Result<Process> {
+        command.spawn().map(Process)
+    }
+
+    /// Kills it by SIGKILL, which no process can catch.
+    pub fn kill(&mut self) -> std::io::Result<()> {
+        self.0.kill()?;
+        self.0.wait().map(drop)
+    }
+
+    /// Sends it a signal, such as `-STOP`.
+    pub fn signal(&self, signal: &str) -> Result<(), Box<dyn Error>> {
+        let status = Command::new("kill").args([signal, &self.0.id().to_string()]).status()?;
+        if status.success() { Ok(()) } else { Err(format!("kill {signal}: {status}").into()) }
+    }
+
+    /// How it has ended, if it has.
+    pub fn ended(&mut self) -> std::io::Result<Option<ExitStatus>> {
+        self.0.try_wait()
+    }
+}
+
+impl Drop for Process {
+    fn drop(&mut self) {
+        // One that has ended needs no end.
+        let _ = self.kill();
+    }
+}
+
+/// The clients of a drive.
+pub struct Clients {
+    folder: PathBuf,
+    servers: String,
+    running: Vec<(u8, Process)>,
+    killed: usize,
+}
+
+impl Clients {
+    /// Starts them, as clients of these servers.
+    pub fn start(folder: &Path, servers: String) -> std::io::Result<Clients> {
+        let mut clients =
+            Clients { folder: folder.to_path_buf(), servers, running: Vec::new(), killed: 0 };
+        for number in READERS.into_iter().chain(WRITERS) {
+            clients.start_one(number)?;
+        }
+        Ok(clients)
+    }
+
+    fn start_one(&mut self, number: u8) -> std::io::Result<()> {
+        let role = if WRITERS.contains(&number) { "writer" } else { "reader" };
+        let words = [role, &number.to_string(), &self.servers];
+        let client = Process::start(&mut this(&words, &self.folder)?)?;
+        self.running.push((number, client));
+        Ok(())
+    }
+
+    /// How many were killed.
+    pub fn killed(&self) -> usize {
+        self.killed
+    }
+
+    /// The next client dies with its cache, its locks and a write on its way; another process takes
+    /// its number.
+    pub fn kill_next(&mut self) -> Result<(), Box<dyn Error>> {
+        let number = DYING[self.killed % DYING.len()];
+        let place = self.running.iter().position(|(of, _)| *of == number);
+        self.running.swap_remove(place.ok_or("no such client")?).1.kill()?;
+        self.killed += 1;
+        Ok(self.start_one(number)?)
+    }
+
+    /// Lets the clients end. It answers how many hung or failed.
+    pub fn end(&mut self) -> Result<u64, Box<dyn Error>> {
+        std::fs::write(end_file(&self.folder), "")?;
+        let (end, mut hung) = (Instant::now() + ENDING, 0);
+        for (number, client) in &mut self.running {
+            if let Some(how) = wait_for(client, end)? {
+                eprintln!("HUNG: client {number} {how}");
+                hung += 1;
+            }
+        }
+        Ok(hung)
+    }
+
+    /// Compares what the clients read with what they wrote, and with what the store has. `down` has
+    /// the times in which no server ran.
+    pub fn compare(
+        &self,
+        snapshot: &Snapshot,
+        down: &[(u64, u64)],
+    ) -> Result<Tally, Box<dyn Error>> {
+        let mut history = History::default();
+        for number in WRITERS {
+            history.add(&notes(&self.folder, number)?);
+        }
+        let mut tally = Tally { answered: history.answered(), ..Tally::default() };
+        for number in READERS.into_iter().chain(WRITERS) {
+            history.compare(&notes(&self.folder, number)?, down, &mut tally);
+        }
+        history.compare_store(snapshot, &mut tally);
+        Ok(tally)
+    }
+}
+
+/// Waits for the end of a client, and says what is wrong with it.
+fn wait_for(client: &mut Process, end: Instant) -> Result<Option<String>, Box<dyn Error>> {
+    while Instant::now() < end {
+        if let Some(status) = client.ended()? {
+            return Ok((!status.success()).then(|| format!("ended with {status}")));
+        }
+        thread::sleep(Duration::from_millis(5));
+    }
+    client.kill()?;
+    Ok(Some("does not end".to_string()))
+}
+
+/// This program with these words, and the folder behind them.
+pub fn this(words: &[&str], folder: &Path) -> std::io::Result<Command> {
+    let mut command = Command::new(std::env::current_exe()?);
+    command.args(words).arg(folder);
+    Ok(command)
+}
+
+/// Whether all is well in a drive of so many rounds. One that did too little, or some of whose
+/// processes hung, says nothing.
+pub fn judge(tally: &Tally, rounds: u64, hung: u64) -> crate::Found {
+    let did_enough = tally.answered >= LEAST_ANSWERED * rounds
+        && tally.reads >= LEAST_READS * rounds
+        && tally.while_down > 0;
+    match tally.wrong {
+        0 if !did_enough => Err("too little was done to say anything".into()),
+        0 if hung > 0 => Err("some process did not end".into()),
+        wrong => Ok(wrong == 0),
+    }
+}

@@ -1,0 +1,28 @@
+//! A store of krl in etcd, and the election of the server that serves from it.
+//!
+//! What survives a server lies in a cluster of etcd, on several machines, and a server on any
+//! machine may serve from it. **Which one may, the store decides**: every transaction compares one
+//! key, which each transaction sets anew, so that of two servers that both believe to serve the
+//! older one's first change is refused, and it ends. No lease, clock or message between servers is
+//! needed for that. The [`Election`] only says when another server should try.
+mod address;
+mod bucket;
+mod call;
+mod concerns;
+mod create;
+mod election;
+mod head;
+mod record;
+mod request;
+mod store;
+
+#[cfg(test)]
+extern crate self as krl_etcd;
+
+#[cfg(test)]
+#[path = "../tests/cluster/mod.rs"]
+mod cluster;
+
+pub use address::{BadEtcdAddress, Credentials, EtcdAddress};
+pub use election::{Election, ElectionError, Standing, Term};
+pub use store::EtcdStore;

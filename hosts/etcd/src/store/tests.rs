@@ -1,0 +1,276 @@
+//! What is committed is what is loaded, and who commits. They start a node of etcd.
+use super::*;
+use crate::cluster::Cluster;
+use krl::{Row, Value};
+use std::thread;
+
+fn row(key: u64, bytes: &[u8]) -> Row {
+    Row { key, value: Value::new(bytes).unwrap() }
+}
+
+fn judged(number: u64, write: Write, outcome: Outcome) -> Change {
+    Change::Judged { client: 9, number, write, outcome }
+}
+
+fn put(number: u64, value: u64) -> Change {
+    judged(number, Write::Put(Row { key: 10, value: value.into() }), Outcome::Applied)
+}
+
+fn changes() -> Vec<Change> {
+    vec![
+        Change::Started { epoch: 1 },
+        Change::Registered { client: 9, incarnation: 5 },
+        Change::Registered { client: 2, incarnation: 7 },
+        judged(1, Write::Insert(row(10, b"ten")), Outcome::Applied),
+        judged(2, Write::Insert(row(10, b"other")), Outcome::Exists),
+        judged(3, Write::Insert(row(krl::END - 1, &[0xff; 32])), Outcome::Applied),
+        judged(4, Write::Put(row(10, b"")), Outcome::Applied),
+        Change::Left { client: 2 },
+        judged(5, Write::Delete(10), Outcome::Applied),
+        Change::Registered { client: 2, incarnation: u64::MAX },
+        Change::Registered { client: 9, incarnation: 6 },
+        Change::Started { epoch: 2 },
+    ]
+}
+
+fn open(address: &EtcdAddress) -> EtcdStore {
+    EtcdStore::open(address, &Credentials::default()).unwrap()
+}
+
+/// Makes the changes in the snapshot.
+fn apply(snapshot: &mut Snapshot, changes: &[Change]) {
+    for change in changes {
+        snapshot.apply(change);
+    }
+}
+
+fn loaded(address: &EtcdAddress) -> (EtcdStore, Snapshot) {
+    let mut store = open(address);
+    let snapshot = store.load().unwrap();
+    (store, snapshot)
+}
+
+fn is_deposed(committed: &Result<(), StoreError>) -> bool {
+    matches!(committed, Err(StoreError::Deposed(_)))
+}
+
+#[test]
+fn what_is_loaded_is_what_was_committed() {
+    let Some(cluster) = Cluster::start() else { return };
+    let address = cluster.address("one-by-one");
+    let mut expected = Snapshot::default();
+    for change in changes() {
+        let (mut store, snapshot) = loaded(&address);
+        assert_eq!(snapshot, expected);
+        store.commit(&[change]).unwrap();
+        expected.apply(&change);
+        assert_eq!(store.snapshot().unwrap(), expected, "{change:?}");
+        assert_eq!(loaded(&address).1, expected, "{change:?}");
+    }
+    let address = cluster.address("at-once");
+    loaded(&address).0.commit(&changes()).unwrap();
+    assert_eq!(loaded(&address).1, expected);
+}
+
+#[test]
+fn a_batch_that_is_too_large_for_one_transaction_is_committed_in_several() {
+    let Some(cluster) = Cluster::start() else { return };
+    let address = cluster.address("many");
+    let (mut store, mut expected) = loaded(&address);
+    let inserts = (0..5_000u64)
+        .map(|at| judged(at + 1, Write::Insert(row(7 * at, &at.to_be_bytes())), Outcome::Applied));
+    let first = [Change::Started { epoch: 1 }, Change::Registered { client: 9, incarnation: 1 }];
+    let all: Vec<Change> = first.into_iter().chain(inserts).collect();
+    store.commit(&all).unwrap();
+    apply(&mut expected, &all);
+    assert_eq!(loaded(&address).1, expected);
+    let deletes: Vec<Change> = (0..5_000u64)
+        .map(|at| judged(at + 5_001, Write::Delete(7 * at), Outcome::Applied))
+        .collect();
+    store.commit(&deletes).unwrap();
+    assert_eq!(loaded(&address).1.rows.len(), 0);
+    assert_eq!(store.history().unwrap(), loaded(&address).0.history().unwrap());
+}
+
+#[test]
+fn an_older_server_is_deposed_for_good() {
+    let Some(cluster) = Cluster::start() else { return };
+    let address = cluster.address("deposed");
+    let (mut old, _) = loaded(&address);
+    let register = Change::Registered { client: 9, incarnation: 1 };
+    old.commit(&[Change::Started { epoch: 1 }, register]).unwrap();
+    old.commit(&[]).unwrap();
+    let (mut early, _) = loaded(&address);
+    // Nothing has happened yet: the old one still has the store.
+    old.commit(&[put(1, 1)]).unwrap();
+    assert!(is_deposed(&early.commit(&[Change::Started { epoch: 2 }])), "it read before the put");
+    let (mut new, snapshot) = loaded(&address);
+    assert_eq!(snapshot.rows.get(&10), Some(&1.into()));
+    new.commit(&[Change::Started { epoch: 2 }]).unwrap();
+    assert!(is_deposed(&old.commit(&[])));
+    assert!(is_deposed(&old.commit(&[put(2, 2)])));
+    assert!(old.load().is_err() && old.snapshot().is_err(), "it never comes back");
+    assert_eq!(loaded(&address).1.rows.get(&10), Some(&1.into()));
+    new.commit(&[put(2, 3)]).unwrap();
+}
+
+#[test]
+fn two_that_start_at_once_are_told_apart() {
+    let Some(cluster) = Cluster::start() else { return };
+    let address = cluster.address("at-once");
+    let ((mut one, _), (mut two, _)) = (loaded(&address), loaded(&address));
+    one.commit(&[Change::Started { epoch: 1 }]).unwrap();
+    assert!(is_deposed(&two.commit(&[Change::Started { epoch: 1 }])));
+    one.commit(&[Change::Registered { client: 9, incarnation: 1 }]).unwrap();
+}
+
+/// A store that has forgotten its last transaction, as if that were still to be sent.
+fn go_back(store: &mut EtcdStore, (head, next): (Option<Head>, Head)) {
+    (store.head, store.next, store.ended) = (head, next, None);
+}
+
+#[test]
+fn a_transaction_whose_answer_was_lost_is_found_and_is_not_done_late() {
+    let Some(cluster) = Cluster::start() else { return };
+    let address = cluster.address("lost");
+    let (mut store, _) = loaded(&address);
+    let register = Change::Registered { client: 9, incarnation: 1 };
+    store.commit(&[Change::Started { epoch: 1 }, register]).unwrap();
+    let before = (store.head, store.next);
+    store.commit(&[put(1, 1)]).unwrap();
+    go_back(&mut store, before);
+    store.commit(&[put(1, 1)]).unwrap();
+    store.commit(&[put(2, 2)]).unwrap();
+    let after = (store.head, store.next);
+    go_back(&mut store, before);
+    assert!(is_deposed(&store.commit(&[put(1, 1)])), "it comes late");
+    go_back(&mut store, after);
+    store.commit(&[]).unwrap();
+    assert_eq!(loaded(&address).1.rows.get(&10), Some(&2.into()));
+}
+
+#[test]
+fn a_cluster_that_does_not_answer_ends_the_store() {
+    let Some(cluster) = Cluster::start() else { return };
+    let address = cluster.address("away");
+    let (store, _) = loaded(&address);
+    let mut store = store.with_commit_timeout(Duration::from_millis(100));
+    cluster.signal("-STOP");
+    let asked = store.commit(&[Change::Started { epoch: 1 }]);
+    assert!(matches!(asked, Err(StoreError::Unanswered(_))), "{asked:?}");
+    cluster.signal("-CONT");
+    let again = store.commit(&[Change::Started { epoch: 1 }]);
+    assert!(matches!(again, Err(StoreError::Unanswered(_))), "also when the cluster is back");
+}
+
+#[test]
+fn a_cluster_that_hangs_for_a_moment_is_waited_for() {
+    let Some(cluster) = Cluster::start() else { return };
+    let address = cluster.address("hangs");
+    let (mut store, mut expected) = loaded(&address);
+    let register = Change::Registered { client: 9, incarnation: 1 };
+    store.commit(&[Change::Started { epoch: 1 }, register]).unwrap();
+    apply(&mut expected, &[Change::Started { epoch: 1 }, register]);
+    thread::scope(|scope| {
+        cluster.signal("-STOP");
+        let commit = scope.spawn(|| store.commit(&[put(1, 1)]));
+        thread::sleep(Duration::from_millis(1500));
+        cluster.signal("-CONT");
+        commit.join().unwrap().unwrap();
+    });
+    assert!(store.retries() > 0);
+    expected.apply(&put(1, 1));
+    assert_eq!(loaded(&address).1, expected);
+}
+
+#[test]
+fn a_history_has_each_start() {
+    let Some(cluster) = Cluster::start() else { return };
+    let address = cluster.address("history");
+    let mut marks = Vec::new();
+    for epoch in 1..4 {
+        let (mut store, _) = loaded(&address);
+        store.commit(&[Change::Started { epoch }]).unwrap();
+        marks.push(store.history().unwrap().unwrap().mark().unwrap());
+        let register = Change::Registered { client: 9, incarnation: epoch };
+        store.commit(&[register]).unwrap();
+        let history = store.history().unwrap().unwrap();
+        assert_eq!(history.mark().map(|mark| mark.commits), Some(2));
+        assert!(marks.iter().all(|mark| history.has(*mark)));
+    }
+}
+
+#[test]
+fn what_no_server_commits_is_not_loaded() {
+    let Some(cluster) = Cluster::start() else { return };
+    for (table, name, value) in [
+        ("row", "bucket/0001", &b"short"[..]),
+        ("number", "bucket/1024", b""),
+        ("client", "client/64", b"0 1 0 - here"),
+        ("head", "head", b"krl2 1 0 0 0 0"),
+        ("other", "something", b""),
+        ("headless", "client/03", b"0 1 0 - here"),
+    ] {
+        let mut store = open(&cluster.address(table));
+        let set = request::put(&store.key(name), value);
+        let end = Instant::now() + Duration::from_secs(5);
+        store.etcd.call("kv/txn", &json!({"success": [set]}), end).unwrap();
+        let error = store.load().unwrap_err();
+        assert!(matches!(error, StoreError::Failed(_)), "{table}: {error}");
+    }
+}
+
+#[test]
+fn a_copy_becomes_a_store_of_its_own() {
+    let Some(cluster) = Cluster::start() else { return };
+    let (address, credentials) = (cluster.address("copy"), Credentials::default());
+    let mut snapshot = Snapshot::default();
+    apply(&mut snapshot, &changes());
+    snapshot.rows.extend((0..500).map(|key| (key, key.into())));
+    EtcdStore::create(&address, &credentials, &snapshot).unwrap();
+    let (mut store, found) = loaded(&address);
+    assert_eq!(found, snapshot);
+    assert!(EtcdStore::create(&address, &credentials, &snapshot).is_err(), "it is there already");
+    store.commit(&[Change::Started { epoch: 3 }]).unwrap();
+    // One that was not finished is nothing that a server starts on.
+    let mut store = open(&cluster.address("begun"));
+    let set = request::put(&store.key("head"), b"unfinished 00");
+    store.etcd.call("kv/txn", &json!({"success": [set]}), Instant::now() + COMMIT_TIMEOUT).unwrap();
+    assert!(matches!(store.load(), Err(StoreError::Failed(_))));
+}
+
+#[test]
+fn a_cluster_that_is_well_is_of_no_concern() {
+    let Some(cluster) = Cluster::start() else { return };
+    let mut store = open(&cluster.address("well"));
+    assert_eq!(store.concerns(), Vec::<String>::new());
+    let end = Instant::now() + Duration::from_secs(5);
+    let asked = json!({"action": "ACTIVATE", "alarm": "NOSPACE"});
+    store.etcd.call("maintenance/alarm", &asked, end).unwrap();
+    let concerns = store.concerns();
+    assert!(matches!(&concerns[..], [alarm] if alarm.contains("NOSPACE")), "{concerns:?}");
+    store.load().unwrap();
+    let refused = store.commit(&[Change::Started { epoch: 1 }]);
+    assert!(matches!(refused, Err(StoreError::Failed(_))), "{refused:?}");
+}
+
+#[test]
+fn a_full_table_is_loaded_in_a_moment() {
+    let Some(cluster) = Cluster::start() else { return };
+    let address = cluster.address("full");
+    let (mut store, _) = loaded(&address);
+    let inserts = (0..65_536u64)
+        .map(|at| judged(at + 1, Write::Insert(row(at << 20, &[7; 32])), Outcome::Applied));
+    let first = [Change::Started { epoch: 1 }, Change::Registered { client: 9, incarnation: 1 }];
+    let all: Vec<Change> = first.into_iter().chain(inserts).collect();
+    let begun = Instant::now();
+    for batch in all.chunks(16_384) {
+        store.commit(batch).unwrap();
+    }
+    let filled = begun.elapsed();
+    let begun = Instant::now();
+    assert_eq!(loaded(&address).1.rows.len(), 65_536);
+    let took = begun.elapsed();
+    eprintln!("65,536 rows: filled in {filled:?}, loaded in {took:?}");
+    assert!(took < Duration::from_secs(5), "{took:?}");
+}

@@ -1,0 +1,66 @@
+//! Reads of a client's cache. Any number of threads make them at once, and they take no lock.
+use crate::client::Client;
+use crate::client_handle::Scan;
+use crate::range::keys_of;
+use crate::row::Row;
+use std::cell::Cell;
+use std::ops::{Range, RangeBounds};
+
+/// A thread keeps room for so many rows.
+const MAX_KEPT: usize = 1 << 12;
+
+thread_local! {
+    /// Where the rows of this thread's last scan were.
+    static ROOM: Cell<Vec<Row>> = const { Cell::new(Vec::new()) };
+}
+
+impl Client {
+    /// The rows of the range if the cache covers it, else `None`. It sends nothing, and waits for
+    /// nothing but one step of the client, some microseconds. The rows are that range of the
+    /// server's table at one moment of the call, also while the server is down. An empty range has
+    /// no rows; of a range that is none, as [`Client::read`] tells, the cache knows nothing.
+    ///
+    /// Threads that make this call, or one of the next two, do not wait for one another.
+    pub fn cached(&self, keys: impl RangeBounds<u64>) -> Option<Vec<Row>> {
+        with_room(|room| self.cached_into(keys, room).then(|| room.clone()))
+    }
+
+    /// The same, into `rows`, whose room is used again. If the answer is `false`, the rows say
+    /// nothing.
+    #[must_use]
+    pub fn cached_into(&self, keys: impl RangeBounds<u64>, rows: &mut Vec<Row>) -> bool {
+        rows.clear();
+        keys_of(&keys).is_ok_and(|keys| self.is_cached(&keys, rows))
+    }
+
+    /// The same, and `visit` gets each row, in key order. It answers whether the cache covers the
+    /// range; if it does not, no row is visited.
+    ///
+    /// The rows are copied first, at one moment of the call, and visited after it. So `visit` may
+    /// take as long as it likes, and may call the client.
+    #[must_use]
+    pub fn for_each_cached(&self, keys: impl RangeBounds<u64>, visit: impl FnMut(&Row)) -> bool {
+        with_room(|room| {
+            let is_cached = self.cached_into(keys, room);
+            if is_cached {
+                room.iter().for_each(visit);
+            }
+            is_cached
+        })
+    }
+
+    fn is_cached(&self, keys: &Range<u64>, rows: &mut Vec<Row>) -> bool {
+        keys.is_empty() || self.link.cache().scan(keys, rows) == Ok(Scan::Rows)
+    }
+}
+
+/// Lends the room of this thread. Who asks for it once more meanwhile gets another one, and so does
+/// a thread that ends.
+fn with_room<T>(work: impl FnOnce(&mut Vec<Row>) -> T) -> T {
+    let mut room = ROOM.try_with(Cell::take).unwrap_or_default();
+    let done = work(&mut room);
+    if room.capacity() <= MAX_KEPT {
+        let _ = ROOM.try_with(|kept| kept.set(room));
+    }
+    done
+}

@@ -1,0 +1,262 @@
+//! A safe owner of a client's handle, and those who scan its cache at the same time.
+use crate::change::{Outcome, Write};
+use crate::code::Code;
+use crate::ffi;
+use crate::gate::{Owner, Reader};
+use crate::handle::{Handle, code, done};
+use crate::row::Row;
+use std::mem;
+use std::ops::Range;
+
+/// What a client asks for.
+#[derive(Clone, Copy, Debug, PartialEq, Eq)]
+pub(crate) enum Mode {
+    /// To change an entry.
+    X = 3,
+    /// To read entries and the gaps below them.
+    RangeSS = 4,
+    /// To read the same, and to be the only one who may change the entries next.
+    RangeSU = 5,
+    /// To insert into a gap.
+    RangeIN = 6,
+    /// To read and change all.
+    RangeXX = 12,
+}
+
+/// What a scan of the cache found.
+#[derive(Clone, Copy, Debug, PartialEq, Eq)]
+pub(crate) enum Scan {
+    /// The rows.
+    Rows,
+    /// The least point that the client does not know.
+    Miss(u64),
+    /// A write of the client to a key of the range is not answered yet.
+    Pending,
+}
+
+/// What a client shows of itself.
+#[derive(Clone, Copy, Debug)]
+pub(crate) struct Shown {
+    /// The epoch that it has joined, or 0.
+    pub epoch: u64,
+    /// The last lock that it asked for was granted.
+    pub is_granted: bool,
+    /// There was no entry to lock.
+    pub is_absent: bool,
+    /// The number of its last write.
+    pub number: u64,
+    /// How that write was judged, if it was.
+    pub outcome: Option<Outcome>,
+}
+
+/// A client of the library. Each call that takes its handle runs when no [`Cache`] scans it: so a
+/// message that gives something up comes out by `take` when every scan has ended that could still
+/// see it.
+pub(crate) struct ClientHandle {
+    handle: Owner<Handle>,
+    /// A call was made since the last `take`, and may have said something.
+    has_spoken: bool,
+}
+
+/// What a client knows, for threads that only read it.
+pub(crate) struct Cache(Reader<Handle>);
+
+impl Cache {
+    /// Scans the cache into `rows`, in place of what they are. Nothing is sent. It waits for one
+    /// call of the client at most, which takes microseconds.
+    pub fn scan(&self, keys: &Range<u64>, rows: &mut Vec<Row>) -> Result<Scan, Code> {
+        self.0.read(|handle| handle.scan(keys, rows))
+    }
+}
+
+impl ClientHandle {
+    /// One that does nothing: its calls answer `Closed`.
+    pub fn closed() -> ClientHandle {
+        ClientHandle::of(Handle::closed())
+    }
+
+    pub fn open(number: u8, incarnation: u64) -> Result<ClientHandle, Code> {
+        let mut handle = Handle::closed();
+        // SAFETY: the handle stays in its place, and `&mut` gives it to this call alone.
+        done(unsafe { ffi::krl_client_open(handle.raw(), number.into(), incarnation) })?;
+        Ok(ClientHandle::of(handle))
+    }
+
+    fn of(handle: Handle) -> ClientHandle {
+        ClientHandle { handle: Owner::new(handle), has_spoken: true }
+    }
+
+    /// Becomes another client. What was cached from this one is cached from the other one.
+    pub fn replace(&mut self, mut other: ClientHandle) {
+        other.handle.change(|other| self.handle.change(|handle| mem::swap(handle, other)));
+        self.has_spoken = true;
+    }
+
+    pub fn cache(&self) -> Cache {
+        Cache(self.handle.reader())
+    }
+
+    /// Makes a call that takes the handle, when nobody scans the cache.
+    fn call(&mut self, call: impl FnOnce(*mut ffi::Handle) -> ffi::Reply) -> Result<u64, Code> {
+        self.has_spoken = true;
+        done(self.handle.change(|handle| call(handle.raw())))
+    }
+
+    pub fn step(&mut self, message: &[u8]) -> Result<(), Code> {
+        let (at, length) = (message.as_ptr(), message.len());
+        // SAFETY: as for any handle, and so many bytes of the message are there to be read.
+        self.call(|handle| unsafe { ffi::krl_client_step(handle, at, length) }).map(drop)
+    }
+
+    pub fn tick(&mut self) -> Result<(), Code> {
+        // SAFETY: `call` gives the handle to this call alone.
+        self.call(|handle| unsafe { ffi::krl_client_tick(handle) }).map(drop)
+    }
+
+    pub fn lock(&mut self, points: Range<u64>, mode: Mode) -> Result<(), Code> {
+        let Range { start, end } = points;
+        // SAFETY: `call` gives the handle to this call alone.
+        self.call(|handle| unsafe { ffi::krl_client_lock(handle, start, end, mode as u32) })
+            .map(drop)
+    }
+
+    /// Sends the write, and says its number.
+    pub fn write(&mut self, write: &Write) -> Result<u64, Code> {
+        self.call(|handle| match write {
+            Write::Insert(Row { key, value }) => {
+                let bytes = value.as_bytes();
+                // SAFETY: as for any handle, and so many bytes of the value are there to be read.
+                unsafe { ffi::krl_client_insert(handle, *key, bytes.as_ptr(), bytes.len()) }
+            }
+            Write::Put(Row { key, value }) => {
+                let bytes = value.as_bytes();
+                // SAFETY: as for any handle, and so many bytes of the value are there to be read.
+                unsafe { ffi::krl_client_put(handle, *key, bytes.as_ptr(), bytes.len()) }
+            }
+            // SAFETY: `call` gives the handle to this call alone.
+            Write::Delete(key) => unsafe { ffi::krl_client_delete(handle, *key) },
+        })?;
+        Ok(self.status()?.number)
+    }
+
+    /// Scans the cache into `rows`, in place of what they are. Nothing is sent, and nothing waits.
+    pub fn scan(&self, keys: &Range<u64>, rows: &mut Vec<Row>) -> Result<Scan, Code> {
+        self.handle.get().scan(keys, rows)
+    }
+
+    pub fn forget(&mut self, keys: &Range<u64>) -> Result<(), Code> {
+        // SAFETY: `call` gives the handle to this call alone.
+        self.call(|handle| unsafe { ffi::krl_client_forget(handle, keys.start, keys.end) })
+            .map(drop)
+    }
+
+    pub fn pin(&mut self, keys: &Range<u64>) -> Result<u64, Code> {
+        // SAFETY: `call` gives the handle to this call alone.
+        self.call(|handle| unsafe { ffi::krl_client_pin(handle, keys.start, keys.end) })
+    }
+
+    pub fn unpin(&mut self, pin: u64) -> Result<(), Code> {
+        // SAFETY: `call` gives the handle to this call alone.
+        self.call(|handle| unsafe { ffi::krl_client_unpin(handle, pin) }).map(drop)
+    }
+
+    /// Whether no other client may read or change the gap at this point, nor the entry there.
+    pub fn has_all(&self, point: u64) -> bool {
+        const X: u32 = 3;
+        let held = self.handle.get().held(point);
+        held.range == X && held.key == X
+    }
+
+    /// Whether the client holds the entry of this key so that it alone may change it next.
+    pub fn may_update(&self, key: u64) -> bool {
+        const U: u32 = 2;
+        let held = self.handle.get().held(key);
+        code(held.reply) == Code::Done && held.key >= U
+    }
+
+    pub fn status(&self) -> Result<Shown, Code> {
+        const LOCK_GRANTED: u32 = 2;
+        const LOCK_ABSENT: u32 = 3;
+        let state = self.handle.get().client_state();
+        done(state.reply)?;
+        Ok(Shown {
+            epoch: state.epoch,
+            is_granted: state.lock == LOCK_GRANTED,
+            is_absent: state.lock == LOCK_ABSENT,
+            number: state.number,
+            outcome: Outcome::of_tag(state.outcome),
+        })
+    }
+
+    /// Says Bye. After that only this call, which says it again, and `take` do anything.
+    pub fn leave(&mut self) -> Result<(), Code> {
+        // SAFETY: `call` gives the handle to this call alone.
+        self.call(|handle| unsafe { ffi::krl_client_leave(handle) }).map(drop)
+    }
+
+    /// Appends what waits to be sent, as frames. If nothing can wait, nobody's scan is held up.
+    pub fn take(&mut self, frames: &mut Vec<u8>) -> Result<(), Code> {
+        if self.has_spoken {
+            self.handle.change(|handle| handle.take(frames))?;
+            self.has_spoken = false;
+        }
+        Ok(())
+    }
+}
+
+/// What a client's handle answers by a reader.
+impl Handle {
+    fn scan(&self, keys: &Range<u64>, rows: &mut Vec<Row>) -> Result<Scan, Code> {
+        let mut reply = self.scan_once(keys, rows)?;
+        if code(reply) == Code::TooShort {
+            rows.try_reserve_exact(count(reply)?).map_err(|_| Code::OutOfMemory)?;
+            reply = self.scan_once(keys, rows)?;
+        }
+        match code(reply) {
+            Code::Done => Ok(Scan::Rows),
+            Code::Miss => Ok(Scan::Miss(reply.detail)),
+            Code::Pending => Ok(Scan::Pending),
+            refused => Err(refused),
+        }
+    }
+
+    /// Scans into the room that there is.
+    fn scan_once(&self, keys: &Range<u64>, rows: &mut Vec<Row>) -> Result<ffi::Reply, Code> {
+        rows.clear();
+        let room = rows.spare_capacity_mut();
+        let (at, length) = (room.as_mut_ptr().cast(), room.len());
+        let mut reader = self.reader();
+        // SAFETY: the reader is this call's own, `&` keeps away each call that takes the handle, and
+        // there is so much room to be written to. The library reads nothing of the room.
+        let reply =
+            unsafe { ffi::krl_reader_scan(&raw mut reader, keys.start, keys.end, at, length) };
+        if code(reply) == Code::Done {
+            // SAFETY: the library has written so many rows, for which there was room.
+            unsafe { rows.set_len(count(reply)?) };
+        }
+        Ok(reply)
+    }
+
+    fn held(&self, point: u64) -> ffi::Held {
+        let mut reader = self.reader();
+        // SAFETY: the reader is this call's own, and `&` keeps away each call that takes the handle.
+        unsafe { ffi::krl_reader_held(&raw mut reader, point) }
+    }
+
+    fn client_state(&self) -> ffi::ClientState {
+        let mut reader = self.reader();
+        // SAFETY: the reader is this call's own, and `&` keeps away each call that takes the handle.
+        unsafe { ffi::krl_reader_status(&raw mut reader) }
+    }
+}
+
+fn count(reply: ffi::Reply) -> Result<usize, Code> {
+    usize::try_from(reply.detail).map_err(|_| Code::OutOfMemory)
+}
+
+#[cfg(test)]
+mod figures;
+#[cfg(test)]
+mod tests;
+#[cfg(test)]
+mod world;

@@ -1,0 +1,73 @@
+//! What callers share with the thread of the connection.
+use super::*;
+use crate::client_handle::Scan;
+use crate::writer::STALL;
+use std::io::Write;
+use std::os::unix::net::UnixStream;
+
+const SHORT: Duration = Duration::from_millis(100);
+
+fn link() -> Link {
+    let jobs = Jobs::new(ClientHandle::open(1, 1).unwrap());
+    Link::new("unix:nowhere".parse().unwrap(), jobs, None)
+}
+
+#[test]
+fn a_peer_that_takes_nothing_holds_no_call_beyond_its_deadline() {
+    let (link, (ours, _theirs)) = (link(), UnixStream::pair().unwrap());
+    let stream = Stream::Unix(ours);
+    stream.set_timeouts(BUSY_TICK, ATTEMPT).unwrap();
+    link.writer.open(stream, Vec::new());
+    link.writer.put(|frames| frames.resize(1 << 21, 0));
+    std::thread::scope(|scope| {
+        for _ in 0..8 {
+            scope.spawn(|| {
+                let begun = Instant::now();
+                let read = link.ask(begun + SHORT, |jobs| jobs.read(0..9));
+                assert_eq!(read, Err(Refused::TimedOut));
+                assert!(begun.elapsed() < STALL / 2, "{:?}", begun.elapsed());
+            });
+        }
+        let begun = Instant::now();
+        for _ in 0..1000 {
+            let found = link.cache().scan(&(0..9), &mut Vec::new());
+            assert_eq!(found, Ok(Scan::Miss(0)));
+        }
+        assert!(begun.elapsed() < STALL / 2, "a look into the cache waits for no stream");
+    });
+}
+
+#[test]
+fn nothing_is_taken_behind_the_word_that_the_store_went_back() {
+    let (link, (ours, mut theirs)) = (link(), UnixStream::pair().unwrap());
+    *lock(&link.seen) = Some(Mark { start: 1, commits: 9 });
+    let behind = FromServer::Mark(Mark { start: 2, commits: 1 });
+    theirs.write_all(&[FromServer::WentBack.frame(), behind.frame()].concat()).unwrap();
+    let mut frames = Frames::new(LONGEST_TO_CLIENT);
+    let silence = Silence::new(Instant::now(), false);
+    let (address, stream) = (link.servers.at(0), Stream::Unix(ours));
+    let mut connected = Connected { address, stream, heard: Heard::default(), silence };
+    frames.fill(&mut connected.stream).unwrap();
+    let end = link.hear_all(&mut frames, &mut connected).unwrap_err();
+    assert!(end.to_string().contains("went back"), "{end}");
+    assert!(link.jobs().is_void() && connected.heard.went_back);
+    assert_eq!(*lock(&link.seen), None);
+}
+
+#[test]
+fn callers_hear_that_the_thread_has_panicked() {
+    let link = link();
+    std::thread::scope(|scope| {
+        let read = scope.spawn(|| link.ask(Instant::now() + 50 * SHORT, |jobs| jobs.read(0..9)));
+        std::thread::sleep(SHORT);
+        let panicked = scope.spawn(|| {
+            let _ended = Ended(&link);
+            panic!("the test's");
+        });
+        assert!(panicked.join().is_err());
+        assert_eq!(read.join().unwrap(), Err(Refused::Stopped));
+    });
+    assert!(link.has_ended(Instant::now()));
+    let later = link.ask(Instant::now() + 50 * SHORT, |jobs| jobs.read(0..9));
+    assert_eq!(later, Err(Refused::Stopped));
+}

@@ -1,0 +1,101 @@
+//! Where a client finds its server: one place, or several at which servers stand by.
+use crate::stream::{Address, BadAddress};
+use std::fmt;
+use std::net::SocketAddr;
+use std::str::FromStr;
+
+/// The addresses of the servers over one store: one of them serves, and the others stand by. As
+/// text with commas between them, such as `10.0.0.1:7400,10.0.0.2:7400`.
+///
+/// A client goes to the next one if it can't connect, if its connection ends, if the server is
+/// silent for a second though it was asked, and if a server is of an older epoch than one that the
+/// client has heard.
+#[derive(Clone, Debug, PartialEq, Eq)]
+pub struct Servers {
+    first: Address,
+    others: Vec<Address>,
+}
+
+impl Servers {
+    /// The addresses, in the order in which a client tries them.
+    pub fn iter(&self) -> impl Iterator<Item = &Address> {
+        std::iter::once(&self.first).chain(&self.others)
+    }
+
+    /// Whether there is another one to go to.
+    pub(crate) fn are_several(&self) -> bool {
+        !self.others.is_empty()
+    }
+
+    pub(crate) fn count(&self) -> usize {
+        1 + self.others.len()
+    }
+
+    /// The address of this place, counted round and round.
+    pub(crate) fn at(&self, place: usize) -> &Address {
+        let place = place % self.count();
+        place.checked_sub(1).map_or(&self.first, |place| &self.others[place])
+    }
+}
+
+impl From<Address> for Servers {
+    fn from(address: Address) -> Servers {
+        Servers { first: address, others: Vec::new() }
+    }
+}
+
+impl From<&Address> for Servers {
+    fn from(address: &Address) -> Servers {
+        address.clone().into()
+    }
+}
+
+impl From<SocketAddr> for Servers {
+    fn from(address: SocketAddr) -> Servers {
+        Address::from(address).into()
+    }
+}
+
+impl From<&Servers> for Servers {
+    fn from(servers: &Servers) -> Servers {
+        servers.clone()
+    }
+}
+
+impl FromStr for Servers {
+    type Err = BadAddress;
+
+    fn from_str(text: &str) -> Result<Servers, BadAddress> {
+        let mut addresses = text.split(',').map(str::parse);
+        let first = addresses.next().unwrap_or(Err(BadAddress))?;
+        Ok(Servers { first, others: addresses.collect::<Result<_, _>>()? })
+    }
+}
+
+impl fmt::Display for Servers {
+    fn fmt(&self, f: &mut fmt::Formatter<'_>) -> fmt::Result {
+        self.first.fmt(f)?;
+        self.others.iter().try_for_each(|other| write!(f, ",{other}"))
+    }
+}
+
+#[cfg(test)]
+mod tests {
+    use super::*;
+
+    #[test]
+    fn servers_are_read_as_they_are_written() {
+        for text in ["127.0.0.1:1", "127.0.0.1:1,unix:/a,db2:7400"] {
+            let servers: Servers = text.parse().unwrap();
+            assert_eq!(servers.to_string(), text);
+            assert_eq!(servers.iter().count(), servers.count());
+        }
+        let servers: Servers = "127.0.0.1:1,db2:7400".parse().unwrap();
+        let tried: Vec<String> = (0..4).map(|place| servers.at(place).to_string()).collect();
+        assert_eq!(tried, ["127.0.0.1:1", "db2:7400", "127.0.0.1:1", "db2:7400"]);
+        assert!(servers.are_several() && !Servers::from(servers.at(0)).are_several());
+        for text in ["", ",", "127.0.0.1:1,", "127.0.0.1:1, 127.0.0.1:2", "here"] {
+            assert_eq!(text.parse::<Servers>(), Err(BadAddress), "{text}");
+        }
+    }
+}

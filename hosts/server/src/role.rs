@@ -1,0 +1,92 @@
+//! What a process does just now: it starts, stands by, or serves.
+use krl::Monitor;
+use std::fmt;
+use std::sync::{Arc, Mutex, MutexGuard, PoisonError};
+use std::time::{SystemTime, UNIX_EPOCH};
+
+/// What the process does, as its status port shows it.
+#[derive(Clone, Debug, Default)]
+pub struct Role(Arc<Mutex<State>>);
+
+/// What the process does.
+#[derive(Clone, Debug, Default)]
+pub enum State {
+    /// It has neither served nor found who does.
+    #[default]
+    Starts,
+    /// Another server serves, which clients reach at this address.
+    StandsBy { leader: String },
+    /// It serves.
+    Serves { monitor: Monitor, since: SystemTime },
+}
+
+impl Role {
+    pub fn state(&self) -> State {
+        self.lock().clone()
+    }
+
+    pub fn serves(&self, monitor: Monitor) {
+        *self.lock() = State::Serves { monitor, since: SystemTime::now() };
+    }
+
+    /// Another server serves. It answers whether that is news.
+    pub fn stands_by(&self, leader: &str) -> bool {
+        let mut state = self.lock();
+        let is_known = matches!(&*state, State::StandsBy { leader: known } if known == leader);
+        *state = State::StandsBy { leader: leader.to_string() };
+        !is_known
+    }
+
+    /// It serves no more, and does not know who does.
+    pub fn ends(&self) {
+        *self.lock() = State::Starts;
+    }
+
+    fn lock(&self) -> MutexGuard<'_, State> {
+        self.0.lock().unwrap_or_else(PoisonError::into_inner)
+    }
+}
+
+impl State {
+    /// The word for it.
+    pub fn word(&self) -> &'static str {
+        match self {
+            State::Starts => "starts",
+            State::StandsBy { .. } => "stands by",
+            State::Serves { .. } => "serves",
+        }
+    }
+
+    /// Since when it serves, in seconds since 1970.
+    pub fn since(&self) -> Option<u64> {
+        let State::Serves { since, .. } = self else { return None };
+        since.duration_since(UNIX_EPOCH).ok().map(|since| since.as_secs())
+    }
+}
+
+impl fmt::Display for State {
+    fn fmt(&self, f: &mut fmt::Formatter<'_>) -> fmt::Result {
+        match self {
+            State::Starts => f.write_str("starts: it looks who serves"),
+            State::StandsBy { leader } => write!(f, "stands by: the server at {leader} serves"),
+            State::Serves { .. } => f.write_str("serves"),
+        }
+    }
+}
+
+#[cfg(test)]
+mod tests {
+    use super::*;
+
+    #[test]
+    fn who_serves_is_news_once() {
+        let role = Role::default();
+        assert_eq!(role.state().word(), "starts");
+        assert!(role.stands_by("10.0.0.1:7400") && !role.stands_by("10.0.0.1:7400"));
+        assert!(role.stands_by("10.0.0.2:7400"));
+        assert_eq!(role.state().to_string(), "stands by: the server at 10.0.0.2:7400 serves");
+        assert_eq!(role.state().since(), None);
+        role.ends();
+        assert!(role.stands_by("10.0.0.2:7400"));
+    }
+}

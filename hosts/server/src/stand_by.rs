@@ -1,0 +1,106 @@
+//! Servers over a cluster: one serves, and the others stand by.
+use crate::role::Role;
+use crate::serve::{self, Ended, Signal};
+use crate::settings::{Key, Settings, key};
+use krl::{Listener, ServeError, Server, Store, StoreError};
+use krl_etcd::{Credentials, Election, EtcdAddress, EtcdStore, Standing, Term};
+use std::error::Error;
+use std::path::PathBuf;
+use std::time::Duration;
+
+/// Stands by, serves, and stands by again, until a signal comes.
+pub fn run(
+    settings: &Settings,
+    address: &EtcdAddress,
+    signal: &Signal,
+    role: &Role,
+) -> Result<(), Box<dyn Error>> {
+    let credentials = credentials(settings);
+    let advertised = settings.advertise.value.0.as_ref().unwrap_or(&settings.listen.value);
+    let lease = settings.election_lease.value.duration();
+    let election =
+        Election::new(address.clone(), credentials.clone(), &advertised.to_string(), lease)?;
+    loop {
+        let mut hears = |standing: Standing<'_>| hear(standing, role, signal);
+        let Some(term) = election.campaign(&mut hears)? else { return Ok(()) };
+        let mut store = EtcdStore::open(address, &credentials)?.with_commit_timeout(lease);
+        store.concerns().iter().for_each(|concern| tracing::warn!("{concern}"));
+        let ended = serve_term(settings, store, &term, signal, role);
+        role.ends();
+        match ended {
+            Ok(Ended::BySignal) => return Ok(()),
+            Ok(Ended::LeaseRanOut) => {
+                tracing::warn!("the lease in the store has run out: another server may serve");
+            }
+            Err(error) => stands_by_again(error)?,
+        }
+    }
+}
+
+/// Tells the log who serves, once, and answers whether to go on.
+fn hear(standing: Standing<'_>, role: &Role, signal: &Signal) -> bool {
+    match standing {
+        Standing::StandsBy(leader) if role.stands_by(leader) => {
+            tracing::info!(%leader, "stands by");
+        }
+        Standing::Unanswered(why) => tracing::warn!(%why, "the store does not answer"),
+        _ => {}
+    }
+    signal.name().is_none()
+}
+
+/// Serves while the lease runs.
+fn serve_term(
+    settings: &Settings,
+    store: impl Store + 'static,
+    term: &Term,
+    signal: &Signal,
+    role: &Role,
+) -> Result<Ended, ServeError> {
+    // Clients are refused at this address at all other times, and try the next one.
+    let server = Server::start(Listener::bind(&settings.listen.value)?, store)?;
+    serve::ready(settings, &server, role);
+    let runs = |wait: Duration| term.runs_after(wait);
+    serve::until_it_ends(server, signal, runs)
+}
+
+/// Whether a server that ended so stands by again: it has lost the store, and not failed.
+fn stands_by_again(error: ServeError) -> Result<(), ServeError> {
+    match &error {
+        ServeError::Store(StoreError::Deposed(_)) => {
+            tracing::info!(%error, "another server serves");
+            Ok(())
+        }
+        ServeError::Store(StoreError::Unanswered(_)) => {
+            tracing::warn!(%error, "the server has ended");
+            Ok(())
+        }
+        _ => Err(error),
+    }
+}
+
+/// What the server shows to the cluster.
+fn credentials(settings: &Settings) -> Credentials {
+    let (certificate, key) = (&settings.store_certificate.value, &settings.store_key.value);
+    Credentials {
+        user: user(),
+        authority: settings.store_authority.value.0.clone(),
+        certificate: certificate.0.clone().zip(key.0.clone()),
+    }
+}
+
+/// The same of a command that takes no settings.
+pub fn credentials_of_environment() -> Credentials {
+    let path = |key: &Key| std::env::var_os(key.variable).map(PathBuf::from);
+    Credentials {
+        user: user(),
+        authority: path(&key::STORE_AUTHORITY),
+        certificate: path(&key::STORE_CERTIFICATE).zip(path(&key::STORE_KEY)),
+    }
+}
+
+/// The user of etcd and the password, which stand in no command line and no file.
+fn user() -> Option<(String, String)> {
+    let password = std::env::var("KRL_STORE_PASSWORD").unwrap_or_default();
+    std::env::var("KRL_STORE_USER").ok().map(|user| (user, password))
+}

@@ -1,0 +1,113 @@
+//! Servers over a cluster: one serves, and another takes its place. They start a node of etcd.
+#[path = "../../etcd/tests/cluster/mod.rs"]
+mod cluster;
+mod common;
+
+use cluster::Cluster;
+use common::{Serving, errors, lock_file, program, until};
+use krl::{Client, Outcome, Refused, Servers, Value};
+use std::net::TcpListener;
+use std::process::Command;
+use std::time::{Duration, Instant};
+
+/// How long a server may be silent.
+const LEASE: Duration = Duration::from_secs(2);
+
+/// Two addresses at which nobody listens.
+fn free_addresses() -> [String; 2] {
+    [(); 2].map(|()| TcpListener::bind("127.0.0.1:0").unwrap().local_addr().unwrap().to_string())
+}
+
+/// The words of a server over this table.
+fn over(cluster: &Cluster, table: &str) -> Command {
+    let mut command = program();
+    command.args(["serve", "--store", &cluster.address(table).to_string()]);
+    command.args(["--election-lease", &LEASE.as_secs().to_string()]);
+    command
+}
+
+#[test]
+fn another_server_takes_the_place_of_one_that_is_killed() {
+    let Some(cluster) = Cluster::start() else { return };
+    let folder = tempfile::tempdir().unwrap();
+    let first = Serving::start_by(&mut over(&cluster, "killed"));
+    let second = Serving::start_until(&mut over(&cluster, "killed"), "stands by");
+    // It advertises where it was told to listen.
+    let stands_by = "role: stands by: the server at 127.0.0.1:0 serves\n".to_string();
+    assert_eq!(second.get("/status"), (200, stands_by.clone()));
+    assert_eq!(second.get("/readyz"), (503, stands_by));
+    assert_eq!(second.get("/healthz").0, 200);
+    assert_eq!((first.sample("krl_leader"), second.sample("krl_leader")), (1.0, 0.0));
+    let client = first.join(folder.path(), 3);
+    assert_eq!(client.insert(1, Value::from(1)), Ok(Outcome::Applied));
+    client.leave().unwrap();
+    first.signal(&["KILL"]);
+    let begun = Instant::now();
+    until("the second one serves", || second.get("/readyz").0 == 200);
+    assert!(begun.elapsed() < 3 * LEASE, "{:?}", begun.elapsed());
+    let log = second.get("/status.json").1;
+    assert!(log.contains("\"epoch\": 2") && log.contains("\"role\": \"serves\""), "{log}");
+}
+
+/// A client that reads alone finds the server that serves, whatever befell the one before.
+#[test]
+fn a_client_finds_the_server_that_serves() {
+    for signal in ["KILL", "STOP"] {
+        let Some(cluster) = Cluster::start() else { return };
+        let (folder, addresses) = (tempfile::tempdir().unwrap(), free_addresses());
+        let serve = |place: usize, told| {
+            let mut command = over(&cluster, "found");
+            Serving::start_until(command.args(["--listen", &addresses[place]]), told)
+        };
+        let (first, second) = (serve(0, "ready"), serve(1, "stands by"));
+        let servers: Servers = addresses.join(",").parse().unwrap();
+        let client = Client::join(servers, 3, lock_file(folder.path(), 3)).unwrap();
+        assert_eq!(client.insert(1, Value::from(1)), Ok(Outcome::Applied));
+        assert_eq!(client.read(0..10).unwrap().len(), 1);
+        first.signal(&[signal]);
+        until("the second one serves", || second.get("/readyz").0 == 200);
+        assert_eq!(client.cached(0..10).map(|rows| rows.len()), Some(1), "it has reported it");
+        assert_eq!(client.insert(2, Value::from(2)), Ok(Outcome::Applied));
+        client.leave().unwrap();
+    }
+}
+
+#[test]
+fn a_server_that_stops_in_order_gives_its_place_at_once() {
+    let Some(cluster) = Cluster::start() else { return };
+    let first = Serving::start_by(&mut over(&cluster, "stops"));
+    let second = Serving::start_until(&mut over(&cluster, "stops"), "stands by");
+    first.signal(&["TERM"]);
+    let begun = Instant::now();
+    assert_eq!(first.ended().status.code(), Some(0));
+    until("the second one serves", || second.get("/readyz").0 == 200);
+    assert!(begun.elapsed() < LEASE, "{:?}", begun.elapsed());
+}
+
+#[test]
+fn a_server_that_wakes_up_behind_another_one_serves_no_more() {
+    let Some(cluster) = Cluster::start() else { return };
+    let folder = tempfile::tempdir().unwrap();
+    let first = Serving::start_by(&mut over(&cluster, "wakes"));
+    let client = first.join(folder.path(), 3);
+    client.set_timeout(Duration::from_secs(1));
+    assert_eq!(client.insert(1, Value::from(1)), Ok(Outcome::Applied));
+    let second = Serving::start_until(&mut over(&cluster, "wakes"), "stands by");
+    first.signal(&["STOP"]);
+    until("the second one starts", || second.get("/status").1.contains("epoch"));
+    first.signal(&["CONT"]);
+    assert_eq!(client.insert(2, Value::from(2)), Err(Refused::TimedOut), "the store refuses it");
+    until("the first one stands by", || first.get("/status").1.contains("stands by"));
+    assert_eq!(second.get("/readyz").0, 503, "the client that it misses has not found it");
+}
+
+#[test]
+fn an_address_that_is_taken_ends_a_server_that_would_serve() {
+    let Some(cluster) = Cluster::start() else { return };
+    let taken = TcpListener::bind("127.0.0.1:0").unwrap();
+    let address = taken.local_addr().unwrap().to_string();
+    let mut command = over(&cluster, "taken");
+    let output = command.args(["--status", "off", "--listen", &address]).output().unwrap();
+    assert_eq!(output.status.code(), Some(1));
+    assert!(errors(&output).contains("in use"), "{}", errors(&output));
+}
