@@ -1,17 +1,13 @@
 -- The groups Belief and Released last.
-use Rattle.krl_machine.proofs.Names.{◌≡◌, ◌≢◌, ℕ, ◌-◌, ◌≤◌, ◌<◌, Option, Some, None, unwrap_or, ◌⊎◌, inl, inr, refl, sym, subst, ◌∙◌, ⊎_elim, true≢false, arith, cases_lt, RangePart, KeyPart, In}
-use Rattle.krl_machine.proofs.Names.{rank, RangeAtMost, KeyAtMost, off_slot, Head, Push, Release, Shared, Link, LinkStep, Said, IsLive, belief, adopted, Passes, IsSlot, InSpan, IsRow, SlotLowered}
-use Rattle.krl_machine.proofs.Names.{kept, cut, starts, crashes, leaves, joins, accepts, lowers, registers, sees_off, takes_release, rank_bound, reads-range_meet, inserts-range_meet, rank-key_meet}
+use Rattle.krl_machine.proofs.Names.{◌≡◌, ◌≢◌, ℕ, ◌≤◌, ◌<◌, Option, Some, None, unwrap_or, ◌⊎◌, inl, inr, refl, sym, ◌∙◌, ⊎_elim, true≢false, arith, cases_lt, RangePart, KeyPart, In}
+use Rattle.krl_machine.proofs.Names.{rank, RangeAtMost, KeyAtMost, off_slot, Head, Push, Release, Shared, Link, LinkStep, Said, IsLive, belief, adopted, Passes, IsSlot, IsRow, SlotLowered}
+use Rattle.krl_machine.proofs.Names.{starts, crashes, leaves, joins, accepts, lowers, registers, sees_off, takes_release, rank_bound}
 use Rattle.krl_machine.proofs.Names.{each_more}
 use Rattle.krl_modes.specs.declared.part.RangePart.TheVariants as range
-use Rattle.krl_modes.specs.declared.part.KeyPart.TheVariants as key
 use Rattle.krl_machine.proofs.Modes.{is_X}
 use Rattle.krl_machine.proofs.Basics.{Standing, Counting, IsBlank, Belief, Released, Known, Inv}
-use Rattle.krl_machine.proofs.Points.{lowered_below, lowered_within, slot_of_point, epoch_cases}
-
--- parts that are N are at most any
-pub blank_below : (r : RangePart) (k : KeyPart) (tr : RangePart) (tk : KeyPart) → r ≡ range.N → k ≡ key.N → RangeAtMost r tr × KeyAtMost k tk
-blank_below r k tr tk er ek = rw er (rw ek ((omega arith, omega arith), omega arith))
+use Rattle.krl_machine.proofs.Points.{lowered_below, lowered_within, epoch_cases}
+use Rattle.krl_machine.proofs.RowChanges.{blank_below, cut_within}
 
 -- a client that isn't of the registered incarnation holds nothing
 pub stranger_blank : (s : Shared) (l : Link) → Standing s l → Belief l → l.inc ≢ l.reg → IsBlank l
@@ -59,41 +55,15 @@ by_said l p q P spoken silent = by_option (p.says q) refl
     by_option None e = silent e
     by_option (Some t) e = spoken t e
 
--- the row after a release, at a point of a slot's span
-cut_bound : (s : Shared) (l : Link) (r : Release) (range : ℕ → RangePart) (key : ℕ → KeyPart) → IsRow s range key → Known s l → Belief l → ((q : ℕ) → r.lo ≤ q → q ≤ r.last → RangeAtMost (l.range q) r.range × KeyAtMost (l.key q) r.key) → (n : ℕ) → SlotLowered s r l range key n → (q : ℕ) → IsSlot s n → InSpan s n q → RangeAtMost (l.range q) (range q) × KeyAtMost (l.key q) (key q)
-cut_bound s l r range key row k b says n (kept same) q slot span = rw (same q span).0 (rw (same q span).1 (b.bound q))
-cut_bound s l r range key row k b says n (cut within low at) q slot span = (below, by_place (cases_lt q n))
-  where
-    in_release : (r.lo ≤ q) × (q ≤ r.last)
-    in_release = within q span
-
-    below : RangeAtMost (l.range q) (range q)
-    below = let t = says q in_release.0 in_release.1 in let u = b.bound q in
-        rw (low q span) ((omega (arith, reads-range_meet (l.top_range q) r.range, t, u), omega (arith, inserts-range_meet (l.top_range q) r.range, t, u)))
-
-    by_place : (q < n) ⊎ (n ≤ q) → KeyAtMost (l.key q) (key q)
-    by_place (inl lt) = let h = span.1 q (omega arith) lt in rw (row.off q h.1 h.0) (off_ok s l k q (range q) h.1 h.0 below)
-    by_place (inr le) =
-        let e : q ≡ n = omega (arith, span.0) in
-        let t = says q in_release.0 in_release.1 in let u = b.bound q in
-        let v : KeyAtMost (l.key n) r.key = subst (λ x. KeyAtMost (l.key x) r.key) e t.1 in
-        let w : KeyAtMost (l.key n) (l.top_key n) = subst (λ x. KeyAtMost (l.key x) (l.top_key x)) e u.1 in
-        subst (λ x. KeyAtMost (l.key x) (key x)) (sym e) (rw at (omega (arith, rank-key_meet (l.top_key n) r.key)))
-
 -- a release is obeyed
 obeyed : (s : Shared) (l : Link) (r : Release) (ranges : ℕ → RangePart) (keys : ℕ → KeyPart) → Inv s l → In r l.releases → Passes s l r.head → ((n : ℕ) → IsSlot s n → SlotLowered s r l ranges keys n) → IsRow s ranges keys → (q : ℕ) → RangeAtMost (l.range q) (ranges q) × KeyAtMost (l.key q) (keys q)
 obeyed s l r ranges keys i at ok slots row q = known_inc (cases_lt l.inc l.reg)
   where
     in_table : l.inc ≡ l.reg → RangeAtMost (l.range q) (ranges q) × KeyAtMost (l.key q) (keys q)
-    in_table same = ⊎_elim
-        (λ (far : s.end < q). let p = i.rows.top.past q far in let b = i.belief.bound q in
-        let z : RangeAtMost (l.range q) range.N = subst (λ x. RangeAtMost (l.range q) x) p.0 b.0 in
-        let y : KeyAtMost (l.key q) key.N = subst (λ x. KeyAtMost (l.key q) x) p.1 b.1 in
-        ((omega (arith, z), omega (arith, z)), omega (arith, y)))
-        (λ (near : q ≤ s.end). let n = slot_of_point s (s.end - q) q (omega arith) in
+    in_table same =
         let f = passing s l r.head i.standing i.counting (i.counting.releases r at) ok same in
-        cut_bound s l r ranges keys row i.known i.belief (i.released r at (ok.inc ∙ sym same) f.0 f.1) n.0 (slots n.0 n.1) q n.1 n.2)
-        (cases_lt s.end q)
+        cut_within s l r ranges keys row i.rows.top slots l.range l.key (λ p g far none h. off_ok s l i.known p g far none h) i.belief.bound
+        (i.released r at (ok.inc ∙ sym same) f.0 f.1) q
 
     known_inc : (l.inc < l.reg) ⊎ (l.reg ≤ l.inc) → RangeAtMost (l.range q) (ranges q) × KeyAtMost (l.key q) (keys q)
     known_inc (inl lt) = absurd (omega (arith, i.standing.reg))

@@ -1,15 +1,13 @@
 -- The groups Gathered and Rows last, and so all of Inv.
-use Rattle.krl_machine.proofs.Names.{◌≡◌, ◌≢◌, ℕ, ◌-◌, ◌≤◌, ◌<◌, None, refl, sym, subst, ◌∙◌, ⊎_elim, true≢false, arith, cases_lt, RangePart, KeyPart, In, each_more, RangeAtMost, KeyAtMost, Phase}
-use Rattle.krl_machine.proofs.Names.{Recovering, Serving, Notice, Push, Report, Shared, Link, LinkStep, IsSlot, InSpan, IsRow, IsRebuilt, no_range, no_key, starts, crashes, leaves, joins, accepts}
+use Rattle.krl_machine.proofs.Names.{◌≡◌, ℕ, ◌≤◌, ◌<◌, refl, sym, ◌∙◌, ⊎_elim, true≢false, arith, cases_lt, RangePart, KeyPart, In, each_more, RangeAtMost, KeyAtMost, Phase}
+use Rattle.krl_machine.proofs.Names.{Recovering, Serving, Notice, Push, Shared, Link, LinkStep, IsRow, no_range, no_key, starts, crashes, leaves, joins, accepts}
 use Rattle.krl_machine.proofs.Names.{lowers, reports_again, registers, sees_off, takes_report, takes_release}
-use Rattle.krl_modes.specs.declared.part.RangePart.TheVariants as range
-use Rattle.krl_modes.specs.declared.part.KeyPart.TheVariants as key
-use Rattle.krl_machine.proofs.Modes.{rank-off_slot}
 use Rattle.krl_machine.proofs.Basics.{IsBlank, Recovery, Rows, Inv}
-use Rattle.krl_machine.proofs.Points.{lowered_below, slot_of_point, row_span, epoch_cases}
+use Rattle.krl_machine.proofs.Points.{lowered_below, epoch_cases}
+use Rattle.krl_machine.proofs.RowChanges.{blank_below, rebuilt_below, rebuilt_above}
 use Rattle.krl_machine.proofs.Standing.{standing_kept}
 use Rattle.krl_machine.proofs.Counting.{counting_kept}
-use Rattle.krl_machine.proofs.Belief.{blank_below, stranger_blank, live_registered, off_ok, belief_kept, released_kept}
+use Rattle.krl_machine.proofs.Belief.{stranger_blank, live_registered, off_ok, belief_kept, released_kept}
 use Rattle.krl_machine.proofs.Kept.{pushed_kept, known_kept, writing_kept}
 
 pub not_both : {p : Phase} → p ≡ Serving → p ≡ Recovering → ⊥
@@ -18,57 +16,6 @@ not_both a b = absurd (cc)
 -- no push of a recovery's epoch is live
 none_recovering : (s : Shared) (l : Link) (p : Push) → Inv s l → s.phase ≡ Recovering → In p l.pushes → p.epoch ≡ s.epoch → ⊥
 none_recovering s l p i g at e = (i.counting.pushes p at).phase e g
-
--- a rebuilt row is at most the bound, and at least the belief, at one point
-module _ (s : Shared) (l : Link) (r : Report) (ranges : ℕ → RangePart) (keys : ℕ → KeyPart) (i : Inv s l) (built : IsRebuilt s r ranges keys) (below : (q : ℕ) → RangeAtMost (r.range q) (l.top_range q) × KeyAtMost (r.key q) (l.top_key q)) where
-  least_at : (n : ℕ) → IsSlot s n → RangeAtMost (ranges n) (l.top_range n) × KeyAtMost (keys n) (l.top_key n)
-  least_at n slot = built.least n (l.top_range n) (l.top_key n) slot (i.rows.top.mode n slot)
-      (λ q span. subst (λ x. RangeAtMost (r.range q) x) (row_span s l.top_range l.top_key i.rows.top (n - q) n q (omega (arith, span.0)) span) (below q).0)
-      (below n).1
-
-  off_low : (q : ℕ) → RangeAtMost (ranges q) (l.top_range q) → q ≢ s.end → s.index q ≡ None → KeyAtMost (keys q) (l.top_key q)
-  off_low q b far none =
-      rw (built.row.off q far none) (rw (i.rows.top.off q far none) (omega (arith, rank-off_slot (ranges q), rank-off_slot (l.top_range q), b)))
-
-  rebuilt_low : (q n : ℕ) → IsSlot s n → InSpan s n q → RangeAtMost (ranges q) (l.top_range q) × KeyAtMost (keys q) (l.top_key q)
-  rebuilt_low q n slot span = (
-    in_range,
-    ⊎_elim (λ (lt : q < n). let h = span.1 q (omega arith) lt in off_low q in_range h.1 h.0)
-        (λ (le : n ≤ q). let e : n ≡ q = omega (arith, span.0) in subst (λ x. KeyAtMost (keys x) (l.top_key x)) e (least_at n slot).1) (cases_lt q n),
-  )
-    where
-      in_range : RangeAtMost (ranges q) (l.top_range q)
-      in_range =
-          let a = row_span s ranges keys built.row (n - q) n q (omega (arith, span.0)) span in
-          let b = row_span s l.top_range l.top_key i.rows.top (n - q) n q (omega (arith, span.0)) span in
-          rw a (rw b (least_at n slot).0)
-
-  rebuilt_high : (q n : ℕ) → IsSlot s n → InSpan s n q → RangeAtMost (l.range q) (r.range q) → KeyAtMost (l.key q) (r.key q) → RangeAtMost (l.range q) (ranges q) × KeyAtMost (l.key q) (keys q)
-  rebuilt_high q n slot span lr lk = (
-    in_range,
-    ⊎_elim (λ (lt : q < n). let h = span.1 q (omega arith) lt in rw (built.row.off q h.1 h.0) (off_ok s l i.known q (ranges q) h.1 h.0 in_range))
-        (λ (le : n ≤ q). let e : n ≡ q = omega (arith, span.0) in
-        let k : KeyAtMost (r.key q) (keys q) = subst (λ x. KeyAtMost (r.key x) (keys x)) e (built.key_above n slot) in omega (arith, k, lk)) (cases_lt q n),
-  )
-    where
-      in_range : RangeAtMost (l.range q) (ranges q)
-      in_range =
-          let a = row_span s ranges keys built.row (n - q) n q (omega (arith, span.0)) span in
-          let b = built.above n q slot span in
-          rw a ((omega (arith, b, lr), omega (arith, b, lr)))
-
-  rebuilt_low_all : (q : ℕ) → RangeAtMost (ranges q) (l.top_range q) × KeyAtMost (keys q) (l.top_key q)
-  rebuilt_low_all q = ⊎_elim
-      (λ (far : s.end < q). let p = built.row.past q far in blank_below (ranges q) (keys q) (l.top_range q) (l.top_key q) p.0 p.1)
-      (λ (near : q ≤ s.end). let n = slot_of_point s (s.end - q) q (omega arith) in rebuilt_low q n.0 n.1 n.2) (cases_lt s.end q)
-
-  rebuilt_high_all : ((q : ℕ) → RangeAtMost (l.range q) (r.range q) × KeyAtMost (l.key q) (r.key q)) → (q : ℕ) → RangeAtMost (l.range q) (ranges q) × KeyAtMost (l.key q) (keys q)
-  rebuilt_high_all covers q = ⊎_elim
-      (λ (far : s.end < q). let p = i.rows.top.past q far in let b = i.belief.bound q in
-      let z : RangeAtMost (l.range q) range.N = subst (λ x. RangeAtMost (l.range q) x) p.0 b.0 in
-      let y : KeyAtMost (l.key q) key.N = subst (λ x. KeyAtMost (l.key q) x) p.1 b.1 in
-      ((omega (arith, z), omega (arith, z)), omega (arith, y)))
-      (λ (near : q ≤ s.end). let n = slot_of_point s (s.end - q) q (omega arith) in rebuilt_high q n.0 n.1 n.2 (covers q).0 (covers q).1) (cases_lt s.end q)
 
 blank_high : (l : Link) (range : ℕ → RangePart) (key : ℕ → KeyPart) → IsBlank l → (q : ℕ) → RangeAtMost (l.range q) (range q) × KeyAtMost (l.key q) (key q)
 blank_high l range key b q = blank_below (l.range q) (l.key q) (range q) (key q) (b q).0 (b q).1
@@ -143,10 +90,11 @@ recovery_kept s l l' (sees_off b at on same) i = record {
 recovery_kept s l l' (takes_report r range key at on missing same now built) i = record {
   reports = λ g m. absurd (true≢false (sym m));
   covers = λ g m. absurd (true≢false (sym m));
-  low = λ g. rebuilt_low_all s l r range key i built (i.recovery.reports on missing r at same now);
+  low = λ g. rebuilt_below s r range key l.top_range l.top_key built i.rows.top (i.recovery.reports on missing r at same now);
   high = λ g m. ⊎_elim
       (λ (more : l.reg < l.inc). blank_high l range key (stranger_blank s l i.standing i.belief (λ e. omega (arith, e))))
-      (λ (less : l.inc ≤ l.reg). rebuilt_high_all s l r range key i built (i.recovery.reports on missing r at same now) (i.recovery.covers on missing r at same now (omega (arith, same, i.standing.reg))))
+      (λ (less : l.inc ≤ l.reg). rebuilt_above s r range key l.top_range l.top_key built i.rows.top l.range l.key (λ q g far none h. off_ok s l i.known q g far none h) i.belief.bound
+      (i.recovery.covers on missing r at same now (omega (arith, same, i.standing.reg))))
       (cases_lt l.reg l.inc);
 }
 recovery_kept s l l' (takes_release r range key rat ok acked slots row) i = record {

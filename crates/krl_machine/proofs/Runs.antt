@@ -7,7 +7,8 @@ use Rattle.krl_modes.specs.declared.part.RangePart.TheVariants as range
 use Rattle.krl_modes.specs.declared.part.KeyPart.TheVariants as key
 use Rattle.krl_machine.proofs.Basics.{IsBlank, Inv}
 use Rattle.krl_machine.proofs.Points.{epoch_cases}
-use Rattle.krl_machine.proofs.Belief.{blank_below, live_registered}
+use Rattle.krl_machine.proofs.RowChanges.{Below, blank_below}
+use Rattle.krl_machine.proofs.Belief.{live_registered}
 use Rattle.krl_machine.proofs.Kept.{known_blank}
 use Rattle.krl_machine.proofs.Links.{not_both, link_kept, row_none}
 use Rattle.krl_machine.proofs.Worlds.{eq_cases, Agree, WorldInv, aside, aside_inv, own_inv, own_agrees, top_falls}
@@ -16,14 +17,15 @@ use Rattle.krl_machine.proofs.Worlds.{eq_cases, Agree, WorldInv, aside, aside_in
 pub agree_below : (a b c d : RangePart) (e f g h : KeyPart) → RangeAtMost a b × KeyAtMost e f → RangeAtMost c d × KeyAtMost g h → RangesAgree b d × KeysAgree f h → RangesAgree a c × KeysAgree e g
 agree_below a b c d e f g h x y z = ((omega (arith, x, y, z), omega (arith, x, y, z)), omega (arith, x, y, z))
 
-agree_sym : (l m : Link) → Agree l m → Agree m l
+pub agree_sym : (l m : Link) → Agree l m → Agree m l
 agree_sym l m a q = let b = a q in ((omega (arith, b), omega (arith, b)), omega (arith, b))
 
 agree_of : (l l0 m m0 : Link) → ((q : ℕ) → RangeAtMost (l.top_range q) (l0.top_range q) × KeyAtMost (l.top_key q) (l0.top_key q)) → ((q : ℕ) → RangeAtMost (m.top_range q) (m0.top_range q) × KeyAtMost (m.top_key q) (m0.top_key q)) → Agree l0 m0 → Agree l m
 agree_of l l0 m m0 a b g q = agree_below (l.top_range q) (l0.top_range q) (m.top_range q) (m0.top_range q) (l.top_key q) (l0.top_key q) (m.top_key q) (m0.top_key q) (a q) (b q) (g q)
 
-raise_inv : (s : Shared) (l : Link) (range : ℕ → RangePart) (key : ℕ → KeyPart) → Inv s l → s.phase ≡ Serving → IsRow s range key → ((q : ℕ) → RangeAtMost (l.top_range q) (range q) × KeyAtMost (l.top_key q) (key q)) → Inv s (record l { top_range = range; top_key = key })
-raise_inv s l range key i serving row up = record {
+-- a row grows
+pub raise_inv : (s : Shared) (l : Link) (range : ℕ → RangePart) (key : ℕ → KeyPart) → Inv s l → IsRow s range key → ((q : ℕ) → Below (l.top_range q) (l.top_key q) (range q) (key q)) → Inv s (record l { top_range = range; top_key = key })
+raise_inv s l range key i row up = record {
   standing = i.standing;
   counting = i.counting;
   belief = record { down = i.belief.down; early = i.belief.early; bound = λ q. let b = i.belief.bound q in let u = up q in ((omega (arith, b, u), omega (arith, b, u)), omega (arith, b, u)) };
@@ -34,8 +36,13 @@ raise_inv s l range key i serving row up = record {
   released = i.released;
   known = i.known;
   writing = i.writing;
-  recovery = record { reports = λ g. absurd (not_both serving g); covers = i.recovery.covers; low = λ g. absurd (not_both serving g); high = i.recovery.high };
-  rows = record { top = row; new = λ g. absurd (not_both serving g) };
+  recovery = record {
+    reports = λ g m r at a c q. let b = i.recovery.reports g m r at a c q in let u = up q in ((omega (arith, b, u), omega (arith, b, u)), omega (arith, b, u));
+    covers = i.recovery.covers;
+    low = λ g q. let b = i.recovery.low g q in let u = up q in ((omega (arith, b, u), omega (arith, b, u)), omega (arith, b, u));
+    high = i.recovery.high;
+  };
+  rows = record { top = row; new = i.rows.new };
 }
 
 down_recovering : Down ≡ Recovering → ⊥
@@ -145,7 +152,7 @@ module _ (s s' : Shared) (old new : ℕ → Link) (c : ℕ) (l : Link) (ch : Cha
   all_links : Inv s' l → ((d : ℕ) → d ≢ c → Inv s' (old d)) → (d : ℕ) → Inv s' (new d)
   all_links here rest d = eq_cases d c (λ e. subst (λ x. Inv s' (new x)) (sym e) (subst (Inv s') (sym ch.here) here)) (λ ne. subst (Inv s') (sym (ch.rest d ne)) (rest d ne))
 
-  all_agree : ((d : ℕ) → d ≢ c → Agree l (old d)) → ((d e : ℕ) → d ≢ e → Agree (old d) (old e)) → (d e : ℕ) → d ≢ e → Agree (new d) (new e)
+  pub all_agree : ((d : ℕ) → d ≢ c → Agree l (old d)) → ((d e : ℕ) → d ≢ e → Agree (old d) (old e)) → (d e : ℕ) → d ≢ e → Agree (new d) (new e)
   all_agree here rest d e ne = eq_cases d c
       (λ a. let me : e ≢ c = λ b. ne (a ∙ sym b) in subst (λ x. Agree (new x) (new e)) (sym a) (subst (λ x. Agree x (new e)) (sym ch.here) (subst (Agree l) (sym (ch.rest e me)) (here e me))))
       (λ a. subst (λ x. Agree x (new e)) (sym (ch.rest d a)) (eq_cases e c
@@ -159,7 +166,7 @@ world_kept w v (at_link c l links step ch) i = record {
       (λ d ne. agree_of l (w.links c) (w.links d) (w.links d) (top_falls w.shared (w.links c) l step (i.links c)) (λ q. ((omega arith, omega arith), omega arith)) (i.agree c d (λ e. ne (sym e)))) i.agree;
 }
 world_kept w v (raises c range key links serving row up agrees ch) i = record {
-  links = all_links w.shared w.shared w.links links c _ ch (raise_inv w.shared (w.links c) range key (i.links c) serving row up) (λ d ne. i.links d);
+  links = all_links w.shared w.shared w.links links c _ ch (raise_inv w.shared (w.links c) range key (i.links c) row up) (λ d ne. i.links d);
   agree = all_agree w.shared w.shared w.links links c _ ch agrees i.agree;
 }
 world_kept w v (applies c m index key links at ok acked next ap' ch) i = record {
@@ -192,30 +199,42 @@ pub reachable_inv : (index : ℕ → Option Value) (end : ℕ) (w : World) → R
 reachable_inv index end w begun = record { links = λ c. first_inv index end; agree = λ c d ne q. ((omega arith, omega arith), omega arith) }
 reachable_inv index end w (stepped u v r step) = world_kept u v step (reachable_inv index end u r)
 
-pub always_compatible : (index : ℕ → Option Value) (end : ℕ) (w : World) → Reachable index end w → IsCompatible w
-always_compatible index end w r c d ne q =
-    let i = reachable_inv index end w r in
+-- What follows from the invariant, and so holds in each reachable world
+
+pub compatible_of : (w : World) → WorldInv w → IsCompatible w
+compatible_of w i c d ne q =
     agree_below ((w.links c).range q) ((w.links c).top_range q) ((w.links d).range q) ((w.links d).top_range q) ((w.links c).key q) ((w.links c).top_key q) ((w.links d).key q) ((w.links d).top_key q) ((i.links c).belief.bound q) ((i.links d).belief.bound q) (i.agree c d ne q)
 
+pub always_compatible : (index : ℕ → Option Value) (end : ℕ) (w : World) → Reachable index end w → IsCompatible w
+always_compatible index end w r = compatible_of w (reachable_inv index end w r)
+
+pub bounded_of : (w : World) → WorldInv w → IsBounded w
+bounded_of w i c = (i.links c).belief.bound
+
 pub always_bounded : (index : ℕ → Option Value) (end : ℕ) (w : World) → Reachable index end w → IsBounded w
-always_bounded index end w r c q = ((reachable_inv index end w r).links c).belief.bound q
+always_bounded index end w r = bounded_of w (reachable_inv index end w r)
 
 row_some : (k : KeyPart) (v : Option Value) → 1 ≤ rank k → row_of k v ≡ v
 row_some k v h = grind arith
 
-pub scans_are_index : (index : ℕ → Option Value) (end : ℕ) (w : World) → Reachable index end w → ScanIsIndex w
-scans_are_index index end w r c lo last near free covered q low up =
-    let i = ((reachable_inv index end w r).links c).known.says q (λ op o e. ⊎_elim (λ (a : op_key op < lo). omega (arith, e)) (λ (a : last < op_key op). omega (arith, e)) (free op o)) in
-    ⊎_elim (λ (h : 1 ≤ rank ((w.links c).key q)). row_some ((w.links c).key q) ((w.links c).value q) h ∙ sym (i.entry (λ e. omega (arith, e)) h))
-    (λ (h : ((w.links c).key q ≡ key.N) × (1 ≤ reads ((w.links c).range q))). ap (λ k. row_of k ((w.links c).value q)) h.0 ∙ sym (i.empty h.0 h.1)) (covered q low up)
+points_of : (w : World) → WorldInv w → ScanIsIndex w
+points_of w i c lo last near free covered q low up =
+    let k = (i.links c).known.says q (λ op o e. ⊎_elim (λ (a : op_key op < lo). omega (arith, e)) (λ (a : last < op_key op). omega (arith, e)) (free op o)) in
+    ⊎_elim (λ (h : 1 ≤ rank ((w.links c).key q)). row_some ((w.links c).key q) ((w.links c).value q) h ∙ sym (k.entry (λ e. omega (arith, e)) h))
+    (λ (h : ((w.links c).key q ≡ key.N) × (1 ≤ reads ((w.links c).range q))). ap (λ x. row_of x ((w.links c).value q)) h.0 ∙ sym (k.empty h.0 h.1)) (covered q low up)
 
-pub never_alarms : (index : ℕ → Option Value) (end : ℕ) (w : World) → Reachable index end w → NoAlarm w
-never_alarms index end w r c x ranges keys may built d ne q =
-    let i = reachable_inv index end w r in
+pub scans_are_index : (index : ℕ → Option Value) (end : ℕ) (w : World) → Reachable index end w → ScanIsIndex w
+scans_are_index index end w r = points_of w (reachable_inv index end w r)
+
+pub no_alarm_of : (w : World) → WorldInv w → NoAlarm w
+no_alarm_of w i c x ranges keys may built d ne q =
     let l : Link = record (w.links c) { missing = false; new_range = ranges; new_key = keys } in
     let j = link_kept w.shared (w.links c) l (takes_report x ranges keys may.sent may.recovering may.missing may.inc may.epoch built) (i.links c) in
     agree_below (ranges q) ((w.links c).top_range q) ((w.links d).new_range q) ((w.links d).top_range q) (keys q) ((w.links c).top_key q) ((w.links d).new_key q) ((w.links d).top_key q)
     (j.recovery.low may.recovering q) ((i.links d).recovery.low may.recovering q) (i.agree c d (λ e. ne (sym e)) q)
+
+pub never_alarms : (index : ℕ → Option Value) (end : ℕ) (w : World) → Reachable index end w → NoAlarm w
+never_alarms index end w r = no_alarm_of w (reachable_inv index end w r)
 
 -- indices that agree on the points have the same entries there
 same_entries : (a b : ℕ → Option Value) (n lo : ℕ) → ((q : ℕ) → lo ≤ q → q < lo + n → a q ≡ b q) → entries a lo n ≡ entries b lo n
@@ -223,11 +242,14 @@ same_entries a b zero lo h = refl
 same_entries a b (suc n) lo h =
     ap (λ o. with_entry lo o (entries a (suc lo) n)) (h lo (omega arith) (omega arith)) ∙ ap (with_entry lo (b lo)) (same_entries a b n (suc lo) (λ q x y. h q (omega arith) (omega arith)))
 
-pub scans_are_range : (index : ℕ → Option Value) (end : ℕ) (w : World) → Reachable index end w → ScanIsRange w
-scans_are_range index end w r c lo n near free covered =
+pub scans_of : (w : World) → WorldInv w → ScanIsRange w
+scans_of w i c lo n near free covered =
     same_entries (λ q. row_of ((w.links c).key q) ((w.links c).value q)) w.shared.index n lo
-    (λ q low up. scans_are_index index end w r c q q (omega arith) (λ op o. ⊎_elim (λ (a : op_key op < lo). inl (omega arith)) (λ (a : lo + n ≤ op_key op). inr (omega arith)) (free op o))
+    (λ q low up. points_of w i c q q (omega arith) (λ op o. ⊎_elim (λ (a : op_key op < lo). inl (omega arith)) (λ (a : lo + n ≤ op_key op). inr (omega arith)) (free op o))
     (λ x a b. let e : q ≡ x = omega arith in subst (IsCovered (w.links c)) e (covered q low up)) q (omega arith) (omega arith))
+
+pub scans_are_range : (index : ℕ → Option Value) (end : ℕ) (w : World) → Reachable index end w → ScanIsRange w
+scans_are_range index end w r = scans_of w (reachable_inv index end w r)
 
 pub restarts_hold : (index : ℕ → Option Value) (end : ℕ) (w : World) → Reachable index end w → Restarts w
 restarts_hold index end w r =

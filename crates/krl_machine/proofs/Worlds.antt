@@ -1,13 +1,14 @@
 -- The world's steps keep the invariant.
-use Rattle.krl_machine.proofs.Names.{◌≡◌, ◌≢◌, ℕ, suc, ◌-◌, ◌≤◌, ◌<◌, Bool, true, false, Option, Some, None, ◌∷◌, ◌⊎◌, inl, inr, refl, sym, ap, subst, ◌∙◌, ⊎_elim, arith, cases_lt, none-some}
-use Rattle.krl_machine.proofs.Names.{RangePart, KeyPart, Value, In, reads, inserts, rank, RangeAtMost, KeyAtMost, RangesAgree, KeysAgree, IsMode, off_slot, Serving, Op, Delete, op_key, Said, Release}
-use Rattle.krl_machine.proofs.Names.{Write, Shared, Link, belief, LinkStep, Passes, IsSlot, InSpan, IsRow, SlotLowered, kept, cut, registers, sees_off, takes_release, reads_bound, rank_bound}
-use Rattle.krl_machine.proofs.Names.{reads-range_meet, inserts-range_meet, rank-key_meet, World, Applies, inserted, replaced, deleted, wrote_by}
+use Rattle.krl_machine.proofs.Names.{◌≡◌, ◌≢◌, ℕ, suc, ◌≤◌, ◌<◌, Bool, true, false, Option, Some, None, ◌∷◌, ◌⊎◌, inl, inr, refl, sym, ap, subst, ◌∙◌, ⊎_elim, arith, cases_lt, none-some}
+use Rattle.krl_machine.proofs.Names.{KeyPart, Value, In, reads, inserts, rank, RangeAtMost, KeyAtMost, RangesAgree, KeysAgree, IsMode, off_slot, Serving, Op, Delete, op_key, Said}
+use Rattle.krl_machine.proofs.Names.{Write, Shared, Link, belief, LinkStep, Passes, IsSlot, IsRow, registers, sees_off, takes_release, reads_bound, rank_bound}
+use Rattle.krl_machine.proofs.Names.{World, Applies, inserted, replaced, deleted, wrote_by}
 use Rattle.krl_modes.specs.declared.part.RangePart.TheVariants as range
 use Rattle.krl_machine.proofs.Modes.{rank-off_slot, is_N, is_KN}
 use Rattle.krl_machine.proofs.Basics.{IsBlank, IsTrueOf, Known, Inv}
-use Rattle.krl_machine.proofs.Points.{slot_of_point, epoch_cases}
-use Rattle.krl_machine.proofs.Belief.{blank_below, none_live}
+use Rattle.krl_machine.proofs.Points.{epoch_cases}
+use Rattle.krl_machine.proofs.RowChanges.{cut_falls}
+use Rattle.krl_machine.proofs.Belief.{none_live}
 use Rattle.krl_machine.proofs.Kept.{known_blank}
 use Rattle.krl_machine.proofs.Links.{not_both}
 
@@ -227,22 +228,8 @@ own_agrees s l m index key op (replaced k v u near present x at rest kr) agree i
 own_agrees s l m index key op (deleted k u near present x rx rx' at rest kr) agree i q = ((agree q).0, rw (kr q) (agree q).1)
 
 -- a step of a link lowers its row at most
-cut_falls : (s : Shared) (l : Link) (r : Release) (range : ℕ → RangePart) (key : ℕ → KeyPart) → IsRow s range key → Inv s l → (n : ℕ) → SlotLowered s r l range key n → (q : ℕ) → InSpan s n q → RangeAtMost (range q) (l.top_range q) × KeyAtMost (key q) (l.top_key q)
-cut_falls s l r range key row i n (kept same) q span = rw (same q span).0 (rw (same q span).1 ((omega arith, omega arith), omega arith))
-cut_falls s l r range key row i n (cut within low at) q span = (
-  below,
-  ⊎_elim
-      (λ (lt : q < n). let h = span.1 q (omega arith) lt in rw (row.off q h.1 h.0) (rw (i.rows.top.off q h.1 h.0) (omega (arith, rank-off_slot (range q), rank-off_slot (l.top_range q), below))))
-      (λ (le : n ≤ q). let e : n ≡ q = omega (arith, span.0) in subst (λ x. KeyAtMost (key x) (l.top_key x)) e (rw at (omega (arith, rank-key_meet (l.top_key n) r.key)))) (cases_lt q n),
-)
-  where
-    below : RangeAtMost (range q) (l.top_range q)
-    below = rw (low q span) ((omega (arith, reads-range_meet (l.top_range q) r.range), omega (arith, inserts-range_meet (l.top_range q) r.range)))
-
 pub top_falls : (s : Shared) (l l' : Link) → LinkStep s l l' → Inv s l → (q : ℕ) → RangeAtMost (l'.top_range q) (l.top_range q) × KeyAtMost (l'.top_key q) (l.top_key q)
 top_falls s l l' (registers h at on newer) i q = ((omega arith, omega arith), omega arith)
 top_falls s l l' (sees_off b at on same) i q = ((omega arith, omega arith), omega arith)
-top_falls s l l' (takes_release r range key rat ok acked slots row) i q = ⊎_elim
-    (λ (far : s.end < q). let p = row.past q far in blank_below (range q) (key q) (l.top_range q) (l.top_key q) p.0 p.1)
-    (λ (near : q ≤ s.end). let n = slot_of_point s (s.end - q) q (omega arith) in cut_falls s l r range key row i n.0 (slots n.0 n.1) q n.2) (cases_lt s.end q)
+top_falls s l l' (takes_release r range key rat ok acked slots row) i q = cut_falls s l r range key row i.rows.top slots q
 top_falls s l l' _ i q = ((omega arith, omega arith), omega arith)

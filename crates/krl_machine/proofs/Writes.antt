@@ -140,7 +140,7 @@ module _ (index : ℕ → Option Value) (w : World) (c : ℕ) (l : Link) (links 
   wrote_is : (d : ℕ) → (links d).wrote ≡ (w.links d).wrote
   wrote_is d = eq_cases d c (λ e. subst (λ x. (links x).wrote ≡ (w.links x).wrote) (sym e) (ap (λ x. x.wrote) ch.here ∙ kept)) (λ ne. ap (λ x. x.wrote) (ch.rest d ne))
 
-  history_link : Wrotes l → History index (record w { links = links })
+  pub history_link : Wrotes l → History index (record w { links = links })
   history_link own = record {
     each = λ d. eq_cases d c (λ e. subst (λ x. Wrotes (links x)) (sym e) (subst Wrotes (sym ch.here) own)) (λ ne. subst Wrotes (sym (ch.rest d ne)) (h.each d));
     listed = λ e at. subst (λ xs. In e.wrote xs) (sym (wrote_is e.client)) (h.listed e at);
@@ -194,14 +194,15 @@ pub reachable_history : (index : ℕ → Option Value) (end : ℕ) (w : World) �
 reachable_history index end w begun = record { each = λ c. wrotes_blank; listed = λ e at. absurd at; all = λ c x at. absurd at; once = tt; fold = λ q. refl; proper = tt }
 reachable_history index end w (stepped u v r step) = history_kept index u v step (reachable_inv index end u r) (reachable_history index end u r)
 
+pub writes_of : (index : ℕ → Option Value) (w : World) → History index w → WritesOnce index w
+writes_of index w h = record {
+  once = h.once;
+  fold = h.fold;
+  proper = h.proper;
+  same = λ e at m mat a b. let x = (h.each e.client).sent e.wrote (h.listed e at) in (h.each e.client).same m x.0 mat x.1 (a ∙ sym x.2) (b ∙ sym x.3) ∙ x.4;
+  told = λ c p at some t. let x = (h.each c).told p at some t in (record { client = c; wrote = x.0 }, h.all c x.0 x.1, refl, x.2, x.3);
+  told_not = λ c p at some t x. (h.each c).told_not p at some t x.0.wrote (subst (λ z. In x.0.wrote (w.links z).wrote) x.2 (h.listed x.0 x.1)) x.3 x.4;
+}
+
 pub writes_once : (index : ℕ → Option Value) (end : ℕ) (w : World) → Reachable index end w → WritesOnce index w
-writes_once index end w r =
-    let h = reachable_history index end w r in
-    record {
-      once = h.once;
-      fold = h.fold;
-      proper = h.proper;
-      same = λ e at m mat a b. let x = (h.each e.client).sent e.wrote (h.listed e at) in (h.each e.client).same m x.0 mat x.1 (a ∙ sym x.2) (b ∙ sym x.3) ∙ x.4;
-      told = λ c p at some t. let x = (h.each c).told p at some t in (record { client = c; wrote = x.0 }, h.all c x.0 x.1, refl, x.2, x.3);
-      told_not = λ c p at some t x. (h.each c).told_not p at some t x.0.wrote (subst (λ z. In x.0.wrote (w.links z).wrote) x.2 (h.listed x.0 x.1)) x.3 x.4;
-    }
+writes_once index end w r = writes_of index w (reachable_history index end w r)
