@@ -14,3 +14,4 @@ pub mod OldPushes
 pub mod OldRecovers
 pub mod Reached
 pub mod Witness
+pub mod LateServer

@@ -49,7 +49,7 @@ l4 = record l3 { heads = record { inc = 1; epoch = 1; seen = 0 } ∷ [] }
 abbrev links4 : ℕ → Link
 links4 = put (put (put (put (λ c. blank_link) 0 l1) 0 l2) 0 l3) 0 l4
 
-rest4 : (d : ℕ) → d ≢ 0 → links4 d ≡ blank_link
+pub rest4 : (d : ℕ) → d ≢ 0 → links4 d ≡ blank_link
 rest4 d ne = (put_changed (put (put (put (λ c. blank_link) 0 l1) 0 l2) 0 l3) 0 l4).rest d ne
     ∙ (put_changed (put (put (λ c. blank_link) 0 l1) 0 l2) 0 l3).rest d ne
     ∙ (put_changed (put (λ c. blank_link) 0 l1) 0 l2).rest d ne
@@ -72,19 +72,19 @@ reach4 =
     (go (λ c. blank_link) l1 (starts refl) opened)))
 
 -- client 0 is missing, all others are unknown
-abbrev lost : ℕ → Bool
+abbrev pub lost : ℕ → Bool
 lost c = nat_eq c 0
 
-abbrev links5 : ℕ → Link
+abbrev pub links5 : ℕ → Link
 links5 c = record (links4 c) { missing = lost c; last_push = 0; acked = true; new_range = no_range; new_key = no_key }
 
-abbrev old5 : ℕ → ℕ → Kept
+abbrev pub old5 : ℕ → ℕ → Kept
 old5 = λ e c. if e == 1 then kept_of (links4 c) else f4.old e c
 
-abbrev f5 : Fenced
+abbrev pub f5 : Fenced
 f5 = record { world = record { shared = shared2; links = λ c. links5 c; log = [] }; bound = 1; old = old5; copy = λ e. if e == 1 then (λ q. None) else f4.copy e }
 
-reach5 : FencedReachable (λ q. None) 9 f5
+pub reach5 : FencedReachable (λ q. None) 9 f5
 reach5 = went f4 f5 reach4 (takes_over lost (λ c m. eq_cases c 0 (λ e. absurd (true≢false (sym (eq-eqb c 0 e) ∙ m))) (λ ne. inr (ap (λ l. l.reg) (rest4 c ne)))))
 
 abbrev raised : Link
@@ -127,6 +127,10 @@ kept7 = record (kept_of (links4 0)) { last = 1; acked = false }
 abbrev old7 : ℕ → ℕ → Kept
 old7 e c = if e == 1 then (if c == 0 then kept7 else old5 e c) else old5 e c
 
+pub same_both : (b : Bool) (z : Kept) → (if b then z else z) ≡ z
+same_both true z = refl
+same_both false z = refl
+
 turned7 : Turned old5 old7 1 0 kept7
 turned7 = record {
   here = refl;
@@ -134,10 +138,6 @@ turned7 = record {
       (λ (ne : e ≢ 1). ap (λ b. if b then (if d == 0 then kept7 else old5 e d) else old5 e d) (ne_eqb e 1 ne))
       (λ (ne : d ≢ 0). ap (λ b. if e == 1 then (if b then kept7 else old5 e d) else old5 e d) (ne_eqb d 0 ne) ∙ same_both (e == 1) (old5 e d));
 }
-  where
-    same_both : (b : Bool) (z : Kept) → (if b then z else z) ≡ z
-    same_both true z = refl
-    same_both false z = refl
 
 abbrev f7 : Fenced
 f7 = record f6 { world = record f6.world { links = put f6.world.links 0 told }; old = old7 }

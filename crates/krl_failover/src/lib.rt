@@ -51,3 +51,11 @@ pub fn goes_on()
         × (g.world.shared.epoch ≡ 2) × ((g.world.links 0).epoch ≡ 1)
         × ((g.world.links 0).range 5 ≡ range.S) }
 {}
+
+/// And one that had no time to serve comes to serve: after a server has started in epoch 3, that
+/// of epoch 2 has the last report that it waits for.
+pub fn serves_late()
+    ensures { (f g : Fenced) × FencedReachable (λ q. None) 9 f × FencedSteps f g
+        × (f.world.shared.epoch ≡ 3) × (f.bound ≡ 1)
+        × (g.world.shared.epoch ≡ 3) × (g.bound ≡ 2) }
+{}
