@@ -2,6 +2,7 @@
 pub mod Agreeing
 pub mod Meaning
 pub mod Follows
+pub mod Stays
 pub mod Pushes
 pub mod Judged
 pub mod Refused

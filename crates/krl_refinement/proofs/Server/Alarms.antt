@@ -1,7 +1,7 @@
 -- The report of a missing client contradicts nobody's modes.
 use Rattle.krl_refinement.proofs.Names.{◌≡◌, ◌≢◌, ℕ, Bool, true, false, not, List, [], ◌∷◌, ◌++◌, map, Option, Some, None, refl, sym, ap, subst, ◌∙◌, arith, ◌||◌, cond, nat_eq, eqb-false}
 use Rattle.krl_refinement.proofs.Names.{nat_tests, none-some, list_all, END, compatible, Value, Pieces, ToServer, Record, is_slot, record_of, most_clients, mode_at, column}
-use Rattle.krl_refinement.proofs.Names.{is_compatible_there, rebuilt, adopted, conflicts, RangesAgree, KeysAgree, Recovering, Link, IsSlot, Logged, Reachable, MayTake, never_alarms, slots_agree}
+use Rattle.krl_refinement.proofs.Names.{is_compatible_there, rebuilt, adopted, conflicts, RangesAgree, KeysAgree, Recovering, Link, IsSlot, Logged, WorldInv, MayTake, no_alarm_of, slots_agree}
 use Rattle.krl_refinement.proofs.Names.{Server, lists, IsSound, report_of, Stands, IsRecord, machine_phase, view, Shows, world_of}
 use Rattle.std.specs.Ordering.{nat_cmp, eq_by_cmp}
 use Rattle.std.specs.FinMap.Entries.{find}
@@ -30,8 +30,8 @@ at_keys p (x ∷ xs) h e =
     let here : p x.0 ≡ true = h x.0 (λ none. none-some x.1 (sym none ∙ found)) in
     rw here (at_keys p xs (λ n some. h n (still (eq_by_cmp nat_cmp n x.0) x.1 (find nat_cmp n xs) some)) e)
 
-pub no_conflict : (first : ℕ → Option Value) (s : Server) (of : ℕ → Link) (log : List Logged) (m : ToServer) (epoch : ℕ) (pieces : Pieces) (r : Record) → Reachable first END (world_of s of log) → Shows s of → IsSound s → record_of s.durable.register m.client ≡ Some r → m.incarnation ≡ r.incarnation → epoch ≡ s.durable.epoch → lists s.missing m.client ≡ true → Stands (of m.client) m.incarnation (said.Report epoch pieces) → conflicts s.durable.index s.rows m.client pieces ≡ false
-no_conflict first s of log m epoch pieces r reach shows sound known same now missing stands =
+pub no_conflict : (s : Server) (of : ℕ → Link) (log : List Logged) (m : ToServer) (epoch : ℕ) (pieces : Pieces) (r : Record) → WorldInv (world_of s of log) → Shows s of → IsSound s → record_of s.durable.register m.client ≡ Some r → m.incarnation ≡ r.incarnation → epoch ≡ s.durable.epoch → lists s.missing m.client ≡ true → Stands (of m.client) m.incarnation (said.Report epoch pieces) → conflicts s.durable.index s.rows m.client pieces ≡ false
+no_conflict s of log m epoch pieces r inv shows sound known same now missing stands =
     let c = m.client in
     let index = s.durable.index in
     let phase = machine_phase s.missing in
@@ -44,7 +44,7 @@ no_conflict first s of log m epoch pieces r reach shows sound known same now mis
     let agree : (q : ℕ) → RangesAgree (machine.range_at (view s) (column (adopted index s.rows c pieces) c) q) (machine.range_at (view s) (column s.rows d) q) × KeysAgree (machine.key_at (view s) (column (adopted index s.rows c pieces) c) q) (machine.key_at (view s) (column s.rows d) q) = λ q.
     subst (λ x. RangesAgree (machine.range_at (view s) (column (adopted index s.rows c pieces) c) q) x × KeysAgree (machine.key_at (view s) (column (adopted index s.rows c pieces) c) q) (machine.key_at (view s) (column s.rows d) q)) ((shows.link d).new_range on q ∙ range_is index s.durable.epoch phase sound.near s.rows d q)
     (subst (λ x. RangesAgree (machine.range_at (view s) (column (adopted index s.rows c pieces) c) q) ((of d).new_range q) × KeysAgree (machine.key_at (view s) (column (adopted index s.rows c pieces) c) q) x) ((shows.link d).new_key on q ∙ key_is index s.durable.epoch phase sound.near s.rows d q)
-    (never_alarms first END (world_of s of log) reach c (report_of m.incarnation epoch pieces) (machine.range_at (view s) (column (adopted index s.rows c pieces) c)) (machine.key_at (view s) (column (adopted index s.rows c pieces) c)) may built d ne q)) in
+    (no_alarm_of (world_of s of log) inv c (report_of m.incarnation epoch pieces) (machine.range_at (view s) (column (adopted index s.rows c pieces) c)) (machine.key_at (view s) (column (adopted index s.rows c pieces) c)) may built d ne q)) in
     subst (λ g. compatible g (mode_at s.rows n d) ≡ true) (adopted_at index s.durable.epoch phase sound.near s.rows c m.incarnation epoch pieces stands.1 n slot (is_slot index n) refl)
     (slots_agree (view s) sound.near (column (adopted index s.rows c pieces) c) (column s.rows d) agree n slot) in
     let fit : (n : ℕ) → IsSlot (view s) n → is_compatible_there s.rows n c (rebuilt index pieces n) ≡ true = λ n slot.

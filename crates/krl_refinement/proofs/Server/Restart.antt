@@ -11,7 +11,7 @@ use Rattle.krl_refinement.proofs.Server.Follows.{up_phase}
 pub crash_follows : (s : Server) (of : ℕ → Link) (log : List Logged) → Shows s of → IsSound s → CrashFollows s of log
 crash_follows s of log h i = record { steps = more none (crash (up_phase s.missing)); shows = λ c. (h.link c).known; sound = start_sound s.durable i.near }
 
-missing_known : (es : Register) (c : ℕ) → lists (missing_order es) c ≡ false → (l : Link) → IsRecord (record_of es c) l → (l.left ≡ true) ⊎ (l.reg ≡ 0)
+pub missing_known : (es : Register) (c : ℕ) → lists (missing_order es) c ≡ false → (l : Link) → IsRecord (record_of es c) l → (l.left ≡ true) ⊎ (l.reg ≡ 0)
 missing_known [] c e l h = inr h.reg
 missing_known (x ∷ es) c e l h = by_left x.1.left refl (nat_eq c x.0) refl e h (missing_known es c)
   where
@@ -21,7 +21,7 @@ missing_known (x ∷ es) c e l h = by_left x.1.left refl (nat_eq c x.0) refl e h
     by_left false f true g e h ih = let y : (true || lists (missing_order es) c) ≡ false = subst (λ b. (b || lists (missing_order es) c) ≡ false) g e in absurd (cc)
     by_left false f false g e h ih = ih (sym (ap (λ b. b || lists (missing_order es) c) g) ∙ e) l h
 
-abbrev started_with : Durable → List ℕ → Server
+abbrev pub started_with : Durable → List ℕ → Server
 started_with d ms = record { durable = record d { epoch = suc d.epoch }; rows = blank_rows; sessions = λ c. blank_session; missing = ms }
 
 known_kept : (o : Option Record) (l : Link) (b : Bool) → IsRecord o l → IsRecord o (record l { missing = b; last_push = 0; acked = true; new_range = no_range; new_key = no_key })
@@ -32,43 +32,49 @@ known_end : (o : Option Record) (l : Link) (b : Bool) → IsRecord o l → IsRec
 known_end None l b h = h
 known_end (Some r) l b h = h
 
-record Starts (d : Durable) (s : Server) (of : ℕ → Link) (log : List Logged) : Type 0 where
-  pub after : ℕ → Link
-  pub steps : Steps (down_world_of d of log) (world_of s after log)
-  pub shows : Shows s after
-  pub clients : (c : ℕ) → (after c).client ≡ (of c).client
-  pub bound : is_recovering s.missing ≡ true → (c : ℕ) → BoundStays false (of c) (after c)
+-- the links after a start: where nobody is missing, it serves at once
+abbrev pub started_links : (ℕ → Link) → List ℕ → ℕ → Link
+started_links of [] c = record (of c) { missing = false; last_push = 0; acked = true; new_range = no_range; new_key = no_key; top_range = no_range; top_key = no_key }
+started_links of (x ∷ xs) c = record (of c) { missing = lists (x ∷ xs) c; last_push = 0; acked = true; new_range = no_range; new_key = no_key }
 
-starts_with : (d : Durable) (ms : List ℕ) (of : ℕ → Link) (log : List Logged) → ((c : ℕ) → IsMissing (of c) (lists ms c)) → DurableShows d of → Starts d (started_with d ms) of log
-starts_with d [] of log miss known = record {
-  after = λ c. record (of c) { missing = false; last_push = 0; acked = true; new_range = no_range; new_key = no_key; top_range = no_range; top_key = no_key };
-  steps = more (more none (start (λ c. false) refl miss)) (finish refl (λ c. refl));
-  shows = record {
-    link = λ c. record { known = known_end (record_of d.register c) (of c) false (known c); missing = refl; last_push = refl; acked = refl; unacked = λ body e. absurd (none-some body e); range = λ p q. sym (blank_range d.index blank_rows c (λ n. refl) q); key = λ p q. sym (blank_key d.index blank_rows c (λ n. refl) q); new_range = λ p q. sym (blank_range d.index blank_rows c (λ n. refl) q); new_key = λ p q. sym (blank_key d.index blank_rows c (λ n. refl) q) };
-    heard = λ n u at. absurd at;
-  };
-  clients = λ c. refl;
-  bound = λ g. absurd (not_both (is_recovering []) g refl);
+pub started_shows : (d : Durable) (ms : List ℕ) (of : ℕ → Link) → DurableShows d of → Shows (started_with d ms) (started_links of ms)
+started_shows d [] of known = record {
+  link = λ c. record { known = known_end (record_of d.register c) (of c) false (known c); missing = refl; last_push = refl; acked = refl; unacked = λ body e. absurd (none-some body e); range = λ p q. sym (blank_range d.index blank_rows c (λ n. refl) q); key = λ p q. sym (blank_key d.index blank_rows c (λ n. refl) q); new_range = λ p q. sym (blank_range d.index blank_rows c (λ n. refl) q); new_key = λ p q. sym (blank_key d.index blank_rows c (λ n. refl) q) };
+  heard = λ n u at. absurd at;
 }
-starts_with d (x ∷ xs) of log miss known = record {
-  after = λ c. record (of c) { missing = lists (x ∷ xs) c; last_push = 0; acked = true; new_range = no_range; new_key = no_key };
-  steps = more none (start (lists (x ∷ xs)) refl miss);
-  shows = record {
-    link = λ c. record { known = known_kept (record_of d.register c) (of c) (lists (x ∷ xs) c) (known c); missing = refl; last_push = refl; acked = refl; unacked = λ body e. absurd (none-some body e); range = λ p q. absurd (cc); key = λ p q. absurd (cc); new_range = λ p q. sym (blank_range d.index blank_rows c (λ n. refl) q); new_key = λ p q. sym (blank_key d.index blank_rows c (λ n. refl) q) };
-    heard = λ n u at. absurd at;
-  };
-  clients = λ c. refl;
-  bound = λ g c. record { range = λ p. refl; key = λ p. refl };
+started_shows d (x ∷ xs) of known = record {
+  link = λ c. record { known = known_kept (record_of d.register c) (of c) (lists (x ∷ xs) c) (known c); missing = refl; last_push = refl; acked = refl; unacked = λ body e. absurd (none-some body e); range = λ p q. absurd (cc); key = λ p q. absurd (cc); new_range = λ p q. sym (blank_range d.index blank_rows c (λ n. refl) q); new_key = λ p q. sym (blank_key d.index blank_rows c (λ n. refl) q) };
+  heard = λ n u at. absurd at;
 }
+
+pub started_clients : (ms : List ℕ) (of : ℕ → Link) (c : ℕ) → (started_links of ms c).client ≡ (of c).client
+started_clients [] of c = refl
+started_clients (x ∷ xs) of c = refl
+
+started_steps : (d : Durable) (ms : List ℕ) (of : ℕ → Link) (log : List Logged) → ((c : ℕ) → IsMissing (of c) (lists ms c)) → Steps (down_world_of d of log) (world_of (started_with d ms) (started_links of ms) log)
+started_steps d [] of log miss = more (more none (start (λ c. false) refl miss)) (finish refl (λ c. refl))
+started_steps d (x ∷ xs) of log miss = more none (start (lists (x ∷ xs)) refl miss)
+
+started_bound : (ms : List ℕ) (of : ℕ → Link) → is_recovering ms ≡ true → (c : ℕ) → BoundStays false (of c) (started_links of ms c)
+started_bound [] of g c = absurd (not_both (is_recovering []) g refl)
+started_bound (x ∷ xs) of g c = record { range = λ p. refl; key = λ p. refl }
 
 -- a start is a start, and a finish where nobody is missing
 pub start_follows : (d : Durable) (of : ℕ → Link) (log : List Logged) → can_start d ≡ true → DurableShows d of → IsSound (steps.start d) → StartFollows d of log
 start_follows d of log can known i =
-    let x = starts_with d (missing_order d.register) of log (λ c e. missing_known d.register c e (of c) (known c)) known in
+    let ms = missing_order d.register in
     record {
-      follows = record { after = x.after; log_after = log; steps = x.steps; shows = x.shows; sound = i; sent = λ o at. absurd at; clients = x.clients };
+      follows = record {
+        after = started_links of ms;
+        log_after = log;
+        steps = started_steps d ms of log (λ c e. missing_known d.register c e (of c) (known c));
+        shows = started_shows d ms of known;
+        sound = i;
+        sent = λ o at. absurd at;
+        clients = started_clients ms of;
+      };
       writes = refl;
-      bound = x.bound;
+      bound = started_bound ms of;
     }
 
 -- the first start, where each client that is known has left

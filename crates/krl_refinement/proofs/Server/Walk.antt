@@ -1,7 +1,7 @@
 -- What the server does with a message that was sent, but for the answers at the end of the step, is some steps of the
 -- machine, and it does not say Alarm.
-use Rattle.krl_refinement.proofs.Names.{◌≡◌, ◌≢◌, ℕ, suc, ◌<◌, Bool, true, false, not, ◌&&◌, Option, Some, List, refl, sym, subst, ◌∙◌, nat_eq, eq-eqb, ne_eqb, END, Value, Pieces, WriteOp, Outcome}
-use Rattle.krl_refinement.proofs.Names.{ToServer, op_key, is_applied, Record, conflicts, Link, Passes, Logged, Reachable, reachable_inv, Server, lists, effect, IsSound, not_both, IsRecord, Shows}
+use Rattle.krl_refinement.proofs.Names.{◌≡◌, ◌≢◌, ℕ, suc, ◌<◌, Bool, true, false, not, ◌&&◌, Some, List, refl, sym, subst, ◌∙◌, nat_eq, eq-eqb, ne_eqb, END, Pieces, WriteOp, Outcome}
+use Rattle.krl_refinement.proofs.Names.{ToServer, op_key, is_applied, Record, conflicts, Link, Passes, Logged, WorldInv, Server, lists, effect, IsSound, not_both, IsRecord, Shows}
 use Rattle.krl_refinement.proofs.Names.{view, world_of, logged}
 use Rattle.krl_messages.specs.declared.to_server.ToServerBody.{ToServerBody}
 use Rattle.krl_messages.specs.declared.to_server.Request.{Request}
@@ -24,7 +24,7 @@ use Rattle.krl_refinement.proofs.Server.Rebuilt.{rebuilds_follow}
 use Rattle.krl_refinement.proofs.Server.Alarms.{no_conflict}
 use mathlib.Core.Bool.{and-false, and-true}
 
-module _ (first : ℕ → Option Value) (s : Server) (of : ℕ → Link) (log : List Logged) (m : ToServer) (reached : Reachable first END (world_of s of log)) (h : Shows s of) (i : IsSound s) (at : Stands (of m.client) m.incarnation m.body) where
+module _ (s : Server) (of : ℕ → Link) (log : List Logged) (m : ToServer) (inv : WorldInv (world_of s of log)) (h : Shows s of) (i : IsSound s) (at : Stands (of m.client) m.incarnation m.body) where
   abbrev cleared : Case → ℕ → Bool
   cleared k c = nat_eq c m.client && clears k
 
@@ -50,7 +50,7 @@ module _ (first : ℕ → Option Value) (s : Server) (of : ℕ → Link) (log : 
     shown = subst (λ o. IsRecord o (of m.client)) from.known (h.link m.client).known
 
     no_alarm : (epoch : ℕ) (pieces : Pieces) → m.body ≡ said.Report epoch pieces → epoch ≡ s.durable.epoch → lists s.missing m.client ≡ true → conflicts s.durable.index s.rows m.client pieces ≡ true → ⊥
-    no_alarm epoch pieces is now missing bad = not_both (conflicts s.durable.index s.rows m.client pieces) bad (no_conflict first s of log m epoch pieces r reached h i from.known from.same now missing (said_is (said.Report epoch pieces) is))
+    no_alarm epoch pieces is now missing bad = not_both (conflicts s.durable.index s.rows m.client pieces) bad (no_conflict s of log m epoch pieces r inv h i from.known from.same now missing (said_is (said.Report epoch pieces) is))
 
     rebuilt : (epoch : ℕ) (pieces : Pieces) → m.body ≡ said.Report epoch pieces → epoch ≡ s.durable.epoch → lists s.missing m.client ≡ true → P (Rebuilds pieces)
     rebuilt epoch pieces is now missing = (refl, rebuilds_follow s of log (cleared (Rebuilds pieces)) m epoch pieces r i from.known from.same now missing (said_is (said.Report epoch pieces) is) nobody h)
@@ -72,7 +72,7 @@ module _ (first : ℕ → Option Value) (s : Server) (of : ℕ → Link) (log : 
       refusal o not = refused s of log (cleared (Judges number op o)) m.client (head_of m.incarnation request) number op o r a.served.from.known not i (asks r request (asked.Write number op) a) (stands r request (asked.Write number op) a).0 (passes r request (asked.Write number op) a) num under h
 
       by_outcome : (o : Outcome) → judged s m.client op ≡ o → P (Judges number op o)
-      by_outcome outcome.Applied is = (refl, writes_follow s of log (cleared (Judges number op outcome.Applied)) m (head_of m.incarnation request) number op r i (reachable_inv first END (world_of s of log) reached) a.served.from.known a.served.from.same a.served.from.client (asks r request (asked.Write number op) a) (stands r request (asked.Write number op) a).0 (passes r request (asked.Write number op) a) num under is h)
+      by_outcome outcome.Applied is = (refl, writes_follow s of log (cleared (Judges number op outcome.Applied)) m (head_of m.incarnation request) number op r i inv a.served.from.known a.served.from.same a.served.from.client (asks r request (asked.Write number op) a) (stands r request (asked.Write number op) a).0 (passes r request (asked.Write number op) a) num under is h)
       by_outcome outcome.Exists is = (refl, refusal outcome.Exists refl)
       by_outcome outcome.Absent is = (refl, refusal outcome.Absent refl)
       by_outcome outcome.NotHeld is = (refl, refusal outcome.NotHeld refl)

@@ -1,5 +1,5 @@
 -- Each step of the server is some steps of the machine.
-use Rattle.krl_refinement.proofs.Names.{ℕ, false, ◌&&◌, Option, List, ◌++◌, refl, ◌∙◌, ⊎_elim, nat_eq, END, Value, ToServer, ToClient, In, in_both, Link, Logged, Reachable, steps_on, world_steps}
+use Rattle.krl_refinement.proofs.Names.{ℕ, false, ◌&&◌, List, ◌++◌, refl, ◌∙◌, ⊎_elim, nat_eq, END, ToServer, ToClient, In, in_both, Link, Logged, WorldInv, steps_on, world_steps}
 use Rattle.krl_refinement.proofs.Names.{reachable_inv, Server, is_recovering, case_of, clears, effect, calls_of, kind_of, at_once, recovers, serves, ServerStep, IsSound, not_both, answering_sound}
 use Rattle.krl_refinement.proofs.Names.{answered_up, Stands, Shows, world_of, logged, StepFollows, ServerFollows}
 use Rattle.krl_server.proofs.Invariant.Sounds.{effect_sound}
@@ -10,9 +10,9 @@ use Rattle.krl_refinement.proofs.Server.Restart.{crash_follows, start_follows, o
 use Rattle.krl_refinement.proofs.Server.Nudges.{nudge_follows}
 use Rattle.krl_refinement.proofs.Server.Walk.{effect_follows}
 
-module _ (first : ℕ → Option Value) (s : Server) (of : ℕ → Link) (log : List Logged) (m : ToServer) (reached : Reachable first END (world_of s of log)) (h : Shows s of) (i : IsSound s) (at : Stands (of m.client) m.incarnation m.body) where
+module _ (s : Server) (of : ℕ → Link) (log : List Logged) (m : ToServer) (inv : WorldInv (world_of s of log)) (h : Shows s of) (i : IsSound s) (at : Stands (of m.client) m.incarnation m.body) where
   effect_goes : Goes s of log (λ c. nat_eq c m.client && clears (case_of s m)) (effect s m (case_of s m)) (logged m (case_of s m) log)
-  effect_goes = (effect_follows first s of log m reached h i at).1
+  effect_goes = (effect_follows s of log m inv h i at).1
 
   -- the effect alone
   no_more : StepFollows s of log m (effect s m (case_of s m)).server (effect s m (case_of s m)).outs
@@ -29,8 +29,8 @@ module _ (first : ℕ → Option Value) (s : Server) (of : ℕ → Link) (log : 
       let f = effect_goes in
       let done = effect s m (case_of s m) in
       let log' = logged m (case_of s m) log in
-      let inv = world_steps (world_of s of log) (world_of done.server f.after log') f.steps (reachable_inv first END (world_of s of log) reached) in
-      let g = answering_follows done.server t f.after log' (λ c. false) answers rest (effect_sound s m i) inv up f.shows in
+      let kept = world_steps (world_of s of log) (world_of done.server f.after log') f.steps inv in
+      let g = answering_follows done.server t f.after log' (λ c. false) answers rest (effect_sound s m i) kept up f.shows in
       let sound = answering_sound done.server t answers rest (effect_sound s m i) in
       record {
         follows = record {
@@ -51,8 +51,8 @@ module _ (first : ℕ → Option Value) (s : Server) (of : ℕ → Link) (log : 
 
 pub all_follow : ServerFollows
 all_follow = record {
-  step = λ first s t of log m outs reached h i at step. step_follows first s of log m reached h i at t outs step;
-  no_alarm = λ first s of log m reached h i at. (effect_follows first s of log m reached h i at).0;
+  step = λ first s t of log m outs reached h i at step. step_follows s of log m (reachable_inv first END (world_of s of log) reached) h i at t outs step;
+  no_alarm = λ first s of log m reached h i at. (effect_follows s of log m (reachable_inv first END (world_of s of log) reached) h i at).0;
   nudge = λ first s of log c reached h i. nudge_follows s of log c h i;
   crash = crash_follows;
   start = start_follows;

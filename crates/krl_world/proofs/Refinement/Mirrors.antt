@@ -1,16 +1,15 @@
 -- A world, and the machine's world that shows it. A client's step is steps of the machine.
-use Rattle.krl_world.proofs.Names.{◌≡◌, ℕ, ◌≤◌, ◌∙◌, Bool, true, false, cond, Option, Some, None, List, [], ◌∷◌, ◌++◌, inl, inr, refl, sym, ap, subst, ⊎_elim, nat_eq, if◌then◌else◌, eqb-true}
-use Rattle.krl_world.proofs.Names.{ToServer, ToClient, WriteOp, RangePart, KeyPart, In, in_both, Record, Op, Shared, Link, eq_cases, start, Stands, WasSent, IsRecord, LinkIs, Shows, view, view_of}
-use Rattle.krl_world.proofs.Names.{DurableShows, Grows, server_part, ShowsSeat, Leads, grows_not, AppliedWrite, ServerNode, Up, Down, Seat, State, durable_of, is_serving, from_clients, from_server}
+use Rattle.krl_world.proofs.Names.{◌≡◌, ℕ, ◌≤◌, Bool, true, false, cond, List, [], ◌∷◌, ◌++◌, inl, inr, refl, sym, ap, subst, ⊎_elim, nat_eq, if◌then◌else◌, eqb-true}
+use Rattle.krl_world.proofs.Names.{ToServer, ToClient, WriteOp, In, in_both, Op, Shared, Link, start, Stands, WasSent, Shows, view, view_of}
+use Rattle.krl_world.proofs.Names.{DurableShows, Grows, server_part, ShowsSeat, Leads, AppliedWrite, ServerNode, Up, Down, Seat, State, durable_of, is_serving, from_clients, from_server}
 use Rattle.krl_world.proofs.Names.{seated, BoundStays, from_stands, stands_stays, sent_stays}
-use Rattle.krl_messages.specs.declared.to_client.ToClientBody.TheVariants as told
 use Rattle.krl_messages.specs.declared.write_op.WriteOp.TheVariants as write
 use Rattle.krl_machine.specs.Links as links
 use Rattle.krl_machine.specs.Worlds as machine
 use Rattle.krl_machine.specs.Worlds.{Logged, Steps}
 use Rattle.krl_machine.proofs.Steps.{put, put_changed, link_steps}
-use Rattle.krl_server.specs.declared.session.Session.{Session}
 use Rattle.krl_server.specs.Soundness.{IsSound}
+use Rattle.krl_refinement.proofs.Server.Stays.{record_stays, shows_stays, put_grows, put_part}
 use Rattle.krl_world.specs.declared.message.Message.TheVariants as message
 use Rattle.krl_world.proofs.Refinement.Calling.{epoch_called}
 
@@ -81,31 +80,8 @@ not_from_server m (x ∷ ms) (inr h) = not_from_server m ms h
 
 -- What a client's step leaves of the server
 
-record_stays : (o : Option Record) (l m : Link) → server_part m ≡ server_part l → IsRecord o l → IsRecord o m
-record_stays None l m e h = record { reg = ap (λ x. x.reg) e ∙ h.reg; left = ap (λ x. x.left) e ∙ h.left; done = ap (λ x. x.done) e ∙ h.done }
-record_stays (Some r) l m e h = record { reg = ap (λ x. x.reg) e ∙ h.reg; left = ap (λ x. x.left) e ∙ h.left; done = λ n. ap (λ x. x.done) e ∙ h.done n; applied = λ o n i. ap (λ x. x.applied) e ∙ h.applied o n i }
-
-link_stays : (s : Shared) (of : Option Record) (missing : Bool) (session : Session) (r : ℕ → RangePart) (k : ℕ → KeyPart) (l m : Link) → server_part m ≡ server_part l → Grows l m → LinkIs s of missing session r k l → LinkIs s of missing session r k m
-link_stays s of missing session r k l m e g h = record {
-  known = record_stays of l m e h.known;
-  missing = ap (λ x. x.missing) e ∙ h.missing;
-  last_push = ap (λ x. x.last_push) e ∙ h.last_push;
-  acked = ap (λ x. x.acked) e ∙ h.acked;
-  unacked = λ b i. subst (λ n. WasSent m n (told.Push s.epoch session.last_push b)) (sym (ap (λ x. x.reg) e)) (sent_stays l m g l.reg (told.Push s.epoch session.last_push b) (h.unacked b i));
-  range = λ p q. ap (λ x. x.top_range q) e ∙ h.range p q;
-  key = λ p q. ap (λ x. x.top_key q) e ∙ h.key p q;
-  new_range = λ p q. ap (λ x. x.new_range q) e ∙ h.new_range p q;
-  new_key = λ p q. ap (λ x. x.new_key q) e ∙ h.new_key p q;
-}
-
 pub server_stays : (n : ServerNode) (of to : ℕ → Link) → ((c : ℕ) → server_part (to c) ≡ server_part (of c)) → ((c : ℕ) → Grows (of c) (to c)) → ServerShows n of → ServerShows n to
-server_stays (Up s) of to e g h = (
-  record {
-    link = λ c. link_stays _ _ _ _ _ _ (of c) (to c) (e c) (g c) (h.0.link c);
-    heard = λ n u at. let x = h.0.heard n u at in (x.0, (g u.client).heads x.0 x.1, x.2 ∙ sym (ap (λ y. y.reg) (e u.client)), x.3, ap (λ y. y.left) (e u.client) ∙ x.4);
-  },
-  h.1,
-)
+server_stays (Up s) of to e g h = (shows_stays s of to e g h.0, h.1)
 server_stays (Down d) of to e g h = (λ c. record_stays _ (of c) (to c) (e c) (h.0 c), h.1)
 
 pub bound_same : (l m : Link) → server_part m ≡ server_part l → BoundStays false l m
@@ -137,10 +113,10 @@ seat_goes w of log c x ms h g = record {
     ch = put_changed of c g.link
 
     grows : (d : ℕ) → Grows (of d) (to d)
-    grows d = eq_cases d c (λ e. subst (λ y. Grows (of y) (to y)) (sym e) (subst (Grows (of c)) (sym ch.here) g.grows)) (λ ne. subst (Grows (of d)) (sym (ch.rest d ne)) (grows_not (of d)))
+    grows = put_grows of c g.link g.grows
 
     same : (d : ℕ) → server_part (to d) ≡ server_part (of d)
-    same d = eq_cases d c (λ e. subst (λ y. server_part (to y) ≡ server_part (of y)) (sym e) (subst (λ l. server_part l ≡ server_part (of c)) (sym ch.here) g.same)) (λ ne. ap server_part (ch.rest d ne))
+    same = put_part of c g.link g.same
 
     told_by : (m : ToServer) → In m ms → Stands (to m.client) m.incarnation m.body
     told_by m i = subst (λ d. Stands (to d) m.incarnation m.body) (sym (g.mine m i)) (subst (λ l. Stands l m.incarnation m.body) (sym ch.here) (from_stands g.link m.incarnation m.body (g.told m i)))

@@ -1,0 +1,4 @@
+pub mod Epochs
+pub mod Stores
+pub mod Starts
+pub mod Follows
