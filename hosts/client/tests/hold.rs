@@ -5,7 +5,7 @@ use krl::{Outcome, Value};
 use nix::sys::signal::Signal;
 use std::path::Path;
 use std::thread;
-use std::time::{Duration, Instant};
+use std::time::Duration;
 use support::{World, signal, wait_for};
 
 #[test]
@@ -32,17 +32,24 @@ fn readers_read_and_writers_wait_while_a_command_runs() {
         let world = World::new(if update.is_empty() { "shared" } else { "update" });
         let (reader, writer) = (world.client(1), world.client(2));
         writer.insert(15, Value::from(1)).unwrap();
-        let started = world.folder.join("started");
-        let script = format!("touch {}; sleep 3", started.display());
+        let [started, ends] = ["started", "ends"].map(|name| world.folder.join(name));
+        let script = format!(
+            "touch {}; while [ ! -e {} ]; do sleep 0.05; done",
+            started.display(),
+            ends.display()
+        );
         let words = [&["hold", "10", "20"], update, &["--", "sh", "-c", &script]].concat();
         let mut program = world.spawn(&words);
         wait_for("the command runs", || started.exists());
-        let begun = Instant::now();
-        assert_eq!(reader.read(10..20).unwrap().len(), 1);
-        assert!(begun.elapsed() < Duration::from_millis(2500), "a reader does not wait");
-        assert_eq!(writer.put(15, Value::from(2)), Ok(Outcome::Applied));
-        assert!(program.wait().unwrap().success(), "the writer had to wait for it");
-        assert!(begun.elapsed() > Duration::from_secs(1), "{:?}", begun.elapsed());
+        assert_eq!(reader.read(10..20).unwrap().len(), 1, "a reader does not wait");
+        thread::scope(|scope| {
+            let put = scope.spawn(|| writer.put(15, Value::from(2)));
+            thread::sleep(Duration::from_secs(1));
+            assert!(!put.is_finished(), "a writer waits");
+            std::fs::write(&ends, "").unwrap();
+            assert_eq!(put.join().unwrap(), Ok(Outcome::Applied));
+        });
+        assert!(program.wait().unwrap().success());
     }
 }
 

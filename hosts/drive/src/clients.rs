@@ -13,7 +13,7 @@ use std::time::{Duration, Instant};
 const DYING: [u8; 4] = [1, 0, 3, 2];
 
 /// How long the processes of a drive may take to start or to end.
-pub const ENDING: Duration = Duration::from_secs(20);
+pub const ENDING: Duration = Duration::from_secs(60);
 
 /// What a drive has to come to at least, for each round: a run that does nothing says nothing.
 const LEAST_ANSWERED: u64 = 5;

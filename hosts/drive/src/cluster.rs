@@ -1,6 +1,6 @@
 //! Nodes of etcd on this machine.
 use crate::clients::{ENDING, Process};
-use crate::kill::free_address;
+use crate::ports::free_address;
 use krl_etcd::{Credentials, Election, EtcdAddress};
 use std::error::Error;
 use std::net::SocketAddr;

@@ -6,9 +6,9 @@
 use crate::Found;
 use crate::clients::{Clients, ENDING, Process, judge};
 use crate::cluster::Cluster;
-use crate::kill::free_address;
 use crate::log::{Note, notes, now};
 use crate::nodes::WRITERS;
+use crate::ports::free_address;
 use krl::Store;
 use krl_etcd::{Credentials, Election, EtcdStore};
 use std::error::Error;

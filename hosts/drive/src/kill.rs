@@ -5,6 +5,7 @@ use crate::clients::{Clients, ENDING, Process, judge, this};
 use crate::log::now;
 use crate::lossy;
 use crate::nodes::store_file;
+use crate::ports::free_address;
 use krl::{SqliteStore, Store};
 use std::error::Error;
 use std::net::{SocketAddr, TcpListener, TcpStream};
@@ -49,10 +50,6 @@ pub fn run(folder: &Path, rounds: u64, store: &str, net: &str) -> Found {
         tally.wrong
     );
     judge(&tally, rounds, hung)
-}
-
-pub fn free_address() -> std::io::Result<SocketAddr> {
-    TcpListener::bind("127.0.0.1:0")?.local_addr()
 }
 
 fn start_server(folder: &Path, at: SocketAddr, store: &str) -> Result<Process, Box<dyn Error>> {

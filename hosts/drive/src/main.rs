@@ -22,6 +22,7 @@ mod log;
 mod long_reports;
 mod lossy;
 mod nodes;
+mod ports;
 mod strangers;
 mod strings;
 mod unsynced;

@@ -7,7 +7,7 @@ use std::net::{SocketAddr, TcpStream};
 use std::time::{Duration, Instant};
 
 /// How long a client's write and read may take beside a stranger.
-const SOON: Duration = Duration::from_secs(2);
+const SOON: Duration = Duration::from_secs(5);
 
 /// How much memory the strangers may cost, in bytes.
 const MAX_MEMORY: u64 = 64 << 20;

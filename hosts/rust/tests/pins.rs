@@ -47,7 +47,7 @@ fn a_writer_that_pins_again_at_once_keeps_no_reader_out() {
             thread::sleep(Duration::from_millis(5));
             let begun = Instant::now();
             let number = reader.read(0..20).unwrap()[0].value.to_u64().unwrap();
-            assert!(begun.elapsed() < Duration::from_secs(1), "{:?}", begun.elapsed());
+            assert!(begun.elapsed() < Duration::from_secs(5), "{:?}", begun.elapsed());
             assert!(last <= number, "{number} behind {last}");
             last = number;
         }

@@ -110,7 +110,7 @@ fn notices(place: &Place, client: &Client) {
             client.read(0..600)
         });
         asked.wait();
-        thread::sleep(Duration::from_millis(100));
+        thread::sleep(Duration::from_millis(500));
         let server = place.serve();
         assert_eq!(writes.join().unwrap(), Err(Refused::StoreWentBack));
         assert_eq!(reads.join().unwrap(), Err(Refused::StoreWentBack));

@@ -84,7 +84,7 @@ fn a_zombie_takes_nothing_of_its_successor() {
         writer.put(10, Value::from(turn)).unwrap();
         writer.insert(10, Value::from(turn)).unwrap();
         assert_eq!(heir.read(0..20).unwrap().len(), 1);
-        assert!(begun.elapsed() < Duration::from_secs(2), "{:?}", begun.elapsed());
+        assert!(begun.elapsed() < Duration::from_secs(5), "{:?}", begun.elapsed());
     }
     assert_eq!(zombie.hear(QUIET), []);
     heir.leave().unwrap();

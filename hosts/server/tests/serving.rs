@@ -14,7 +14,7 @@ use std::time::Duration;
 /// Inserts keys for as long as the server answers, and says which were Applied.
 fn insert_all(address: &Address, folder: &Path, number: u8, count: &AtomicU64) -> Vec<u64> {
     let client = join(address, folder, number);
-    client.set_timeout(Duration::from_millis(300));
+    client.set_timeout(Duration::from_secs(2));
     let mut applied = Vec::new();
     for key in (0..).map(|key| key * 64 + u64::from(number)) {
         match client.insert(key, Value::from(key)) {

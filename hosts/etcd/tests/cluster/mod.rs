@@ -1,12 +1,14 @@
 //! A cluster of one node, for tests.
 #![allow(dead_code, reason = "each test uses a part of it")]
 use krl_etcd::EtcdAddress;
-use std::net::TcpListener;
 use std::path::PathBuf;
 use std::process::{Child, Command, Stdio};
 use std::sync::atomic::{AtomicU32, Ordering};
 use std::thread;
 use std::time::{Duration, Instant};
+
+#[path = "../../../drive/src/ports.rs"]
+mod ports;
 
 /// A node of etcd that runs until this is dropped.
 pub struct Cluster {
@@ -20,6 +22,17 @@ static COUNT: AtomicU32 = AtomicU32::new(0);
 impl Cluster {
     /// A new cluster, or none if etcd is not there.
     pub fn start() -> Option<Cluster> {
+        // Another process may take a free address before the node does.
+        for _ in 0..5 {
+            let mut cluster = Cluster::start_once()?;
+            if cluster.answers() {
+                return Some(cluster);
+            }
+        }
+        panic!("etcd ends again and again")
+    }
+
+    fn start_once() -> Option<Cluster> {
         let count = COUNT.fetch_add(1, Ordering::Relaxed);
         let name = format!("krl-etcd-{}-{count}", std::process::id());
         let folder = std::env::temp_dir().join(name);
@@ -39,19 +52,21 @@ impl Cluster {
             eprintln!("NOT RUN: there is no etcd");
             return None;
         };
-        let cluster = Cluster { node, folder, endpoint };
-        cluster.wait();
-        Some(cluster)
+        Some(Cluster { node, folder, endpoint })
     }
 
-    /// Waits until the node answers.
-    fn wait(&self) {
-        let end = Instant::now() + Duration::from_secs(30);
+    /// Waits until the node answers. It says no if the node has ended.
+    fn answers(&mut self) -> bool {
+        let end = Instant::now() + Duration::from_secs(60);
         let health = format!("http://{}/health", self.endpoint);
         while ureq::get(&health).call().is_err() {
+            if self.node.try_wait().unwrap().is_some() {
+                return false;
+            }
             assert!(Instant::now() < end, "etcd does not answer");
             thread::sleep(Duration::from_millis(20));
         }
+        true
     }
 
     /// The place of a table in the cluster.
@@ -75,6 +90,7 @@ impl Drop for Cluster {
     }
 }
 
-fn free_address() -> String {
-    TcpListener::bind("127.0.0.1:0").unwrap().local_addr().unwrap().to_string()
+/// An address at which nobody listens.
+pub fn free_address() -> String {
+    ports::free_address().unwrap().to_string()
 }

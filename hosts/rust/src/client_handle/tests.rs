@@ -1,5 +1,6 @@
 use super::world::{ALL, LAST, Scanned, World, are_rows};
 use super::*;
+use std::sync::Barrier;
 use std::sync::atomic::{AtomicBool, AtomicU64, Ordering};
 use std::sync::mpsc::channel;
 use std::thread;
@@ -111,6 +112,7 @@ fn a_release_leaves_when_the_scans_have_ended_that_see_what_it_gives_up() {
     let (tell_in, is_in) = channel();
     let (let_go, go) = channel();
     let callback = world.call_back();
+    let begins = Barrier::new(2);
     thread::scope(|scope| {
         scope.spawn(move || {
             cache.0.read(|handle| {
@@ -123,11 +125,13 @@ fn a_release_leaves_when_the_scans_have_ended_that_see_what_it_gives_up() {
         is_in.recv().unwrap();
         let release = scope.spawn(|| {
             let mut frames = Vec::new();
+            begins.wait();
             world.scanned.step(&callback).unwrap();
             world.scanned.take(&mut frames).unwrap();
             frames
         });
-        thread::sleep(Duration::from_millis(100));
+        begins.wait();
+        thread::sleep(Duration::from_millis(300));
         let has_waited = !release.is_finished();
         let_go.send(()).unwrap();
         assert!(!release.join().unwrap().is_empty());

@@ -32,7 +32,8 @@ impl Pair {
 
 const LONG: Duration = Duration::from_secs(30);
 const SECOND: Duration = Duration::from_secs(1);
-const SHORT: Duration = Duration::from_millis(50);
+/// How long a thread that has begun is watched, to see that it waits.
+const WATCHED: Duration = Duration::from_millis(300);
 
 /// So many threads read while the owner changes for a second, and at least so often. Each read is of
 /// no change that is at work, and of no state older than the read before.
@@ -105,6 +106,7 @@ fn a_change_waits_for_who_is_inside_and_for_nobody_else() {
     let (inside, out) = (owner.reader(), owner.reader());
     let (tell_in, is_in) = channel();
     let (let_go, go) = channel();
+    let begins = Barrier::new(2);
     thread::scope(|scope| {
         scope.spawn(move || {
             inside.read(|pair| {
@@ -116,8 +118,12 @@ fn a_change_waits_for_who_is_inside_and_for_nobody_else() {
         is_in.recv().unwrap();
         // Readers do not wait for one another.
         let beside = out.read(Pair::read);
-        let change = scope.spawn(|| owner.change(Pair::change));
-        thread::sleep(SHORT);
+        let change = scope.spawn(|| {
+            begins.wait();
+            owner.change(Pair::change);
+        });
+        begins.wait();
+        thread::sleep(WATCHED);
         let has_waited = !change.is_finished();
         let_go.send(()).unwrap();
         change.join().unwrap();
@@ -133,6 +139,7 @@ fn a_reader_waits_for_the_change_at_work() {
     let reader = owner.reader();
     let (tell_begun, has_begun) = channel();
     let (let_go, go) = channel();
+    let begins = Barrier::new(2);
     thread::scope(|scope| {
         scope.spawn(move || {
             owner.change(|pair| {
@@ -142,8 +149,12 @@ fn a_reader_waits_for_the_change_at_work() {
             });
         });
         has_begun.recv().unwrap();
-        let read = scope.spawn(move || reader.read(Pair::read));
-        thread::sleep(SHORT);
+        let read = scope.spawn(|| {
+            begins.wait();
+            reader.read(Pair::read)
+        });
+        begins.wait();
+        thread::sleep(WATCHED);
         let has_waited = !read.is_finished();
         let_go.send(()).unwrap();
         assert_eq!(read.join().unwrap(), [1, 1]);
