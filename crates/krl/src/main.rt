@@ -153,8 +153,14 @@ fn random_over<H: Eprint + AllocGlobal, W: Sink, P: Progress>(
 }
 
 // Runs a server and two clients on threads, by policies where the options have a number for them.
-fn nodes_by<R: Threads + Wait + Sync + AllocGlobal, G: Gate + Send + Drop, H: Gate + Drop>(
+fn nodes_by<
+    R: Threads + Wait + Sync + AllocGlobal,
+    F: Gate + Send + Drop,
+    G: Gate + Send + Drop,
+    H: Gate + Drop,
+>(
     rt: &R,
+    server: F,
     first: G,
     second: H,
     options: NodesOptions,
@@ -162,8 +168,8 @@ fn nodes_by<R: Threads + Wait + Sync + AllocGlobal, G: Gate + Send + Drop, H: Ga
     ensures { IfOk result (λ report. report.seed ≡ options.policy) }
 {
     match options.policy {
-        Some(seed) => run_nodes_by(rt, rt.alloc(), first, second, seed),
-        None => run_nodes(rt, rt.alloc(), first, second),
+        Some(seed) => run_nodes_by(rt, rt.alloc(), server, first, second, seed),
+        None => run_nodes(rt, rt.alloc(), server, first, second),
     }
 }
 
@@ -173,9 +179,10 @@ fn run_threads<R: Threads + Wait + Sync + Clock + Print + Eprint + AllocGlobal>(
     is_told: bool,
     options: NodesOptions,
 ) -> u8 {
+    let server = Telling::new(rt, 0, false);
     let first = Telling::new(rt, 1, is_told);
     let second = Telling::new(rt, 2, is_told);
-    let ended = nodes_by(rt, first, second, options);
+    let ended = nodes_by(rt, server, first, second, options);
     tell(rt, &mut AnyWriter(io::writer(rt)), &ended)
 }
 

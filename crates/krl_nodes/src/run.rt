@@ -13,7 +13,6 @@ use crate::office::Office;
 use crate::server::ServerNode;
 use crate::work::{insert, read, serve};
 use krl_cache::Rows;
-use krl_client::Status;
 use krl_messages::Value;
 use std::alloc::{AllocError, Global};
 use std::sync::Wait;
@@ -50,16 +49,6 @@ pub(crate) trait Work<T> {
         ensures { done self result };
 }
 
-// Passed at once.
-#[derive(Drop)]
-struct Open;
-
-impl Gate for Open {
-    fn pass(&mut self, _turn: u64, _status: Option<Status>) {}
-
-    fn pause(&mut self) {}
-}
-
 // The server.
 #[derive(Drop)]
 pub(crate) struct Serving {
@@ -92,11 +81,11 @@ impl Work<Office> for Serving {
         self,
         rt: &R,
         shared: &Office,
-        _gate: &mut G,
+        gate: &mut G,
         ended: &AtomicU64,
     ) -> Serving {
         let Serving { node, mut delivery } = self;
-        let node = serve(rt, shared, node, &mut delivery, ended);
+        let node = serve(rt, shared, node, &mut delivery, gate, ended);
         Serving { node, delivery }
     }
 }
@@ -188,20 +177,32 @@ fn together<
     R: Threads + Wait + Sync,
     T: Sync,
     A: Work<T> + Send + Drop,
+    F: Gate + Send + Drop,
     B: Work<T> + Send + Drop,
     G: Gate + Send + Drop,
     C: Work<T> + Drop,
     H: Gate + Drop,
->(rt: &R, shared: &T, a: A, b: B, gate1: G, c: C, gate2: H, ended: &AtomicU64) -> (A, (B, C))
+>(
+    rt: &R,
+    shared: &T,
+    a: A,
+    gate0: F,
+    b: B,
+    gate1: G,
+    c: C,
+    gate2: H,
+    ended: &AtomicU64,
+) -> (A, (B, C))
     requires { A.ready a shared.now × B.ready b shared.now × C.ready c shared.now }
     ensures { A.done a result.0 × B.done b result.1.0 × C.done c result.1.1 }
 {
+    let mut gate0 = gate0;
     thread::join(
         rt,
         move || -> A
             requires { A.ready a shared.now }
             ensures { A.done a result }
-        { a.work(rt, shared, &mut Open, ended) },
+        { a.work(rt, shared, &mut gate0, ended) },
         || -> (B, C)
             requires { B.ready b shared.now × C.ready c shared.now }
             ensures { B.done b result.0 × C.done c result.1 }
@@ -227,9 +228,10 @@ fn delivery(seed: Option<u64>, number: u64) -> Delivery
 }
 
 // The run, with letters in order, or lost, repeated and reordered as the seed has it.
-fn run<R: Threads + Wait + Sync, G: Gate + Send + Drop, H: Gate + Drop>(
+fn run<R: Threads + Wait + Sync, F: Gate + Send + Drop, G: Gate + Send + Drop, H: Gate + Drop>(
     rt: &R,
     alloc: Global,
+    gate0: F,
     gate1: G,
     gate2: H,
     seed: Option<u64>,
@@ -265,7 +267,7 @@ fn run<R: Threads + Wait + Sync, G: Gate + Send + Drop, H: Gate + Drop>(
         rows: None,
     };
     let (_serving, (writer, reader)) = together(
-        rt, &office, serving, writer, gate1, reader, gate2, &ended,
+        rt, &office, serving, gate0, writer, gate1, reader, gate2, &ended,
     );
     let Writer {
         node: _,
@@ -291,15 +293,21 @@ fn run<R: Threads + Wait + Sync, G: Gate + Send + Drop, H: Gate + Drop>(
 
 /// Runs a server with the entries 10=1 and 20=2 and the clients 1 and 2, each on a thread of its
 /// own: client 1 inserts 15=5 and leaves, and client 2 scans until it reads key 15. Each letter is
-/// read once, the oldest first.
+/// read once, the oldest first. Each node has a gate: `gate0` is the server's.
 ///
 /// # Errors
 ///
 /// `OutOfMemory` where the memory for the office is refused; `GaveUp` where a client came to its
 /// last turn, as one does for whose server or other client no thread can be made.
-pub fn run_nodes<R: Threads + Wait + Sync, G: Gate + Send + Drop, H: Gate + Drop>(
+pub fn run_nodes<
+    R: Threads + Wait + Sync,
+    F: Gate + Send + Drop,
+    G: Gate + Send + Drop,
+    H: Gate + Drop,
+>(
     rt: &R,
     alloc: Global,
+    gate0: F,
     gate1: G,
     gate2: H,
 ) -> Result<NodesReport, NotRun>
@@ -307,7 +315,7 @@ pub fn run_nodes<R: Threads + Wait + Sync, G: Gate + Send + Drop, H: Gate + Drop
     ensures found { IfOk result (λ report. IsFound seeds report.rows) }
     ensures in_order { IfOk result (λ report. report.seed ≡ None) }
 {
-    run(rt, alloc, gate1, gate2, None)
+    run(rt, alloc, gate0, gate1, gate2, None)
 }
 
 /// Runs the same server and clients, and each reads its letters by a policy of its own: one letter
@@ -319,9 +327,15 @@ pub fn run_nodes<R: Threads + Wait + Sync, G: Gate + Send + Drop, H: Gate + Drop
 ///
 /// As of `run_nodes`. A client comes to its last turn also where what was lost keeps it waiting:
 /// where the last words of client 1 are lost, nobody says them again.
-pub fn run_nodes_by<R: Threads + Wait + Sync, G: Gate + Send + Drop, H: Gate + Drop>(
+pub fn run_nodes_by<
+    R: Threads + Wait + Sync,
+    F: Gate + Send + Drop,
+    G: Gate + Send + Drop,
+    H: Gate + Drop,
+>(
     rt: &R,
     alloc: Global,
+    gate0: F,
     gate1: G,
     gate2: H,
     seed: u64,
@@ -331,5 +345,5 @@ pub fn run_nodes_by<R: Threads + Wait + Sync, G: Gate + Send + Drop, H: Gate + D
     ensures found { IfOk result (λ report. IsFound seeds report.rows) }
     ensures by_policy { IfOk result (λ report. report.seed ≡ Some seed) }
 {
-    run(rt, alloc, gate1, gate2, Some(seed))
+    run(rt, alloc, gate0, gate1, gate2, Some(seed))
 }

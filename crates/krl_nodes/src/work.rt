@@ -143,13 +143,14 @@ fn nudge<R: Wait>(rt: &R, office: &Office, node: &mut ServerNode, is_second: boo
     let _ = node.turn(rt, office, ServerOrder::Nudge(nudged(is_second)));
 }
 
-// Reads a letter, or, where one may be lost, nudges a client. Says whether the next nudge is for
-// the second.
-fn serve_once<R: Wait>(
+// Reads a letter, or, where one may be lost, rests and nudges a client. Says whether the next nudge
+// is for the second.
+fn serve_once<R: Wait, G: Gate>(
     rt: &R,
     office: &Office,
     node: &mut ServerNode,
     delivery: &mut Delivery,
+    gate: &mut G,
     is_second: bool,
 ) -> bool
     requires { node.old.office ≡ office.now }
@@ -158,6 +159,7 @@ fn serve_once<R: Wait>(
     ensures once { node.new.given ≡ suc node.old.given }
 {
     if delivery.may_lack() {
+        gate.pause();
         nudge(rt, office, node, is_second);
         !is_second
     } else {
@@ -168,11 +170,12 @@ fn serve_once<R: Wait>(
 
 /// Reads letters until both clients have ended. Where a letter may be lost it nudges clients 1 and
 /// 2 by turns.
-pub(crate) fn serve<R: Wait>(
+pub(crate) fn serve<R: Wait, G: Gate>(
     rt: &R,
     office: &Office,
     mut node: ServerNode,
     delivery: &mut Delivery,
+    gate: &mut G,
     ended: &AtomicU64,
 ) -> ServerNode
     requires { node.office ≡ office.now }
@@ -183,7 +186,7 @@ pub(crate) fn serve<R: Wait>(
         if ended.load(Ordering::SeqCst) >= 2 {
             return node;
         }
-        is_second = serve_once(rt, office, &mut node, delivery, is_second);
+        is_second = serve_once(rt, office, &mut node, delivery, gate, is_second);
     }
     unreachable!()
 }

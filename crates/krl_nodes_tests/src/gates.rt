@@ -128,7 +128,7 @@ impl Ended {
 fn by_seed(rt: &(impl Threads + Wait + Sync + Clock + AllocGlobal), seed: u64) -> Ended
     requires { seed ≤ END }
 {
-    Ended::of(run_nodes_by(rt, rt.alloc(), Naps { rt }, Naps { rt }, seed))
+    Ended::of(run_nodes_by(rt, rt.alloc(), Naps { rt }, Naps { rt }, Naps { rt }, seed))
 }
 
 // Whether each of 20 runs has its rows or gives up, and some have their rows.
@@ -151,7 +151,7 @@ fn nodes_run_on_threads_as_letters_are_lost(rt: HostRuntime) {
 
 #[test]
 fn nodes_end_whatever_is_refused(rt: HostRuntime) {
-    let run = run_nodes(&rt, rt.alloc(), Naps { rt: &rt }, Naps { rt: &rt });
+    let run = run_nodes(&rt, rt.alloc(), Naps { rt: &rt }, Naps { rt: &rt }, Naps { rt: &rt });
     assert!(rt; !matches!(Ended::of(run), Ended::Wrong));
 }
 
@@ -171,7 +171,7 @@ fn nodes_run_on_threads(rt: HostRuntime) {
         rt: &rt,
         meeting: &meeting,
     };
-    let run = run_nodes(&rt, rt.alloc(), writes, reads);
+    let run = run_nodes(&rt, rt.alloc(), Naps { rt: &rt }, writes, reads);
     assert!(rt; matches!(Ended::of(run), Ended::Right));
     assert_eq!(rt; meeting.met.load(Ordering::SeqCst), 2);
 }
