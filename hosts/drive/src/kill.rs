@@ -8,7 +8,7 @@ use crate::nodes::store_file;
 use crate::ports::free_address;
 use krl::{SqliteStore, Store};
 use std::error::Error;
-use std::net::{SocketAddr, TcpListener, TcpStream};
+use std::net::{SocketAddr, TcpStream};
 use std::path::{Path, PathBuf};
 use std::thread;
 use std::time::{Duration, Instant};

@@ -4,15 +4,20 @@ use crate::history::{History, Mark};
 use crate::row::{Row, Value};
 use crate::sqlite_version::{self, Found};
 use crate::store::{Store, StoreError};
-use rusqlite::{Connection, Row as SqlRow, Transaction, params};
+use rusqlite::{Connection, Row as SqlRow, Transaction, TransactionBehavior, params};
 use std::path::Path;
 use std::time::Duration;
 
 /// A store in one file of SQLite, in WAL mode with synchronous=FULL: `commit` returns once the
 /// changes are on the disk. A write's row and its client's record change in one transaction.
+///
+/// One process at a time has the file open. If another one changed it all the same, since the system
+/// or the network's disk does not keep that lock, each commit finds it and is refused.
 #[derive(Debug)]
 pub struct SqliteStore {
     connection: Connection,
+    /// The last mark of what this value has loaded and committed.
+    last: Option<Mark>,
 }
 
 /// How long it waits for another process that has the file open.
@@ -41,6 +46,8 @@ const START: &str = "INSERT INTO start (bits, commits) VALUES (randomblob(16), 0
 const COUNT: &str =
     "UPDATE start SET commits = commits + 1 WHERE place = (SELECT max(place) FROM start)";
 
+const LAST: &str = "SELECT bits, commits FROM start ORDER BY place DESC LIMIT 1";
+
 const PUT: &str = "INSERT OR REPLACE INTO entry (key, value) VALUES (?1, ?2)";
 const DELETE: &str = "DELETE FROM entry WHERE key = ?1";
 
@@ -56,9 +63,13 @@ impl SqliteStore {
     /// If another process has the file open; if it is a database of another program, or a store of
     /// a version that this program does not know; if SQLite can't read, make or write it.
     pub fn open(path: impl AsRef<Path>) -> Result<SqliteStore, StoreError> {
+        SqliteStore::open_by(path.as_ref(), "EXCLUSIVE")
+    }
+
+    fn open_by(path: &Path, locking: &str) -> Result<SqliteStore, StoreError> {
         let connection = Connection::open(path)?;
         connection.busy_timeout(TIMEOUT)?;
-        connection.pragma_update(None, "locking_mode", "EXCLUSIVE")?;
+        connection.pragma_update(None, "locking_mode", locking)?;
         // A file that is no store is left as it is.
         let found = sqlite_version::look(&connection)?;
         let mode: String =
@@ -70,27 +81,37 @@ impl SqliteStore {
         if found != Found::Current {
             prepare(&connection)?;
         }
-        Ok(SqliteStore { connection })
+        let last = last_mark(&connection)?;
+        Ok(SqliteStore { connection, last })
     }
 }
 
 impl Store for SqliteStore {
     fn load(&mut self) -> Result<Snapshot, StoreError> {
-        load(&self.connection)
+        let transaction = self.connection.transaction()?;
+        self.last = last_mark(&transaction)?;
+        load(&transaction)
     }
 
     fn commit(&mut self, changes: &[Change]) -> Result<(), StoreError> {
+        let behavior = TransactionBehavior::Immediate;
+        let transaction = self.connection.transaction_with_behavior(behavior)?;
+        let found = last_mark(&transaction)?;
+        if found != self.last {
+            return Err(StoreError::Deposed(format!("{found:?}, and not {:?}", self.last)));
+        }
         if changes.is_empty() {
-            // No other process opens the file: it is still this one's.
             return Ok(());
         }
-        let transaction = self.connection.transaction()?;
         changes.iter().try_for_each(|change| commit_one(&transaction, change))?;
         if changes.iter().any(|change| matches!(change, Change::Started { .. })) {
             run(&transaction, START, &[])?;
         }
         run(&transaction, COUNT, &[])?;
-        Ok(transaction.commit()?)
+        let last = last_mark(&transaction)?;
+        transaction.commit()?;
+        self.last = last;
+        Ok(())
     }
 
     fn snapshot(&mut self) -> Result<Snapshot, StoreError> {
@@ -102,11 +123,21 @@ impl Store for SqliteStore {
             self.connection.prepare("SELECT bits, commits FROM start ORDER BY place")?;
         let (mut rows, mut marks) = (starts.query([])?, Vec::new());
         while let Some(row) = rows.next()? {
-            let start = u128::from_le_bytes(row.get(0)?);
-            marks.push(Mark { start, commits: positive(row.get(1)?)? });
+            marks.push(mark_of(row)?);
         }
         Ok(History::new(marks))
     }
+}
+
+/// How far the store has come, unless no server has started on it.
+fn last_mark(connection: &Connection) -> Result<Option<Mark>, StoreError> {
+    let mut last = connection.prepare_cached(LAST)?;
+    let mut rows = last.query([])?;
+    rows.next()?.map(mark_of).transpose()
+}
+
+fn mark_of(row: &SqlRow<'_>) -> Result<Mark, StoreError> {
+    Ok(Mark { start: u128::from_le_bytes(row.get(0)?), commits: positive(row.get(1)?)? })
 }
 
 /// Gives the file the tables of a store, and the marks of this version, all or none.
@@ -299,6 +330,31 @@ mod tests {
         let bad = Change::Registered { client: 1, incarnation: u64::MAX };
         assert!(store.commit(&[bad]).is_err());
         assert_eq!(store.history().unwrap().unwrap(), history, "it was not committed");
+        std::fs::remove_dir_all(&folder).unwrap();
+    }
+
+    #[test]
+    fn a_value_commits_nothing_behind_another_one() {
+        let folder = std::env::temp_dir().join(format!("krl-behind-{}", std::process::id()));
+        std::fs::create_dir_all(&folder).unwrap();
+        // Without the file's lock two values may have it open.
+        let open = || SqliteStore::open_by(&folder.join("table.db"), "NORMAL").unwrap();
+        let is_deposed = |result| matches!(result, Err(StoreError::Deposed(_)));
+        let mut old = open();
+        old.commit(&[Change::Started { epoch: 1 }]).unwrap();
+        let (mut early, mut new) = (open(), open());
+        early.load().unwrap();
+        old.commit(&changes()[1..2]).unwrap();
+        assert!(is_deposed(early.commit(&[Change::Started { epoch: 2 }])), "it has read too early");
+        new.load().unwrap();
+        new.commit(&[Change::Started { epoch: 2 }]).unwrap();
+        assert!(is_deposed(old.commit(&changes()[2..3])) && is_deposed(old.commit(&[])));
+        new.commit(&changes()[2..3]).unwrap();
+        new.commit(&[]).unwrap();
+        let mut expected = Snapshot::default();
+        let kept = [changes()[0], changes()[1], Change::Started { epoch: 2 }, changes()[2]];
+        kept.iter().for_each(|change| expected.apply(change));
+        assert_eq!(open().load().unwrap(), expected);
         std::fs::remove_dir_all(&folder).unwrap();
     }
 
