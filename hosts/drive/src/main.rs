@@ -7,6 +7,7 @@
 //! krl_drive reports                                               reports in the worst orders
 //! krl_drive strings COUNT CHANGED                                 hands strings to both decoders
 //! krl_drive bench FOLDER                                          takes measurements
+//! krl_drive trips FOLDER [tcp|unix]                               measures beside an echo
 //! ```
 //!
 //! The status is 0 if all is well, 3 if something wrong was read or lost, and 1 if the
@@ -25,6 +26,7 @@ mod nodes;
 mod ports;
 mod strangers;
 mod strings;
+mod trips;
 mod unsynced;
 
 // What `krl`'s declarations take from it.
@@ -73,6 +75,8 @@ fn run(words: &[&str]) -> Found {
         ["reports"] => long_reports::run(),
         ["strings", count, changed] => strings::run(count.parse()?, changed.parse()?),
         ["bench", folder] => bench::run(Path::new(folder)),
+        ["trips", folder] => trips::run(Path::new(folder), "tcp"),
+        ["trips", folder, socket] => trips::run(Path::new(folder), socket),
         // The processes that `kill` starts.
         ["server", address, folder, store] => nodes::server(address, Path::new(folder), store),
         ["reader", number, address, folder] => {

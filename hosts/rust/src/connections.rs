@@ -1,180 +1,224 @@
-//! The connections of a server: threads that read and write, so that no slow peer stops the others.
-use crate::change::Snapshot;
-use crate::event_log::Seldom;
-use crate::frames::{Frames, LONGEST_TO_SERVER};
+//! The connections of a server. Its one thread reads and writes them all, and waits for none: so no
+//! slow peer stops the others.
+use crate::connection::{Connection, Looked};
+use crate::frames::Frames;
 use crate::history::Mark;
 use crate::host_frame::FromServer;
-use crate::locks::{Page, Search};
+use crate::listening::Listening;
+use crate::poller::{Poller, Readiness, Ready, Watched};
 use crate::refusal::Refusal;
 use crate::routing::Routes;
-use crate::store::StoreError;
-use crate::stream::Stream;
-use std::collections::HashMap;
-use std::convert::Infallible;
-use std::io::{self, ErrorKind, Write};
+use crate::stream::{Listener, Stream};
+use mio::Waker;
+use std::collections::{HashMap, VecDeque};
+use std::io;
 use std::sync::Arc;
-use std::sync::atomic::{AtomicUsize, Ordering};
-use std::sync::mpsc::{Receiver, Sender, SyncSender, TrySendError, channel, sync_channel};
-use std::thread::{self, JoinHandle};
 use std::time::{Duration, Instant};
 
 /// The most connections that are open at once, unless a server is told otherwise. One more is
 /// closed as it comes.
 pub(crate) const MAX_CONNECTIONS: usize = 256;
 
-/// The most messages that wait to be judged, and the most batches that wait to be written to one
-/// connection.
-pub(crate) const MAX_WAITING: usize = 256;
-
-/// A connection on which nothing comes for so long is closed: clients tick more often.
-const SILENCE: Duration = Duration::from_secs(30);
-
-/// A peer that takes nothing for so long loses its connection.
-const STALL: Duration = Duration::from_secs(5);
-
-/// What a connection has to say.
-pub(crate) enum Event {
-    /// It is open, and this writes to it.
-    Opened(u64, Outgoing),
-    /// A message came.
-    Message(u64, Vec<u8>),
-    /// Nothing more will come.
-    Closed(u64),
-    /// No connection can be taken any more.
-    Deaf(io::Error),
-    /// Somebody asks for all that the store has.
-    Snapshot(SyncSender<Result<Snapshot, StoreError>>),
-    /// Somebody asks who holds what.
-    Locks(Search, SyncSender<Page>),
-    /// The server is to end.
-    Stop,
-}
-
-/// What writes to one connection.
-pub(crate) struct Outgoing {
-    /// None when no more is sent.
-    batches: Option<SyncSender<Vec<u8>>>,
-    /// Tells nothing, and ends when the thread that writes has ended.
-    written: Receiver<Infallible>,
-    stream: Stream,
-}
-
-impl Outgoing {
-    /// Sends the frames, unless so much waits already that the peer seems stuck: then they are
-    /// lost. It answers whether they are on their way.
-    fn send(&self, frames: Vec<u8>) -> bool {
-        let Some(batches) = &self.batches else { return false };
-        let sent = batches.try_send(frames);
-        if let Err(TrySendError::Disconnected(_)) = sent {
-            self.stream.shut();
-        }
-        sent.is_ok()
-    }
-
-    /// Waits until all that was sent is written, but not longer than `until`.
-    fn wait(&self, until: Instant) {
-        // It ends by a timeout, or since the other side is gone.
-        let _ = self.written.recv_timeout(until.saturating_duration_since(Instant::now()));
-    }
-}
-
-impl Drop for Outgoing {
-    fn drop(&mut self) {
-        self.stream.shut();
-    }
-}
-
-/// What the host of a peer that takes host frames has been told.
-#[derive(Default)]
-struct Host {
-    refusals: [Seldom; Refusal::REASONS],
-    /// The answer to its Hello, which leaves before all else.
-    answer: Vec<u8>,
-    /// How far the store had come, as it was told last.
-    mark: Option<Mark>,
-}
-
-/// A connection that is open.
-struct Peer {
-    outgoing: Outgoing,
-    /// None if the peer has not said that it takes host frames.
-    host: Option<Host>,
-    /// Nothing more is heard of it, and what waits is the last that is written.
-    is_ended: bool,
-}
-
-impl Peer {
-    /// Sends the frames. To a host it says before them how far the store has come, if that is news.
-    /// A connection that ends serves no client, and is told nothing of the store.
-    fn send(&mut self, frames: &[u8], mark: Option<Mark>) {
-        let Some(host) = &mut self.host else {
-            self.outgoing.send(frames.to_vec());
-            return;
-        };
-        let mut batch = std::mem::take(&mut host.answer);
-        if let Some(now) = mark.filter(|_| host.mark != mark && !self.is_ended) {
-            batch.extend_from_slice(&FromServer::Mark(now).frame());
-        }
-        batch.extend_from_slice(frames);
-        if self.outgoing.send(batch) {
-            host.mark = mark;
-        }
-    }
-}
+/// The most connections that are taken between two turns.
+const MAX_TAKEN: usize = 32;
 
 /// All open connections, and to which of them each client's messages go.
-#[derive(Default)]
 pub(crate) struct Connections {
+    poller: Poller,
+    listening: Listening,
     open: HashMap<u64, Peer>,
     routes: Routes,
-    batches: HashMap<u64, Vec<u8>>,
+    /// Those that may have a frame, in the order of their turns. Each is there once.
+    ready: VecDeque<u64>,
+    /// Those that have something to send. Each is there once.
+    sending: Vec<u64>,
+    next: u64,
+    now: Instant,
+}
+
+/// A connection, and where it stands in the lists.
+struct Peer {
+    connection: Connection,
+    is_in_ready: bool,
+    is_in_sending: bool,
+    watched: Watched,
+}
+
+/// What the next connection in its turn has.
+pub(crate) enum Turn {
+    /// No connection has anything.
+    Nobody,
+    /// This one has no frame now, or is closed.
+    Nothing,
+    /// This one has a frame, the next of these. They go back by `Connections::put_back`.
+    Frame(u64, Frames),
 }
 
 impl Connections {
-    pub fn open(&mut self, connection: u64, outgoing: Outgoing) {
-        self.open.insert(connection, Peer { outgoing, host: None, is_ended: false });
+    /// Takes connections from the listener, and what wakes it from other threads.
+    pub fn new(listener: Listener, most: usize) -> io::Result<(Connections, Arc<Waker>)> {
+        let (poller, waker) = Poller::new(&listener)?;
+        let connections = Connections {
+            poller,
+            listening: Listening::new(listener, most)?,
+            open: HashMap::new(),
+            routes: Routes::default(),
+            ready: VecDeque::new(),
+            sending: Vec::new(),
+            next: 0,
+            now: Instant::now(),
+        };
+        Ok((connections, waker))
     }
 
-    pub fn close(&mut self, connection: u64) {
-        self.open.remove(&connection);
-        self.routes.close(connection);
+    /// Waits until there is something to do, but not longer than this, and says when that was. It
+    /// writes what peers take of what was sent, and takes new connections. It fails if no
+    /// connection can be taken any more.
+    pub fn wait(&mut self, longest: Duration) -> io::Result<Instant> {
+        let is_busy = !self.ready.is_empty() || self.listening.is_ready(self.now);
+        self.poller.wait(if is_busy { Duration::ZERO } else { longest })?;
+        self.now = Instant::now();
+        let ready: Vec<Ready> = self.poller.ready().collect();
+        for it in ready {
+            match it {
+                Ready::Woken => {}
+                Ready::Listener => self.listening.has_some(),
+                Ready::Connection(connection, readiness) => self.wake(connection, readiness),
+            }
+        }
+        self.accept()?;
+        Ok(self.now)
+    }
+
+    /// When the last wait ended.
+    pub fn now(&self) -> Instant {
+        self.now
+    }
+
+    /// Takes new connections, a few at once.
+    fn accept(&mut self) -> io::Result<()> {
+        for _ in 0..MAX_TAKEN {
+            if !self.listening.is_ready(self.now) {
+                break;
+            }
+            if let Some(stream) = self.listening.take(self.open.len(), self.now)? {
+                self.open(stream);
+            }
+        }
+        Ok(())
+    }
+
+    fn open(&mut self, stream: Stream) {
+        let number = self.next;
+        self.next += 1;
+        match Peer::new(stream, number, &self.poller, self.now) {
+            Ok(peer) => drop(self.open.insert(number, peer)),
+            // The system has no room for it: it is closed.
+            Err(error) => self.listening.not_taken(&error),
+        }
+    }
+
+    fn wake(&mut self, number: u64, readiness: Readiness) {
+        let Some(peer) = self.open.get_mut(&number) else { return };
+        if readiness.reads {
+            peer.connection.is_readable(readiness);
+            self.line_up(number);
+        }
+        if readiness.writes {
+            self.write(number);
+        }
+    }
+
+    /// Gives the connection a turn, if it may have something and has none.
+    fn line_up(&mut self, number: u64) {
+        let Some(peer) = self.open.get_mut(&number) else { return };
+        if peer.connection.is_ready() && !peer.is_in_ready {
+            peer.is_in_ready = true;
+            self.ready.push_back(number);
+        }
+    }
+
+    /// What the next connection has. Each gives one frame or is read once, and then the others have
+    /// their turns.
+    pub fn turn(&mut self) -> Turn {
+        let Some(number) = self.ready.pop_front() else { return Turn::Nobody };
+        let Some(peer) = self.open.get_mut(&number) else { return Turn::Nothing };
+        peer.is_in_ready = false;
+        if !peer.connection.is_ready() {
+            return Turn::Nothing;
+        }
+        match peer.connection.look(self.now) {
+            Looked::Frame => Turn::Frame(number, peer.connection.take_incoming()),
+            Looked::NoFrame => {
+                self.line_up(number);
+                Turn::Nothing
+            }
+            Looked::Ended => {
+                self.close(number);
+                Turn::Nothing
+            }
+        }
+    }
+
+    /// Gives the connection back what it had, without the frame that was judged.
+    pub fn put_back(&mut self, number: u64, incoming: Frames) {
+        if let Some(peer) = self.open.get_mut(&number) {
+            peer.connection.put_back(incoming);
+            self.line_up(number);
+        }
+    }
+
+    fn close(&mut self, number: u64) {
+        if let Some(peer) = self.open.remove(&number) {
+            self.poller.remove(peer.connection.stream());
+        }
+        self.routes.close(number);
     }
 
     /// Hears nothing more of the connection, and closes it when all is written that leaves with the
-    /// next `send`.
-    pub fn end(&mut self, connection: u64) {
-        if let Some(peer) = self.open.get_mut(&connection) {
-            peer.is_ended = true;
+    /// next batch.
+    pub fn end(&mut self, number: u64) {
+        if let Some(peer) = self.in_sending(number) {
+            peer.end();
         }
-        self.routes.close(connection);
-    }
-
-    /// Whether the connection may still say something.
-    pub fn hears(&self, connection: u64) -> bool {
-        self.open.get(&connection).is_some_and(|peer| !peer.is_ended)
+        self.routes.close(number);
     }
 
     /// The host of this peer takes host frames, and its Hello is answered so.
-    pub fn greet(&mut self, connection: u64, answer: FromServer) {
-        if let Some(peer) = self.open.get_mut(&connection) {
-            peer.host.get_or_insert_default().answer = answer.frame();
-            self.put(connection, &[]);
+    pub fn greet(&mut self, number: u64, answer: FromServer) {
+        if let Some(peer) = self.in_sending(number) {
+            peer.greet(answer);
         }
     }
 
-    /// Tells the peer's host why its client is not served: each reason once a second at most, and
-    /// none to a host that takes no host frames.
-    pub fn refuse(&mut self, connection: u64, refusal: Refusal) {
-        let peer = self.open.get_mut(&connection);
-        let Some(host) = peer.and_then(|peer| peer.host.as_mut()) else { return };
-        if host.refusals[refusal.reason()].lets(Instant::now()).is_some() {
-            self.put(connection, &FromServer::Refused(refusal).frame());
+    /// Tells the peer's host why its client is not served.
+    pub fn refuse(&mut self, number: u64, refusal: Refusal) {
+        let now = self.now;
+        if let Some(peer) = self.in_sending(number) {
+            peer.refuse(refusal, now);
         }
+    }
+
+    /// Puts a frame into the next batch of the connection.
+    pub fn tell(&mut self, number: u64, frame: &[u8]) {
+        if let Some(peer) = self.in_sending(number) {
+            peer.tell(frame);
+        }
+    }
+
+    /// A connection that has something to send.
+    fn in_sending(&mut self, number: u64) -> Option<&mut Connection> {
+        let peer = self.open.get_mut(&number)?;
+        if !peer.is_in_sending {
+            peer.is_in_sending = true;
+            self.sending.push(number);
+        }
+        Some(&mut peer.connection)
     }
 
     /// From now on the client's messages go to this connection.
-    pub fn route(&mut self, client: u8, connection: u64) {
-        self.routes.set(client, connection);
+    pub fn route(&mut self, client: u8, number: u64) {
+        self.routes.set(client, number);
     }
 
     /// The clients that are connected, by number.
@@ -186,147 +230,104 @@ impl Connections {
         self.open.len()
     }
 
-    /// Puts the frame behind those that leave with the next `send`. Without a connection it is
-    /// lost.
-    pub fn put_for(&mut self, client: u8, frame: &[u8]) {
-        if let Some(connection) = self.routes.of(client) {
-            self.put(connection, frame);
+    /// Begins to send: what was told, and behind it what the server says. So far has the store
+    /// come. Nothing that was not committed may be sent.
+    pub fn send(&mut self, mark: Option<Mark>) -> Sending<'_> {
+        Sending { connections: self, mark }
+    }
+
+    /// Writes what the peer takes, and closes the connection if that fails or was the last.
+    fn write(&mut self, number: u64) {
+        let Some(peer) = self.open.get_mut(&number) else { return };
+        if peer.connection.write(self.now).and_then(|()| peer.watch(number, &self.poller)).is_err()
+            || peer.connection.is_over()
+        {
+            self.close(number);
         }
     }
 
-    /// The same, for a connection.
-    pub fn put(&mut self, connection: u64, frame: &[u8]) {
-        self.batches.entry(connection).or_default().extend_from_slice(frame);
+    /// Closes the connections whose peers are silent or take nothing for too long.
+    pub fn close_dead(&mut self) {
+        let dead = self.open.iter().filter(|(_, peer)| peer.connection.is_dead(self.now));
+        let dead: Vec<u64> = dead.map(|(number, _)| *number).collect();
+        for number in dead {
+            self.close(number);
+        }
     }
 
     /// Ends all connections. What was sent is written first, as far as the peers take it until
     /// then.
-    pub fn finish(&mut self, until: Instant) {
-        for peer in self.open.values_mut() {
-            peer.outgoing.batches = None;
+    pub fn finish(mut self, until: Instant) {
+        let numbers: Vec<u64> = self.open.keys().copied().collect();
+        for number in &numbers {
+            self.end(*number);
+            self.write(*number);
         }
-        for (_, peer) in self.open.drain() {
-            peer.outgoing.wait(until);
-        }
-        self.routes = Routes::default();
-    }
-
-    /// Sends what was put. So far has the store come.
-    pub fn send(&mut self, mark: Option<Mark>) {
-        for (connection, frames) in self.batches.drain() {
-            if let Some(peer) = self.open.get_mut(&connection) {
-                peer.send(&frames, mark);
-            }
-        }
-        // Who writes to it ends it then.
-        for peer in self.open.values_mut().filter(|peer| peer.is_ended) {
-            peer.outgoing.batches = None;
-        }
-    }
-}
-
-pub(crate) fn spawn(
-    name: String,
-    run: impl FnOnce() + Send + 'static,
-) -> io::Result<JoinHandle<()>> {
-    thread::Builder::new().name(name).spawn(run)
-}
-
-/// Starts the two threads of a connection.
-pub(crate) fn begin(
-    connection: u64,
-    stream: Stream,
-    events: &SyncSender<Event>,
-    count: &Arc<AtomicUsize>,
-) -> io::Result<()> {
-    stream.set_timeouts(SILENCE, STALL)?;
-    let (reading, writing) = (stream.try_clone()?, stream.try_clone()?);
-    let (batches, queue) = sync_channel(MAX_WAITING);
-    let (writes, written) = channel();
-    let outgoing = Outgoing { batches: Some(batches), written, stream };
-    spawn(format!("krl-write-{connection}"), move || write(writing, &queue, &writes))?;
-    let permit = Permit::take(count);
-    let events = events.clone();
-    spawn(format!("krl-read-{connection}"), move || {
-        let _permit = permit;
-        // If nobody hears it, the server has ended.
-        if events.send(Event::Opened(connection, outgoing)).is_ok() {
-            read(connection, reading, &events);
-            let _ = events.send(Event::Closed(connection));
-        }
-    })?;
-    Ok(())
-}
-
-/// One of the connections that may be open at once.
-pub(crate) struct Permit(Arc<AtomicUsize>);
-
-impl Permit {
-    pub fn take(count: &Arc<AtomicUsize>) -> Permit {
-        count.fetch_add(1, Ordering::AcqRel);
-        Permit(Arc::clone(count))
-    }
-}
-
-impl Drop for Permit {
-    fn drop(&mut self) {
-        self.0.fetch_sub(1, Ordering::AcqRel);
-    }
-}
-
-/// Reads until the stream ends, is silent for too long, or says what no client says.
-fn read(connection: u64, mut stream: Stream, events: &SyncSender<Event>) {
-    let mut frames = Frames::new(LONGEST_TO_SERVER);
-    loop {
-        match frames.fill(&mut stream) {
-            Ok(0) => return,
-            Ok(_) => {}
-            Err(error) if error.kind() == ErrorKind::Interrupted => {}
-            Err(_) => return,
-        }
-        while let Ok(Some(message)) = frames.next() {
-            if events.send(Event::Message(connection, message.to_vec())).is_err() {
+        while !self.open.is_empty() && self.now < until {
+            let left = until.saturating_duration_since(self.now);
+            if self.poller.wait(left).is_err() {
                 return;
             }
-        }
-        if frames.is_broken() {
-            return;
+            self.now = Instant::now();
+            let ready: Vec<Ready> = self.poller.ready().collect();
+            for it in ready {
+                if let Ready::Connection(number, Readiness { writes: true, .. }) = it {
+                    self.write(number);
+                }
+            }
         }
     }
 }
 
-/// Writes each batch, until the stream fails or nothing more can come.
-fn write(mut stream: Stream, batches: &Receiver<Vec<u8>>, _writes: &Sender<Infallible>) {
-    while let Ok(batch) = batches.recv() {
-        if stream.write_all(&batch).is_err() {
-            break;
+impl Peer {
+    fn new(stream: Stream, number: u64, poller: &Poller, now: Instant) -> io::Result<Peer> {
+        let connection = Connection::new(stream, now)?;
+        poller.add(number, connection.stream())?;
+        let watched = Watched::Reads;
+        Ok(Peer { connection, is_in_ready: false, is_in_sending: false, watched })
+    }
+
+    /// Watches the connection for what it may do next.
+    fn watch(&mut self, number: u64, poller: &Poller) -> io::Result<()> {
+        let watched = self.connection.watched();
+        if watched != self.watched {
+            poller.watch(number, self.connection.stream(), watched)?;
+            self.watched = watched;
+        }
+        Ok(())
+    }
+}
+
+/// What leaves together, after a commit.
+pub(crate) struct Sending<'a> {
+    connections: &'a mut Connections,
+    mark: Option<Mark>,
+}
+
+impl Sending<'_> {
+    /// Puts a frame of the server behind those that leave. If the client has no connection, the
+    /// frame is lost.
+    pub fn put(&mut self, client: u8, frame: &[u8]) {
+        let Some(number) = self.connections.routes.of(client) else { return };
+        if let Some(connection) = self.connections.in_sending(number) {
+            connection.say(frame, self.mark);
         }
     }
-    stream.shut();
+
+    /// Writes it all, as far as the peers take it at once.
+    pub fn end(self) {
+        let Sending { connections, mark } = self;
+        let mut sending = std::mem::take(&mut connections.sending);
+        for number in sending.drain(..) {
+            if let Some(peer) = connections.open.get_mut(&number) {
+                peer.is_in_sending = false;
+                peer.connection.end_batch(mark);
+                connections.write(number);
+            }
+        }
+        connections.sending = sending;
+    }
 }
 
 #[cfg(test)]
-mod tests {
-    use super::*;
-    use crate::listening::Listening;
-
-    #[test]
-    fn what_was_sent_is_written_before_the_end() {
-        const LENGTH: usize = 1 << 24;
-        let bound = std::net::TcpListener::bind("127.0.0.1:0").unwrap();
-        let mut peer = std::net::TcpStream::connect(bound.local_addr().unwrap()).unwrap();
-        let (_listening, events) = Listening::start(bound.into(), 4).unwrap();
-        let mut connections = Connections::default();
-        let Ok(Event::Opened(connection, outgoing)) = events.recv() else { panic!("not opened") };
-        connections.open(connection, outgoing);
-        connections.put(connection, &vec![7; LENGTH]);
-        connections.send(None);
-        let reads = thread::spawn(move || {
-            thread::sleep(Duration::from_millis(100));
-            let mut bytes = Vec::new();
-            io::Read::read_to_end(&mut peer, &mut bytes).map(|_| bytes.len())
-        });
-        connections.finish(Instant::now() + Duration::from_secs(20));
-        assert_eq!(reads.join().unwrap().unwrap(), LENGTH);
-    }
-}
+mod tests;

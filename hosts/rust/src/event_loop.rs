@@ -1,16 +1,16 @@
 //! The thread that owns a server and its store: it judges, commits and sends.
 use crate::change::{Change, Record};
 use crate::code::Code;
-use crate::connections::{Connections, Event};
+use crate::connections::{Connections, Turn};
 use crate::event_log::{self, EventLog};
 use crate::frames;
 use crate::handle::ServerHandle;
 use crate::held_back::HeldBack;
 use crate::history::{History, Mark};
 use crate::host_frame::{self, FromClient, FromServer};
-use crate::locks::{HeldSlot, Page, Search};
 use crate::message::{self, Kind, client_number, client_of, incarnation_of, kind_of};
 use crate::refusal::{ClientSet, Refusal};
+use crate::requests::Request;
 use crate::routing::{Sender, sender};
 use crate::server::ServeError;
 use crate::status::Status;
@@ -18,11 +18,12 @@ use crate::store::Store;
 use crate::timings::{Open, Timings};
 use crate::watch::Watch;
 use std::panic::{AssertUnwindSafe, catch_unwind};
-use std::sync::mpsc::{Receiver, RecvTimeoutError};
+use std::sync::mpsc::Receiver;
 use std::sync::{Arc, Mutex, PoisonError};
 use std::time::{Duration, Instant};
 
-/// The most messages that are judged before what they changed is committed.
+/// The most messages that are judged before what they changed is committed. A read that brings no
+/// whole message counts as one.
 const MAX_AT_ONCE: usize = 256;
 
 /// How often a client that seems stuck is told again what it may have missed, and the server is
@@ -32,6 +33,12 @@ const NUDGE: Duration = Duration::from_millis(50);
 /// How long a turn looks up who holds what, if somebody asks.
 const LOOKS: Duration = Duration::from_millis(10);
 
+/// How long a server that ends goes on to judge what has come.
+const LAST_TURNS: Duration = Duration::from_millis(100);
+
+/// How old what others see of a server may be while it is busy.
+const SHOWN_FOR: Duration = Duration::from_millis(5);
+
 /// How long a server that ends waits until what it sent is written.
 const LAST_WRITES: Duration = Duration::from_millis(500);
 
@@ -40,12 +47,20 @@ pub(crate) struct EventLoop<S> {
     server: ServerHandle,
     store: S,
     history: Option<History>,
-    waiting: Receiver<Event>,
+    asked: Receiver<Request>,
     connections: Connections,
     held_back: HeldBack,
     watch: Watch,
     status: Status,
+    /// When the last turn ended.
+    turned: Instant,
+    /// When the status was shown last.
+    shown: Instant,
+    /// There were turns since it was shown.
+    is_stale: bool,
     nudged: Instant,
+    /// The server is to end, and goes on until then at most.
+    until: Option<Instant>,
     timings: Arc<Timings>,
     open: Open,
     log: EventLog,
@@ -53,25 +68,30 @@ pub(crate) struct EventLoop<S> {
 }
 
 impl<S: Store> EventLoop<S> {
-    /// A server whose epoch is committed, and that takes the events of its connections.
+    /// A server whose epoch is committed, and that takes these connections and requests.
     pub fn new(
         server: ServerHandle,
         (store, history): (S, Option<History>),
-        waiting: Receiver<Event>,
+        (connections, asked): (Connections, Receiver<Request>),
         timings: Arc<Timings>,
         epoch: u64,
         log: EventLog,
     ) -> EventLoop<S> {
+        let now = Instant::now();
         EventLoop {
             server,
             store,
             history,
-            waiting,
-            connections: Connections::default(),
+            asked,
+            connections,
             held_back: HeldBack::new(),
             watch: Watch::default(),
             status: Status { epoch, ..Status::default() },
-            nudged: Instant::now(),
+            turned: now,
+            shown: now,
+            is_stale: false,
+            nudged: now,
+            until: None,
             timings,
             open: Open::new(),
             log,
@@ -94,7 +114,8 @@ impl<S: Store> EventLoop<S> {
 
     fn run(mut self, shown: &Mutex<Status>) -> Result<(), ServeError> {
         while self.turn()? {
-            self.show(shown);
+            let is_news = self.see_phase();
+            self.show_if_due(is_news, shown);
         }
         self.show(shown);
         self.connections.finish(Instant::now() + LAST_WRITES);
@@ -104,50 +125,68 @@ impl<S: Store> EventLoop<S> {
     /// Takes what waits, judges it all, commits what it changed, and only then sends. It answers
     /// whether to go on.
     fn turn(&mut self) -> Result<bool, ServeError> {
-        let (mut changes, mut ended, mut looks_end) = (Vec::new(), None, None);
-        let events = self.take_what_waits();
-        let began = Instant::now();
-        for event in events {
-            match event {
-                Event::Opened(connection, outgoing) => self.connections.open(connection, outgoing),
-                Event::Closed(connection) => self.connections.close(connection),
-                Event::Message(connection, message) => {
-                    changes.extend(self.hear(connection, &message)?);
-                }
-                Event::Deaf(error) => ended = Some(Err(error.into())),
-                Event::Snapshot(reply) => {
+        let was_stopped = self.until.is_some();
+        let began = self.connections.wait(self.longest_wait())?;
+        self.answer_requests();
+        let (mut changes, mut looks) = (Vec::new(), 0);
+        while looks < MAX_AT_ONCE && self.hear_next(&mut changes)? {
+            looks += 1;
+        }
+        self.nudge(began);
+        self.commit(&changes)?;
+        self.send()?;
+        self.turned = Instant::now();
+        self.timings.turned(began, self.turned);
+        // What came before the stop is seen by the wait behind it.
+        Ok(self.until.is_none_or(|until| !was_stopped || looks > 0 && began < until))
+    }
+
+    /// How long to wait if nothing comes.
+    fn longest_wait(&self) -> Duration {
+        match (self.until, self.is_stale) {
+            (Some(_), _) => Duration::ZERO,
+            (None, true) => {
+                SHOWN_FOR.saturating_sub(self.turned.saturating_duration_since(self.shown))
+            }
+            (None, false) => NUDGE,
+        }
+    }
+
+    /// Answers what other threads have asked.
+    fn answer_requests(&mut self) {
+        let mut looks_end = None;
+        while let Ok(request) = self.asked.try_recv() {
+            match request {
+                Request::Snapshot(reply) => {
                     // Who asks and goes away gets no answer.
                     let _ = reply.send(self.store.snapshot());
                 }
-                Event::Locks(search, reply) => {
+                Request::Locks(search, reply) => {
                     let end = *looks_end.get_or_insert_with(|| Instant::now() + LOOKS);
                     let _ = reply.send(self.look_up(search, end));
                 }
-                Event::Stop => ended = Some(Ok(false)),
+                Request::Stop => self.until = Some(Instant::now() + LAST_TURNS),
             }
         }
-        self.nudge();
-        self.commit(&changes)?;
-        self.send()?;
-        self.timings.turned(began);
-        ended.unwrap_or(Ok(true))
     }
 
-    fn take_what_waits(&mut self) -> Vec<Event> {
-        let first = match self.waiting.recv_timeout(NUDGE) {
-            Ok(event) => event,
-            Err(RecvTimeoutError::Timeout) => return Vec::new(),
-            Err(RecvTimeoutError::Disconnected) => Event::Stop,
-        };
-        let more = self.waiting.try_iter().take(MAX_AT_ONCE - 1);
-        std::iter::once(first).chain(more).collect()
+    /// Hears the connection whose turn it is, and answers whether there was one.
+    fn hear_next(&mut self, changes: &mut Vec<Change>) -> Result<bool, ServeError> {
+        match self.connections.turn() {
+            Turn::Nobody => return Ok(false),
+            Turn::Nothing => {}
+            Turn::Frame(connection, mut incoming) => {
+                if let Ok(Some(frame)) = incoming.next() {
+                    changes.extend(self.hear(connection, frame)?);
+                }
+                self.connections.put_back(connection, incoming);
+            }
+        }
+        Ok(true)
     }
 
     /// Takes what came on a connection, and says what has to be kept.
     fn hear(&mut self, connection: u64, frame: &[u8]) -> Result<Option<Change>, ServeError> {
-        if !self.connections.hears(connection) {
-            return Ok(None);
-        }
         if host_frame::is_of_host(frame) {
             if let Some(FromClient::Hello(seen)) = FromClient::read(frame) {
                 self.greet(connection, seen)?;
@@ -224,12 +263,12 @@ impl<S: Store> EventLoop<S> {
         let record = self.server.record(client).map_err(ServeError::Refused)?;
         match (sender(record.as_ref(), incarnation), kind_of(message)) {
             (Sender::Registered, _) => {
-                self.open.heard(client, message, Instant::now(), &self.timings);
+                self.open.heard(client, message, self.connections.now(), &self.timings);
                 self.connections.route(client, connection);
             }
             // The frame leaves after the change is on the disk, and tells the client that it need
             // not say Bye again.
-            (Sender::Left, Kind::Bye) => self.connections.put(connection, &frames::EMPTY),
+            (Sender::Left, Kind::Bye) => self.connections.tell(connection, &frames::EMPTY),
             (Sender::Left, _) => {}
             (Sender::Stranger, _) => self.log.stranger(connection, client, incarnation),
         }
@@ -259,48 +298,17 @@ impl<S: Store> EventLoop<S> {
         known.extend(client_of(message).filter(|client| !known.contains(client)));
     }
 
-    fn nudge(&mut self) {
-        if self.nudged.elapsed() < NUDGE {
+    fn nudge(&mut self, now: Instant) {
+        if now.saturating_duration_since(self.nudged) < NUDGE {
             return;
         }
-        self.nudged = Instant::now();
+        self.nudged = now;
+        self.connections.close_dead();
         for client in self.connections.clients() {
             // A nudge for which there is no memory is a message that is lost.
             let _ = self.server.nudge(client);
         }
         self.look();
-    }
-
-    /// Who holds and who waits: a page of what is searched.
-    fn look_up(&mut self, mut search: Search, end: Instant) -> Page {
-        self.look_at_waits(Instant::now());
-        let held =
-            search.page(|client, from| self.next_held(client, from), || Instant::now() >= end);
-        Page { held, waits: self.status.waits.clone(), rest: search }
-    }
-
-    /// A client that has not registered, or has left, holds nothing: the table is not searched.
-    fn next_held(&mut self, client: u8, from: u64) -> Option<HeldSlot> {
-        match self.server.record(client) {
-            Ok(Some(record)) if !record.left => self.server.next_held(client, from),
-            _ => None,
-        }
-    }
-
-    fn look_at_waits(&mut self, now: Instant) {
-        if let Ok(waiting) = self.server.waiting() {
-            self.status.waits = self.watch.waits(waiting, now);
-        }
-    }
-
-    /// Sees who waits for whom, and how much one client holds, the next in its turn.
-    fn look(&mut self) {
-        self.look_at_waits(self.nudged);
-        let client = self.watch.next_counted();
-        if let Ok(slots) = self.server.held(client) {
-            self.watch.counted(client, slots);
-        }
-        self.status.holdings = self.watch.holdings().to_vec();
     }
 
     fn commit(&mut self, changes: &[Change]) -> Result<(), ServeError> {
@@ -319,38 +327,54 @@ impl<S: Store> EventLoop<S> {
     }
 
     fn send(&mut self) -> Result<(), ServeError> {
-        let mut frames = std::mem::take(&mut self.frames);
-        frames.clear();
-        self.server.take(&mut frames).map_err(ServeError::Refused)?;
-        let now = Instant::now();
-        for (message, frame) in frames::split(&frames) {
-            self.put(message, frame, now);
+        let length = self.server.take(&mut self.frames).map_err(ServeError::Refused)?;
+        let now = if length > 0 { Instant::now() } else { self.turned };
+        let mut sending = self.connections.send(self.history.as_ref().and_then(History::mark));
+        for (message, frame) in frames::split(&self.frames[..length]) {
+            let Some(client) = client_of(message) else { continue };
+            if kind_of(message) == Kind::Push && self.held_back.holds(client, message, now) {
+                continue;
+            }
+            self.open.said(client, message, now, &self.timings);
+            sending.put(client, frame);
+            self.status.sent += 1;
         }
-        self.connections.send(self.history.as_ref().and_then(History::mark));
-        self.frames = frames;
+        sending.end();
         Ok(())
     }
 
-    fn put(&mut self, message: &[u8], frame: &[u8], now: Instant) {
-        let Some(client) = client_of(message) else { return };
-        if kind_of(message) == Kind::Push && self.held_back.holds(client, message, now) {
-            return;
+    /// Sees whether the server serves, and until it does, whose reports are missing. One that
+    /// serves goes on to serve. It answers whether that may be news.
+    fn see_phase(&mut self) -> bool {
+        if self.status.is_serving {
+            return false;
         }
-        self.open.said(client, message, now, &self.timings);
-        self.connections.put_for(client, frame);
-        self.status.sent += 1;
-    }
-
-    fn show(&mut self, shown: &Mutex<Status>) {
         self.status.is_serving = self.server.is_serving();
         // If there is no memory for it, it is shown as it was.
         if let Ok(missing) = self.server.missing() {
             self.status.missing = missing;
         }
         self.log.phase(self.status.is_serving, &self.status.missing);
+        true
+    }
+
+    fn show_if_due(&mut self, is_news: bool, shown: &Mutex<Status>) {
+        let age = self.turned.saturating_duration_since(self.shown);
+        self.is_stale = !is_news && age < SHOWN_FOR;
+        if !self.is_stale {
+            self.shown = self.turned;
+            self.show(shown);
+        }
+    }
+
+    fn show(&mut self, shown: &Mutex<Status>) {
         self.status.connected = self.connections.clients();
         self.status.connections = self.connections.count() as u64;
         self.status.held_back = self.held_back.count();
         shown.lock().unwrap_or_else(PoisonError::into_inner).clone_from(&self.status);
     }
 }
+
+mod looks;
+#[cfg(test)]
+mod tests;

@@ -2,6 +2,7 @@
 //!
 //! A frame of no bytes is no message: by it a server's host says that a Bye is kept.
 use std::io::{self, Read};
+use std::ops::Range;
 
 /// The longest message to a server: a report of 65,537 ranges and 65,537 keys has 1,703,996 bytes.
 pub(crate) const LONGEST_TO_SERVER: usize = 1 << 21;
@@ -16,7 +17,10 @@ pub(crate) const EMPTY: [u8; PREFIX] = [0; PREFIX];
 const PREFIX: usize = 8;
 
 /// How much is read at once.
-const GULP: usize = 1 << 14;
+pub(crate) const GULP: usize = 1 << 14;
+
+/// So much room is kept for the next bytes when all that came is taken.
+const KEPT: usize = 4 * GULP;
 
 /// A frame that promises more than a message has. The connection can't go on.
 #[derive(Clone, Copy, Debug, PartialEq, Eq)]
@@ -24,49 +28,75 @@ pub(crate) struct TooLong;
 
 /// The bytes that came and belong to no frame that was taken yet. It grows with what came, never by
 /// a length alone.
+#[derive(Debug, Default)]
 pub(crate) struct Frames {
+    /// Room for bytes. What is behind `filled` was zero, or is of frames that were taken: no read
+    /// has to clear it again.
     bytes: Vec<u8>,
     taken: usize,
+    filled: usize,
     longest: usize,
 }
 
 impl Frames {
     pub fn new(longest: usize) -> Frames {
-        Frames { bytes: Vec::new(), taken: 0, longest }
+        Frames { longest, ..Frames::default() }
     }
 
-    /// Reads once from the stream, and says how many bytes came: none if it has ended.
+    /// Reads once from the stream, at most `GULP` bytes, and says how many came: none if it has
+    /// ended.
     pub fn fill(&mut self, stream: &mut impl Read) -> io::Result<usize> {
-        self.bytes.drain(..self.taken);
-        self.taken = 0;
-        let old = self.bytes.len();
-        self.bytes.resize(old + GULP, 0);
-        let read = stream.read(&mut self.bytes[old..]);
-        self.bytes.truncate(old + read.as_ref().map_or(0, |count| *count));
-        read
+        self.make_room();
+        let count = stream.read(&mut self.bytes[self.filled..self.filled + GULP])?;
+        self.filled += count;
+        Ok(count)
+    }
+
+    /// Moves what is not taken to the front, and makes room for one read behind it.
+    fn make_room(&mut self) {
+        if self.taken > 0 {
+            self.bytes.copy_within(self.taken..self.filled, 0);
+            self.filled -= self.taken;
+            self.taken = 0;
+        }
+        if self.filled == 0 && self.bytes.len() > KEPT {
+            self.bytes.truncate(GULP);
+            self.bytes.shrink_to_fit();
+        }
+        let needed = self.filled + GULP;
+        if self.bytes.len() < needed {
+            self.bytes.resize(needed, 0);
+        }
     }
 
     /// Whether the next frame promises more than a message has.
     pub fn is_broken(&self) -> bool {
-        split_length(&self.bytes[self.taken..])
-            .is_some_and(|(length, _)| length > self.longest as u64)
+        self.whole().is_err()
+    }
+
+    /// Whether the next frame has not come whole, and may still do so.
+    pub fn needs_more(&self) -> bool {
+        self.whole() == Ok(None)
     }
 
     /// The next frame that has come whole, without its length.
     pub fn next(&mut self) -> Result<Option<&[u8]>, TooLong> {
-        let Some((length, rest)) = split_length(&self.bytes[self.taken..]) else {
+        let Some(frame) = self.whole()? else { return Ok(None) };
+        self.taken = frame.end;
+        Ok(Some(&self.bytes[frame]))
+    }
+
+    /// Where the next frame stands, if it has come whole.
+    fn whole(&self) -> Result<Option<Range<usize>>, TooLong> {
+        let Some((length, rest)) = split_length(&self.bytes[self.taken..self.filled]) else {
             return Ok(None);
         };
         let length = usize::try_from(length).map_err(|_| TooLong)?;
         if length > self.longest {
             return Err(TooLong);
         }
-        if rest.len() < length {
-            return Ok(None);
-        }
         let start = self.taken + PREFIX;
-        self.taken = start + length;
-        Ok(Some(&self.bytes[start..self.taken]))
+        Ok((rest.len() >= length).then_some(start..start + length))
     }
 }
 
@@ -104,9 +134,10 @@ mod tests {
             let mut found = Vec::new();
             for piece in sent.chunks(step) {
                 frames.fill(&mut &*piece).unwrap();
-                while let Some(message) = frames.next().unwrap() {
-                    found.push(message.to_vec());
+                while !frames.needs_more() {
+                    found.push(frames.next().unwrap().unwrap().to_vec());
                 }
+                assert_eq!(frames.next(), Ok(None));
             }
             assert_eq!(found, [&b"one"[..], b"", b"three"]);
         }
@@ -117,9 +148,24 @@ mod tests {
         for length in [6, 1 << 20, 1 << 60, u64::MAX] {
             let mut frames = Frames::new(5);
             frames.fill(&mut &length.to_le_bytes()[..]).unwrap();
+            assert!(frames.is_broken() && !frames.needs_more());
             assert_eq!(frames.next(), Err(TooLong));
             assert!(frames.bytes.capacity() <= 2 * GULP);
         }
+    }
+
+    #[test]
+    fn the_room_of_a_long_frame_is_given_back() {
+        let long = frame(&vec![7; 1 << 20]);
+        let mut sent = &long[..];
+        let mut frames = Frames::new(1 << 20);
+        while frames.needs_more() {
+            assert!(frames.fill(&mut sent).unwrap() <= GULP);
+        }
+        assert_eq!(frames.next().unwrap().map(<[u8]>::len), Some(1 << 20));
+        frames.fill(&mut &frame(b"a")[..]).unwrap();
+        assert_eq!(frames.next(), Ok(Some(&b"a"[..])));
+        assert!(frames.bytes.capacity() <= KEPT);
     }
 
     #[test]

@@ -39,22 +39,23 @@ impl Handle {
     /// message.
     pub fn take(&mut self, frames: &mut Vec<u8>) -> Result<(), Code> {
         let old = frames.len();
-        let mut room = 0;
+        let taken = self.take_behind(old, frames);
+        frames.truncate(old + taken.unwrap_or(0));
+        taken.map(drop)
+    }
+
+    /// Takes the same into the room behind the old bytes, and says how long it is. The room grows
+    /// as it has to.
+    fn take_behind(&mut self, old: usize, frames: &mut Vec<u8>) -> Result<usize, Code> {
         loop {
-            frames.resize(old + room, 0);
+            let room = &mut frames[old..];
             // SAFETY: as for any handle, and there is so much room to be written to.
-            let reply = unsafe { ffi::krl_take(self.raw(), frames[old..].as_mut_ptr(), room) };
+            let reply = unsafe { ffi::krl_take(self.raw(), room.as_mut_ptr(), room.len()) };
             let length = usize::try_from(reply.detail).map_err(|_| Code::OutOfMemory)?;
-            match Code::of(reply.code) {
-                Code::Done => {
-                    frames.truncate(old + length);
-                    return Ok(());
-                }
-                Code::TooShort => room = length,
-                code => {
-                    frames.truncate(old);
-                    return Err(code);
-                }
+            match code(reply) {
+                Code::Done => return Ok(length),
+                Code::TooShort => frames.resize(old + length, 0),
+                refused => return Err(refused),
             }
         }
     }
@@ -183,8 +184,10 @@ impl ServerHandle {
         (holds != 0).then(|| HeldSlot { lo, hi, client, mode: mode_name(mode) })
     }
 
-    pub fn take(&mut self, frames: &mut Vec<u8>) -> Result<(), Code> {
-        self.0.take(frames)
+    /// Takes what waits to be sent, as frames, into the front of `room`, and says how many bytes
+    /// they have. The room grows as it has to, and is used again.
+    pub fn take(&mut self, room: &mut Vec<u8>) -> Result<usize, Code> {
+        self.0.take_behind(0, room)
     }
 }
 

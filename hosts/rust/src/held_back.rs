@@ -42,7 +42,10 @@ impl HeldBack {
             self.count += 1;
             return true;
         }
-        *last = Some(Push { message: push.to_vec(), sent: now });
+        let last = last.get_or_insert_with(|| Push { message: Vec::new(), sent: now });
+        last.sent = now;
+        last.message.clear();
+        last.message.extend_from_slice(push);
         false
     }
 }

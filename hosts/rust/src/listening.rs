@@ -1,14 +1,12 @@
-//! The thread that takes connections.
-use crate::connections::{Event, MAX_WAITING, Permit, begin, spawn};
+//! New connections: which are taken, and which are told that there is no room.
 use crate::event_log::{self, Seldom};
-use crate::stream::{Address, Listener, Stream};
+use crate::stream::{Listener, Stream};
 use crate::turned_away;
 use std::io::{self, ErrorKind};
 use std::sync::Arc;
-use std::sync::atomic::{AtomicBool, AtomicUsize, Ordering};
-use std::sync::mpsc::{Receiver, SyncSender, sync_channel};
-use std::thread::{self, JoinHandle};
-use std::time::Duration;
+use std::sync::atomic::{AtomicUsize, Ordering};
+use std::thread;
+use std::time::{Duration, Instant};
 
 /// How long to wait before another connection is taken if the system had no room for one.
 const NO_ROOM: Duration = Duration::from_millis(50);
@@ -17,95 +15,89 @@ const NO_ROOM: Duration = Duration::from_millis(50);
 /// as it comes.
 const MAX_TURNED_AWAY: usize = 16;
 
-/// The thread that takes connections.
+/// The socket that takes connections. It never waits.
 pub(crate) struct Listening {
-    address: Address,
-    stopped: Arc<AtomicBool>,
-    events: SyncSender<Event>,
-    thread: Option<JoinHandle<()>>,
+    listener: Listener,
+    max_connections: usize,
+    /// The system has told of a connection, and not yet that there is none.
+    has_some: bool,
+    /// None is taken before that.
+    not_before: Option<Instant>,
+    turned_away: Arc<AtomicUsize>,
+    full: Seldom,
+    failed: Seldom,
 }
 
 impl Listening {
-    /// Takes connections, each in threads of its own, and tells what they say.
-    pub fn start(
-        listener: Listener,
-        max_connections: usize,
-    ) -> io::Result<(Listening, Receiver<Event>)> {
-        listener.wait_in_accept()?;
-        let address = listener.address()?;
-        let stopped = Arc::new(AtomicBool::new(false));
-        let (events, waiting) = sync_channel(MAX_WAITING);
-        let (told, is_stopped) = (events.clone(), Arc::clone(&stopped));
-        let thread = spawn("krl-accept".into(), move || {
-            accept(&listener, max_connections, &told, &is_stopped);
-        })?;
-        Ok((Listening { address, stopped, events, thread: Some(thread) }, waiting))
+    pub fn new(listener: Listener, max_connections: usize) -> io::Result<Listening> {
+        listener.never_wait()?;
+        Ok(Listening {
+            listener,
+            max_connections,
+            has_some: false,
+            not_before: None,
+            turned_away: Arc::default(),
+            full: Seldom::default(),
+            failed: Seldom::default(),
+        })
     }
 
-    /// Where it listens.
-    pub fn address(&self) -> &Address {
-        &self.address
+    /// The system has told that connections wait.
+    pub fn has_some(&mut self) {
+        self.has_some = true;
     }
 
-    /// Where events are told.
-    pub fn events(&self) -> SyncSender<Event> {
-        self.events.clone()
+    /// Whether connections may wait that can be taken now.
+    pub fn is_ready(&self, now: Instant) -> bool {
+        self.has_some && self.not_before.is_none_or(|then| then <= now)
     }
 
-    /// Tells the server to end.
-    pub fn stop(&self) {
-        // If nobody hears it, the server has ended already.
-        let _ = self.events.send(Event::Stop);
-    }
-
-    /// Ends the thread, and gives the address free.
-    pub fn end(&mut self) {
-        self.stopped.store(true, Ordering::Release);
-        let Some(thread) = self.thread.take() else { return };
-        // A connection wakes it. If none can be made, nothing would, and it goes on to wait.
-        if Stream::connect(&self.address, Duration::from_secs(1)).is_ok() {
-            let _ = thread.join();
+    /// Takes one connection, if there is one, and room for it while so many are open. It fails if
+    /// none can be taken any more.
+    pub fn take(&mut self, open: usize, now: Instant) -> io::Result<Option<Stream>> {
+        match self.listener.accept() {
+            Ok(stream) if open < self.max_connections => return Ok(Some(stream)),
+            Ok(stream) => {
+                event_log::full(&mut self.full, open);
+                turn_away(stream, self.max_connections, &self.turned_away);
+            }
+            Err(error) => self.has_failed(error, now)?,
         }
+        Ok(None)
+    }
+
+    fn has_failed(&mut self, error: io::Error, now: Instant) -> io::Result<()> {
+        match after(&error) {
+            Next::AtOnce => {}
+            Next::WhenToldAgain => self.has_some = false,
+            Next::Later => {
+                self.not_taken(&error);
+                self.not_before = Some(now + NO_ROOM);
+            }
+            Next::End => return Err(error),
+        }
+        Ok(())
+    }
+
+    /// A connection is closed, since the system has no room for it.
+    pub fn not_taken(&mut self, error: &io::Error) {
+        event_log::not_accepted(&mut self.failed, error);
     }
 }
 
-fn accept(
-    listener: &Listener,
-    max_connections: usize,
-    events: &SyncSender<Event>,
-    stopped: &AtomicBool,
-) {
-    let (count, turned_away) = (Arc::new(AtomicUsize::new(0)), Arc::new(AtomicUsize::new(0)));
-    let (mut full, mut failed) = (Seldom::default(), Seldom::default());
-    for connection in 0.. {
-        let accepted = listener.accept();
-        if stopped.load(Ordering::Acquire) {
-            return;
-        }
-        match accepted {
-            Ok(stream) => {
-                let open = count.load(Ordering::Acquire);
-                if open >= max_connections {
-                    event_log::full(&mut full, open);
-                    turn_away(stream, max_connections, &turned_away);
-                } else if let Err(error) = begin(connection, stream, events, &count) {
-                    // The system has no room or no thread for it: it is closed.
-                    event_log::not_accepted(&mut failed, &error);
-                }
-            }
-            Err(error) => match after(&error) {
-                Next::AtOnce => {}
-                Next::Later => {
-                    event_log::not_accepted(&mut failed, &error);
-                    thread::sleep(NO_ROOM);
-                }
-                Next::End => {
-                    // If nobody hears it, the server has ended.
-                    let _ = events.send(Event::Deaf(error));
-                    return;
-                }
-            },
-        }
+/// One of the connections that are turned away.
+struct Permit(Arc<AtomicUsize>);
+
+impl Permit {
+    fn take(count: &Arc<AtomicUsize>) -> Permit {
+        count.fetch_add(1, Ordering::AcqRel);
+        Permit(Arc::clone(count))
+    }
+}
+
+impl Drop for Permit {
+    fn drop(&mut self) {
+        self.0.fetch_sub(1, Ordering::AcqRel);
     }
 }
 
@@ -113,9 +105,11 @@ fn accept(
 fn turn_away(stream: Stream, max_connections: usize, count: &Arc<AtomicUsize>) {
     if count.load(Ordering::Acquire) < MAX_TURNED_AWAY {
         let permit = Permit::take(count);
-        let _ = spawn("krl-full".into(), move || {
+        let _ = thread::Builder::new().name("krl-full".into()).spawn(move || {
             let _permit = permit;
-            turned_away::tell(stream, max_connections as u64);
+            if stream.set_waiting(true).is_ok() {
+                turned_away::tell(stream, max_connections as u64);
+            }
         });
     }
 }
@@ -125,6 +119,8 @@ fn turn_away(stream: Stream, max_connections: usize, count: &Arc<AtomicUsize>) {
 enum Next {
     /// The connection is gone, and the next one may be there already.
     AtOnce,
+    /// No connection waits.
+    WhenToldAgain,
     /// The system has no room for another connection just now, or the network is not there.
     Later,
     /// The socket takes no connection any more.
@@ -137,6 +133,7 @@ fn after(error: &io::Error) -> Next {
     const ENOTSOCK: i32 = 88;
     match (error.kind(), error.raw_os_error()) {
         (ErrorKind::Interrupted | ErrorKind::ConnectionAborted, _) => Next::AtOnce,
+        (ErrorKind::WouldBlock, _) => Next::WhenToldAgain,
         (_, Some(EBADF | EINVAL | ENOTSOCK)) => Next::End,
         _ => Next::Later,
     }
@@ -150,6 +147,7 @@ mod tests {
     fn a_failed_accept_is_no_end_unless_the_socket_is_gone() {
         const EINTR: i32 = 4;
         const EBADF: i32 = 9;
+        const EAGAIN: i32 = 11;
         const ENOMEM: i32 = 12;
         const EINVAL: i32 = 22;
         const ENFILE: i32 = 23;
@@ -157,6 +155,7 @@ mod tests {
         const ECONNABORTED: i32 = 103;
         const ENOBUFS: i32 = 105;
         let next = |number| after(&io::Error::from_raw_os_error(number));
+        assert_eq!(next(EAGAIN), Next::WhenToldAgain);
         for number in [EINTR, ECONNABORTED] {
             assert_eq!(next(number), Next::AtOnce, "{number}");
         }

@@ -1,7 +1,7 @@
 //! Who holds which slots of a server's table, and who waits there.
-use crate::connections::Event;
 use crate::monitor::Monitor;
 use crate::range::keys_of;
+use crate::requests::Request;
 use crate::watch::{CLIENTS, Wait};
 use std::fmt;
 use std::ops::{Range, RangeBounds};
@@ -99,7 +99,7 @@ impl Monitor {
 
     fn page(&self, search: Search) -> Result<Page, LocksError> {
         let (reply, answer) = sync_channel(1);
-        self.events.send(Event::Locks(search, reply)).map_err(|_| LocksError::Ended)?;
+        self.requests.ask(Request::Locks(search, reply)).map_err(|_| LocksError::Ended)?;
         answer.recv().map_err(|_| LocksError::Ended)
     }
 }

@@ -1,11 +1,11 @@
 //! What a server lets other threads see of it while it runs.
 use crate::change::Snapshot;
-use crate::connections::Event;
+use crate::requests::{Request, Requests};
 use crate::status::Status;
 use crate::store::StoreError;
 use crate::timings::{Measured, Timings};
 use std::fmt;
-use std::sync::mpsc::{SyncSender, sync_channel};
+use std::sync::mpsc::sync_channel;
 use std::sync::{Arc, Mutex, PoisonError};
 use std::time::Duration;
 
@@ -14,7 +14,7 @@ use std::time::Duration;
 pub struct Monitor {
     pub(crate) status: Arc<Mutex<Status>>,
     pub(crate) timings: Arc<Timings>,
-    pub(crate) events: SyncSender<Event>,
+    pub(crate) requests: Requests,
 }
 
 /// Why a server gave no snapshot.
@@ -56,7 +56,7 @@ impl Monitor {
     /// `Ended` if the server has ended; `Store` if its store can't read what it keeps.
     pub fn snapshot(&self) -> Result<Snapshot, SnapshotError> {
         let (reply, answer) = sync_channel(1);
-        self.events.send(Event::Snapshot(reply)).map_err(|_| SnapshotError::Ended)?;
+        self.requests.ask(Request::Snapshot(reply)).map_err(|_| SnapshotError::Ended)?;
         answer.recv().map_err(|_| SnapshotError::Ended)?.map_err(SnapshotError::Store)
     }
 }

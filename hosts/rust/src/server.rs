@@ -1,11 +1,12 @@
 //! A server over a network and a store.
 use crate::change::Change;
 use crate::code::Code;
+use crate::connections::Connections;
 use crate::event_log::EventLog;
 use crate::event_loop::EventLoop;
 use crate::handle::ServerHandle;
-use crate::listening::Listening;
 use crate::monitor::Monitor;
+use crate::requests::{Request, Requests};
 use crate::server_builder::ServerBuilder;
 use crate::status::Status;
 use crate::store::{Store, StoreError};
@@ -17,9 +18,10 @@ use std::io;
 use std::sync::{Arc, Mutex, PoisonError};
 use std::thread::{self, JoinHandle};
 
-/// A server that runs in threads of its own. It ends when it is dropped.
+/// A server that runs in a thread of its own. It ends when it is dropped.
 pub struct Server {
-    listening: Listening,
+    address: Address,
+    requests: Requests,
     status: Arc<Mutex<Status>>,
     timings: Arc<Timings>,
     thread: Option<JoinHandle<Result<(), ServeError>>>,
@@ -53,7 +55,7 @@ impl Server {
         Server::start(listener, store)?.wait()
     }
 
-    /// Starts a server in threads of its own. When this returns, the new epoch is kept and
+    /// Starts a server in a thread of its own. When this returns, the new epoch is kept and
     /// connections are taken.
     ///
     /// # Errors
@@ -85,23 +87,25 @@ impl Server {
         // The epoch is kept before anything is sent.
         store.commit(&[Change::Started { epoch }])?;
         let history = store.history()?;
-        let (listening, waiting) = Listening::start(listener, max_connections)?;
+        let address = listener.address()?;
+        let (connections, waker) = Connections::new(listener, max_connections)?;
+        let (requests, asked) = Requests::new(waker);
         let status = Arc::new(Mutex::new(Status { epoch, ..Status::default() }));
         let shown = Arc::clone(&status);
         let timings = Arc::new(Timings::new());
         let (rows, records) = (snapshot.rows.len(), &snapshot.records);
-        let log = EventLog::started(epoch, listening.address(), rows, records);
-        let events =
-            EventLoop::new(server, (store, history), waiting, Arc::clone(&timings), epoch, log);
+        let log = EventLog::started(epoch, &address, rows, records);
+        let (stored, heard) = ((store, history), (connections, asked));
+        let events = EventLoop::new(server, stored, heard, Arc::clone(&timings), epoch, log);
         let thread = thread::Builder::new().name("krl-server".into());
         let thread = thread.spawn(move || events.run_to_the_end(&shown))?;
-        Ok(Server { listening, status, timings, thread: Some(thread) })
+        Ok(Server { address, requests, status, timings, thread: Some(thread) })
     }
 
     /// Where it listens.
     #[must_use]
     pub fn address(&self) -> &Address {
-        self.listening.address()
+        &self.address
     }
 
     /// What it looks like now, or a few milliseconds ago. Who waits for whom is as of 50
@@ -117,7 +121,7 @@ impl Server {
         Monitor {
             status: Arc::clone(&self.status),
             timings: Arc::clone(&self.timings),
-            events: self.listening.events(),
+            requests: self.requests.clone(),
         }
     }
 
@@ -152,16 +156,19 @@ impl Server {
     ///
     /// Those of [`Server::serve`], if it had failed before.
     pub fn stop(mut self) -> Result<(), ServeError> {
-        self.listening.stop();
+        self.ask_to_stop();
         self.join()
     }
 
-    /// Waits until the server has ended, and gives its address free.
+    fn ask_to_stop(&self) {
+        // One that does not hear it has ended already.
+        let _ = self.requests.ask(Request::Stop);
+    }
+
+    /// Waits until the server has ended, and its address is free.
     fn join(&mut self) -> Result<(), ServeError> {
         let Some(thread) = self.thread.take() else { return Ok(()) };
-        let ended = thread.join().unwrap_or(Err(ServeError::Panicked));
-        self.listening.end();
-        ended
+        thread.join().unwrap_or(Err(ServeError::Panicked))
     }
 }
 
@@ -174,7 +181,7 @@ impl fmt::Debug for Server {
 impl Drop for Server {
     fn drop(&mut self) {
         if self.thread.is_some() {
-            self.listening.stop();
+            self.ask_to_stop();
             let _ = self.join();
         }
     }

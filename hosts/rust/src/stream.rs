@@ -2,6 +2,7 @@
 use std::fmt;
 use std::io::{self, ErrorKind, Read, Write};
 use std::net::{Shutdown, SocketAddr, TcpListener, TcpStream, ToSocketAddrs};
+use std::os::fd::{AsRawFd, RawFd};
 use std::os::unix::fs::FileTypeExt;
 use std::os::unix::net::{UnixListener, UnixStream};
 use std::path::{Path, PathBuf};
@@ -134,11 +135,11 @@ impl Listener {
         }
     }
 
-    /// `accept` waits from now on, whatever the socket was told before.
-    pub(crate) fn wait_in_accept(&self) -> io::Result<()> {
+    /// `accept` does not wait from now on, whatever the socket was told before.
+    pub(crate) fn never_wait(&self) -> io::Result<()> {
         match self {
-            Listener::Tcp(listener) => listener.set_nonblocking(false),
-            Listener::Unix(listener) => listener.set_nonblocking(false),
+            Listener::Tcp(listener) => listener.set_nonblocking(true),
+            Listener::Unix(listener) => listener.set_nonblocking(true),
         }
     }
 
@@ -146,6 +147,15 @@ impl Listener {
         match self {
             Listener::Tcp(listener) => Stream::of_tcp(listener.accept()?.0),
             Listener::Unix(listener) => Ok(Stream::Unix(listener.accept()?.0)),
+        }
+    }
+}
+
+impl AsRawFd for Listener {
+    fn as_raw_fd(&self) -> RawFd {
+        match self {
+            Listener::Tcp(listener) => listener.as_raw_fd(),
+            Listener::Unix(listener) => listener.as_raw_fd(),
         }
     }
 }
@@ -215,6 +225,14 @@ impl Stream {
         }
     }
 
+    /// Whether a read or a write waits until it can do something.
+    pub fn set_waiting(&self, waits: bool) -> io::Result<()> {
+        match self {
+            Stream::Tcp(stream) => stream.set_nonblocking(!waits),
+            Stream::Unix(stream) => stream.set_nonblocking(!waits),
+        }
+    }
+
     pub fn set_timeouts(&self, read: Duration, write: Duration) -> io::Result<()> {
         match self {
             Stream::Tcp(stream) => {
@@ -244,6 +262,15 @@ impl Stream {
             Stream::Tcp(stream) => stream.shutdown(Shutdown::Both),
             Stream::Unix(stream) => stream.shutdown(Shutdown::Both),
         };
+    }
+}
+
+impl AsRawFd for Stream {
+    fn as_raw_fd(&self) -> RawFd {
+        match self {
+            Stream::Tcp(stream) => stream.as_raw_fd(),
+            Stream::Unix(stream) => stream.as_raw_fd(),
+        }
     }
 }
 

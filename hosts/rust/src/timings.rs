@@ -114,10 +114,11 @@ impl Timings {
         self.commit_changes.add(changes as u64);
     }
 
-    /// The loop has ended a turn, which began then.
-    pub fn turned(&self, began: Instant) {
-        self.turns.add_time(began.elapsed());
-        let at = u64::try_from(self.began.elapsed().as_millis()).unwrap_or(u64::MAX);
+    /// The loop has made a turn, from then to then.
+    pub fn turned(&self, began: Instant, ended: Instant) {
+        self.turns.add_time(ended.saturating_duration_since(began));
+        let at = ended.saturating_duration_since(self.began).as_millis();
+        let at = u64::try_from(at).unwrap_or(u64::MAX);
         self.last_turn.store(at, Ordering::Relaxed);
     }
 
@@ -273,7 +274,7 @@ mod tests {
         let timings = Timings::new();
         std::thread::sleep(20 * MS);
         assert!(timings.since_last_turn() >= 20 * MS);
-        timings.turned(Instant::now());
+        timings.turned(Instant::now(), Instant::now());
         assert!(timings.since_last_turn() < 20 * MS);
         timings.committed(3, Instant::now());
         let measured = timings.read();

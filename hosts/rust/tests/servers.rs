@@ -1,8 +1,8 @@
 //! Servers that are full, and servers that fail.
-use krl::{Change, Client, History, JoinError, Listener, Mark, MemoryStore, Refusal, Refused};
-use krl::{ServeError, Server};
-use krl::{Snapshot, Store, StoreError, Value};
-use std::net::TcpListener;
+use krl::{Address, Change, Client, History, JoinError, Listener, Mark, MemoryStore, Refusal};
+use krl::{Refused, ServeError, Server, Snapshot, Store, StoreError, Value};
+use std::io::{Read, Write};
+use std::net::{TcpListener, TcpStream};
 use std::path::PathBuf;
 use std::thread;
 use std::time::{Duration, Instant};
@@ -159,4 +159,53 @@ fn a_server_behind_another_one_ends_and_raises_no_alarm() {
     assert!(matches!(ended, ServeError::Store(StoreError::Deposed(_))), "{ended:?}");
     drop(client);
     std::fs::remove_file(lock).unwrap();
+}
+
+/// A connection that the server has taken.
+fn connect(server: &Server) -> TcpStream {
+    let Address::Tcp(at) = *server.address() else { panic!("it listens elsewhere") };
+    let stream = TcpStream::connect(at).unwrap();
+    assert!(wait_until(|| server.status().connections == 1));
+    stream
+}
+
+#[test]
+fn a_server_sleeps_while_nothing_comes() {
+    let server = Server::start(listener(), MemoryStore::default()).unwrap();
+    let mut stream = connect(&server);
+    // Half a frame waits, and the other half does not come.
+    stream.write_all(&[18, 0, 0]).unwrap();
+    let turns = || server.monitor().measured().turns.count;
+    let before = turns();
+    thread::sleep(Duration::from_secs(1));
+    let turned = turns() - before;
+    assert!((5..=30).contains(&turned), "{turned} turns in a second");
+}
+
+#[test]
+fn a_server_that_stops_answers_what_has_come() {
+    const HELLO: [u8; 26] =
+        [18, 0, 0, 0, 0, 0, 0, 0, 1, 0, 50, 0, 0, 0, 0, 0, 0, 0, 1, 0, 0, 0, 0, 0, 0, 0];
+    for _ in 0..20 {
+        let server = Server::start(listener(), MemoryStore::default()).unwrap();
+        let mut stream = connect(&server);
+        stream.write_all(&HELLO).unwrap();
+        server.stop().unwrap();
+        let mut answer = Vec::new();
+        stream.read_to_end(&mut answer).unwrap();
+        assert!(!answer.is_empty());
+    }
+}
+
+#[test]
+fn who_asks_an_idle_server_is_answered_at_once() {
+    let server = Server::start(listener(), MemoryStore::default()).unwrap();
+    let monitor = server.monitor();
+    let begun = Instant::now();
+    for _ in 0..20 {
+        assert_eq!(monitor.snapshot().unwrap().rows.len(), 0);
+    }
+    assert!(begun.elapsed() < Duration::from_millis(500), "{:?}", begun.elapsed());
+    server.stop().unwrap();
+    assert!(monitor.snapshot().is_err());
 }

@@ -70,8 +70,7 @@ impl<S: Scanned> World<S> {
     pub fn settle(&mut self) {
         loop {
             self.hear_clients();
-            self.frames.clear();
-            self.server.take(&mut self.frames).unwrap();
+            self.hear_server();
             if self.frames.is_empty() {
                 return;
             }
@@ -94,6 +93,12 @@ impl<S: Scanned> World<S> {
         }
     }
 
+    /// What the server says.
+    fn hear_server(&mut self) {
+        let length = self.server.take(&mut self.frames).unwrap();
+        self.frames.truncate(length);
+    }
+
     /// The other client takes the last row. The scanned one has given it up when this is done.
     pub fn take_last(&mut self) {
         self.ask_for_last();
@@ -108,8 +113,7 @@ impl<S: Scanned> World<S> {
     pub fn call_back(&mut self) -> Vec<u8> {
         self.ask_for_last();
         self.hear_clients();
-        self.frames.clear();
-        self.server.take(&mut self.frames).unwrap();
+        self.hear_server();
         let (callback, _) = split(&self.frames).next().expect("a callback");
         assert_eq!(client_of(callback), Some(0));
         callback.to_vec()

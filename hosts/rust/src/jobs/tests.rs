@@ -41,9 +41,17 @@ impl World {
         }
     }
 
+    /// What the server says.
+    fn said_by_server(&mut self) -> Vec<Vec<u8>> {
+        messages(|frames| {
+            let length = self.server.take(frames).unwrap();
+            frames.truncate(length);
+        })
+    }
+
     /// Hands over what the server says.
     fn tell_clients(&mut self) -> usize {
-        let said = messages(|frames| self.server.take(frames).unwrap());
+        let said = self.said_by_server();
         for message in &said {
             let client = usize::from(client_of(message).unwrap());
             self.clients[client].hear(message).unwrap();
@@ -218,7 +226,7 @@ fn a_client_that_drops_all_answers_says_and_hears_nothing_until_it_begins_anew()
     let (read, write) = (world.clients[0].read(0..50), world.clients[0].write(Write::Delete(10)));
     let said = world.said(0);
     world.tell_server(&said);
-    let late = messages(|frames| world.server.take(frames).unwrap());
+    let late = world.said_by_server();
     assert!(!late.is_empty());
     world.clients[0].drop_all();
     assert_eq!(read.answer.try_recv(), Ok(Err(Refused::StoreWentBack)));

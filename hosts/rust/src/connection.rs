@@ -1,0 +1,263 @@
+//! One connection of a server: what has come on it, what its peer is told, and what waits to be
+//! written.
+use crate::event_log::Seldom;
+use crate::frames::{Frames, GULP, LONGEST_TO_SERVER};
+use crate::history::Mark;
+use crate::host_frame::FromServer;
+use crate::outgoing::Outgoing;
+use crate::poller::{Readiness, Watched};
+use crate::refusal::Refusal;
+use crate::stream::Stream;
+use std::io::{self, ErrorKind, Read};
+use std::time::{Duration, Instant};
+
+/// A connection on which nothing comes for so long is closed: clients tick more often.
+const SILENCE: Duration = Duration::from_secs(30);
+
+/// How often a connection that ends is read, so that what is unread does not take the last answer
+/// with it.
+const LAST_READS: usize = 16;
+
+/// What the host of a peer that takes host frames has been told.
+#[derive(Debug, Default)]
+struct Host {
+    refusals: [Seldom; Refusal::REASONS],
+    /// The answer to its Hello, which leaves before all else.
+    answer: Vec<u8>,
+    /// How far the store had come, as it was told last.
+    mark: Option<Mark>,
+}
+
+/// What becomes of the frames that leave together.
+#[derive(Clone, Copy, Debug, PartialEq, Eq)]
+enum Batch {
+    NotBegun,
+    Begun,
+    /// The peer takes too little: the batch is lost.
+    Lost,
+}
+
+/// What a socket has that was not read.
+#[derive(Clone, Copy, Debug, PartialEq, Eq)]
+enum Unread {
+    Nothing,
+    Something,
+    /// The last that there is, and then the end.
+    Last,
+}
+
+/// What a look at a connection found.
+#[derive(Clone, Copy, Debug, PartialEq, Eq)]
+pub(crate) enum Looked {
+    /// A frame has come whole.
+    Frame,
+    /// No frame has come whole yet.
+    NoFrame,
+    /// It has ended, or says what no client says.
+    Ended,
+}
+
+/// A connection that is open. Nothing that is done with it waits.
+#[derive(Debug)]
+pub(crate) struct Connection {
+    stream: Stream,
+    incoming: Frames,
+    unread: Unread,
+    heard: Instant,
+    outgoing: Outgoing,
+    batch: Batch,
+    /// What leaves with the next batch, before what the server says.
+    told: Vec<u8>,
+    /// None if the peer has not said that it takes host frames.
+    host: Option<Host>,
+    /// Nothing more is heard of it, and what waits is the last that is written.
+    is_ended: bool,
+}
+
+impl Connection {
+    pub fn new(stream: Stream, now: Instant) -> io::Result<Connection> {
+        stream.set_waiting(false)?;
+        Ok(Connection {
+            stream,
+            incoming: Frames::new(LONGEST_TO_SERVER),
+            unread: Unread::Nothing,
+            heard: now,
+            outgoing: Outgoing::default(),
+            batch: Batch::NotBegun,
+            told: Vec::new(),
+            host: None,
+            is_ended: false,
+        })
+    }
+
+    pub fn stream(&self) -> &Stream {
+        &self.stream
+    }
+
+    /// The system has told that something came.
+    pub fn is_readable(&mut self, readiness: Readiness) {
+        if readiness.is_last {
+            self.unread = Unread::Last;
+        } else if self.unread == Unread::Nothing {
+            self.unread = Unread::Something;
+        }
+    }
+
+    /// Whether a look may find something.
+    pub fn is_ready(&self) -> bool {
+        !self.is_ended && (self.unread != Unread::Nothing || !self.incoming.needs_more())
+    }
+
+    /// Sees whether a frame has come whole, and reads once if none has.
+    pub fn look(&mut self, now: Instant) -> Looked {
+        if self.incoming.needs_more() && self.unread != Unread::Nothing && self.read(now).is_err() {
+            return Looked::Ended;
+        }
+        match (self.incoming.is_broken(), self.incoming.needs_more()) {
+            (true, _) => Looked::Ended,
+            (false, true) => Looked::NoFrame,
+            (false, false) => Looked::Frame,
+        }
+    }
+
+    /// Bytes in: all that comes passes here, and so would a cipher's layer.
+    fn read(&mut self, now: Instant) -> io::Result<()> {
+        match self.incoming.fill(&mut self.stream) {
+            Ok(0) => return Err(ErrorKind::UnexpectedEof.into()),
+            Ok(count) => {
+                self.heard = now;
+                // A socket that gives less than it could has no more. The end is no byte: who was
+                // told of it reads until it comes.
+                if count < GULP && self.unread == Unread::Something {
+                    self.unread = Unread::Nothing;
+                }
+            }
+            Err(error) if error.kind() == ErrorKind::Interrupted => {}
+            Err(error) if error.kind() == ErrorKind::WouldBlock => self.unread = Unread::Nothing,
+            Err(error) => return Err(error),
+        }
+        Ok(())
+    }
+
+    /// Bytes out: all that leaves passes here, and so would a cipher's layer. It writes what the
+    /// peer takes at once.
+    pub fn write(&mut self, now: Instant) -> io::Result<()> {
+        self.outgoing.write(&mut self.stream, now)
+    }
+
+    /// What came and is not taken. It goes back by `put_back`: so its frames are judged where they
+    /// lie.
+    pub fn take_incoming(&mut self) -> Frames {
+        std::mem::take(&mut self.incoming)
+    }
+
+    pub fn put_back(&mut self, incoming: Frames) {
+        self.incoming = incoming;
+    }
+
+    /// What it has to be watched for. A socket that takes all is not watched for writes: it would
+    /// be told each time that the peer reads.
+    pub fn watched(&self) -> Watched {
+        match (self.outgoing.is_empty(), self.is_ended) {
+            (true, _) => Watched::Reads,
+            (false, false) => Watched::Both,
+            (false, true) => Watched::Writes,
+        }
+    }
+
+    /// How many bytes wait to be written.
+    #[cfg(test)]
+    pub fn waits(&self) -> usize {
+        self.outgoing.waits()
+    }
+
+    /// Hears nothing more of it. It is over when all is written that leaves with the next batch.
+    pub fn end(&mut self) {
+        self.is_ended = true;
+    }
+
+    pub fn is_over(&self) -> bool {
+        self.is_ended && self.outgoing.is_empty()
+    }
+
+    /// Why the connection is closed now, if its peer is silent or takes nothing for too long.
+    pub fn is_dead(&self, now: Instant) -> bool {
+        self.outgoing.is_stuck(now) || now.saturating_duration_since(self.heard) >= SILENCE
+    }
+
+    /// The peer's host takes host frames, and its Hello is answered so, before all else.
+    pub fn greet(&mut self, answer: FromServer) {
+        self.host.get_or_insert_default().answer = answer.frame();
+    }
+
+    /// Tells the peer's host why its client is not served: each reason once a second at most, and
+    /// none to a host that takes no host frames.
+    pub fn refuse(&mut self, refusal: Refusal, now: Instant) {
+        let Some(host) = &mut self.host else { return };
+        if host.refusals[refusal.reason()].lets(now).is_some() {
+            self.told.extend_from_slice(&FromServer::Refused(refusal).frame());
+        }
+    }
+
+    /// Puts a frame into the next batch, before what the server says.
+    pub fn tell(&mut self, frame: &[u8]) {
+        self.told.extend_from_slice(frame);
+    }
+
+    /// Puts a frame of the server into the batch. So far has the store come.
+    pub fn say(&mut self, frame: &[u8], mark: Option<Mark>) {
+        self.begin_batch(mark);
+        if self.batch == Batch::Begun {
+            self.outgoing.put(frame);
+        }
+    }
+
+    /// Ends the batch, which has what was told even if nothing was said.
+    pub fn end_batch(&mut self, mark: Option<Mark>) {
+        self.begin_batch(mark);
+        self.batch = Batch::NotBegun;
+    }
+
+    /// Begins a batch, unless so much waits already that the peer seems stuck: then it is lost. To a
+    /// host it says before all else how far the store has come, if that is news. A connection that
+    /// ends serves no client, and is told nothing of the store.
+    fn begin_batch(&mut self, mark: Option<Mark>) {
+        if self.batch != Batch::NotBegun {
+            return;
+        }
+        let is_lost = self.outgoing.is_full();
+        self.batch = if is_lost { Batch::Lost } else { Batch::Begun };
+        if let Some(host) = &mut self.host {
+            let answer = std::mem::take(&mut host.answer);
+            let news = mark.filter(|_| host.mark != mark && !self.is_ended);
+            if !is_lost {
+                self.outgoing.put(&answer);
+                self.outgoing
+                    .put(&news.map(|now| FromServer::Mark(now).frame()).unwrap_or_default());
+                host.mark = mark;
+            }
+        }
+        if !is_lost {
+            self.outgoing.put(&self.told);
+        }
+        self.told.clear();
+    }
+
+    /// Reads what the peer has said beside all that was heard: a stream that is closed with bytes
+    /// unread may take the last answer with it.
+    fn read_the_rest(&mut self) {
+        let mut rest = [0; GULP];
+        let mut reads = (0..LAST_READS).map(|_| self.stream.read(&mut rest));
+        while let Some(Ok(1..)) = reads.next() {}
+    }
+}
+
+impl Drop for Connection {
+    fn drop(&mut self) {
+        self.read_the_rest();
+        self.stream.shut();
+    }
+}
+
+#[cfg(test)]
+mod tests;

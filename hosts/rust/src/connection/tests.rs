@@ -1,0 +1,133 @@
+use super::*;
+use std::io::Write;
+use std::os::unix::net::UnixStream;
+use std::sync::mpsc::channel;
+use std::thread;
+
+const MARK: Mark = Mark { start: 7, commits: 3 };
+
+fn connection() -> (Connection, UnixStream) {
+    let (ours, theirs) = UnixStream::pair().unwrap();
+    theirs.set_nonblocking(true).unwrap();
+    (Connection::new(Stream::Unix(ours), Instant::now()).unwrap(), theirs)
+}
+
+fn send(connection: &mut Connection, frame: &[u8], mark: Option<Mark>) {
+    connection.say(frame, mark);
+    connection.end_batch(mark);
+    connection.write(Instant::now()).unwrap();
+}
+
+/// All that the peer hears until nothing waits.
+fn heard(connection: &mut Connection, peer: &mut UnixStream) -> Vec<u8> {
+    let (mut bytes, mut all) = (vec![0; 1 << 16], Vec::new());
+    loop {
+        while let Ok(count @ 1..) = peer.read(&mut bytes) {
+            all.extend_from_slice(&bytes[..count]);
+        }
+        if connection.watched() == Watched::Reads {
+            return all;
+        }
+        connection.write(Instant::now()).unwrap();
+    }
+}
+
+#[test]
+fn a_host_hears_of_itself_then_of_the_store_and_then_all_else() {
+    let (mut connection, mut peer) = connection();
+    connection.tell(b"told");
+    connection.greet(FromServer::Hello);
+    send(&mut connection, b"said", Some(MARK));
+    let hello = FromServer::Hello.frame();
+    let news = FromServer::Mark(MARK).frame();
+    assert_eq!(heard(&mut connection, &mut peer), [&hello[..], &news, b"told", b"said"].concat());
+    // What it knows is not told again.
+    send(&mut connection, b"said", Some(MARK));
+    assert_eq!(heard(&mut connection, &mut peer), b"said");
+}
+
+#[test]
+fn a_peer_without_host_frames_hears_none() {
+    let (mut connection, mut peer) = connection();
+    connection.refuse(Refusal::Version { read: 1 }, Instant::now());
+    send(&mut connection, b"said", Some(MARK));
+    assert_eq!(heard(&mut connection, &mut peer), b"said");
+}
+
+#[test]
+fn a_host_whose_store_went_back_hears_that_and_no_mark() {
+    let (mut connection, mut peer) = connection();
+    connection.greet(FromServer::WentBack);
+    connection.end();
+    send(&mut connection, &[], Some(MARK));
+    assert_eq!(heard(&mut connection, &mut peer), FromServer::WentBack.frame());
+    assert!(connection.is_over());
+}
+
+#[test]
+fn a_batch_that_is_lost_is_lost_whole() {
+    let (mut connection, mut peer) = connection();
+    connection.greet(FromServer::Hello);
+    while !connection.outgoing.is_full() {
+        send(&mut connection, &[0; 1 << 12], None);
+    }
+    connection.tell(b"lost");
+    send(&mut connection, b"lost", Some(MARK));
+    let before = heard(&mut connection, &mut peer);
+    assert!(!before.ends_with(b"lost"));
+    send(&mut connection, b"said", Some(MARK));
+    let news = FromServer::Mark(MARK).frame();
+    assert_eq!(heard(&mut connection, &mut peer), [&news[..], b"said"].concat());
+}
+
+#[test]
+fn a_refusal_is_told_once_a_second() {
+    let (mut connection, mut peer) = connection();
+    let (refusal, start) = (Refusal::Version { read: 1 }, Instant::now());
+    connection.greet(FromServer::Hello);
+    for after in [0, 0, 500] {
+        connection.refuse(refusal, start + Duration::from_millis(after));
+    }
+    send(&mut connection, &[], None);
+    let once = [FromServer::Hello.frame(), FromServer::Refused(refusal).frame()].concat();
+    assert_eq!(heard(&mut connection, &mut peer), once);
+}
+
+/// Whether a call ends, however busy the machine is.
+fn ends(call: impl FnOnce() + Send + 'static) -> bool {
+    let (told, ended) = channel();
+    thread::spawn(move || {
+        call();
+        told.send(())
+    });
+    ended.recv_timeout(Duration::from_secs(30)).is_ok()
+}
+
+#[test]
+fn nothing_that_is_done_with_a_connection_waits_for_its_peer() {
+    let (mut connection, peer) = connection();
+    let all = Readiness { reads: true, is_last: false, writes: true };
+    assert!(ends(move || {
+        connection.is_readable(all);
+        assert_eq!(connection.look(Instant::now()), Looked::NoFrame);
+        send(&mut connection, &vec![7; 1 << 24], None);
+        assert_ne!(connection.waits(), 0);
+    }));
+    drop(peer);
+}
+
+#[test]
+fn a_short_read_is_the_last_unless_the_end_was_told() {
+    let told = |is_last| Readiness { reads: true, is_last, writes: false };
+    let (mut connection, mut peer) = connection();
+    peer.write_all(&[3, 0]).unwrap();
+    connection.is_readable(told(false));
+    assert_eq!(connection.look(Instant::now()), Looked::NoFrame);
+    assert!(!connection.is_ready());
+    peer.write_all(&[0]).unwrap();
+    drop(peer);
+    connection.is_readable(told(true));
+    assert_eq!(connection.look(Instant::now()), Looked::NoFrame);
+    assert!(connection.is_ready());
+    assert_eq!(connection.look(Instant::now()), Looked::Ended);
+}

@@ -1,0 +1,302 @@
+use super::*;
+use std::io::{Read, Write};
+use std::net::{SocketAddr, TcpListener, TcpStream};
+use std::sync::mpsc::channel;
+use std::thread;
+
+const SOON: Duration = Duration::from_secs(10);
+
+/// Longer than a peer may be silent.
+const LONG: Duration = Duration::from_secs(31);
+
+/// Longer than a peer may take nothing.
+const STALL: Duration = Duration::from_secs(6);
+
+fn connections() -> (Connections, SocketAddr, Arc<Waker>) {
+    let listener = TcpListener::bind("127.0.0.1:0").unwrap();
+    let at = listener.local_addr().unwrap();
+    let (connections, waker) = Connections::new(listener.into(), MAX_CONNECTIONS).unwrap();
+    (connections, at, waker)
+}
+
+/// One more peer, and the number of its connection.
+fn peer(connections: &mut Connections, at: SocketAddr) -> (TcpStream, u64) {
+    let stream = TcpStream::connect(at).unwrap();
+    stream.set_read_timeout(Some(SOON)).unwrap();
+    let number = connections.next;
+    while connections.next == number {
+        connections.wait(SOON).unwrap();
+    }
+    (stream, number)
+}
+
+fn frame(message: &[u8]) -> Vec<u8> {
+    [&(message.len() as u64).to_le_bytes()[..], message].concat()
+}
+
+/// The next frame that is heard, if one comes within a moment.
+fn hear(connections: &mut Connections) -> Option<(u64, Vec<u8>)> {
+    let end = Instant::now() + Duration::from_millis(300);
+    while Instant::now() < end {
+        match connections.turn() {
+            Turn::Nobody => drop(connections.wait(Duration::from_millis(20)).unwrap()),
+            Turn::Nothing => {}
+            Turn::Frame(number, mut incoming) => {
+                let heard = incoming.next().unwrap().unwrap().to_vec();
+                connections.put_back(number, incoming);
+                return Some((number, heard));
+            }
+        }
+    }
+    None
+}
+
+/// Sends a batch of one frame to client 3.
+fn say(connections: &mut Connections, frame: &[u8]) {
+    let mut sending = connections.send(None);
+    sending.put(3, frame);
+    sending.end();
+}
+
+fn unwritten(connections: &Connections, number: u64) -> bool {
+    connections.open[&number].connection.watched() != Watched::Reads
+}
+
+/// Says so much to client 3 that its peer, which reads nothing, takes no more.
+fn stuff(connections: &mut Connections, number: u64) {
+    let bytes = frame(&vec![7; 1 << 20]);
+    connections.route(3, number);
+    while !unwritten(connections, number) {
+        say(connections, &bytes);
+    }
+}
+
+#[test]
+fn a_frame_that_comes_in_pieces_is_heard_when_it_is_whole() {
+    let (mut connections, at, _) = connections();
+    let (mut stream, number) = peer(&mut connections, at);
+    let bytes = frame(b"in pieces");
+    let (last, first) = bytes.split_last().unwrap();
+    for byte in first {
+        stream.write_all(&[*byte]).unwrap();
+        connections.wait(SOON).unwrap();
+        assert!(matches!(connections.turn(), Turn::Nothing));
+    }
+    stream.write_all(&[*last]).unwrap();
+    assert_eq!(hear(&mut connections), Some((number, b"in pieces".to_vec())));
+    assert_eq!(hear(&mut connections), None);
+}
+
+#[test]
+fn a_frame_longer_than_a_read_is_heard() {
+    let (mut connections, at, _) = connections();
+    let (mut stream, number) = peer(&mut connections, at);
+    let long: Vec<u8> = (0..1 << 20).map(|place: u32| place.to_le_bytes()[1]).collect();
+    let bytes = [frame(&long), frame(b"short")].concat();
+    let writing = thread::spawn(move || stream.write_all(&bytes).map(|()| stream));
+    let heard = std::iter::repeat_with(|| hear(&mut connections)).flatten().next();
+    assert!(heard == Some((number, long)));
+    assert_eq!(hear(&mut connections), Some((number, b"short".to_vec())));
+    writing.join().unwrap().unwrap();
+}
+
+#[test]
+fn what_a_peer_said_before_it_went_is_heard() {
+    let (mut connections, at, _) = connections();
+    let (mut stream, number) = peer(&mut connections, at);
+    stream.write_all(&[frame(b"one"), frame(b"two"), vec![5, 0]].concat()).unwrap();
+    drop(stream);
+    assert_eq!(hear(&mut connections), Some((number, b"one".to_vec())));
+    assert_eq!(hear(&mut connections), Some((number, b"two".to_vec())));
+    assert_eq!((hear(&mut connections), connections.count()), (None, 0));
+}
+
+#[test]
+fn a_peer_that_goes_after_it_was_read_is_closed() {
+    let (mut connections, at, _) = connections();
+    let (mut stream, number) = peer(&mut connections, at);
+    connections.route(3, number);
+    stream.write_all(&frame(b"one")[..5]).unwrap();
+    assert_eq!((hear(&mut connections), connections.count()), (None, 1));
+    drop(stream);
+    assert_eq!((hear(&mut connections), connections.count()), (None, 0));
+    assert_eq!(connections.clients(), []);
+}
+
+#[test]
+fn a_length_that_no_message_has_ends_its_connection() {
+    let (mut connections, at, _) = connections();
+    let (mut stream, number) = peer(&mut connections, at);
+    stream.write_all(&[frame(b"one"), u64::MAX.to_le_bytes().to_vec()].concat()).unwrap();
+    assert_eq!(hear(&mut connections), Some((number, b"one".to_vec())));
+    assert_eq!((hear(&mut connections), connections.count()), (None, 0));
+    assert_eq!(stream.read(&mut [0]).unwrap_or(0), 0);
+}
+
+#[test]
+fn a_flood_takes_no_turn_of_another_connection() {
+    let (mut connections, at, _) = connections();
+    let (mut floods, flooding) = peer(&mut connections, at);
+    let (mut stream, number) = peer(&mut connections, at);
+    floods.write_all(&frame(b"flood").repeat(2000)).unwrap();
+    assert_eq!(hear(&mut connections).unwrap().0, flooding);
+    stream.write_all(&frame(b"one")).unwrap();
+    connections.wait(SOON).unwrap();
+    while !connections.open[&number].is_in_ready {
+        connections.wait(SOON).unwrap();
+    }
+    let heard: Vec<u64> = (0..3).map(|_| hear(&mut connections).unwrap().0).collect();
+    assert!(heard.contains(&number), "{heard:?}");
+    let rest = std::iter::from_fn(|| hear(&mut connections));
+    assert_eq!(rest.filter(|(from, _)| *from == flooding).count(), 1997);
+}
+
+#[test]
+fn a_peer_that_takes_nothing_stops_nobody_and_costs_a_bounded_room() {
+    const LARGE: usize = 1 << 20;
+    let (mut connections, at, _) = connections();
+    let (_stuck, number) = peer(&mut connections, at);
+    stuff(&mut connections, number);
+    for _ in 0..100 {
+        say(&mut connections, &frame(&vec![7; LARGE]));
+    }
+    let waits = connections.open[&number].connection.waits();
+    assert!(waits < 4 * LARGE, "{waits} bytes wait");
+    // The other one hears what is said to it.
+    let (mut stream, other) = peer(&mut connections, at);
+    connections.route(4, other);
+    let mut sending = connections.send(None);
+    sending.put(4, &frame(b"one"));
+    sending.end();
+    let mut heard = [0; 11];
+    stream.read_exact(&mut heard).unwrap();
+    assert_eq!(heard[..], frame(b"one"));
+    // The loop sleeps meanwhile.
+    let begun = Instant::now();
+    connections.wait(Duration::from_millis(200)).unwrap();
+    assert!(begun.elapsed() >= Duration::from_millis(200));
+    // After its time it is closed, and the other one is not.
+    connections.now = Instant::now() + STALL;
+    connections.close_dead();
+    assert_eq!((connections.count(), connections.open.contains_key(&other)), (1, true));
+}
+
+#[test]
+fn a_peer_that_was_stuck_gets_what_waited_when_it_reads() {
+    let (mut connections, at, _) = connections();
+    let (mut stream, number) = peer(&mut connections, at);
+    stuff(&mut connections, number);
+    let reads = thread::spawn(move || {
+        let mut bytes = Vec::new();
+        stream.read_to_end(&mut bytes).map(|_| bytes.len())
+    });
+    while unwritten(&connections, number) {
+        connections.wait(SOON).unwrap();
+    }
+    connections.end(number);
+    connections.send(None).end();
+    assert_eq!(connections.count(), 0);
+    assert_eq!(reads.join().unwrap().unwrap() % (8 + (1 << 20)), 0);
+}
+
+#[test]
+fn a_silent_peer_is_closed_in_its_time() {
+    let (mut connections, at, _) = connections();
+    let (_silent, _) = peer(&mut connections, at);
+    connections.now = Instant::now() + LONG / 2;
+    connections.close_dead();
+    assert_eq!(connections.count(), 1);
+    connections.now = Instant::now() + LONG;
+    connections.close_dead();
+    assert_eq!(connections.count(), 0);
+}
+
+#[test]
+fn a_connection_that_ends_gets_its_last_frames_and_is_heard_no_more() {
+    let (mut connections, at, _) = connections();
+    let (mut stream, number) = peer(&mut connections, at);
+    stream.write_all(&frame(b"one").repeat(3)).unwrap();
+    assert!(hear(&mut connections).is_some());
+    connections.tell(number, &frame(b"last"));
+    connections.end(number);
+    assert_eq!(hear(&mut connections), None);
+    connections.send(None).end();
+    let mut bytes = Vec::new();
+    stream.read_to_end(&mut bytes).unwrap();
+    assert_eq!((bytes, connections.count()), (frame(b"last"), 0));
+}
+
+#[test]
+fn what_is_told_leaves_with_the_next_batch_and_not_before() {
+    let (mut connections, at, _) = connections();
+    let (mut stream, number) = peer(&mut connections, at);
+    connections.tell(number, &frame(b"told"));
+    connections.greet(number, FromServer::Hello);
+    connections.refuse(number, Refusal::Version { read: 1 });
+    stream.write_all(&frame(b"one")).unwrap();
+    assert!(hear(&mut connections).is_some());
+    stream.set_nonblocking(true).unwrap();
+    assert!(stream.peek(&mut [0]).is_err());
+    connections.send(None).end();
+    stream.set_nonblocking(false).unwrap();
+    let hello = FromServer::Hello.frame();
+    let mut heard = vec![0; hello.len()];
+    stream.read_exact(&mut heard).unwrap();
+    assert_eq!(heard, hello);
+}
+
+#[test]
+fn another_thread_wakes_the_wait() {
+    let (mut connections, _, waker) = connections();
+    let (told, woken) = channel();
+    let waits = thread::spawn(move || {
+        let begun = Instant::now();
+        while woken.try_recv().is_err() {
+            connections.wait(SOON).unwrap();
+        }
+        begun.elapsed()
+    });
+    thread::sleep(Duration::from_millis(50));
+    told.send(()).unwrap();
+    waker.wake().unwrap();
+    assert!(waits.join().unwrap() < SOON / 2);
+}
+
+#[test]
+fn a_wait_sleeps_while_nothing_comes() {
+    let (mut connections, at, _) = connections();
+    let (mut stream, _) = peer(&mut connections, at);
+    stream.write_all(&frame(b"one")[..9]).unwrap();
+    assert_eq!(hear(&mut connections), None);
+    let begun = Instant::now();
+    for _ in 0..4 {
+        connections.wait(Duration::from_millis(50)).unwrap();
+    }
+    assert!(begun.elapsed() >= Duration::from_millis(200));
+}
+
+#[test]
+fn what_was_sent_is_written_before_the_end() {
+    const LENGTH: usize = 1 << 24;
+    let (mut connections, at, _) = connections();
+    let (mut stream, number) = peer(&mut connections, at);
+    connections.route(3, number);
+    say(&mut connections, &vec![7; LENGTH]);
+    let reads = thread::spawn(move || {
+        thread::sleep(Duration::from_millis(100));
+        let mut bytes = Vec::new();
+        stream.read_to_end(&mut bytes).map(|_| bytes.len())
+    });
+    connections.finish(Instant::now() + 2 * SOON);
+    assert_eq!(reads.join().unwrap().unwrap(), LENGTH);
+}
+
+#[test]
+fn a_peer_that_takes_nothing_holds_no_end_beyond_its_time() {
+    let (mut connections, at, _) = connections();
+    let (_stuck, number) = peer(&mut connections, at);
+    stuff(&mut connections, number);
+    let begun = Instant::now();
+    connections.finish(begun + Duration::from_millis(200));
+    assert!(begun.elapsed() < SOON / 2);
+}

@@ -1,0 +1,160 @@
+//! What waits to be written to a connection.
+use crate::frames::LONGEST_TO_CLIENT;
+use std::io::{self, ErrorKind, Write};
+use std::time::{Duration, Instant};
+
+/// So much may wait before a batch more is lost: 256 of the longest messages.
+const MAX_WAITING: usize = 256 * LONGEST_TO_CLIENT;
+
+/// A peer that takes nothing for so long loses its connection.
+const STALL: Duration = Duration::from_secs(5);
+
+/// So much room is kept for the next batch when all is written.
+const KEPT: usize = 1 << 14;
+
+/// The bytes that a connection has not taken yet.
+#[derive(Debug, Default)]
+pub(crate) struct Outgoing {
+    bytes: Vec<u8>,
+    written: usize,
+    /// Since when the peer takes nothing of it.
+    stalled: Option<Instant>,
+}
+
+impl Outgoing {
+    /// Puts the bytes behind those that wait.
+    pub fn put(&mut self, bytes: &[u8]) {
+        self.bytes.extend_from_slice(bytes);
+    }
+
+    /// How many bytes wait.
+    pub fn waits(&self) -> usize {
+        self.bytes.len() - self.written
+    }
+
+    pub fn is_empty(&self) -> bool {
+        self.waits() == 0
+    }
+
+    /// Whether so much waits that the peer seems stuck: then a batch more is lost.
+    pub fn is_full(&self) -> bool {
+        self.waits() >= MAX_WAITING
+    }
+
+    /// Whether the peer takes nothing for so long that it loses its connection.
+    pub fn is_stuck(&self, now: Instant) -> bool {
+        self.stalled.is_some_and(|since| now.saturating_duration_since(since) >= STALL)
+    }
+
+    /// Writes what the stream takes at once.
+    pub fn write(&mut self, stream: &mut impl Write, now: Instant) -> io::Result<()> {
+        while !self.is_empty() {
+            match stream.write(&self.bytes[self.written..]) {
+                Ok(0) => return Err(ErrorKind::WriteZero.into()),
+                Ok(count) => {
+                    self.written += count;
+                    self.stalled = None;
+                }
+                Err(error) if error.kind() == ErrorKind::Interrupted => {}
+                Err(error) if error.kind() == ErrorKind::WouldBlock => {
+                    self.stalled.get_or_insert(now);
+                    self.forget_written();
+                    return Ok(());
+                }
+                Err(error) => return Err(error),
+            }
+        }
+        self.bytes.clear();
+        self.bytes.shrink_to(KEPT);
+        self.written = 0;
+        Ok(())
+    }
+
+    /// Gives back the room of what is written, if that is most of it.
+    fn forget_written(&mut self) {
+        if self.written > self.bytes.len() / 2 {
+            self.bytes.drain(..self.written);
+            self.written = 0;
+        }
+    }
+}
+
+#[cfg(test)]
+mod tests {
+    use super::*;
+
+    /// Takes so many bytes at once, and then none until it is asked again.
+    struct Narrow {
+        takes: usize,
+        took: Vec<u8>,
+        is_blocked: bool,
+    }
+
+    impl Write for Narrow {
+        fn write(&mut self, bytes: &[u8]) -> io::Result<usize> {
+            self.is_blocked = !self.is_blocked;
+            if !self.is_blocked || self.takes == 0 {
+                return Err(ErrorKind::WouldBlock.into());
+            }
+            let count = bytes.len().min(self.takes);
+            self.took.extend_from_slice(&bytes[..count]);
+            Ok(count)
+        }
+
+        fn flush(&mut self) -> io::Result<()> {
+            Ok(())
+        }
+    }
+
+    fn narrow(takes: usize) -> Narrow {
+        Narrow { takes, took: Vec::new(), is_blocked: false }
+    }
+
+    #[test]
+    fn what_a_stream_takes_in_pieces_is_written_in_order() {
+        let bytes: Vec<u8> = (0..=255).collect();
+        for takes in [1, 7, 128, 200] {
+            let (mut outgoing, mut stream) = (Outgoing::default(), narrow(takes));
+            outgoing.put(&bytes[..100]);
+            outgoing.write(&mut stream, Instant::now()).unwrap();
+            outgoing.put(&bytes[100..]);
+            while !outgoing.is_empty() {
+                outgoing.write(&mut stream, Instant::now()).unwrap();
+            }
+            assert_eq!(stream.took, bytes);
+        }
+    }
+
+    #[test]
+    fn a_peer_is_stuck_that_takes_nothing_for_its_time() {
+        let (mut outgoing, start) = (Outgoing::default(), Instant::now());
+        outgoing.put(b"some bytes");
+        outgoing.write(&mut narrow(0), start).unwrap();
+        outgoing.write(&mut narrow(0), start + STALL / 2).unwrap();
+        assert!(!outgoing.is_stuck(start + STALL / 2));
+        assert!(outgoing.is_stuck(start + STALL));
+        // Each byte that it takes gives it the whole time again.
+        outgoing.write(&mut narrow(1), start + STALL).unwrap();
+        assert!(!outgoing.is_stuck(start + STALL));
+        assert!(outgoing.is_stuck(start + 2 * STALL));
+    }
+
+    #[test]
+    fn what_waits_has_a_bound() {
+        let mut outgoing = Outgoing::default();
+        outgoing.put(&vec![0; MAX_WAITING - 1]);
+        assert!(!outgoing.is_full());
+        outgoing.put(&[0]);
+        assert!(outgoing.is_full());
+        outgoing.write(&mut narrow(1), Instant::now()).unwrap();
+        assert!(!outgoing.is_full());
+    }
+
+    #[test]
+    fn a_stream_that_fails_says_so() {
+        let mut outgoing = Outgoing::default();
+        outgoing.put(b"some bytes");
+        let ended = outgoing.write(&mut &mut [0u8; 0][..], Instant::now());
+        assert_eq!(ended.unwrap_err().kind(), ErrorKind::WriteZero);
+    }
+}
