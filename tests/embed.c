@@ -5,6 +5,7 @@
  * A call that is refused for want of memory is made again, and must then be done; what is lost is said again by a tick. In
  * the end the client must have read and written what it has without a refusal. The status is 0 where it has, 1 where it
  * has not, and 2 where fewer than N allocations were made.
+ * What the calls on leases answer is compared too: they take no memory.
  */
 #include "krl.h"
 #include <stdio.h>
@@ -88,11 +89,82 @@ static void keep_waiting(krl_handle *other, krl_handle *server) {
     want(krl_server_held(server, 64).code == KRL_BAD_CLIENT, "a number that is no client's");
 }
 
+/* A client's lease of 1,000, and of 2,000 later. */
+static void lease_runs_from_the_sign(void) {
+    krl_lease lease = krl_lease_new();
+    want(lease.end == KRL_FOR_EVER && lease.length == 0 && lease.stamp == 0, "a lease without terms");
+    krl_lease_take_terms(&lease, 100, 1000, 900);
+    want(lease.end == 1100 && lease.length == 1000 && lease.stamp == 100, "terms that were on their way for long");
+    want(krl_lease_holds(&lease, 1099) && !krl_lease_holds(&lease, 1100), "the end of a lease");
+    krl_lease_take_terms(&lease, 100, 2000, 900);
+    want(lease.end == 1100, "terms that answer no later sign");
+    krl_lease_take_terms(&lease, 1000, 2000, 1100);
+    want(lease.end == 1100, "terms that come too late");
+    krl_lease_take_terms(&lease, 1000, 2000, 1099);
+    want(lease.end == 3000 && lease.length == 2000 && lease.stamp == 1000, "terms that renew");
+}
+
+/* The server's side of such a lease, with a drift of 25 in a hundred. */
+static void evicts_behind_the_lease(void) {
+    const krl_terms terms = {1000, 25}, endless = {KRL_FOR_EVER, 25};
+    uint64_t until = krl_until_register(&terms, 7000);
+    want(until == 8250, "a client that registers");
+    want(!krl_until_has_come(until, 8249) && krl_until_has_come(until, 8250), "when it may be evicted");
+    want(krl_until_sign(until, &terms, 0, 7100) == 8350 && krl_until_sign(9000, &terms, 0, 7100) == 9000, "a sign");
+    want(krl_until_sign(until, &terms, 2000, 7100) == 9600, "a sign of a longer lease");
+    want(krl_until_register(&endless, 7000) == KRL_FOR_EVER, "no leases");
+    want(!krl_until_has_come(KRL_FOR_EVER, KRL_FOR_EVER), "what never comes");
+    want(krl_until_sign(KRL_FOR_EVER, &terms, 1000, 7100) == 8350, "who answered for ever, and no more");
+}
+
+static bool hears(uint64_t until, uint64_t incarnation, uint64_t over, uint32_t is_vouched) {
+    const krl_take_over asks = {5, incarnation, over, is_vouched};
+    return krl_until_hears(until, &asks, 7000);
+}
+
+/* Incarnation 5 is registered, and it is 7,000. */
+static void hears_a_greater_incarnation(void) {
+    want(hears(8000, 5, 0, 0) && hears(8000, 4, 0, 0), "no greater one");
+    want(!hears(8000, 6, 0, 0) && !hears(8000, 6, 0, 1) && hears(7000, 6, 0, 0), "a greater one");
+    want(hears(8000, 6, 5, 0) && !hears(8000, 7, 6, 0), "who has the lock file of the registered one");
+    want(!hears(KRL_FOR_EVER, 6, 0, 0) && hears(KRL_FOR_EVER, 6, 0, 2), "an operator's word");
+}
+
+static bool keeps(krl_kept_lease kept, uint64_t longest, uint32_t is_unleased) {
+    return kept.longest == longest && kept.is_unleased == is_unleased;
+}
+
+/* What servers keep that run one after another. */
+static void outlives_a_server(void) {
+    const krl_terms terms = {1000, 25}, endless = {KRL_FOR_EVER, 0};
+    const krl_kept_lease none = {0, 0}, longer = {3000, 0}, unleased = {0, 2};
+    want(keeps(krl_kept_start(&none, &terms), 1000, 0) && keeps(krl_kept_start(&longer, &terms), 3000, 0), "a start");
+    want(keeps(krl_kept_start(&longer, &endless), 3000, 1), "a start without leases");
+    want(keeps(krl_kept_register(&unleased, &terms), 0, 0) && keeps(krl_kept_register(&longer, &endless), 3000, 1),
+         "what is kept of a client that registers");
+    want(krl_kept_old_end(&longer, &terms, 7000) == 10750, "the end of older leases");
+    want(krl_kept_until(&longer, &terms, 7000) == 10750 && krl_kept_until(&unleased, &terms, 7000) == KRL_FOR_EVER,
+         "a client of an older server");
+    want(keeps(krl_kept_revise(&longer, &terms, 10750, 0, 10749), 3000, 0), "while older leases run");
+    want(keeps(krl_kept_revise(&longer, &terms, 10750, 0, 10750), 1000, 0), "once they have ended");
+    want(keeps(krl_kept_revise(&unleased, &terms, 0, KRL_FOR_EVER, 1), 1000, 1), "who may answer for ever");
+    want(keeps(krl_kept_revise(&unleased, &terms, 0, 8350, 1), 1000, 0), "who answers for ever no more");
+}
+
+static void give_leases(void) {
+    lease_runs_from_the_sign();
+    evicts_behind_the_lease();
+    hears_a_greater_incarnation();
+    outlives_a_server();
+}
+
 int main(int count, char **words) {
     krl_handle server = {0}, client = {0}, other = {0};
     krl_row entries[] = {{10, 2, {1, 2}}, {20, 0, {0}}, {30, 1, {7}}}, rows[4];
     krl_reply reply;
     refused = count > 1 ? atol(words[1]) : 0;
+    give_leases();
+    want(seen == 0, "leases take memory");
     AGAIN(reply, krl_server_open(&server, 0, entries, 3, NULL, 0));
     want(reply.detail == 1, "the epoch");
     AGAIN(reply, krl_client_open(&client, 3, 1));

@@ -37,6 +37,17 @@ static void client_status(void) { krl_client_status(&client); }
 static void server_nudge(void) { krl_server_nudge(&server, 0); }
 static void server_held(void) { krl_server_held(&server, 0); }
 static void server_next_held(void) { krl_server_next_held(&server, 0, 0); }
+static void leases(void) {
+    const krl_terms terms = {1000, 25};
+    const krl_take_over asks = {1, 2, 0, 0};
+    krl_kept_lease kept = {0, 0};
+    krl_lease lease = krl_lease_new();
+    krl_lease_take_terms(&lease, 1, 1000, 1);
+    uint64_t until = krl_until_sign(krl_until_register(&terms, 1), &terms, lease.length, 2);
+    krl_until_hears(until, &asks, 3);
+    kept = krl_kept_register(&kept, &terms);
+    krl_kept_revise(&kept, &terms, krl_kept_old_end(&kept, &terms, 1), krl_kept_until(&kept, &terms, 1), 3);
+}
 static void client_leave(void) { krl_client_leave(&client); }
 static void client_close(void) { krl_close(&client); }
 static void server_close(void) { krl_close(&server); }
@@ -94,7 +105,7 @@ int main(void) {
     void (*const calls[])(void) = {server_open, client_open, client_lock, client_scan, client_put, client_delete,
                                    client_tick, server_nudge, server_held, server_next_held, client_status,
                                    reader_scan, reader_status,
-                                   client_forget, client_leave, client_close, server_close};
+                                   leases, client_forget, client_leave, client_close, server_close};
     for (size_t i = 0; i < sizeof calls / sizeof calls[0]; i++) {
         measure(calls[i]);
         settle();

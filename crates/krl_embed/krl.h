@@ -175,6 +175,66 @@ krl_reply krl_take(krl_handle *handle, uint8_t *bytes, size_t room);
  * handle nothing happens. */
 void krl_close(krl_handle *handle);
 
+/* Leases.
+ *
+ * How long a client may answer from its cache, and from when on its server may evict it. A lease lets a server evict a
+ * client that is dead or cut off, without anybody's word for it: an evicted incarnation answers nothing any more,
+ * whatever was lost or delayed, and however long anything stood still. `docs/EMBEDDING.md` says what the two hosts
+ * have to do for that, and what they need of their clocks.
+ *
+ * These calls need no handle, take no memory, read no clock and cannot fail. `now` is what the host's clock shows: a
+ * client's calls are given the client's clock, and a server's calls the server's. Two clocks may show anything beside
+ * each other.
+ */
+
+/* The lease of an incarnation that has no terms yet. It says no Hello before it has taken terms, so it holds
+ * nothing. */
+krl_lease krl_lease_new(void);
+
+/* Takes a server's terms: a lease of `length`, in answer to the sign that the client said at `stamp`. The lease runs
+ * from that moment, however long the terms were on their way. Nothing changes if the lease has ended at `now`, or if
+ * `stamp` is not later than that of the terms taken before. Terms of an earlier connection must not be handed in. */
+void krl_lease_take_terms(krl_lease *lease, uint64_t stamp, uint64_t length, uint64_t now);
+
+/* Whether rows that were read from the cache may be handed over. `now` has to be read behind the rows. */
+bool krl_lease_holds(const krl_lease *lease, uint64_t now);
+
+/* Until when a client may answer, by the server's clock. The server evicts it only at that moment or later. It is
+ * KRL_FOR_EVER if that may never be. */
+
+/* That of a client which registers. */
+uint64_t krl_until_register(const krl_terms *terms, uint64_t now);
+
+/* That of a client whose sign has come, where `until` is the client's before. The sign says that the client lives by
+ * a lease of the length `said`. `now` has to be read behind the sign, and the result has to stand before the server
+ * answers by its terms. */
+uint64_t krl_until_sign(uint64_t until, const krl_terms *terms, uint64_t said, uint64_t now);
+
+/* Whether the moment has come: the server may evict the client. */
+bool krl_until_has_come(uint64_t until, uint64_t now);
+
+/* Whether the Hello of another incarnation may be handed to the server, where `until` is that of the registered one:
+ * it is no greater one; or the registered one is known to be over; or its moment has come; or it may answer for ever,
+ * and an operator vouches that it is over. A host drops the Hello otherwise, and hears it when it is said again. */
+bool krl_until_hears(uint64_t until, const krl_take_over *asks, uint64_t now);
+
+/* What a server has to store before it says anything, where `kept` was stored before. */
+krl_kept_lease krl_kept_start(const krl_kept_lease *kept, const krl_terms *terms);
+
+/* What it has to store before it answers a client that registers. */
+krl_kept_lease krl_kept_register(const krl_kept_lease *kept, const krl_terms *terms);
+
+/* From when on no lease of an older server runs any more, apart from those that do not end. `now` is read after the
+ * start. */
+uint64_t krl_kept_old_end(const krl_kept_lease *kept, const krl_terms *terms, uint64_t now);
+
+/* Until when a client may answer that is registered as a server starts. `now` is read after the start. */
+uint64_t krl_kept_until(const krl_kept_lease *kept, const krl_terms *terms, uint64_t now);
+
+/* What may be stored from now on, where `old_end` is what `krl_kept_old_end` answered and `until` the client's. */
+krl_kept_lease krl_kept_revise(const krl_kept_lease *kept, const krl_terms *terms, uint64_t old_end, uint64_t until,
+                               uint64_t now);
+
 /* Without a handle: read a message to the server or to a client and write its spelling, which is the same bytes
  * again. The detail is their count. Refused by KRL_BAD_MESSAGE, KRL_TOO_SHORT, KRL_OUT_OF_MEMORY. For tests of a
  * host. */

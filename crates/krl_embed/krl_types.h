@@ -21,6 +21,9 @@
 /* The most bytes of a value. */
 #define KRL_MOST_BYTES 32
 
+/* The moment that never comes, and the length of a lease that does not end. */
+#define KRL_FOR_EVER UINT64_MAX
+
 /* Where a message's client stands in its bytes, and its incarnation: eight bytes each, the lowest first. In a
  * message to the server that is the sender, in a message to a client the one that is spoken to. */
 #define KRL_CLIENT_AT 2
@@ -334,5 +337,48 @@ typedef struct krl_held_slot {
     /* 1 where it holds something. */
     uint32_t holds;
 } krl_held_slot;
+
+/* Leases. Moments and lengths are in nanoseconds. */
+
+/* The lease of one incarnation of a client, by the client's clock. */
+typedef struct krl_lease {
+    /* From this moment on the client answers nothing from its cache. KRL_FOR_EVER: the lease does not end. */
+    uint64_t end;
+    /* What the last terms granted, which each sign says: 0 before the first terms. */
+    uint64_t length;
+    /* The sign that the last terms answered: the moment at which it was said. */
+    uint64_t stamp;
+} krl_lease;
+
+/* What a server grants. */
+typedef struct krl_terms {
+    /* The length of each lease: KRL_FOR_EVER if the server has no leases. */
+    uint64_t length;
+    /* How much further the server's clock may go than a client's meanwhile, in a hundred. */
+    uint32_t drift;
+} krl_terms;
+
+/* What a server keeps of one client's lease, for the servers after it. */
+typedef struct krl_kept_lease {
+    /* No lease that ends and may still run is longer. */
+    uint64_t longest;
+    /* 0 if each lease that the client may have ends. Any other number: it may have one that does not end. The library
+     * answers 0 or 1. */
+    uint32_t is_unleased;
+} krl_kept_lease;
+
+/* A Hello of another incarnation than the registered one. */
+typedef struct krl_take_over {
+    /* The incarnation that is registered and has not left. */
+    uint64_t registered;
+    /* The one that says Hello. */
+    uint64_t incarnation;
+    /* The incarnation of which its host knows that it answers no more, since no process of it is left. 0 if it knows
+     * of none. */
+    uint64_t over;
+    /* 0 if nobody vouches for anything. Any other number: an operator vouches that the registered incarnation answers
+     * no more. */
+    uint32_t is_vouched;
+} krl_take_over;
 
 #endif

@@ -12,3 +12,4 @@ pub mod Shown
 pub mod Kept
 pub mod Respelling
 pub mod Waits
+pub mod Leases

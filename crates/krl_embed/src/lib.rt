@@ -13,6 +13,7 @@ mod exports;
 mod frames;
 mod handle;
 mod laws;
+mod leases;
 mod lent;
 mod opening;
 mod owned;
