@@ -106,6 +106,37 @@ pub struct RawHeldSlot {
     pub holds: u32,
 }
 
+#[repr(C)]
+#[derive(Clone, Copy, Debug, PartialEq, Eq)]
+pub struct Lease {
+    pub end: u64,
+    pub length: u64,
+    pub stamp: u64,
+}
+
+#[repr(C)]
+#[derive(Clone, Copy, Debug, PartialEq, Eq)]
+pub struct Terms {
+    pub length: u64,
+    pub drift: u32,
+}
+
+#[repr(C)]
+#[derive(Clone, Copy, Debug, PartialEq, Eq)]
+pub struct KeptLease {
+    pub longest: u64,
+    pub is_unleased: u32,
+}
+
+#[repr(C)]
+#[derive(Clone, Copy, Debug)]
+pub struct TakeOver {
+    pub registered: u64,
+    pub incarnation: u64,
+    pub over: u64,
+    pub is_vouched: u32,
+}
+
 unsafe extern "C" {
     pub fn krl_client_open(handle: *mut Handle, number: u64, incarnation: u64) -> Reply;
     pub fn krl_client_step(handle: *mut Handle, bytes: *const u8, length: usize) -> Reply;
@@ -157,6 +188,25 @@ unsafe extern "C" {
     pub fn krl_server_held(handle: *mut Handle, client: u64) -> Reply;
     pub fn krl_server_next_held(handle: *mut Handle, client: u64, from: u64) -> RawHeldSlot;
 
+    pub safe fn krl_lease_new() -> Lease;
+    pub safe fn krl_lease_take_terms(lease: &mut Lease, stamp: u64, length: u64, now: u64);
+    pub safe fn krl_lease_holds(lease: &Lease, now: u64) -> bool;
+    pub safe fn krl_until_register(terms: &Terms, now: u64) -> u64;
+    pub safe fn krl_until_sign(until: u64, terms: &Terms, said: u64, now: u64) -> u64;
+    pub safe fn krl_until_has_come(until: u64, now: u64) -> bool;
+    pub safe fn krl_until_hears(until: u64, asks: &TakeOver, now: u64) -> bool;
+    pub safe fn krl_kept_start(kept: &KeptLease, terms: &Terms) -> KeptLease;
+    pub safe fn krl_kept_register(kept: &KeptLease, terms: &Terms) -> KeptLease;
+    pub safe fn krl_kept_old_end(kept: &KeptLease, terms: &Terms, now: u64) -> u64;
+    pub safe fn krl_kept_until(kept: &KeptLease, terms: &Terms, now: u64) -> u64;
+    pub safe fn krl_kept_revise(
+        kept: &KeptLease,
+        terms: &Terms,
+        old_end: u64,
+        until: u64,
+        now: u64,
+    ) -> KeptLease;
+
     pub fn krl_take(handle: *mut Handle, bytes: *mut u8, room: usize) -> Reply;
     pub fn krl_close(handle: *mut Handle);
 }
@@ -195,5 +245,11 @@ mod tests {
         assert_eq!([size_of::<RawHeldSlot>(), offset_of!(RawHeldSlot, lo)], [40, 16]);
         assert_eq!([offset_of!(RawHeldSlot, hi), offset_of!(RawHeldSlot, mode)], [24, 32]);
         assert_eq!(offset_of!(RawHeldSlot, holds), 36);
+        assert_eq!([size_of::<Lease>(), offset_of!(Lease, end)], [24, 0]);
+        assert_eq!([offset_of!(Lease, length), offset_of!(Lease, stamp)], [8, 16]);
+        assert_eq!([size_of::<Terms>(), offset_of!(Terms, drift)], [16, 8]);
+        assert_eq!([size_of::<KeptLease>(), offset_of!(KeptLease, is_unleased)], [16, 8]);
+        assert_eq!([size_of::<TakeOver>(), offset_of!(TakeOver, over)], [32, 16]);
+        assert_eq!([offset_of!(TakeOver, incarnation), offset_of!(TakeOver, is_vouched)], [8, 24]);
     }
 }

@@ -18,6 +18,8 @@
 //! # Ok::<(), Box<dyn std::error::Error>>(())
 //! ```
 mod backoff;
+#[cfg_attr(not(test), expect(dead_code, reason = "neither host calls it yet"))]
+mod boot_clock;
 mod builder;
 mod cached;
 mod change;
@@ -38,6 +40,10 @@ mod history;
 mod host_frame;
 mod jobs;
 mod judged;
+#[cfg_attr(not(test), expect(dead_code, reason = "the link does not call it yet"))]
+mod lease;
+#[cfg_attr(not(test), expect(dead_code, reason = "the event loop does not call it yet"))]
+mod leases;
 mod link;
 mod listening;
 mod lock_file;
