@@ -42,6 +42,8 @@ mod jobs;
 mod judged;
 #[cfg_attr(not(test), expect(dead_code, reason = "the link does not call it yet"))]
 mod lease;
+#[cfg_attr(not(test), expect(dead_code, reason = "neither host calls it yet"))]
+mod lease_frame;
 #[cfg_attr(not(test), expect(dead_code, reason = "the event loop does not call it yet"))]
 mod leases;
 mod link;
