@@ -158,6 +158,24 @@ static void give_leases(void) {
     outlives_a_server();
 }
 
+/* Shards need no handle. These begin at 0, 10 and 20. */
+static void cut(void) {
+    const uint64_t bounds[] = {10, 20}, falling[] = {20, 10}, first[] = {0};
+    krl_part parts[3];
+    want(krl_shard_of(bounds, 2, 9).detail == 0 && krl_shard_of(bounds, 2, 10).detail == 1, "the shard of a bound");
+    want(krl_shard_of(bounds, 2, KRL_END).detail == 2 && krl_shard_of(NULL, 0, 7).detail == 0, "the last shard");
+    want(krl_shard_of(falling, 2, KRL_TOP).code == KRL_BAD_SHARDS, "bounds that fall");
+    want(krl_shard_of(first, 1, 7).code == KRL_BAD_SHARDS, "a bound of 0");
+    want(krl_shard_of(bounds, 2, KRL_TOP).code == KRL_BAD_POINT, "a point of no shard");
+    krl_reply reply = krl_parts(bounds, 2, 5, 25, parts, 3);
+    want(reply.code == KRL_DONE && reply.detail == 3, "the parts");
+    want(parts[0].shard == 0 && parts[0].lo == 5 && parts[0].hi == 10, "the first part");
+    want(parts[2].shard == 2 && parts[2].lo == 20 && parts[2].hi == 25, "the last part");
+    reply = krl_parts(bounds, 2, 19, 21, parts, 1);
+    want(reply.code == KRL_TOO_SHORT && reply.detail == 2 && parts[0].lo == 5, "a room for one part");
+    want(krl_parts(bounds, 2, 5, 5, parts, 3).code == KRL_BAD_SPAN, "parts of no span");
+}
+
 int main(int count, char **words) {
     krl_handle server = {0}, client = {0}, other = {0};
     krl_row entries[] = {{10, 2, {1, 2}}, {20, 0, {0}}, {30, 1, {7}}}, rows[4];
@@ -165,6 +183,7 @@ int main(int count, char **words) {
     refused = count > 1 ? atol(words[1]) : 0;
     give_leases();
     want(seen == 0, "leases take memory");
+    cut();
     AGAIN(reply, krl_server_open(&server, 0, entries, 3, NULL, 0));
     want(reply.detail == 1, "the epoch");
     AGAIN(reply, krl_client_open(&client, 3, 1));

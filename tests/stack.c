@@ -7,10 +7,12 @@
 #include <string.h>
 #include <sys/mman.h>
 
-enum { PROMISED = 32000, STACK = 1 << 20, PAINT = 0xA5, ROWS = 100, ROUNDS = 8 };
+enum { PROMISED = 32000, STACK = 1 << 20, PAINT = 0xA5, ROWS = 100, ROUNDS = 8, BOUNDS = 63 };
 
 static krl_handle server, client;
 static krl_row rows[ROWS];
+static uint64_t bounds[BOUNDS];
+static krl_part parts[KRL_SHARDS];
 static uint8_t bytes[1 << 20];
 static const uint8_t *message;
 static size_t length;
@@ -48,6 +50,8 @@ static void leases(void) {
     kept = krl_kept_register(&kept, &terms);
     krl_kept_revise(&kept, &terms, krl_kept_old_end(&kept, &terms, 1), krl_kept_until(&kept, &terms, 1), 3);
 }
+static void shard_of(void) { krl_shard_of(bounds, BOUNDS, KRL_END); }
+static void all_parts(void) { krl_parts(bounds, BOUNDS, 0, KRL_TOP, parts, KRL_SHARDS); }
 static void client_leave(void) { krl_client_leave(&client); }
 static void client_close(void) { krl_close(&client); }
 static void server_close(void) { krl_close(&server); }
@@ -102,10 +106,13 @@ int main(void) {
     for (uint64_t key = 0; key < ROWS; key++) {
         rows[key] = (krl_row){.key = key, .length = 8};
     }
+    for (size_t i = 0; i < BOUNDS; i++) {
+        bounds[i] = i + 1;
+    }
     void (*const calls[])(void) = {server_open, client_open, client_lock, client_scan, client_put, client_delete,
                                    client_tick, server_nudge, server_held, server_next_held, client_status,
-                                   reader_scan, reader_status,
-                                   leases, client_forget, client_leave, client_close, server_close};
+                                    reader_scan, reader_status, leases, shard_of, all_parts,
+                                    client_forget, client_leave, client_close, server_close};
     for (size_t i = 0; i < sizeof calls / sizeof calls[0]; i++) {
         measure(calls[i]);
         settle();

@@ -7,9 +7,9 @@
  * did: a mutex does that, or the start or the end of a thread. Two threads may use two handles at once. No call waits.
  * Many threads may read one client at once: see `krl_reader_of`.
  *
- * No pointer may be null but one to no bytes, rows or records. The rooms that a call writes overlap no other
- * argument. Any other number may be anything: each call tests what it is given and says by its code what was wrong. A
- * call whose code is neither KRL_DONE nor KRL_UNSAID has changed nothing.
+ * No pointer may be null but one to no bytes, rows, records, bounds or parts. The rooms that a call writes overlap no
+ * other argument. Any other number may be anything: each call tests what it is given and says by its code what was
+ * wrong. A call whose code is neither KRL_DONE nor KRL_UNSAID has changed nothing.
  *
  * No call takes more than 32,000 bytes of stack.
  */
@@ -240,6 +240,23 @@ krl_kept_lease krl_kept_revise(const krl_kept_lease *kept, const krl_terms *term
  * host. */
 krl_reply krl_respell_to_server(const uint8_t *bytes, size_t length, uint8_t *spelling, size_t room);
 krl_reply krl_respell_to_client(const uint8_t *bytes, size_t length, uint8_t *spelling, size_t room);
+
+/* Shards.
+ *
+ * The points from 0 to KRL_END, cut into at most KRL_SHARDS shards, each served by a server of its own: shard 0 begins
+ * at 0, and each other one at a bound. The bounds rise, from above 0 up to KRL_END. These calls take no handle and no
+ * memory, and any number of threads make them at once.
+ */
+
+/* The shard that has a point: the detail. No other one has it. Refused, in this order, by KRL_BAD_SHARDS,
+ * KRL_BAD_POINT. */
+krl_reply krl_shard_of(const uint64_t *bounds, size_t bounds_length, uint64_t point);
+
+/* What each shard has of the points from `lo` on below `hi`, in ascending order. Each part lies in its shard, no point
+ * lies in two parts, and together they are exactly these points. The parts go into `parts`, and the detail is their
+ * count: at most KRL_SHARDS. Refused, in this order, by KRL_BAD_SHARDS, KRL_BAD_SPAN, KRL_TOO_SHORT. */
+krl_reply krl_parts(const uint64_t *bounds, size_t bounds_length, uint64_t lo, uint64_t hi, krl_part *parts,
+                    size_t room);
 
 #ifdef __cplusplus
 }

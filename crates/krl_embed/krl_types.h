@@ -24,6 +24,9 @@
 /* The moment that never comes, and the length of a lease that does not end. */
 #define KRL_FOR_EVER UINT64_MAX
 
+/* The most shards: one more than there may be bounds. */
+#define KRL_SHARDS 64
+
 /* Where a message's client stands in its bytes, and its incarnation: eight bytes each, the lowest first. In a
  * message to the server that is the sender, in a message to a client the one that is spoken to. */
 #define KRL_CLIENT_AT 2
@@ -93,7 +96,10 @@ enum krl_code {
     /* The client has eight pins. */
     KRL_TOO_MANY_PINS = 28,
     /* An incarnation of 0, which no server hears. */
-    KRL_BAD_INCARNATION = 29
+    KRL_BAD_INCARNATION = 29,
+    /* Bounds that make no shards: there are more than 63, or one is not above the one before it, or is 0 or above
+     * KRL_END. */
+    KRL_BAD_SHARDS = 30
 };
 
 /* What is wrong with bytes that are no message: the first fault from the left. */
@@ -380,5 +386,13 @@ typedef struct krl_take_over {
      * no more. */
     uint32_t is_vouched;
 } krl_take_over;
+
+/* What one shard has of a span: the points from `lo` on below `hi`. */
+typedef struct krl_part {
+    /* The shard, from 0. */
+    uint64_t shard;
+    uint64_t lo;
+    uint64_t hi;
+} krl_part;
 
 #endif

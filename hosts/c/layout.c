@@ -67,3 +67,6 @@ AT(krl_take_over, registered, 0);
 AT(krl_take_over, incarnation, 8);
 AT(krl_take_over, over, 16);
 AT(krl_take_over, is_vouched, 24);
+SIZE(krl_part, 24);
+AT(krl_part, lo, 8);
+AT(krl_part, hi, 16);

@@ -2,6 +2,7 @@ pub mod Held
 pub mod RecordsKept
 pub mod Framing
 pub mod RowsLemmas
+pub mod PartsLemmas
 pub mod Commanding
 pub mod Acting
 pub mod KeptLemmas

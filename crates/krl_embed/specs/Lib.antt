@@ -13,3 +13,4 @@ pub mod Kept
 pub mod Respelling
 pub mod Waits
 pub mod Leases
+pub mod Shards

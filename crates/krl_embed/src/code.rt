@@ -67,6 +67,8 @@ pub enum Code {
     TooManyPins,
     /// An incarnation of 0, which is nobody's.
     BadIncarnation,
+    /// Bounds that make no shards.
+    BadShards,
 }
 
 impl From<AllocError> for Code {

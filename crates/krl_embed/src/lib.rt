@@ -24,3 +24,4 @@ mod rows;
 mod server_calls;
 mod server_exports;
 mod server_shows;
+mod shards;

@@ -67,4 +67,5 @@ codes! {
     Writing = 27, "a write is not answered yet";
     TooManyPins = 28, "the client has eight pins";
     BadIncarnation = 29, "a client's incarnation is 0";
+    BadShards = 30, "bounds that make no shards";
 }

@@ -137,6 +137,14 @@ pub struct TakeOver {
     pub is_vouched: u32,
 }
 
+#[repr(C)]
+#[derive(Clone, Copy, Debug)]
+pub struct RawPart {
+    pub shard: u64,
+    pub lo: u64,
+    pub hi: u64,
+}
+
 unsafe extern "C" {
     pub fn krl_client_open(handle: *mut Handle, number: u64, incarnation: u64) -> Reply;
     pub fn krl_client_step(handle: *mut Handle, bytes: *const u8, length: usize) -> Reply;
@@ -207,6 +215,16 @@ unsafe extern "C" {
         now: u64,
     ) -> KeptLease;
 
+    pub fn krl_shard_of(bounds: *const u64, bounds_length: usize, point: u64) -> Reply;
+    pub fn krl_parts(
+        bounds: *const u64,
+        bounds_length: usize,
+        lo: u64,
+        hi: u64,
+        parts: *mut RawPart,
+        room: usize,
+    ) -> Reply;
+
     pub fn krl_take(handle: *mut Handle, bytes: *mut u8, room: usize) -> Reply;
     pub fn krl_close(handle: *mut Handle);
 }
@@ -251,5 +269,7 @@ mod tests {
         assert_eq!([size_of::<KeptLease>(), offset_of!(KeptLease, is_unleased)], [16, 8]);
         assert_eq!([size_of::<TakeOver>(), offset_of!(TakeOver, over)], [32, 16]);
         assert_eq!([offset_of!(TakeOver, incarnation), offset_of!(TakeOver, is_vouched)], [8, 24]);
+        assert_eq!([size_of::<RawPart>(), offset_of!(RawPart, lo)], [24, 8]);
+        assert_eq!(offset_of!(RawPart, hi), 16);
     }
 }
