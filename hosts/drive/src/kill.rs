@@ -54,6 +54,12 @@ pub fn run(folder: &Path, rounds: u64, store: &str, net: &str) -> Found {
 
 fn start_server(folder: &Path, at: SocketAddr, store: &str) -> Result<Process, Box<dyn Error>> {
     let server = Process::start(this(&["server", &at.to_string()], folder)?.arg(store))?;
+    wait_for_server(at)?;
+    Ok(server)
+}
+
+/// Waits until a server takes connections.
+pub fn wait_for_server(at: SocketAddr) -> Result<(), Box<dyn Error>> {
     let end = Instant::now() + ENDING;
     while TcpStream::connect(at).is_err() {
         if end < Instant::now() {
@@ -61,7 +67,7 @@ fn start_server(folder: &Path, at: SocketAddr, store: &str) -> Result<Process, B
         }
         thread::sleep(Duration::from_millis(2));
     }
-    Ok(server)
+    Ok(())
 }
 
 impl Drive {

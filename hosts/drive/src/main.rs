@@ -3,6 +3,7 @@
 //! ```text
 //! krl_drive kill FOLDER ROUNDS [sqlite|unsynced] [direct|lossy]   kills servers and clients
 //! krl_drive failover FOLDER ROUNDS SERVER [kill,freeze,wake,node] kills servers that stand by
+//! krl_drive shards FOLDER SECONDS KILLS                           kills servers of two shards
 //! krl_drive strangers                                             connects what is no client
 //! krl_drive reports                                               reports in the worst orders
 //! krl_drive strings COUNT CHANGED                                 hands strings to both decoders
@@ -24,6 +25,7 @@ mod long_reports;
 mod lossy;
 mod nodes;
 mod ports;
+mod shards;
 mod strangers;
 mod strings;
 mod trips;
@@ -70,6 +72,9 @@ fn run(words: &[&str]) -> Found {
         ),
         ["failover", folder, rounds, server, faults] => {
             failover::run(Path::new(folder), rounds.parse()?, Path::new(server), faults)
+        }
+        ["shards", folder, seconds, kills] => {
+            shards::run(Path::new(folder), seconds.parse()?, kills.parse()?)
         }
         ["strangers"] => strangers::run(),
         ["reports"] => long_reports::run(),

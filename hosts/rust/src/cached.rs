@@ -56,7 +56,7 @@ impl Client {
 
 /// Lends the room of this thread. Who asks for it once more meanwhile gets another one, and so does
 /// a thread that ends.
-fn with_room<T>(work: impl FnOnce(&mut Vec<Row>) -> T) -> T {
+pub(crate) fn with_room<T>(work: impl FnOnce(&mut Vec<Row>) -> T) -> T {
     let mut room = ROOM.try_with(Cell::take).unwrap_or_default();
     let done = work(&mut room);
     if room.capacity() <= MAX_KEPT {

@@ -18,7 +18,7 @@ use std::thread::{self, JoinHandle};
 use std::time::{Duration, Instant};
 
 /// How long a client that is dropped waits until its Bye is kept.
-const FAREWELL: Duration = Duration::from_secs(1);
+pub(crate) const FAREWELL: Duration = Duration::from_secs(1);
 
 /// A client waits no longer than this, a year.
 const MAX_TIMEOUT: Duration = Duration::from_secs(365 * 24 * 3600);
@@ -230,7 +230,7 @@ impl Client {
     }
 
     /// Leaves. A thread that hangs at the deadline ends by itself later, and says nothing more.
-    fn end(&mut self, timeout: Duration) -> Result<(), Refused> {
+    pub(crate) fn end(&mut self, timeout: Duration) -> Result<(), Refused> {
         let Some(thread) = self.thread.take() else { return Ok(()) };
         let end = Instant::now() + timeout;
         let left = self.link.ask(end, Jobs::leave);

@@ -2,7 +2,7 @@
 use crate::change::{Outcome, Write};
 use crate::code::Code;
 use crate::ffi;
-use crate::gate::{Owner, Reader};
+use crate::gate::{Owner, Reader, Reading};
 use crate::handle::{Handle, code, done};
 use crate::row::Row;
 use std::mem;
@@ -61,11 +61,35 @@ pub(crate) struct ClientHandle {
 /// What a client knows, for threads that only read it.
 pub(crate) struct Cache(Reader<Handle>);
 
+/// A cache that stays what it is.
+pub(crate) struct HeldCache<'c>(Reading<'c, Handle>);
+
 impl Cache {
     /// Scans the cache into `rows`, in place of what they are. Nothing is sent. It waits for one
     /// call of the client at most, which takes microseconds.
     pub fn scan(&self, keys: &Range<u64>, rows: &mut Vec<Row>) -> Result<Scan, Code> {
         self.0.read(|handle| handle.scan(keys, rows))
+    }
+
+    /// Keeps the cache as it is, as long as the answer lives: the client takes no message and no
+    /// call meanwhile. Who holds several has to take them in the order of their shards.
+    pub fn hold(&self) -> HeldCache<'_> {
+        HeldCache(self.0.enter())
+    }
+}
+
+#[cfg(test)]
+impl Cache {
+    /// Whether a call of the client waits until somebody holds the cache no more.
+    pub fn keeps_a_call_waiting(&self) -> bool {
+        self.0.keeps_a_change_waiting()
+    }
+}
+
+impl HeldCache<'_> {
+    /// Scans the cache, and puts the rows behind those that are there.
+    pub fn scan_behind(&self, keys: &Range<u64>, rows: &mut Vec<Row>) -> Result<Scan, Code> {
+        self.0.scan_behind(keys, rows)
     }
 }
 
@@ -207,6 +231,12 @@ impl ClientHandle {
 /// What a client's handle answers by a reader.
 impl Handle {
     fn scan(&self, keys: &Range<u64>, rows: &mut Vec<Row>) -> Result<Scan, Code> {
+        rows.clear();
+        self.scan_behind(keys, rows)
+    }
+
+    /// The rows come behind those that are there.
+    fn scan_behind(&self, keys: &Range<u64>, rows: &mut Vec<Row>) -> Result<Scan, Code> {
         let mut reply = self.scan_once(keys, rows)?;
         if code(reply) == Code::TooShort {
             rows.try_reserve_exact(count(reply)?).map_err(|_| Code::OutOfMemory)?;
@@ -220,9 +250,8 @@ impl Handle {
         }
     }
 
-    /// Scans into the room that there is.
+    /// Scans into the room that there is behind the rows.
     fn scan_once(&self, keys: &Range<u64>, rows: &mut Vec<Row>) -> Result<ffi::Reply, Code> {
-        rows.clear();
         let room = rows.spare_capacity_mut();
         let (at, length) = (room.as_mut_ptr().cast(), room.len());
         let mut reader = self.reader();
@@ -231,8 +260,10 @@ impl Handle {
         let reply =
             unsafe { ffi::krl_reader_scan(&raw mut reader, keys.start, keys.end, at, length) };
         if code(reply) == Code::Done {
-            // SAFETY: the library has written so many rows, for which there was room.
-            unsafe { rows.set_len(count(reply)?) };
+            let length = rows.len() + count(reply)?;
+            // SAFETY: the library has written so many rows behind the others, for which there was
+            // room.
+            unsafe { rows.set_len(length) };
         }
         Ok(reply)
     }

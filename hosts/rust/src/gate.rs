@@ -4,6 +4,7 @@
 //! whatever the owner does behind a change comes after every read that has not seen it.
 use std::cell::UnsafeCell;
 use std::hint;
+use std::ops::Deref;
 use std::sync::Arc;
 use std::sync::atomic::{AtomicBool, AtomicUsize, Ordering};
 use std::thread;
@@ -42,6 +43,12 @@ pub(crate) struct Owner<T>(Arc<Gate<T>>);
 
 /// One of many who read the value.
 pub(crate) struct Reader<T>(Arc<Gate<T>>);
+
+/// The value, as one who reads it has it. A change waits as long as this lives.
+pub(crate) struct Reading<'g, T> {
+    gate: &'g Gate<T>,
+    _inside: Counted<'g>,
+}
 
 /// A count that is greater by one as long as this lives.
 struct Counted<'g>(&'g AtomicUsize);
@@ -88,10 +95,35 @@ impl<T> Reader<T> {
     ///
     /// `read` must be short, since a change waits for it, and must not come to the same gate.
     pub fn read<R>(&self, read: impl FnOnce(&T) -> R) -> R {
-        let _inside = self.0.enter();
-        // SAFETY: a change that began before has ended, since the gate was open, and one that begins
-        // now waits until `_inside` is dropped.
-        read(unsafe { &*self.0.value.get() })
+        read(&self.enter())
+    }
+
+    /// Goes inside, and stays there as long as the answer lives, which has to be short too. It waits
+    /// as `read` does.
+    ///
+    /// A thread may be inside several gates, if all threads enter these in one order: one that
+    /// waits at a gate keeps the changes of those before it waiting.
+    pub fn enter(&self) -> Reading<'_, T> {
+        Reading { gate: &self.0, _inside: self.0.enter() }
+    }
+}
+
+#[cfg(test)]
+impl<T> Reader<T> {
+    /// Whether a change waits until somebody who is inside has left.
+    pub fn keeps_a_change_waiting(&self) -> bool {
+        let is_shut = self.0.is_shut.0.load(Ordering::SeqCst);
+        is_shut && self.0.inside.iter().any(|inside| inside.0.load(Ordering::SeqCst) > 0)
+    }
+}
+
+impl<T> Deref for Reading<'_, T> {
+    type Target = T;
+
+    fn deref(&self) -> &T {
+        // SAFETY: a change that began before this reader was inside has ended, since the gate was
+        // open, and one that begins now waits until `_inside` is dropped.
+        unsafe { &*self.gate.value.get() }
     }
 }
 

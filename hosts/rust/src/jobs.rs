@@ -369,3 +369,5 @@ impl Jobs {
 
 #[cfg(test)]
 mod tests;
+#[cfg(test)]
+pub(crate) mod world;

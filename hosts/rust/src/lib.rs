@@ -54,6 +54,8 @@ mod message;
 mod metrics;
 mod monitor;
 mod outgoing;
+mod one_moment;
+mod partition;
 mod pins;
 mod poller;
 mod range;
@@ -65,6 +67,11 @@ mod row;
 mod server;
 mod server_builder;
 mod servers;
+mod shard_map;
+mod sharded;
+mod sharded_builder;
+mod sharded_cached;
+mod sharded_refused;
 mod silence;
 #[cfg(feature = "sqlite")]
 mod sqlite;
@@ -89,12 +96,17 @@ pub use history::{History, Mark};
 pub use lock_file::LockFileError;
 pub use locks::{HeldSlot, Locks, LocksError};
 pub use monitor::{Monitor, SnapshotError};
+pub use partition::Part;
 pub use refusal::{ClientSet, Refusal};
 pub use refused::{JoinError, Refused};
 pub use row::{END, MAX_VALUE_BYTES, Row, TooLong, Value};
 pub use server::{ServeError, Server};
 pub use server_builder::ServerBuilder;
 pub use servers::Servers;
+pub use shard_map::{BadShardMap, Shard, ShardMap};
+pub use sharded::{ShardStatus, ShardedClient, ShardedPin};
+pub use sharded_builder::ShardedBuilder;
+pub use sharded_refused::{ShardJoinError, ShardRefused};
 #[cfg(feature = "sqlite")]
 pub use sqlite::SqliteStore;
 #[cfg(feature = "sqlite")]

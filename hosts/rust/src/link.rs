@@ -116,15 +116,26 @@ impl Link {
         end: Instant,
         ask: impl FnOnce(&mut Jobs) -> Asked<T>,
     ) -> Result<T, Refused> {
+        self.finish(self.begin(ask), end)
+    }
+
+    /// Asks for something, and waits for nothing.
+    pub fn begin<T>(&self, ask: impl FnOnce(&mut Jobs) -> Asked<T>) -> Asked<T> {
         let asked = ask(&mut self.jobs());
         self.flush();
-        match asked.answer.recv_timeout(end.saturating_duration_since(Instant::now())) {
-            Ok(answer) => answer,
+        asked
+    }
+
+    /// Waits for the answer until the deadline.
+    pub fn finish<T>(&self, asked: Asked<T>, end: Instant) -> Result<T, Refused> {
+        let Asked { id, answer } = asked;
+        match answer.recv_timeout(end.saturating_duration_since(Instant::now())) {
+            Ok(answered) => answered,
             Err(RecvTimeoutError::Disconnected) => Err(Refused::Stopped),
             Err(RecvTimeoutError::Timeout) => {
-                self.jobs().abandon(asked.id);
+                self.jobs().abandon(id);
                 // It may have come meanwhile.
-                asked.answer.try_recv().unwrap_or_else(|_| Err(self.timed_out()))
+                answer.try_recv().unwrap_or_else(|_| Err(self.timed_out()))
             }
         }
     }
@@ -147,6 +158,11 @@ impl Link {
     /// Why there is no connection just now, if there is none. It is said once.
     pub fn take_fault(&self) -> Option<io::Error> {
         lock(&self.fault).take()
+    }
+
+    /// Whether there is a connection just now.
+    pub fn is_connected(&self) -> bool {
+        lock(&self.fault).is_none()
     }
 
     /// Gives the client's number free: another process may take it.

@@ -175,3 +175,23 @@ fn a_panic_inside_leaves_the_gate_as_it_was() {
     owner.change(Pair::change);
     assert_eq!(reader.read(Pair::read), [2, 2]);
 }
+
+#[test]
+fn a_change_waits_until_who_has_entered_leaves() {
+    let mut owner = Owner::new(0);
+    let reader = owner.reader();
+    let reading = reader.enter();
+    assert!(!reader.keeps_a_change_waiting());
+    thread::scope(|scope| {
+        let change = scope.spawn(|| owner.change(|value| *value = 1));
+        let begun = Instant::now();
+        while !reader.keeps_a_change_waiting() {
+            assert!(begun.elapsed() < LONG);
+            thread::yield_now();
+        }
+        assert!(!change.is_finished() && *reading == 0);
+        drop(reading);
+        change.join().unwrap();
+    });
+    assert_eq!(reader.read(|value| *value), 1);
+}

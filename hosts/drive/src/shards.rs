@@ -1,0 +1,232 @@
+//! Two servers, each with a part of the keys, of which one is killed now and then while clients of
+//! both read and write.
+//!
+//! A writer gives a row of each shard the next number, the left row first. So at each moment the
+//! left number is the right one, or one more; and no scan of both may find anything else.
+use crate::Found;
+use crate::clients::{Process, this};
+use crate::kill::{free_address, wait_for_server};
+use krl::{Outcome, Refused, Row, Shard, ShardMap, ShardRefused, ShardedClient, Value};
+use std::error::Error;
+use std::net::SocketAddr;
+use std::ops::Range;
+use std::path::{Path, PathBuf};
+use std::sync::atomic::{AtomicBool, AtomicU64, Ordering};
+use std::thread;
+use std::time::Duration;
+
+const LEFT: u64 = 10;
+const RIGHT: u64 = 1010;
+const BOUND: u64 = 1000;
+const BOTH: Range<u64> = 0..2000;
+
+const READERS: [u8; 2] = [0, 2];
+const WRITER: u8 = 1;
+
+/// How long a call of a client waits.
+const TIMEOUT: Duration = Duration::from_secs(3);
+
+/// The writer rests between two numbers, so that the caches know both rows now and then.
+const REST: Duration = Duration::from_millis(2);
+
+/// A run that does nothing says nothing.
+const LEAST_WRITES: u64 = 50;
+const LEAST_SCANS: u64 = 1000;
+const LEAST_READS: u64 = 50;
+
+/// A server of a shard, and where its store is.
+struct ShardServer {
+    at: SocketAddr,
+    folder: PathBuf,
+    process: Process,
+}
+
+/// What the threads of a run share.
+#[derive(Default)]
+struct Run {
+    is_over: AtomicBool,
+    /// The greatest number that was begun, and the greatest that is answered at both shards.
+    begun: AtomicU64,
+    answered: AtomicU64,
+    wrong: AtomicU64,
+}
+
+/// How often a reader was answered.
+#[derive(Default)]
+struct Count {
+    cached: u64,
+    read: u64,
+}
+
+/// Says that the run is over, also if it fails.
+struct Over<'r>(&'r Run);
+
+impl Drop for Over<'_> {
+    fn drop(&mut self) {
+        self.0.is_over.store(true, Ordering::SeqCst);
+    }
+}
+
+pub fn run(folder: &Path, seconds: u64, kills: u64) -> Found {
+    let mut servers = [start(&folder.join("left"))?, start(&folder.join("right"))?];
+    let shard = |(first, server): (u64, &ShardServer)| Shard { first, servers: server.at.into() };
+    let map = ShardMap::new([0, BOUND].into_iter().zip(&servers).map(shard).collect())?;
+    let join = |number| {
+        let builder = ShardedClient::builder(map.clone()).number(number);
+        builder.lock_folder(folder).timeout(5 * TIMEOUT).join()
+    };
+    let writer = join(WRITER)?;
+    let readers = [join(READERS[0])?, join(READERS[1])?];
+    for key in [LEFT, RIGHT] {
+        writer.insert(key, Value::from(0))?;
+    }
+    let run = Run::default();
+    let counts = thread::scope(|scope| -> Result<Vec<Count>, Box<dyn Error>> {
+        let over = Over(&run);
+        let mut threads = Vec::new();
+        for client in &readers {
+            client.set_timeout(TIMEOUT);
+            threads.push(scope.spawn(|| Ok(run.scan_again(client))));
+            threads.push(scope.spawn(|| run.read_again(client)));
+        }
+        let writing = scope.spawn(|| run.write_again(&writer));
+        kill_for(&mut servers, seconds, kills)?;
+        drop(over);
+        writing.join().map_err(|_| "the writer panicked")??;
+        let counted = threads.into_iter().map(|thread| thread.join().unwrap_or(Err(refused())));
+        Ok(counted.collect::<Result<_, _>>()?)
+    })?;
+    run.judge(&counts, kills)
+}
+
+/// What a thread that panicked comes to.
+fn refused() -> ShardRefused {
+    Refused::Stopped.into()
+}
+
+fn start(folder: &Path) -> Result<ShardServer, Box<dyn Error>> {
+    std::fs::create_dir_all(folder)?;
+    let at = free_address()?;
+    Ok(ShardServer { at, folder: folder.to_path_buf(), process: start_process(at, folder)? })
+}
+
+fn start_process(at: SocketAddr, folder: &Path) -> Result<Process, Box<dyn Error>> {
+    let process = Process::start(this(&["server", &at.to_string()], folder)?.arg("sqlite"))?;
+    wait_for_server(at)?;
+    Ok(process)
+}
+
+/// Kills a server each time another part of the time has passed, one after the other.
+fn kill_for(servers: &mut [ShardServer], seconds: u64, kills: u64) -> Result<(), Box<dyn Error>> {
+    let part = Duration::from_secs(seconds) / u32::try_from(kills + 1)?;
+    for server in (0..servers.len()).cycle().take(usize::try_from(kills)?) {
+        thread::sleep(part);
+        let ShardServer { at, folder, process } = &mut servers[server];
+        process.kill()?;
+        thread::sleep(Duration::from_millis(100));
+        *process = start_process(*at, folder)?;
+    }
+    thread::sleep(part);
+    Ok(())
+}
+
+impl Run {
+    fn goes_on(&self) -> bool {
+        !self.is_over.load(Ordering::SeqCst)
+    }
+
+    /// Gives both rows the next number, again and again. A write that is not answered is made once
+    /// more.
+    fn write_again(&self, client: &ShardedClient) -> Result<(), ShardRefused> {
+        client.set_timeout(TIMEOUT);
+        let mut number = 0;
+        while self.goes_on() {
+            number += 1;
+            self.begun.store(number, Ordering::SeqCst);
+            for key in [LEFT, RIGHT] {
+                while answered(client.put(key, Value::from(number)))? != Some(Outcome::Applied) {
+                    if !self.goes_on() {
+                        return Ok(());
+                    }
+                }
+            }
+            self.answered.store(number, Ordering::SeqCst);
+            thread::sleep(REST);
+        }
+        Ok(())
+    }
+
+    /// Scans the caches alone, until the run is over.
+    fn scan_again(&self, client: &ShardedClient) -> Count {
+        let (mut count, mut last) = (Count::default(), [0, 0]);
+        while self.goes_on() {
+            let answered = self.answered.load(Ordering::SeqCst);
+            if let Some(rows) = client.cached(BOTH) {
+                count.cached += 1;
+                self.check(&rows, answered, &mut last);
+            } else {
+                thread::yield_now();
+            }
+        }
+        count
+    }
+
+    fn read_again(&self, client: &ShardedClient) -> Result<Count, ShardRefused> {
+        let (mut count, mut last) = (Count::default(), [0, 0]);
+        while self.goes_on() {
+            let before = self.answered.load(Ordering::SeqCst);
+            if let Some(rows) = answered(client.read(BOTH))? {
+                count.read += 1;
+                self.check(&rows, before, &mut last);
+            }
+            thread::sleep(Duration::from_millis(1));
+        }
+        Ok(count)
+    }
+
+    /// The rows have to be of one moment of the call, before which this number was answered and no
+    /// greater one than `begun` was written; and not of an earlier one than the rows before.
+    fn check(&self, rows: &[Row], answered: u64, last: &mut [u64; 2]) {
+        let begun = self.begun.load(Ordering::SeqCst);
+        let found: Vec<_> = rows.iter().map(|row| (row.key, row.value.to_u64())).collect();
+        let is_right = match found[..] {
+            [(LEFT, Some(left)), (RIGHT, Some(right))] => {
+                let is_one_moment = left == right || left == right + 1;
+                let is_of_the_call = answered <= right && left <= begun;
+                let is_later = last[0] <= left && last[1] <= right;
+                *last = [left, right];
+                is_one_moment && is_of_the_call && is_later
+            }
+            _ => false,
+        };
+        if !is_right {
+            eprintln!("WRONG: {found:?} after {answered} was answered, and {begun} begun");
+            self.wrong.fetch_add(1, Ordering::SeqCst);
+        }
+    }
+
+    fn judge(&self, counts: &[Count], kills: u64) -> Found {
+        let cached: u64 = counts.iter().map(|count| count.cached).sum();
+        let read: u64 = counts.iter().map(|count| count.read).sum();
+        let written = self.answered.load(Ordering::SeqCst);
+        let wrong = self.wrong.load(Ordering::SeqCst);
+        println!(
+            "{kills} kills of servers of two shards: {cached} scans of both caches, {read} reads, \
+             {written} pairs of writes; {wrong} wrong"
+        );
+        let did_enough = written >= LEAST_WRITES && cached >= LEAST_SCANS && read >= LEAST_READS;
+        if wrong == 0 && !did_enough {
+            return Err("too little was done to say anything".into());
+        }
+        Ok(wrong == 0)
+    }
+}
+
+/// What was answered, if anything was.
+fn answered<T>(result: Result<T, ShardRefused>) -> Result<Option<T>, ShardRefused> {
+    match result {
+        Ok(found) => Ok(Some(found)),
+        Err(ShardRefused { refused: Refused::TimedOut | Refused::Unserved(_), .. }) => Ok(None),
+        Err(refused) => Err(refused),
+    }
+}

@@ -1,0 +1,99 @@
+//! A server and two clients of the library, whose messages are handed over one by one.
+use super::{Asking, Jobs};
+use crate::change::{Outcome, Snapshot, Write};
+use crate::client_handle::{ClientHandle, Scan};
+use crate::frames::split;
+use crate::handle::ServerHandle;
+use crate::message::client_of;
+use crate::row::{Row, Value};
+use std::ops::Range;
+
+/// A server and two clients of it.
+pub(crate) struct World {
+    pub server: ServerHandle,
+    pub clients: [Jobs; 2],
+}
+
+pub(crate) fn messages(take: impl FnOnce(&mut Vec<u8>)) -> Vec<Vec<u8>> {
+    let mut frames = Vec::new();
+    take(&mut frames);
+    split(&frames).map(|(message, _)| message.to_vec()).collect()
+}
+
+impl World {
+    pub fn new() -> World {
+        let (server, _) = ServerHandle::open(&Snapshot::default()).unwrap();
+        let clients = [0, 1].map(|number| Jobs::new(ClientHandle::open(number, 1).unwrap()));
+        let mut world = World { server, clients };
+        let joined = [0, 1].map(|place: usize| world.clients[place].join());
+        assert!(joined.iter().all(|joined| joined.answer.try_recv().is_err()), "too early");
+        world.settle();
+        assert!(joined.iter().all(|joined| joined.answer.try_recv() == Ok(Ok(()))));
+        world
+    }
+
+    /// What the client says.
+    pub fn said(&mut self, client: usize) -> Vec<Vec<u8>> {
+        messages(|frames| self.clients[client].take(frames))
+    }
+
+    pub fn tell_server(&mut self, said: &[Vec<u8>]) {
+        for message in said {
+            // A message that is refused is one that is lost.
+            let _ = self.server.step(message);
+        }
+    }
+
+    /// What the server says.
+    pub fn said_by_server(&mut self) -> Vec<Vec<u8>> {
+        messages(|frames| {
+            let length = self.server.take(frames).unwrap();
+            frames.truncate(length);
+        })
+    }
+
+    /// Hands over what the server says.
+    pub fn tell_clients(&mut self) -> usize {
+        let said = self.said_by_server();
+        for message in &said {
+            let client = usize::from(client_of(message).unwrap());
+            self.clients[client].hear(message).unwrap();
+        }
+        said.len()
+    }
+
+    /// Hands messages over until nobody says anything.
+    pub fn settle(&mut self) {
+        loop {
+            let said: Vec<_> = [0, 1].into_iter().flat_map(|client| self.said(client)).collect();
+            self.tell_server(&said);
+            let heard = self.tell_clients();
+            for jobs in &mut self.clients {
+                jobs.advance(Asking::Allowed);
+            }
+            if said.is_empty() && heard == 0 {
+                return;
+            }
+        }
+    }
+
+    pub fn write(&mut self, client: usize, write: Write) -> Outcome {
+        let asked = self.clients[client].write(write);
+        self.settle();
+        asked.answer.try_recv().unwrap().unwrap()
+    }
+
+    pub fn read(&mut self, client: usize, keys: Range<u64>) -> Vec<Row> {
+        let asked = self.clients[client].read(keys);
+        self.settle();
+        asked.answer.try_recv().unwrap().unwrap()
+    }
+
+    pub fn is_cached(&mut self, client: usize, keys: Range<u64>) -> bool {
+        self.clients[client].cache().scan(&keys, &mut Vec::new()) == Ok(Scan::Rows)
+    }
+}
+
+pub(crate) fn row(key: u64, number: u64) -> Row {
+    Row { key, value: Value::from(number) }
+}

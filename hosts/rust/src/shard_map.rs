@@ -1,0 +1,134 @@
+//! Which servers have which keys.
+use crate::code::Code;
+use crate::partition::{Part, Partition};
+use crate::range::keys_of;
+use crate::refused::Refused;
+use crate::row::END;
+use crate::servers::Servers;
+use std::fmt;
+use std::ops::{Range, RangeBounds};
+
+/// One shard: the keys from `first` on below the next shard's first one, and its servers.
+#[derive(Clone, Debug, PartialEq, Eq)]
+pub struct Shard {
+    /// The first key.
+    pub first: u64,
+    /// Where its server is, or where it may be.
+    pub servers: Servers,
+}
+
+/// All keys, cut into shards, of which each has a server and a store of its own.
+///
+/// **All clients have to have the same map.** A client with another one writes keys at the wrong
+/// server, where the others don't see them, and nothing notices that yet.
+#[derive(Clone, Debug, PartialEq, Eq)]
+pub struct ShardMap {
+    shards: Vec<Shard>,
+    partition: Partition,
+}
+
+/// Shards that make no map: there is none, or there are more than 64; the first one does not begin
+/// at 0; or another one does not begin above the one before it, or begins above 2^63 - 1.
+#[derive(Clone, Copy, Debug, PartialEq, Eq)]
+pub struct BadShardMap;
+
+impl ShardMap {
+    /// The map of these shards, in ascending order.
+    ///
+    /// ```
+    /// use krl::{Shard, ShardMap};
+    ///
+    /// let map = ShardMap::new(vec![
+    ///     Shard { first: 0, servers: "127.0.0.1:7400".parse()? },
+    ///     Shard { first: 1000, servers: "127.0.0.1:7500".parse()? },
+    /// ])?;
+    /// assert_eq!(map.shard_of(1000), Ok(1));
+    /// # Ok::<(), Box<dyn std::error::Error>>(())
+    /// ```
+    ///
+    /// # Errors
+    ///
+    /// `BadShardMap`, which says what makes none.
+    pub fn new(shards: Vec<Shard>) -> Result<ShardMap, BadShardMap> {
+        let mut firsts = shards.iter().map(|shard| shard.first);
+        if firsts.next() != Some(0) {
+            return Err(BadShardMap);
+        }
+        let partition = Partition::new(firsts.collect()).map_err(|_| BadShardMap)?;
+        Ok(ShardMap { shards, partition })
+    }
+
+    /// The shards, in ascending order. Their number, from 0, is their place here.
+    #[must_use]
+    pub fn shards(&self) -> &[Shard] {
+        &self.shards
+    }
+
+    /// The shard of a key.
+    ///
+    /// # Errors
+    ///
+    /// `BadKey` for a key of 2^63 - 1 or more.
+    pub fn shard_of(&self, key: u64) -> Result<usize, Refused> {
+        if key >= END {
+            return Err(Refused::BadKey);
+        }
+        Ok(self.partition.shard_of(key)?)
+    }
+
+    /// What each shard has of a range, in ascending order. Of an empty range none has anything.
+    ///
+    /// # Errors
+    ///
+    /// `BadRange` if the range begins above its end, or ends above 2^63.
+    pub fn parts(&self, keys: impl RangeBounds<u64>) -> Result<Vec<Part>, Refused> {
+        let keys = keys_of(&keys)?;
+        if keys.is_empty() { Ok(Vec::new()) } else { Ok(self.parts_of(&keys)?) }
+    }
+
+    /// The parts of a range that is not empty.
+    pub(crate) fn parts_of(&self, keys: &Range<u64>) -> Result<Vec<Part>, Code> {
+        self.partition.parts(keys)
+    }
+}
+
+impl fmt::Display for BadShardMap {
+    fn fmt(&self, f: &mut fmt::Formatter<'_>) -> fmt::Result {
+        f.write_str(
+            "a map has 1 to 64 shards; the first one begins at 0, and each other one above the one \
+             before it and at 2^63 - 1 or below",
+        )
+    }
+}
+
+impl std::error::Error for BadShardMap {}
+
+#[cfg(test)]
+mod tests {
+    use super::*;
+
+    fn map(firsts: &[u64]) -> Result<ShardMap, BadShardMap> {
+        let servers: Servers = "127.0.0.1:7400".parse().unwrap();
+        let shards = firsts.iter().map(|first| Shard { first: *first, servers: servers.clone() });
+        ShardMap::new(shards.collect())
+    }
+
+    #[test]
+    fn shards_that_make_no_map() {
+        for firsts in [&[][..], &[1], &[0, 0], &[0, 9, 9], &[0, 9, 8], &[0, END + 1]] {
+            assert_eq!(map(firsts), Err(BadShardMap), "{firsts:?}");
+        }
+        assert!(map(&[0]).is_ok() && map(&[0, END]).is_ok());
+    }
+
+    #[test]
+    fn keys_and_ranges_have_their_shards() {
+        let map = map(&[0, 10]).unwrap();
+        assert_eq!([9, 10, END - 1].map(|key| map.shard_of(key)), [Ok(0), Ok(1), Ok(1)]);
+        assert_eq!(map.shard_of(END), Err(Refused::BadKey));
+        let whole = [Part { shard: 0, keys: 0..10 }, Part { shard: 1, keys: 10..END + 1 }];
+        assert_eq!(map.parts(..).unwrap(), whole);
+        assert_eq!(map.parts(5..5), Ok(Vec::new()));
+        assert_eq!(map.parts(..=u64::MAX), Err(Refused::BadRange));
+    }
+}

@@ -1,0 +1,96 @@
+//! How a sharded client is told to join.
+use crate::builder::TIMEOUT;
+use crate::client::Client;
+use crate::refused::JoinError;
+use crate::shard_map::{Shard, ShardMap};
+use crate::sharded::ShardedClient;
+use crate::sharded_refused::ShardJoinError;
+use std::panic::resume_unwind;
+use std::path::{Path, PathBuf};
+use std::thread::{self, ScopedJoinHandle};
+use std::time::Duration;
+
+/// What a sharded client is told before it joins: its map, its number and the folder of its lock
+/// files, and how long its calls wait. The number and the folder have to be said.
+#[derive(Clone, Debug)]
+#[must_use = "a builder does nothing before `join`"]
+pub struct ShardedBuilder {
+    map: ShardMap,
+    number: Option<u8>,
+    lock_folder: Option<PathBuf>,
+    timeout: Duration,
+}
+
+type Joined = Result<Client, JoinError>;
+
+impl ShardedBuilder {
+    pub(crate) fn new(map: ShardMap) -> ShardedBuilder {
+        ShardedBuilder { map, number: None, lock_folder: None, timeout: TIMEOUT }
+    }
+
+    /// The client's number at each shard, from 0 to 63.
+    pub fn number(mut self, number: u8) -> ShardedBuilder {
+        self.number = Some(number);
+        self
+    }
+
+    /// The folder of the lock files, one for each shard and number. It has to be there.
+    pub fn lock_folder(mut self, path: impl Into<PathBuf>) -> ShardedBuilder {
+        self.lock_folder = Some(path.into());
+        self
+    }
+
+    /// How long `join` and each later call wait for an answer: ten seconds if this is not called,
+    /// and a year at most.
+    pub fn timeout(mut self, timeout: Duration) -> ShardedBuilder {
+        self.timeout = timeout;
+        self
+    }
+
+    /// Joins all shards at once. If one does not answer, the others are left again.
+    ///
+    /// # Errors
+    ///
+    /// `Incomplete` if the number or the folder was not said; else those of [`Client::join`], with
+    /// the shard.
+    pub fn join(self) -> Result<ShardedClient, ShardJoinError> {
+        let of_none = |error| ShardJoinError { shard: None, error };
+        let number = self.number.ok_or(of_none(JoinError::Incomplete("a number")))?;
+        let missing = of_none(JoinError::Incomplete("a folder of lock files"));
+        let folder = self.lock_folder.as_deref().ok_or(missing)?;
+        let joined: Vec<Joined> = thread::scope(|scope| {
+            let shards = self.map.shards().iter();
+            let joining = shards.map(|shard| {
+                let (lock_file, timeout) = (lock_file(folder, shard, number), self.timeout);
+                let join =
+                    move || Client::start(shard.servers.clone(), number, &lock_file, timeout);
+                thread::Builder::new().spawn_scoped(scope, join)
+            });
+            let joining: Vec<_> = joining.collect();
+            joining.into_iter().map(wait).collect()
+        });
+        let (mut clients, mut failed) = (Vec::new(), None);
+        for (shard, joined) in joined.into_iter().enumerate() {
+            match joined {
+                Ok(client) => clients.push(client),
+                Err(error) => {
+                    failed.get_or_insert(ShardJoinError { shard: Some(shard), error });
+                }
+            }
+        }
+        let client = ShardedClient::of(self.map, clients);
+        failed.map_or(Ok(client), Err)
+    }
+}
+
+/// The lock file of a shard's client. Its name has the shard's first key, by which the shard is the
+/// same one in each map that has it.
+fn lock_file(folder: &Path, shard: &Shard, number: u8) -> PathBuf {
+    folder.join(format!("shard-{}-client-{number}.lock", shard.first))
+}
+
+/// Waits until a shard's client has joined, or has not.
+fn wait(joining: std::io::Result<ScopedJoinHandle<'_, Joined>>) -> Joined {
+    let joining = joining.map_err(JoinError::NoThread)?;
+    joining.join().unwrap_or_else(|panic| resume_unwind(panic))
+}

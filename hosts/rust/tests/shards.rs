@@ -1,0 +1,215 @@
+//! A client of two servers, each with a part of the keys.
+use krl::{Client, JoinError, Listener, LockFileError, MemoryStore, Outcome, Refused, Row, Server};
+use krl::{Shard, ShardMap, ShardRefused, ShardedClient, Value};
+use std::path::PathBuf;
+use std::thread;
+use std::time::{Duration, Instant};
+
+const SHORT: Duration = Duration::from_millis(300);
+
+/// No wait of a test is longer.
+const LONG: Duration = Duration::from_secs(20);
+
+/// The second shard begins here.
+const BOUND: u64 = 100;
+
+/// Two servers, and a folder that is gone when the test is.
+struct World {
+    servers: Vec<Server>,
+    map: ShardMap,
+    folder: PathBuf,
+}
+
+impl World {
+    fn new(name: &str) -> World {
+        let folder = std::env::temp_dir().join(format!("krl-shards-{}-{name}", std::process::id()));
+        std::fs::create_dir_all(&folder).unwrap();
+        let start = |_| {
+            let listener = Listener::bind(&"127.0.0.1:0".parse().unwrap()).unwrap();
+            Server::start(listener, MemoryStore::default()).unwrap()
+        };
+        let servers: Vec<Server> = (0..2).map(start).collect();
+        let shard =
+            |(first, server): (u64, &Server)| Shard { first, servers: server.address().into() };
+        let map = ShardMap::new([0, BOUND].into_iter().zip(&servers).map(shard).collect());
+        World { map: map.unwrap(), servers, folder }
+    }
+
+    fn join(&self, number: u8) -> ShardedClient {
+        let builder = ShardedClient::builder(self.map.clone()).number(number);
+        builder.lock_folder(&self.folder).timeout(LONG).join().unwrap()
+    }
+
+    /// A client of one shard alone.
+    fn join_one(&self, shard: usize, number: u8) -> Client {
+        let lock_file = self.folder.join(format!("client-{number}.lock"));
+        let servers = self.map.shards()[shard].servers.clone();
+        Client::builder(servers).number(number).lock_file(lock_file).timeout(LONG).join().unwrap()
+    }
+
+    /// Makes rows by a client that then leaves: one that stays would hold them to change them.
+    fn insert_rows(&self, keys: impl IntoIterator<Item = u64>) {
+        let client = self.join(0);
+        for key in keys {
+            assert_eq!(client.insert(key, Value::from(key)), Ok(Outcome::Applied));
+        }
+        client.leave().unwrap();
+    }
+}
+
+impl Drop for World {
+    fn drop(&mut self) {
+        let _ = std::fs::remove_dir_all(&self.folder);
+    }
+}
+
+fn row(key: u64, value: u64) -> Row {
+    Row { key, value: Value::from(value) }
+}
+
+#[test]
+fn calls_go_to_the_shards_that_have_the_keys() {
+    let world = World::new("calls");
+    world.insert_rows([10, 99, 100, 300]);
+    let client = world.join(1);
+    assert_eq!(client.cached(0..400), None);
+    let all = [row(10, 10), row(99, 99), row(100, 100), row(300, 300)];
+    assert_eq!(client.read(..), Ok(all.to_vec()));
+    assert_eq!(client.cached(50..=100), Some(all[1..3].to_vec()));
+    let mut keys = Vec::new();
+    assert!(client.for_each_cached(.., |row| keys.push(row.key)));
+    assert_eq!(keys, [10, 99, 100, 300]);
+    assert_eq!((client.cached(7..7), client.read(7..7)), (Some(vec![]), Ok(vec![])));
+    assert_eq!(client.put(99, Value::from(1)), Ok(Outcome::Applied));
+    assert_eq!(client.put(101, Value::from(1)), Ok(Outcome::Absent));
+    assert_eq!(client.insert(100, Value::from(1)), Ok(Outcome::Exists));
+    assert_eq!(client.delete(100), Ok(Outcome::Applied));
+    assert_eq!(client.read(90..400), Ok(vec![row(99, 1), row(300, 300)]));
+    // Each server has the keys of its shard alone.
+    let counts = world.servers.iter().map(|server| server.monitor().snapshot().unwrap().rows.len());
+    assert_eq!(counts.collect::<Vec<_>>(), [2, 1]);
+    assert_eq!(client.forget(..), Ok(()));
+    assert_eq!((client.cached(10..11), client.cached(300..301)), (None, None));
+    client.leave().unwrap();
+}
+
+#[test]
+fn a_delete_of_the_last_key_of_a_shard_stays_in_the_shard() {
+    let world = World::new("bound");
+    world.insert_rows([99, 100]);
+    let client = world.join(1);
+    assert_eq!(client.delete(99), Ok(Outcome::Applied));
+    assert_eq!(client.read(..), Ok(vec![row(100, 100)]));
+    assert_eq!(client.insert(99, Value::from(5)), Ok(Outcome::Applied));
+    assert_eq!(client.cached(99..100), Some(vec![row(99, 5)]));
+}
+
+#[test]
+fn errors_tell_the_shard() {
+    let mut world = World::new("errors");
+    world.insert_rows([10, 300]);
+    let client = world.join(1);
+    let of = |refused: Refused| Err(ShardRefused::from(refused));
+    assert_eq!(client.read(..=u64::MAX), Err(Refused::BadRange.into()));
+    assert_eq!(client.put(u64::MAX, Value::from(1)), of(Refused::BadKey));
+    assert_eq!(client.pin(5..5).map(drop), Err(Refused::BadRange.into()));
+    assert_eq!(client.read(0..50).unwrap().len(), 1);
+    assert!(client.status().iter().all(|shard| shard.epoch == Ok(1) && shard.is_connected));
+    world.servers.pop().unwrap().stop().unwrap();
+    client.set_timeout(SHORT);
+    let refused = client.read(0..400).unwrap_err();
+    assert_eq!((refused.shard, refused.refused), (Some(1), Refused::TimedOut));
+    assert_eq!(refused.to_string(), "shard 1: no answer came in time");
+    // The other shard goes on, and so do the caches.
+    assert_eq!(client.cached(0..50), Some(vec![row(10, 10)]));
+    assert_eq!(client.put(10, Value::from(1)), Ok(Outcome::Applied));
+    let refused = client.put(300, Value::from(1)).unwrap_err();
+    assert_eq!(refused.shard, Some(1));
+    let begun = Instant::now();
+    assert_eq!(client.leave().unwrap_err().shard, Some(1));
+    assert!(begun.elapsed() < LONG);
+}
+
+#[test]
+fn a_number_that_is_taken_at_one_shard_is_not_joined() {
+    let world = World::new("number");
+    let first = world.join(1);
+    let builder = ShardedClient::builder(world.map.clone()).number(1);
+    let error = builder.lock_folder(&world.folder).join().unwrap_err();
+    assert_eq!(error.shard, Some(0));
+    assert!(matches!(error.error, JoinError::LockFile(LockFileError::Taken)), "{error:?}");
+    first.leave().unwrap();
+    world.join(1).leave().unwrap();
+    let incomplete = ShardedClient::builder(world.map.clone()).number(1).join().unwrap_err();
+    assert_eq!(incomplete.shard, None);
+}
+
+#[test]
+fn a_range_that_is_pinned_does_not_change_at_any_shard() {
+    let world = World::new("pins");
+    world.insert_rows([10, 300]);
+    let (client, writer) = (world.join(1), world.join(2));
+    let (rows, pin) = client.pin_for_update(0..400).unwrap();
+    assert_eq!(rows, [row(10, 10), row(300, 300)]);
+    writer.set_timeout(SHORT);
+    for key in [10, 300] {
+        assert_eq!(writer.put(key, Value::from(1)).unwrap_err().refused, Refused::TimedOut);
+    }
+    drop(pin);
+    writer.set_timeout(LONG);
+    for key in [10, 300] {
+        assert_eq!(writer.put(key, Value::from(1)), Ok(Outcome::Applied));
+    }
+    let pin = client.pin(0..400).unwrap();
+    assert_eq!(client.cached(..), Some(vec![row(10, 1), row(300, 1)]));
+    assert_eq!(client.forget(..).unwrap_err().refused, Refused::Pinned);
+    drop(pin);
+}
+
+/// A client that waits for a point has pinned nothing from there on: so nobody who has that point
+/// waits for the client.
+#[test]
+fn a_client_that_waits_keeps_nothing_that_comes_behind() {
+    let world = World::new("waits");
+    world.insert_rows([10, 300]);
+    for calls in [
+        |client: &ShardedClient| client.read(0..400),
+        |client: &ShardedClient| client.pin_for_read(0..400).map(|(rows, _)| rows),
+        |client: &ShardedClient| client.pin_for_update(0..400).map(|(rows, _)| rows),
+        |client: &ShardedClient| client.pin(0..400).and_then(|_| client.read(0..400)),
+    ] {
+        let client = world.join(1);
+        // It has the second part, and another client has pinned the first one to write it.
+        client.read(BOUND..400).unwrap();
+        let (left, right) = (world.join_one(0, 2), world.join_one(1, 3));
+        let held = left.pin(0..50).unwrap();
+        left.put(10, Value::from(1)).unwrap();
+        thread::scope(|scope| {
+            let waiting = scope.spawn(|| calls(&client));
+            let server = &world.servers[0];
+            let waits = || server.status().waits.iter().any(|wait| wait.client == 1);
+            assert!(is_so_soon(waits), "nobody waits");
+            // Time for a read to begin to take its parts.
+            thread::sleep(SHORT);
+            right.put(300, Value::from(2)).unwrap();
+            assert!(!waiting.is_finished());
+            drop(held);
+            assert_eq!(waiting.join().unwrap(), Ok(vec![row(10, 1), row(300, 2)]));
+        });
+        for client in [left, right] {
+            client.leave().unwrap();
+        }
+        client.leave().unwrap();
+    }
+}
+
+fn is_so_soon(is_so: impl Fn() -> bool) -> bool {
+    let end = Instant::now() + LONG;
+    while !is_so() {
+        if Instant::now() > end {
+            return false;
+        }
+        thread::sleep(Duration::from_millis(2));
+    }
+    true
+}
