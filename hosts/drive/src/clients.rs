@@ -52,10 +52,15 @@ impl Drop for Process {
     }
 }
 
+/// These clients are another program's, if there is one: a reader and a writer.
+const OTHERS: [u8; 2] = [2, 3];
+
 /// The clients of a drive.
 pub struct Clients {
     folder: PathBuf,
     servers: String,
+    /// The program of half of the clients, if it is another one. It does what `nodes` does.
+    other: Option<PathBuf>,
     running: Vec<(u8, Process)>,
     killed: usize,
 }
@@ -63,8 +68,17 @@ pub struct Clients {
 impl Clients {
     /// Starts them, as clients of these servers.
     pub fn start(folder: &Path, servers: String) -> std::io::Result<Clients> {
-        let mut clients =
-            Clients { folder: folder.to_path_buf(), servers, running: Vec::new(), killed: 0 };
+        Clients::start_beside(None, folder, servers)
+    }
+
+    /// Starts them, half of them by another program, if there is one.
+    pub fn start_beside(
+        other: Option<PathBuf>,
+        folder: &Path,
+        servers: String,
+    ) -> std::io::Result<Clients> {
+        let folder = folder.to_path_buf();
+        let mut clients = Clients { folder, servers, other, running: Vec::new(), killed: 0 };
         for number in READERS.into_iter().chain(WRITERS) {
             clients.start_one(number)?;
         }
@@ -74,9 +88,18 @@ impl Clients {
     fn start_one(&mut self, number: u8) -> std::io::Result<()> {
         let role = if WRITERS.contains(&number) { "writer" } else { "reader" };
         let words = [role, &number.to_string(), &self.servers];
-        let client = Process::start(&mut this(&words, &self.folder)?)?;
+        let program = match &self.other {
+            Some(other) if OTHERS.contains(&number) => other.clone(),
+            _ => std::env::current_exe()?,
+        };
+        let client = Process::start(&mut command(program, &words, &self.folder))?;
         self.running.push((number, client));
         Ok(())
+    }
+
+    /// How many lines the clients of another program have noted.
+    pub fn noted_by_others(&self) -> std::io::Result<usize> {
+        OTHERS.iter().map(|number| notes(&self.folder, *number).map(|notes| notes.len())).sum()
     }
 
     /// How many were killed.
@@ -141,9 +164,13 @@ fn wait_for(client: &mut Process, end: Instant) -> Result<Option<String>, Box<dy
 
 /// This program with these words, and the folder behind them.
 pub fn this(words: &[&str], folder: &Path) -> std::io::Result<Command> {
-    let mut command = Command::new(std::env::current_exe()?);
+    Ok(command(std::env::current_exe()?, words, folder))
+}
+
+fn command(program: PathBuf, words: &[&str], folder: &Path) -> Command {
+    let mut command = Command::new(program);
     command.args(words).arg(folder);
-    Ok(command)
+    command
 }
 
 /// Whether all is well in a drive of so many rounds. One that did too little, or some of whose

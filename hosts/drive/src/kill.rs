@@ -21,7 +21,20 @@ struct Drive {
     clients: Clients,
 }
 
+/// The clients of another program have to note so many lines for each round.
+const LEAST_BY_OTHERS: u64 = 20;
+
+/// Half of the clients are another program's, and all else is as in `run`.
+pub fn beside(folder: &Path, rounds: u64, program: &Path) -> Found {
+    drive(folder, rounds, "sqlite", "direct", Some(program.to_path_buf()))
+}
+
 pub fn run(folder: &Path, rounds: u64, store: &str, net: &str) -> Found {
+    drive(folder, rounds, store, net, None)
+}
+
+fn drive(folder: &Path, rounds: u64, store: &str, net: &str, other: Option<PathBuf>) -> Found {
+    let is_beside = other.is_some();
     std::fs::create_dir_all(folder)?;
     let server_at = free_address()?;
     let clients_at = match net {
@@ -30,7 +43,7 @@ pub fn run(folder: &Path, rounds: u64, store: &str, net: &str) -> Found {
         _ => return Err("a network is direct or lossy".into()),
     };
     let server = start_server(folder, server_at, store)?;
-    let clients = Clients::start(folder, clients_at.to_string())?;
+    let clients = Clients::start_beside(other, folder, clients_at.to_string())?;
     let (folder, store) = (folder.to_path_buf(), store.to_string());
     let mut drive = Drive { folder, store, server_at, server, clients };
     let down = drive.kill_for(rounds)?;
@@ -49,6 +62,9 @@ pub fn run(folder: &Path, rounds: u64, store: &str, net: &str) -> Found {
         tally.answered,
         tally.wrong
     );
+    if is_beside && (drive.clients.noted_by_others()? as u64) < LEAST_BY_OTHERS * rounds {
+        return Err("the other program did too little to say anything".into());
+    }
     judge(&tally, rounds, hung)
 }
 

@@ -2,6 +2,7 @@
 //!
 //! ```text
 //! krl_drive kill FOLDER ROUNDS [sqlite|unsynced] [direct|lossy]   kills servers and clients
+//! krl_drive beside FOLDER ROUNDS PROGRAM                          kills clients of another program too
 //! krl_drive failover FOLDER ROUNDS SERVER [kill,freeze,wake,node] kills servers that stand by
 //! krl_drive shards FOLDER SECONDS KILLS                           kills servers of two shards
 //! krl_drive strangers                                             connects what is no client
@@ -63,6 +64,9 @@ fn run(words: &[&str]) -> Found {
         }
         ["kill", folder, rounds, store, net] => {
             kill::run(Path::new(folder), rounds.parse()?, store, net)
+        }
+        ["beside", folder, rounds, program] => {
+            kill::beside(Path::new(folder), rounds.parse()?, Path::new(program))
         }
         ["failover", folder, rounds, server] => failover::run(
             Path::new(folder),

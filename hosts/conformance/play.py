@@ -1,0 +1,277 @@
+#!/usr/bin/env python3
+"""Plays scripts to a client, as its server, and looks at what it says.
+
+    play.py COMMAND -- SCRIPT..        COMMAND is the client under test, without its words
+
+`README.md` has the words of a script, and those of a client. The status is 0 if the client has
+passed each script; else the last lines say at which step of which script it failed, and how.
+"""
+
+from __future__ import annotations
+
+import json
+import os
+import select
+import socket
+import subprocess
+import sys
+import tempfile
+import time
+from collections.abc import Iterator
+from pathlib import Path
+from typing import Any, NoReturn
+
+from messages import decode, encode
+
+NUMBER = 3
+PATIENCE = float(os.environ.get("KRL_PATIENCE", "30"))
+"""How many seconds a step waits, and the client's calls."""
+
+LENGTH = 8
+REASONS = ("Version", "ClientNumber", "Incarnation", "Full", "Missing")
+HOST_KINDS = {"Hello": 16, "Refused": 17, "Mark": 18, "WentBack": 19}
+
+
+class Failed(Exception):
+    """The client does not do what the script says."""
+
+
+def fail(why: str) -> NoReturn:
+    """Ends the script."""
+    raise Failed(why)
+
+
+def host_frame(said: dict[str, Any]) -> bytes:
+    """A frame of a server's host."""
+    head = bytes([0, HOST_KINDS[said["host"]]])
+    if said["host"] == "Refused":
+        numbers = (said["first"], said["second"])
+        reason = bytes([REASONS.index(said["reason"])])
+        return head + reason + b"".join(number.to_bytes(8, "little") for number in numbers)
+    return head + bytes.fromhex(said.get("mark", ""))
+
+
+def read_frame(frame: bytes) -> dict[str, Any]:
+    """What a client says."""
+    if frame[:2] == b"\0\0":
+        return {"host": "Hello", "mark": frame[2:].hex() or None}
+    try:
+        return decode(frame)
+    except (ValueError, IndexError, KeyError) as error:
+        fail(f"the client says what is no message: {frame.hex()}: {error}")
+
+
+class Peer:
+    """A connection of the client."""
+
+    def __init__(self, stream: socket.socket) -> None:
+        stream.settimeout(PATIENCE)
+        self._stream = stream
+        self._heard: set[bytes] = set()
+
+    def _receive(self, count: int) -> bytes:
+        came = b""
+        while len(came) < count:
+            try:
+                part = self._stream.recv(count - len(came))
+            except TimeoutError:
+                fail(f"the client says nothing for {PATIENCE} seconds")
+            if not part:
+                raise EOFError
+            came += part
+        return came
+
+    def frame(self) -> bytes:
+        """The next frame."""
+        length = int.from_bytes(self._receive(LENGTH), "little")
+        return self._receive(length)
+
+    def next(self, wants_ack: bool) -> dict[str, Any]:
+        """What the client says next, and has not said on this connection before. An Ack may come at
+        any time."""
+        end = time.monotonic() + PATIENCE
+        while time.monotonic() < end:
+            frame = self.frame()
+            said = read_frame(frame)
+            is_new = frame not in self._heard
+            self._heard.add(frame)
+            if is_new and (wants_ack or said.get("kind") != "Ack"):
+                return said
+        fail(f"the client says nothing new for {PATIENCE} seconds")
+
+    def repeats(self) -> Iterator[dict[str, Any]]:
+        """What the client says again, for a while."""
+        end = time.monotonic() + PATIENCE
+        while time.monotonic() < end:
+            frame = self.frame()
+            if frame in self._heard:
+                yield read_frame(frame)
+            self._heard.add(frame)
+
+    def send(self, frames: list[bytes]) -> None:
+        """Sends frames, all at once."""
+        framed = [len(frame).to_bytes(LENGTH, "little") + frame for frame in frames]
+        self._stream.sendall(b"".join(framed))
+
+    def send_raw(self, bytes_: bytes) -> None:
+        """Sends bytes as they are."""
+        self._stream.sendall(bytes_)
+
+    def wait_for_end(self) -> None:
+        """Waits until the client ends the connection."""
+        try:
+            while True:
+                self.frame()
+        except (EOFError, ConnectionError):
+            pass
+
+    def close(self) -> None:
+        """Ends the connection."""
+        self._stream.close()
+
+
+class Play:
+    """A script that is played, with the client's process."""
+
+    def __init__(self, command: list[str], folder: str) -> None:
+        self._listener = socket.create_server(("127.0.0.1", 0))
+        self._listener.settimeout(PATIENCE)
+        address = f"127.0.0.1:{self._listener.getsockname()[1]}"
+        words = [address, str(NUMBER), str(Path(folder) / "lock"), str(PATIENCE)]
+        self._client = subprocess.Popen(
+            command + words, stdin=subprocess.PIPE, stdout=subprocess.PIPE, text=True
+        )
+        self._peer: Peer | None = None
+        self._names: dict[str, Any] = {}
+
+    def end(self) -> None:
+        """Ends the client."""
+        self._client.kill()
+        self._client.communicate()
+        if self._peer:
+            self._peer.close()
+        self._listener.close()
+
+    def step(self, step: dict[str, Any]) -> None:
+        """Plays a step."""
+        ((word, what),) = step.items()
+        try:
+            getattr(self, f"_{word}")(what)
+        except EOFError:
+            fail("the client has ended the connection")
+        except ConnectionError as error:
+            fail(f"the connection has failed: {error}")
+
+    def _connection(self, _: Any) -> None:
+        if self._peer:
+            self._peer.close()
+        try:
+            self._peer = Peer(self._listener.accept()[0])
+        except TimeoutError:
+            fail("the client does not connect")
+
+    @property
+    def _connected(self) -> Peer:
+        return self._peer or fail("the script has no connection")
+
+    def _expect(self, pattern: dict[str, Any]) -> None:
+        said = self._connected.next(wants_ack=pattern.get("kind") == "Ack")
+        if said.get("kind") == "Hello":
+            self._names["incarnation"] = said["incarnation"]
+        self._compare(pattern, said)
+
+    def _again(self, pattern: dict[str, Any]) -> None:
+        if not any(self._fits(pattern, said) for said in self._connected.repeats()):
+            fail(f"the client does not say it again in {PATIENCE} seconds")
+
+    def _compare(self, pattern: dict[str, Any], said: dict[str, Any]) -> None:
+        if not self._fits(pattern, said):
+            fail(f"the client says {json.dumps(said)}")
+
+    def _fits(self, pattern: dict[str, Any], said: dict[str, Any]) -> bool:
+        if not all(key in said for key in pattern):
+            return False
+        return all(said[key] == self._meant(word, said[key]) for key, word in pattern.items())
+
+    def _meant(self, word: Any, said: Any) -> Any:
+        """What a word of a pattern stands for: a name that is new, for what is said here."""
+        return self._names.setdefault(word[1:], said) if is_name(word) else word
+
+    def _send(self, frames: list[dict[str, Any]]) -> None:
+        self._connected.send([self._frame(said) for said in frames])
+
+    def _frame(self, said: dict[str, Any]) -> bytes:
+        if not said:
+            return b""
+        if "host" in said:
+            return host_frame(said)
+        head = {"client": NUMBER, "incarnation": "$incarnation"}
+        return encode({key: self._meant(word, None) for key, word in {**head, **said}.items()})
+
+    def _raw(self, digits: str) -> None:
+        self._connected.send_raw(bytes.fromhex(digits))
+
+    def _ended(self, _: Any) -> None:
+        self._connected.wait_for_end()
+
+    def _close(self, _: Any) -> None:
+        self._connected.close()
+
+    def _do(self, words: list[Any]) -> None:
+        assert self._client.stdin
+        self._client.stdin.write(json.dumps(words) + "\n")
+        self._client.stdin.flush()
+
+    def _answer(self, pattern: dict[str, Any]) -> None:
+        assert self._client.stdout
+        if not select.select([self._client.stdout], [], [], 2 * PATIENCE)[0]:
+            fail("the client's program does not answer")
+        line = self._client.stdout.readline()
+        if not line:
+            fail("the client's program has ended")
+        if not self._fits(pattern, json.loads(line)):
+            fail(f"the client's program answers {line.strip()}")
+
+    def _greater(self, names: list[str]) -> None:
+        one, other = (self._names[name[1:]] for name in names)
+        if not one > other:
+            fail(f"{one} is not greater than {other}")
+
+
+def is_name(word: Any) -> bool:
+    """Whether a word of a script is a name: it stands for what it stood for first."""
+    return isinstance(word, str) and word.startswith("$")
+
+
+def play(command: list[str], script: Path) -> None:
+    """Plays a script to a new client. Ends the program if it fails."""
+    with tempfile.TemporaryDirectory() as folder:
+        playing = Play(command, folder)
+        try:
+            for place, line in enumerate(script.read_text().splitlines(), 1):
+                if line and not line.startswith("#"):
+                    play_line(playing, f"{script}:{place}: {line}", line)
+        finally:
+            playing.end()
+
+
+def play_line(playing: Play, place: str, line: str) -> None:
+    """Plays a line of a script."""
+    try:
+        playing.step(json.loads(line))
+    except Failed as failed:
+        sys.exit(f"play: {place}\n      {failed}")
+
+
+def main() -> None:
+    words = sys.argv[1:]
+    if "--" not in words:
+        sys.exit(__doc__)
+    command, scripts = words[: words.index("--")], words[words.index("--") + 1 :]
+    for script in scripts:
+        play(command, Path(script))
+    print(f"play: the client passes {len(scripts)} scripts")
+
+
+if __name__ == "__main__":
+    main()

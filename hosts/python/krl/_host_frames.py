@@ -1,0 +1,59 @@
+"""Frames of the hosts, beneath the messages: ``docs/WIRE.md`` has the table."""
+
+from __future__ import annotations
+
+from enum import Enum, auto
+from typing import Union
+
+from ._frames import framed
+from .errors import Reason, Refusal
+
+_HOST = 0
+_HELLO = 0
+_MARK_BYTES = 24
+
+
+class Kind(Enum):
+    """A frame of a server's host that says nothing but its kind."""
+
+    HELLO = auto()
+    WENT_BACK = auto()
+
+
+class Mark(bytes):
+    """How far a server's store has come: 24 bytes, which the client's host only gives back."""
+
+
+FromServer = Union[Kind, Refusal, Mark, None]
+"""What a server's host says. ``None`` is a frame of a kind that this host does not know."""
+
+
+def is_of_host(frame: bytes) -> bool:
+    """Whether a frame, without its length, is one of a host. No message begins so."""
+    return frame[:1] == bytes([_HOST])
+
+
+def hello(seen: Mark | None) -> bytes:
+    """The Hello of a client's host that has seen so much of the store, with its length."""
+    return framed(bytes([_HOST, _HELLO]) + (seen or b""))
+
+
+def read(frame: bytes) -> FromServer:
+    """What a frame of a server's host says. Bytes behind those that it knows are passed over."""
+    kind, rest = frame[1:2], frame[2:]
+    if kind == b"\x10":
+        return Kind.HELLO
+    if kind == b"\x11":
+        return _refusal(rest)
+    if kind == b"\x12" and len(rest) >= _MARK_BYTES:
+        return Mark(rest[:_MARK_BYTES])
+    if kind == b"\x13":
+        return Kind.WENT_BACK
+    return None
+
+
+def _refusal(rest: bytes) -> Refusal | None:
+    if len(rest) < 17 or rest[0] not in list(Reason):
+        return None
+    first, second = (int.from_bytes(rest[at : at + 8], "little") for at in (1, 9))
+    return Refusal(Reason(rest[0]), first, second)

@@ -1,0 +1,119 @@
+"""When a client connects again, says Hello, and leaves a server that is silent."""
+
+from __future__ import annotations
+
+import random
+from dataclasses import dataclass
+from enum import Enum, auto
+
+_FIRST = 0.005
+_LONGEST = 1.0
+_PATIENCE = 2
+_ASK = 0.25
+_LEAVE = 1.0
+
+
+class Backoff:
+    """The pauses between attempts: each is twice the one before, up to a second among all servers,
+    and up to a quarter longer by chance, so that not all clients come back at once."""
+
+    def __init__(self, servers: int) -> None:
+        self._pause = _FIRST
+        self._longest = max(_FIRST, _LONGEST / servers)
+
+    def reset(self) -> None:
+        """The server has said something. A connection alone says nothing: a server that has no
+        room takes it and ends it."""
+        self._pause = _FIRST
+
+    def pause(self) -> float:
+        """How many seconds to wait now."""
+        pause = self._pause
+        self._pause = min(self._longest, 2 * pause)
+        return pause * (1 + random.random() / 4)
+
+
+@dataclass
+class Heard:
+    """What came on a connection."""
+
+    message: bool = False
+    host_frame: bool = False
+    went_back: bool = False
+
+    def anything(self) -> bool:
+        """Whether anything came."""
+        return self.message or self.host_frame or self.went_back
+
+
+class Greeting:
+    """Whether the host says Hello on the next connection.
+
+    Once the server's host has answered, it always does. Before that, after two connections that
+    ended without an answer, one is made without Hello: the server may be one without host frames.
+    """
+
+    def __init__(self) -> None:
+        self._is_known = False
+        self._unanswered = 0
+
+    def is_said(self) -> bool:
+        """Whether the next connection begins with the host's Hello."""
+        return self._is_known or self._unanswered < _PATIENCE
+
+    def note(self, heard: Heard) -> None:
+        """The connection has ended."""
+        is_unanswered = self.is_said() and not heard.anything()
+        self._unanswered = self._unanswered + 1 if is_unanswered else 0
+        self._is_known |= heard.host_frame
+
+
+class Silent(Enum):
+    """What to do about a server that is silent, if there are others."""
+
+    NO = auto()
+    ASK = auto()
+    LEAVE = auto()
+
+
+class Silence:
+    """How long a server has been silent on one connection."""
+
+    def __init__(self, now: float, is_asked: bool) -> None:
+        self._heard = now
+        self._asked = now
+        self._is_asked = is_asked
+
+    def heard(self, now: float) -> None:
+        """Something came."""
+        self._heard = now
+
+    def look(self, now: float) -> Silent:
+        """What to do now. A server that was not greeted may not answer, and is not left."""
+        silent = now - self._heard
+        if not self._is_asked or silent < _ASK:
+            return Silent.NO
+        if silent >= _LEAVE:
+            return Silent.LEAVE
+        if now - self._asked < _ASK:
+            return Silent.NO
+        self._asked = now
+        return Silent.ASK
+
+
+class Epochs:
+    """The greatest epoch that a server has said."""
+
+    def __init__(self, servers: int) -> None:
+        self._are_several = servers > 1
+        self._greatest = 0
+
+    def is_old(self, epoch: int) -> bool:
+        """Whether a server of this epoch is to be left: another one is of a greater epoch. The old
+        one may go on for ever, and the one that serves waits for the client's report."""
+        known, self._greatest = self._greatest, max(self._greatest, epoch)
+        return epoch < known and self._are_several
+
+    def forget(self) -> None:
+        """The store went back: the epochs of an older one may be older too."""
+        self._greatest = 0

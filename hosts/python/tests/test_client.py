@@ -1,0 +1,271 @@
+"""Tests of a client with a real server."""
+
+from __future__ import annotations
+
+import gc
+import socket
+import subprocess
+import sys
+import tempfile
+import threading
+import time
+import unittest
+from collections.abc import Callable
+from pathlib import Path
+from unittest import mock
+
+import krl
+from krl import END, TOP, Outcome, Row
+from krl._host_frames import hello
+from krl._link import LOG
+
+from .serving import PATIENCE, Served, until
+
+
+class CallsTest(Served):
+    def test_each_call_answers_what_it_says(self) -> None:
+        client = self.join(0)
+        self.assertEqual(client.insert(15, b"one"), Outcome.APPLIED)
+        self.assertEqual(client.insert(15, b"two"), Outcome.EXISTS)
+        self.assertEqual(client.put(15, b"two"), Outcome.APPLIED)
+        self.assertEqual(client.put(16, b"two"), Outcome.ABSENT)
+        self.assertEqual(client.delete(16), Outcome.ABSENT)
+        self.assertEqual(client.insert(END - 1, bytes(32)), Outcome.APPLIED)
+        self.assertEqual(client.insert(0, b""), Outcome.APPLIED)
+        rows = [Row(0, b""), Row(15, b"two"), Row(END - 1, bytes(32))]
+        self.assertEqual(client.read(), rows)
+        self.assertEqual(client.cached(), rows)
+        self.assertEqual(client.cached(15, 16), [Row(15, b"two")])
+        self.assertEqual(client.delete(15), Outcome.APPLIED)
+        self.assertEqual(client.read(10, 20), [])
+        self.assertEqual(client.read(7, 7), [])
+        self.assertEqual(client.epoch(), 1)
+
+    def test_many_rows_are_read_at_once(self) -> None:
+        client = self.join(0)
+        rows = [Row(3 * key, key.to_bytes(2, "big")) for key in range(300)]
+        for row in rows:
+            self.assertEqual(client.insert(row.key, row.value), Outcome.APPLIED)
+        self.assertEqual(self.join(1).read(0, TOP), rows)
+
+    def test_a_callback_gives_way(self) -> None:
+        one, other = self.join(0), self.join(1)
+        self.assertEqual(one.insert(10, b"1"), Outcome.APPLIED)
+        self.assertEqual(one.read(0, 20), [Row(10, b"1")])
+        self.assertEqual(other.put(10, b"2"), Outcome.APPLIED)
+        self.assertIsNone(one.cached(0, 20))
+        self.assertEqual(one.read(0, 20), [Row(10, b"2")])
+
+    def test_what_is_forgotten_is_not_cached(self) -> None:
+        client = self.join(0)
+        client.read(0, 20)
+        client.forget(5, 6)
+        self.assertIsNone(client.cached(0, 20))
+        self.assertEqual(client.cached(6, 20), [])
+        client.forget(5, 5)
+
+    def test_a_pin_keeps_a_writer_waiting_until_it_is_free(self) -> None:
+        one, other = self.join(0), self.join(1)
+        other.insert(10, b"1")
+        with one.pin(5, 15):
+            one.read(0, 20)
+            other.timeout = 0.3
+            with self.assertRaises(krl.TimedOut):
+                other.put(10, b"2")
+            with self.assertRaises(krl.Pinned):
+                one.forget(10, 11)
+            self.assertEqual(one.cached(5, 15), [Row(10, b"1")])
+        other.timeout = PATIENCE
+        self.assertEqual(other.put(10, b"3"), Outcome.APPLIED)
+        self.assertIsNone(one.cached(5, 15))
+
+    def test_there_are_eight_pins(self) -> None:
+        client = self.join(0)
+        pins = [client.pin(place, place + 1) for place in range(8)]
+        with self.assertRaises(krl.TooManyPins):
+            client.pin(9, 10)
+        pins[3].free()
+        pins[3].free()
+        client.pin(9, 10).free()
+
+    def test_threads_share_a_client(self) -> None:
+        client = self.join(0)
+        threads = [threading.Thread(target=self._count_up, args=(client, n)) for n in range(4)]
+        for thread in threads:
+            thread.start()
+        for thread in threads:
+            thread.join()
+        self.assertEqual(client.read(), [Row(n, b"19") for n in range(4)])
+
+    def _count_up(self, client: krl.Client, key: int) -> None:
+        self.assertEqual(client.insert(key, b"0"), Outcome.APPLIED)
+        for count in range(1, 20):
+            self.assertEqual(client.put(key, str(count).encode()), Outcome.APPLIED)
+            self.assertEqual(client.read(key, key + 1), [Row(key, str(count).encode())])
+
+
+class ServersTest(Served):
+    def test_a_server_that_is_killed(self) -> None:
+        client = self.join(0)
+        client.insert(10, b"1")
+        rows = client.read(0, 20)
+        self.stop()
+        self.assertEqual(client.cached(0, 20), rows)
+        client.timeout = 0.2
+        begun = time.monotonic()
+        with self.assertRaises(krl.TimedOut):
+            client.put(10, b"none")
+        self.assertLess(time.monotonic() - begun, PATIENCE)
+        self.server = self.start()
+        client.timeout = PATIENCE
+        self.assertEqual(client.put(10, b"2"), Outcome.APPLIED)
+        self.assertEqual(client.read(0, 20), [Row(10, b"2")])
+        self.assertEqual(client.epoch(), 2)
+
+    def test_a_server_that_waits_for_another_client_says_so(self) -> None:
+        self._end_without_bye()
+        client = self.join(0)
+        client.insert(5, b"1")
+        self.stop()
+        self.server = self.start()
+        client.timeout = 0.5
+
+        def is_told() -> bool:
+            with self.assertRaises(krl.TimedOut) as raised:
+                client.put(5, b"2")
+            error = raised.exception
+            return isinstance(error, krl.Unserved) and error.refusal.missing() == [7]
+
+        until(is_told)
+
+    def _end_without_bye(self) -> None:
+        """A process joins as the client 7, and is killed."""
+        lines = (
+            "import krl, os",
+            f"client = krl.join({self.address!r}, 7, {str(self.lock_file(7))!r}, {PATIENCE})",
+            "os.kill(os.getpid(), 9)",
+        )
+        self.assertEqual(subprocess.run([sys.executable, "-c", "\n".join(lines)]).returncode, -9)
+
+    def test_a_process_that_ends_says_bye(self) -> None:
+        line = f"import krl; c = krl.join({self.address!r}, 7, {str(self.lock_file(7))!r}, 30)"
+        subprocess.run([sys.executable, "-c", line + "; c.read()"], check=True)
+        self.stop()
+        self.server = self.start()
+        self.assertEqual(self.join(0).insert(5, b"1"), Outcome.APPLIED)
+
+    def test_a_client_that_nobody_has_any_more_says_bye(self) -> None:
+        krl.join(self.address, 7, self.lock_file(7), PATIENCE).read()
+        gc.collect()
+        self.assertEqual(self.join(0).insert(5, b"1"), Outcome.APPLIED)
+
+    def test_a_store_that_went_back_is_noticed(self) -> None:
+        client, other = self.join(0), self.join(1)
+        client.insert(10, b"1")
+        self.assertEqual(client.read(0, 20), [Row(10, b"1")])
+        self.assertEqual(other.read(0, 5), [])
+        self.stop()
+        # Another store stands for an older one: it lacks all that the clients have seen.
+        self.server = self.start("older.db")
+        until(lambda: client.cached(0, 20) is None)
+        self.assertEqual(client.read(0, 20), [])
+        self.assertEqual(client.insert(10, b"2"), Outcome.APPLIED)
+        self.assertEqual(other.read(0, 20), [Row(10, b"2")])
+
+
+class ConnectingTest(unittest.TestCase):
+    def setUp(self) -> None:
+        folder = tempfile.TemporaryDirectory()
+        self.addCleanup(folder.cleanup)
+        self.folder = Path(folder.name)
+
+    def test_attempts_that_fail_say_nothing_of_the_server(self) -> None:
+        path = str(self.folder / "socket")
+        attempts: list[OSError] = []
+
+        def join() -> None:
+            with self.assertRaises(krl.JoinError):
+                krl.join(f"unix:{path}", 0, self.folder / "lock", 2)
+
+        with mock.patch.object(LOG, "debug", lambda *words: attempts.append(words[-1])):
+            joins = threading.Thread(target=join)
+            joins.start()
+            until(lambda: len(attempts) > 4)
+            with socket.socket(socket.AF_UNIX) as listener:
+                listener.bind(path)
+                listener.listen()
+                with listener.accept()[0] as peer:
+                    self.assertEqual(peer.recv(10), hello(None))
+                    joins.join()
+
+
+class LeavingTest(Served):
+    def test_who_leaves_keeps_nothing(self) -> None:
+        other = self.join(1)
+        with krl.join(self.address, 0, self.lock_file(0), PATIENCE) as client:
+            client.read()
+        self.assertEqual(other.insert(10, b"1"), Outcome.APPLIED)
+        calls: list[Callable[[], object]] = [client.read, client.leave, client.epoch]
+        calls += [client.forget, lambda: client.put(10, b""), lambda: client.pin(5, 6)]
+        for call in calls:
+            with self.assertRaises(krl.Closed):
+                call()
+        self.assertIsNone(client.cached())
+        self.join(0)
+
+    def test_an_error_goes_through_a_with(self) -> None:
+        with self.assertRaises(ZeroDivisionError):
+            with krl.join(self.address, 0, self.lock_file(0), PATIENCE) as client:
+                self.stop()
+                client.timeout = 0.2
+                raise ZeroDivisionError
+        until(lambda: all(t.name != "krl-client-0" for t in threading.enumerate()))
+
+
+class BadInputTest(Served):
+    def test_bad_keys_ranges_and_values_are_told(self) -> None:
+        client = self.join(0)
+        for start, stop in ((5, 4), (-1, 4), (0, TOP + 1), (True, 4), ("a", "b"), (1.0, 2)):
+            calls: list[Callable[..., object]]
+            calls = [client.read, client.cached, client.pin, client.forget]
+            for call in calls:
+                with self.assertRaisesRegex(krl.BadRange, "integers 0 <= start <= stop <= 2.63"):
+                    call(start, stop)
+        with self.assertRaisesRegex(krl.BadRange, "not empty"):
+            client.pin(5, 5)
+        for key in (-1, END, "a", None, 1.5):
+            with self.assertRaisesRegex(krl.BadKey, "an integer from 0 to 2.63 - 2, not"):
+                client.put(key, b"")  # type: ignore[arg-type]
+        with self.assertRaisesRegex(krl.BadValue, "at most 32 bytes, not 33"):
+            client.insert(5, bytes(33))
+        with self.assertRaisesRegex(krl.BadValue, "is bytes, not str"):
+            client.insert(5, "text")  # type: ignore[arg-type]
+        self.assertEqual(client.read(), [])
+
+    def test_who_cant_join_hears_why(self) -> None:
+        for number in (-1, 64, "3", True):
+            with self.assertRaisesRegex(ValueError, "a client's number is 0 to 63, not"):
+                krl.join(self.address, number, "none.lock")  # type: ignore[arg-type]
+        for timeout in (-1.0, float("nan")):
+            with self.assertRaisesRegex(ValueError, "a timeout is"):
+                krl.join(self.address, 0, "none.lock", timeout)
+        with self.assertRaisesRegex(ValueError, "is no address of a server"):
+            krl.join("here", 0, "none.lock")
+        self.join(0)
+        with self.assertRaisesRegex(krl.LockFileError, "another process is the client"):
+            krl.join(self.address, 0, self.lock_file(0))
+        with self.assertRaisesRegex(krl.JoinError, "did not answer in time: .*No such file"):
+            krl.join(f"unix:{self.folder}/none", 1, self.lock_file(1), 0.5)
+        krl.join(self.address, 1, self.lock_file(1), PATIENCE).leave()
+
+    def test_an_older_incarnation_hears_why(self) -> None:
+        self.join(0)
+        other = self.folder / "another.lock"
+        # A clock that is behind, and a lock file that was lost, lead to this.
+        with mock.patch("krl._lock_file.time.time_ns", return_value=1):
+            with self.assertRaisesRegex(krl.JoinError, "knows incarnation .* of client 0"):
+                krl.join(self.address, 0, other, 3)
+
+
+if __name__ == "__main__":
+    unittest.main()
