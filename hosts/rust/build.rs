@@ -1,13 +1,23 @@
-//! Finds the static library of krl and the C part of the Rattle kit, and links both.
+//! Finds the static library of krl and the C part of the Rattle kit, and links both; or the one
+//! library of both that `make install` makes.
 use std::env;
 use std::path::{Path, PathBuf};
+use std::process::Command;
+
+/// The library as it is installed: it has the C part of the kit.
+const INSTALLED: &str = "libkrl.a";
 
 fn main() {
     let library = library_folder();
+    if library.join(INSTALLED).exists() {
+        link(&library, "krl");
+        return;
+    }
     let kit = kit_folder();
     warn_without(
         &library.join("libkrl_embed.a"),
-        "run `rt lib` in crates/krl_embed, which proves and makes it, or name its folder by KRL_LIBRARY",
+        "run `rt lib` in crates/krl_embed, which proves and makes it, or name its folder by KRL_LIBRARY, \
+         or have pkg-config find krl",
     );
     warn_without(
         &kit.join("liblibc_c.a"),
@@ -26,17 +36,30 @@ fn warn_without(library: &Path, remedy: &str) {
 }
 
 fn link(folder: &Path, name: &str) {
-    println!("cargo:rustc-link-search=native={}", folder.display());
+    // Where nothing was found, the warning says what to do.
+    if folder != Path::new("") {
+        println!("cargo:rustc-link-search=native={}", folder.display());
+    }
     println!("cargo:rustc-link-lib=static={name}");
 }
 
-/// `KRL_LIBRARY`, or the folder in which `rt lib` leaves `libkrl_embed.a`.
+/// `KRL_LIBRARY`; or the folder in which `rt lib` leaves `libkrl_embed.a`, if that is there; or what
+/// pkg-config finds.
 fn library_folder() -> PathBuf {
     if let Some(folder) = named_by("KRL_LIBRARY") {
         return folder;
     }
     let here = env::var_os("CARGO_MANIFEST_DIR").map(PathBuf::from).unwrap_or_default();
-    here.join("../../crates/krl_embed/out")
+    let proved = here.join("../../crates/krl_embed/out");
+    if proved.join("libkrl_embed.a").exists() { proved } else { installed().unwrap_or(proved) }
+}
+
+/// The folder of the library that is installed, if pkg-config finds one.
+fn installed() -> Option<PathBuf> {
+    println!("cargo:rerun-if-env-changed=PKG_CONFIG_PATH");
+    let found = Command::new("pkg-config").args(["--variable=libdir", "krl"]).output().ok()?;
+    let folder = PathBuf::from(String::from_utf8(found.stdout).ok()?.trim());
+    (found.status.success() && folder.join(INSTALLED).exists()).then_some(folder)
 }
 
 /// `KRL_KIT_C`, or the folder `c` of the kit whose `rt` is on the PATH.

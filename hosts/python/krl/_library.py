@@ -133,8 +133,10 @@ def _places() -> list[str]:
     named = os.environ.get(NAMED_BY)
     if named:
         return [named]
-    beside = Path(__file__).with_name("libkrl.so")
-    return [str(beside), "libkrl.so"]
+    here = Path(__file__).resolve()
+    # The package is installed as share/krl/python/krl, beside the folder lib.
+    installed = here.parents[4] / "lib" if len(here.parents) > 4 else here.parent
+    return [str(here.with_name("libkrl.so")), str(installed / "libkrl.so.0"), "libkrl.so.0"]
 
 
 def _declared(found: ctypes.CDLL) -> ctypes.CDLL:

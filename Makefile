@@ -1,0 +1,25 @@
+# Builds, installs and packs what a user of krl needs. It proves nothing: LIBRARY has the proved library.
+#
+#     make                        builds the programs in Rust, and the shared library
+#     make install PREFIX=/usr    puts them, the header and the libraries there; DESTDIR stands before it
+#     make dist                   makes an archive of the same in OUT
+PREFIX = /usr/local
+LIBRARY = $(CURDIR)/crates/krl_embed/out
+KIT = $(dir $(realpath $(shell command -v rt)))../c
+TARGET = $(CURDIR)/hosts/target
+OUT = $(CURDIR)/dist
+# --config debian.toml takes the crates from Debian's packages.
+CARGO_FLAGS =
+CARGO = cargo
+
+all:
+	cd hosts && KRL_LIBRARY=$(LIBRARY) KRL_KIT_C=$(KIT) CARGO_TARGET_DIR=$(TARGET) \
+	    $(CARGO) build --release $(CARGO_FLAGS) -p krl-server -p krl-client
+
+install: all
+	LIBRARY=$(LIBRARY) KIT=$(KIT) PROGRAMS=$(TARGET)/release hosts/packaging/install $(DESTDIR)$(PREFIX)
+
+dist: all
+	LIBRARY=$(LIBRARY) KIT=$(KIT) PROGRAMS=$(TARGET)/release hosts/packaging/archive $(OUT)
+
+.PHONY: all dist install
