@@ -67,12 +67,15 @@ class Link:
         """Begins a job, and waits for its answer so many seconds at most."""
         with self.lock:
             self.jobs.add(job)
-        self.wake()
-        if not job.has_ended(timeout):
+        try:
+            self.wake()
+            job.has_ended(timeout)
+        finally:
+            # Also where Ctrl-C ends the wait.
             with self.lock:
                 self.jobs.abandon(job)
-            if not job.has_ended():
-                raise self._timed_out()
+        if not job.has_ended():
+            raise self._timed_out()
         return job.answer()
 
     def wake(self) -> None:
