@@ -7,16 +7,19 @@ use crate::arguments::{BenchWords, Options};
 use crate::failure::Failure;
 use crate::session::Session;
 use crate::signals::{Signals, Taken};
-use krl::{Client, END, Outcome, Value};
+use krl::{Client, END, Outcome};
+use rand::SeedableRng;
+use rand::rngs::StdRng;
 use std::ops::Range;
 use std::sync::Arc;
 use std::thread;
 use std::time::{Duration, Instant};
-use workload::{Measured, Worker};
+use workload::{Measured, Span, Worker, random_value};
 
 /// Makes the rows, measures, deletes the rows, and prints what was measured.
 pub fn run(options: &Options, words: &BenchWords, signals: &Signals) -> Result<u8, Failure> {
     let keys = keys_of(words)?;
+    refuse_clients(options, words)?;
     let sessions = Session::join_some(options, usize::from(words.clients))?;
     for session in &sessions {
         signals.ends(&session.client);
@@ -25,7 +28,7 @@ pub fn run(options: &Options, words: &BenchWords, signals: &Signals) -> Result<u
     let ended = measure_all(&sessions, &keys, words, &taken);
     sessions.into_iter().for_each(Session::leave);
     let (measured, took) = ended?;
-    report::print(options.format, words, &measured, took)?;
+    report::print(options.format(), words, &measured, took)?;
     match measured.failed {
         0 => Ok(0),
         failed => Err(Failure::NoAnswer(format!("{failed} calls failed: they got no answer"))),
@@ -38,10 +41,29 @@ fn keys_of(words: &BenchWords) -> Result<Range<u64>, Failure> {
         Failure::Usage("the keys end above 2^63 - 2: give a lower --first-key".into())
     })?;
     if words.rows > words.keys {
-        let why = format!("a read of {} rows needs as many --keys", words.rows);
-        return Err(Failure::Usage(why));
+        return Err(Failure::Usage(format!(
+            "a read of {} rows needs as many keys, and there are {}: give fewer --rows or more \
+             --keys",
+            words.rows, words.keys
+        )));
     }
     Ok(words.first_key..end)
+}
+
+/// Each client needs a number of its own.
+fn refuse_clients(options: &Options, words: &BenchWords) -> Result<(), Failure> {
+    let numbers = &options.number.0;
+    let count = numbers.clone().count();
+    if usize::from(words.clients) <= count {
+        return Ok(());
+    }
+    Err(Failure::Usage(format!(
+        "{} clients need as many numbers, and {} to {} are {count}: give fewer --clients or more \
+         numbers, as --number 0-63",
+        words.clients,
+        numbers.start(),
+        numbers.end()
+    )))
 }
 
 fn measure_all(
@@ -54,7 +76,7 @@ fn measure_all(
     let maker = maker.ok_or_else(|| Failure::Usage("a benchmark needs a client".into()))?;
     refuse_rows(maker, keys)?;
     let mut made = keys.start..keys.start;
-    let measured = make_rows(maker, keys, &mut made, signals)
+    let measured = make_rows(maker, keys, words.value_size, &mut made, signals)
         .and_then(|()| measure(sessions, keys, words, signals));
     let deleted = delete_rows(maker, made);
     let measured = measured?;
@@ -79,14 +101,16 @@ fn refuse_rows(client: &Client, keys: &Range<u64>) -> Result<(), Failure> {
 fn make_rows(
     client: &Client,
     keys: &Range<u64>,
+    value_size: u8,
     made: &mut Range<u64>,
     signals: &Taken<'_>,
 ) -> Result<(), Failure> {
+    let mut random = StdRng::from_entropy();
     for key in keys.clone() {
         if signals.is_ended() {
             break;
         }
-        let outcome = client.insert(key, Value::from(key))?;
+        let outcome = client.insert(key, random_value(&mut random, value_size))?;
         if outcome != Outcome::Applied {
             return Err(Failure::Refused(format!("the row of key {key} can't be made: {outcome}")));
         }
@@ -101,15 +125,15 @@ fn delete_rows(client: &Client, mut made: Range<u64>) -> Result<(), Failure> {
     Ok(())
 }
 
-/// Lets each thread of each client work until the time is over.
+/// Lets each thread of each client work until the time is over, and says what was measured in how
+/// long.
 fn measure(
     sessions: &[Session],
     keys: &Range<u64>,
     words: &BenchWords,
     signals: &Taken<'_>,
 ) -> Result<(Measured, Duration), Failure> {
-    let begun = Instant::now();
-    let end = begun + Duration::from_secs(words.seconds);
+    let span = Span::from(Instant::now(), words.warm_up, words.seconds);
     let clients = sessions.iter().map(|session| &session.client);
     let workers: Result<Vec<Worker>, Failure> = clients
         .flat_map(|client| (0..words.threads).map(move |_| client))
@@ -117,7 +141,7 @@ fn measure(
         .collect();
     let mut all = Measured::default();
     thread::scope(|scope| {
-        let run = |mut worker: Worker| scope.spawn(move || worker.run(end, signals));
+        let run = |mut worker: Worker| scope.spawn(move || worker.run(span, signals));
         let threads: Vec<_> = workers?.into_iter().map(run).collect();
         for thread in threads {
             let measured = thread
@@ -127,5 +151,5 @@ fn measure(
         }
         Ok::<(), Failure>(())
     })?;
-    Ok((all, begun.elapsed()))
+    Ok((all, span.measured_from.elapsed()))
 }

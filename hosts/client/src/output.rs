@@ -15,7 +15,7 @@ pub struct Printer {
 
 impl Printer {
     pub fn of(options: &Options) -> Printer {
-        Printer { format: options.format, values: options.values() }
+        Printer { format: options.format(), values: options.values() }
     }
 
     /// The rows, one a line; or an object that has them.

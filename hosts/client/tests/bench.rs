@@ -2,10 +2,13 @@
 mod support;
 
 use krl::Value;
-use support::World;
+use nix::sys::signal::Signal;
+use support::{Ended, World, signal, wait_for};
 
-const WORDS: [&str; 11] = [
+const WORDS: [&str; 13] = [
     "bench",
+    "--warm-up",
+    "0",
     "--seconds",
     "1",
     "--clients",
@@ -21,7 +24,7 @@ const WORDS: [&str; 11] = [
 #[test]
 fn a_benchmark_tells_calls_rates_and_quantiles() {
     let world = World::new("bench");
-    let words = [&WORDS[..], &["--skew", "zipf:0.9", "--format", "json"]].concat();
+    let words = [&WORDS[..], &["--skew", "zipf:0.9", "--json"]].concat();
     let said: serde_json::Value = serde_json::from_str(&world.prints(&words)).unwrap();
     for kind in ["cached_scans", "reads_that_asked", "writes"] {
         let times = &said[kind];
@@ -32,7 +35,7 @@ fn a_benchmark_tells_calls_rates_and_quantiles() {
         assert!(quantiles[0] > 0.0 && quantiles.is_sorted(), "{said}");
     }
     assert_eq!((&said["clients"], &said["failed"]), (&2.into(), &0.into()), "{said}");
-    assert_eq!(said["skew"], "zipf:0.9");
+    assert_eq!((&said["skew"], &said["value_size"]), (&"zipf:0.9".into(), &8.into()), "{said}");
     assert_eq!(world.prints(&["scan", ".."]), "", "its rows are gone");
 }
 
@@ -55,4 +58,59 @@ fn rows_that_are_there_are_left_alone() {
     assert_eq!(world.prints(&["scan", ".."]), "20=u64:1\n");
     world.prints(&[&WORDS[..], &["--first-key", "21"]].concat());
     assert_eq!(world.prints(&["scan", ".."]), "20=u64:1\n");
+}
+
+#[test]
+fn a_warm_up_is_no_part_of_the_time() {
+    let world = World::new("warm");
+    let words = ["bench", "--json", "--warm-up", "1", "--seconds", "1", "--keys", "20"];
+    let said = world.prints(&[&words[..], &["--value-size", "32"]].concat());
+    let said: serde_json::Value = serde_json::from_str(&said).unwrap();
+    // With the warm-up there are two seconds, and a busy machine adds to both.
+    assert!(said["seconds"].as_f64().unwrap() >= 1.0, "{said}");
+    assert_eq!((&said["warm_up_seconds"], &said["value_size"]), (&1.into(), &32.into()), "{said}");
+    assert_eq!(said["failed"], 0, "{said}");
+}
+
+#[test]
+fn nothing_of_the_warm_up_is_counted() {
+    const KEYS: u64 = 20;
+    let world = World::new("warming");
+    let words = ["bench", "--json", "--warm-up", "3600", "--keys", "20", "--mix", "50,50"];
+    let program = world.spawn(&words);
+    wait_for("it writes, behind its inserts", || world.server.status().commits > 3 * KEYS);
+    signal(&program, Signal::SIGINT);
+    let ended = Ended::from(program.wait_with_output().unwrap());
+    assert_eq!(ended.status, 0, "{ended:?}");
+    let said: serde_json::Value = serde_json::from_str(&ended.out).unwrap();
+    for kind in ["cached_scans", "reads_that_asked", "writes"] {
+        assert_eq!((&said[kind]["calls"], &said["failed"]), (&0.into(), &0.into()), "{said}");
+    }
+    assert_eq!(world.prints(&["scan", ".."]), "", "its rows are gone");
+}
+
+#[test]
+fn what_a_benchmark_cannot_do_is_a_usage() {
+    let world = World::new("usage");
+    let cases: [(&[&str], &str); 14] = [
+        (&["--clients", "0"], "0 is not in 1..=64"),
+        (&["--clients", "65"], "65 is not in 1..=64"),
+        (&["--clients", "9"], "9 clients need as many numbers, and 56 to 63 are 8"),
+        (&["--threads", "0"], "0 is not in 1..=256"),
+        (&["--seconds", "0"], "0 is not in 1..=86400"),
+        (&["--warm-up", "3601"], "3601 is not in 0..=3600"),
+        (&["--mix", "95,6"], "two numbers with the sum 100 are expected, as 95,5"),
+        (&["--skew", "normal"], "uniform, zipf, or zipf:EXPONENT of 0 to 10 is expected"),
+        (&["--skew", "zipf:11"], "uniform, zipf, or zipf:EXPONENT of 0 to 10 is expected"),
+        (&["--keys", "65537"], "65537 is not in 1..=65536"),
+        (&["--rows", "0"], "0 is not in 1..=65536"),
+        (&["--rows", "20", "--keys", "10"], "20 rows needs as many keys, and there are 10"),
+        (&["--value-size", "33"], "33 is not in 0..=32"),
+        (&["--first-key", "9223372036854775806"], "the keys end above 2^63 - 2"),
+    ];
+    for (words, sentence) in cases {
+        let ended = world.run(&[&["bench"], words].concat());
+        assert_eq!((ended.status, ended.out.as_str()), (2, ""), "{words:?}: {ended:?}");
+        assert!(ended.errors.contains(sentence), "{words:?}: {ended:?}");
+    }
 }

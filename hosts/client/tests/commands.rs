@@ -122,7 +122,7 @@ fn words_that_cannot_be_understood_are_status_2() {
         (&["--timeout", "soon", "get", "1"], "--timeout"),
         (&["--lock-file", "file", "get", "1"], "--lock-file needs --number and one number"),
         (&["bench", "--mix", "90,5"], "two numbers with the sum 100 are expected"),
-        (&["bench", "--keys", "5", "--rows", "6"], "a read of 6 rows needs as many --keys"),
+        (&["bench", "--keys", "5", "--rows", "6"], "a read of 6 rows needs as many keys"),
         (&["bench", "--first-key", "9223372036854775800"], "give a lower --first-key"),
         (&["hold", "1", "2"], "COMMAND"),
         (&["hold", "2", "1", "--", "true"], "is no range"),

@@ -33,6 +33,13 @@ impl Histogram {
         }
     }
 
+    /// Counts a time if it is to be counted.
+    pub fn record_if(&mut self, is_counted: bool, time: Duration) {
+        if is_counted {
+            self.record(time);
+        }
+    }
+
     /// Counts all that the other one has counted.
     pub fn add(&mut self, other: &Histogram) {
         for (count, more) in self.counts.iter_mut().zip(&other.counts) {
@@ -121,6 +128,21 @@ mod tests {
         }
         assert_eq!(large.max(), Duration::from_millis(100));
         assert_eq!(large.quantile(1000), large.max());
+    }
+
+    #[test]
+    fn few_slow_calls_show_in_the_last_quantile_alone() {
+        let few_slow = of((0..9980).map(|_| 10).chain((0..20).map(|_| 5_000_000)));
+        let quantiles = [500, 990, 999].map(|it| few_slow.quantile(it).as_nanos());
+        assert_eq!(quantiles, [10, 10, 5_000_000]);
+    }
+
+    #[test]
+    fn what_is_not_to_be_counted_is_not() {
+        let mut histogram = of([7]);
+        histogram.record_if(false, Duration::from_nanos(9));
+        histogram.record_if(true, Duration::from_nanos(8));
+        assert_eq!((histogram.count(), histogram.max()), (2, Duration::from_nanos(8)));
     }
 
     #[test]

@@ -35,14 +35,17 @@ fn kinds(measured: &Measured) -> [(&'static str, &'static str, &Histogram); 3] {
 
 fn text(words: &BenchWords, measured: &Measured, took: Duration) -> String {
     let mut text = format!(
-        "clients {}, threads of each {}, {:.1} s; {} % reads of {} rows, keys {}, {}\n",
+        "clients {}, threads of each {}, {:.1} s after {} s; {} % reads of {} rows, keys {}, {}, \
+         values of {} bytes\n",
         words.clients,
         words.threads,
         took.as_secs_f64(),
+        words.warm_up,
         words.mix.reads,
         words.rows,
         words.keys,
-        skew(words.skew)
+        skew(words.skew),
+        words.value_size
     );
     let mut line = |name: &str, columns: [String; 6]| {
         let [calls, rate, p50, p99, p999, max] = columns;
@@ -65,11 +68,13 @@ fn json(words: &BenchWords, measured: &Measured, took: Duration) -> Json {
     let mut all = json!({
         "clients": words.clients,
         "threads": words.threads,
+        "warm_up_seconds": words.warm_up,
         "seconds": took.as_secs_f64(),
         "reads_percent": words.mix.reads,
         "rows": words.rows,
         "keys": words.keys,
         "skew": skew(words.skew),
+        "value_size": words.value_size,
         "failed": measured.failed,
     });
     for (_, name, times) in kinds(measured) {

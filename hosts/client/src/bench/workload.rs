@@ -3,14 +3,14 @@ use crate::arguments::{BenchWords, Mix, Skew};
 use crate::bench::histogram::Histogram;
 use crate::failure::Failure;
 use crate::signals::Taken;
-use krl::{Client, Outcome, Row, Value};
+use krl::{Client, MAX_VALUE_BYTES, Outcome, Row, Value};
 use rand::Rng;
 use rand::SeedableRng;
 use rand::distributions::{Distribution, WeightedIndex};
 use rand::rngs::StdRng;
 use std::ops::Range;
 use std::sync::Arc;
-use std::time::Instant;
+use std::time::{Duration, Instant};
 
 /// What was measured.
 #[derive(Clone, Debug, Default)]
@@ -21,8 +21,35 @@ pub struct Measured {
     pub asked: Histogram,
     /// Writes that were applied.
     pub writes: Histogram,
-    /// Calls that got no answer.
+    /// Calls that got no answer, also those of the warm-up.
     pub failed: u64,
+}
+
+/// When the calls are measured, and when they end.
+#[derive(Clone, Copy, Debug)]
+pub struct Span {
+    /// The warm-up is over.
+    pub measured_from: Instant,
+    pub end: Instant,
+}
+
+impl Span {
+    /// A warm-up from this moment on, and then what is measured, both in seconds.
+    pub fn from(begin: Instant, warm_up: u64, seconds: u64) -> Span {
+        let measured_from = begin + Duration::from_secs(warm_up);
+        Span { measured_from, end: measured_from + Duration::from_secs(seconds) }
+    }
+
+    /// Calls of the warm-up are made and not counted.
+    pub fn counts(&self, call_begun: Instant) -> bool {
+        call_begun >= self.measured_from
+    }
+}
+
+/// A value of so many bytes, 32 at most.
+pub fn random_value(random: &mut impl Rng, size: u8) -> Value {
+    let bytes: [u8; MAX_VALUE_BYTES] = random.r#gen();
+    Value::new(&bytes[..MAX_VALUE_BYTES.min(size.into())]).unwrap_or_default()
 }
 
 impl Measured {
@@ -69,6 +96,8 @@ pub struct Worker {
     mix: Mix,
     /// Rows of each read.
     rows: u64,
+    /// Bytes of each value.
+    value_size: u8,
     random: StdRng,
     room: Vec<Row>,
     measured: Measured,
@@ -86,6 +115,7 @@ impl Worker {
             places: Places::of(words.skew, words.keys)?,
             mix: words.mix,
             rows: words.rows,
+            value_size: words.value_size,
             random: StdRng::from_entropy(),
             room: Vec::new(),
             measured: Measured::default(),
@@ -93,38 +123,42 @@ impl Worker {
     }
 
     /// Reads and writes until the time, or until a signal.
-    pub fn run(&mut self, end: Instant, signals: &Taken<'_>) -> Measured {
-        while Instant::now() < end && !signals.is_ended() {
+    pub fn run(&mut self, span: Span, signals: &Taken<'_>) -> Measured {
+        loop {
+            let now = Instant::now();
+            if now >= span.end || signals.is_ended() {
+                return std::mem::take(&mut self.measured);
+            }
+            let counted = span.counts(now);
             let place = self.places.next(&mut self.random);
             if self.random.gen_range(0..100) < self.mix.reads {
-                self.read(place);
+                self.read(place, counted);
             } else {
-                self.write(place);
+                self.write(place, counted);
             }
         }
-        std::mem::take(&mut self.measured)
     }
 
     /// Reads rows from this place on, as many as are asked for.
-    fn read(&mut self, place: u64) {
+    fn read(&mut self, place: u64, counted: bool) {
         let lo = (self.keys.start + place).min(self.keys.end - self.rows);
         let keys = lo..lo + self.rows;
         let begun = Instant::now();
         if self.client.cached_into(keys.clone(), &mut self.room) {
-            self.measured.cached.record(begun.elapsed());
+            self.measured.cached.record_if(counted, begun.elapsed());
             return;
         }
         match self.client.read(keys) {
-            Ok(_) => self.measured.asked.record(begun.elapsed()),
+            Ok(_) => self.measured.asked.record_if(counted, begun.elapsed()),
             Err(_) => self.measured.failed += 1,
         }
     }
 
-    fn write(&mut self, place: u64) {
-        let value = Value::from(self.random.gen_range(0..=u64::MAX));
+    fn write(&mut self, place: u64, counted: bool) {
+        let value = random_value(&mut self.random, self.value_size);
         let begun = Instant::now();
         match self.client.put(self.keys.start + place, value) {
-            Ok(Outcome::Applied) => self.measured.writes.record(begun.elapsed()),
+            Ok(Outcome::Applied) => self.measured.writes.record_if(counted, begun.elapsed()),
             _ => self.measured.failed += 1,
         }
     }
@@ -150,13 +184,53 @@ mod tests {
         assert!(counts.iter().all(|count| (9_000..11_000).contains(count)), "{counts:?}");
     }
 
+    /// The weight of the ranks from 1 to the count, each a share of them all.
+    fn shares(exponent: f64, count: u32) -> Vec<f64> {
+        let weights = (1..=count).map(|rank| f64::from(rank).powf(-exponent));
+        let sum: f64 = weights.clone().sum();
+        weights.map(|weight| weight / sum).collect()
+    }
+
     #[test]
-    fn the_place_of_rank_r_is_drawn_one_rth_as_often() {
-        let counts = counts(Skew::Zipf(1.0), 100, 500_000);
-        for rank in [2, 5, 10] {
-            let (first, other) = (counts[0], counts[rank - 1] * rank as u64);
-            assert!(first.abs_diff(other) < first / 10, "{rank}: {first} and {other}");
+    fn places_are_drawn_as_often_as_their_ranks_weigh() {
+        const DRAWS: u32 = 400_000;
+        for exponent in [0.0, 0.5, 1.0, 1.5] {
+            let counts = counts(Skew::Zipf(exponent), 50, DRAWS.into());
+            for (count, share) in counts.into_iter().zip(shares(exponent, 50)) {
+                let expected = share * f64::from(DRAWS);
+                let found = f64::from(u32::try_from(count).unwrap());
+                // Five standard deviations of a count that is drawn so.
+                let spread = 5.0 * expected.sqrt();
+                assert!((found - expected).abs() < spread, "{exponent}: {found} for {expected}");
+            }
         }
-        assert!(counts.iter().all(|count| *count > 0));
+    }
+
+    #[test]
+    fn every_place_is_drawn_and_none_besides() {
+        for skew in [Skew::Uniform, Skew::Zipf(1.0)] {
+            assert_eq!(counts(skew, 1, 100), [100]);
+            assert!(counts(skew, 100, 100_000).iter().all(|count| *count > 0));
+        }
+    }
+
+    #[test]
+    fn calls_of_the_warm_up_are_not_counted() {
+        let begin = Instant::now();
+        let span = Span::from(begin, 2, 3);
+        let counts = [0, 1999, 2000, 4999].map(|it| span.counts(begin + Duration::from_millis(it)));
+        assert_eq!(counts, [false, false, true, true]);
+        assert_eq!(span.end - begin, Duration::from_secs(5));
+        assert!(Span::from(begin, 0, 1).counts(begin));
+    }
+
+    #[test]
+    fn values_have_their_size() {
+        let mut random = StdRng::seed_from_u64(1);
+        for size in [0, 1, 8, 32] {
+            assert_eq!(random_value(&mut random, size).as_bytes().len(), usize::from(size));
+        }
+        let [one, other] = [(); 2].map(|()| random_value(&mut random, 32));
+        assert_ne!(one, other);
     }
 }
