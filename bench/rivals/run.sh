@@ -1,19 +1,37 @@
 #!/bin/sh
-# Measures what Redis and etcd take for the work of `krl_drive bench`, on the same disk and over TCP on this machine:
+# krl beside Redis, etcd and PostgreSQL: the same work for each, over TCP on this machine and on the same disk. It
+# prints the first table of docs/BENCH.md, which says what each figure is.
 #
-#     bench/rivals/run.sh FOLDER
+#     bench/rivals/run.sh [ROUNDS]     7 rounds if nothing is said: two minutes, besides the build
 #
-# It takes python3, and redis-server and etcd where they are there (Debian: redis-server, etcd-server). Both sync each
-# write before they answer it. FOLDER is made, and has to lie on the disk that is to be measured.
+# For KRL_LIBRARY, KRL_KIT_C and CARGO_TARGET_DIR see tests/hosts. The rivals are taken where they are installed, from
+# Debian 12's packages redis-server, etcd-server and postgresql, and the others are named as NOT RUN. What measures
+# them is one program in Rust, `krl-rivals`, which speaks to each in its own protocol. All data lie in a folder under
+# TMPDIR, or /tmp, which is gone when this ends, and which has to be on the disk that is to be measured.
+#
+# The systems take turns in each round, and each figure is that of the best round.
 set -eu
 
+rounds=${1-7}
 here=$(cd -- "$(dirname -- "$0")" && pwd)
-folder=${1:?usage: bench/rivals/run.sh FOLDER}
-mkdir -p "$folder"
-folder=$(cd -- "$folder" && pwd)
-redis_port=17379 etcd_port=17380 peer_port=17381
+cd "$here"
+config='--config ../../hosts/debian.toml'
+cargo fetch --quiet $config >/dev/null 2>&1 || config=
+# shellcheck disable=SC2086
+cargo build --release --quiet $config
+measure=${CARGO_TARGET_DIR-$here/target}/release/krl-rivals
+
+folder=$(mktemp -d)
+chmod 711 "$folder"
 running=''
-trap 'kill $running 2>/dev/null || :; wait' EXIT
+end() {
+    # shellcheck disable=SC2086
+    [ -z "$running" ] || kill $running 2>/dev/null || :
+    wait
+    rm -rf "$folder"
+}
+trap end EXIT
+trap 'exit 1' INT TERM
 
 # Runs the server $2.. in the folder $1 until the end.
 serve() {
@@ -24,18 +42,56 @@ serve() {
     running="$running $!"
 }
 
+missing() {
+    echo "NOT RUN: $1 ($2; Debian's package $3)"
+}
+
+serve_postgres() {
+    bin=$(ls -d /usr/lib/postgresql/*/bin 2>/dev/null | tail -n 1)
+    if [ ! -x "$bin/postgres" ] || ! id postgres >/dev/null 2>&1; then
+        missing PostgreSQL 'there is no server, or no user postgres' postgresql
+        return
+    fi
+    mkdir "$folder/postgres"
+    # It refuses to run as root.
+    as=
+    if [ "$(id -u)" = 0 ]; then
+        as='setpriv --reuid postgres --regid postgres --init-groups --'
+        chown postgres "$folder/postgres"
+    fi
+    # shellcheck disable=SC2086
+    (cd / && $as "$bin/initdb" --pgdata "$folder/postgres/data" --username postgres --auth trust --locale C \
+        --encoding UTF8 --no-sync) >"$folder/initdb.log" 2>&1 || { cat "$folder/initdb.log"; exit 1; }
+    # shellcheck disable=SC2086
+    serve postgres $as "$bin/postgres" -D "$folder/postgres/data" -h 127.0.0.1 -p "$1" -k '' \
+        -c fsync=on -c synchronous_commit=on
+    systems="$systems postgres=127.0.0.1:$1"
+}
+
+# shellcheck disable=SC2046
+set -- $("$measure" ports 5)
+mkdir "$folder/krl"
+serve krl "$measure" serve "127.0.0.1:$1" "$folder/krl"
+systems=krl=127.0.0.1:$1
+
 if command -v redis-server >/dev/null; then
-    serve redis redis-server --port "$redis_port" --bind 127.0.0.1 --save '' --appendonly yes --appendfsync always
-    "$here/rivals.py" redis "$redis_port"
+    serve redis redis-server --port "$2" --bind 127.0.0.1 --save '' --appendonly yes --appendfsync always
+    systems="$systems redis=127.0.0.1:$2"
 else
-    echo "redis-server is not here"
+    missing Redis 'there is no redis-server' redis-server
 fi
 if command -v etcd >/dev/null; then
-    serve etcd etcd --data-dir "$folder/etcd/data" --listen-client-urls "http://127.0.0.1:$etcd_port" \
-        --advertise-client-urls "http://127.0.0.1:$etcd_port" --listen-peer-urls "http://127.0.0.1:$peer_port" \
-        --initial-advertise-peer-urls "http://127.0.0.1:$peer_port" \
-        --initial-cluster "default=http://127.0.0.1:$peer_port"
-    "$here/rivals.py" etcd "$etcd_port"
+    serve etcd etcd --data-dir "$folder/etcd/data" --listen-client-urls "http://127.0.0.1:$3" \
+        --advertise-client-urls "http://127.0.0.1:$3" --listen-peer-urls "http://127.0.0.1:$4" \
+        --initial-advertise-peer-urls "http://127.0.0.1:$4" --initial-cluster "default=http://127.0.0.1:$4"
+    systems="$systems etcd=127.0.0.1:$3"
 else
-    echo "etcd is not here"
+    missing etcd 'there is no etcd' etcd-server
 fi
+serve_postgres "$5"
+
+mkdir "$folder/clients"
+echo "rounds $rounds; data on $(stat -f -c %T "$folder"); load $(cut -d ' ' -f 1-3 /proc/loadavg)"
+# shellcheck disable=SC2086
+"$measure" measure "$folder/clients" "$rounds" $systems
+echo "load at the end $(cut -d ' ' -f 1-3 /proc/loadavg)"
