@@ -16,6 +16,7 @@ rounds=${1-7}
 here=$(cd -- "$(dirname -- "$0")" && pwd)
 cd "$here"
 config='--config ../../hosts/debian.toml'
+# shellcheck disable=SC2086
 cargo fetch --quiet $config >/dev/null 2>&1 || config=
 # shellcheck disable=SC2086
 cargo build --release --quiet $config
@@ -42,18 +43,25 @@ serve() {
     running="$running $!"
 }
 
+# Says which version is measured.
+version() {
+    echo "measured: $*"
+}
+
 missing() {
     echo "NOT RUN: $1 ($2; Debian's package $3)"
 }
 
 serve_postgres() {
+    # shellcheck disable=SC2012
     bin=$(ls -d /usr/lib/postgresql/*/bin 2>/dev/null | tail -n 1)
-    if [ ! -x "$bin/postgres" ] || ! id postgres >/dev/null 2>&1; then
-        missing PostgreSQL 'there is no server, or no user postgres' postgresql
+    if [ ! -x "$bin/postgres" ]; then
+        missing PostgreSQL 'there is no server in /usr/lib/postgresql' postgresql
         return
     fi
     mkdir "$folder/postgres"
-    # It refuses to run as root.
+    version "$("$bin/postgres" --version)"
+    # It refuses to run as root, and takes the user of its package then.
     as=
     if [ "$(id -u)" = 0 ]; then
         as='setpriv --reuid postgres --regid postgres --init-groups --'
@@ -75,12 +83,14 @@ serve krl "$measure" serve "127.0.0.1:$1" "$folder/krl"
 systems=krl=127.0.0.1:$1
 
 if command -v redis-server >/dev/null; then
+    version "$(redis-server --version | cut -d ' ' -f 1-3)"
     serve redis redis-server --port "$2" --bind 127.0.0.1 --save '' --appendonly yes --appendfsync always
     systems="$systems redis=127.0.0.1:$2"
 else
     missing Redis 'there is no redis-server' redis-server
 fi
 if command -v etcd >/dev/null; then
+    version "$(etcd --version | head -n 1)"
     serve etcd etcd --data-dir "$folder/etcd/data" --listen-client-urls "http://127.0.0.1:$3" \
         --advertise-client-urls "http://127.0.0.1:$3" --listen-peer-urls "http://127.0.0.1:$4" \
         --initial-advertise-peer-urls "http://127.0.0.1:$4" --initial-cluster "default=http://127.0.0.1:$4"

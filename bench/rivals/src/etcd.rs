@@ -118,7 +118,9 @@ impl Connection for Watching {
         let mut rows = Vec::new();
         let revision = self.ask(&keys, &mut rows)?;
         let local = Arc::new(Local::default());
-        rows.into_iter().for_each(|row| local.lock().fill(row));
+        for row in rows {
+            local.lock().fill(row);
+        }
         let mut watch = Grpc::open(&self.address)?;
         let socket = watch.socket().try_clone()?;
         socket.set_read_timeout(None)?;

@@ -32,7 +32,7 @@ impl Plan {
             cached_scans: 20_000,
             writing: Duration::from_millis(700),
             warm_up: Duration::from_millis(300),
-            mixing: Duration::from_millis(1000),
+            mixing: Duration::from_secs(1),
         }
     }
 }
@@ -194,7 +194,9 @@ mod tests {
             ..Figures::default()
         };
         let mut best = Figures::default();
-        [round(9, 3.0), round(7, 2.0), round(8, 1.0)].iter().for_each(|it| best.keep_better(it));
+        for round in [round(9, 3.0), round(7, 2.0), round(8, 1.0)] {
+            best.keep_better(&round);
+        }
         assert_eq!(best.first_scan, Some(Duration::from_micros(7)));
         assert_eq!((best.cached_scan, best.calls), (None, Some(3.0)));
         assert_eq!((best.mix.calls, best.mix.rows, best.mix.stale), (3, 6, 9));

@@ -81,7 +81,9 @@ pub fn of(system: &dyn System, caching: Caching, plan: &Plan) -> Found<Mix> {
     })?;
     clients::close(connections)?;
     let mut mix = Mix::default();
-    all.iter().for_each(|it| mix.add(it));
+    for one in &all {
+        mix.add(one);
+    }
     Ok(mix)
 }
 
@@ -203,7 +205,9 @@ mod tests {
         assert_eq!(client.read().unwrap().stale, 0);
         acknowledged.0.iter().for_each(|it| it.store(1, Ordering::Release));
         assert_eq!(client.read().unwrap().stale, ROWS_OF_A_READ);
-        (0..1000).for_each(|_| drop(client.call().unwrap()));
+        for _ in 0..1000 {
+            client.call().unwrap();
+        }
         let is_own = |key: &u64| key % u64::from(CLIENTS) == 3;
         assert!(!stuck.0.is_empty() && stuck.0.iter().all(is_own));
     }

@@ -97,7 +97,9 @@ impl Tracking {
     fn ask(&mut self, keys: &[u64]) -> Done {
         let found = self.asked.rows(keys)?;
         let mut rows = self.local.lock();
-        found.into_iter().for_each(|row| rows.fill(row));
+        for row in found {
+            rows.fill(row);
+        }
         Ok(())
     }
 }
