@@ -2,7 +2,7 @@
 # krl beside Redis, etcd and PostgreSQL: the same work for each, over TCP on this machine and on the same disk. It
 # prints the first table of docs/BENCH.md, which says what each figure is.
 #
-#     bench/rivals/run.sh [ROUNDS]     7 rounds if nothing is said: two minutes, besides the build
+#     bench/rivals/run.sh [ROUNDS]     7 rounds if nothing is said: two to three minutes, besides the build
 #
 # For KRL_LIBRARY, KRL_KIT_C and CARGO_TARGET_DIR see tests/hosts. The rivals are taken where they are installed, from
 # Debian 12's packages redis-server, etcd-server and postgresql, and the others are named as NOT RUN. What measures
