@@ -5,7 +5,8 @@
 //! left number is the right one, or one more; and no scan of both may find anything else.
 use crate::Found;
 use crate::clients::{Process, this};
-use crate::kill::{free_address, wait_for_server};
+use crate::kill::wait_for_server;
+use crate::ports::free_address;
 use krl::{Outcome, Refused, Row, Shard, ShardMap, ShardRefused, ShardedClient, Value};
 use std::error::Error;
 use std::net::SocketAddr;
