@@ -353,7 +353,9 @@ mod tests {
         new.commit(&[]).unwrap();
         let mut expected = Snapshot::default();
         let kept = [changes()[0], changes()[1], Change::Started { epoch: 2 }, changes()[2]];
-        kept.iter().for_each(|change| expected.apply(change));
+        for change in &kept {
+            expected.apply(change);
+        }
         assert_eq!(open().load().unwrap(), expected);
         std::fs::remove_dir_all(&folder).unwrap();
     }

@@ -1,4 +1,4 @@
-use super::world::{World, messages, row};
+use super::world::{World, row};
 use super::*;
 
 #[test]
