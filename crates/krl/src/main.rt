@@ -158,13 +158,7 @@ fn nodes_by<
     F: Gate + Send + Drop,
     G: Gate + Send + Drop,
     H: Gate + Drop,
->(
-    rt: &R,
-    server: F,
-    first: G,
-    second: H,
-    options: NodesOptions,
-) -> Result<NodesReport, NotRun>
+>(rt: &R, server: F, first: G, second: H, options: NodesOptions) -> Result<NodesReport, NotRun>
     ensures { IfOk result (λ report. report.seed ≡ options.policy) }
 {
     match options.policy {

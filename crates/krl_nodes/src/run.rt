@@ -304,13 +304,7 @@ pub fn run_nodes<
     F: Gate + Send + Drop,
     G: Gate + Send + Drop,
     H: Gate + Drop,
->(
-    rt: &R,
-    alloc: Global,
-    gate0: F,
-    gate1: G,
-    gate2: H,
-) -> Result<NodesReport, NotRun>
+>(rt: &R, alloc: Global, gate0: F, gate1: G, gate2: H) -> Result<NodesReport, NotRun>
     ensures limit { MAX_TURNS ≡ most_turns }
     ensures found { IfOk result (λ report. IsFound seeds report.rows) }
     ensures in_order { IfOk result (λ report. report.seed ≡ None) }
@@ -332,14 +326,7 @@ pub fn run_nodes_by<
     F: Gate + Send + Drop,
     G: Gate + Send + Drop,
     H: Gate + Drop,
->(
-    rt: &R,
-    alloc: Global,
-    gate0: F,
-    gate1: G,
-    gate2: H,
-    seed: u64,
-) -> Result<NodesReport, NotRun>
+>(rt: &R, alloc: Global, gate0: F, gate1: G, gate2: H, seed: u64) -> Result<NodesReport, NotRun>
     requires { seed ≤ END }
     ensures limit { MAX_TURNS ≡ most_turns }
     ensures found { IfOk result (λ report. IsFound seeds report.rows) }

@@ -151,7 +151,13 @@ fn nodes_run_on_threads_as_letters_are_lost(rt: HostRuntime) {
 
 #[test]
 fn nodes_end_whatever_is_refused(rt: HostRuntime) {
-    let run = run_nodes(&rt, rt.alloc(), Naps { rt: &rt }, Naps { rt: &rt }, Naps { rt: &rt });
+    let run = run_nodes(
+        &rt,
+        rt.alloc(),
+        Naps { rt: &rt },
+        Naps { rt: &rt },
+        Naps { rt: &rt },
+    );
     assert!(rt; !matches!(Ended::of(run), Ended::Wrong));
 }
 
