@@ -30,6 +30,9 @@ const MAX_AT_ONCE: usize = 256;
 /// asked who waits for whom.
 const NUDGE: Duration = Duration::from_millis(50);
 
+/// How often a server that commits nothing asks whether the store is still its own.
+const ASKS_STORE: Duration = Duration::from_secs(1);
+
 /// How long a turn looks up who holds what, if somebody asks.
 const LOOKS: Duration = Duration::from_millis(10);
 
@@ -59,6 +62,8 @@ pub(crate) struct EventLoop<S> {
     /// There were turns since it was shown.
     is_stale: bool,
     nudged: Instant,
+    /// When the store was asked last.
+    asked_store: Instant,
     /// The server is to end, and goes on until then at most.
     until: Option<Instant>,
     timings: Arc<Timings>,
@@ -91,6 +96,7 @@ impl<S: Store> EventLoop<S> {
             shown: now,
             is_stale: false,
             nudged: now,
+            asked_store: now,
             until: None,
             timings,
             open: Open::new(),
@@ -133,6 +139,7 @@ impl<S: Store> EventLoop<S> {
             looks += 1;
         }
         self.nudge(began);
+        self.ask_store(began)?;
         self.commit(&changes)?;
         self.send()?;
         self.turned = Instant::now();
@@ -311,10 +318,22 @@ impl<S: Store> EventLoop<S> {
         self.look();
     }
 
+    /// Asks now and then whether the store is still this server's. One behind which another server
+    /// has started would find that at its next commit, and its clients might wait for it until
+    /// then.
+    fn ask_store(&mut self, now: Instant) -> Result<(), ServeError> {
+        if now.saturating_duration_since(self.asked_store) < ASKS_STORE {
+            return Ok(());
+        }
+        self.asked_store = now;
+        Ok(self.store.commit(&[])?)
+    }
+
     fn commit(&mut self, changes: &[Change]) -> Result<(), ServeError> {
         if !changes.is_empty() {
             let began = Instant::now();
             self.store.commit(changes)?;
+            self.asked_store = began;
             if let Some(history) = &mut self.history {
                 history.commit();
             }

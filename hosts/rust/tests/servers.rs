@@ -60,6 +60,9 @@ impl Store for Failing {
     }
 
     fn commit(&mut self, changes: &[Change]) -> Result<(), StoreError> {
+        if changes.is_empty() {
+            return Ok(());
+        }
         if self.batches == 0 {
             return Err((self.fail)());
         }
@@ -159,6 +162,16 @@ fn a_server_behind_another_one_ends_and_raises_no_alarm() {
     assert!(matches!(ended, ServeError::Store(StoreError::Deposed(_))), "{ended:?}");
     drop(client);
     std::fs::remove_file(lock).unwrap();
+}
+
+/// A server asks now and then who has the store, though no client asks anything of it.
+#[test]
+fn an_idle_server_behind_another_one_ends() {
+    let store = Behind { store: MemoryStore::default(), start: 1, is_deposed: true };
+    let server = Server::start(listener(), store).unwrap();
+    assert!(wait_until(|| !server.is_running()));
+    let ended = server.stop().unwrap_err();
+    assert!(matches!(ended, ServeError::Store(StoreError::Deposed(_))), "{ended:?}");
 }
 
 /// A connection that the server has taken.
