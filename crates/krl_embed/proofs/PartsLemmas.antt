@@ -2,7 +2,7 @@
 use Rattle.std.proofs.Common.{◌≡◌, ℕ, ◌+◌, ◌<◌, ◌≤◌, ◌∙◌, List, [], ◌∷◌, ◌++◌, length, get_or, take, drop, map}
 use Rattle.std.proofs.Common.{set, sym, ap, subst, arith, add-one, append_assoc, drop-cons, length-take-le}
 use Rattle.std.proofs.Common.{Option, Some, None}
-use Rattle.std.proofs.Math.Seq.{set-append_seam, take-length}
+use Rattle.std.proofs.Math.Seq.{set-append_seam}
 use Rattle.std.proofs.lemmas.List.{length-map, map_push}
 use Rattle.std.proofs.lemmas.Grind.{take_at_read}
 use Rattle.krl_modes.specs.Spans.{Bounds}
@@ -34,13 +34,6 @@ copied_one found was now i d x lt room row seen =
     ∙ ap (λ (y : PartRow). front ++ y ∷ []) (sym row) in
     ap (λ (l : List PartRow). set l i x) (seen ∙ ap (λ (l : List PartRow). front ++ l) split) ∙ at
     ∙ sym (ap (λ (l : List PartRow). l ++ drop (i + 1) was) grown ∙ append_assoc front (x ∷ []) (drop (i + 1) was))
-
--- where all are copied
-pub copied_all : (found : List Part) (was now : List PartRow) (i : ℕ) → i ≡ length found
-    → now ≡ map row_of (take i found) ++ drop i was → now ≡ map row_of found ++ drop (length found) was
-copied_all found was now i all seen =
-    seen ∙ ap (λ (n : ℕ). map row_of (take n found) ++ drop n was) all
-    ∙ ap (λ (l : List Part). map row_of l ++ drop (length found) was) (take-length found)
 
 -- what is copied is what is told
 tells_as : (bounds : List ℕ) (s : Bounds) (ps : List Part) (was now : List PartRow) (r : Reply) (o : Option Code)
