@@ -105,6 +105,11 @@ impl Lease {
         Lease { client, incarnation, older, state, end, first: None, last: None }
     }
 
+    /// Whose lease it is.
+    pub fn incarnation(&self) -> u64 {
+        self.incarnation
+    }
+
     /// Its end, for threads that read the cache.
     pub fn end(&self) -> Arc<End> {
         Arc::clone(&self.end)

@@ -126,7 +126,7 @@ struct Known {
     /// The incarnation that was registered last, or 0.
     registered: u64,
     present: Option<Present>,
-    /// The last incarnation of which a sign came, and what its host knows of those before.
+    /// The greatest incarnation of which a sign came, and what its host knows of those before.
     signed: Option<(u64, Older)>,
 }
 
@@ -185,7 +185,7 @@ impl LeaseTable {
         if known.has_ended(incarnation) {
             return Some(Answer::Ended { incarnation });
         }
-        known.signed = Some((incarnation, older));
+        known.note(incarnation, older);
         if let Some(present) = known.present.as_mut().filter(|it| it.incarnation == incarnation) {
             let now = now.nanoseconds();
             present.until = ffi::krl_until_sign(present.until, &self.terms, length, now);
@@ -217,7 +217,7 @@ impl LeaseTable {
     /// to the library, and its Bye. That incarnation answers nothing, so its lease may end.
     pub fn evict(&mut self, client: u8, successor: u64) {
         if let Some(known) = self.known.get_mut(usize::from(client)) {
-            known.signed = Some((successor, Older::Unknown));
+            known.note(successor, Older::Unknown);
         }
     }
 
@@ -291,6 +291,14 @@ impl Known {
         incarnation <= self.registered && !is_present
     }
 
+    /// The host of this incarnation knows of leases. A sign of an older one that comes late, or
+    /// again, takes nothing away.
+    fn note(&mut self, incarnation: u64, older: Older) {
+        if self.signed.is_none_or(|(signed, _)| signed <= incarnation) {
+            self.signed = Some((incarnation, older));
+        }
+    }
+
     /// What the host of this incarnation knows of older ones, if a sign of it came.
     fn older_than(&self, incarnation: u64) -> Option<Older> {
         self.signed.filter(|(signed, _)| *signed == incarnation).map(|(_, older)| older)
@@ -303,3 +311,5 @@ fn bit(client: usize) -> u64 {
 
 #[cfg(test)]
 mod tests;
+#[cfg(test)]
+mod world;

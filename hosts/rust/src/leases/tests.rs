@@ -168,6 +168,14 @@ fn who_signs_nothing_is_heard_as_without_leases() {
 }
 
 #[test]
+fn a_late_sign_of_an_older_incarnation_takes_nothing_away() {
+    let mut table = table(record(10, 1 << 5), Some(ten()));
+    table.sign(sign(5, 8, 0), at(0));
+    table.sign(sign(5, 7, FOR_EVER), at(0));
+    assert!(!table.hears(5, 8, at(1)), "it has signed, and nobody vouches");
+}
+
+#[test]
 fn who_is_evicted_half_is_evicted_anew() {
     let mut table = table(record(10, 0), Some(ten()));
     table.evict(3, 8);
