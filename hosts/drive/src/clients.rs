@@ -102,6 +102,19 @@ impl Clients {
         OTHERS.iter().map(|number| notes(&self.folder, *number).map(|notes| notes.len())).sum()
     }
 
+    /// Waits until both clients of another program have begun, if there are any: it may take long to
+    /// start.
+    pub fn wait_for_others(&self) -> Result<(), Box<dyn Error>> {
+        let end = Instant::now() + ENDING;
+        while self.other.is_some() && !self.noted_by_others().is_ok_and(|count| count > 0) {
+            if end < Instant::now() {
+                return Err("the other program notes nothing".into());
+            }
+            thread::sleep(Duration::from_millis(5));
+        }
+        Ok(())
+    }
+
     /// How many were killed.
     pub fn killed(&self) -> usize {
         self.killed

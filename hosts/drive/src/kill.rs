@@ -22,11 +22,11 @@ struct Drive {
 }
 
 /// The clients of another program have to note so many lines for each round.
-const LEAST_BY_OTHERS: u64 = 20;
+const LEAST_BY_OTHERS: u64 = 5;
 
 /// Half of the clients are another program's, and all else is as in `run`.
-pub fn beside(folder: &Path, rounds: u64, program: &Path) -> Found {
-    drive(folder, rounds, "sqlite", "direct", Some(program.to_path_buf()))
+pub fn beside(folder: &Path, rounds: u64, program: &Path, net: &str) -> Found {
+    drive(folder, rounds, "sqlite", net, Some(program.to_path_buf()))
 }
 
 pub fn run(folder: &Path, rounds: u64, store: &str, net: &str) -> Found {
@@ -46,6 +46,7 @@ fn drive(folder: &Path, rounds: u64, store: &str, net: &str, other: Option<PathB
     let clients = Clients::start_beside(other, folder, clients_at.to_string())?;
     let (folder, store) = (folder.to_path_buf(), store.to_string());
     let mut drive = Drive { folder, store, server_at, server, clients };
+    drive.clients.wait_for_others()?;
     let down = drive.kill_for(rounds)?;
     let hung = drive.clients.end()?;
     drive.server.kill()?;

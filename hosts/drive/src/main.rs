@@ -2,7 +2,7 @@
 //!
 //! ```text
 //! krl_drive kill FOLDER ROUNDS [sqlite|unsynced] [direct|lossy]   kills servers and clients
-//! krl_drive beside FOLDER ROUNDS PROGRAM                          kills clients of another program too
+//! krl_drive beside FOLDER ROUNDS PROGRAM [direct|lossy]           half of the clients are PROGRAM's
 //! krl_drive failover FOLDER ROUNDS SERVER [kill,freeze,wake,node] kills servers that stand by
 //! krl_drive shards FOLDER SECONDS KILLS                           kills servers of two shards
 //! krl_drive strangers                                             connects what is no client
@@ -66,7 +66,10 @@ fn run(words: &[&str]) -> Found {
             kill::run(Path::new(folder), rounds.parse()?, store, net)
         }
         ["beside", folder, rounds, program] => {
-            kill::beside(Path::new(folder), rounds.parse()?, Path::new(program))
+            kill::beside(Path::new(folder), rounds.parse()?, Path::new(program), "direct")
+        }
+        ["beside", folder, rounds, program, net] => {
+            kill::beside(Path::new(folder), rounds.parse()?, Path::new(program), net)
         }
         ["failover", folder, rounds, server] => failover::run(
             Path::new(folder),
