@@ -12,6 +12,10 @@ pub const SCAN: u64 = 100;
 /// How many ranges there are to be read for the first time.
 const RANGES: u64 = ROWS / SCAN;
 
+/// Cached scans are timed together, so that the clock does not count, and few at a time, so that
+/// other work of the machine meets few of the batches.
+const BATCH: u32 = 200;
+
 /// How many writers write at once, besides one alone.
 pub const WRITERS: u8 = 4;
 
@@ -19,7 +23,7 @@ pub const WRITERS: u8 = 4;
 #[derive(Clone, Copy, Debug)]
 pub struct Plan {
     pub rounds: u32,
-    pub cached_scans: u64,
+    pub cached_batches: u32,
     pub writing: Duration,
     pub warm_up: Duration,
     pub mixing: Duration,
@@ -29,7 +33,7 @@ impl Plan {
     pub fn of(rounds: u32) -> Plan {
         Plan {
             rounds,
-            cached_scans: 20_000,
+            cached_batches: 100,
             writing: Duration::from_millis(700),
             warm_up: Duration::from_millis(300),
             mixing: Duration::from_secs(1),
@@ -81,7 +85,7 @@ fn greater(one: Option<f64>, other: Option<f64>) -> Option<f64> {
 pub fn of(system: &dyn System, plan: &Plan) -> Found<Figures> {
     let mut connection = system.connect(0, Caching::On)?;
     let first_scan = Some(first_scan(connection.as_mut())?);
-    let cached_scan = cached_scan(connection.as_mut(), plan.cached_scans)?;
+    let cached_scan = cached_scan(connection.as_mut(), plan.cached_batches)?;
     connection.close()?;
     let mut times = writes(system, 1, plan.writing)?;
     let write = Some(middle(&mut times));
@@ -137,25 +141,34 @@ fn expect_rows(keys: &Range<u64>, rows: &[Row]) -> Done {
     Err(format!("a read of the keys {keys:?} has {} rows, not these", rows.len()).into())
 }
 
-/// The mean time of so many scans in a row, at places that no processor can guess; `None` if there
-/// is no cache.
-fn cached_scan(connection: &mut dyn Connection, count: u64) -> Found<Option<Duration>> {
+/// The time of a scan, of the middle one of so many batches; `None` if there is no cache.
+fn cached_scan(connection: &mut dyn Connection, batches: u32) -> Found<Option<Duration>> {
     connection.fill(0..ROWS)?;
-    let (mut random, mut rows, mut found) = (mix::Random::of(1), Vec::new(), 0);
+    let mut rows = Vec::new();
     if !connection.cached(0..SCAN, &mut rows) {
         return Ok(None);
     }
+    let mut random = mix::Random::of(1);
+    let times: Found<Vec<Duration>> =
+        (0..batches).map(|_| timed_batch(connection, &mut random, &mut rows)).collect();
+    Ok(Some(middle(&mut times?) / BATCH))
+}
+
+/// Scans at places that no processor can guess.
+fn timed_batch(
+    connection: &mut dyn Connection,
+    random: &mut mix::Random,
+    rows: &mut Vec<Row>,
+) -> Found<Duration> {
+    let mut found = 0;
     let begun = Instant::now();
-    for _ in 0..count {
+    for _ in 0..BATCH {
         let lo = random.below(ROWS - SCAN);
-        connection.cached(lo..lo + SCAN, &mut rows);
+        connection.cached(lo..lo + SCAN, rows);
         found += rows.len() as u64;
     }
     let took = begun.elapsed();
-    if found != count * SCAN {
-        return Err("a cached scan lacks rows".into());
-    }
-    Ok(Some(took / u32::try_from(count)?))
+    if found == u64::from(BATCH) * SCAN { Ok(took) } else { Err("a cached scan lacks rows".into()) }
 }
 
 /// The time of each write of so many writers, each of rows of its own.
