@@ -126,8 +126,10 @@ fn pages_of_the_status_port() {
     assert_eq!(client.insert(7, Value::from(7)), Ok(Outcome::Applied));
     assert_eq!(serving.get("/healthz"), (200, "ok\n".to_string()));
     until("the server serves", || serving.get("/readyz") == (200, "serving\n".to_string()));
-    let (status, text) = serving.get("/status");
-    assert!(status == 200 && text.starts_with("epoch 1, serving\nconnected: 5 "), "{text}");
+    until("the server shows its client", || {
+        let (status, text) = serving.get("/status");
+        status == 200 && text.starts_with("epoch 1, serving\nconnected: 5 ")
+    });
     let by_accept = "GET /status HTTP/1.1\r\nHost: krl\r\nAccept: application/json\r\n\r\n";
     for (status, json) in [serving.get("/status.json"), serving.ask(by_accept)] {
         let json: serde_json::Value = serde_json::from_str(&json).unwrap();
@@ -169,8 +171,7 @@ fn metrics_count_what_was_done() {
         ("krl_commits_total", 12.0),
         ("krl_build_info{version=\"0.1.0\"}", 1.0),
     ] {
-        let value = serving.sample(name);
-        assert!(value >= least, "{name} is {value}, and not {least} at least");
+        until(&format!("{name} is {least} at least"), || serving.sample(name) >= least);
     }
     assert!(serving.sample("krl_grant_seconds_sum") > 0.0);
     assert!(serving.sample("krl_last_turn_seconds") < 1.0);
