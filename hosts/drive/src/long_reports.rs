@@ -6,6 +6,7 @@ use std::error::Error;
 use std::io::Write;
 use std::net::{SocketAddr, TcpStream};
 use std::path::Path;
+use std::thread;
 use std::time::{Duration, Instant};
 
 /// How long a read may wait for the report.
@@ -66,6 +67,10 @@ fn waits_for(order: Order, lock_file: &Path) -> Result<Duration, Box<dyn Error>>
     let _reporter = say(at, &report)?;
     let rows = reader.read(0..8)?;
     let waited = begun.elapsed();
+    // What a server shows follows a little later.
+    while !server.status().missing.is_empty() && begun.elapsed() < 2 * SOON {
+        thread::sleep(Duration::from_millis(5));
+    }
     if rows.len() != 8 || !server.status().missing.is_empty() {
         return Err("the report was not taken".into());
     }

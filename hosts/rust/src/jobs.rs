@@ -13,11 +13,16 @@ use crate::refused::Refused;
 use crate::row::Row;
 use std::ops::Range;
 use std::sync::mpsc::{Receiver, SyncSender, sync_channel};
+use std::time::{Duration, Instant};
 
 use hold::Taking;
 pub(crate) use hold::{Held, Purpose};
 use watched::Watched;
 use writing::Written;
+
+/// How often a client says again what is not answered, and how often it says that it is there.
+pub(crate) const BUSY_TICK: Duration = Duration::from_millis(20);
+pub(crate) const IDLE_TICK: Duration = Duration::from_millis(250);
 
 /// The name of a job.
 pub(crate) type JobId = u64;
@@ -98,6 +103,8 @@ pub(crate) struct Jobs {
     asker: Option<JobId>,
     asking: Asking,
     room: Vec<Row>,
+    /// None if a tick is due.
+    ticked: Option<Instant>,
     pins: Pins,
     /// What was called back while it was pinned, and is no more.
     owed: Vec<Range<u64>>,
@@ -122,6 +129,7 @@ impl Jobs {
             asker: None,
             asking: Asking::Allowed,
             room: Vec::with_capacity(64),
+            ticked: None,
             pins: Pins::default(),
             owed: Vec::new(),
             stage: Stage::Here,
@@ -250,6 +258,25 @@ impl Jobs {
         self.is_changed = true;
         self.advance(Asking::Later);
         Ok(())
+    }
+
+    /// The next tick is due at once: there is a new connection.
+    pub fn tick_soon(&mut self) {
+        self.ticked = None;
+    }
+
+    /// How long a tick comes after the one before.
+    pub fn pace(&self) -> Duration {
+        if self.are_open() { BUSY_TICK } else { IDLE_TICK }
+    }
+
+    /// Ticks, if the last tick is long enough ago.
+    pub fn tick_if_due(&mut self, now: Instant) {
+        let is_due = |ticked| now.saturating_duration_since(ticked) >= self.pace();
+        if self.ticked.is_none_or(is_due) {
+            self.ticked = Some(now);
+            self.tick();
+        }
     }
 
     /// Says again what is not answered. A tick for which there is no memory is a message that is

@@ -7,7 +7,7 @@ use crate::frames::{Frames, LONGEST_TO_CLIENT};
 use crate::greeting::{Greeting, Heard};
 use crate::history::Mark;
 use crate::host_frame::{self, FromClient, FromServer};
-use crate::jobs::{Asked, Asking, Jobs};
+use crate::jobs::{Asking, BUSY_TICK, IDLE_TICK, Jobs};
 use crate::lock_file::LockFile;
 use crate::message::epoch_of;
 use crate::refusal::Refusal;
@@ -15,20 +15,15 @@ use crate::refused::Refused;
 use crate::servers::Servers;
 use crate::silence::{Silence, Silent};
 use crate::stream::{Address, Stream};
-use crate::writer::{ATTEMPT, Writer};
+use crate::writer::{ATTEMPT, Writer, Written};
 use std::convert::Infallible;
 use std::io::{self, ErrorKind};
 use std::sync::atomic::{AtomicU64, Ordering};
-use std::sync::mpsc::RecvTimeoutError;
 use std::sync::{Condvar, Mutex, MutexGuard, PoisonError};
 use std::time::{Duration, Instant};
 
 /// How long a connection may take to be made.
 const CONNECT: Duration = Duration::from_secs(1);
-
-/// How often a client says again what is not answered, and how often it says that it is there.
-const BUSY_TICK: Duration = Duration::from_millis(20);
-const IDLE_TICK: Duration = Duration::from_millis(250);
 
 /// A server that does not serve a client tells why once a second, and when the client connects
 /// again. What it has told before that is so no more.
@@ -36,8 +31,8 @@ const HINT: Duration = Duration::from_secs(2);
 
 /// What the thread of the connection and the callers share.
 ///
-/// The writer's locks are taken before `jobs` and never after it, and no stream is touched while
-/// `jobs` is held. A scan of the cache takes none of these locks.
+/// What waits to be written is locked after `jobs` and never before it, and no stream is touched
+/// while `jobs` is held. A scan of the cache takes none of these locks.
 pub(crate) struct Link {
     servers: Servers,
     jobs: Mutex<Jobs>,
@@ -110,6 +105,7 @@ impl Link {
         lock(&self.jobs)
     }
 
+<<<<<<< HEAD
     /// Asks for something, and waits for the answer until the deadline.
     pub fn ask<T>(
         &self,
@@ -155,6 +151,8 @@ impl Link {
         self.writer.write();
     }
 
+=======
+>>>>>>> 09edee3 (Let the thread of an idle client wake to tick alone)
     /// Why there is no connection just now, if there is none. It is said once.
     pub fn take_fault(&self) -> Option<io::Error> {
         lock(&self.fault).take()
@@ -233,7 +231,7 @@ impl Link {
 
     fn connect<'l>(&self, address: &'l Address, greeting: &Greeting) -> io::Result<Connected<'l>> {
         let stream = Stream::connect(address, CONNECT)?;
-        stream.set_timeouts(BUSY_TICK, ATTEMPT)?;
+        stream.set_timeouts(IDLE_TICK, ATTEMPT)?;
         let is_asked = greeting.is_said();
         let first = if is_asked { self.hello() } else { Vec::new() };
         self.writer.open(stream.try_clone()?, first);
@@ -258,14 +256,12 @@ impl Link {
     /// Takes what the server says and ticks, until the connection ends.
     fn turns(&self, connected: &mut Connected<'_>) -> io::Result<Infallible> {
         let mut frames = Frames::new(LONGEST_TO_CLIENT);
-        let mut ticked: Option<Instant> = None;
+        let mut wait = IDLE_TICK;
         self.begin_anew()?;
+        self.jobs().tick_soon();
         while self.runs() {
-            if ticked.is_none_or(|ticked| ticked.elapsed() > self.pace()) {
-                self.jobs().tick();
-                ticked = Some(Instant::now());
-            }
-            self.flush();
+            let written = self.advance();
+            set_wait(&connected.stream, &mut wait, written)?;
             match frames.fill(&mut connected.stream) {
                 Ok(0) => return Err(ErrorKind::UnexpectedEof.into()),
                 Ok(_) => connected.silence.heard(Instant::now()),
@@ -273,9 +269,16 @@ impl Link {
                 Err(error) => return Err(error),
             }
             self.hear_all(&mut frames, connected)?;
-            self.jobs().advance(Asking::Allowed);
         }
         Err(ErrorKind::Interrupted.into())
+    }
+
+    /// Goes on with the jobs, when all that came is heard, and sends what the client says.
+    fn advance(&self) -> Written {
+        let mut jobs = self.jobs();
+        jobs.advance(Asking::Allowed);
+        jobs.tick_if_due(Instant::now());
+        self.send(jobs)
     }
 
     /// Asks a server that is silent whether it is there, and leaves it if it is not, if there are
@@ -363,10 +366,6 @@ impl Link {
         self.jobs().begin_anew(client.map_err(io::Error::other)?);
         Ok(())
     }
-
-    fn pace(&self) -> Duration {
-        if self.jobs().are_open() { BUSY_TICK } else { IDLE_TICK }
-    }
 }
 
 /// Says that the thread has ended, also if it panics: nobody waits for it then.
@@ -389,10 +388,20 @@ fn bad_message(code: Code) -> io::Error {
     io::Error::new(ErrorKind::InvalidData, format!("the server says what no server says: {code}"))
 }
 
+/// Lets the next read wait until the next tick, or not for long if something is left to be written.
+fn set_wait(stream: &Stream, wait: &mut Duration, written: Written) -> io::Result<()> {
+    let next = if written == Written::Part { BUSY_TICK } else { IDLE_TICK };
+    if std::mem::replace(wait, next) != next {
+        stream.set_timeouts(next, ATTEMPT)?;
+    }
+    Ok(())
+}
+
 /// Whether nothing came in time, which is no fault of the connection.
 fn is_silence(kind: ErrorKind) -> bool {
     matches!(kind, ErrorKind::WouldBlock | ErrorKind::TimedOut | ErrorKind::Interrupted)
 }
 
+mod asking;
 #[cfg(test)]
 mod tests;

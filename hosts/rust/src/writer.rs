@@ -47,6 +47,15 @@ enum Progress {
     Failed,
 }
 
+/// What a writer has left.
+#[derive(Clone, Copy, Debug, PartialEq, Eq)]
+pub(crate) enum Written {
+    /// A part waits until the connection takes it: somebody has to write again.
+    Part,
+    /// Nothing that this thread has to write again.
+    AllOrNothing,
+}
+
 impl Writer {
     /// From now on frames go to this connection, these before all others. What waited for another
     /// one is lost.
@@ -72,29 +81,32 @@ impl Writer {
         }
     }
 
-    /// Writes what waits, as far as the connection takes it at once. If another thread writes just
-    /// now, that thread takes it along.
-    pub fn write(&self) {
-        while self.write_some() && !self.pending().frames.is_empty() {}
+    /// Writes what waits, as far as the connection takes it at once, and says how far it came. If
+    /// another thread writes just now, that thread takes it along.
+    pub fn write(&self) -> Written {
+        loop {
+            match self.write_some() {
+                Some(Progress::Part) => return Written::Part,
+                Some(Progress::All) if !self.pending().frames.is_empty() => {}
+                _ => return Written::AllOrNothing,
+            }
+        }
     }
 
-    /// Writes once. It answers whether all that was there is written.
-    fn write_some(&self) -> bool {
+    /// Writes once, if there is a connection to which no other thread writes just now.
+    fn write_some(&self) -> Option<Progress> {
         let mut connection = match self.connection.try_lock() {
             Ok(connection) => connection,
             Err(TryLockError::Poisoned(poisoned)) => poisoned.into_inner(),
-            Err(TryLockError::WouldBlock) => return false,
+            Err(TryLockError::WouldBlock) => return None,
         };
-        let Some(open) = &mut *connection else { return false };
+        let open = connection.as_mut()?;
         open.fill(&mut self.pending());
-        match open.write(Instant::now()) {
-            Progress::All => true,
-            Progress::Part => false,
-            Progress::Failed => {
-                close(&mut connection, &mut self.pending());
-                false
-            }
+        let progress = open.write(Instant::now());
+        if progress == Progress::Failed {
+            close(&mut connection, &mut self.pending());
         }
+        Some(progress)
     }
 
     fn pending(&self) -> MutexGuard<'_, Pending> {

@@ -240,3 +240,28 @@ fn threads_share_a_client() {
     });
     assert_eq!(client.read(0..1000).unwrap().len(), 100);
 }
+
+/// How often the thread of this name has slept, as the system counts it.
+fn sleeps(thread: &str) -> u64 {
+    let tasks = std::fs::read_dir("/proc/self/task").unwrap();
+    let read = |task: &Path, file| std::fs::read_to_string(task.join(file)).unwrap_or_default();
+    let of_thread = |task: &PathBuf| read(task, "comm").trim() == thread;
+    let task = tasks.map(|task| task.unwrap().path()).find(of_thread).unwrap();
+    let status = read(&task, "status");
+    let count = status.lines().find_map(|line| line.strip_prefix("voluntary_ctxt_switches:"));
+    count.unwrap().trim().parse().unwrap()
+}
+
+#[test]
+fn the_thread_of_an_idle_client_wakes_to_tick_alone() {
+    let folder = Folder::new("idle");
+    let server = server("127.0.0.1:0");
+    let client = folder.join(&server, 41);
+    assert_eq!(client.read(0..10), Ok(vec![]));
+    let before = sleeps("krl-client-41");
+    thread::sleep(Duration::from_secs(2));
+    let slept = sleeps("krl-client-41") - before;
+    // Four ticks a second, and to each an answer that comes by itself.
+    assert!(slept < 40, "it slept {slept} times in two seconds");
+    assert_eq!(client.read(0..20), Ok(vec![]));
+}
