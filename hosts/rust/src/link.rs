@@ -105,54 +105,6 @@ impl Link {
         lock(&self.jobs)
     }
 
-<<<<<<< HEAD
-    /// Asks for something, and waits for the answer until the deadline.
-    pub fn ask<T>(
-        &self,
-        end: Instant,
-        ask: impl FnOnce(&mut Jobs) -> Asked<T>,
-    ) -> Result<T, Refused> {
-        self.finish(self.begin(ask), end)
-    }
-
-    /// Asks for something, and waits for nothing.
-    pub fn begin<T>(&self, ask: impl FnOnce(&mut Jobs) -> Asked<T>) -> Asked<T> {
-        let asked = ask(&mut self.jobs());
-        self.flush();
-        asked
-    }
-
-    /// Waits for the answer until the deadline.
-    pub fn finish<T>(&self, asked: Asked<T>, end: Instant) -> Result<T, Refused> {
-        let Asked { id, answer } = asked;
-        match answer.recv_timeout(end.saturating_duration_since(Instant::now())) {
-            Ok(answered) => answered,
-            Err(RecvTimeoutError::Disconnected) => Err(Refused::Stopped),
-            Err(RecvTimeoutError::Timeout) => {
-                self.jobs().abandon(id);
-                // It may have come meanwhile.
-                answer.try_recv().unwrap_or_else(|_| Err(self.timed_out()))
-            }
-        }
-    }
-
-    /// That no answer came in time, with the reason if the server tells one.
-    fn timed_out(&self) -> Refused {
-        match *lock(&self.refusal) {
-            Some((refusal, told)) if told.elapsed() < HINT => Refused::Unserved(refusal),
-            _ => Refused::TimedOut,
-        }
-    }
-
-    /// Sends what the client says, as far as the connection takes it at once. What can't be sent is
-    /// lost: a tick says it again.
-    pub fn flush(&self) {
-        self.writer.put(|frames| self.jobs().take(frames));
-        self.writer.write();
-    }
-
-=======
->>>>>>> 09edee3 (Let the thread of an idle client wake to tick alone)
     /// Why there is no connection just now, if there is none. It is said once.
     pub fn take_fault(&self) -> Option<io::Error> {
         lock(&self.fault).take()

@@ -16,15 +16,40 @@ impl Link {
     ) -> Result<T, Refused> {
         let mut jobs = self.jobs();
         let asked = ask(&mut jobs);
-        let mut pace = jobs.pace();
+        let pace = jobs.pace();
         self.send(jobs);
+        self.wait(asked, pace, end)
+    }
+
+    /// Asks for something, and waits for nothing.
+    pub fn begin<T>(&self, ask: impl FnOnce(&mut Jobs) -> Asked<T>) -> Asked<T> {
+        let mut jobs = self.jobs();
+        let asked = ask(&mut jobs);
+        self.send(jobs);
+        asked
+    }
+
+    /// Waits until the deadline for the answer to what was begun.
+    pub fn finish<T>(&self, asked: Asked<T>, end: Instant) -> Result<T, Refused> {
+        let pace = self.jobs().pace();
+        self.wait(asked, pace, end)
+    }
+
+    /// Waits for the answer until the deadline, and says again what is asked as soon as this has
+    /// passed.
+    fn wait<T>(&self, asked: Asked<T>, mut pace: Duration, end: Instant) -> Result<T, Refused> {
+        let Asked { id, answer } = asked;
         loop {
             let left = end.saturating_duration_since(Instant::now());
-            match asked.answer.recv_timeout(left.min(pace)) {
-                Ok(answer) => return answer,
+            match answer.recv_timeout(left.min(pace)) {
+                Ok(answered) => return answered,
                 Err(RecvTimeoutError::Disconnected) => return Err(Refused::Stopped),
                 Err(RecvTimeoutError::Timeout) if left > pace => pace = self.say_again(),
-                Err(RecvTimeoutError::Timeout) => return self.give_up(&asked),
+                Err(RecvTimeoutError::Timeout) => {
+                    self.jobs().abandon(id);
+                    // It may have come meanwhile.
+                    return answer.try_recv().unwrap_or_else(|_| Err(self.timed_out()));
+                }
             }
         }
     }
@@ -37,12 +62,6 @@ impl Link {
         let pace = jobs.pace();
         self.send(jobs);
         pace
-    }
-
-    fn give_up<T>(&self, asked: &Asked<T>) -> Result<T, Refused> {
-        self.jobs().abandon(asked.id);
-        // It may have come meanwhile.
-        asked.answer.try_recv().unwrap_or_else(|_| Err(self.timed_out()))
     }
 
     /// That no answer came in time, with the reason if the server tells one.
