@@ -1,8 +1,9 @@
 -- Many servers over one fenced store. The store keeps what survives: the epoch, the index, and of each client the
 -- registered incarnation, whether it left, and its last judged write. It accepts a change only from the server whose
--- epoch is the store's, and a start raises that epoch. So one server, the store's server, takes the steps of krl_machine.
--- The server of each earlier epoch goes on for ever, with its own table, on any message that was ever sent; only its steps
--- that change what survives are refused. A server that has crashed is one that takes no more steps.
+-- epoch is the store's, and a start raises that epoch. So one server, the store's server, takes the steps of
+-- krl_machine. The server of each earlier epoch goes on for ever, with its own table, on any message that was ever
+-- sent; only its steps that change what survives are refused. A server that has crashed is one that takes no more
+-- steps.
 use Rattle.std.specs.Prelude.{◌≡◌, ◌≢◌, ℕ, suc, Bool, true, false, Option, None, ◌⊎◌}
 use Rattle.krl_modes.specs.declared.part.RangePart.{RangePart}
 use Rattle.krl_modes.specs.declared.part.KeyPart.{KeyPart}
@@ -93,8 +94,8 @@ pub record AnswersKept (l : Link) (z : Kept) (p : Push) : Type 0 where
   pub applied : p.applied ≡ z.applied
   pub speaks : p.says (op_key write.op) ≢ None
 
--- the session of the old server of the epoch e lets it make this push: it has heard the client in its epoch, and its last
--- push is acknowledged
+-- the session of the old server of the epoch e lets it make this push: it has heard the client in its epoch, and its
+-- last push is acknowledged
 pub record MayPush (l : Link) (e : ℕ) (z : Kept) (p : Push) : Type 0 where
   pub head : Head
   pub heard : In head l.heads

@@ -1,14 +1,18 @@
--- What the store's server, as its code is, and the clients make of the machine of many servers, whatever old servers have
--- done before.
-use Rattle.std.specs.Prelude.{◌≡◌, ◌≢◌, ℕ, true, false, Option, List, []}
+-- What the store's server, as its code is, and the clients make of the machine of many servers, whatever old servers
+-- have done before.
+use Rattle.std.specs.Prelude.{◌≡◌, ◌≢◌, ℕ, true, false, Option, Some, List, []}
 use Rattle.std.specs.FinMap as map
 use Rattle.krl_modes.specs.declared.point.TheConstants.{END}
+use Rattle.krl_modes.specs.declared.mode.Mode.TheVariants as mode
 use Rattle.krl_messages.specs.Values.{Value}
 use Rattle.krl_messages.specs.Members.{In}
 use Rattle.krl_messages.specs.declared.to_server.ToServer.{ToServer}
 use Rattle.krl_messages.specs.declared.to_client.ToClient.{ToClient}
 use Rattle.krl_machine.specs.Links.{Link}
 use Rattle.krl_machine.specs.Worlds.{Logged}
+use Rattle.krl_durable.specs.declared.record.Record.{Record}
+use Rattle.krl_durable.specs.Registers.{record_of}
+use Rattle.krl_table.specs.Rows.{Rows, mode_at}
 use Rattle.krl_client.specs.Clients.{Client}
 use Rattle.krl_server.specs.Servers.{Server}
 use Rattle.krl_server.specs.Cases.{case_of}
@@ -19,6 +23,15 @@ use Rattle.krl_refinement.specs.Client.Shows.{Grows, IsFrom, Leads, ShowsSeat}
 use Rattle.krl_refinement.specs.Server.AsLinks.{Shows, logged, view, world_of}
 use Rattle.krl_failover.specs.Fenced.{Fenced, kept_of}
 use Rattle.krl_failover.specs.Steps.{FencedReachable, FencedSteps}
+use Rattle.krl_failover_world.specs.OldShows.{IsBlankRow, ShowsOld}
+
+-- the client holds nothing in these rows
+abbrev pub HoldsNothing : Rows → ℕ → Type 0
+HoldsNothing rows c = (n : ℕ) → mode_at rows n c ≡ mode.N
+
+-- each client that has left holds nothing
+abbrev pub AreEmpty : Server → Type 0
+AreEmpty s = (c : ℕ) (r : Record) → record_of s.durable.register c ≡ Some r → r.left ≡ true → HoldsNothing s.rows c
 
 -- the world can be reached, and the store's server is s, which shows in these links
 pub record Mirrors (first : ℕ → Option Value) (f : Fenced) (s : Server) (of : ℕ → Link) (log : List Logged) : Type 0 where
@@ -26,12 +39,15 @@ pub record Mirrors (first : ℕ → Option Value) (f : Fenced) (s : Server) (of 
   pub world : f.world ≡ world_of s of log
   pub shows : Shows s of
   pub sound : IsSound s
+  -- who has left holds nothing
+  pub empty : AreEmpty s
+  pub blank : (c : ℕ) → (of c).left ≡ true → IsBlankRow (of c)
 
 -- Old servers
 
--- they keep what they kept, and their copies of the index are as they were
+-- they keep what they kept, their copies of the index are as they were, and they show as before
 abbrev pub OldStay : Fenced → Fenced → Type 0
-OldStay f g = (g.old ≡ f.old) × (g.copy ≡ f.copy)
+OldStay f g = (g.old ≡ f.old) × (g.copy ≡ f.copy) × ((x : Server) → IsSound x → ShowsOld x f → ShowsOld x g)
 
 -- the server s, which shows in these links, is an old one now; those before it are as they were
 pub record IsFenced (f g : Fenced) (s : Server) (of : ℕ → Link) : Type 0 where
@@ -39,6 +55,8 @@ pub record IsFenced (f g : Fenced) (s : Server) (of : ℕ → Link) : Type 0 whe
   pub copy : g.copy s.durable.epoch ≡ map.get s.durable.index
   pub old : (e c : ℕ) → e ≢ s.durable.epoch → g.old e c ≡ f.old e c
   pub copies : (e : ℕ) → e ≢ s.durable.epoch → g.copy e ≡ f.copy e
+  pub shows : ShowsOld s g
+  pub others : (x : Server) → IsSound x → ShowsOld x f → ShowsOld x g
 
 -- The store's server
 
@@ -51,6 +69,7 @@ pub record Follows (first : ℕ → Option Value) (f : Fenced) (of : ℕ → Lin
   pub mirrors : Mirrors first fenced t after log_after
   pub sent : (o : ToClient) → In o outs → WasSent (after o.client) o.incarnation o.body
   pub clients : (c : ℕ) → (after c).client ≡ (of c).client
+  pub grows : (c : ℕ) → Grows (of c) (after c)
 
 pub record StoreFollows : Type 0 where
   -- it reads a message that was sent
@@ -84,7 +103,8 @@ pub record ClientFollows (first : ℕ → Option Value) (f : Fenced) (s : Server
   pub others : (d : ℕ) → d ≢ c → after d ≡ of d
   pub old : OldStay f fenced
 
--- a start, crash, command, tick or message of a client leads its link on, as krl_refinement shows: so the machine follows
+-- a start, crash, command, tick or message of a client leads its link on, as krl_refinement shows: so the machine
+-- follows
 abbrev pub ClientsFollow : Type 0
 ClientsFollow = (first : ℕ → Option Value) (f : Fenced) (s : Server) (of : ℕ → Link) (log : List Logged)
     (c greatest : ℕ) (k : Option Client) (ms : List ToServer) → Mirrors first f s of log →

@@ -1,1 +1,3 @@
+pub mod OldShows
 pub mod Follows
+pub mod OldServers

@@ -1,9 +1,10 @@
-//! The store's server, as its code is, and the clients, where old servers go on over a fenced
-//! store: whatever they do is some steps of the machine of many servers. Each function has an
-//! empty body: its contract is a theorem.
+//! The store's server, old servers and the clients over a fenced store, as their code is:
+//! whatever they do is some steps of the machine of many servers. Each function has an empty
+//! body: its contract is a theorem.
 #![tactic(auto)]
 
 ghost use Rattle.krl_failover_world.specs.Follows.{ClientsFollow, StoreFollows};
+ghost use Rattle.krl_failover_world.specs.OldServers.{OldFollow};
 
 /// Whatever old servers have done: each step of the store's server on a message that was sent is
 /// some steps of the machine and raises no alarm, and so is each nudge of it, and each start that
@@ -15,4 +16,10 @@ pub fn store_follows()
 /// And so is whatever a client does.
 pub fn clients_follow()
     ensures { ClientsFollow }
+{}
+
+/// And so is whatever an old server does that changes nothing that survives: each step on a message
+/// that was sent, and each nudge. The store's server and all other old servers show as before.
+pub fn old_follow()
+    ensures { OldFollow }
 {}

@@ -10,4 +10,12 @@ pub mod WriteSteps
 pub mod WritesMove
 pub mod MakesRounds
 pub mod CallsBack
+pub mod Queues
+pub mod Heard
+pub mod Doings
+pub mod Knowing
+pub mod Seated
+pub mod Later
+pub mod Known
+pub mod Agreed
 mod Names

@@ -2,7 +2,7 @@
 use Rattle.krl_progress.proofs.Names.{◌≡◌, ℕ, zero, suc, ◌∙◌, inl, inr, Bool, true, false, Option, Some, None, List, [], ◌∷◌, length, is_some, ◌||◌, refl, sym, ap, subst, arith, if◌then◌else◌, eq-eqb}
 use Rattle.krl_progress.proofs.Names.{In, Client, Server, is_recovering, lists, Step, Answer, Up, Down, State, ServerNode, client_of, Runs, IsReachable, Takes, is_serving}
 use Rattle.krl_modes.proofs.Basics.{not_both}
-use Rattle.krl_world.proofs.Refinement.ServerMoves.{stays, way}
+use Rattle.krl_world.proofs.Refinement.ServerMoves.{way}
 use Rattle.krl_progress.specs.Rounds.{loses_a_node, Rounds}
 use Rattle.krl_progress.specs.Laws.{MissingRun, RecoveryEndsIn}
 use Rattle.krl_progress.proofs.Standings.{standing}

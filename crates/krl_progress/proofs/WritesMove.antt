@@ -1,17 +1,15 @@
 -- A client whose write is outstanding accepts a further push within three good rounds.
 use Rattle.krl_progress.proofs.Names.{◌≡◌, ℕ, ◌≤◌, ◌<◌, ◌∙◌, ◌⊎◌, inl, inr, ⊎_elim, Bool, true, false, Some, is_some, List, [], ◌∷◌, length, refl, sym, ap, subst, arith, if◌then◌else◌, END}
-use Rattle.krl_progress.proofs.Names.{Client, Server, is_recovering, lists, Step, Up, Down, State, ServerNode, message_at, Runs, is_serving, serves}
+use Rattle.krl_progress.proofs.Names.{Client, Server, is_recovering, lists, Step, Up, Down, State, ServerNode, message_at, Runs, is_serving}
 use Rattle.krl_messages.specs.declared.write_op.WriteOp.{WriteOp}
 use Rattle.krl_client.specs.Clients.{outstanding}
-use Rattle.krl_client.specs.Messages.{fits}
 use Rattle.krl_steps.specs.declared.step.Step.TheVariants as step
-use Rattle.krl_world.proofs.Refinement.ServerMoves.{stays}
 use Rattle.krl_progress.specs.Rounds.{loses_a_node, IsRound, Rounds}
 use Rattle.krl_progress.specs.Writes.{WritesMoveOnIn}
 use Rattle.krl_progress.proofs.Moves.{moves, still_sent, some_is}
 use Rattle.krl_progress.proofs.Standings.{standing}
 use Rattle.krl_progress.proofs.Recovers.{same_up, At, run_stays, within, again as at_again}
-use Rattle.krl_progress.proofs.WriteSteps.{Live, Risen, Waits, Or, Lasts, or_kept, one, write_said, Sent, sent_lasts, hit_tick, Pushed, pushed, pushed_lasts, hit_write, hit_push, nothing, now}
+use Rattle.krl_progress.proofs.WriteSteps.{Live, Risen, Waits, Or, Lasts, or_kept, one, write_said, Sent, sent_lasts, hit_tick, Pushed, pushed, pushed_lasts, hit_write, hit_push, nothing}
 
 module _ (c inc epoch seen0 number : ℕ) (op : WriteOp) (some : 1 ≤ epoch) (room : seen0 < END) where
   abbrev LiveAt : ℕ → State → Type 0

@@ -2,3 +2,4 @@ pub mod Rounds
 pub mod Laws
 pub mod Answers
 pub mod Writes
+pub mod Requests

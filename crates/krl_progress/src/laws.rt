@@ -3,6 +3,7 @@
 ghost use Rattle.krl_progress.specs.Laws.{RecoveryEndsIn, RoundsCanBeMade};
 ghost use Rattle.krl_progress.specs.Writes.{WritesMoveOnIn};
 ghost use Rattle.krl_progress.specs.Answers.{AnswersAtOnce, GivesWay, CallbackFrees};
+ghost use Rattle.krl_progress.specs.Requests.{RequestsAreKnown};
 
 /// After any past: where the server runs, and each client whose report is missing runs, the server
 /// serves after five good rounds.
@@ -37,4 +38,10 @@ pub fn writes_move_on()
 /// From each reachable world good rounds can be made, as many as you like.
 pub fn rounds_can_be_made()
     ensures { RoundsCanBeMade }
+{}
+
+/// In every reachable world: where the server runs, it and each client that runs in its epoch agree
+/// on the client's last lock request.
+pub fn requests_are_known()
+    ensures { RequestsAreKnown }
 {}

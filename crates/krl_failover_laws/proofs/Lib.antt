@@ -1,0 +1,5 @@
+pub mod Openings
+pub mod Shown
+pub mod Taken
+pub mod Promised
+pub mod Witness
