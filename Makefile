@@ -3,6 +3,7 @@
 #     make                        builds the programs in Rust, and the shared library
 #     make install PREFIX=/usr    puts them, the header and the libraries there; DESTDIR stands before it
 #     make dist                   makes an archive of the same in OUT
+#     make deb                    makes a package for Debian of the same in OUT
 PREFIX = /usr/local
 LIBRARY = $(CURDIR)/crates/krl_embed/out
 KIT = $(dir $(realpath $(shell command -v rt)))../c
@@ -22,4 +23,7 @@ install: all
 dist: all
 	LIBRARY=$(LIBRARY) KIT=$(KIT) PROGRAMS=$(TARGET)/release hosts/packaging/archive $(OUT)
 
-.PHONY: all dist install
+deb: all
+	LIBRARY=$(LIBRARY) KIT=$(KIT) PROGRAMS=$(TARGET)/release hosts/packaging/debian-package $(OUT)
+
+.PHONY: all deb dist install

@@ -1,12 +1,12 @@
 //! The words of the command line.
 mod bench_words;
 
-use crate::failure::Failure;
+use crate::failure::{Failure, sentence};
 use crate::values::ValueForm;
 use crate::words::{self, Numbers};
 pub use bench_words::{BenchWords, Mix, Skew};
 use clap::{Args, Parser, Subcommand, ValueEnum};
-use krl::Servers;
+use krl::{Servers, TableName, TlsConfig};
 use std::ffi::OsString;
 use std::ops::Range;
 use std::path::PathBuf;
@@ -67,8 +67,8 @@ pub struct Arguments {
 /// What holds for every command.
 #[derive(Clone, Debug, Args)]
 pub struct Options {
-    /// Where the server listens: 127.0.0.1:7400, localhost:7400, or unix: and a path. Commas
-    /// stand between several, which stand by for one another
+    /// Where the server listens: 127.0.0.1:7400, tls:db1:7400, or unix: and a path. Commas stand
+    /// between several
     #[arg(
         long,
         global = true,
@@ -77,6 +77,36 @@ pub struct Options {
         default_value = "127.0.0.1:7400"
     )]
     pub server: Servers,
+    /// By TLS: the certificate of the authority that certified the server, as PEM
+    #[arg(
+        long,
+        global = true,
+        env = "KRL_TLS_AUTHORITY",
+        value_name = "FILE",
+        requires = "tls_certificate"
+    )]
+    pub tls_authority: Option<PathBuf>,
+    /// By TLS: this client's certificate, whose names are krl:client:N for its numbers, as PEM
+    #[arg(
+        long,
+        global = true,
+        env = "KRL_TLS_CERTIFICATE",
+        value_name = "FILE",
+        requires = "tls_key"
+    )]
+    pub tls_certificate: Option<PathBuf>,
+    /// By TLS: the key of that certificate, as PEM
+    #[arg(
+        long,
+        global = true,
+        env = "KRL_TLS_KEY",
+        value_name = "FILE",
+        requires = "tls_authority"
+    )]
+    pub tls_key: Option<PathBuf>,
+    /// By TLS: the name of the table, if certificates have one
+    #[arg(long, global = true, env = "KRL_TABLE", value_name = "NAME")]
+    pub table: Option<TableName>,
     /// The client's number, 0 to 63, or two as in 40-47: the greatest free one of them is taken
     #[arg(long, global = true, env = "KRL_NUMBER", value_name = "NUMBER", default_value = "56-63")]
     pub number: Numbers,
@@ -108,6 +138,22 @@ pub struct Options {
 }
 
 impl Options {
+    /// Where the server is, with what is shown to it.
+    pub fn servers(&self) -> Result<Servers, Failure> {
+        let servers = self.server.clone();
+        let (Some(authority), Some(certificate), Some(key)) =
+            (&self.tls_authority, &self.tls_certificate, &self.tls_key)
+        else {
+            return Ok(servers);
+        };
+        let config = TlsConfig::from_files(authority, certificate, key)
+            .map_err(|error| Failure::Usage(sentence(&error)))?;
+        Ok(servers.with_tls(match &self.table {
+            Some(table) => config.for_table(table.clone()),
+            None => config,
+        }))
+    }
+
     /// How answers are printed. `--json` is the more particular word, also where `KRL_FORMAT` says
     /// otherwise.
     pub fn format(&self) -> Format {

@@ -52,7 +52,7 @@ impl Session {
 /// The client of this number, or `None` if another process is it and there is a choice.
 fn join_as(options: &Options, number: u8, file: &Path) -> Result<Option<Session>, Failure> {
     let begun = Instant::now();
-    let builder = Client::builder(options.server.clone());
+    let builder = Client::builder(options.servers()?);
     match builder.number(number).lock_file(file).timeout(options.timeout).join() {
         Ok(client) => {
             let client = Arc::new(client);

@@ -5,7 +5,7 @@ use crate::nodes::{READERS, WRITERS, end_file};
 use krl::Snapshot;
 use std::error::Error;
 use std::path::{Path, PathBuf};
-use std::process::{Child, Command, ExitStatus};
+use std::process::{Child, ChildStdout, Command, ExitStatus};
 use std::thread;
 use std::time::{Duration, Instant};
 
@@ -37,6 +37,11 @@ impl Process {
     pub fn signal(&self, signal: &str) -> Result<(), Box<dyn Error>> {
         let status = Command::new("kill").args([signal, &self.0.id().to_string()]).status()?;
         if status.success() { Ok(()) } else { Err(format!("kill {signal}: {status}").into()) }
+    }
+
+    /// What it prints, if that was asked for as it was started.
+    pub fn printed(&mut self) -> Option<ChildStdout> {
+        self.0.stdout.take()
     }
 
     /// How it has ended, if it has.
@@ -85,7 +90,8 @@ impl Clients {
         Ok(clients)
     }
 
-    fn start_one(&mut self, number: u8) -> std::io::Result<()> {
+    /// Starts the client of this number.
+    pub fn start_one(&mut self, number: u8) -> std::io::Result<()> {
         let role = if WRITERS.contains(&number) { "writer" } else { "reader" };
         let words = [role, &number.to_string(), &self.servers];
         let program = match &self.other {
@@ -124,10 +130,22 @@ impl Clients {
     /// its number.
     pub fn kill_next(&mut self) -> Result<(), Box<dyn Error>> {
         let number = DYING[self.killed % DYING.len()];
+        self.kill(number)?;
+        Ok(self.start_one(number)?)
+    }
+
+    /// The client of this number dies.
+    pub fn kill(&mut self, number: u8) -> Result<(), Box<dyn Error>> {
         let place = self.running.iter().position(|(of, _)| *of == number);
         self.running.swap_remove(place.ok_or("no such client")?).1.kill()?;
         self.killed += 1;
-        Ok(self.start_one(number)?)
+        Ok(())
+    }
+
+    /// Sends the client of this number a signal, such as `-STOP`.
+    pub fn signal(&self, number: u8, signal: &str) -> Result<(), Box<dyn Error>> {
+        let found = self.running.iter().find(|(of, _)| *of == number);
+        found.ok_or("no such client")?.1.signal(signal)
     }
 
     /// Lets the clients end. It answers how many hung or failed.

@@ -1,31 +1,41 @@
-//! Nodes of etcd on this machine.
+//! Nodes of etcd, one at each place of a site.
 use crate::clients::{ENDING, Process};
-use crate::ports::free_address;
+use crate::site::Site;
 use krl_etcd::{Credentials, Election, EtcdAddress};
 use std::error::Error;
 use std::net::SocketAddr;
 use std::path::{Path, PathBuf};
-use std::process::{Command, Stdio};
+use std::process::Stdio;
+use std::rc::Rc;
 use std::thread;
 use std::time::{Duration, Instant};
 
 /// How many nodes there are: one may die.
-const NODES: usize = 3;
+pub const NODES: usize = 3;
+
+/// The prefix of the table's keys.
+const PREFIX: &str = "/krl/drive";
+
+/// The ports of a node on a machine of its own.
+const CLIENTS: u16 = 2379;
+const PEERS: u16 = 2380;
 
 /// A cluster of three nodes. They die with this.
 pub struct Cluster {
     folder: PathBuf,
+    site: Rc<Site>,
     clients_at: Vec<SocketAddr>,
     peers_at: Vec<SocketAddr>,
     nodes: Vec<Process>,
 }
 
 impl Cluster {
-    pub fn start(folder: &Path) -> Result<Cluster, Box<dyn Error>> {
-        let addresses = || (0..NODES).map(|_| free_address()).collect::<Result<Vec<_>, _>>();
-        let (clients_at, peers_at) = (addresses()?, addresses()?);
-        let mut cluster =
-            Cluster { folder: folder.to_path_buf(), clients_at, peers_at, nodes: Vec::new() };
+    pub fn start(folder: &Path, site: Rc<Site>) -> Result<Cluster, Box<dyn Error>> {
+        let addresses =
+            |port| (0..NODES).map(|place| site.address(place, port)).collect::<Result<Vec<_>, _>>();
+        let (clients_at, peers_at) = (addresses(CLIENTS)?, addresses(PEERS)?);
+        let folder = folder.to_path_buf();
+        let mut cluster = Cluster { folder, site, clients_at, peers_at, nodes: Vec::new() };
         for place in 0..NODES {
             let node = cluster.start_node(place)?;
             cluster.nodes.push(node);
@@ -41,7 +51,7 @@ impl Cluster {
             self.peers_at.iter().zip(0..).map(|(at, of)| format!("n{of}=http://{at}")).collect();
         let client = format!("http://{}", self.clients_at[place]);
         let peer = format!("http://{}", self.peers_at[place]);
-        let mut command = Command::new("etcd");
+        let mut command = self.site.command(place, Path::new("etcd"));
         command.args(["--name", &format!("n{place}"), "--log-level", "error", "--data-dir"]);
         command.arg(folder).args(["--listen-client-urls", &client]);
         command.args(["--advertise-client-urls", &client, "--listen-peer-urls", &peer]);
@@ -63,10 +73,21 @@ impl Cluster {
         Ok(())
     }
 
+    /// The nodes, by place.
+    pub fn nodes(&self) -> &[SocketAddr] {
+        &self.clients_at
+    }
+
     /// Where the table is.
     pub fn address(&self) -> EtcdAddress {
-        let endpoints = self.clients_at.iter().map(ToString::to_string).collect();
-        EtcdAddress { endpoints, prefix: "/krl/drive".to_string(), is_secure: false }
+        address(&self.clients_at)
+    }
+
+    /// The same, for somebody who asks the node of this place last: it may be out of reach.
+    pub fn address_last(&self, place: usize) -> EtcdAddress {
+        let mut nodes = self.clients_at.clone();
+        nodes.rotate_left((place + 1) % NODES);
+        address(&nodes)
     }
 
     /// The node of this place dies, and comes back.
@@ -77,4 +98,10 @@ impl Cluster {
         self.nodes[place] = self.start_node(place)?;
         Ok(())
     }
+}
+
+/// The table of the drive, for somebody who reaches the nodes here.
+pub fn address(nodes: &[SocketAddr]) -> EtcdAddress {
+    let endpoints = nodes.iter().map(ToString::to_string).collect();
+    EtcdAddress { endpoints, prefix: PREFIX.to_string(), is_secure: false }
 }

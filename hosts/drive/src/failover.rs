@@ -1,29 +1,26 @@
 //! The drive over several servers: they stand by over a cluster of etcd, and the one that serves is
-//! killed or frozen, or a node of etcd is killed, while four clients read and write.
+//! killed, frozen or cut off, calls of the store are delayed, or a node of etcd is killed, while
+//! four clients read and write.
 //!
-//! A server that was frozen wakes up behind another one that serves. If the servers are *heedless*,
-//! no lease and no timeout ends them: then the store alone tells them apart.
+//! A server that was frozen or cut off goes on behind another one that serves. If the servers are
+//! *heedless*, no lease and no timeout ends them: then the store alone tells them apart.
 use crate::Found;
-use crate::clients::{Clients, ENDING, Process, judge};
-use crate::cluster::Cluster;
+use crate::clients::{Clients, judge};
+use crate::fault::Fault;
 use crate::log::{Note, notes, now};
+use crate::machines::Machines;
 use crate::nodes::WRITERS;
-use crate::ports::free_address;
+use crate::relay::Holds;
+use crate::site::Site;
+use crate::stand_bys::{LEASE, StandBys};
 use krl::Store;
-use krl_etcd::{Credentials, Election, EtcdStore};
+use krl_etcd::{Credentials, EtcdStore};
+use std::collections::BTreeMap;
 use std::error::Error;
-use std::fs::OpenOptions;
-use std::net::{SocketAddr, TcpStream};
-use std::path::{Path, PathBuf};
-use std::process::{Command, Stdio};
+use std::path::Path;
+use std::rc::Rc;
 use std::thread;
 use std::time::Duration;
-use std::time::Instant;
-
-const SERVERS: usize = 3;
-
-/// How many seconds a server may be silent.
-const LEASE: &str = "2";
 
 /// How long the clients go on after a fault.
 const PAUSE: Duration = Duration::from_secs(1);
@@ -31,17 +28,15 @@ const PAUSE: Duration = Duration::from_secs(1);
 /// How long others write before a frozen server wakes up.
 const FROZEN: Duration = Duration::from_millis(700);
 
-/// How long a server that woke up runs beside the one that serves, before that dies.
+/// How long a server that woke up runs beside the one that serves, before that dies. What the old
+/// one wrote meanwhile is what the next one loads.
 const BESIDE: Duration = Duration::from_millis(25);
 
-/// What befalls the server that serves.
-#[derive(Clone, Copy, Debug)]
-enum Fault {
-    Kill,
-    Freeze,
-    Wake,
-    Node,
-}
+/// A server asks the next node after a second: by then it has asked again, and gone on.
+const ASKED_AGAIN: Duration = Duration::from_millis(1600);
+
+/// How long the drive waits for something that a server asks all the time.
+const ASKED: Duration = Duration::from_secs(10);
 
 /// A fault, when it began, and when another server served.
 struct Told {
@@ -50,42 +45,34 @@ struct Told {
     to: u64,
 }
 
+type Done = Result<(), Box<dyn Error>>;
+
 struct Drive {
-    folder: PathBuf,
-    program: PathBuf,
-    cluster: Cluster,
-    at: Vec<SocketAddr>,
-    servers: Vec<Process>,
+    servers: StandBys,
+    told: Vec<Told>,
 }
 
-/// Drives servers of this program for so many rounds. `faults` names the faults that take turns:
-/// `kill`, `freeze`, `wake` and `node`.
-pub fn run(folder: &Path, rounds: usize, program: &Path, faults: &str) -> Found {
-    let faults = faults.split(',').map(Fault::of_word).collect::<Result<Vec<_>, _>>()?;
+/// Drives servers of this program for so many rounds. `faults` names the faults that take turns.
+pub fn run(folder: &Path, rounds: usize, program: &Path, faults: &str, site: Site) -> Found {
+    let faults = faults.split(',').map(str::parse).collect::<Result<Vec<Fault>, _>>()?;
     std::fs::create_dir_all(folder)?;
-    let cluster = Cluster::start(folder)?;
-    let at = (0..SERVERS).map(|_| free_address()).collect::<Result<Vec<_>, _>>()?;
-    let (folder, program) = (folder.to_path_buf(), program.to_path_buf());
-    let mut drive = Drive { folder, program, cluster, at, servers: Vec::new() };
-    for place in 0..SERVERS {
-        let server = drive.start_server(place)?;
-        drive.servers.push(server);
-    }
-    drive.wait_for(|_| true)?;
-    let at: Vec<String> = drive.at.iter().map(ToString::to_string).collect();
-    let mut clients = Clients::start(&drive.folder, at.join(","))?;
-    let rounds_of_faults = faults.iter().copied().cycle().take(rounds);
+    let servers = StandBys::start(folder, program, site)?;
+    let mut clients = Clients::start(folder, servers.addresses())?;
+    let mut drive = Drive { servers, told: Vec::new() };
+    let rounds_of_faults = faults.into_iter().cycle().take(rounds);
     // If no server serves any more, what was read until then is compared all the same.
-    let (told, failed) = drive.break_all(rounds_of_faults, &mut clients);
+    let failed = drive.break_all(rounds_of_faults, &mut clients).err();
     let hung = clients.end()?;
-    drive.report(&told)?;
-    let down: Vec<(u64, u64)> = told.iter().map(|told| (told.from, told.to)).collect();
-    let mut store = EtcdStore::open(&drive.cluster.address(), &Credentials::default())?;
+    report(folder, &drive.told)?;
+    let down: Vec<(u64, u64)> = drive.told.iter().map(|told| (told.from, told.to)).collect();
+    let mut store = EtcdStore::open(&drive.servers.cluster.address(), &Credentials::default())?;
     let tally = clients.compare(&store.load()?, &down)?;
     println!(
-        "{} faults of servers and {} kills of clients: {} ranges read, {} keys in them compared, \
-         {} of them while no server served; {} writes answered; {} wrong, {hung} processes hung",
-        told.len(),
+        "{} faults of servers {} and {} kills of clients: {} ranges read, {} keys in them \
+         compared, {} of them while no server served; {} writes answered; {} wrong, {hung} \
+         processes hung",
+        drive.told.len(),
+        drive.servers.site,
         clients.killed(),
         tally.reads,
         tally.points,
@@ -99,143 +86,188 @@ pub fn run(folder: &Path, rounds: usize, program: &Path, faults: &str) -> Found 
     }
 }
 
-impl Fault {
-    fn of_word(word: &str) -> Result<Fault, String> {
-        match word {
-            "kill" => Ok(Fault::Kill),
-            "freeze" => Ok(Fault::Freeze),
-            "wake" => Ok(Fault::Wake),
-            "node" => Ok(Fault::Node),
-            _ => Err(format!("{word} is no fault: there is kill, freeze, wake and node")),
-        }
-    }
-}
-
 impl Drive {
-    fn start_server(&self, place: usize) -> std::io::Result<Process> {
-        let log = self.folder.join(format!("server-{place}.log"));
-        let log = OpenOptions::new().create(true).append(true).open(log)?;
-        let mut command = Command::new(&self.program);
-        command.args(["serve", "--status", "off", "--election-lease", LEASE]);
-        command.args(["--store", &self.cluster.address().to_string()]);
-        command.args(["--listen", &self.at[place].to_string()]);
-        Process::start(command.stderr(log).stdin(Stdio::null()))
-    }
-
-    /// Waits until a server serves whose place is as asked, and says which.
-    fn wait_for(&self, is_right: impl Fn(usize) -> bool) -> Result<usize, Box<dyn Error>> {
-        let end = Instant::now() + ENDING;
-        while Instant::now() < end {
-            if let Some(place) = self.leader().filter(|place| is_right(*place)) {
-                return Ok(place);
-            }
-            thread::sleep(Duration::from_millis(10));
-        }
-        Err("no server serves".into())
-    }
-
-    /// The server that has the place, if it listens.
-    fn leader(&self) -> Option<usize> {
-        let found = Election::leader(&self.cluster.address(), &Credentials::default()).ok()??;
-        let place = self.at.iter().position(|at| at.to_string() == found)?;
-        let connected = TcpStream::connect_timeout(&self.at[place], Duration::from_millis(100));
-        connected.ok().map(|_| place)
-    }
-
-    /// Lets the faults happen, and kills a client in a round of three. It answers what happened, and
-    /// why it ended too early, if so.
-    fn break_all(
-        &mut self,
-        faults: impl Iterator<Item = Fault>,
-        clients: &mut Clients,
-    ) -> (Vec<Told>, Option<Box<dyn Error>>) {
-        let mut told = Vec::new();
+    /// Lets the faults happen, and kills a client in a round of three.
+    fn break_all(&mut self, faults: impl Iterator<Item = Fault>, clients: &mut Clients) -> Done {
         thread::sleep(PAUSE);
         for (round, fault) in faults.enumerate() {
-            if let Err(error) = self.round(round, fault, clients, &mut told) {
-                return (told, Some(error));
+            self.round(round, fault)?;
+            thread::sleep(PAUSE);
+            if round % 3 == 1 {
+                clients.kill_next()?;
             }
-        }
-        (told, None)
-    }
-
-    fn round(
-        &mut self,
-        round: usize,
-        fault: Fault,
-        clients: &mut Clients,
-        told: &mut Vec<Told>,
-    ) -> Result<(), Box<dyn Error>> {
-        let old = self.wait_for(|_| true)?;
-        match fault {
-            Fault::Kill => self.kill(old, told)?,
-            Fault::Freeze | Fault::Wake => {
-                self.servers[old].signal("-STOP")?;
-                let from = now();
-                let new = self.wait_for(|place| place != old)?;
-                told.push(Told { fault, from, to: now() });
-                thread::sleep(FROZEN);
-                self.servers[old].signal("-CONT")?;
-                if let Fault::Wake = fault {
-                    // What the old one wrote meanwhile is what the next one loads.
-                    thread::sleep(BESIDE);
-                    self.kill(new, told)?;
-                }
-            }
-            Fault::Node => {
-                let from = now();
-                self.cluster.kill_node(round, PAUSE)?;
-                told.push(Told { fault, from, to: from });
-            }
-        }
-        thread::sleep(PAUSE);
-        if round % 3 == 1 {
-            clients.kill_next()?;
-        }
-        for server in &mut self.servers {
-            if let Some(status) = server.ended()? {
-                return Err(format!("a server ended by itself: {status}").into());
-            }
+            self.servers.all_run()?;
         }
         Ok(())
+    }
+
+    fn round(&mut self, round: usize, fault: Fault) -> Done {
+        let old = self.servers.wait_for(|_| true)?;
+        match fault {
+            Fault::Kill => self.kill(fault, old),
+            Fault::Freeze => self.freeze(fault, old).map(drop),
+            Fault::Wake => {
+                let new = self.freeze(fault, old)?;
+                thread::sleep(BESIDE);
+                self.kill(fault, new)
+            }
+            Fault::Cut => self.part(fault, old, Machines::cut, Machines::heal_cut),
+            Fault::Isolate => self.part(fault, old, Machines::isolate, Machines::heal_isolated),
+            Fault::Delay => self.delay(fault, old),
+            Fault::Late => self.late(fault, old),
+            Fault::Cross => self.cross(fault, old),
+            Fault::Node => {
+                let from = now();
+                self.servers.cluster.kill_node(round, PAUSE)?;
+                self.tell(fault, from, from);
+                Ok(())
+            }
+        }
+    }
+
+    fn tell(&mut self, fault: Fault, from: u64, to: u64) {
+        self.told.push(Told { fault, from, to });
     }
 
     /// Kills a server, waits until another one serves, and starts it again.
-    fn kill(&mut self, place: usize, told: &mut Vec<Told>) -> Result<(), Box<dyn Error>> {
-        self.servers[place].kill()?;
+    fn kill(&mut self, fault: Fault, place: usize) -> Done {
+        self.servers.server(place).kill()?;
         let from = now();
-        self.wait_for(|other| other != place)?;
-        told.push(Told { fault: Fault::Kill, from, to: now() });
-        self.servers[place] = self.start_server(place)?;
+        self.servers.wait_for_another(place)?;
+        self.tell(fault, from, now());
+        Ok(self.servers.start_again(place)?)
+    }
+
+    /// Stops the server until another one has served for a while, and says which.
+    fn freeze(&mut self, fault: Fault, old: usize) -> Result<usize, Box<dyn Error>> {
+        self.servers.server(old).signal("-STOP")?;
+        let from = now();
+        let new = self.servers.wait_for_another(old)?;
+        self.tell(fault, from, now());
+        thread::sleep(FROZEN);
+        self.servers.server(old).signal("-CONT")?;
+        Ok(new)
+    }
+
+    /// Parts a machine from others until another server has served for a while. On one machine
+    /// alone the server is parted from the store.
+    fn part(
+        &mut self,
+        fault: Fault,
+        old: usize,
+        part: impl Fn(&Machines, usize) -> Done,
+        heal: impl Fn(&Machines, usize) -> Done,
+    ) -> Done {
+        let site = Rc::clone(&self.servers.site);
+        let Site::Machines(machines) = &*site else { return self.delay(fault, old) };
+        let from = now();
+        part(machines, old)?;
+        self.servers.wait_for_another(old)?;
+        self.tell(fault, from, now());
+        thread::sleep(FROZEN);
+        heal(machines, old)
+    }
+
+    /// What the server asks of the store meanwhile comes behind what the other one did.
+    fn delay(&mut self, fault: Fault, old: usize) -> Done {
+        let from = now();
+        self.servers.relay(old).hold(Holds::Everything);
+        self.servers.wait_for_another(old)?;
+        self.tell(fault, from, now());
+        thread::sleep(FROZEN);
+        self.servers.relay(old).let_go();
         Ok(())
     }
 
-    /// Says of each fault when another server served, and when the first write was answered that
-    /// was begun after it.
-    fn report(&self, told: &[Told]) -> Result<(), Box<dyn Error>> {
-        for Told { fault, from, to } in told {
-            println!(
-                "{fault:?}: another server after {} ms, the first write after {} ms",
-                (to - from) / 1_000_000,
-                self.first_answer(*from)?
-            );
+    /// The change that comes late is one that the server has made since, and others behind it.
+    fn late(&mut self, fault: Fault, old: usize) -> Done {
+        self.servers.relay(old).hold(Holds::NextChange);
+        self.wait_until_held(&[old])?;
+        thread::sleep(ASKED_AGAIN);
+        self.servers.relay(old).let_go();
+        thread::sleep(BESIDE);
+        self.kill(fault, old)
+    }
+
+    /// One of the others loads the store, and is stopped before its start is committed. The other
+    /// one starts then; the first one's start comes behind that, and it goes on.
+    fn cross(&mut self, fault: Fault, old: usize) -> Done {
+        let [one, two] = [1, 2].map(|step| (old + step) % 3);
+        for place in [one, two] {
+            self.servers.relay(place).hold(Holds::Changes);
         }
-        Ok(())
+        self.servers.server(old).kill()?;
+        let from = now();
+        let first = self.wait_until_held(&[one, two])?;
+        let second = one + two - first;
+        self.servers.relay(second).let_go();
+        self.servers.server(first).signal("-STOP")?;
+        self.servers.wait_for(|place| place == second)?;
+        self.tell(fault, from, now());
+        self.servers.relay(first).let_go();
+        thread::sleep(BESIDE);
+        self.servers.server(first).signal("-CONT")?;
+        Ok(self.servers.start_again(old)?)
     }
 
-    /// How many milliseconds after this moment the first write was answered that was begun after it.
-    fn first_answer(&self, from: u64) -> Result<u64, Box<dyn Error>> {
-        let mut first = u64::MAX;
-        for number in WRITERS {
-            let mut begun = 0;
-            for note in notes(&self.folder, number)? {
-                match note {
-                    Note::Begun { at, .. } => begun = at,
-                    Note::Answered { at, .. } if begun > from => first = first.min(at),
-                    _ => {}
-                }
+    /// Waits until something is held of a server of these places, and says of which.
+    fn wait_until_held(&self, places: &[usize]) -> Result<usize, Box<dyn Error>> {
+        const LOOK: Duration = Duration::from_millis(5);
+        let looks = ASKED.as_millis() / LOOK.as_millis();
+        let held = (0..looks).find_map(|_| {
+            places.iter().copied().find(|place| self.servers.relay(*place).has_held(LOOK))
+        });
+        held.ok_or_else(|| format!("no server changes the store within {ASKED:?}").into())
+    }
+}
+
+/// Says of each fault when another server served, and when the first write was answered that was
+/// begun after it; and of all faults of a kind the middle and the worst.
+fn report(folder: &Path, told: &[Told]) -> Done {
+    let answers = answers(folder)?;
+    let mut kinds: BTreeMap<Fault, [Vec<u64>; 2]> = BTreeMap::new();
+    for Told { fault, from, to } in told {
+        let millis = |at: u64| at.saturating_sub(*from) / 1_000_000;
+        let [others, firsts] = kinds.entry(*fault).or_default();
+        let other = millis(*to);
+        others.push(other);
+        let first =
+            answers.iter().filter(|(begun, _)| begun > from).map(|(_, at)| millis(*at)).min();
+        firsts.extend(first);
+        // The drive may have ended before.
+        let first = first.map_or("never".to_string(), |first| format!("after {first} ms"));
+        println!("{fault:?}: another server after {other} ms, the first write {first}");
+    }
+    for (fault, [others, firsts]) in &mut kinds {
+        let ([middle, worst], [middle_first, worst_first]) = (summary(others), summary(firsts));
+        println!(
+            "{fault:?}, {} times: another server after {middle} ms in the middle and {worst} at \
+             worst, the first write after {middle_first} and {worst_first} ms; a lease is {} ms",
+            others.len(),
+            1000 * LEASE
+        );
+    }
+    Ok(())
+}
+
+/// The middle and the worst.
+fn summary(times: &mut [u64]) -> [u64; 2] {
+    times.sort_unstable();
+    [times.len() / 2, times.len().saturating_sub(1)].map(|at| times.get(at).map_or(0, |time| *time))
+}
+
+/// The writes that were answered: when they were begun, and when answered.
+fn answers(folder: &Path) -> Result<Vec<(u64, u64)>, Box<dyn Error>> {
+    let mut answers = Vec::new();
+    for number in WRITERS {
+        let mut begun = 0;
+        for note in notes(folder, number)? {
+            match note {
+                Note::Begun { at, .. } => begun = at,
+                Note::Answered { at, .. } => answers.push((begun, at)),
+                Note::Read { .. } => {}
             }
         }
-        Ok(first.saturating_sub(from) / 1_000_000)
     }
+    Ok(answers)
 }

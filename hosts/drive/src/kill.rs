@@ -17,9 +17,20 @@ struct Drive {
     folder: PathBuf,
     store: String,
     server_at: SocketAddr,
+    kind: &'static str,
     server: Process,
     clients: Clients,
 }
+
+/// How an address of TLS begins.
+const TLS: &str = "tls:";
+
+/// How many milliseconds a lease has where there are some: a killed client starts again sooner.
+const LEASE: u64 = 2000;
+
+/// A round over TLS is so much longer: each start of the server is followed by a hand-shake of each
+/// client.
+const LONGER_BY_TLS: u32 = 3;
 
 /// The clients of another program have to note so many lines for each round.
 const LEAST_BY_OTHERS: u64 = 5;
@@ -37,15 +48,16 @@ fn drive(folder: &Path, rounds: u64, store: &str, net: &str, other: Option<PathB
     let is_beside = other.is_some();
     std::fs::create_dir_all(folder)?;
     let server_at = free_address()?;
-    let clients_at = match net {
-        "direct" => server_at,
-        "lossy" => lossy::start(server_at)?,
-        _ => return Err("a network is direct or lossy".into()),
+    let (clients_at, kind) = match net {
+        "direct" => (server_at, ""),
+        "lossy" => (lossy::start(server_at)?, ""),
+        "tls" => (server_at, TLS),
+        _ => return Err("a network is direct, lossy or tls".into()),
     };
-    let server = start_server(folder, server_at, store)?;
-    let clients = Clients::start_beside(other, folder, clients_at.to_string())?;
+    let server = start_server(folder, &format!("{kind}{server_at}"), store, lease_of(kind))?;
+    let clients = Clients::start_beside(other, folder, format!("{kind}{clients_at}"))?;
     let (folder, store) = (folder.to_path_buf(), store.to_string());
-    let mut drive = Drive { folder, store, server_at, server, clients };
+    let mut drive = Drive { folder, store, server_at, kind, server, clients };
     drive.clients.wait_for_others()?;
     let down = drive.kill_for(rounds)?;
     let hung = drive.clients.end()?;
@@ -69,14 +81,27 @@ fn drive(folder: &Path, rounds: u64, store: &str, net: &str, other: Option<PathB
     judge(&tally, rounds, hung)
 }
 
-fn start_server(folder: &Path, at: SocketAddr, store: &str) -> Result<Process, Box<dyn Error>> {
-    let server = Process::start(this(&["server", &at.to_string()], folder)?.arg(store))?;
+/// How many milliseconds a lease has at an address of this kind. Over TLS the server has leases too.
+fn lease_of(kind: &str) -> u64 {
+    if kind == TLS { LEASE } else { 0 }
+}
+
+/// Starts a server whose leases have so many milliseconds, or that has none: then it is 0.
+pub fn start_server(
+    folder: &Path,
+    address: &str,
+    store: &str,
+    lease: u64,
+) -> Result<Process, Box<dyn Error>> {
+    let mut command = this(&["server", address], folder)?;
+    let server = Process::start(command.arg(store).arg(lease.to_string()))?;
+    let at = address.trim_start_matches(TLS).parse()?;
     wait_for_server(at)?;
     Ok(server)
 }
 
 /// Waits until a server takes connections.
-pub fn wait_for_server(at: SocketAddr) -> Result<(), Box<dyn Error>> {
+fn wait_for_server(at: SocketAddr) -> Result<(), Box<dyn Error>> {
     let end = Instant::now() + ENDING;
     while TcpStream::connect(at).is_err() {
         if end < Instant::now() {
@@ -92,10 +117,11 @@ impl Drive {
     /// ran.
     fn kill_for(&mut self, rounds: u64) -> Result<Vec<(u64, u64)>, Box<dyn Error>> {
         let mut down = Vec::new();
+        let longer = if self.kind == TLS { LONGER_BY_TLS } else { 1 };
         // Time for the first rows.
         thread::sleep(Duration::from_millis(500));
         for round in 0..rounds {
-            thread::sleep(Duration::from_millis(200 + 37 * (round % 5)));
+            thread::sleep(Duration::from_millis(200 + 37 * (round % 5)) * longer);
             if self.server.ended()?.is_some() {
                 return Err("the server ended by itself".into());
             }
@@ -103,7 +129,8 @@ impl Drive {
             let from = now();
             thread::sleep(Duration::from_millis(if round % 3 == 0 { 100 } else { 5 }));
             let to = now();
-            self.server = start_server(&self.folder, self.server_at, &self.store)?;
+            let address = format!("{}{}", self.kind, self.server_at);
+            self.server = start_server(&self.folder, &address, &self.store, lease_of(self.kind))?;
             down.push((from, to));
             if matches!(round % 5, 1 | 3) {
                 thread::sleep(Duration::from_millis(50));

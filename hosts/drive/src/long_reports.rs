@@ -86,6 +86,7 @@ fn full_table() -> Snapshot {
         epoch: 1,
         rows: (0..RANGES).map(|key| (key, Value::from(key))).collect(),
         records: vec![Record { client, incarnation, last: None, left: false }],
+        ..Snapshot::default()
     }
 }
 

@@ -1,34 +1,54 @@
 //! Drives servers and clients of krl, each in a process of its own, and checks what they read.
 //!
 //! ```text
-//! krl_drive kill FOLDER ROUNDS [sqlite|unsynced] [direct|lossy]   kills servers and clients
+//! krl_drive kill FOLDER ROUNDS [sqlite|unsynced] [direct|lossy|tls]  kills servers and clients
 //! krl_drive beside FOLDER ROUNDS PROGRAM [direct|lossy]           half of the clients are PROGRAM's
-//! krl_drive failover FOLDER ROUNDS SERVER [kill,freeze,wake,node] kills servers that stand by
+//! krl_drive leases FOLDER ROUNDS [direct|lossy]                  stops and kills clients with leases
+//! krl_drive takeover FOLDER ROUNDS                                kills who holds what another wants
+//! krl_drive failover FOLDER ROUNDS SERVER [FAULTS [here]]         breaks servers that stand by
+//! krl_drive frozen FOLDER ROUNDS SERVER                           freezes servers of a reader
 //! krl_drive shards FOLDER SECONDS KILLS                           kills servers of two shards
 //! krl_drive strangers                                             connects what is no client
 //! krl_drive reports                                               reports in the worst orders
 //! krl_drive strings COUNT CHANGED                                 hands strings to both decoders
 //! krl_drive bench FOLDER                                          takes measurements
+//! krl_drive lease-costs FOLDER                                    measures what leases cost
+//! krl_drive stores FOLDER ROUNDS                                  measures stores beside each other
 //! krl_drive trips FOLDER [tcp|unix]                               measures beside an echo
 //! ```
+//!
+//! FAULTS are names as `kill,freeze,cut`: see `fault.rs`. Each server of `failover` has a machine of
+//! its own, a network namespace, if this user can make one, and not if `here` is said.
 //!
 //! The status is 0 if all is well, 3 if something wrong was read or lost, and 1 if the
 //! drive itself failed.
 mod bench;
+mod bench_stores;
+mod certificates;
 mod clients;
 mod cluster;
 mod failover;
+mod fault;
 mod ffi;
+mod frozen;
+mod gateway;
 mod history;
 mod kill;
+mod lease_costs;
+mod leases;
 mod log;
 mod long_reports;
 mod lossy;
+mod machines;
 mod nodes;
 mod ports;
+mod relay;
 mod shards;
+mod site;
+mod stand_bys;
 mod strangers;
 mod strings;
+mod takeover;
 mod trips;
 mod unsynced;
 
@@ -37,9 +57,14 @@ mod row {
     pub use krl::Row;
 }
 
+use cluster::NODES;
+use site::Site;
 use std::error::Error;
 use std::path::Path;
 use std::process::ExitCode;
+
+/// The faults of servers that stand by, if none are named.
+const FAULTS: &str = "kill,freeze,wake,cut,delay,isolate,late,cross,node";
 
 /// What a run found: `false` if something was wrong.
 pub type Found = Result<bool, Box<dyn Error>>;
@@ -71,14 +96,21 @@ fn run(words: &[&str]) -> Found {
         ["beside", folder, rounds, program, net] => {
             kill::beside(Path::new(folder), rounds.parse()?, Path::new(program), net)
         }
-        ["failover", folder, rounds, server] => failover::run(
-            Path::new(folder),
-            rounds.parse()?,
-            Path::new(server),
-            "kill,freeze,wake,node",
-        ),
+        ["leases", folder, rounds] => leases::run(Path::new(folder), rounds.parse()?, "direct"),
+        ["leases", folder, rounds, net] => leases::run(Path::new(folder), rounds.parse()?, net),
+        ["takeover", folder, rounds] => takeover::run(Path::new(folder), rounds.parse()?),
+        ["failover", folder, rounds, server] => {
+            failover(folder, rounds, server, FAULTS, Site::best(NODES))
+        }
         ["failover", folder, rounds, server, faults] => {
-            failover::run(Path::new(folder), rounds.parse()?, Path::new(server), faults)
+            failover(folder, rounds, server, faults, Site::best(NODES))
+        }
+        ["failover", folder, rounds, server, faults, "here"] => {
+            failover(folder, rounds, server, faults, Site::Here)
+        }
+        ["frozen", folder, rounds, server] => {
+            let site = Site::best(NODES);
+            frozen::run(Path::new(folder), rounds.parse()?, Path::new(server), site)
         }
         ["shards", folder, seconds, kills] => {
             shards::run(Path::new(folder), seconds.parse()?, kills.parse()?)
@@ -87,10 +119,15 @@ fn run(words: &[&str]) -> Found {
         ["reports"] => long_reports::run(),
         ["strings", count, changed] => strings::run(count.parse()?, changed.parse()?),
         ["bench", folder] => bench::run(Path::new(folder)),
+        ["lease-costs", folder] => lease_costs::run(Path::new(folder)),
+        ["stores", folder, rounds] => bench_stores::run(Path::new(folder), rounds.parse()?),
         ["trips", folder] => trips::run(Path::new(folder), "tcp"),
         ["trips", folder, socket] => trips::run(Path::new(folder), socket),
         // The processes that `kill` starts.
-        ["server", address, folder, store] => nodes::server(address, Path::new(folder), store),
+        ["server", address, folder, store, lease] => {
+            nodes::server(address, Path::new(folder), store, lease.parse()?)
+        }
+        ["holder", address, folder] => takeover::hold(address, Path::new(folder)),
         ["reader", number, address, folder] => {
             nodes::reader(number.parse()?, address, Path::new(folder))
         }
@@ -99,4 +136,8 @@ fn run(words: &[&str]) -> Found {
         }
         _ => Err("see the head of main.rs for the words".into()),
     }
+}
+
+fn failover(folder: &str, rounds: &str, server: &str, faults: &str, site: Site) -> Found {
+    failover::run(Path::new(folder), rounds.parse()?, Path::new(server), faults, site)
 }

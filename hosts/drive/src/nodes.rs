@@ -1,8 +1,12 @@
 //! The processes that a drive starts and kills.
 use crate::Found;
+use crate::certificates;
 use crate::log::{Log, Note, now};
 use crate::unsynced::UnsyncedStore;
-use krl::{Client, Listener, Outcome, Refused, Row, Server, Servers, SqliteStore, Store, Value};
+use krl::{
+    Access, Address, Client, Leases, Listener, Outcome, Refused, Row, Server, Servers, SqliteStore,
+    Store, Value,
+};
 use std::error::Error;
 use std::ops::Range;
 use std::path::{Path, PathBuf};
@@ -42,21 +46,34 @@ fn still_range_of(writer: u8) -> Range<u64> {
     start + 10_000..end + 10_000
 }
 
-pub fn server(address: &str, folder: &Path, store: &str) -> Found {
+/// A server whose leases have so many milliseconds, or that has none: then it is 0.
+pub fn server(address: &str, folder: &Path, store: &str, lease: u64) -> Found {
     let opened = SqliteStore::open(store_file(folder))?;
     let store: Box<dyn Store> = match store {
         "sqlite" => Box::new(opened),
         "unsynced" => Box::new(UnsyncedStore::new(opened)),
         _ => return Err("a store is sqlite or unsynced".into()),
     };
-    let listener = Listener::bind(&address.parse()?)?;
-    Server::serve(listener, store)?;
+    let address: Address = address.parse()?;
+    let mut access = Access::new();
+    if address.is_tls() {
+        access = access.tls(certificates::of("server")?);
+    }
+    let builder = Server::builder(Listener::bind(&address)?, store).access(access);
+    let server = match lease {
+        0 => builder.start()?,
+        lease => builder.leases(Leases::of(Duration::from_millis(lease))?).start()?,
+    };
+    server.wait()?;
     Ok(true)
 }
 
 fn join(number: u8, servers: &str, folder: &Path) -> Result<Client, Box<dyn Error>> {
     let lock = folder.join(format!("client-{number}.lock"));
-    let servers: Servers = servers.parse()?;
+    let mut servers: Servers = servers.parse()?;
+    if servers.iter().any(Address::is_tls) {
+        servers = servers.with_tls(certificates::of(&format!("client-{number}"))?);
+    }
     // A server that recovers, or is being started, answers late.
     Ok(Client::builder(servers).number(number).lock_file(lock).timeout(5 * TIMEOUT).join()?)
 }
@@ -69,7 +86,10 @@ pub fn reader(number: u8, servers: &str, folder: &Path) -> Found {
     let log = Mutex::new(Log::open(folder, number)?);
     let [first, second] = WRITERS.map(range_of);
     let [third, fourth] = WRITERS.map(still_range_of);
-    let ranges = [first.start..second.end, first, third, second, fourth];
+    // One callback takes a whole range from the cache. Single keys stay there.
+    let keys = [first.clone(), second.clone()].map(|range| range.start + STEP);
+    let [one, other] = keys.map(|key| key..key + 1);
+    let ranges = [first.start..second.end, one, first, third, other, second, fourth];
     thread::scope(|scope| {
         let cached =
             scope.spawn(|| read_again(&ranges, folder, &log, |keys| Ok(client.cached(keys))));
@@ -106,7 +126,7 @@ fn read_again(
 fn answered<T>(result: Result<T, Refused>) -> Result<Option<T>, Refused> {
     match result {
         Ok(found) => Ok(Some(found)),
-        Err(Refused::TimedOut | Refused::Unserved(_)) => Ok(None),
+        Err(Refused::TimedOut | Refused::Unserved(_) | Refused::LeaseEnded) => Ok(None),
         Err(refused) => Err(refused),
     }
 }

@@ -4,8 +4,8 @@
 //! A writer gives a row of each shard the next number, the left row first. So at each moment the
 //! left number is the right one, or one more; and no scan of both may find anything else.
 use crate::Found;
-use crate::clients::{Process, this};
-use crate::kill::wait_for_server;
+use crate::clients::Process;
+use crate::kill::start_server;
 use crate::ports::free_address;
 use krl::{Outcome, Refused, Row, Shard, ShardMap, ShardRefused, ShardedClient, Value};
 use std::error::Error;
@@ -112,9 +112,7 @@ fn start(folder: &Path) -> Result<ShardServer, Box<dyn Error>> {
 }
 
 fn start_process(at: SocketAddr, folder: &Path) -> Result<Process, Box<dyn Error>> {
-    let process = Process::start(this(&["server", &at.to_string()], folder)?.arg("sqlite"))?;
-    wait_for_server(at)?;
-    Ok(process)
+    start_server(folder, &at.to_string(), "sqlite", 0)
 }
 
 /// Kills a server each time another part of the time has passed, one after the other.

@@ -32,7 +32,7 @@ impl Store for UnsyncedStore {
         self.batches += 1;
         // An epoch is written at once: a server that comes back in its old epoch would never wait
         // for its clients, and nothing more would be read or written.
-        let is_start = matches!(changes, [Change::Started { .. }]);
+        let is_start = matches!(changes, [Change::Started { .. }, ..]);
         if is_start || self.batches >= BATCHES {
             self.store.commit(&self.waiting)?;
             self.waiting.clear();

@@ -1,5 +1,6 @@
 //! Calls of etcd over its JSON gateway: one at a time, to one endpoint after another.
 use crate::address::{Credentials, EtcdAddress};
+use crate::explain::{self, Given};
 use crate::request::{bytes_of, text_of};
 use native_tls::{Certificate, Identity, TlsConnector};
 use serde_json::{Value as Json, json};
@@ -29,12 +30,26 @@ pub(crate) enum Failure {
     Refused(String),
 }
 
+/// Why an attempt has no answer.
+enum Attempt {
+    Failed(Failure),
+    /// This endpoint refuses the connection, and does so again for what the server was given.
+    Unusable(String),
+}
+
+impl From<Failure> for Attempt {
+    fn from(failure: Failure) -> Attempt {
+        Attempt::Failed(failure)
+    }
+}
+
 /// A client of the cluster.
 pub(crate) struct Etcd {
     agent: ureq::Agent,
     scheme: &'static str,
     endpoints: Vec<String>,
     user: Option<(String, String)>,
+    given: Given,
     /// What the cluster gave for the user and the password.
     token: Option<String>,
     /// The endpoint that is asked next: the last one that answered.
@@ -56,6 +71,7 @@ impl Etcd {
             scheme: if address.is_secure { "https" } else { "http" },
             endpoints: address.endpoints.clone(),
             user: credentials.user.clone(),
+            given: Given::new(address, credentials),
             token: None,
             at: 0,
             retries: 0,
@@ -68,14 +84,25 @@ impl Etcd {
     }
 
     /// Makes a call that may be made more than once, until it is answered or the deadline has
-    /// passed.
+    /// passed. It ends before if no endpoint takes what the server was given.
     pub fn call(&mut self, path: &str, body: &Json, end: Instant) -> Result<Json, Failure> {
-        let mut pause = PAUSE;
+        let (mut pause, mut unusable) = (PAUSE, 0);
         loop {
             let why = match self.attempt_as_user(path, body) {
-                Err(Failure::Unknown(why)) => why,
-                ended => return ended,
+                Ok(answer) => return Ok(answer),
+                Err(Attempt::Failed(Failure::Refused(why))) => return Err(Failure::Refused(why)),
+                Err(Attempt::Failed(Failure::Unknown(why))) => {
+                    unusable = 0;
+                    why
+                }
+                Err(Attempt::Unusable(why)) => {
+                    unusable += 1;
+                    why
+                }
             };
+            if unusable == self.endpoints.len() {
+                return Err(Failure::Refused(why));
+            }
             self.retries += 1;
             self.at = (self.at + 1) % self.endpoints.len();
             if Instant::now() + pause >= end {
@@ -88,41 +115,49 @@ impl Etcd {
 
     /// One attempt, with the token of the user if there is one. A token that has run out is
     /// replaced: the next attempt has a new one.
-    fn attempt_as_user(&mut self, path: &str, body: &Json) -> Result<Json, Failure> {
+    fn attempt_as_user(&mut self, path: &str, body: &Json) -> Result<Json, Attempt> {
         if let (Some((name, password)), None) = (&self.user, &self.token) {
             let asked = json!({"name": name, "password": password});
             let answer = self.attempt("auth/authenticate", &asked)?;
             self.token = answer["token"].as_str().map(str::to_string);
         }
         match self.attempt(path, body) {
-            Err(Failure::Refused(why)) if self.token.is_some() && is_of_token(&why) => {
+            Err(Attempt::Failed(Failure::Refused(why) | Failure::Unknown(why)))
+                if self.token.is_some() && explain::is_of_token(&why) =>
+            {
                 self.token = None;
-                Err(Failure::Unknown(why))
+                Err(Failure::Unknown(why).into())
             }
             answer => answer,
         }
     }
 
-    fn attempt(&self, path: &str, body: &Json) -> Result<Json, Failure> {
+    fn attempt(&self, path: &str, body: &Json) -> Result<Json, Attempt> {
         let endpoint = &self.endpoints[self.at];
         let mut request = self.agent.post(&format!("{}://{endpoint}/v3/{path}", self.scheme));
         request = request.set("Content-Type", "application/json");
         if let Some(token) = &self.token {
             request = request.set("Authorization", token);
         }
-        let unknown = |why: String| Failure::Unknown(format!("{endpoint}: {why}"));
+        let unknown = |why: String| Attempt::from(Failure::Unknown(format!("{endpoint}: {why}")));
         match request.send_string(&body.to_string()) {
             Ok(answer) => serde_json::from_reader(answer.into_reader().take(LONGEST_ANSWER))
                 .map_err(|error| unknown(error.to_string())),
             Err(ureq::Error::Status(status, answer)) => {
                 let (code, why) = told(&read_body(answer));
                 if code.is_some_and(says_that_nothing_was_done) {
-                    Err(Failure::Refused(format!("etcd refuses it: {why}")))
+                    Err(Failure::Refused(explain::refusal(&why, &self.given)).into())
                 } else {
                     Err(unknown(format!("{status} {why}")))
                 }
             }
-            Err(error) => Err(unknown(error.to_string())),
+            Err(error) => {
+                let why = error.to_string();
+                match explain::connection(&why, &self.given) {
+                    Some(says) => Err(Attempt::Unusable(format!("{endpoint}: {says}"))),
+                    None => Err(unknown(explain::attempt(why))),
+                }
+            }
         }
     }
 }
@@ -149,10 +184,6 @@ fn says_that_nothing_was_done(code: u64) -> bool {
     // PERMISSION_DENIED, RESOURCE_EXHAUSTED, FAILED_PRECONDITION, OUT_OF_RANGE, UNIMPLEMENTED,
     // UNAUTHENTICATED.
     matches!(code, 3 | 5 | 6 | 7 | 8 | 9 | 11 | 12 | 16)
-}
-
-fn is_of_token(why: &str) -> bool {
-    why.contains("auth token")
 }
 
 fn connector(credentials: &Credentials) -> Result<TlsConnector, String> {

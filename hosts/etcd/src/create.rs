@@ -4,7 +4,7 @@ use crate::bucket::{self, BUCKETS, Bucket, bucket_of};
 use crate::call::{Etcd, Failure};
 use crate::head::Head;
 use crate::store::{MAX_KEYS, draw_owner, draw_salt};
-use crate::{record, request};
+use crate::{lease, record, request};
 use krl::{Snapshot, StoreError};
 use serde_json::{Value as Json, json};
 use std::time::{Duration, Instant};
@@ -33,7 +33,9 @@ pub(crate) fn create(
     let mut place = Place { etcd: &mut etcd, prefix: &address.prefix, mark, end };
     place.begin()?;
     let (salt, owner) = (draw_salt()?, draw_owner()?);
-    let sets: Vec<Json> = place.buckets(snapshot, salt).chain(place.records(snapshot)).collect();
+    let rows = place.buckets(snapshot, salt);
+    let others = place.records(snapshot).into_iter().chain([place.leases(snapshot)]);
+    let sets: Vec<Json> = rows.chain(others).collect();
     for part in sets.chunks(MAX_KEYS) {
         place.set(part)?;
     }
@@ -101,5 +103,9 @@ impl Place<'_> {
             request::put(&key, record::encode(place, of).as_bytes())
         };
         records.map(put).collect()
+    }
+
+    fn leases(&self, snapshot: &Snapshot) -> Json {
+        request::put(&self.key("lease"), lease::encode(snapshot.leases).as_bytes())
     }
 }

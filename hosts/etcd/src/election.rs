@@ -126,7 +126,11 @@ impl Election {
             "success": [request::put_leased(&key, &self.advertised, &lease.id)],
             "failure": [request::get(&key)],
         });
-        let answer = etcd.call("kv/txn", &asked, Instant::now() + self.lease)?;
+        let answer = match etcd.call("kv/txn", &asked, Instant::now() + self.lease) {
+            // The cluster knows no lease that has run out: it is asked for anew in the next turn.
+            Err(Failure::Refused(_)) if lease.may_have_run_out(self.lease) => return Ok(None),
+            answer => answer?,
+        };
         // An attempt whose answer was lost may have done it.
         let own = request::found_lease(&answer).as_deref() == Some(lease.id.as_str());
         if request::succeeded(&answer) || own {
@@ -189,6 +193,11 @@ impl Lease {
         let runs = number_of(&answer["result"]["TTL"]) > 0;
         self.alive = asked;
         Ok(runs.then_some(self))
+    }
+
+    /// Whether the cluster may have ended the lease by now.
+    fn may_have_run_out(&self, length: Duration) -> bool {
+        self.alive.elapsed() >= length
     }
 }
 

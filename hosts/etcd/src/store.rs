@@ -4,6 +4,7 @@
 //! PREFIX/head          the fence: what every transaction compares, and sets
 //! PREFIX/bucket/0017   the rows of a bucket
 //! PREFIX/client/03     the record of a client
+//! PREFIX/lease         what is known of leases
 //! PREFIX/start/7       the head as the server of epoch 7 left it
 //! PREFIX/active        the address of the server that serves, with a lease: no promise rests on it
 //! ```
@@ -13,9 +14,12 @@ use crate::call::{Etcd, Failure, pair_of};
 use crate::concerns;
 use crate::create;
 use crate::head::Head;
+use crate::lease;
 use crate::record;
 use crate::request;
-use krl::{Change, History, Mark, Outcome, Record, Snapshot, Store, StoreError, Write};
+use krl::{
+    Change, History, LeaseRecord, Mark, Outcome, Record, Snapshot, Store, StoreError, Write,
+};
 use serde_json::{Value as Json, json};
 use std::collections::BTreeSet;
 use std::time::{Duration, Instant};
@@ -59,6 +63,7 @@ struct Table {
     buckets: Vec<Bucket>,
     /// By place of first registration.
     records: Vec<Record>,
+    leases: LeaseRecord,
     starts: Vec<(u64, Head)>,
 }
 
@@ -75,13 +80,15 @@ enum Ended {
 struct Part {
     buckets: BTreeSet<usize>,
     clients: BTreeSet<u8>,
+    sets_leases: bool,
     /// The head that the server before this one left.
     past: Option<Head>,
 }
 
 impl Part {
     fn keys(&self) -> usize {
-        self.buckets.len() + self.clients.len() + usize::from(self.past.is_some())
+        let others = usize::from(self.past.is_some()) + usize::from(self.sets_leases);
+        self.buckets.len() + self.clients.len() + others
     }
 }
 
@@ -153,6 +160,7 @@ impl EtcdStore {
         for (name, value) in &pairs {
             match name.split_once('/') {
                 None if name == "head" || name == "active" => {}
+                None if name == "lease" => self.table.leases = parse_lease(name, value)?,
                 Some(("bucket", number)) => {
                     let (number, rows) = parse_bucket(name, number, salt, value)?;
                     self.table.buckets[number] = rows;
@@ -212,6 +220,10 @@ impl EtcdStore {
         }
         sets.extend(part.buckets.iter().map(|number| self.set_bucket(*number)));
         sets.extend(part.clients.iter().filter_map(|client| self.set_record(*client)));
+        if part.sets_leases {
+            let text = lease::encode(self.table.leases);
+            sets.push(request::put(&self.key("lease"), text.as_bytes()));
+        }
         let asked = json!({
             "compare": [self.fence()], "success": sets, "failure": [request::get(&self.key("head"))],
         });
@@ -290,6 +302,10 @@ impl EtcdStore {
                     part.buckets.insert(self.write(write));
                 }
             }
+            Change::Leased(leases) => {
+                part.sets_leases = true;
+                self.table.leases = leases;
+            }
         }
         self.table.note_record(change);
     }
@@ -313,7 +329,7 @@ impl Table {
 
     fn snapshot(&self, epoch: u64) -> Snapshot {
         let rows = self.buckets.iter().flatten().map(|(key, value)| (*key, *value)).collect();
-        Snapshot { epoch, rows, records: self.records.clone() }
+        Snapshot { epoch, rows, records: self.records.clone(), leases: self.leases }
     }
 
     fn note_record(&mut self, change: &Change) {
@@ -413,6 +429,11 @@ fn strange(name: &str) -> Failure {
 fn parse_head(name: &str, value: &[u8]) -> Result<Head, Failure> {
     let text = std::str::from_utf8(value).map_err(|_| strange(name))?;
     text.parse().map_err(|()| strange(name))
+}
+
+fn parse_lease(name: &str, value: &[u8]) -> Result<LeaseRecord, Failure> {
+    let text = std::str::from_utf8(value).map_err(|_| strange(name))?;
+    lease::decode(text).ok_or_else(|| strange(name))
 }
 
 fn parse_bucket(

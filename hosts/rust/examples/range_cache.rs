@@ -4,6 +4,7 @@
 //! ```text
 //! cargo run --release --example range_cache              runs until it is stopped
 //! cargo run --release --example range_cache -- for 10    runs for ten seconds, in a new folder
+//! cargo run --release --example range_cache -- leased    runs with leases of two seconds
 //! ```
 //!
 //! A server keeps a table of ten rows. Three processes, the nodes, each keep a range of it and read
@@ -18,8 +19,9 @@
 //! Kill any of them by its process number, `kill -9 4711`. It is started again, and joins with a
 //! greater incarnation. While the server is down the nodes go on to answer from their caches, and
 //! no answer is stale: the writer can't write then. While a node is dead, the writer waits for it
-//! only if it held what the writer changes.
-use krl::{Address, Client, Listener, Outcome, Refused, Row, Server, SqliteStore, Value};
+//! only if it held what the writer changes. With leases (`leased`, or `leased for 10`) a node that is
+//! stopped, and not killed, keeps the writer waiting no longer than its lease.
+use krl::{Address, Client, Leases, Listener, Outcome, Refused, Row, Server, SqliteStore, Value};
 use std::error::Error;
 use std::ops::Range;
 use std::path::{Path, PathBuf};
@@ -42,20 +44,32 @@ const WRITER: u8 = 3;
 const WRITE_PAUSE: Duration = Duration::from_millis(400);
 const READ_PAUSE: Duration = Duration::from_millis(1);
 
+/// The words by which the server is started, without leases and with some.
+const SERVER: &str = "server";
+const LEASED_SERVER: &str = "server leased";
+
+/// How long a node answers from its cache that hears nothing of a server with leases.
+const LEASE: Duration = Duration::from_secs(2);
+
 type Done = Result<(), Box<dyn Error>>;
 
 fn main() -> ExitCode {
     let words: Vec<String> = std::env::args().skip(1).collect();
     let words: Vec<&str> = words.iter().map(String::as_str).collect();
     let done = match words[..] {
-        [] => watch_over(&std::env::temp_dir().join("krl_range_cache"), None),
-        ["for", seconds] => for_a_while(seconds),
-        ["server", folder] => serve(Path::new(folder)),
+        [] => watch_over(&std::env::temp_dir().join("krl_range_cache"), SERVER, None),
+        ["leased"] => {
+            watch_over(&std::env::temp_dir().join("krl_range_cache"), LEASED_SERVER, None)
+        }
+        ["for", seconds] => for_a_while(SERVER, seconds),
+        ["leased", "for", seconds] => for_a_while(LEASED_SERVER, seconds),
+        ["server", folder] => serve(Path::new(folder), None),
+        ["server", "leased", folder] => serve(Path::new(folder), Some(LEASE)),
         ["node", number, folder] => {
             number.parse().map_err(Into::into).and_then(|n| node(n, Path::new(folder)))
         }
         ["writer", folder] => write(Path::new(folder)),
-        _ => Err("usage: range_cache [for SECONDS]".into()),
+        _ => Err("usage: range_cache [leased] [for SECONDS]".into()),
     };
     match done {
         Ok(()) => ExitCode::SUCCESS,
@@ -66,9 +80,14 @@ fn main() -> ExitCode {
     }
 }
 
-fn serve(folder: &Path) -> Done {
+fn serve(folder: &Path, lease: Option<Duration>) -> Done {
     let store = SqliteStore::open(folder.join("table.db"))?;
-    Server::serve(Listener::bind(&ADDRESS.parse()?)?, store)?;
+    let builder = Server::builder(Listener::bind(&ADDRESS.parse()?)?, store);
+    let server = match lease {
+        Some(length) => builder.leases(Leases::of(length)?).start()?,
+        None => builder.start()?,
+    };
+    server.wait()?;
     Ok(())
 }
 
@@ -121,7 +140,8 @@ fn write(folder: &Path) -> Done {
     println!("writer ({}): the table is there", std::process::id());
     for key in KEYS.into_iter().cycle() {
         match add_one(&client, key) {
-            Ok(Outcome::Applied) | Err(Refused::TimedOut | Refused::Unserved(_)) => {}
+            Ok(Outcome::Applied)
+            | Err(Refused::TimedOut | Refused::Unserved(_) | Refused::LeaseEnded) => {}
             Ok(outcome) => println!("writer: {key} was not written: {outcome}"),
             Err(refused) => return Err(refused.into()),
         }
@@ -158,19 +178,19 @@ impl Drop for Part {
     }
 }
 
-fn for_a_while(seconds: &str) -> Done {
+fn for_a_while(server: &str, seconds: &str) -> Done {
     let time = Duration::from_secs(seconds.parse()?);
     let folder = std::env::temp_dir().join(format!("krl_range_cache_{}", std::process::id()));
-    let done = watch_over(&folder, Some(Instant::now() + time));
+    let done = watch_over(&folder, server, Some(Instant::now() + time));
     std::fs::remove_dir_all(&folder)?;
     done
 }
 
 /// Starts all processes, and starts again what ends, until it is time.
-fn watch_over(folder: &PathBuf, end: Option<Instant>) -> Done {
+fn watch_over(folder: &PathBuf, server: &str, end: Option<Instant>) -> Done {
     std::fs::create_dir_all(folder)?;
     println!("the table and the lock files are in {}", folder.display());
-    let roles = ["server", "node 0", "node 1", "node 2", "writer"];
+    let roles = [server, "node 0", "node 1", "node 2", "writer"];
     let words = roles.iter().map(|role| role.split(' ').map(String::from).collect());
     let mut parts = words.map(|words| Part::start(words, folder)).collect::<Result<Vec<_>, _>>()?;
     while end.is_none_or(|end| Instant::now() < end) {

@@ -1,7 +1,9 @@
 //! How a client is told to join.
-use crate::client::Client;
+use crate::client::{Client, Errand};
 use crate::refused::JoinError;
 use crate::servers::Servers;
+#[cfg(feature = "tls")]
+use crate::tls::TlsConfig;
 use std::path::PathBuf;
 use std::time::Duration;
 
@@ -37,6 +39,17 @@ impl ClientBuilder {
         self
     }
 
+    /// What the client shows to its servers where they listen by TLS, and whom it believes. It is
+    /// read again at each connect: [`TlsConfig::reload`] has the next one show what its files say
+    /// then.
+    ///
+    /// [`TlsConfig::reload`]: crate::TlsConfig::reload
+    #[cfg(feature = "tls")]
+    pub fn tls(mut self, config: TlsConfig) -> ClientBuilder {
+        self.servers = self.servers.with_tls(config);
+        self
+    }
+
     /// How long `join` and each later call wait for an answer: ten seconds if this is not called,
     /// and a year at most.
     pub fn timeout(mut self, timeout: Duration) -> ClientBuilder {
@@ -52,6 +65,6 @@ impl ClientBuilder {
     pub fn join(self) -> Result<Client, JoinError> {
         let number = self.number.ok_or(JoinError::Incomplete("a number"))?;
         let lock_file = self.lock_file.ok_or(JoinError::Incomplete("a lock file"))?;
-        Client::start(self.servers, number, &lock_file, self.timeout)
+        Client::start(self.servers, number, &lock_file, self.timeout, Errand::Work)
     }
 }

@@ -1,4 +1,5 @@
 //! What survives a restart of a server, and how it changes.
+use crate::lease_record::LeaseRecord;
 use crate::row::{Row, Value};
 use std::collections::BTreeMap;
 use std::fmt;
@@ -74,6 +75,8 @@ pub enum Change {
         /// How it was judged.
         outcome: Outcome,
     },
+    /// What is known of leases changed.
+    Leased(LeaseRecord),
 }
 
 /// All that survives.
@@ -85,6 +88,8 @@ pub struct Snapshot {
     pub rows: BTreeMap<u64, Value>,
     /// The records, in order of first registration.
     pub records: Vec<Record>,
+    /// What is known of leases.
+    pub leases: LeaseRecord,
 }
 
 impl Snapshot {
@@ -94,6 +99,7 @@ impl Snapshot {
             Change::Started { epoch } => self.epoch = epoch,
             Change::Registered { client, incarnation } => self.register(client, incarnation),
             Change::Left { client } => self.revise(client, |record| record.left = true),
+            Change::Leased(leases) => self.leases = leases,
             Change::Judged { client, number, write, outcome } => {
                 self.revise(client, |record| record.last = Some((number, outcome)));
                 if outcome == Outcome::Applied {

@@ -3,6 +3,7 @@ use crate::builder::{ClientBuilder, TIMEOUT};
 use crate::change::{Outcome, Write};
 use crate::client_handle::ClientHandle;
 use crate::jobs::{Asked, Jobs};
+use crate::lease::Older;
 use crate::link::Link;
 use crate::lock_file::LockFile;
 use crate::range::keys_of;
@@ -33,6 +34,10 @@ const MAX_CLIENTS: u8 = 64;
 /// Until it has joined, `cached` answers `None`, and other calls wait. A store without a history,
 /// and a server without host frames, tell nothing of it.
 ///
+/// A server with leases lets the client answer from its cache only for so long after its last word.
+/// When its lease ends the client drops its cache and joins anew, as above: only a write that is on
+/// its way is told so, by [`Refused::LeaseEnded`], and all other calls go on.
+///
 /// When it is dropped, it says Bye, and waits a second at most until the server has kept that. What
 /// a process leaves behind that ends without a Bye keeps other clients waiting, until a client of
 /// its number joins again or it is evicted.
@@ -45,7 +50,7 @@ pub struct Client {
 }
 
 /// A pinned range: no other client takes away what the client holds of it, as long as this lives. If
-/// the server's store goes back the pin is void: [`Client`] says more.
+/// the server's store goes back, or the client's lease ends, the pin is void: [`Client`] says more.
 #[must_use = "the range is free again as soon as this is dropped"]
 pub struct Pin<'c> {
     link: &'c Link,
@@ -61,13 +66,14 @@ impl Client {
     ///
     /// `BadNumber` above 63; `LockFile` if another process has the file, or it can't be used;
     /// `NoThread`; `NoAnswer`, with the reason if the connection failed; `Unserved`, if the server
-    /// tells why it does not serve the client; `Refused` if memory is refused.
+    /// tells why it does not serve the client; `TurnedAway`, if this side has no right to the client;
+    /// `Refused` if memory is refused.
     pub fn join(
         servers: impl Into<Servers>,
         number: u8,
         lock_file: impl AsRef<Path>,
     ) -> Result<Client, JoinError> {
-        Client::start(servers.into(), number, lock_file.as_ref(), TIMEOUT)
+        Client::start(servers.into(), number, lock_file.as_ref(), TIMEOUT, Errand::Work)
     }
 
     /// Says more of a client before it joins: how long its calls wait.
@@ -92,13 +98,19 @@ impl Client {
         number: u8,
         lock_file: &Path,
         timeout: Duration,
+        errand: Errand,
     ) -> Result<Client, JoinError> {
         if number >= MAX_CLIENTS {
             return Err(JoinError::BadNumber);
         }
         // The incarnation is on the disk before the Hello leaves.
         let (lock_file, incarnation) = LockFile::take(lock_file, number)?;
-        let handle = ClientHandle::open(number, incarnation).map_err(Refused::from)?;
+        let older = match errand {
+            Errand::Work => lock_file.older(),
+            Errand::Evict => Older::Vouched,
+        };
+        let handle = ClientHandle::open_behind(number, incarnation, older);
+        let handle = handle.map_err(Refused::from)?;
         let link = Arc::new(Link::new(servers, Jobs::new(handle), Some(lock_file)));
         let run = Arc::clone(&link);
         let thread = thread::Builder::new().name(format!("krl-client-{number}"));
@@ -114,10 +126,12 @@ impl Client {
     /// Ends a client that has not joined: it says Bye, and waits for nothing.
     fn not_joined(mut self, refused: Refused) -> JoinError {
         let fault = self.link.take_fault();
+        let turned_away = self.link.turned_away();
         let _ = self.end(Duration::ZERO);
         match refused {
             Refused::TimedOut => JoinError::NoAnswer(fault),
             Refused::Unserved(refusal) => JoinError::Unserved(refusal),
+            Refused::TurnedAway => JoinError::TurnedAway(turned_away.unwrap_or_default()),
             refused => JoinError::Refused(refused),
         }
     }
@@ -154,7 +168,8 @@ impl Client {
     /// # Errors
     ///
     /// `BadKey` for a key of 2^63 - 1 or more; `TimedOut`, `Unserved`, `StoreWentBack` or `Stopped`:
-    /// then the table may have changed or may still change; `OutOfMemory`.
+    /// then the table may have changed or may still change; `LeaseEnded`: then it may have changed;
+    /// `OutOfMemory`.
     pub fn insert(&self, key: u64, value: Value) -> Result<Outcome, Refused> {
         self.write(Write::Insert(Row { key, value }))
     }
@@ -188,10 +203,14 @@ impl Client {
     /// and no forget takes. Other clients that want it wait until the pin is dropped; what they
     /// called back meanwhile the client then gives back. A client has at most eight pins.
     ///
+    /// Pin what you read by this or by [`Client::pin_for_read`], and what you will write by
+    /// [`Client::pin_for_update`]: two clients that pin the same rows to read them, and then write
+    /// them, keep one another waiting until one of them drops its pin.
+    ///
     /// # Errors
     ///
     /// `BadRange` if the range is empty, begins above its end, or ends above 2^63; `TooManyPins`;
-    /// `StoreWentBack` while the client joins anew.
+    /// `StoreWentBack` or `LeaseEnded` while the client joins anew.
     pub fn pin(&self, keys: impl RangeBounds<u64>) -> Result<Pin<'_>, Refused> {
         let keys = keys_of(&keys)?;
         let id = self.link.jobs().pin(keys)?;
@@ -200,6 +219,20 @@ impl Client {
 
     pub(crate) fn pin_of(&self, id: u64) -> Pin<'_> {
         Pin { link: &self.link, id }
+    }
+
+    /// The client's incarnation, of which the next one is greater: each end of a lease begins another
+    /// one. Who acts on something outside may take it for a fence there.
+    #[must_use]
+    pub fn incarnation(&self) -> u64 {
+        self.link.jobs().incarnation()
+    }
+
+    /// How long the client may still answer from its cache if it hears nothing more of the server;
+    /// or `None` if for ever, as from a server without leases.
+    #[must_use]
+    pub fn lease_left(&self) -> Option<Duration> {
+        self.link.jobs().lease_left()
     }
 
     /// Gives back what the client holds of the range. While a write is on its way it waits for the
@@ -271,26 +304,23 @@ impl Drop for Pin<'_> {
     }
 }
 
-fn nanoseconds(timeout: Duration) -> u64 {
-    u64::try_from(timeout.min(MAX_TIMEOUT).as_nanos()).unwrap_or(u64::MAX)
+impl Pin<'_> {
+    /// Whether no other client has taken what was held of the range. Who has to know asks **behind**
+    /// the work: the answer is that of one moment of this call.
+    #[must_use]
+    pub fn holds(&self) -> bool {
+        self.link.jobs().holds_pin(self.id)
+    }
 }
 
-/// Ends the client of this number for good: an operator's call for a client whose process is gone
-/// and will not come back. A client with a greater incarnation says Hello, which takes all from the
-/// old one, and then Bye.
-///
-/// **The old process has to be dead.** One that still runs may go on to answer from its cache what
-/// is not so any more. On the client's own machine its lock file shows that it is; elsewhere nobody
-/// but the operator can know.
-///
-/// # Errors
-///
-/// Those of `Client::join`: `LockFile` if a process on this machine is that client.
-pub fn evict(
-    servers: impl Into<Servers>,
-    number: u8,
-    lock_file: impl AsRef<Path>,
-) -> Result<(), JoinError> {
-    let client = Client::join(servers, number, lock_file)?;
-    client.leave().map_err(|_| JoinError::NoAnswer(None))
+/// What a client joins for.
+#[derive(Clone, Copy, Debug, PartialEq, Eq)]
+pub(crate) enum Errand {
+    Work,
+    /// To end an older incarnation of which the operator says that no process is left.
+    Evict,
+}
+
+fn nanoseconds(timeout: Duration) -> u64 {
+    u64::try_from(timeout.min(MAX_TIMEOUT).as_nanos()).unwrap_or(u64::MAX)
 }

@@ -1,12 +1,16 @@
 //! A safe owner of a client's handle, and those who scan its cache at the same time.
+use crate::boot_clock::Moment;
 use crate::change::{Outcome, Write};
 use crate::code::Code;
 use crate::ffi;
 use crate::gate::{Owner, Reader, Reading};
 use crate::handle::{Handle, code, done};
+use crate::lease::{End, Lease, Older};
 use crate::row::Row;
+use std::io;
 use std::mem;
 use std::ops::Range;
+use std::sync::Arc;
 
 /// What a client asks for.
 #[derive(Clone, Copy, Debug, PartialEq, Eq)]
@@ -32,6 +36,8 @@ pub(crate) enum Scan {
     Miss(u64),
     /// A write of the client to a key of the range is not answered yet.
     Pending,
+    /// The client's lease has ended: what is there counts no more.
+    Ended,
 }
 
 /// What a client shows of itself.
@@ -53,22 +59,29 @@ pub(crate) struct Shown {
 /// message that gives something up comes out by `take` when every scan has ended that could still
 /// see it.
 pub(crate) struct ClientHandle {
-    handle: Owner<Handle>,
+    handle: Owner<Incarnation>,
+    lease: Lease,
     /// A call was made since the last `take`, and may have said something.
     has_spoken: bool,
 }
 
+/// What an incarnation knows, and the end of its lease.
+struct Incarnation {
+    handle: Handle,
+    end: Arc<End>,
+}
+
 /// What a client knows, for threads that only read it.
-pub(crate) struct Cache(Reader<Handle>);
+pub(crate) struct Cache(Reader<Incarnation>);
 
 /// A cache that stays what it is.
-pub(crate) struct HeldCache<'c>(Reading<'c, Handle>);
+pub(crate) struct HeldCache<'c>(Reading<'c, Incarnation>);
 
 impl Cache {
     /// Scans the cache into `rows`, in place of what they are. Nothing is sent. It waits for one
     /// call of the client at most, which takes microseconds.
     pub fn scan(&self, keys: &Range<u64>, rows: &mut Vec<Row>) -> Result<Scan, Code> {
-        self.0.read(|handle| handle.scan(keys, rows))
+        self.0.read(|incarnation| incarnation.scan(keys, rows))
     }
 
     /// Keeps the cache as it is, as long as the answer lives: the client takes no message and no
@@ -96,24 +109,41 @@ impl HeldCache<'_> {
 impl ClientHandle {
     /// One that does nothing: its calls answer `Closed`.
     pub fn closed() -> ClientHandle {
-        ClientHandle::of(Handle::closed())
+        ClientHandle::of(Handle::closed(), Lease::new(0, 0, Older::Unknown))
     }
 
+    /// One whose host knows nothing of older incarnations.
+    #[cfg(test)]
     pub fn open(number: u8, incarnation: u64) -> Result<ClientHandle, Code> {
+        ClientHandle::open_behind(number, incarnation, Older::Unknown)
+    }
+
+    /// One whose host knows so much of older incarnations.
+    pub fn open_behind(number: u8, incarnation: u64, older: Older) -> Result<ClientHandle, Code> {
         let mut handle = Handle::closed();
         // SAFETY: the handle stays in its place, and `&mut` gives it to this call alone.
         done(unsafe { ffi::krl_client_open(handle.raw(), number.into(), incarnation) })?;
-        Ok(ClientHandle::of(handle))
+        Ok(ClientHandle::of(handle, Lease::new(number, incarnation, older)))
     }
 
-    fn of(handle: Handle) -> ClientHandle {
-        ClientHandle { handle: Owner::new(handle), has_spoken: true }
+    fn of(handle: Handle, lease: Lease) -> ClientHandle {
+        let incarnation = Incarnation { handle, end: lease.end() };
+        ClientHandle { handle: Owner::new(incarnation), lease, has_spoken: true }
     }
 
     /// Becomes another client. What was cached from this one is cached from the other one.
     pub fn replace(&mut self, mut other: ClientHandle) {
         other.handle.change(|other| self.handle.change(|handle| mem::swap(handle, other)));
+        self.lease = other.lease;
         self.has_spoken = true;
+    }
+
+    pub fn lease(&self) -> &Lease {
+        &self.lease
+    }
+
+    pub fn lease_mut(&mut self) -> &mut Lease {
+        &mut self.lease
     }
 
     pub fn cache(&self) -> Cache {
@@ -123,7 +153,7 @@ impl ClientHandle {
     /// Makes a call that takes the handle, when nobody scans the cache.
     fn call(&mut self, call: impl FnOnce(*mut ffi::Handle) -> ffi::Reply) -> Result<u64, Code> {
         self.has_spoken = true;
-        done(self.handle.change(|handle| call(handle.raw())))
+        done(self.handle.change(|it| call(it.handle.raw())))
     }
 
     pub fn step(&mut self, message: &[u8]) -> Result<(), Code> {
@@ -187,21 +217,21 @@ impl ClientHandle {
     /// Whether no other client may read or change the gap at this point, nor the entry there.
     pub fn has_all(&self, point: u64) -> bool {
         const X: u32 = 3;
-        let held = self.handle.get().held(point);
+        let held = self.handle.get().handle.held(point);
         held.range == X && held.key == X
     }
 
     /// Whether the client holds the entry of this key so that it alone may change it next.
     pub fn may_update(&self, key: u64) -> bool {
         const U: u32 = 2;
-        let held = self.handle.get().held(key);
+        let held = self.handle.get().handle.held(key);
         code(held.reply) == Code::Done && held.key >= U
     }
 
     pub fn status(&self) -> Result<Shown, Code> {
         const LOCK_GRANTED: u32 = 2;
         const LOCK_ABSENT: u32 = 3;
-        let state = self.handle.get().client_state();
+        let state = self.handle.get().handle.client_state();
         done(state.reply)?;
         Ok(Shown {
             epoch: state.epoch,
@@ -221,20 +251,41 @@ impl ClientHandle {
     /// Appends what waits to be sent, as frames. If nothing can wait, nobody's scan is held up.
     pub fn take(&mut self, frames: &mut Vec<u8>) -> Result<(), Code> {
         if self.has_spoken {
-            self.handle.change(|handle| handle.take(frames))?;
+            self.handle.change(|it| it.handle.take(frames))?;
             self.has_spoken = false;
         }
         Ok(())
     }
 }
 
-/// What a client's handle answers by a reader.
-impl Handle {
+impl Incarnation {
     fn scan(&self, keys: &Range<u64>, rows: &mut Vec<Row>) -> Result<Scan, Code> {
         rows.clear();
         self.scan_behind(keys, rows)
     }
 
+    /// The rows come behind those that are there. The clock is read behind them all: rows are handed
+    /// over only if the lease holds then.
+    fn scan_behind(&self, keys: &Range<u64>, rows: &mut Vec<Row>) -> Result<Scan, Code> {
+        found_by_lease(|| self.handle.scan_behind(keys, rows), &self.end, Moment::now)
+    }
+}
+
+/// What the scan found, if the lease holds behind it.
+fn found_by_lease(
+    scan: impl FnOnce() -> Result<Scan, Code>,
+    end: &End,
+    clock: impl FnOnce() -> io::Result<Moment>,
+) -> Result<Scan, Code> {
+    let found = scan()?;
+    if found == Scan::Rows && !end.allows(clock) {
+        return Ok(Scan::Ended);
+    }
+    Ok(found)
+}
+
+/// What a client's handle answers by a reader.
+impl Handle {
     /// The rows come behind those that are there.
     fn scan_behind(&self, keys: &Range<u64>, rows: &mut Vec<Row>) -> Result<Scan, Code> {
         let mut reply = self.scan_once(keys, rows)?;

@@ -1,13 +1,16 @@
 //! One connection of a server: what has come on it, what its peer is told, and what waits to be
 //! written.
+use crate::access::Entry;
 use crate::event_log::Seldom;
 use crate::frames::{Frames, GULP, LONGEST_TO_SERVER};
 use crate::history::Mark;
 use crate::host_frame::FromServer;
+use crate::identity::Identity;
 use crate::outgoing::Outgoing;
 use crate::poller::{Readiness, Watched};
 use crate::refusal::Refusal;
 use crate::stream::Stream;
+use crate::tls::TlsSession;
 use std::io::{self, ErrorKind, Read};
 use std::time::{Duration, Instant};
 
@@ -61,6 +64,9 @@ pub(crate) enum Looked {
 #[derive(Debug)]
 pub(crate) struct Connection {
     stream: Stream,
+    entry: Entry,
+    /// A frame has come whole.
+    has_spoken: bool,
     incoming: Frames,
     unread: Unread,
     heard: Instant,
@@ -75,10 +81,12 @@ pub(crate) struct Connection {
 }
 
 impl Connection {
-    pub fn new(stream: Stream, now: Instant) -> io::Result<Connection> {
+    pub fn new(stream: Stream, entry: Entry, now: Instant) -> io::Result<Connection> {
         stream.set_waiting(false)?;
         Ok(Connection {
             stream,
+            entry,
+            has_spoken: false,
             incoming: Frames::new(LONGEST_TO_SERVER),
             unread: Unread::Nothing,
             heard: now,
@@ -111,18 +119,51 @@ impl Connection {
     /// Sees whether a frame has come whole, and reads once if none has.
     pub fn look(&mut self, now: Instant) -> Looked {
         if self.incoming.needs_more() && self.unread != Unread::Nothing && self.read(now).is_err() {
+            // The peer hears why, if it can: what is sealed already leaves.
+            let _ = self.write(now);
             return Looked::Ended;
         }
         match (self.incoming.is_broken(), self.incoming.needs_more()) {
             (true, _) => Looked::Ended,
             (false, true) => Looked::NoFrame,
-            (false, false) => Looked::Frame,
+            (false, false) => {
+                self.has_spoken = true;
+                Looked::Frame
+            }
         }
     }
 
-    /// Bytes in: all that comes passes here, and so would a cipher's layer.
+    /// Who is at the other end, as soon as that is known: by a certificate, or by a whole frame of
+    /// one who needs none.
+    pub fn known(&self) -> Option<Identity> {
+        match &self.entry {
+            Entry::Known(identity) => self.has_spoken.then_some(*identity),
+            Entry::Unknown(session) => session.peer(),
+        }
+    }
+
+    /// Who is at the other end. Of whom that is not known is nobody.
+    pub fn identity(&self) -> Identity {
+        match &self.entry {
+            Entry::Known(identity) => *identity,
+            Entry::Unknown(session) => session.peer().unwrap_or(Identity::nobody()),
+        }
+    }
+
+    fn session(&mut self) -> Option<&mut TlsSession> {
+        match &mut self.entry {
+            Entry::Known(_) => None,
+            Entry::Unknown(session) => Some(session),
+        }
+    }
+
+    /// Bytes in: all that comes passes here.
     fn read(&mut self, now: Instant) -> io::Result<()> {
-        match self.incoming.fill(&mut self.stream) {
+        let came = match &mut self.entry {
+            Entry::Known(_) => self.incoming.fill(&mut self.stream),
+            Entry::Unknown(session) => session.fill(&mut self.stream, &mut self.incoming),
+        };
+        match came {
             Ok(0) => return Err(ErrorKind::UnexpectedEof.into()),
             Ok(count) => {
                 self.heard = now;
@@ -139,10 +180,21 @@ impl Connection {
         Ok(())
     }
 
-    /// Bytes out: all that leaves passes here, and so would a cipher's layer. It writes what the
-    /// peer takes at once.
+    /// Bytes out: all that leaves passes here. It writes what the peer takes at once.
     pub fn write(&mut self, now: Instant) -> io::Result<()> {
+        if let Some(session) = self.session() {
+            let sealed = session.take_sealed()?;
+            self.outgoing.put(&sealed);
+        }
         self.outgoing.write(&mut self.stream, now)
+    }
+
+    /// Puts bytes behind those that leave.
+    fn put(&mut self, bytes: &[u8]) {
+        match &mut self.entry {
+            Entry::Known(_) => self.outgoing.put(bytes),
+            Entry::Unknown(session) => session.put(bytes),
+        }
     }
 
     /// What came and is not taken. It goes back by `put_back`: so its frames are judged where they
@@ -208,7 +260,7 @@ impl Connection {
     pub fn say(&mut self, frame: &[u8], mark: Option<Mark>) {
         self.begin_batch(mark);
         if self.batch == Batch::Begun {
-            self.outgoing.put(frame);
+            self.put(frame);
         }
     }
 
@@ -227,18 +279,19 @@ impl Connection {
         }
         let is_lost = self.outgoing.is_full();
         self.batch = if is_lost { Batch::Lost } else { Batch::Begun };
+        let mut first = Vec::new();
         if let Some(host) = &mut self.host {
             let answer = std::mem::take(&mut host.answer);
             let news = mark.filter(|_| host.mark != mark && !self.is_ended);
             if !is_lost {
-                self.outgoing.put(&answer);
-                self.outgoing
-                    .put(&news.map(|now| FromServer::Mark(now).frame()).unwrap_or_default());
+                first.extend(answer);
+                first.extend(news.map(|now| FromServer::Mark(now).frame()).unwrap_or_default());
                 host.mark = mark;
             }
         }
         if !is_lost {
-            self.outgoing.put(&self.told);
+            first.append(&mut self.told);
+            self.put(&first);
         }
         self.told.clear();
     }

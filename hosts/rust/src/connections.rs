@@ -1,5 +1,6 @@
 //! The connections of a server. Its one thread reads and writes them all, and waits for none: so no
 //! slow peer stops the others.
+use crate::access::Access;
 use crate::connection::{Connection, Looked};
 use crate::frames::Frames;
 use crate::history::Mark;
@@ -8,7 +9,8 @@ use crate::listening::Listening;
 use crate::poller::{Poller, Readiness, Ready, Watched};
 use crate::refusal::Refusal;
 use crate::routing::Routes;
-use crate::stream::{Listener, Stream};
+use crate::strangers::Strangers;
+use crate::stream::{Accepted, Listener};
 use mio::Waker;
 use std::collections::{HashMap, VecDeque};
 use std::io;
@@ -26,7 +28,9 @@ const MAX_TAKEN: usize = 32;
 pub(crate) struct Connections {
     poller: Poller,
     listening: Listening,
+    access: Access,
     open: HashMap<u64, Peer>,
+    strangers: Strangers,
     routes: Routes,
     /// Those that may have a frame, in the order of their turns. Each is there once.
     ready: VecDeque<u64>,
@@ -56,12 +60,18 @@ pub(crate) enum Turn {
 
 impl Connections {
     /// Takes connections from the listener, and what wakes it from other threads.
-    pub fn new(listener: Listener, most: usize) -> io::Result<(Connections, Arc<Waker>)> {
+    pub fn new(
+        listener: Listener,
+        most: usize,
+        access: Access,
+    ) -> io::Result<(Connections, Arc<Waker>)> {
         let (poller, waker) = Poller::new(&listener)?;
         let connections = Connections {
             poller,
             listening: Listening::new(listener, most)?,
+            access,
             open: HashMap::new(),
+            strangers: Strangers::default(),
             routes: Routes::default(),
             ready: VecDeque::new(),
             sending: Vec::new(),
@@ -101,21 +111,11 @@ impl Connections {
             if !self.listening.is_ready(self.now) {
                 break;
             }
-            if let Some(stream) = self.listening.take(self.open.len(), self.now)? {
-                self.open(stream);
+            if let Some(accepted) = self.listening.take(self.now)? {
+                self.enter(accepted);
             }
         }
         Ok(())
-    }
-
-    fn open(&mut self, stream: Stream) {
-        let number = self.next;
-        self.next += 1;
-        match Peer::new(stream, number, &self.poller, self.now) {
-            Ok(peer) => drop(self.open.insert(number, peer)),
-            // The system has no room for it: it is closed.
-            Err(error) => self.listening.not_taken(&error),
-        }
     }
 
     fn wake(&mut self, number: u64, readiness: Readiness) {
@@ -147,9 +147,13 @@ impl Connections {
         if !peer.connection.is_ready() {
             return Turn::Nothing;
         }
-        match peer.connection.look(self.now) {
-            Looked::Frame => Turn::Frame(number, peer.connection.take_incoming()),
+        let looked = peer.connection.look(self.now);
+        self.meet(number);
+        match looked {
+            Looked::Frame => self.frame(number),
             Looked::NoFrame => {
+                // A hand-shake answers what came.
+                self.write(number);
                 self.line_up(number);
                 Turn::Nothing
             }
@@ -158,6 +162,11 @@ impl Connections {
                 Turn::Nothing
             }
         }
+    }
+
+    fn frame(&mut self, number: u64) -> Turn {
+        let peer = self.open.get_mut(&number);
+        peer.map_or(Turn::Nothing, |peer| Turn::Frame(number, peer.connection.take_incoming()))
     }
 
     /// Gives the connection back what it had, without the frame that was judged.
@@ -172,6 +181,7 @@ impl Connections {
         if let Some(peer) = self.open.remove(&number) {
             self.poller.remove(peer.connection.stream());
         }
+        self.strangers.closed(number);
         self.routes.close(number);
     }
 
@@ -246,10 +256,12 @@ impl Connections {
         }
     }
 
-    /// Closes the connections whose peers are silent or take nothing for too long.
+    /// Closes the connections whose peers are silent, take nothing, or do not say who they are, for
+    /// too long.
     pub fn close_dead(&mut self) {
         let dead = self.open.iter().filter(|(_, peer)| peer.connection.is_dead(self.now));
-        let dead: Vec<u64> = dead.map(|(number, _)| *number).collect();
+        let dead = dead.map(|(number, _)| *number);
+        let dead: Vec<u64> = dead.chain(self.strangers.late(self.now)).collect();
         for number in dead {
             self.close(number);
         }
@@ -280,8 +292,15 @@ impl Connections {
 }
 
 impl Peer {
-    fn new(stream: Stream, number: u64, poller: &Poller, now: Instant) -> io::Result<Peer> {
-        let connection = Connection::new(stream, now)?;
+    fn new(
+        accepted: Accepted,
+        number: u64,
+        poller: &Poller,
+        access: &Access,
+        now: Instant,
+    ) -> io::Result<Peer> {
+        let entry = access.enter(&accepted)?;
+        let connection = Connection::new(accepted.stream, entry, now)?;
         poller.add(number, connection.stream())?;
         let watched = Watched::Reads;
         Ok(Peer { connection, is_in_ready: false, is_in_sending: false, watched })
@@ -329,5 +348,6 @@ impl Sending<'_> {
     }
 }
 
+mod entering;
 #[cfg(test)]
 mod tests;

@@ -8,9 +8,10 @@
         reason = "without the feature nothing is told"
     )
 )]
+use crate::address::Address;
 use crate::change::{Change, Record};
 use crate::history::Mark;
-use crate::stream::Address;
+use crate::identity::Identity;
 use std::collections::BTreeMap;
 use std::fmt::Display;
 use std::time::{Duration, Instant};
@@ -49,10 +50,13 @@ impl Seldom {
 pub(crate) struct EventLog {
     /// The clients that ever registered: the incarnation, and whether it has left.
     clients: BTreeMap<u8, (u64, bool)>,
+    /// The clients that are being evicted, each with the incarnation that takes its place.
+    evicting: BTreeMap<u8, u64>,
     is_serving: Option<bool>,
     missing: Vec<u8>,
     bad_messages: Seldom,
     strangers: Seldom,
+    denials: Seldom,
     alarms: Seldom,
     store_alarms: Seldom,
 }
@@ -64,10 +68,12 @@ impl EventLog {
         let clients = records.iter().map(|it| (it.client, (it.incarnation, it.left))).collect();
         EventLog {
             clients,
+            evicting: BTreeMap::new(),
             is_serving: None,
             missing: Vec::new(),
             bad_messages: Seldom::default(),
             strangers: Seldom::default(),
+            denials: Seldom::default(),
             alarms: Seldom::default(),
             store_alarms: Seldom::default(),
         }
@@ -94,12 +100,28 @@ impl EventLog {
             match *change {
                 Change::Registered { client, incarnation } => self.joined(client, incarnation),
                 Change::Left { client } => self.left(client),
-                Change::Started { .. } | Change::Judged { .. } => {}
+                Change::Started { .. } | Change::Judged { .. } | Change::Leased(_) => {}
             }
         }
     }
 
+    /// The server evicts a client by a successor. It tells so once, when that is committed.
+    pub fn evicts(&mut self, client: u8, successor: u64) {
+        self.evicting.insert(client, successor);
+    }
+
     fn joined(&mut self, client: u8, incarnation: u64) {
+        if self.evicting.get(&client) == Some(&incarnation) {
+            let before = self.clients.insert(client, (incarnation, false));
+            let evicted = before.map(|(incarnation, _)| incarnation);
+            tell!(
+                warn,
+                client,
+                incarnation = evicted,
+                "a client is evicted: its lease has ended, and no sign of it came"
+            );
+            return;
+        }
         match self.clients.insert(client, (incarnation, false)) {
             Some((before, false)) => {
                 tell!(
@@ -117,6 +139,9 @@ impl EventLog {
     fn left(&mut self, client: u8) {
         if let Some((incarnation, has_left)) = self.clients.get_mut(&client) {
             *has_left = true;
+            if self.evicting.remove(&client) == Some(*incarnation) {
+                return;
+            }
             tell!(info, client, incarnation = *incarnation, "a client has left");
         }
     }
@@ -146,6 +171,20 @@ impl EventLog {
                 registered,
                 passed_over,
                 "a message is passed over: it is of another incarnation than the client's"
+            );
+        }
+    }
+
+    /// A connection said what its identity may not say, and is closed.
+    pub fn denied(&mut self, connection: u64, identity: &Identity, client: Option<u8>) {
+        if let Some(passed_over) = self.denials.lets(Instant::now()) {
+            tell!(
+                warn,
+                connection,
+                %identity,
+                client,
+                passed_over,
+                "a connection is closed: it said what its certificate or its user may not say"
             );
         }
     }
@@ -184,6 +223,16 @@ pub(crate) fn store_went_back(server: &Address) {
         %server,
         "ALARM: the server's store lacks what this client has seen of it: the client drops its \
          cache and joins anew"
+    );
+}
+
+/// A client goes on under a greater incarnation.
+pub(crate) fn began_anew(client: u8, incarnation: u64) {
+    tell!(
+        info,
+        client,
+        incarnation,
+        "a client begins anew: its lease has ended, or the server's store went back"
     );
 }
 

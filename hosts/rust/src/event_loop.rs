@@ -8,6 +8,8 @@ use crate::handle::ServerHandle;
 use crate::held_back::HeldBack;
 use crate::history::{History, Mark};
 use crate::host_frame::{self, FromClient, FromServer};
+use crate::lease::Sign;
+use crate::leases::LeaseTable;
 use crate::message::{self, Kind, client_number, client_of, incarnation_of, kind_of};
 use crate::refusal::{ClientSet, Refusal};
 use crate::requests::Request;
@@ -53,6 +55,9 @@ pub(crate) struct EventLoop<S> {
     asked: Receiver<Request>,
     connections: Connections,
     held_back: HeldBack,
+    leases: LeaseTable,
+    /// Signs were answered in this turn.
+    owes_terms: bool,
     watch: Watch,
     status: Status,
     /// When the last turn ended.
@@ -78,6 +83,7 @@ impl<S: Store> EventLoop<S> {
         server: ServerHandle,
         (store, history): (S, Option<History>),
         (connections, asked): (Connections, Receiver<Request>),
+        leases: LeaseTable,
         timings: Arc<Timings>,
         epoch: u64,
         log: EventLog,
@@ -90,6 +96,8 @@ impl<S: Store> EventLoop<S> {
             asked,
             connections,
             held_back: HeldBack::new(),
+            leases,
+            owes_terms: false,
             watch: Watch::default(),
             status: Status { epoch, ..Status::default() },
             turned: now,
@@ -138,7 +146,7 @@ impl<S: Store> EventLoop<S> {
         while looks < MAX_AT_ONCE && self.hear_next(&mut changes)? {
             looks += 1;
         }
-        self.nudge(began);
+        self.nudge(began, &mut changes)?;
         self.ask_store(began)?;
         self.commit(&changes)?;
         self.send()?;
@@ -184,7 +192,7 @@ impl<S: Store> EventLoop<S> {
             Turn::Nothing => {}
             Turn::Frame(connection, mut incoming) => {
                 if let Ok(Some(frame)) = incoming.next() {
-                    changes.extend(self.hear(connection, frame)?);
+                    self.hear(connection, frame, changes)?;
                 }
                 self.connections.put_back(connection, incoming);
             }
@@ -192,15 +200,28 @@ impl<S: Store> EventLoop<S> {
         Ok(true)
     }
 
-    /// Takes what came on a connection, and says what has to be kept.
-    fn hear(&mut self, connection: u64, frame: &[u8]) -> Result<Option<Change>, ServeError> {
-        if host_frame::is_of_host(frame) {
-            if let Some(FromClient::Hello(seen)) = FromClient::read(frame) {
-                self.greet(connection, seen)?;
-            }
-            return Ok(None);
+    /// Takes what came on a connection, and adds what has to be kept.
+    fn hear(
+        &mut self,
+        connection: u64,
+        frame: &[u8],
+        changes: &mut Vec<Change>,
+    ) -> Result<(), ServeError> {
+        if !self.connections.identity(connection).may_say(frame) {
+            self.deny(connection, frame);
+            return Ok(());
         }
-        self.judge(connection, frame)
+        if !host_frame::is_of_host(frame) {
+            let change = self.judge(connection, frame)?;
+            return change.map_or(Ok(()), |change| self.keep(change, changes));
+        }
+        if let Some(FromClient::Hello(seen)) = FromClient::read(frame) {
+            self.greet(connection, seen)
+        } else if let Some(sign) = Sign::read(frame) {
+            self.hear_sign(connection, sign)
+        } else {
+            Ok(())
+        }
     }
 
     /// Answers the Hello of a client's host, which has seen so much of the store.
@@ -210,7 +231,7 @@ impl<S: Store> EventLoop<S> {
     /// goes on: it does not end by a stranger's word.
     fn greet(&mut self, connection: u64, seen: Option<Mark>) -> Result<(), ServeError> {
         match seen.filter(|seen| !self.has(*seen)) {
-            None => self.connections.greet(connection, FromServer::Hello),
+            None => self.connections.greet(connection, FromServer::Hello { answers_signs: true }),
             Some(lacked) => {
                 // A server behind which another one has started lacks it too, and ends here.
                 self.store.commit(&[])?;
@@ -232,6 +253,9 @@ impl<S: Store> EventLoop<S> {
     /// Gives the server one message, and says what has to be kept. A string that is no message ends
     /// its connection.
     fn judge(&mut self, connection: u64, message: &[u8]) -> Result<Option<Change>, ServeError> {
+        if !self.hears(connection, message)? {
+            return Ok(None);
+        }
         let change = match self.server.step(message) {
             Ok(change) => change,
             Err(Code::BadMessage) => {
@@ -297,17 +321,9 @@ impl<S: Store> EventLoop<S> {
         }
     }
 
-    fn alarm(&mut self, message: &[u8]) {
-        self.status.alarms_raised += 1;
-        self.log.alarm(client_of(message));
-        // A client repeats its report.
-        let known = &mut self.status.alarms;
-        known.extend(client_of(message).filter(|client| !known.contains(client)));
-    }
-
-    fn nudge(&mut self, now: Instant) {
+    fn nudge(&mut self, now: Instant, changes: &mut Vec<Change>) -> Result<(), ServeError> {
         if now.saturating_duration_since(self.nudged) < NUDGE {
-            return;
+            return Ok(());
         }
         self.nudged = now;
         self.connections.close_dead();
@@ -316,6 +332,7 @@ impl<S: Store> EventLoop<S> {
             let _ = self.server.nudge(client);
         }
         self.look();
+        self.evict_silent(changes)
     }
 
     /// Asks now and then whether the store is still this server's. One behind which another server
@@ -329,11 +346,15 @@ impl<S: Store> EventLoop<S> {
         Ok(self.store.commit(&[])?)
     }
 
+    /// Commits what the turn has changed. Terms leave only if the store is still this server's.
     fn commit(&mut self, changes: &[Change]) -> Result<(), ServeError> {
-        if !changes.is_empty() {
-            let began = Instant::now();
+        let owes_terms = std::mem::take(&mut self.owes_terms);
+        let began = Instant::now();
+        if owes_terms || !changes.is_empty() {
             self.store.commit(changes)?;
             self.asked_store = began;
+        }
+        if !changes.is_empty() {
             if let Some(history) = &mut self.history {
                 history.commit();
             }
@@ -361,39 +382,11 @@ impl<S: Store> EventLoop<S> {
         sending.end();
         Ok(())
     }
-
-    /// Sees whether the server serves, and until it does, whose reports are missing. One that
-    /// serves goes on to serve. It answers whether that may be news.
-    fn see_phase(&mut self) -> bool {
-        if self.status.is_serving {
-            return false;
-        }
-        self.status.is_serving = self.server.is_serving();
-        // If there is no memory for it, it is shown as it was.
-        if let Ok(missing) = self.server.missing() {
-            self.status.missing = missing;
-        }
-        self.log.phase(self.status.is_serving, &self.status.missing);
-        true
-    }
-
-    fn show_if_due(&mut self, is_news: bool, shown: &Mutex<Status>) {
-        let age = self.turned.saturating_duration_since(self.shown);
-        self.is_stale = !is_news && age < SHOWN_FOR;
-        if !self.is_stale {
-            self.shown = self.turned;
-            self.show(shown);
-        }
-    }
-
-    fn show(&mut self, shown: &Mutex<Status>) {
-        self.status.connected = self.connections.clients();
-        self.status.connections = self.connections.count() as u64;
-        self.status.held_back = self.held_back.count();
-        shown.lock().unwrap_or_else(PoisonError::into_inner).clone_from(&self.status);
-    }
 }
 
+mod leases;
 mod looks;
+mod notices;
+mod showing;
 #[cfg(test)]
 mod tests;

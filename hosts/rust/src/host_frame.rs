@@ -7,6 +7,9 @@ use crate::refusal::{ClientSet, Refusal};
 
 const HOST: u8 = 0;
 
+/// What a server's host says behind its Hello if it answers signs.
+const ANSWERS_SIGNS: u8 = 1;
+
 /// What the host of a client says.
 #[derive(Clone, Copy, Debug, PartialEq, Eq)]
 pub(crate) enum FromClient {
@@ -18,8 +21,8 @@ pub(crate) enum FromClient {
 /// What the host of a server says, and only to a host that has said Hello.
 #[derive(Clone, Copy, Debug, PartialEq, Eq)]
 pub(crate) enum FromServer {
-    /// It takes host frames.
-    Hello,
+    /// It takes host frames. A host of before leases answers no signs.
+    Hello { answers_signs: bool },
     /// It does not serve the client, for this reason.
     Refused(Refusal),
     /// So much is on the disk. It leaves before the messages that rest on it.
@@ -60,7 +63,10 @@ impl FromServer {
     /// The frame, with its length.
     pub fn frame(self) -> Vec<u8> {
         match self {
-            FromServer::Hello => framed(&[HOST, FromServer::HELLO], &[]),
+            FromServer::Hello { answers_signs } => {
+                let answers: &[u8] = if answers_signs { &[ANSWERS_SIGNS] } else { &[] };
+                framed(&[HOST, FromServer::HELLO], answers)
+            }
             FromServer::Refused(refusal) => {
                 let (reason, [first, second]) = spelled(refusal);
                 let numbers = [first.to_le_bytes(), second.to_le_bytes()].concat();
@@ -74,7 +80,9 @@ impl FromServer {
     /// What the frame says, or `None` if it is of another kind: then it says nothing.
     pub fn read(frame: &[u8]) -> Option<FromServer> {
         match frame {
-            [HOST, FromServer::HELLO, ..] => Some(FromServer::Hello),
+            [HOST, FromServer::HELLO, rest @ ..] => {
+                Some(FromServer::Hello { answers_signs: rest.first() == Some(&ANSWERS_SIGNS) })
+            }
             [HOST, FromServer::REFUSED, reason, numbers @ ..] => {
                 refusal(*reason, numbers).map(FromServer::Refused)
             }
@@ -93,6 +101,8 @@ fn spelled(refusal: Refusal) -> (u8, [u64; 2]) {
         Refusal::Incarnation { client, registered } => (2, [client.into(), registered]),
         Refusal::Full { connections } => (3, [connections, 0]),
         Refusal::Missing(clients) => (4, [clients.bits(), 0]),
+        Refusal::LeaseRuns { client, registered } => (5, [client.into(), registered]),
+        Refusal::Denied => (6, [0, 0]),
     }
 }
 
@@ -116,6 +126,8 @@ fn refusal(reason: u8, numbers: &[u8]) -> Option<Refusal> {
         2 => Refusal::Incarnation { client: u8::try_from(first).ok()?, registered: second },
         3 => Refusal::Full { connections: first },
         4 => Refusal::Missing(ClientSet::of_bits(first)),
+        5 => Refusal::LeaseRuns { client: u8::try_from(first).ok()?, registered: second },
+        6 => Refusal::Denied,
         _ => return None,
     })
 }
@@ -131,6 +143,7 @@ mod tests {
     use super::*;
     use crate::frames::split;
 
+    const HELLO: FromServer = FromServer::Hello { answers_signs: true };
     const MARK: Mark = Mark { start: 1 << 127 | 5, commits: 258 };
 
     fn said() -> Vec<FromServer> {
@@ -141,8 +154,10 @@ mod tests {
             Refusal::Incarnation { client: 63, registered: 1 << 60 },
             Refusal::Full { connections: 256 },
             missing,
+            Refusal::LeaseRuns { client: 63, registered: 7 },
+            Refusal::Denied,
         ];
-        let others = [FromServer::Hello, FromServer::Mark(MARK), FromServer::WentBack];
+        let others = [HELLO, FromServer::Mark(MARK), FromServer::WentBack];
         refusals.map(FromServer::Refused).into_iter().chain(others).collect()
     }
 
@@ -177,19 +192,22 @@ mod tests {
         assert_eq!(body(&FromServer::Mark(MARK).frame()), [&[0, 18][..], &marked].concat());
         let seen = FromClient::Hello(Some(MARK));
         assert_eq!(body(&seen.frame()), [&[0, 0][..], &marked].concat());
-        assert_eq!(body(&FromServer::Hello.frame()), [0, 16]);
+        assert_eq!(body(&HELLO.frame()), [0, 16, 1]);
+        let older = FromServer::Hello { answers_signs: false };
+        assert_eq!((body(&older.frame()), FromServer::read(&[0, 16])), (vec![0, 16], Some(older)));
     }
 
     #[test]
     fn what_is_cut_off_or_unknown_says_nothing() {
         for said in said() {
             let body = body(&said.frame());
-            for length in 0..body.len() {
+            let shortest = if said == HELLO { 2 } else { body.len() };
+            for length in 0..shortest {
                 assert_eq!(FromServer::read(&body[..length]), None);
             }
         }
         assert_eq!(
-            FromServer::read(&[0, 17, 5, 0, 0, 0, 0, 0, 0, 0, 0, 0, 0, 0, 0, 0, 0, 0, 0]),
+            FromServer::read(&[0, 17, 7, 0, 0, 0, 0, 0, 0, 0, 0, 0, 0, 0, 0, 0, 0, 0, 0]),
             None
         );
         assert_eq!(FromServer::read(&[0, 0]), None, "a client's");

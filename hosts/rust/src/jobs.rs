@@ -1,6 +1,8 @@
 //! What a client has been asked to do, as far as it has come.
 mod anew;
 mod hold;
+mod leased;
+mod pinning;
 mod watched;
 mod writing;
 
@@ -15,8 +17,10 @@ use std::ops::Range;
 use std::sync::mpsc::{Receiver, SyncSender, sync_channel};
 use std::time::{Duration, Instant};
 
+pub(crate) use anew::Dropped;
 use hold::Taking;
 pub(crate) use hold::{Held, Purpose};
+use leased::Speech;
 use watched::Watched;
 use writing::Written;
 
@@ -109,8 +113,12 @@ pub(crate) struct Jobs {
     /// What was called back while it was pinned, and is no more.
     owed: Vec<Range<u64>>,
     stage: Stage,
-    /// The client has dropped all, and has not begun anew.
-    is_void: bool,
+    /// Why the client has dropped all, if it has not begun anew.
+    void: Option<Dropped>,
+    has_begun_anew: bool,
+    /// The last incarnation that it has begun.
+    incarnation: u64,
+    speech: Speech,
     /// The name of the first pin that the library's client of now may have, and of the next one.
     /// Those before were another one's.
     first_pin: u64,
@@ -120,6 +128,8 @@ pub(crate) struct Jobs {
 impl Jobs {
     pub fn new(client: ClientHandle) -> Jobs {
         Jobs {
+            incarnation: client.lease().incarnation(),
+            speech: Speech::Free,
             client,
             open: Vec::new(),
             written: None,
@@ -133,7 +143,8 @@ impl Jobs {
             pins: Pins::default(),
             owed: Vec::new(),
             stage: Stage::Here,
-            is_void: false,
+            void: None,
+            has_begun_anew: false,
             first_pin: 0,
             next_pin: 0,
         }
@@ -161,7 +172,7 @@ impl Jobs {
     /// Says Bye, and says it again with each tick until the server has kept it.
     pub fn leave(&mut self) -> Asked<()> {
         match self.stage {
-            Stage::Here if self.is_void => self.stage = Stage::Returning,
+            Stage::Here if self.has_to_return() => self.stage = Stage::Returning,
             Stage::Here => self.say_bye(),
             _ => {}
         }
@@ -177,6 +188,7 @@ impl Jobs {
 
     fn add<T>(&mut self, job: impl FnOnce(Reply<T>) -> Job) -> Asked<T> {
         self.next += 1;
+        self.end_lease_if_over();
         let (reply, answer) = sync_channel(1);
         if self.stage != Stage::Ended {
             self.open.push((self.next, job(Reply(reply))));
@@ -209,24 +221,6 @@ impl Jobs {
         is_asked || matches!(self.stage, Stage::Returning | Stage::Leaving)
     }
 
-    /// Pins a range that is not empty, and says the pin's name.
-    pub fn pin(&mut self, keys: Range<u64>) -> Result<u64, Code> {
-        let id = self.first_pin + self.client.pin(&keys)?;
-        self.next_pin = self.next_pin.max(id + 1);
-        self.pins.add(id, keys);
-        Ok(id)
-    }
-
-    /// Frees a pin, and gives back what was called back meanwhile.
-    pub fn unpin(&mut self, id: u64) {
-        // One that the client had before it began anew is gone.
-        let Some(pin) = id.checked_sub(self.first_pin) else { return };
-        // The pin is there, and a client that has left has none.
-        let _ = self.client.unpin(pin);
-        self.owed.extend(self.pins.remove(id));
-        self.give_back();
-    }
-
     /// What the client knows, for threads that read it beside these calls.
     pub fn cache(&self) -> Cache {
         self.client.cache()
@@ -235,9 +229,11 @@ impl Jobs {
     /// Gives the client a message of the server, and goes on with its jobs at once: a callback
     /// behind it may take away what it gave.
     ///
-    /// A client that is void hears nothing: what is said now was meant for the one before.
+    /// A client that is void hears nothing: what is said now was meant for the one before. Nor does
+    /// one whose lease has ended.
     pub fn hear(&mut self, message: &[u8]) -> Result<(), Code> {
-        if self.is_void {
+        self.end_lease_if_over();
+        if self.is_void() {
             return Ok(());
         }
         if message.is_empty() {
@@ -289,14 +285,9 @@ impl Jobs {
         };
     }
 
-    /// Appends what the client says. What there is no memory for is lost, and a tick says it again.
-    pub fn take(&mut self, frames: &mut Vec<u8>) {
-        let _ = self.client.take(frames);
-    }
-
     /// Goes on with every job as far as it comes without another message.
     pub fn advance(&mut self, asking: Asking) {
-        if self.is_void {
+        if self.is_void() {
             return;
         }
         self.asking = asking;
@@ -345,7 +336,7 @@ impl Jobs {
         let rows = match self.client.scan(keys, &mut room) {
             Ok(Scan::Rows) => Ok(Some(room.clone())),
             Ok(Scan::Miss(point)) => self.ask(id, point..keys.end, Mode::RangeSS).map(|_| None),
-            Ok(Scan::Pending) => Ok(None),
+            Ok(Scan::Pending | Scan::Ended) => Ok(None),
             Err(code) => Err(code),
         };
         self.room = room;
@@ -376,20 +367,6 @@ impl Jobs {
             }
             Err(Code::Writing | Code::NotJoined) => Ok(false),
             Err(code) => Err(code),
-        }
-    }
-
-    /// Gives back what was called back while it was pinned, if it meets no other pin and nothing
-    /// hinders it just now.
-    fn give_back(&mut self) {
-        for span in std::mem::take(&mut self.owed) {
-            // If memory is refused, the next call comes back to it. A client that has left owes
-            // nothing.
-            let is_owed = self.pins.are_off(&span)
-                && matches!(self.try_forget(&span), Ok(false) | Err(Code::OutOfMemory));
-            if is_owed {
-                self.owed.push(span);
-            }
         }
     }
 }

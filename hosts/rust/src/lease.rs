@@ -5,6 +5,7 @@ use crate::ffi;
 use std::io;
 use std::sync::Arc;
 use std::sync::atomic::{AtomicU64, Ordering};
+use std::time::Duration;
 
 /// The moment that never comes, and the length of what does not end.
 pub(crate) const FOR_EVER: u64 = u64::MAX;
@@ -115,8 +116,33 @@ impl Lease {
         Arc::clone(&self.end)
     }
 
+    /// Whether a sign was said of this incarnation.
+    pub fn has_signed(&self) -> bool {
+        self.last.is_some()
+    }
+
+    /// How often a sign is due where nothing else is said, or `None` if the lease does not end.
+    pub fn pace(&self) -> Option<Duration> {
+        match self.state.length {
+            0 | FOR_EVER => None,
+            length => Some(Duration::from_nanos(length / GOES_ALONE)),
+        }
+    }
+
+    /// How long the lease goes on, or `None` if it does not end. One without terms has not begun.
+    pub fn left(&self, now: Moment) -> Option<Duration> {
+        match self.state {
+            ffi::Lease { length: 0, .. } => Some(Duration::ZERO),
+            ffi::Lease { end: FOR_EVER, .. } => None,
+            ffi::Lease { end, .. } => {
+                Some(Duration::from_nanos(Moment::of_nanoseconds(end).since(now)))
+            }
+        }
+    }
+
     /// Whether the lease has not ended. Behind its end the host sends nothing more of this
     /// incarnation, and begins anew under a greater one.
+    #[cfg(test)]
     pub fn holds(&self, now: Moment) -> bool {
         ffi::krl_lease_holds(&self.state, now.nanoseconds())
     }
@@ -127,6 +153,22 @@ impl Lease {
         let sign = self.sign(now)?;
         self.first = Some(sign.stamp);
         Some(sign)
+    }
+
+    /// The greeting again, since it may be lost. The answer to the first one counts as before.
+    pub fn greet_again(&mut self, now: Moment) -> Option<Sign> {
+        self.sign(now)
+    }
+
+    /// The server of this connection answers no signs, and has no leases: an incarnation without
+    /// terms lives by a lease that does not end. One that has had terms lives on by those, since the
+    /// server that granted them may evict it.
+    pub fn go_without_terms(&mut self, now: Moment) {
+        if self.state.length == 0 {
+            let stamp = now.nanoseconds();
+            ffi::krl_lease_take_terms(&mut self.state, stamp, FOR_EVER, stamp);
+            self.end.set(self.state.end);
+        }
     }
 
     /// The connection has ended. No terms count before the next one is greeted.

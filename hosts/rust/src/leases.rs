@@ -4,6 +4,7 @@ use crate::boot_clock::Moment;
 use crate::change::Record;
 use crate::ffi;
 use crate::lease::{FOR_EVER, Grant, Older, Sign};
+use crate::lease_record::LeaseRecord;
 use std::fmt;
 use std::time::Duration;
 
@@ -20,7 +21,7 @@ const MAX_DRIFT: u32 = 100;
 
 /// What a server grants its clients: how long each may answer from its cache after its last sign.
 #[derive(Clone, Copy, Debug, PartialEq, Eq)]
-pub(crate) struct Leases {
+pub struct Leases {
     length: Duration,
     /// How much further the server's clock may go than a client's meanwhile, in a hundred.
     drift: u32,
@@ -28,26 +29,42 @@ pub(crate) struct Leases {
 
 /// Why leases can't be so.
 #[derive(Clone, Copy, Debug, PartialEq, Eq)]
-pub(crate) enum BadLeases {
+pub enum BadLeases {
+    /// It is shorter than 300 milliseconds, or longer than a day.
     Length(Duration),
+    /// It is more than 100 in a hundred.
     Drift(u32),
 }
 
 impl Leases {
     /// Leases of a length from 300 milliseconds to a day, with a drift of 25 in a hundred.
+    ///
+    /// # Errors
+    ///
+    /// `Length` for another length.
     pub fn of(length: Duration) -> Result<Leases, BadLeases> {
         let is_length = (SHORTEST..=LONGEST).contains(&length);
         is_length.then_some(Leases { length, drift: DRIFT }).ok_or(BadLeases::Length(length))
     }
 
     /// The same with another drift, from 0 to 100 in a hundred.
+    ///
+    /// # Errors
+    ///
+    /// `Drift` above 100.
     pub fn with_drift(self, drift: u32) -> Result<Leases, BadLeases> {
         let is_drift = drift <= MAX_DRIFT;
         is_drift.then_some(Leases { drift, ..self }).ok_or(BadLeases::Drift(drift))
     }
 
+    /// How long each lease runs from its client's last sign on.
+    #[must_use]
+    pub fn length(self) -> Duration {
+        self.length
+    }
+
     /// The library's terms. A server without leases grants some that do not end.
-    fn terms(leases: Option<Leases>) -> ffi::Terms {
+    pub(crate) fn terms(leases: Option<Leases>) -> ffi::Terms {
         match leases {
             Some(Leases { length, drift }) => {
                 let length = u64::try_from(length.as_nanos()).unwrap_or(FOR_EVER);
@@ -72,45 +89,6 @@ impl fmt::Display for BadLeases {
 }
 
 impl std::error::Error for BadLeases {}
-
-/// What a store has to keep of leases, for the servers after this one.
-#[derive(Clone, Copy, Debug, PartialEq, Eq)]
-pub(crate) struct LeaseRecord {
-    /// No lease that ends and may still run is longer, in nanoseconds.
-    pub longest: u64,
-    /// Who may have a lease that does not end: the bit of value `2^n` stands for client `n`.
-    pub unleased: u64,
-}
-
-impl LeaseRecord {
-    /// That of a store in which nothing is kept of leases: whoever is registered there may answer
-    /// for ever.
-    pub const UNKNOWN: LeaseRecord = LeaseRecord { longest: 0, unleased: u64::MAX };
-
-    /// What a server with these leases, or with none, has to store before it says anything.
-    pub fn at_start(self, leases: Option<Leases>) -> LeaseRecord {
-        let terms = Leases::terms(leases);
-        self.each(|_, kept| ffi::krl_kept_start(&kept, &terms))
-    }
-
-    fn of_client(self, client: usize) -> ffi::KeptLease {
-        let is_unleased = u32::from(self.unleased & bit(client) != 0);
-        ffi::KeptLease { longest: self.longest, is_unleased }
-    }
-
-    fn with_client(self, client: usize, kept: ffi::KeptLease) -> LeaseRecord {
-        let others = self.unleased & !bit(client);
-        let own = if kept.is_unleased == 0 { 0 } else { bit(client) };
-        LeaseRecord { longest: kept.longest, unleased: others | own }
-    }
-
-    /// What the rule makes of it for each client. The longest lease is the same for all.
-    fn each(self, rule: impl Fn(usize, ffi::KeptLease) -> ffi::KeptLease) -> LeaseRecord {
-        (0..CLIENTS).fold(self, |record, client| {
-            record.with_client(client, rule(client, self.of_client(client)))
-        })
-    }
-}
 
 /// A client that is registered and has not left.
 #[derive(Clone, Copy, Debug)]
@@ -163,12 +141,17 @@ impl LeaseTable {
         let mut known = [Known::default(); CLIENTS];
         for &Record { client, incarnation, left, .. } in clients {
             let place = usize::from(client) % CLIENTS;
-            let until = ffi::krl_kept_until(&record.of_client(place), &terms, now);
+            let until = ffi::krl_kept_until(&record.of_client(client), &terms, now);
             let present = (!left).then_some(Present { incarnation, until });
             known[place] = Known { registered: incarnation, present, signed: None };
         }
         let old_end = ffi::krl_kept_old_end(&record.of_client(0), &terms, now);
         LeaseTable { terms, record, old_end, known }
+    }
+
+    /// The incarnation of the client that was registered last, or 0.
+    pub fn registered(&self, client: u8) -> u64 {
+        self.known.get(usize::from(client)).map_or(0, |known| known.registered)
     }
 
     /// What the store has, or is to have.
@@ -201,10 +184,10 @@ impl LeaseTable {
         let place = usize::from(client) % CLIENTS;
         let terms = self.terms_of(place, incarnation);
         let until = ffi::krl_until_register(&terms, now.nanoseconds());
-        let kept = ffi::krl_kept_register(&self.record.of_client(place), &terms);
+        let kept = ffi::krl_kept_register(&self.record.of_client(client), &terms);
         self.known[place].registered = incarnation;
         self.known[place].present = Some(Present { incarnation, until });
-        self.record = self.record.with_client(place, kept);
+        self.record = self.record.with_client(client, kept);
         self.record
     }
 
@@ -266,9 +249,10 @@ impl LeaseTable {
     pub fn revise(&mut self, now: Moment) -> Option<LeaseRecord> {
         let (terms, old_end, now) = (self.terms, self.old_end, now.nanoseconds());
         let untils = self.known.map(|known| known.present.map_or(FOR_EVER, |it| it.until));
-        let revised = self
-            .record
-            .each(|client, kept| ffi::krl_kept_revise(&kept, &terms, old_end, untils[client], now));
+        let revised = self.record.each(|client, kept| {
+            let until = untils[usize::from(client)];
+            ffi::krl_kept_revise(&kept, &terms, old_end, until, now)
+        });
         if revised == self.record {
             return None;
         }
@@ -303,10 +287,6 @@ impl Known {
     fn older_than(&self, incarnation: u64) -> Option<Older> {
         self.signed.filter(|(signed, _)| *signed == incarnation).map(|(_, older)| older)
     }
-}
-
-fn bit(client: usize) -> u64 {
-    1 << client
 }
 
 #[cfg(test)]

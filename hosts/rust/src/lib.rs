@@ -17,11 +17,13 @@
 //! client.leave()?;
 //! # Ok::<(), Box<dyn std::error::Error>>(())
 //! ```
+mod access;
+mod address;
 mod backoff;
-#[cfg_attr(not(test), expect(dead_code, reason = "neither host calls it yet"))]
 mod boot_clock;
 mod builder;
 mod cached;
+mod carrier;
 mod change;
 mod client;
 mod client_handle;
@@ -30,6 +32,7 @@ mod connection;
 mod connections;
 mod event_log;
 mod event_loop;
+mod evict;
 mod ffi;
 mod frames;
 mod gate;
@@ -38,13 +41,13 @@ mod handle;
 mod held_back;
 mod history;
 mod host_frame;
+#[cfg_attr(not(any(feature = "tls", test)), expect(dead_code, reason = "TLS alone reads names"))]
+mod identity;
 mod jobs;
 mod judged;
-#[cfg_attr(not(test), expect(dead_code, reason = "the link does not call it yet"))]
 mod lease;
-#[cfg_attr(not(test), expect(dead_code, reason = "neither host calls it yet"))]
 mod lease_frame;
-#[cfg_attr(not(test), expect(dead_code, reason = "the event loop does not call it yet"))]
+mod lease_record;
 mod leases;
 mod link;
 mod listening;
@@ -62,6 +65,7 @@ mod range;
 mod refusal;
 mod refused;
 mod requests;
+mod resharding;
 mod routing;
 mod row;
 mod server;
@@ -82,23 +86,34 @@ mod sqlite_version;
 mod standing;
 mod status;
 mod store;
+mod strangers;
 mod stream;
 mod timings;
+#[cfg_attr(not(feature = "tls"), path = "no_tls.rs")]
+mod tls;
 mod turned_away;
+mod unix_peer;
 mod watch;
 mod writer;
 
+pub use access::Access;
+pub use address::{Address, BadAddress};
 pub use builder::ClientBuilder;
 pub use change::{Change, Outcome, Record, Snapshot, Write};
-pub use client::{Client, Pin, evict};
+pub use client::{Client, Pin};
 pub use code::Code;
+pub use evict::evict;
 pub use history::{History, Mark};
+pub use identity::{BadIdentity, BadTableName, Identity, TableName};
+pub use lease_record::LeaseRecord;
+pub use leases::{BadLeases, Leases};
 pub use lock_file::LockFileError;
 pub use locks::{HeldSlot, Locks, LocksError};
 pub use monitor::{Monitor, SnapshotError};
 pub use partition::Part;
 pub use refusal::{ClientSet, Refusal};
 pub use refused::{JoinError, Refused};
+pub use resharding::NotNeighbors;
 pub use row::{END, MAX_VALUE_BYTES, Row, TooLong, Value};
 pub use server::{ServeError, Server};
 pub use server_builder::ServerBuilder;
@@ -113,6 +128,8 @@ pub use sqlite::SqliteStore;
 pub use sqlite_copy::StoreFile;
 pub use status::Status;
 pub use store::{MemoryStore, Store, StoreError};
-pub use stream::{Address, BadAddress, Listener};
+pub use stream::Listener;
 pub use timings::{Counts, Measured};
+#[cfg(feature = "tls")]
+pub use tls::{TlsConfig, TlsError, TlsSession};
 pub use watch::{HeldSlots, Wait};

@@ -1,12 +1,14 @@
 //! The thread of a client that keeps its connection, and what it shares with the callers.
+use crate::address::Address;
 use crate::backoff::Backoff;
-use crate::client_handle::{Cache, ClientHandle};
+use crate::carrier::Carrier;
+use crate::client_handle::Cache;
 use crate::code::Code;
 use crate::event_log;
 use crate::frames::{Frames, LONGEST_TO_CLIENT};
 use crate::greeting::{Greeting, Heard};
 use crate::history::Mark;
-use crate::host_frame::{self, FromClient, FromServer};
+use crate::host_frame;
 use crate::jobs::{Asking, BUSY_TICK, IDLE_TICK, Jobs};
 use crate::lock_file::LockFile;
 use crate::message::epoch_of;
@@ -14,7 +16,6 @@ use crate::refusal::Refusal;
 use crate::refused::Refused;
 use crate::servers::Servers;
 use crate::silence::{Silence, Silent};
-use crate::stream::{Address, Stream};
 use crate::writer::{ATTEMPT, Writer, Written};
 use std::convert::Infallible;
 use std::io::{self, ErrorKind};
@@ -44,6 +45,8 @@ pub(crate) struct Link {
     fault: Mutex<Option<io::Error>>,
     /// Why the server does not serve the client, as it told last, and when.
     refusal: Mutex<Option<(Refusal, Instant)>>,
+    /// Why this side has no right to the client, if the server turned it away last.
+    turned_away: Mutex<Option<String>>,
     /// How much the client has seen of the server's store.
     seen: Mutex<Option<Mark>>,
     /// The greatest epoch that a server has said.
@@ -63,7 +66,7 @@ enum Thread {
 /// One connection, while it lasts.
 struct Connected<'l> {
     address: &'l Address,
-    stream: Stream,
+    carrier: Carrier,
     heard: Heard,
     silence: Silence,
 }
@@ -85,6 +88,7 @@ impl Link {
             changed: Condvar::new(),
             fault: Mutex::default(),
             refusal: Mutex::default(),
+            turned_away: Mutex::default(),
             seen: Mutex::default(),
             epoch: AtomicU64::new(0),
             lock_file: Mutex::new(lock_file),
@@ -152,6 +156,7 @@ impl Link {
             let address = self.servers.at(place);
             let served = self.connect(address, &greeting).map(|connected| self.serve(connected));
             self.writer.close();
+            self.jobs().disconnect();
             let fault = match served {
                 Ok(Served { heard, end }) => {
                     greeting.note(heard);
@@ -164,6 +169,9 @@ impl Link {
                 Err(error) => error,
             };
             event_log::disconnected(address, &fault);
+            if fault.kind() == ErrorKind::PermissionDenied {
+                *lock(&self.turned_away) = Some(fault.to_string());
+            }
             *lock(&self.fault) = Some(fault);
             self.rest(backoff.pause());
         }
@@ -182,26 +190,22 @@ impl Link {
     }
 
     fn connect<'l>(&self, address: &'l Address, greeting: &Greeting) -> io::Result<Connected<'l>> {
-        let stream = Stream::connect(address, CONNECT)?;
-        stream.set_timeouts(IDLE_TICK, ATTEMPT)?;
         let is_asked = greeting.is_said();
-        let first = if is_asked { self.hello() } else { Vec::new() };
-        self.writer.open(stream.try_clone()?, first);
+        self.begin_anew_if_due(is_asked)?;
+        let carrier = Carrier::connect(address, self.servers.tls(), CONNECT)?;
+        carrier.set_timeouts(IDLE_TICK, ATTEMPT)?;
+        let first = self.greeting(is_asked)?;
+        self.writer.open(carrier.try_clone()?, first);
         *lock(&self.fault) = None;
         event_log::connected(address);
         let silence = Silence::new(Instant::now(), is_asked);
-        Ok(Connected { address, stream, heard: Heard::default(), silence })
-    }
-
-    /// The Hello of this host.
-    fn hello(&self) -> Vec<u8> {
-        FromClient::Hello(*lock(&self.seen)).frame()
+        Ok(Connected { address, carrier, heard: Heard::default(), silence })
     }
 
     /// Hears what the server says, until the connection ends.
     fn serve(&self, mut connected: Connected<'_>) -> Served {
         let Err(end) = self.turns(&mut connected);
-        connected.stream.shut();
+        connected.carrier.shut();
         Served { heard: connected.heard, end }
     }
 
@@ -209,12 +213,11 @@ impl Link {
     fn turns(&self, connected: &mut Connected<'_>) -> io::Result<Infallible> {
         let mut frames = Frames::new(LONGEST_TO_CLIENT);
         let mut wait = IDLE_TICK;
-        self.begin_anew()?;
         self.jobs().tick_soon();
         while self.runs() {
-            let written = self.advance();
-            set_wait(&connected.stream, &mut wait, written)?;
-            match frames.fill(&mut connected.stream) {
+            let written = self.advance()?;
+            set_wait(&connected.carrier, &mut wait, self.next_wait(written))?;
+            match connected.carrier.fill(&mut frames) {
                 Ok(0) => return Err(ErrorKind::UnexpectedEof.into()),
                 Ok(_) => connected.silence.heard(Instant::now()),
                 Err(error) if is_silence(error.kind()) => self.look_for_another(connected)?,
@@ -226,11 +229,27 @@ impl Link {
     }
 
     /// Goes on with the jobs, when all that came is heard, and sends what the client says.
-    fn advance(&self) -> Written {
+    fn advance(&self) -> io::Result<Written> {
+        self.greet_again_if_due();
         let mut jobs = self.jobs();
+        jobs.end_lease_if_over();
+        if jobs.is_void() {
+            return Err(io::Error::other(Refused::LeaseEnded));
+        }
         jobs.advance(Asking::Allowed);
         jobs.tick_if_due(Instant::now());
-        self.send(jobs)
+        Ok(self.send(jobs))
+    }
+
+    /// How long to wait for what comes: until the next tick or sign, or not for long if something is
+    /// left to be written.
+    fn next_wait(&self, written: Written) -> Duration {
+        match written {
+            Written::Part => BUSY_TICK,
+            Written::AllOrNothing => {
+                self.jobs().longest_sleep().unwrap_or(IDLE_TICK).min(IDLE_TICK)
+            }
+        }
     }
 
     /// Asks a server that is silent whether it is there, and leaves it if it is not, if there are
@@ -258,6 +277,7 @@ impl Link {
                 self.hear_host(frame, connected)?;
             } else {
                 connected.heard.message = true;
+                *lock(&self.turned_away) = None;
                 self.jobs().hear(frame).map_err(bad_message)?;
                 self.compare_epochs(frame)?;
             }
@@ -275,48 +295,6 @@ impl Link {
         }
         let why = format!("the server is of epoch {epoch}, and another one of epoch {known}");
         Err(io::Error::other(why))
-    }
-
-    /// Takes what the server's host says beneath the messages. If the store went back, the
-    /// connection ends with that.
-    fn hear_host(&self, frame: &[u8], connected: &mut Connected<'_>) -> io::Result<()> {
-        match FromServer::read(frame) {
-            Some(FromServer::Refused(refusal)) => {
-                *lock(&self.refusal) = Some((refusal, Instant::now()));
-            }
-            Some(FromServer::Mark(mark)) => *lock(&self.seen) = Some(mark),
-            Some(FromServer::WentBack) => {
-                connected.heard.went_back = true;
-                return Err(self.drop_all(connected.address));
-            }
-            Some(FromServer::Hello) | None => {}
-        }
-        Ok(())
-    }
-
-    /// The server's store lacks what the client has seen. From here on nothing of that is answered,
-    /// and no message that rests on it is said or taken: another connection has another
-    /// incarnation. It answers by what the connection ends with.
-    fn drop_all(&self, address: &Address) -> io::Error {
-        self.jobs().drop_all();
-        *lock(&self.seen) = None;
-        // The epochs of an older store may be older too.
-        self.epoch.store(0, Ordering::Relaxed);
-        event_log::store_went_back(address);
-        io::Error::other(Refused::StoreWentBack)
-    }
-
-    /// Gives a client that has dropped all a greater incarnation, under which it joins anew.
-    fn begin_anew(&self) -> io::Result<()> {
-        if !self.jobs().is_void() {
-            return Ok(());
-        }
-        let mut lock_file = lock(&self.lock_file);
-        let Some(file) = &mut *lock_file else { return Err(ErrorKind::Interrupted.into()) };
-        // The incarnation is on the disk before the Hello leaves.
-        let client = ClientHandle::open(file.number(), file.renew()?);
-        self.jobs().begin_anew(client.map_err(io::Error::other)?);
-        Ok(())
     }
 }
 
@@ -340,11 +318,10 @@ fn bad_message(code: Code) -> io::Error {
     io::Error::new(ErrorKind::InvalidData, format!("the server says what no server says: {code}"))
 }
 
-/// Lets the next read wait until the next tick, or not for long if something is left to be written.
-fn set_wait(stream: &Stream, wait: &mut Duration, written: Written) -> io::Result<()> {
-    let next = if written == Written::Part { BUSY_TICK } else { IDLE_TICK };
+/// Lets the next read wait so long.
+fn set_wait(carrier: &Carrier, wait: &mut Duration, next: Duration) -> io::Result<()> {
     if std::mem::replace(wait, next) != next {
-        stream.set_timeouts(next, ATTEMPT)?;
+        carrier.set_timeouts(next, ATTEMPT)?;
     }
     Ok(())
 }
@@ -355,5 +332,6 @@ fn is_silence(kind: ErrorKind) -> bool {
 }
 
 mod asking;
+mod host;
 #[cfg(test)]
 mod tests;

@@ -1,6 +1,6 @@
 //! New connections: which are taken, and which are told that there is no room.
 use crate::event_log::{self, Seldom};
-use crate::stream::{Listener, Stream};
+use crate::stream::{Accepted, Listener, Stream};
 use crate::turned_away;
 use std::io::{self, ErrorKind};
 use std::sync::Arc;
@@ -52,18 +52,26 @@ impl Listening {
         self.has_some && self.not_before.is_none_or(|then| then <= now)
     }
 
-    /// Takes one connection, if there is one, and room for it while so many are open. It fails if
-    /// none can be taken any more.
-    pub fn take(&mut self, open: usize, now: Instant) -> io::Result<Option<Stream>> {
+    /// Takes one connection, if there is one. It fails if none can be taken any more.
+    pub fn take(&mut self, now: Instant) -> io::Result<Option<Accepted>> {
         match self.listener.accept() {
-            Ok(stream) if open < self.max_connections => return Ok(Some(stream)),
-            Ok(stream) => {
-                event_log::full(&mut self.full, open);
-                turn_away(stream, self.max_connections, &self.turned_away);
-            }
+            Ok(accepted) => return Ok(Some(accepted)),
             Err(error) => self.has_failed(error, now)?,
         }
         Ok(None)
+    }
+
+    /// Whether there is no room for one more while so many are open.
+    pub fn is_full(&self, open: usize) -> bool {
+        open >= self.max_connections
+    }
+
+    /// Closes a connection, since so many are open. One by TLS is told nothing.
+    pub fn turn_away(&mut self, accepted: Accepted, open: usize) {
+        event_log::full(&mut self.full, open);
+        if !accepted.is_tls {
+            turn_away(accepted.stream, self.max_connections, &self.turned_away);
+        }
     }
 
     fn has_failed(&mut self, error: io::Error, now: Instant) -> io::Result<()> {

@@ -1,4 +1,5 @@
 //! The lock file of a client number: one process at a time, and greater incarnations.
+use crate::lease::Older;
 use std::fmt;
 use std::fs::{File, OpenOptions, TryLockError};
 use std::io::{self, Read, Seek, SeekFrom, Write};
@@ -13,6 +14,8 @@ pub(crate) struct LockFile {
     number: u8,
     /// The last incarnation that was given.
     incarnation: u64,
+    /// The one before it, or 0.
+    before: u64,
 }
 
 /// Why a lock file was not taken.
@@ -45,7 +48,7 @@ impl LockFile {
             Err(TryLockError::WouldBlock) => return Err(LockFileError::Taken),
             Err(TryLockError::Error(error)) => return Err(error.into()),
         }
-        let mut lock = LockFile { file, number, incarnation: 0 };
+        let mut lock = LockFile { file, number, incarnation: 0, before: 0 };
         lock.incarnation = lock.last()?;
         let incarnation = lock.renew()?;
         sync_folder_of(path)?;
@@ -55,11 +58,18 @@ impl LockFile {
     /// Gives the client another incarnation, greater than every one before. It is on the disk when
     /// this returns.
     pub fn renew(&mut self) -> io::Result<u64> {
+        self.before = self.incarnation;
         self.incarnation = now().max(self.incarnation + 1);
         self.file.seek(SeekFrom::Start(0))?;
         self.file.write_all(line(self.number, self.incarnation).as_bytes())?;
         self.file.sync_all()?;
         Ok(self.incarnation)
+    }
+
+    /// What is known of older incarnations: no process of the last one before is left, since whoever
+    /// has the file alone runs as this client.
+    pub fn older(&self) -> Older {
+        if self.before == 0 { Older::Unknown } else { Older::IsOver(self.before) }
     }
 
     /// The client's number.
@@ -136,10 +146,12 @@ mod tests {
     fn one_holder_and_rising_incarnations() {
         let path = path("rising");
         let (held, first) = LockFile::take(&path, 3).unwrap();
+        assert_eq!(held.older(), Older::Unknown);
         assert!(matches!(LockFile::take(&path, 3), Err(LockFileError::Taken)));
         drop(held);
         let (held, second) = LockFile::take(&path, 3).unwrap();
         assert!(second > first);
+        assert_eq!(held.older(), Older::IsOver(first));
         drop(held);
         let far = i64::MAX as u64 - 5;
         std::fs::write(&path, line(3, far)).unwrap();
@@ -148,6 +160,7 @@ mod tests {
         let mut held = LockFile::take(&path, 3).unwrap().0;
         assert_eq!([held.renew().unwrap(), held.renew().unwrap()], [far + 3, far + 4]);
         assert_eq!(std::fs::read_to_string(&path).unwrap(), line(3, far + 4));
+        assert_eq!(held.older(), Older::IsOver(far + 3));
         std::fs::remove_file(&path).unwrap();
     }
 

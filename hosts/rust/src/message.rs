@@ -89,6 +89,16 @@ fn number(message: &[u8], at: usize) -> Option<u64> {
     Some(u64::from_le_bytes(*bytes))
 }
 
+/// What a host says to the library to evict a client: the Hello and the Bye of the next incarnation.
+pub(crate) fn eviction(client: u8, successor: u64) -> [Vec<u8>; 2] {
+    const HELLO: u8 = 0;
+    const BYE: u8 = 1;
+    [HELLO, BYE].map(|kind| {
+        let numbers = [u64::from(client).to_le_bytes(), successor.to_le_bytes()];
+        [&[VERSION, kind], numbers.as_flattened()].concat()
+    })
+}
+
 #[cfg(test)]
 pub(crate) mod tests {
     use super::*;
@@ -145,6 +155,12 @@ pub(crate) mod tests {
         }
         assert_eq!(kind_of(&[]), Kind::Other);
         assert_eq!(incarnation_of(&[1; 17]), None);
+    }
+
+    #[test]
+    fn an_eviction_is_a_hello_and_a_bye() {
+        let [hello, bye] = eviction(3, 2);
+        assert_eq!((hello, bye), (message(0, &[3, 2]), message(1, &[3, 2])));
     }
 
     #[test]

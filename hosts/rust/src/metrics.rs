@@ -64,6 +64,13 @@ impl Page {
             "The open connections, those of strangers too",
             status.connections,
         );
+        let name = "krl_longest_lease_seconds";
+        self.head(
+            name,
+            "gauge",
+            "No lease that ends and may still run is longer; 0 if there are none",
+        );
+        self.line(format_args!("{name} {}", status.longest_lease.as_secs_f64()));
         let name = "krl_last_turn_seconds";
         self.head(name, "gauge", "How long ago the server's loop last ended a turn");
         self.line(format_args!("{name} {}", since_last_turn.as_secs_f64()));
@@ -90,12 +97,27 @@ impl Page {
             status.refused,
         );
         counter(
+            "krl_denied_total",
+            "Frames that a connection's certificate or user may not say; each ended its connection",
+            status.denied,
+        );
+        counter(
             "krl_pushes_held_back_total",
             "Repeats of a push that were not sent, as it had just been sent",
             status.held_back,
         );
         counter("krl_changes_total", "Changes that the store has committed", status.changes);
         counter("krl_commits_total", "Commits of the store", status.commits);
+        counter(
+            "krl_signs_total",
+            "Signs of clients' hosts, which keep their leases",
+            status.signs,
+        );
+        counter(
+            "krl_evicted_total",
+            "Clients that were evicted at their leases' ends",
+            status.evicted,
+        );
     }
 
     fn clients(&mut self, status: &Status) {
@@ -107,6 +129,11 @@ impl Page {
         let name = "krl_connected";
         self.head(name, "gauge", "1 for each client that is connected");
         for client in &status.connected {
+            self.line(format_args!("{name}{{client=\"{client}\"}} 1"));
+        }
+        let name = "krl_unleased";
+        self.head(name, "gauge", "1 for each client that only an operator evicts");
+        for client in &status.unleased {
             self.line(format_args!("{name}{{client=\"{client}\"}} 1"));
         }
         let name = "krl_held_slots";
@@ -200,6 +227,9 @@ mod tests {
             waits: vec![wait],
             holdings: vec![HeldSlots { client: 2, slots: 7 }],
             commits: 9,
+            signs: 12,
+            unleased: vec![5],
+            longest_lease: Duration::from_millis(2500),
             ..Status::default()
         };
         let commits = Counts { buckets: vec![(10, 1), (50_000, 3)], count: 4, sum: 1_500_000 };
@@ -221,6 +251,10 @@ mod tests {
             "krl_wait_seconds{client=\"3\",point=\"10\",mode=\"RangeX-X\"} 0.04",
             "krl_waits_for{client=\"3\",other=\"2\"} 1",
             "krl_held_slots{client=\"2\"} 7",
+            "krl_unleased{client=\"5\"} 1",
+            "krl_longest_lease_seconds 2.5",
+            "krl_signs_total 12",
+            "krl_evicted_total 0",
             "# TYPE krl_commit_seconds histogram",
             "krl_commit_seconds_bucket{le=\"0.00001\"} 1",
             "krl_commit_seconds_bucket{le=\"0.05\"} 3",
@@ -253,6 +287,6 @@ mod tests {
                 assert!(helped.contains(family(line)), "{line}");
             }
         }
-        assert_eq!(helped.len(), 23);
+        assert_eq!(helped.len(), 28);
     }
 }

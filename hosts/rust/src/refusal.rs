@@ -30,11 +30,21 @@ pub enum Refusal {
     },
     /// The server recovers, and waits for the reports of these clients.
     Missing(ClientSet),
+    /// An older incarnation of the client may still answer from its cache: its lease has not ended.
+    LeaseRuns {
+        /// The client.
+        client: u8,
+        /// The older incarnation.
+        registered: u64,
+    },
+    /// Who is at the other end of the connection may not say what it said: its certificate, or its
+    /// user, is not that of the client.
+    Denied,
 }
 
 impl Refusal {
     /// How many reasons there are.
-    pub(crate) const REASONS: usize = 5;
+    pub(crate) const REASONS: usize = 7;
 
     /// The number of the reason, below [`Refusal::REASONS`].
     pub(crate) fn reason(self) -> usize {
@@ -44,6 +54,8 @@ impl Refusal {
             Refusal::Incarnation { .. } => 2,
             Refusal::Full { .. } => 3,
             Refusal::Missing(_) => 4,
+            Refusal::LeaseRuns { .. } => 5,
+            Refusal::Denied => 6,
         }
     }
 }
@@ -56,11 +68,15 @@ pub struct ClientSet {
 }
 
 impl ClientSet {
-    pub(crate) fn of_bits(bits: u64) -> ClientSet {
+    /// The set in which the bit of value `2^n` stands for client `n`.
+    #[must_use]
+    pub const fn of_bits(bits: u64) -> ClientSet {
         ClientSet { bits }
     }
 
-    pub(crate) fn bits(self) -> u64 {
+    /// The set as a number: the bit of value `2^n` stands for client `n`.
+    #[must_use]
+    pub const fn bits(self) -> u64 {
         self.bits
     }
 
@@ -72,6 +88,11 @@ impl ClientSet {
     /// The set, and the client of this number. A number above 63 is no client's.
     pub(crate) fn with(self, client: u8) -> ClientSet {
         ClientSet { bits: self.bits | 1u64.checked_shl(client.into()).unwrap_or(0) }
+    }
+
+    /// The set without the client of this number.
+    pub(crate) fn without(self, client: u8) -> ClientSet {
+        ClientSet { bits: self.bits & !ClientSet::default().with(client).bits }
     }
 
     /// The clients by number, in ascending order.
@@ -112,10 +133,19 @@ impl fmt::Display for Refusal {
             Refusal::Full { connections } => {
                 write!(f, "the server has all its connections, which are {connections}")
             }
+            Refusal::Denied => f.write_str(
+                "the server does not let this side of the connection speak for the client: its \
+                 certificate, or its user, has no right to the client's number",
+            ),
             Refusal::Missing(clients) => write!(
                 f,
                 "the server waits for the reports of the clients {clients}, or until they are \
                  evicted"
+            ),
+            Refusal::LeaseRuns { client, registered } => write!(
+                f,
+                "incarnation {registered} of client {client} may still answer from its cache: the \
+                 server waits for the end of its lease, or, if that does not end, for its eviction"
             ),
         }
     }

@@ -15,10 +15,18 @@ pub enum Refused {
     TimedOut,
     /// The same, and the server has told just before why it does not serve the client.
     Unserved(Refusal),
+    /// The same, and this side of the connection has no right to the client: the two sides don't
+    /// take each other's certificates, or the certificate or the user is not that of the client's
+    /// number. It comes at once if the client has one server.
+    TurnedAway,
     /// The server's store lacks what this client has seen of it: it is an older copy, or another
     /// store. The client has dropped its cache and its pins, and joins anew. A write may have
     /// changed that store or not.
     StoreWentBack,
+    /// The client's lease has ended while the write was on its way: the server was not heard in
+    /// time. The client has dropped its cache and its pins, and joins anew. The table has changed or
+    /// not, and this write changes it no more: a read of the key knows.
+    LeaseEnded,
     /// The client's own thread has ended by a panic: it answers nothing more but from its cache. A
     /// write that was not answered may have changed the table.
     Stopped,
@@ -53,6 +61,10 @@ pub enum JoinError {
     /// The server has told why it does not serve the client, and within the client's timeout it did
     /// not answer.
     Unserved(Refusal),
+    /// This side of the connection has no right to the client, for this reason: the two sides don't
+    /// take each other's certificates, or the certificate or the user is not that of the client's
+    /// number. It comes at once if the client has one server.
+    TurnedAway(String),
     /// The system has no thread for the client's connection.
     NoThread(io::Error),
     /// The client refused to start.
@@ -79,9 +91,17 @@ impl fmt::Display for Refused {
         match self {
             Refused::TimedOut => f.write_str("no answer came in time"),
             Refused::Unserved(refusal) => write!(f, "no answer came in time: {refusal}"),
+            Refused::TurnedAway => f.write_str(
+                "the connection was turned away: the certificate or the user gives no right to the \
+                 client",
+            ),
             Refused::StoreWentBack => f.write_str(
                 "the server's store went back, and lacks what this client has seen of it: the \
                  client has dropped its cache and its pins, and joins anew",
+            ),
+            Refused::LeaseEnded => f.write_str(
+                "the client's lease has ended, since no terms of the server came in time: the client \
+                 has dropped its cache and its pins, and joins anew",
             ),
             Refused::Stopped => f.write_str("the client's thread has panicked"),
             Refused::BadRange => f.write_str(
@@ -108,6 +128,7 @@ impl fmt::Display for JoinError {
                 write!(f, "the server did not answer in time: {error}")
             }
             JoinError::Unserved(refusal) => refusal.fmt(f),
+            JoinError::TurnedAway(why) => write!(f, "the connection was turned away: {why}"),
             JoinError::NoThread(error) => write!(f, "the client gets no thread: {error}"),
             JoinError::Refused(refused) => refused.fmt(f),
         }
@@ -130,7 +151,10 @@ impl std::error::Error for JoinError {
             JoinError::NoAnswer(error) => error.as_ref().map(|error| error as _),
             JoinError::NoThread(error) => Some(error),
             JoinError::Refused(refused) => Some(refused),
-            JoinError::BadNumber | JoinError::Incomplete(_) | JoinError::Unserved(_) => None,
+            JoinError::BadNumber
+            | JoinError::Incomplete(_)
+            | JoinError::Unserved(_)
+            | JoinError::TurnedAway(_) => None,
         }
     }
 }

@@ -1,16 +1,20 @@
 //! A server over a network and a store.
+use crate::access::Access;
+use crate::address::Address;
+use crate::boot_clock::Moment;
 use crate::change::Change;
 use crate::code::Code;
 use crate::connections::Connections;
 use crate::event_log::EventLog;
 use crate::event_loop::EventLoop;
 use crate::handle::ServerHandle;
+use crate::leases::{LeaseTable, Leases};
 use crate::monitor::Monitor;
 use crate::requests::{Request, Requests};
 use crate::server_builder::ServerBuilder;
 use crate::status::Status;
 use crate::store::{Store, StoreError};
-use crate::stream::{Address, Listener};
+use crate::stream::Listener;
 use crate::timings::Timings;
 use std::convert::Infallible;
 use std::fmt;
@@ -37,6 +41,8 @@ pub enum ServeError {
     Refused(Code),
     /// The listener failed.
     Network(io::Error),
+    /// The clock by which leases run can't be read.
+    Clock(io::Error),
     /// A thread of the server panicked.
     Panicked,
 }
@@ -61,7 +67,8 @@ impl Server {
     /// # Errors
     ///
     /// `Store` if the store fails; `Refused` if what it gives is not what a server committed, or
-    /// memory is refused; `Network` if the listener fails or there is no thread.
+    /// memory is refused; `Network` if the listener fails, may not be listened at, or there is no
+    /// thread.
     pub fn start(
         listener: impl Into<Listener>,
         store: impl Store + 'static,
@@ -69,7 +76,8 @@ impl Server {
         Server::builder(listener, store).start()
     }
 
-    /// Says more of a server before it starts: how many connections it takes.
+    /// Says more of a server before it starts: whom it lets in, how many connections it takes, and the
+    /// leases that it grants.
     pub fn builder<S: Store + 'static>(
         listener: impl Into<Listener>,
         store: S,
@@ -80,15 +88,26 @@ impl Server {
     pub(crate) fn start_with(
         listener: Listener,
         mut store: impl Store + 'static,
+        (access, leases): (Access, Option<Leases>),
         max_connections: usize,
     ) -> Result<Server, ServeError> {
+        let address = listener.address()?;
+        access.check(&address)?;
+        if access.has_users() {
+            listener.let_users_connect()?;
+        }
         let snapshot = store.load()?;
         let (server, epoch) = ServerHandle::open(&snapshot).map_err(ServeError::Refused)?;
-        // The epoch is kept before anything is sent.
-        store.commit(&[Change::Started { epoch }])?;
+        let record = snapshot.leases.at_start(leases);
+        let revised = (record != snapshot.leases).then_some(Change::Leased(record));
+        // The epoch and what is known of leases are kept before anything is sent.
+        let kept: Vec<Change> = [Change::Started { epoch }].into_iter().chain(revised).collect();
+        store.commit(&kept)?;
+        // No older server grants anything behind that commit, and the clock is read behind it.
+        let now = Moment::now().map_err(ServeError::Clock)?;
+        let table = LeaseTable::start(record, &snapshot.records, leases, now);
         let history = store.history()?;
-        let address = listener.address()?;
-        let (connections, waker) = Connections::new(listener, max_connections)?;
+        let (connections, waker) = Connections::new(listener, max_connections, access)?;
         let (requests, asked) = Requests::new(waker);
         let status = Arc::new(Mutex::new(Status { epoch, ..Status::default() }));
         let shown = Arc::clone(&status);
@@ -96,7 +115,8 @@ impl Server {
         let (rows, records) = (snapshot.rows.len(), &snapshot.records);
         let log = EventLog::started(epoch, &address, rows, records);
         let (stored, heard) = ((store, history), (connections, asked));
-        let events = EventLoop::new(server, stored, heard, Arc::clone(&timings), epoch, log);
+        let shared = Arc::clone(&timings);
+        let events = EventLoop::new(server, stored, heard, table, shared, epoch, log);
         let thread = thread::Builder::new().name("krl-server".into());
         let thread = thread.spawn(move || events.run_to_the_end(&shown))?;
         Ok(Server { address, requests, status, timings, thread: Some(thread) })
@@ -193,6 +213,7 @@ impl fmt::Display for ServeError {
             ServeError::Store(error) => error.fmt(f),
             ServeError::Refused(code) => write!(f, "the server can't run: {code}"),
             ServeError::Network(error) => write!(f, "the listener failed: {error}"),
+            ServeError::Clock(error) => write!(f, "the clock of leases can't be read: {error}"),
             ServeError::Panicked => f.write_str("a thread of the server panicked"),
         }
     }
@@ -203,7 +224,7 @@ impl std::error::Error for ServeError {
         match self {
             ServeError::Store(error) => Some(error),
             ServeError::Refused(code) => Some(code),
-            ServeError::Network(error) => Some(error),
+            ServeError::Network(error) | ServeError::Clock(error) => Some(error),
             ServeError::Panicked => None,
         }
     }

@@ -1,27 +1,49 @@
 //! What a server is told before it starts.
+use crate::access::Access;
 use crate::connections::MAX_CONNECTIONS;
+use crate::leases::Leases;
 use crate::server::{ServeError, Server};
 use crate::store::Store;
 use crate::stream::Listener;
 use std::fmt;
 
-/// A server that has not started: its listener, its store, and how many connections it takes.
+/// A server that has not started: its listener, its store, whom it lets in, how many connections it
+/// takes, and the leases that it grants.
 #[must_use = "a builder does nothing before `start`"]
 pub struct ServerBuilder<S> {
     listener: Listener,
     store: S,
     max_connections: usize,
+    access: Access,
+    leases: Option<Leases>,
 }
 
 impl<S: Store + 'static> ServerBuilder<S> {
     pub(crate) fn new(listener: Listener, store: S) -> ServerBuilder<S> {
-        ServerBuilder { listener, store, max_connections: MAX_CONNECTIONS }
+        let (access, max_connections) = (Access::new(), MAX_CONNECTIONS);
+        ServerBuilder { listener, store, max_connections, access, leases: None }
     }
 
-    /// The most connections that are open at once: 256 if this is not called. One more is closed as
-    /// it comes. Each client takes one.
+    /// Whom the server lets in: if this is not called, whoever can connect, by plain TCP on the
+    /// loopback alone, and its own user over a Unix socket.
+    pub fn access(mut self, access: Access) -> ServerBuilder<S> {
+        self.access = access;
+        self
+    }
+
+    /// The most connections that are open at once: 256 if this is not called. For one more the
+    /// oldest is closed that has not said who it is; if there is none, the new one is closed as it
+    /// comes. Each client takes one.
     pub fn max_connections(mut self, count: usize) -> ServerBuilder<S> {
         self.max_connections = count;
+        self
+    }
+
+    /// The leases that the server grants its clients: it evicts each client that is silent for
+    /// longer, once no cache of that client can answer any more. If this is not called it grants
+    /// none, and only an operator evicts a client.
+    pub fn leases(mut self, leases: Leases) -> ServerBuilder<S> {
+        self.leases = Some(leases);
         self
     }
 
@@ -31,14 +53,16 @@ impl<S: Store + 'static> ServerBuilder<S> {
     ///
     /// Those of [`Server::start`].
     pub fn start(self) -> Result<Server, ServeError> {
-        Server::start_with(self.listener, self.store, self.max_connections)
+        let ServerBuilder { listener, store, max_connections, access, leases } = self;
+        Server::start_with(listener, store, (access, leases), max_connections)
     }
 }
 
 impl<S> fmt::Debug for ServerBuilder<S> {
     fn fmt(&self, f: &mut fmt::Formatter<'_>) -> fmt::Result {
         let mut shown = f.debug_struct("ServerBuilder");
-        shown.field("listener", &self.listener).field("max_connections", &self.max_connections);
+        shown.field("listener", &self.listener).field("access", &self.access);
+        shown.field("max_connections", &self.max_connections);
         shown.finish_non_exhaustive()
     }
 }

@@ -1,11 +1,12 @@
 //! Where a client finds its server: one place, or several at which servers stand by.
-use crate::stream::{Address, BadAddress};
+use crate::address::{Address, BadAddress};
+use crate::tls::TlsConfig;
 use std::fmt;
 use std::net::SocketAddr;
 use std::str::FromStr;
 
 /// The addresses of the servers over one store: one of them serves, and the others stand by. As
-/// text with commas between them, such as `10.0.0.1:7400,10.0.0.2:7400`.
+/// text with commas between them, such as `tls:10.0.0.1:7400,tls:10.0.0.2:7400`.
 ///
 /// A client goes to the next one if it can't connect, if its connection ends, if the server is
 /// silent for a second though it was asked, and if a server is of an older epoch than one that the
@@ -14,9 +15,22 @@ use std::str::FromStr;
 pub struct Servers {
     first: Address,
     others: Vec<Address>,
+    tls: Option<TlsConfig>,
 }
 
 impl Servers {
+    /// The same servers, to which a client shows this certificate where they listen by TLS.
+    #[cfg(feature = "tls")]
+    #[must_use]
+    pub fn with_tls(self, config: TlsConfig) -> Servers {
+        Servers { tls: Some(config), ..self }
+    }
+
+    /// What a client shows to them, and whom it believes.
+    pub(crate) fn tls(&self) -> Option<&TlsConfig> {
+        self.tls.as_ref()
+    }
+
     /// The addresses, in the order in which a client tries them.
     pub fn iter(&self) -> impl Iterator<Item = &Address> {
         std::iter::once(&self.first).chain(&self.others)
@@ -40,7 +54,7 @@ impl Servers {
 
 impl From<Address> for Servers {
     fn from(address: Address) -> Servers {
-        Servers { first: address, others: Vec::new() }
+        Servers { first: address, others: Vec::new(), tls: None }
     }
 }
 
@@ -67,8 +81,8 @@ impl FromStr for Servers {
 
     fn from_str(text: &str) -> Result<Servers, BadAddress> {
         let mut addresses = text.split(',').map(str::parse);
-        let first = addresses.next().unwrap_or(Err(BadAddress))?;
-        Ok(Servers { first, others: addresses.collect::<Result<_, _>>()? })
+        let first = addresses.next().unwrap_or(Err(BadAddress::Form))?;
+        Ok(Servers { first, others: addresses.collect::<Result<_, _>>()?, tls: None })
     }
 }
 
@@ -85,17 +99,17 @@ mod tests {
 
     #[test]
     fn servers_are_read_as_they_are_written() {
-        for text in ["127.0.0.1:1", "127.0.0.1:1,unix:/a,db2:7400"] {
+        for text in ["127.0.0.1:1", "tls:10.0.0.1:1,unix:/a,plain:db2:7400"] {
             let servers: Servers = text.parse().unwrap();
             assert_eq!(servers.to_string(), text);
             assert_eq!(servers.iter().count(), servers.count());
         }
-        let servers: Servers = "127.0.0.1:1,db2:7400".parse().unwrap();
+        let servers: Servers = "127.0.0.1:1,tls:db2:7400".parse().unwrap();
         let tried: Vec<String> = (0..4).map(|place| servers.at(place).to_string()).collect();
-        assert_eq!(tried, ["127.0.0.1:1", "db2:7400", "127.0.0.1:1", "db2:7400"]);
+        assert_eq!(tried, ["127.0.0.1:1", "tls:db2:7400", "127.0.0.1:1", "tls:db2:7400"]);
         assert!(servers.are_several() && !Servers::from(servers.at(0)).are_several());
         for text in ["", ",", "127.0.0.1:1,", "127.0.0.1:1, 127.0.0.1:2", "here"] {
-            assert_eq!(text.parse::<Servers>(), Err(BadAddress), "{text}");
+            assert_eq!(text.parse::<Servers>(), Err(BadAddress::Form), "{text}");
         }
     }
 }

@@ -13,7 +13,7 @@ use std::ops::{Range, RangeBounds};
 pub struct Shard {
     /// The first key.
     pub first: u64,
-    /// Where its server is, or where it may be.
+    /// Where its server is, or where it may be; with what is shown there, if it listens by TLS.
     pub servers: Servers,
 }
 

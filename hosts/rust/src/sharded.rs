@@ -34,11 +34,21 @@ pub struct ShardedClient {
 }
 
 /// A pinned range of several shards: no other client takes away what the client holds of it, as long
-/// as this lives. If a server's store goes back the pin is void at that shard: [`Client`] says more.
+/// as this lives. If a server's store goes back, or the lease there ends, the pin is void at that
+/// shard: [`Client`] says more.
 #[derive(Debug)]
 #[must_use = "the range is free again as soon as this is dropped"]
 pub struct ShardedPin<'c> {
-    _pins: Vec<Pin<'c>>,
+    pins: Vec<Pin<'c>>,
+}
+
+impl ShardedPin<'_> {
+    /// Whether no other client has taken what was held of the range at any shard, as
+    /// [`Pin::holds`] answers.
+    #[must_use]
+    pub fn holds(&self) -> bool {
+        self.pins.iter().all(Pin::holds)
+    }
 }
 
 /// What a sharded client shows of a shard.
@@ -191,7 +201,7 @@ impl ShardedClient {
             let pins = parts.iter().map(|part| self.take_one(part, purpose, end));
             let pins = pins.collect::<Result<Vec<_>, _>>()?;
             if self.is_known(parts, &mut rows) {
-                return Ok((rows, ShardedPin { _pins: pins }));
+                return Ok((rows, ShardedPin { pins }));
             }
             // Another thread of this client writes there, or a server's store went back.
             drop(pins);

@@ -1,6 +1,6 @@
 //! How a sharded client is told to join.
 use crate::builder::TIMEOUT;
-use crate::client::Client;
+use crate::client::{Client, Errand};
 use crate::refused::JoinError;
 use crate::shard_map::{Shard, ShardMap};
 use crate::sharded::ShardedClient;
@@ -62,8 +62,9 @@ impl ShardedBuilder {
             let shards = self.map.shards().iter();
             let joining = shards.map(|shard| {
                 let (lock_file, timeout) = (lock_file(folder, shard, number), self.timeout);
-                let join =
-                    move || Client::start(shard.servers.clone(), number, &lock_file, timeout);
+                let join = move || {
+                    Client::start(shard.servers.clone(), number, &lock_file, timeout, Errand::Work)
+                };
                 thread::Builder::new().spawn_scoped(scope, join)
             });
             let joining: Vec<_> = joining.collect();

@@ -1,6 +1,8 @@
 //! A store over SQLite.
 use crate::change::{Change, Outcome, Record, Snapshot, Write};
 use crate::history::{History, Mark};
+use crate::lease_record::LeaseRecord;
+use crate::refusal::ClientSet;
 use crate::row::{Row, Value};
 use crate::sqlite_version::{self, Found};
 use crate::store::{Store, StoreError};
@@ -31,7 +33,10 @@ const TABLES: &str = "
         last INTEGER NOT NULL, outcome INTEGER NOT NULL, has_left INTEGER NOT NULL);
     CREATE TABLE IF NOT EXISTS start (
         place INTEGER PRIMARY KEY, bits BLOB NOT NULL UNIQUE, commits INTEGER NOT NULL);
-    INSERT OR IGNORE INTO epoch VALUES (0, 0);";
+    CREATE TABLE IF NOT EXISTS lease (
+        id INTEGER PRIMARY KEY CHECK (id = 0), longest INTEGER NOT NULL, unleased INTEGER NOT NULL);
+    INSERT OR IGNORE INTO epoch VALUES (0, 0);
+    INSERT OR IGNORE INTO lease VALUES (0, 0, -1);";
 
 const EPOCH: &str = "UPDATE epoch SET epoch = ?1 WHERE id = 0";
 
@@ -48,8 +53,12 @@ const COUNT: &str =
 
 const LAST: &str = "SELECT bits, commits FROM start ORDER BY place DESC LIMIT 1";
 
+// `unleased` has the bit of value 2^n for client n, as a number with a sign.
+const LEASE: &str = "UPDATE lease SET longest = ?1, unleased = ?2 WHERE id = 0";
+
 const PUT: &str = "INSERT OR REPLACE INTO entry (key, value) VALUES (?1, ?2)";
 const DELETE: &str = "DELETE FROM entry WHERE key = ?1";
+const DELETE_FROM: &str = "DELETE FROM entry WHERE key >= ?1";
 
 impl SqliteStore {
     /// Opens the file, and makes it where there is none. Another process that has it open makes
@@ -64,6 +73,25 @@ impl SqliteStore {
     /// a version that this program does not know; if SQLite can't read, make or write it.
     pub fn open(path: impl AsRef<Path>) -> Result<SqliteStore, StoreError> {
         SqliteStore::open_by(path.as_ref(), "EXCLUSIVE")
+    }
+
+    /// Takes the rows of this key and of all greater ones away, all or none: they are in another
+    /// store by now. No server may run on it, and each client has left.
+    ///
+    /// # Errors
+    ///
+    /// `Deposed` if somebody else has changed the store since it was loaded; `Failed` if SQLite
+    /// can't write it.
+    pub fn remove_from(&mut self, key: u64) -> Result<(), StoreError> {
+        let (last, transaction) = (self.last, self.begin()?);
+        is_own(&transaction, last)?;
+        run(&transaction, DELETE_FROM, params![signed(key)?])?;
+        self.last = finish(transaction)?;
+        Ok(())
+    }
+
+    fn begin(&mut self) -> Result<Transaction<'_>, StoreError> {
+        Ok(self.connection.transaction_with_behavior(TransactionBehavior::Immediate)?)
     }
 
     fn open_by(path: &Path, locking: &str) -> Result<SqliteStore, StoreError> {
@@ -94,12 +122,8 @@ impl Store for SqliteStore {
     }
 
     fn commit(&mut self, changes: &[Change]) -> Result<(), StoreError> {
-        let behavior = TransactionBehavior::Immediate;
-        let transaction = self.connection.transaction_with_behavior(behavior)?;
-        let found = last_mark(&transaction)?;
-        if found != self.last {
-            return Err(StoreError::Deposed(format!("{found:?}, and not {:?}", self.last)));
-        }
+        let (last, transaction) = (self.last, self.begin()?);
+        is_own(&transaction, last)?;
         if changes.is_empty() {
             return Ok(());
         }
@@ -107,10 +131,7 @@ impl Store for SqliteStore {
         if changes.iter().any(|change| matches!(change, Change::Started { .. })) {
             run(&transaction, START, &[])?;
         }
-        run(&transaction, COUNT, &[])?;
-        let last = last_mark(&transaction)?;
-        transaction.commit()?;
-        self.last = last;
+        self.last = finish(transaction)?;
         Ok(())
     }
 
@@ -126,6 +147,22 @@ impl Store for SqliteStore {
             marks.push(mark_of(row)?);
         }
         Ok(History::new(marks))
+    }
+}
+
+/// Counts the batch, commits it, and says how far the store has come by it.
+fn finish(transaction: Transaction<'_>) -> Result<Option<Mark>, StoreError> {
+    run(&transaction, COUNT, &[])?;
+    let last = last_mark(&transaction)?;
+    transaction.commit()?;
+    Ok(last)
+}
+
+/// Refuses what rests on another state of the store than this one.
+fn is_own(transaction: &Transaction<'_>, last: Option<Mark>) -> Result<(), StoreError> {
+    match last_mark(transaction)? {
+        found if found == last => Ok(()),
+        found => Err(StoreError::Deposed(format!("{found:?}, and not {last:?}"))),
     }
 }
 
@@ -165,7 +202,23 @@ pub(crate) fn load(connection: &Connection) -> Result<Snapshot, StoreError> {
     while let Some(row) = rows.next()? {
         snapshot.records.push(record_of(row)?);
     }
+    snapshot.leases = lease_record(connection)?;
     Ok(snapshot)
+}
+
+/// What the file has of leases. One of an older version, which is only read, has nothing.
+fn lease_record(connection: &Connection) -> Result<LeaseRecord, StoreError> {
+    let named = "SELECT count(*) FROM sqlite_master WHERE type = 'table' AND name = 'lease'";
+    let tables: i64 = connection.query_row(named, [], |row| row.get(0))?;
+    if tables == 0 {
+        return Ok(LeaseRecord::UNKNOWN);
+    }
+    let kept = connection.query_row("SELECT longest, unleased FROM lease", [], |row| {
+        Ok((row.get(0)?, row.get::<_, i64>(1)?))
+    });
+    let (longest, unleased) = kept?;
+    let unleased = ClientSet::of_bits(unleased.cast_unsigned());
+    Ok(LeaseRecord { longest: positive(longest)?, unleased })
 }
 
 /// Gives a file that has the tables of a store and no more all of the snapshot.
@@ -178,6 +231,7 @@ pub(crate) fn save(connection: &mut Connection, snapshot: &Snapshot) -> Result<(
     for record in &snapshot.records {
         save_record(&transaction, record)?;
     }
+    commit_one(&transaction, &Change::Leased(snapshot.leases))?;
     Ok(transaction.commit()?)
 }
 
@@ -203,6 +257,10 @@ fn commit_one(transaction: &Transaction<'_>, change: &Change) -> Result<(), Stor
                 Outcome::Applied => commit_write(transaction, write),
                 _ => Ok(()),
             }
+        }
+        Change::Leased(LeaseRecord { longest, unleased }) => {
+            let unleased = unleased.bits().cast_signed();
+            run(transaction, LEASE, params![signed(*longest)?, unleased])
         }
     }
 }
@@ -264,112 +322,4 @@ impl From<rusqlite::Error> for StoreError {
 }
 
 #[cfg(test)]
-mod tests {
-    use super::*;
-
-    fn row(key: u64, bytes: &[u8]) -> Row {
-        Row { key, value: Value::new(bytes).unwrap() }
-    }
-
-    fn changes() -> Vec<Change> {
-        let judged = |number, write, outcome| Change::Judged { client: 9, number, write, outcome };
-        vec![
-            Change::Started { epoch: 1 },
-            Change::Registered { client: 9, incarnation: 5 },
-            Change::Registered { client: 2, incarnation: 7 },
-            judged(1, Write::Insert(row(10, b"ten")), Outcome::Applied),
-            judged(2, Write::Insert(row(10, b"other")), Outcome::Exists),
-            judged(3, Write::Insert(row(u64::MAX >> 1, &[0xff; 32])), Outcome::Applied),
-            judged(4, Write::Put(row(10, b"")), Outcome::Applied),
-            Change::Left { client: 2 },
-            judged(5, Write::Delete(10), Outcome::Applied),
-            Change::Registered { client: 2, incarnation: 8 },
-            Change::Registered { client: 9, incarnation: 6 },
-            Change::Started { epoch: 2 },
-        ]
-    }
-
-    #[test]
-    fn what_is_loaded_is_what_was_kept() {
-        let folder = std::env::temp_dir().join(format!("krl-sqlite-{}", std::process::id()));
-        std::fs::create_dir_all(&folder).unwrap();
-        let file = folder.join("table.db");
-        let mut expected = Snapshot::default();
-        assert_eq!(SqliteStore::open(&file).unwrap().load().unwrap(), expected);
-        for change in changes() {
-            SqliteStore::open(&file).unwrap().commit(&[change]).unwrap();
-            expected.apply(&change);
-            assert_eq!(SqliteStore::open(&file).unwrap().load().unwrap(), expected, "{change:?}");
-        }
-        let mut at_once = SqliteStore::open(folder.join("other.db")).unwrap();
-        at_once.commit(&changes()).unwrap();
-        assert_eq!(at_once.load().unwrap(), expected);
-        assert!(SqliteStore::open(folder.join("other.db")).is_err(), "one process at a time");
-        std::fs::remove_dir_all(&folder).unwrap();
-    }
-
-    #[test]
-    fn each_start_and_each_batch_is_counted() {
-        let folder = std::env::temp_dir().join(format!("krl-starts-{}", std::process::id()));
-        std::fs::create_dir_all(&folder).unwrap();
-        let file = folder.join("table.db");
-        let mut store = SqliteStore::open(&file).unwrap();
-        assert_eq!(store.history().unwrap(), None);
-        store.commit(&[Change::Started { epoch: 1 }]).unwrap();
-        store.commit(&changes()[1..3]).unwrap();
-        let first = store.history().unwrap().and_then(|it| it.mark()).unwrap();
-        assert_eq!(first.commits, 2);
-        drop(store);
-        let mut store = SqliteStore::open(&file).unwrap();
-        store.commit(&[Change::Started { epoch: 2 }]).unwrap();
-        let history = store.history().unwrap().unwrap();
-        let second = history.mark().unwrap();
-        assert_eq!(second.commits, 1);
-        assert_ne!(second.start, first.start);
-        assert!(history.has(first) && !history.has(Mark { commits: 3, ..first }));
-        let bad = Change::Registered { client: 1, incarnation: u64::MAX };
-        assert!(store.commit(&[bad]).is_err());
-        assert_eq!(store.history().unwrap().unwrap(), history, "it was not committed");
-        std::fs::remove_dir_all(&folder).unwrap();
-    }
-
-    #[test]
-    fn a_value_commits_nothing_behind_another_one() {
-        let folder = std::env::temp_dir().join(format!("krl-behind-{}", std::process::id()));
-        std::fs::create_dir_all(&folder).unwrap();
-        // Without the file's lock two values may have it open.
-        let open = || SqliteStore::open_by(&folder.join("table.db"), "NORMAL").unwrap();
-        let is_deposed = |result| matches!(result, Err(StoreError::Deposed(_)));
-        let mut old = open();
-        old.commit(&[Change::Started { epoch: 1 }]).unwrap();
-        let (mut early, mut new) = (open(), open());
-        early.load().unwrap();
-        old.commit(&changes()[1..2]).unwrap();
-        assert!(is_deposed(early.commit(&[Change::Started { epoch: 2 }])), "it has read too early");
-        new.load().unwrap();
-        new.commit(&[Change::Started { epoch: 2 }]).unwrap();
-        assert!(is_deposed(old.commit(&changes()[2..3])) && is_deposed(old.commit(&[])));
-        new.commit(&changes()[2..3]).unwrap();
-        new.commit(&[]).unwrap();
-        let mut expected = Snapshot::default();
-        let kept = [changes()[0], changes()[1], Change::Started { epoch: 2 }, changes()[2]];
-        for change in &kept {
-            expected.apply(change);
-        }
-        assert_eq!(open().load().unwrap(), expected);
-        std::fs::remove_dir_all(&folder).unwrap();
-    }
-
-    #[test]
-    fn a_batch_is_kept_whole_or_not_at_all() {
-        let mut store = SqliteStore::open(":memory:").err();
-        assert!(store.take().is_some(), "a store in memory has no WAL");
-        let folder = std::env::temp_dir().join(format!("krl-batch-{}", std::process::id()));
-        std::fs::create_dir_all(&folder).unwrap();
-        let mut store = SqliteStore::open(folder.join("table.db")).unwrap();
-        let bad = Change::Registered { client: 1, incarnation: u64::MAX };
-        assert!(store.commit(&[Change::Started { epoch: 4 }, bad]).is_err());
-        assert_eq!(store.load().unwrap(), Snapshot::default());
-        std::fs::remove_dir_all(&folder).unwrap();
-    }
-}
+mod tests;

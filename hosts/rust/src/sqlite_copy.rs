@@ -147,6 +147,7 @@ impl From<io::Error> for StoreError {
 mod tests {
     use super::*;
     use crate::change::{Change, Outcome, Record};
+    use crate::lease_record::LeaseRecord;
     use crate::row::Value;
     use crate::store::Store;
     use std::os::unix::fs::PermissionsExt;
@@ -187,6 +188,7 @@ mod tests {
                 record(2, None, true),
                 record(63, Some((1, Outcome::Applied)), false),
             ],
+            leases: LeaseRecord { longest: 12, unleased: [2, 9].into_iter().collect() },
         }
     }
 
@@ -197,7 +199,7 @@ mod tests {
         SqliteStore::create(&file, &snapshot()).unwrap();
         assert_eq!(folder.names(), ["copy.db"]);
         assert_eq!(file.metadata().unwrap().permissions().mode() & 0o777, 0o600);
-        let expected = StoreFile { version: 2, snapshot: snapshot() };
+        let expected = StoreFile { version: 3, snapshot: snapshot() };
         assert_eq!(SqliteStore::read(&file).unwrap(), expected);
         assert_eq!(folder.names(), ["copy.db"]);
         assert_eq!(SqliteStore::open(&file).unwrap().load().unwrap(), snapshot());
@@ -271,24 +273,27 @@ mod tests {
     fn an_older_store_is_read_as_it_is_and_raised_when_it_is_opened() {
         let folder = Folder::new("older");
         for (version, marks) in [
-            (0, "PRAGMA application_id = 0; PRAGMA user_version = 0;"),
-            (1, "PRAGMA user_version = 1;"),
+            (0, "DROP TABLE start; PRAGMA application_id = 0; PRAGMA user_version = 0;"),
+            (1, "DROP TABLE start; PRAGMA user_version = 1;"),
+            (2, "PRAGMA user_version = 2;"),
         ] {
             let file = folder.0.join(format!("{version}.db"));
             SqliteStore::create(&file, &snapshot()).unwrap();
-            let older = format!("DROP TABLE start; {marks}");
+            let older = format!("DROP TABLE lease; {marks}");
+            let before = Snapshot { leases: LeaseRecord::UNKNOWN, ..snapshot() };
             Connection::open(&file).unwrap().execute_batch(&older).unwrap();
             let version_of = |file| SqliteStore::read(file).map(|it| it.version).unwrap();
             assert_eq!([version_of(&file), version_of(&file)], [version, version]);
+            assert_eq!(SqliteStore::read(&file).unwrap().snapshot, before);
             let mut store = SqliteStore::open(&file).unwrap();
-            assert_eq!(store.load().unwrap(), snapshot());
+            assert_eq!(store.load().unwrap(), before);
             assert_eq!(store.history().unwrap(), None, "no server has started on it since");
             store.commit(&[Change::Started { epoch: 8 }]).unwrap();
             assert!(store.history().unwrap().is_some());
             drop(store);
-            let expected = Snapshot { epoch: 8, ..snapshot() };
+            let expected = Snapshot { epoch: 8, ..before };
             assert_eq!(SqliteStore::read(&file).unwrap().snapshot, expected);
-            assert_eq!(version_of(&file), 2);
+            assert_eq!(version_of(&file), 3);
         }
     }
 
@@ -297,11 +302,11 @@ mod tests {
         let folder = Folder::new("newer");
         let file = folder.0.join("new.db");
         SqliteStore::create(&file, &snapshot()).unwrap();
-        Connection::open(&file).unwrap().execute_batch("PRAGMA user_version = 3").unwrap();
+        Connection::open(&file).unwrap().execute_batch("PRAGMA user_version = 4").unwrap();
         let before = std::fs::read(&file).unwrap();
         for refused in [SqliteStore::read(&file).map(drop), SqliteStore::open(&file).map(drop)] {
             let refused = refused.unwrap_err().to_string();
-            assert!(refused.contains("version 3, and"), "{refused}");
+            assert!(refused.contains("version 4, and"), "{refused}");
         }
         assert_eq!(std::fs::read(&file).unwrap(), before);
         assert_eq!(folder.names(), ["new.db"]);

@@ -1,6 +1,7 @@
 //! What an operator sees of a server.
 use crate::watch::{HeldSlots, Wait};
 use std::fmt;
+use std::time::Duration;
 
 /// A server at one moment.
 #[derive(Clone, Debug, Default, PartialEq, Eq)]
@@ -33,12 +34,23 @@ pub struct Status {
     pub sent: u64,
     /// The strings that were no message. Each ended its connection.
     pub refused: u64,
+    /// How often a connection said what its certificate or its user may not say. Each was closed,
+    /// and the library heard nothing of it.
+    pub denied: u64,
     /// The repeats of pushes that were held back.
     pub held_back: u64,
     /// The changes that were kept.
     pub changes: u64,
     /// How often the store was asked to commit changes.
     pub commits: u64,
+    /// The signs that came: what the clients' hosts say to keep their leases.
+    pub signs: u64,
+    /// How many clients were evicted since their leases had ended.
+    pub evicted: u64,
+    /// The clients that may answer from their caches for ever, and that only an operator evicts.
+    pub unleased: Vec<u8>,
+    /// No lease that ends and may still run is longer.
+    pub longest_lease: Duration,
     /// Why the server has ended, if it has failed. All else is as it was last.
     pub failure: Option<String>,
 }
@@ -47,6 +59,21 @@ impl Status {
     /// Each client that waits, with each one that it waits for.
     pub(crate) fn pairs(&self) -> impl Iterator<Item = (u8, u8)> {
         self.waits.iter().flat_map(|wait| wait.waits_for.iter().map(|other| (wait.client, *other)))
+    }
+}
+
+impl Status {
+    /// A line on leases, if there are any or were some.
+    fn write_leases(&self, f: &mut fmt::Formatter<'_>) -> fmt::Result {
+        let Status { signs, evicted, unleased, longest_lease, .. } = self;
+        if longest_lease.is_zero() {
+            return Ok(());
+        }
+        let without = list(unleased);
+        writeln!(
+            f,
+            "leases: {longest_lease:?} at most, {signs} signs, {evicted} evicted, without: {without}"
+        )
     }
 }
 
@@ -95,10 +122,12 @@ impl fmt::Display for Status {
                 self.store_alarms
             )?;
         }
-        let Status { taken, sent, refused, held_back, .. } = self;
+        self.write_leases(f)?;
+        let Status { taken, sent, refused, denied, held_back, .. } = self;
         writeln!(
             f,
-            "messages: {taken} taken, {sent} sent, {refused} refused, {held_back} held back"
+            "messages: {taken} taken, {sent} sent, {refused} refused, {denied} denied, {held_back} \
+             held back"
         )?;
         writeln!(f, "store: {} changes in {} transactions", self.changes, self.commits)
     }
@@ -107,7 +136,6 @@ impl fmt::Display for Status {
 #[cfg(test)]
 mod tests {
     use super::*;
-    use std::time::Duration;
 
     fn status() -> Status {
         let wait = Wait {
@@ -136,7 +164,16 @@ mod tests {
         );
         assert!(text.contains("client 3 waits for 0, 2: RangeX-X at 10, for 40 ms\n"));
         assert!(text.contains("client 2 holds 7 slots\n"));
-        assert!(!text.contains("ALARM"));
+        assert!(!text.contains("ALARM") && !text.contains("leases"));
+        let leased = Status {
+            longest_lease: Duration::from_secs(10),
+            unleased: vec![2, 9],
+            evicted: 1,
+            signs: 4,
+            ..status()
+        };
+        let line = "leases: 10s at most, 4 signs, 1 evicted, without: 2, 9\n";
+        assert!(leased.to_string().contains(line), "{leased}");
         let text = Status { store_alarms: 2, ..status() }.to_string();
         assert!(text.contains("ALARM: the store lacks what clients have seen on 2 connections"));
     }

@@ -1,12 +1,12 @@
 //! Connections over TCP or over a Unix socket.
-use std::fmt;
+use crate::address::Address;
+use std::fs::{Permissions, set_permissions};
 use std::io::{self, ErrorKind, Read, Write};
-use std::net::{Shutdown, SocketAddr, TcpListener, TcpStream, ToSocketAddrs};
+use std::net::{IpAddr, Shutdown, SocketAddr, TcpListener, TcpStream, ToSocketAddrs};
 use std::os::fd::{AsRawFd, RawFd};
-use std::os::unix::fs::FileTypeExt;
+use std::os::unix::fs::{FileTypeExt, PermissionsExt};
 use std::os::unix::net::{UnixListener, UnixStream};
-use std::path::{Path, PathBuf};
-use std::str::FromStr;
+use std::path::Path;
 use std::sync::mpsc::channel;
 use std::thread;
 use std::time::Duration;
@@ -14,91 +14,37 @@ use std::time::Duration;
 /// How long a server may take to show that it listens at a Unix socket.
 const PROBE: Duration = Duration::from_secs(1);
 
-/// Where a server listens. As text: `127.0.0.1:7400`, `localhost:7400`, or `unix:` and a path.
-#[derive(Clone, Debug, PartialEq, Eq)]
-#[non_exhaustive]
-pub enum Address {
-    /// TCP.
-    Tcp(SocketAddr),
-    /// TCP at a port of a host, whose name is looked up at each connect. Each address that it has
-    /// is tried in turn.
-    Host(String, u16),
-    /// A Unix socket.
-    Unix(PathBuf),
-}
+/// The mode of a Unix socket: its user's alone.
+const OWN: u32 = 0o600;
 
-/// A text that is no address.
-#[derive(Clone, Copy, Debug, PartialEq, Eq)]
-pub struct BadAddress;
-
-impl fmt::Display for BadAddress {
-    fn fmt(&self, f: &mut fmt::Formatter<'_>) -> fmt::Result {
-        f.write_str("an address is written as 127.0.0.1:7400, localhost:7400, or unix:/a/path")
-    }
-}
-
-impl std::error::Error for BadAddress {}
-
-impl FromStr for Address {
-    type Err = BadAddress;
-
-    fn from_str(text: &str) -> Result<Address, BadAddress> {
-        match text.strip_prefix("unix:") {
-            Some("") => Err(BadAddress),
-            Some(path) => Ok(Address::Unix(path.into())),
-            None => text.parse().map(Address::Tcp).or_else(|_| host(text)),
-        }
-    }
-}
-
-/// The name of a host and a port.
-fn host(text: &str) -> Result<Address, BadAddress> {
-    let (name, port) = text.rsplit_once(':').ok_or(BadAddress)?;
-    let port = port.parse().map_err(|_| BadAddress)?;
-    if is_host(name) { Ok(Address::Host(name.into(), port)) } else { Err(BadAddress) }
-}
-
-/// Whether a name may be a host's. One whose last part is a number is an address that is wrong.
-fn is_host(name: &str) -> bool {
-    let is_letter = |byte: u8| byte.is_ascii_alphanumeric() || b"-._".contains(&byte);
-    let last = name.trim_end_matches('.').rsplit('.').next().unwrap_or("");
-    name.bytes().all(is_letter) && last.bytes().any(|byte| !byte.is_ascii_digit())
-}
-
-impl fmt::Display for Address {
-    fn fmt(&self, f: &mut fmt::Formatter<'_>) -> fmt::Result {
-        match self {
-            Address::Tcp(address) => address.fmt(f),
-            Address::Host(name, port) => write!(f, "{name}:{port}"),
-            Address::Unix(path) => write!(f, "unix:{}", path.display()),
-        }
-    }
-}
-
-impl From<SocketAddr> for Address {
-    fn from(address: SocketAddr) -> Address {
-        Address::Tcp(address)
-    }
-}
-
-impl From<&Address> for Address {
-    fn from(address: &Address) -> Address {
-        address.clone()
-    }
-}
+/// The mode if other users may connect: who they are decides what they may say.
+const OTHERS_TOO: u32 = 0o666;
 
 /// A socket that takes connections.
 #[derive(Debug)]
+#[non_exhaustive]
 pub enum Listener {
-    /// TCP.
+    /// Plain TCP.
     Tcp(TcpListener),
+    /// TLS over TCP.
+    Tls(TcpListener),
     /// A Unix socket.
     Unix(UnixListener),
 }
 
+/// A connection that was just taken.
+#[derive(Debug)]
+pub(crate) struct Accepted {
+    pub stream: Stream,
+    /// The address of the peer, if it is of another machine or may be.
+    pub from: Option<IpAddr>,
+    pub is_tls: bool,
+}
+
 impl Listener {
     /// Listens at the address. The file of a Unix socket at which nobody listens any more is
-    /// replaced. Any other file is left alone, and so is a socket of which that can't be known.
+    /// replaced. Any other file is left alone, and so is a socket of which that can't be known. The
+    /// new one is its user's alone, with the mode 0600.
     ///
     /// # Errors
     ///
@@ -110,12 +56,26 @@ impl Listener {
             Address::Host(name, port) => {
                 TcpListener::bind((name.as_str(), *port)).map(Listener::Tcp)
             }
+            Address::Tls(address) => TcpListener::bind(address).map(Listener::Tls),
+            Address::TlsHost(name, port) => {
+                TcpListener::bind((name.as_str(), *port)).map(Listener::Tls)
+            }
             Address::Unix(path) => {
                 if is_socket(path) && is_abandoned(&probe(path)) {
                     std::fs::remove_file(path)?;
                 }
-                UnixListener::bind(path).map(Listener::Unix)
+                let listener = UnixListener::bind(path)?;
+                set_permissions(path, Permissions::from_mode(OWN))?;
+                Ok(Listener::Unix(listener))
             }
+        }
+    }
+
+    /// Lets all users of the machine connect to a Unix socket.
+    pub(crate) fn let_users_connect(&self) -> io::Result<()> {
+        match self.address()? {
+            Address::Unix(path) => set_permissions(path, Permissions::from_mode(OTHERS_TOO)),
+            _ => Ok(()),
         }
     }
 
@@ -127,6 +87,7 @@ impl Listener {
     pub fn address(&self) -> io::Result<Address> {
         match self {
             Listener::Tcp(listener) => listener.local_addr().map(Address::Tcp),
+            Listener::Tls(listener) => listener.local_addr().map(Address::Tls),
             Listener::Unix(listener) => {
                 let address = listener.local_addr()?;
                 let path = address.as_pathname().ok_or(io::ErrorKind::AddrNotAvailable)?;
@@ -138,23 +99,33 @@ impl Listener {
     /// `accept` does not wait from now on, whatever the socket was told before.
     pub(crate) fn never_wait(&self) -> io::Result<()> {
         match self {
-            Listener::Tcp(listener) => listener.set_nonblocking(true),
+            Listener::Tcp(listener) | Listener::Tls(listener) => listener.set_nonblocking(true),
             Listener::Unix(listener) => listener.set_nonblocking(true),
         }
     }
 
-    pub(crate) fn accept(&self) -> io::Result<Stream> {
+    pub(crate) fn accept(&self) -> io::Result<Accepted> {
         match self {
-            Listener::Tcp(listener) => Stream::of_tcp(listener.accept()?.0),
-            Listener::Unix(listener) => Ok(Stream::Unix(listener.accept()?.0)),
+            Listener::Tcp(listener) => Accepted::of_tcp(listener.accept()?, false),
+            Listener::Tls(listener) => Accepted::of_tcp(listener.accept()?, true),
+            Listener::Unix(listener) => {
+                let stream = Stream::Unix(listener.accept()?.0);
+                Ok(Accepted { stream, from: None, is_tls: false })
+            }
         }
+    }
+}
+
+impl Accepted {
+    fn of_tcp((stream, from): (TcpStream, SocketAddr), is_tls: bool) -> io::Result<Accepted> {
+        Ok(Accepted { stream: Stream::of_tcp(stream)?, from: Some(from.ip()), is_tls })
     }
 }
 
 impl AsRawFd for Listener {
     fn as_raw_fd(&self) -> RawFd {
         match self {
-            Listener::Tcp(listener) => listener.as_raw_fd(),
+            Listener::Tcp(listener) | Listener::Tls(listener) => listener.as_raw_fd(),
             Listener::Unix(listener) => listener.as_raw_fd(),
         }
     }
@@ -183,6 +154,7 @@ fn is_abandoned(connected: &io::Result<()>) -> bool {
 }
 
 impl From<TcpListener> for Listener {
+    /// Plain TCP.
     fn from(listener: TcpListener) -> Listener {
         Listener::Tcp(listener)
     }
@@ -204,8 +176,10 @@ pub(crate) enum Stream {
 impl Stream {
     pub fn connect(address: &Address, wait: Duration) -> io::Result<Stream> {
         match address {
-            Address::Tcp(address) => Stream::of_tcp(TcpStream::connect_timeout(address, wait)?),
-            Address::Host(name, port) => {
+            Address::Tcp(address) | Address::Tls(address) => {
+                Stream::of_tcp(TcpStream::connect_timeout(address, wait)?)
+            }
+            Address::Host(name, port) | Address::TlsHost(name, port) => {
                 let connected = connect_to_one((name.as_str(), *port).to_socket_addrs()?, wait);
                 Stream::of_tcp(connected?)
             }
@@ -331,35 +305,6 @@ mod tests {
     }
 
     #[test]
-    fn addresses_are_read_as_they_are_written() {
-        for text in
-            ["127.0.0.1:7400", "[::1]:7400", "localhost:7400", "a-b.c_d.example.:1", "unix:/a"]
-        {
-            assert_eq!(text.parse::<Address>().unwrap().to_string(), text);
-        }
-        assert!(matches!("[::1]:7400".parse(), Ok(Address::Tcp(_))));
-        assert_eq!("db1:7400".parse(), Ok(Address::Host("db1".into(), 7400)));
-        for text in [
-            "",
-            ":",
-            "localhost",
-            "localhost:",
-            ":7400",
-            "localhost:65536",
-            "127.0.0.1",
-            "unix:",
-            "127.0.0.256:7400",
-            "1.2.3.4.5:7400",
-            "::1:7400",
-            "a b:7400",
-            "a/b:7400",
-            "...:7400",
-        ] {
-            assert_eq!(text.parse::<Address>(), Err(BadAddress), "{text}");
-        }
-    }
-
-    #[test]
     fn each_address_of_a_host_is_tried() {
         let living = TcpListener::bind("127.0.0.1:0").unwrap();
         let dead = TcpListener::bind("127.0.0.1:0").unwrap().local_addr().unwrap();
@@ -377,6 +322,9 @@ mod tests {
         let path = std::env::temp_dir().join(format!("krl-stream-{}", std::process::id()));
         let address = Address::Unix(path.clone());
         let living = Listener::bind(&address).unwrap();
+        assert_eq!(path.metadata().unwrap().permissions().mode() & 0o777, OWN);
+        living.let_users_connect().unwrap();
+        assert_eq!(path.metadata().unwrap().permissions().mode() & 0o777, OTHERS_TOO);
         assert!(Listener::bind(&address).is_err(), "its server lives");
         drop(living);
         drop(Listener::bind(&address).unwrap());

@@ -1,6 +1,6 @@
 //! What a client writes to its connection. No caller waits for a server that takes nothing.
-use crate::stream::Stream;
-use std::io::{self, ErrorKind, Write};
+use crate::carrier::Carrier;
+use std::io::{self, ErrorKind};
 use std::sync::{Mutex, MutexGuard, PoisonError, TryLockError};
 use std::time::{Duration, Instant};
 
@@ -31,8 +31,8 @@ struct Pending {
 
 #[derive(Debug)]
 struct Connection {
-    stream: Stream,
-    /// The frames that are being written, and how many of their bytes are.
+    carrier: Carrier,
+    /// What is being written, sealed if the carrier seals, and how many of its bytes are.
     frames: Vec<u8>,
     written: usize,
     /// Since when the server takes nothing.
@@ -59,10 +59,10 @@ pub(crate) enum Written {
 impl Writer {
     /// From now on frames go to this connection, these before all others. What waited for another
     /// one is lost.
-    pub fn open(&self, stream: Stream, first: Vec<u8>) {
+    pub fn open(&self, carrier: Carrier, first: Vec<u8>) {
         let mut connection = self.connection();
         *self.pending() = Pending { frames: first, is_connected: true };
-        *connection = Some(Connection { stream, frames: Vec::new(), written: 0, stuck: None });
+        *connection = Some(Connection { carrier, frames: Vec::new(), written: 0, stuck: None });
     }
 
     /// Ends the connection. What waits is lost, and so is what is put before there is another one.
@@ -101,8 +101,10 @@ impl Writer {
             Err(TryLockError::WouldBlock) => return None,
         };
         let open = connection.as_mut()?;
-        open.fill(&mut self.pending());
-        let progress = open.write(Instant::now());
+        let progress = match open.fill(self.pending()) {
+            Ok(()) => open.write(Instant::now()),
+            Err(_) => Progress::Failed,
+        };
         if progress == Progress::Failed {
             close(&mut connection, &mut self.pending());
         }
@@ -121,26 +123,29 @@ impl Writer {
 fn close(connection: &mut Option<Connection>, pending: &mut Pending) {
     if let Some(open) = connection.take() {
         // Half a message may be on its way.
-        open.stream.shut();
+        open.carrier.shut();
     }
     *pending = Pending::default();
 }
 
 impl Connection {
     /// Takes what waits, if all before it is written.
-    fn fill(&mut self, pending: &mut Pending) {
-        if self.written == self.frames.len() {
-            self.frames.clear();
-            self.written = 0;
-            std::mem::swap(&mut self.frames, &mut pending.frames);
+    fn fill(&mut self, mut pending: MutexGuard<'_, Pending>) -> io::Result<()> {
+        if self.written < self.frames.len() {
+            return Ok(());
         }
+        self.frames.clear();
+        self.written = 0;
+        std::mem::swap(&mut self.frames, &mut pending.frames);
+        drop(pending);
+        self.carrier.seal(&mut self.frames)
     }
 
     fn write(&mut self, now: Instant) -> Progress {
         if self.written == self.frames.len() {
             return Progress::All;
         }
-        let wrote = self.stream.write(&self.frames[self.written..]);
+        let wrote = self.carrier.write(&self.frames[self.written..]);
         self.note(&wrote, now)
     }
 
@@ -170,17 +175,18 @@ fn is_full(kind: ErrorKind) -> bool {
 #[cfg(test)]
 mod tests {
     use super::*;
+    use crate::stream::Stream;
     use std::io::Read;
     use std::os::unix::net::UnixStream;
 
     /// A writer, and the end of its connection that reads.
     fn pair() -> (Writer, UnixStream) {
         let (ours, theirs) = UnixStream::pair().unwrap();
-        let stream = Stream::Unix(ours);
-        stream.set_timeouts(ATTEMPT, ATTEMPT).unwrap();
+        let carrier = Carrier::from(Stream::Unix(ours));
+        carrier.set_timeouts(ATTEMPT, ATTEMPT).unwrap();
         theirs.set_read_timeout(Some(Duration::from_millis(200))).unwrap();
         let writer = Writer::default();
-        writer.open(stream, Vec::new());
+        writer.open(carrier, Vec::new());
         (writer, theirs)
     }
 

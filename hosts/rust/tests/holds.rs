@@ -132,6 +132,28 @@ fn those_who_pin_for_update_and_write_do_not_block_one_another() {
     assert_eq!(maker.read(15..16), Ok(vec![row(15, u64::from(CLIENTS) * TURNS)]));
 }
 
+/// Each waits for the other one's pin. The one that hears first that its time is over has written
+/// nothing, and both go on when the pins are gone.
+#[test]
+fn those_who_pin_for_read_and_write_block_one_another_and_lose_nothing() {
+    let world = World::new("upgrade");
+    let (first, second) = (world.join(1), world.join_impatient(2));
+    world.insert_rows([15]);
+    let (rows, pin) = first.pin_for_read(10..20).unwrap();
+    let (_, other_pin) = second.pin_for_read(10..20).unwrap();
+    thread::scope(|scope| {
+        let put = scope.spawn(|| first.put(15, Value::from(1)));
+        assert_eq!(second.put(15, Value::from(2)), Err(Refused::TimedOut));
+        assert!(!put.is_finished(), "it waits for a pin");
+        assert_eq!(second.cached(10..20), Some(rows), "nothing has changed");
+        drop((pin, other_pin));
+        assert_eq!(put.join().unwrap(), Ok(Outcome::Applied));
+    });
+    second.set_timeout(LONG);
+    assert_eq!(second.read(15..16), Ok(vec![row(15, 1)]));
+    assert_eq!(second.put(15, Value::from(2)), Ok(Outcome::Applied));
+}
+
 #[test]
 fn a_pin_that_was_not_had_leaves_nothing_pinned() {
     let world = World::new("leaves");

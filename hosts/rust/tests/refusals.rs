@@ -11,7 +11,7 @@ use std::time::Duration;
 
 /// The Hello of a host, and the answer to it.
 const HOST_HELLO: [u8; 10] = [2, 0, 0, 0, 0, 0, 0, 0, 0, 0];
-const HOST_ANSWER: [u8; 10] = [2, 0, 0, 0, 0, 0, 0, 0, 0, 16];
+const HOST_ANSWER: [u8; 11] = [3, 0, 0, 0, 0, 0, 0, 0, 0, 16, 1];
 
 /// Shorter than the second between two frames of one reason.
 const SHORT: Duration = Duration::from_millis(300);
@@ -51,8 +51,12 @@ fn heard(server: &Server, said: &[Vec<u8>]) -> Vec<u8> {
         peer.say(frame);
     }
     let heard = peer.hear(SHORT);
-    assert_eq!(heard.get(..10), Some(&HOST_ANSWER[..]), "the host's answer comes first");
-    heard[10..].to_vec()
+    assert_eq!(
+        heard.get(..HOST_ANSWER.len()),
+        Some(&HOST_ANSWER[..]),
+        "the host's answer comes first"
+    );
+    heard[HOST_ANSWER.len()..].to_vec()
 }
 
 fn of_version(version: u8) -> Vec<u8> {

@@ -69,13 +69,15 @@ fn a_server_that_takes_nothing_holds_no_call_beyond_its_timeout() {
     let (error, took) = fails_to_join(listener.local_addr().unwrap(), "mute", timeout);
     assert!(matches!(error, JoinError::NoAnswer(None)), "{error:?}");
     assert!(timeout <= took && took < timeout + LATE, "{took:?}");
-    // Its host has said Hello, then it has, and Bye as it gave up.
+    // Its host has said Hello and a sign, and both again. It waits for terms before it says more.
     let (mut stream, _) = listener.accept().unwrap();
     let mut said = Vec::new();
     stream.read_to_end(&mut said).unwrap();
-    assert_eq!(said.drain(..10).collect::<Vec<u8>>(), [2, 0, 0, 0, 0, 0, 0, 0, 0, 0]);
-    let kinds: Vec<u8> = said.chunks(26).map(|frame| frame[9]).collect();
-    assert_eq!((kinds.first(), kinds.last()), (Some(&0), Some(&1)), "{kinds:?}");
+    let (hello, sign) = ([2, 0, 0, 0, 0, 0, 0, 0, 0, 0], [42, 0, 0, 0, 0, 0, 0, 0, 0, 1, 5]);
+    assert!(said.len() >= 60 && said.len() % 60 == 0, "{said:?}");
+    for greeting in said.chunks(60) {
+        assert_eq!((&greeting[..10], &greeting[10..21]), (&hello[..], &sign[..]));
+    }
 }
 
 /// A network between a client and its server that hands nothing over while it is frozen.

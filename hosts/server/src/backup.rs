@@ -1,6 +1,6 @@
 //! A copy of the store of a running server.
 use crate::cause;
-use crate::http;
+use crate::http::{self, StatusPort};
 use hyper::StatusCode;
 use krl::{Monitor, SqliteStore};
 use serde::{Deserialize, Serialize};
@@ -23,10 +23,10 @@ pub struct Order {
 }
 
 /// Has the server at this status port copy its store into a new file.
-pub fn ask(address: &str, file: &Path) -> Result<(), Box<dyn Error>> {
+pub fn ask(port: &StatusPort, file: &Path) -> Result<(), Box<dyn Error>> {
     let file = std::path::absolute(file)?;
     let order = serde_json::to_string(&Order { file })?;
-    let reply = http::post(address, PATH, order, TIMEOUT)?;
+    let reply = http::post(port, PATH, order, TIMEOUT)?;
     match reply.status {
         StatusCode::CREATED => {
             print!("{}", reply.text);

@@ -33,13 +33,16 @@ Exit statuses:
 Examples:
   krl-server serve
       Serves krl.db of this folder at 127.0.0.1:7400, and its status at 127.0.0.1:7401
-  krl-server serve --listen 10.0.0.5:7400 --store /var/lib/krl/krl.db --log-format json
+  krl-server serve --listen tls:10.0.0.5:7400 --tls-authority ca.crt --tls-certificate server.crt
+      --tls-key server.key
+      Serves clients of other machines, which show certificates of the authority
   krl-server serve --config /etc/krl/krl.toml
   krl-server status
   krl-server locks 10 20
   krl-server backup 127.0.0.1:7401 /var/lib/krl/monday.db
   krl-server check /var/lib/krl/monday.db
   krl-server restore /var/lib/krl/monday.db --store /var/lib/krl/krl.db --clients-are-stopped
+  krl-server split /var/lib/krl/krl.db 500000 /var/lib/krl/upper.db
   krl-server evict 127.0.0.1:7400 3 client-3.lock";
 
 #[derive(Debug, Subcommand)]
@@ -50,9 +53,11 @@ pub enum Command {
     Config(ServeOptions),
     /// Print what a server shows of itself
     Status {
-        /// The server's status port
+        /// The server's status port, with tls: before it if it serves by TLS
         #[arg(default_value = crate::settings::STATUS)]
         address: String,
+        #[command(flatten)]
+        tls: TlsOptions,
         /// Print it as JSON
         #[arg(long)]
         json: bool,
@@ -68,12 +73,16 @@ a range the whole table is meant.")]
     #[command(long_about = "\
 End a client for good whose process is dead.
 
-What the client held is free then, and a server that starts again does not wait for it. Evict a
-client only when its process is dead, not when it is silent: one that still runs would go on to
-answer from its cache what is no longer so.")]
+What the client held is free then, and a server that starts again does not wait for it. A client
+that has a lease is evicted when that ends, and the server does so by itself: this command waits for
+it, a minute at most. A client without one is evicted at once. Do so only when its process is dead,
+not when it is silent: one that still runs would go on to answer from its cache what is no longer
+so.")]
     Evict {
-        /// Where the server listens: 127.0.0.1:7400, or unix: and a path
+        /// Where the server listens: 127.0.0.1:7400, tls:10.0.0.5:7400, or unix: and a path
         address: String,
+        #[command(flatten)]
+        tls: TlsOptions,
         /// The client's number
         #[arg(value_parser = clap::value_parser!(u8).range(0..64))]
         number: u8,
@@ -84,6 +93,8 @@ answer from its cache what is no longer so.")]
     Backup {
         /// The server's status port, such as 127.0.0.1:7401
         address: String,
+        #[command(flatten)]
+        tls: TlsOptions,
         /// The new file. The server makes it, with the rights of the server's process
         file: PathBuf,
     },
@@ -106,6 +117,39 @@ the epoch is 4294967296 greater than in the backup, so that no client has seen i
         #[arg(long)]
         clients_are_stopped: bool,
     },
+    /// Cut a store in two at a key, for two servers
+    #[command(long_about = "\
+Cut a store in two at a key, for two servers.
+
+The rows from the key on move to the new store, and the rows below it stay. Both keep the epoch, and
+what is known of clients. No server may run on the store, and each client has to have left: one that
+has not is named. Then start a server on each of the two, and give all clients a map of both. If it
+is cut off, no row is lost: either there is no new store, or the old one still has all rows. Remove
+the new one then, and split again.")]
+    Split {
+        /// The store
+        store: PathBuf,
+        /// The first key that moves
+        #[arg(value_parser = crate::reshard::cut)]
+        at: u64,
+        /// The new store. What exists is never replaced
+        new_store: PathBuf,
+    },
+    /// Make one new store of two neighboring ones
+    #[command(long_about = "\
+Make one new store of two neighboring ones.
+
+The two are only read. The keys of the lower one have to lie below all keys of the upper one, and
+each client has to have left both. The new store has the greater epoch of the two. Serve it in place
+of both: a server that still ran on one of them would show rows that nobody changes any more.")]
+    Merge {
+        /// The store with the lower keys
+        lower: PathBuf,
+        /// The store with the greater keys
+        upper: PathBuf,
+        /// The new store. What exists is never replaced
+        new_store: PathBuf,
+    },
     /// Say what a store holds, and whether a server can start on it
     Check {
         /// The store. It is only read, and no server may run on it
@@ -121,15 +165,52 @@ pub struct LocksOptions {
     pub lo: Option<u64>,
     /// One past the last point of the range: 9223372036854775808 at most
     pub hi: Option<u64>,
-    /// The server's status port
+    /// The server's status port, with tls: before it if it serves by TLS
     #[arg(long, value_name = "ADDRESS", default_value = crate::settings::STATUS)]
     pub status: String,
+    #[command(flatten)]
+    pub tls: TlsOptions,
     /// The most slots that are printed: 64 to 10000
     #[arg(long, value_name = "COUNT", default_value_t = crate::locks::LIMIT)]
     pub limit: usize,
     /// How they are printed
     #[arg(long, value_enum, default_value_t = Format::Text)]
     pub format: Format,
+}
+
+/// What is shown by TLS, and whom it believes.
+#[derive(Args, Debug)]
+pub struct TlsOptions {
+    /// The certificate of the authority that certified servers, clients and operators, as PEM
+    #[arg(long, env = "KRL_TLS_AUTHORITY", value_name = "FILE")]
+    pub tls_authority: Option<String>,
+    /// The certificate that is shown by TLS, as PEM, with those between it and the authority's
+    #[arg(long, env = "KRL_TLS_CERTIFICATE", value_name = "FILE")]
+    pub tls_certificate: Option<String>,
+    /// The key of that certificate, as PEM
+    #[arg(long, env = "KRL_TLS_KEY", value_name = "FILE")]
+    pub tls_key: Option<String>,
+    /// The name of the table, if certificates have it behind an @, as krl:client:3@orders
+    #[arg(long, env = "KRL_TABLE", value_name = "NAME")]
+    pub table: Option<String>,
+}
+
+/// Whom a server lets in without a certificate.
+#[derive(Args, Debug)]
+pub struct AccessOptions {
+    /// Other users of this machine who may connect over a Unix socket, by number, and for which
+    /// clients each may speak: 1001=3,4 or '1001=3 1002=operator'
+    #[arg(long, env = "KRL_USERS", value_name = "USERS")]
+    pub users: Option<String>,
+    /// Listen by plain TCP where other machines may connect: each that can may speak for any client
+    #[arg(
+        long,
+        env = "KRL_PLAIN_BEYOND_LOOPBACK",
+        value_name = "YES",
+        num_args = 0..=1,
+        default_missing_value = "yes"
+    )]
+    pub plain_beyond_loopback: Option<String>,
 }
 
 /// How an answer is printed.
@@ -143,9 +224,13 @@ pub enum Format {
 /// configuration file, then from the defaults.
 #[derive(Args, Debug)]
 pub struct ServeOptions {
-    /// Where clients connect: 127.0.0.1:7400, or unix: and a path
+    /// Where clients connect: tls:10.0.0.5:7400, 127.0.0.1:7400, or unix: and a path
     #[arg(long, env = "KRL_LISTEN", value_name = "ADDRESS")]
     pub listen: Option<String>,
+    #[command(flatten)]
+    pub tls: TlsOptions,
+    #[command(flatten)]
+    pub access: AccessOptions,
     /// What keeps the table: a file of SQLite, which is made if there is none, or a cluster, as
     /// etcd://10.0.0.1:2379,10.0.0.2:2379/krl/orders. Over a cluster several servers may run: one
     /// serves, and the others stand by
@@ -166,7 +251,7 @@ pub struct ServeOptions {
     /// How many seconds a server over a cluster may be silent before another takes its place
     #[arg(long, env = "KRL_ELECTION_LEASE", value_name = "SECONDS")]
     pub election_lease: Option<String>,
-    /// Where the status is served by HTTP: 127.0.0.1:7401, or off
+    /// Where the status is served by HTTP: 127.0.0.1:7401, tls:10.0.0.5:7401 for operators, or off
     #[arg(long, env = "KRL_STATUS", value_name = "ADDRESS")]
     pub status: Option<String>,
     /// The least severe events that are logged: error, warn, info, debug or trace
@@ -175,6 +260,13 @@ pub struct ServeOptions {
     /// How events are logged to standard error: text or json
     #[arg(long, env = "KRL_LOG_FORMAT", value_name = "FORMAT")]
     pub log_format: Option<String>,
+    /// How long a client may answer from its cache after its last word, such as 10s or 500ms. One
+    /// that is silent for longer is evicted. Or off: then only an operator evicts a client
+    #[arg(long, env = "KRL_LEASE", value_name = "LENGTH")]
+    pub lease: Option<String>,
+    /// How much further this machine's clock may go than a client's meanwhile, in a hundred
+    #[arg(long, env = "KRL_DRIFT", value_name = "PERCENT")]
+    pub drift: Option<String>,
     /// A configuration file in TOML. Its keys are the names of these options
     #[arg(long, env = "KRL_CONFIG", value_name = "FILE")]
     pub config: Option<PathBuf>,

@@ -1,9 +1,64 @@
 //! One request to a status port.
-use hyper::header::{ACCEPT, CONTENT_TYPE};
-use hyper::{Body, Client, Method, Request, StatusCode, Uri};
+use crate::command_line::TlsOptions;
+use crate::sealed;
+use crate::settings::{BadSetting, STATUS};
+use crate::tls_files::TlsFiles;
+use hyper::client::conn;
+use hyper::header::{ACCEPT, CONTENT_TYPE, HOST};
+use hyper::{Body, Method, Request, StatusCode};
+use krl::{TlsConfig, TlsSession};
 use std::error::Error;
+use std::fmt;
 use std::time::Duration;
+use tokio::io::{AsyncRead, AsyncWrite};
+use tokio::net::TcpStream;
 use tokio::time::timeout;
+
+/// What the address of a status port begins with that serves by TLS, and by plain TCP.
+const TLS: &str = "tls:";
+const PLAIN: &str = "plain:";
+
+/// Any error of a request, which another thread may have.
+type Failure = Box<dyn Error + Send + Sync>;
+
+/// A status port, and what is shown to it.
+#[derive(Debug)]
+pub struct StatusPort {
+    /// The host and the port.
+    place: String,
+    tls: Option<TlsConfig>,
+}
+
+impl StatusPort {
+    /// The status port at this address, to which these files are shown if it is one of TLS.
+    pub fn new(address: &str, options: &TlsOptions) -> Result<StatusPort, BadSetting> {
+        let (place, is_tls) = match address.strip_prefix(TLS) {
+            Some(place) => (place, true),
+            None => (address.strip_prefix(PLAIN).unwrap_or(address), false),
+        };
+        let port = place.rsplit_once(':').and_then(|(_, port)| port.parse::<u16>().ok());
+        if port.is_none() {
+            return Err(BadSetting::new(format!(
+                "'{address}' is no address of a status port, such as {STATUS} or tls:db1:7401"
+            )));
+        }
+        let tls = if is_tls { TlsFiles::of(options)?.read()? } else { None };
+        match (is_tls, &tls) {
+            (true, None) => Err(BadSetting::new(format!(
+                "{address} is an address of TLS, and needs --tls-authority, --tls-certificate and \
+                 --tls-key"
+            ))),
+            _ => Ok(StatusPort { place: place.into(), tls }),
+        }
+    }
+}
+
+impl fmt::Display for StatusPort {
+    fn fmt(&self, f: &mut fmt::Formatter<'_>) -> fmt::Result {
+        f.write_str(if self.tls.is_some() { TLS } else { "" })?;
+        f.write_str(&self.place)
+    }
+}
 
 /// What a status port has answered.
 #[derive(Debug)]
@@ -14,43 +69,57 @@ pub struct Reply {
 
 /// Asks for a page.
 pub fn get(
-    address: &str,
+    port: &StatusPort,
     path: &str,
     accept: &str,
     wait: Duration,
 ) -> Result<Reply, Box<dyn Error>> {
-    let request = Request::builder().uri(uri(address, path)?).header(ACCEPT, accept);
-    ask(address, request.body(Body::empty())?, wait)
+    let request = Request::builder().uri(path).header(ACCEPT, accept);
+    ask(port, request.header(HOST, &port.place).body(Body::empty())?, wait)
 }
 
 /// Sends JSON to a path.
 pub fn post(
-    address: &str,
+    port: &StatusPort,
     path: &str,
     json: String,
     wait: Duration,
 ) -> Result<Reply, Box<dyn Error>> {
-    let request = Request::builder().method(Method::POST).uri(uri(address, path)?);
-    ask(address, request.header(CONTENT_TYPE, "application/json").body(json.into())?, wait)
+    let request = Request::builder().method(Method::POST).uri(path).header(HOST, &port.place);
+    ask(port, request.header(CONTENT_TYPE, "application/json").body(json.into())?, wait)
 }
 
-fn uri(address: &str, path: &str) -> Result<Uri, String> {
-    Uri::builder().scheme("http").authority(address).path_and_query(path).build().map_err(|_| {
-        format!("'{address}' is no address of a status port, such as {}", crate::settings::STATUS)
-    })
-}
-
-fn ask(address: &str, request: Request<Body>, wait: Duration) -> Result<Reply, Box<dyn Error>> {
+fn ask(port: &StatusPort, request: Request<Body>, wait: Duration) -> Result<Reply, Box<dyn Error>> {
     let runtime = tokio::runtime::Builder::new_current_thread().enable_all().build()?;
-    let asked = async {
-        let reply = Client::new().request(request).await?;
-        let status = reply.status();
-        let bytes = hyper::body::to_bytes(reply.into_body()).await?;
-        Ok::<_, hyper::Error>((status, bytes))
-    };
-    let answered = runtime.block_on(async { timeout(wait, asked).await });
-    let (status, bytes) = answered
-        .map_err(|_| format!("the status port {address} gave no answer within {wait:?}"))?
-        .map_err(|error| format!("the status port {address} gave no answer: {error}"))?;
+    let answered = runtime.block_on(async { timeout(wait, exchange(port, request)).await });
+    let reply = answered
+        .map_err(|_| format!("the status port {port} gave no answer within {wait:?}"))?
+        .map_err(|error| format!("the status port {port} gave no answer: {error}"))?;
+    Ok(reply)
+}
+
+async fn exchange(port: &StatusPort, request: Request<Body>) -> Result<Reply, Failure> {
+    let socket = TcpStream::connect(&port.place).await?;
+    match &port.tls {
+        None => talk(socket, request).await,
+        Some(tls) => {
+            let (plain, _) = sealed::open(socket, TlsSession::connect(tls)?).await?;
+            talk(plain, request).await
+        }
+    }
+}
+
+async fn talk(
+    stream: impl AsyncRead + AsyncWrite + Unpin + Send + 'static,
+    request: Request<Body>,
+) -> Result<Reply, Failure> {
+    let (mut sender, connection) = conn::handshake(stream).await?;
+    tokio::spawn(async move {
+        // What fails here fails the request.
+        let _ = connection.await;
+    });
+    let reply = sender.send_request(request).await?;
+    let status = reply.status();
+    let bytes = hyper::body::to_bytes(reply.into_body()).await?;
     Ok(Reply { status, text: String::from_utf8_lossy(&bytes).into_owned() })
 }

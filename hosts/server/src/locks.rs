@@ -1,6 +1,6 @@
 //! Who holds what: the question, its answer as text and as JSON, and the command that asks.
 use crate::command_line::{Format, LocksOptions};
-use crate::http;
+use crate::http::{self, StatusPort};
 use crate::pages::{self, JSON, TEXT};
 use crate::settings::BadSetting;
 use form_urlencoded::parse;
@@ -127,18 +127,18 @@ fn waiting(wait: &Wait) -> String {
 /// Asks a status port, and answers what it says.
 pub fn ask(options: &LocksOptions) -> Result<String, Box<dyn Error>> {
     let question = Question::of_words(options)?;
-    let address = &options.status;
+    let port = StatusPort::new(&options.status, &options.tls)?;
     let kind = match options.format {
         Format::Text => TEXT,
         Format::Json => JSON,
     };
-    let reply = http::get(address, &question.path(), kind, WAIT)?;
+    let reply = http::get(&port, &question.path(), kind, WAIT)?;
     match reply.status {
         StatusCode::OK => Ok(reply.text),
         StatusCode::NOT_FOUND => {
-            Err(format!("{address} is no status port that tells who holds what").into())
+            Err(format!("{port} is no status port that tells who holds what").into())
         }
-        _ => Err(format!("{address} does not tell: {}", reply.text.trim_end()).into()),
+        _ => Err(format!("{port} does not tell: {}", reply.text.trim_end()).into()),
     }
 }
 

@@ -8,20 +8,26 @@ mod locks;
 mod log;
 mod owner;
 mod pages;
+mod reload;
+mod reshard;
 mod restore;
 mod role;
+mod sealed;
 mod serve;
 mod settings;
 mod stand_by;
 mod status_port;
+mod tls_files;
 
 use clap::{ArgMatches, CommandFactory, FromArgMatches};
-use command_line::{Command, CommandLine, ServeOptions};
-use krl::{Address, StoreError};
+use command_line::{Command, CommandLine, ServeOptions, TlsOptions};
+use http::StatusPort;
+use krl::{Servers, StoreError};
 use settings::{BadSetting, Settings};
 use std::error::Error;
 use std::path::Path;
 use std::process::ExitCode;
+use tls_files::TlsFiles;
 
 /// The exit status if the command line, the environment or the configuration file is wrong.
 const USAGE: u8 = 2;
@@ -44,13 +50,21 @@ fn run(command: Command, matches: &ArgMatches) -> Result<ExitCode, Box<dyn Error
     match command {
         Command::Serve(options) => return Ok(serve::serve(&settings(&options, matches)?)),
         Command::Config(options) => print!("{}", settings(&options, matches)?),
-        Command::Status { address, json } => print!("{}", pages::fetch(&address, json)?),
+        Command::Status { address, tls, json } => {
+            print!("{}", pages::fetch(&StatusPort::new(&address, &tls)?, json)?);
+        }
         Command::Locks(options) => print!("{}", locks::ask(&options)?),
-        Command::Evict { address, number, lock_file } => evict(&address, number, &lock_file)?,
-        Command::Backup { address, file } => backup::ask(&address, &file)?,
+        Command::Evict { address, tls, number, lock_file } => {
+            evict(&address, &tls, number, &lock_file)?;
+        }
+        Command::Backup { address, tls, file } => {
+            backup::ask(&StatusPort::new(&address, &tls)?, &file)?;
+        }
         Command::Restore { file, store, clients_are_stopped } => {
             restore::restore(&file, &store, clients_are_stopped)?;
         }
+        Command::Split { store, at, new_store } => reshard::split(&store, at, &new_store)?,
+        Command::Merge { lower, upper, new_store } => reshard::merge(&lower, &upper, &new_store)?,
         Command::Check { file } => return check::check(&file),
     }
     Ok(ExitCode::SUCCESS)
@@ -60,14 +74,22 @@ fn settings(options: &ServeOptions, matches: &ArgMatches) -> Result<Settings, Ba
     Settings::of(options, matches)
 }
 
-fn evict(address: &str, number: u8, lock_file: &Path) -> Result<(), Box<dyn Error>> {
+fn evict(
+    address: &str,
+    tls: &TlsOptions,
+    number: u8,
+    lock_file: &Path,
+) -> Result<(), Box<dyn Error>> {
     eprintln!(
         "krl-server: client {number} must be dead: one that still runs would answer from its \
          cache what is not so"
     );
-    let server: Address =
+    let mut servers: Servers =
         address.parse().map_err(|error| BadSetting::new(format!("'{address}': {error}")))?;
-    krl::evict(server, number, lock_file)?;
+    if let Some(config) = TlsFiles::of(tls)?.read()? {
+        servers = servers.with_tls(config);
+    }
+    krl::evict(servers, number, lock_file)?;
     eprintln!("krl-server: client {number} has left");
     Ok(())
 }

@@ -1,6 +1,6 @@
 //! What the status port answers.
 use crate::backup::{self, Order};
-use crate::http;
+use crate::http::{self, StatusPort};
 use crate::locks::{self, Question};
 use crate::role::{Role, State};
 use hyper::header::{ACCEPT, ALLOW, CONTENT_TYPE};
@@ -45,26 +45,36 @@ impl Page {
 }
 
 /// The status of the server whose status port this is.
-pub fn fetch(address: &str, json: bool) -> Result<String, Box<dyn Error>> {
+pub fn fetch(port: &StatusPort, json: bool) -> Result<String, Box<dyn Error>> {
     let kind = if json { JSON } else { TEXT };
-    let reply = http::get(address, "/status", kind, WAIT)?;
+    let reply = http::get(port, "/status", kind, WAIT)?;
     if reply.status == StatusCode::OK {
         return Ok(reply.text);
     }
-    Err(format!("{address} is no status port of krl: it answered {}", reply.status).into())
+    Err(format!("{port} is no status port of krl: it answered {}", reply.status).into())
 }
 
-/// What a request of this peer is answered.
-pub async fn answer(request: Request<Body>, peer: IpAddr, role: Role) -> Response<Body> {
+/// Who asks.
+#[derive(Clone, Copy, Debug, PartialEq, Eq)]
+pub enum Asker {
+    /// One who has shown an operator's certificate.
+    Operator,
+    /// Whoever can connect from this address.
+    Unknown(IpAddr),
+}
+
+/// What a request is answered.
+pub async fn answer(request: Request<Body>, asker: Asker, role: Role) -> Response<Body> {
     let path = request.uri().path();
     let state = role.state();
     let State::Serves { monitor, .. } = state.clone() else {
         return response(without_a_server(path, accepts(&request), &state));
     };
     let page = match (request.method(), path) {
-        (&Method::POST, backup::PATH) if !may_order(peer) => Page::text(
+        (&Method::POST, backup::PATH) if !may_order(asker) => Page::text(
             StatusCode::FORBIDDEN,
-            "a backup is ordered on the server's machine, at a loopback address\n",
+            "a backup is ordered on the server's machine, at a loopback address, or by an operator \
+             over TLS\n",
         ),
         (&Method::POST, backup::PATH) => order(request, monitor).await,
         (_, backup::PATH) => return refused_method("POST"),
@@ -144,10 +154,13 @@ fn shown(path: &str, accepts: &str, monitor: &Monitor, state: &State) -> Page {
     }
 }
 
-/// Whether this peer may have the server write a file: the file is on the server's machine, and so
-/// is who wants it.
-fn may_order(peer: IpAddr) -> bool {
-    peer.to_canonical().is_loopback()
+/// Whether who asks may have the server write a file: an operator may, and who is on the server's
+/// machine, where the file will be.
+fn may_order(asker: Asker) -> bool {
+    match asker {
+        Asker::Operator => true,
+        Asker::Unknown(peer) => peer.to_canonical().is_loopback(),
+    }
 }
 
 /// Whether the server's loop turns.
@@ -221,9 +234,14 @@ fn as_json(status: &Status, state: &State) -> Page {
         "messages_taken_total": status.taken,
         "messages_sent_total": status.sent,
         "messages_refused_total": status.refused,
+        "denied_total": status.denied,
         "pushes_held_back_total": status.held_back,
         "changes_total": status.changes,
         "commits_total": status.commits,
+        "signs_total": status.signs,
+        "evicted_total": status.evicted,
+        "unleased": status.unleased,
+        "longest_lease_seconds": status.longest_lease.as_secs_f64(),
     });
     Page::new(StatusCode::OK, JSON, format!("{text:#}\n"))
 }
@@ -273,7 +291,7 @@ mod tests {
     use super::*;
 
     #[test]
-    fn only_the_servers_machine_orders_backups() {
+    fn the_servers_machine_and_operators_order_backups() {
         for (peer, may) in [
             ("127.0.0.1", true),
             ("127.8.9.1", true),
@@ -283,8 +301,9 @@ mod tests {
             ("::ffff:10.0.0.5", false),
             ("fe80::1", false),
         ] {
-            assert_eq!(may_order(peer.parse().unwrap()), may, "{peer}");
+            assert_eq!(may_order(Asker::Unknown(peer.parse().unwrap())), may, "{peer}");
         }
+        assert!(may_order(Asker::Operator));
     }
 
     #[test]
@@ -319,13 +338,20 @@ mod tests {
             waits_for: vec![0, 2],
         };
         let holdings = vec![HeldSlots { client: 2, slots: 7 }];
-        let status =
-            Status { epoch: 4, waits: vec![wait], holdings, commits: 9, ..Status::default() };
+        let status = Status {
+            epoch: 4,
+            waits: vec![wait],
+            holdings,
+            commits: 9,
+            unleased: vec![6],
+            ..Status::default()
+        };
         let page = as_json(&status, &State::Starts);
         let value: serde_json::Value = serde_json::from_str(&page.text).unwrap();
         assert_eq!(value["epoch"], 4);
         assert_eq!(value["phase"], "recovering");
         assert_eq!(value["commits_total"], 9);
+        assert_eq!((&value["unleased"], &value["evicted_total"]), (&json!([6]), &json!(0)));
         assert_eq!(value["waits"][0]["waits_for"], json!([0, 2]));
         assert_eq!(value["waits"][0]["waited_seconds"], 0.04);
         assert_eq!(value["holdings"], json!([{ "client": 2, "slots": 7 }]));

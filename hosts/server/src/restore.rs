@@ -3,7 +3,7 @@ use crate::cause;
 use crate::owner;
 use crate::settings::{BadSetting, StorePlace};
 use crate::stand_by;
-use krl::{END, Snapshot, SqliteStore};
+use krl::{END, LeaseRecord, Snapshot, SqliteStore};
 use krl_etcd::EtcdStore;
 use std::error::Error;
 use std::path::Path;
@@ -47,7 +47,7 @@ pub fn restore(backup: &Path, store: &StorePlace, are_stopped: bool) -> Result<(
         }
     };
     made.map_err(|error| cause(&error))?;
-    let Snapshot { epoch, rows, records } = snapshot;
+    let Snapshot { epoch, rows, records, .. } = snapshot;
     println!("{store}: {} rows, epoch {epoch} after {before}", rows.len());
     println!("clients that count as left: {}", records.len());
     Ok(())
@@ -64,6 +64,8 @@ fn restored(mut snapshot: Snapshot) -> Result<Snapshot, String> {
     for record in &mut snapshot.records {
         record.left = true;
     }
+    // A server after the backup may have granted longer leases, and none of them runs any more.
+    snapshot.leases = LeaseRecord::UNKNOWN;
     Ok(snapshot)
 }
 
@@ -82,6 +84,7 @@ mod tests {
                 record(1, None, true),
                 record(63, None, false),
             ],
+            ..Snapshot::default()
         }
     }
 

@@ -4,8 +4,8 @@ use crate::log;
 use crate::owner::Owner;
 use crate::role::Role;
 use crate::settings::{Settings, StatusAddress, StorePlace};
-use crate::{stand_by, status_port};
-use krl::{Listener, ServeError, Server, SqliteStore};
+use crate::{reload, stand_by, status_port};
+use krl::{Access, Listener, ServeError, Server, SqliteStore, Store};
 use sd_notify::NotifyState;
 use signal_hook::consts::{SIGINT, SIGTERM};
 use signal_hook::flag::{register, register_conditional_shutdown};
@@ -42,14 +42,17 @@ pub fn serve(settings: &Settings) -> ExitCode {
 
 fn run(settings: &Settings) -> Result<(), Box<dyn Error>> {
     let (signal, role) = (Signal::catch()?, Role::default());
-    if let StatusAddress::At(address) = settings.status.value {
-        let at = status_port::start(address, role.clone())
+    let tls = settings.access.tls()?;
+    let access = settings.access.access(tls.as_ref());
+    reload::start(tls.clone())?;
+    if let StatusAddress::At(address) = &settings.status.value {
+        let at = status_port::start(address, tls, role.clone())
             .map_err(|error| format!("can't serve the status at {address}: {error}"))?;
         tracing::info!(address = %at, "status port");
     }
     match &settings.store.value {
-        StorePlace::File(path) => serve_file(settings, path, &signal, &role)?,
-        StorePlace::Etcd(address) => stand_by::run(settings, address, &signal, &role)?,
+        StorePlace::File(path) => serve_file(settings, path, &access, &signal, &role)?,
+        StorePlace::Etcd(address) => stand_by::run(settings, address, &access, &signal, &role)?,
     }
     if let Some(signal) = signal.name() {
         tracing::info!(signal, "stopping");
@@ -61,6 +64,7 @@ fn run(settings: &Settings) -> Result<(), Box<dyn Error>> {
 fn serve_file(
     settings: &Settings,
     path: &Path,
+    access: &Access,
     signal: &Signal,
     role: &Role,
 ) -> Result<(), Box<dyn Error>> {
@@ -71,13 +75,26 @@ fn serve_file(
     })?;
     let listener = Listener::bind(listen)
         .map_err(|error| format!("can't listen for clients at {listen}: {error}"))?;
-    let server = Server::start(listener, store)?;
+    let server = start(settings, listener, (store, access))?;
     ready(settings, &server, role);
     until_it_ends(server, signal, |wait| {
         thread::sleep(wait);
         true
     })?;
     Ok(())
+}
+
+/// Starts a server that lets these in, with the leases of the settings.
+pub fn start(
+    settings: &Settings,
+    listener: Listener,
+    (store, access): (impl Store + 'static, &Access),
+) -> Result<Server, ServeError> {
+    let builder = Server::builder(listener, store).access(access.clone());
+    match settings.lease.value.with(settings.drift.value) {
+        Some(leases) => builder.leases(leases).start(),
+        None => builder.start(),
+    }
 }
 
 /// Tells the log, the status port and the service manager that the server serves.

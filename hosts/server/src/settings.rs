@@ -1,9 +1,11 @@
 //! The settings of a server, and where each comes from.
+mod access;
 pub mod key;
 mod value;
 
+pub use access::AccessSettings;
 pub use key::Key;
-pub use value::{LogFormat, Optional, Seconds, StatusAddress, StorePlace};
+pub use value::{Drift, LeaseLength, LogFormat, Optional, Seconds, StatusAddress, StorePlace};
 
 use crate::command_line::ServeOptions;
 use clap::ArgMatches;
@@ -40,6 +42,7 @@ pub enum Source {
 #[derive(Debug)]
 pub struct Settings {
     pub listen: Setting<Address>,
+    pub access: AccessSettings,
     pub store: Setting<StorePlace>,
     pub store_authority: Setting<Optional<PathBuf>>,
     pub store_certificate: Setting<Optional<PathBuf>>,
@@ -49,6 +52,8 @@ pub struct Settings {
     pub status: Setting<StatusAddress>,
     pub log_level: Setting<LevelFilter>,
     pub log_format: Setting<LogFormat>,
+    pub lease: Setting<LeaseLength>,
+    pub drift: Setting<Drift>,
 }
 
 /// What a configuration file may say.
@@ -56,6 +61,12 @@ pub struct Settings {
 #[serde(deny_unknown_fields, rename_all = "kebab-case")]
 struct ConfigFile {
     listen: Option<String>,
+    tls_authority: Option<String>,
+    tls_certificate: Option<String>,
+    tls_key: Option<String>,
+    table: Option<String>,
+    users: Option<String>,
+    plain_beyond_loopback: Option<String>,
     store: Option<String>,
     store_authority: Option<String>,
     store_certificate: Option<String>,
@@ -65,6 +76,8 @@ struct ConfigFile {
     status: Option<String>,
     log_level: Option<String>,
     log_format: Option<String>,
+    lease: Option<String>,
+    drift: Option<u32>,
 }
 
 /// A setting that can't be used: a sentence for the operator.
@@ -76,11 +89,12 @@ impl Settings {
     /// configuration file, then the default. `matches` says which option came from where.
     pub fn of(options: &ServeOptions, matches: &ArgMatches) -> Result<Settings, BadSetting> {
         let path = options.config.as_deref();
-        let file = path.map(ConfigFile::read).transpose()?.unwrap_or_default();
+        let mut file = path.map(ConfigFile::read).transpose()?.unwrap_or_default();
         let given = Given { matches, path };
         let seconds = file.election_lease.map(|seconds| seconds.to_string());
         let path = value::parse_optional_path;
-        Ok(Settings {
+        let settings = Settings {
+            access: AccessSettings::of(&given, options, &mut file)?,
             listen: given.setting(
                 &key::LISTEN,
                 options.listen.as_ref(),
@@ -141,7 +155,30 @@ impl Settings {
                 file.log_format,
                 value::parse_format,
             )?,
-        })
+            lease: given.setting(
+                &key::LEASE,
+                options.lease.as_ref(),
+                file.lease,
+                value::parse_lease,
+            )?,
+            drift: given.setting(
+                &key::DRIFT,
+                options.drift.as_ref(),
+                file.drift.map(|drift| drift.to_string()),
+                value::parse_drift,
+            )?,
+        };
+        settings.check()?;
+        Ok(settings)
+    }
+
+    /// Refuses what is told to be dangerous and was not allowed.
+    fn check(&self) -> Result<(), BadSetting> {
+        self.access.check(key::LISTEN.name, &self.listen.value)?;
+        match &self.status.value {
+            StatusAddress::At(address) => self.access.check(key::STATUS.name, address),
+            StatusAddress::Off => Ok(()),
+        }
     }
 }
 
@@ -219,6 +256,7 @@ impl std::error::Error for BadSetting {}
 impl fmt::Display for Settings {
     fn fmt(&self, f: &mut fmt::Formatter<'_>) -> fmt::Result {
         line(f, &key::LISTEN, &self.listen)?;
+        self.access.fmt(f)?;
         line(f, &key::STORE, &self.store)?;
         optional_line(f, &key::STORE_AUTHORITY, &self.store_authority)?;
         optional_line(f, &key::STORE_CERTIFICATE, &self.store_certificate)?;
@@ -229,9 +267,14 @@ impl fmt::Display for Settings {
         }
         line(f, &key::STATUS, &self.status)?;
         line(f, &key::LOG_LEVEL, &self.log_level)?;
-        line(f, &key::LOG_FORMAT, &self.log_format)
+        line(f, &key::LOG_FORMAT, &self.log_format)?;
+        line(f, &key::LEASE, &self.lease)?;
+        line(f, &key::DRIFT, &self.drift)
     }
 }
+
+/// The settings that are numbers in a file.
+const NUMBERS: [&str; 2] = [key::ELECTION_LEASE.name, key::DRIFT.name];
 
 fn line<T: fmt::Display>(
     f: &mut fmt::Formatter<'_>,
@@ -240,7 +283,7 @@ fn line<T: fmt::Display>(
 ) -> fmt::Result {
     let text = setting.value.to_string();
     let value = match text.parse() {
-        Ok(number) if key.name == key::ELECTION_LEASE.name => toml::Value::Integer(number),
+        Ok(number) if NUMBERS.contains(&key.name) => toml::Value::Integer(number),
         _ => toml::Value::String(text),
     };
     writeln!(f, "{} = {value} # {}", key.name, setting.source)

@@ -2,7 +2,7 @@
 use crate::role::Role;
 use crate::serve::{self, Ended, Signal};
 use crate::settings::{Key, Settings, key};
-use krl::{Listener, ServeError, Server, Store, StoreError};
+use krl::{Access, Listener, ServeError, Store, StoreError};
 use krl_etcd::{Credentials, Election, EtcdAddress, EtcdStore, Standing, Term};
 use std::error::Error;
 use std::path::PathBuf;
@@ -12,6 +12,7 @@ use std::time::Duration;
 pub fn run(
     settings: &Settings,
     address: &EtcdAddress,
+    access: &Access,
     signal: &Signal,
     role: &Role,
 ) -> Result<(), Box<dyn Error>> {
@@ -25,7 +26,7 @@ pub fn run(
         let Some(term) = election.campaign(&mut hears)? else { return Ok(()) };
         let mut store = EtcdStore::open(address, &credentials)?.with_commit_timeout(lease);
         store.concerns().iter().for_each(|concern| tracing::warn!("{concern}"));
-        let ended = serve_term(settings, store, &term, signal, role);
+        let ended = serve_term(settings, store, (access, &term), signal, role);
         role.ends();
         match ended {
             Ok(Ended::BySignal) => return Ok(()),
@@ -53,12 +54,13 @@ fn hear(standing: Standing<'_>, role: &Role, signal: &Signal) -> bool {
 fn serve_term(
     settings: &Settings,
     store: impl Store + 'static,
-    term: &Term,
+    (access, term): (&Access, &Term),
     signal: &Signal,
     role: &Role,
 ) -> Result<Ended, ServeError> {
     // Clients are refused at this address at all other times, and try the next one.
-    let server = Server::start(Listener::bind(&settings.listen.value)?, store)?;
+    let listener = Listener::bind(&settings.listen.value)?;
+    let server = serve::start(settings, listener, (store, access))?;
     serve::ready(settings, &server, role);
     let runs = |wait: Duration| term.runs_after(wait);
     serve::until_it_ends(server, signal, runs)

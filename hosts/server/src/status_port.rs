@@ -1,14 +1,18 @@
 //! The status port: HTTP in a thread of its own.
-use crate::pages;
+use crate::pages::{self, Asker};
 use crate::role::Role;
+use crate::sealed;
 use hyper::server::conn::Http;
 use hyper::service::service_fn;
+use krl::{Address, Listener, TlsConfig, TlsSession};
 use std::convert::Infallible;
-use std::io;
-use std::net::{SocketAddr, TcpListener};
+use std::io::{self, ErrorKind};
+use std::net::TcpListener;
 use std::sync::Arc;
 use std::thread;
 use std::time::Duration;
+use tokio::io::{AsyncRead, AsyncWrite};
+use tokio::net::TcpStream;
 use tokio::sync::Semaphore;
 use tokio::time::{sleep, timeout};
 
@@ -18,20 +22,34 @@ const MAX_CONNECTIONS: usize = 32;
 /// How long a peer may take to send the head of its request.
 const HEAD: Duration = Duration::from_secs(5);
 
+/// How long a hand-shake may take.
+const HANDSHAKE: Duration = Duration::from_secs(5);
+
 /// How long a connection may take in all.
 const WHOLE: Duration = Duration::from_secs(90);
 
 /// How long to wait before the next try when the system has no room for another connection.
 const PAUSE: Duration = Duration::from_millis(50);
 
-/// Serves the pages at the address, and says where it listens.
-pub fn start(address: SocketAddr, role: Role) -> io::Result<SocketAddr> {
-    let listener = TcpListener::bind(address)?;
+/// Serves the pages at the address, and says where it listens. At an address of TLS it shows this,
+/// and serves operators alone.
+pub fn start(address: &Address, tls: Option<TlsConfig>, role: Role) -> io::Result<Address> {
+    let listener = Listener::bind(address)?;
+    let at = listener.address()?;
+    let (listener, tls) = match (listener, tls) {
+        (Listener::Tcp(listener), _) => (listener, None),
+        (Listener::Tls(listener), Some(tls)) => (listener, Some(tls)),
+        (Listener::Tls(_), None) => {
+            return Err(refused(
+                "an address of TLS needs --tls-certificate and what belongs to it",
+            ));
+        }
+        _ => return Err(refused("it has to be an address of TCP or TLS")),
+    };
     listener.set_nonblocking(true)?;
-    let at = listener.local_addr()?;
     let runtime = tokio::runtime::Builder::new_current_thread().enable_all().build()?;
     let serves = move || {
-        if let Err(error) = runtime.block_on(serve(listener, role)) {
+        if let Err(error) = runtime.block_on(serve(listener, tls, role)) {
             tracing::error!(%error, "the status port ended");
         }
     };
@@ -39,7 +57,11 @@ pub fn start(address: SocketAddr, role: Role) -> io::Result<SocketAddr> {
     Ok(at)
 }
 
-async fn serve(listener: TcpListener, role: Role) -> io::Result<()> {
+fn refused(why: &str) -> io::Error {
+    io::Error::new(ErrorKind::InvalidInput, why)
+}
+
+async fn serve(listener: TcpListener, tls: Option<TlsConfig>, role: Role) -> io::Result<()> {
     let listener = tokio::net::TcpListener::from_std(listener)?;
     let places = Arc::new(Semaphore::new(MAX_CONNECTIONS));
     loop {
@@ -48,17 +70,40 @@ async fn serve(listener: TcpListener, role: Role) -> io::Result<()> {
             sleep(PAUSE).await;
             continue;
         };
-        let role = role.clone();
+        let (role, tls) = (role.clone(), tls.clone());
         tokio::spawn(async move {
             let _place = place;
-            let answer = service_fn(|request| {
-                let role = role.clone();
-                async move { Ok::<_, Infallible>(pages::answer(request, peer.ip(), role).await) }
-            });
-            let mut http = Http::new();
-            http.http1_only(true).http1_keep_alive(false).http1_header_read_timeout(HEAD);
-            // Who asks and goes away, or takes too long, gets no answer.
-            let _ = timeout(WHOLE, http.serve_connection(stream, answer)).await;
+            match tls {
+                None => answer(stream, Asker::Unknown(peer.ip()), role).await,
+                Some(tls) => answer_operator(stream, &tls, role).await,
+            }
         });
     }
+}
+
+/// Answers by TLS, if an operator is at the other end. Anybody else is closed.
+async fn answer_operator(stream: TcpStream, tls: &TlsConfig, role: Role) {
+    let Ok(session) = TlsSession::accept(tls) else { return };
+    let opened = timeout(HANDSHAKE, sealed::open(stream, session)).await;
+    match opened {
+        Ok(Ok((plain, peer))) if peer.is_operator() => answer(plain, Asker::Operator, role).await,
+        Ok(Ok((_, peer))) => tracing::warn!(%peer, "the status is for operators"),
+        Ok(Err(error)) => tracing::warn!(%error, "the status port refused a connection"),
+        Err(_) => {}
+    }
+}
+
+async fn answer(
+    stream: impl AsyncRead + AsyncWrite + Unpin + Send + 'static,
+    asker: Asker,
+    role: Role,
+) {
+    let answer = service_fn(|request| {
+        let role = role.clone();
+        async move { Ok::<_, Infallible>(pages::answer(request, asker, role).await) }
+    });
+    let mut http = Http::new();
+    http.http1_only(true).http1_keep_alive(false).http1_header_read_timeout(HEAD);
+    // Who asks and goes away, or takes too long, gets no answer.
+    let _ = timeout(WHOLE, http.serve_connection(stream, answer)).await;
 }

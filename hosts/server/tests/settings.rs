@@ -11,6 +11,8 @@ store = \"krl.db\" # by default
 status = \"127.0.0.1:7401\" # by default
 log-level = \"info\" # by default
 log-format = \"text\" # by default
+lease = \"10s\" # by default
+drift = 25 # by default
 ";
 
 fn file(folder: &Path, text: &str) -> String {
@@ -41,10 +43,16 @@ fn a_flag_comes_before_the_environment_and_that_before_the_file() {
         "listen = \"127.0.0.1:1\"\n\
          store = \"1.db\"\n\
          status = \"127.0.0.1:1\"\n\
-         log-level = \"warn\"\n",
+         log-level = \"warn\"\n\
+         lease = \"500ms\"\n\
+         drift = 7\n",
     );
     let mut command = program();
-    command.env("KRL_LISTEN", "127.0.0.1:2").env("KRL_STORE", "2.db").env("KRL_STATUS", "off");
+    command
+        .env("KRL_DRIFT", "30")
+        .env("KRL_LISTEN", "127.0.0.1:2")
+        .env("KRL_STORE", "2.db")
+        .env("KRL_STATUS", "off");
     command.args(["config", "--config", &path, "--listen", "unix:/run/krl", "--status", "[::1]:3"]);
     let output = command.output().unwrap();
     let expected = format!(
@@ -52,7 +60,9 @@ fn a_flag_comes_before_the_environment_and_that_before_the_file() {
          store = \"2.db\" # from the environment, KRL_STORE\n\
          status = \"[::1]:3\" # from the flag --status\n\
          log-level = \"warn\" # from the file {path}\n\
-         log-format = \"text\" # by default\n"
+         log-format = \"text\" # by default\n\
+         lease = \"500ms\" # from the file {path}\n\
+         drift = 30 # from the environment, KRL_DRIFT\n"
     );
     assert_eq!((text(&output), output.status.code()), (expected, Some(0)));
 }
@@ -81,6 +91,7 @@ fn a_bad_value_is_told_with_its_key_and_what_is_expected() {
         ("status", "127.0.0.1", "127.0.0.1:7401, or off"),
         ("log-level", "loud", "error, warn, info, debug or trace"),
         ("log-format", "xml", "text or json"),
+        ("lease", "10", "such as 10s or 500ms"),
     ] {
         let found = format!("{key} is '{value}'");
         let flag = format!("--{key}");
@@ -114,7 +125,7 @@ fn the_packaged_file_sets_each_key() {
     let output = run(&["config", "--config", path]);
     let end = format!("# from the file {path}");
     let said = text(&output);
-    assert_eq!((said.lines().count(), output.status.code()), (5, Some(0)), "{}", errors(&output));
+    assert_eq!((said.lines().count(), output.status.code()), (7, Some(0)), "{}", errors(&output));
     assert!(said.lines().all(|line| line.ends_with(&end)), "{said}");
 }
 

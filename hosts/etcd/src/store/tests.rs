@@ -1,7 +1,7 @@
 //! What is committed is what is loaded, and who commits. They start a node of etcd.
 use super::*;
 use crate::cluster::Cluster;
-use krl::{Row, Value};
+use krl::{ClientSet, Row, Value};
 use std::thread;
 
 fn row(key: u64, bytes: &[u8]) -> Row {
@@ -14,6 +14,10 @@ fn judged(number: u64, write: Write, outcome: Outcome) -> Change {
 
 fn put(number: u64, value: u64) -> Change {
     judged(number, Write::Put(Row { key: 10, value: value.into() }), Outcome::Applied)
+}
+
+fn leased(longest: u64, unleased: u64) -> Change {
+    Change::Leased(LeaseRecord { longest, unleased: ClientSet::of_bits(unleased) })
 }
 
 fn changes() -> Vec<Change> {
@@ -29,7 +33,9 @@ fn changes() -> Vec<Change> {
         judged(5, Write::Delete(10), Outcome::Applied),
         Change::Registered { client: 2, incarnation: u64::MAX },
         Change::Registered { client: 9, incarnation: 6 },
+        leased(10_000_000_000, 1 << 63 | 5),
         Change::Started { epoch: 2 },
+        leased(u64::MAX, 0),
     ]
 }
 
@@ -210,6 +216,7 @@ fn what_no_server_commits_is_not_loaded() {
         ("head", "head", b"krl2 1 0 0 0 0"),
         ("other", "something", b""),
         ("headless", "client/03", b"0 1 0 - here"),
+        ("lease", "lease", b"10 5"),
     ] {
         let mut store = open(&cluster.address(table));
         let set = request::put(&store.key(name), value);

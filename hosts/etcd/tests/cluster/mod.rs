@@ -1,6 +1,10 @@
 //! A cluster of one node, for tests.
 #![allow(dead_code, reason = "each test uses a part of it")]
+mod authority;
+
+pub use authority::Authority;
 use krl_etcd::EtcdAddress;
+use serde_json::Value as Json;
 use std::path::PathBuf;
 use std::process::{Child, Command, Stdio};
 use std::sync::atomic::{AtomicU32, Ordering};
@@ -15,6 +19,9 @@ pub struct Cluster {
     node: Child,
     folder: PathBuf,
     endpoint: String,
+    is_secure: bool,
+    /// Where it says by plain HTTP whether it is well.
+    health: String,
 }
 
 static COUNT: AtomicU32 = AtomicU32::new(0);
@@ -22,9 +29,18 @@ static COUNT: AtomicU32 = AtomicU32::new(0);
 impl Cluster {
     /// A new cluster, or none if etcd is not there.
     pub fn start() -> Option<Cluster> {
+        Cluster::start_with(None)
+    }
+
+    /// One that speaks TLS, and takes clients alone that have a certificate of this authority.
+    pub fn start_secure(authority: &Authority) -> Option<Cluster> {
+        Cluster::start_with(Some(authority))
+    }
+
+    fn start_with(authority: Option<&Authority>) -> Option<Cluster> {
         // Another process may take a free address before the node does.
         for _ in 0..5 {
-            let mut cluster = Cluster::start_once()?;
+            let mut cluster = Cluster::start_once(authority)?;
             if cluster.answers() {
                 return Some(cluster);
             }
@@ -32,33 +48,37 @@ impl Cluster {
         panic!("etcd ends again and again")
     }
 
-    fn start_once() -> Option<Cluster> {
+    fn start_once(authority: Option<&Authority>) -> Option<Cluster> {
         let count = COUNT.fetch_add(1, Ordering::Relaxed);
         let name = format!("krl-etcd-{}-{count}", std::process::id());
         let folder = std::env::temp_dir().join(name);
-        let (client, peer) = (free_address(), free_address());
-        let (endpoint, peer) = (client.clone(), format!("http://{peer}"));
-        let client = format!("http://{client}");
-        let node = Command::new("etcd")
-            .args(["--name", "one", "--log-level", "error", "--data-dir"])
-            .arg(&folder)
-            .args(["--listen-client-urls", &client, "--advertise-client-urls", &client])
-            .args(["--listen-peer-urls", &peer, "--initial-advertise-peer-urls", &peer])
-            .args(["--initial-cluster", &format!("one={peer}")])
-            .stdout(Stdio::null())
-            .stderr(Stdio::null())
-            .spawn();
-        let Ok(node) = node else {
+        let (endpoint, peer) = (free_address(), format!("http://{}", free_address()));
+        let scheme = if authority.is_some() { "https" } else { "http" };
+        let (client, health) = (format!("{scheme}://{endpoint}"), free_address());
+        let mut command = Command::new("etcd");
+        command.args(["--name", "one", "--log-level", "error", "--data-dir"]).arg(&folder);
+        command.args(["--listen-client-urls", &client, "--advertise-client-urls", &client]);
+        command.args(["--listen-peer-urls", &peer, "--initial-advertise-peer-urls", &peer]);
+        command.args(["--initial-cluster", &format!("one={peer}")]);
+        command.args(["--listen-metrics-urls", &format!("http://{health}")]);
+        if let Some(authority) = authority {
+            let (certificate, key) = authority.node();
+            command.arg("--cert-file").arg(certificate).arg("--key-file").arg(key);
+            command.arg("--trusted-ca-file").arg(authority.certificate());
+            command.arg("--client-cert-auth");
+        }
+        let Ok(node) = command.stdout(Stdio::null()).stderr(Stdio::null()).spawn() else {
             eprintln!("NOT RUN: there is no etcd");
             return None;
         };
-        Some(Cluster { node, folder, endpoint })
+        let is_secure = authority.is_some();
+        Some(Cluster { node, folder, endpoint, is_secure, health })
     }
 
     /// Waits until the node answers. It says no if the node has ended.
     fn answers(&mut self) -> bool {
         let end = Instant::now() + Duration::from_secs(60);
-        let health = format!("http://{}/health", self.endpoint);
+        let health = format!("http://{}/health", self.health);
         while ureq::get(&health).call().is_err() {
             if self.node.try_wait().unwrap().is_some() {
                 return false;
@@ -71,7 +91,22 @@ impl Cluster {
 
     /// The place of a table in the cluster.
     pub fn address(&self, table: &str) -> EtcdAddress {
-        format!("etcd://{}/krl/{table}", self.endpoint).parse().unwrap()
+        let scheme = if self.is_secure { "etcds" } else { "etcd" };
+        format!("{scheme}://{}/krl/{table}", self.endpoint).parse().unwrap()
+    }
+
+    /// Calls the node, which speaks no TLS.
+    pub fn ask(&self, path: &str, body: &Json) -> Json {
+        let request = ureq::post(&format!("http://{}/v3/{path}", self.endpoint));
+        answer_to(request, body)
+    }
+
+    /// The same, as this user.
+    pub fn ask_as(&self, user: &str, password: &str, path: &str, body: &Json) -> Json {
+        let asked = serde_json::json!({"name": user, "password": password});
+        let token = self.ask("auth/authenticate", &asked)["token"].as_str().unwrap().to_string();
+        let request = ureq::post(&format!("http://{}/v3/{path}", self.endpoint));
+        answer_to(request.set("Authorization", &token), body)
     }
 
     /// Stops the node where it is, and lets it go on.
@@ -93,4 +128,9 @@ impl Drop for Cluster {
 /// An address at which nobody listens.
 pub fn free_address() -> String {
     ports::free_address().unwrap().to_string()
+}
+
+fn answer_to(request: ureq::Request, body: &Json) -> Json {
+    let answer = request.send_string(&body.to_string()).unwrap();
+    serde_json::from_reader(answer.into_reader()).unwrap()
 }

@@ -1,5 +1,7 @@
 use super::world::{ALL, LAST, Scanned, World, are_rows};
 use super::*;
+use crate::lease::Grant;
+use std::cell::Cell;
 use std::sync::Barrier;
 use std::sync::atomic::{AtomicBool, AtomicU64, Ordering};
 use std::sync::mpsc::channel;
@@ -166,4 +168,26 @@ fn a_scan_makes_the_room_that_it_needs() {
     assert!(rows.is_empty());
     let reversed = Range { start: 6, end: 5 };
     assert_eq!(world.scanned.scan(&reversed, &mut rows), Err(Code::BadSpan));
+}
+
+#[test]
+fn rows_count_only_if_the_lease_holds_behind_them() {
+    let mut lease = Lease::new(3, 1, Older::Unknown);
+    let sign = lease.greet(Moment::of_nanoseconds(1000)).unwrap();
+    let grant = Grant { incarnation: 1, stamp: sign.stamp, length: 600 };
+    assert!(lease.take(grant, Moment::of_nanoseconds(1001)));
+    // The scan goes on until the second of these moments.
+    for (begun, ended, expected) in
+        [(1100, 1599, Scan::Rows), (1100, 1600, Scan::Ended), (1700, 1700, Scan::Ended)]
+    {
+        let time = Cell::new(begun);
+        let scan = || {
+            time.set(ended);
+            Ok(Scan::Rows)
+        };
+        let clock = || Ok(Moment::of_nanoseconds(time.get()));
+        assert_eq!(found_by_lease(scan, &lease.end(), clock), Ok(expected));
+    }
+    let fails = || Err(std::io::ErrorKind::Other.into());
+    assert_eq!(found_by_lease(|| Ok(Scan::Rows), &lease.end(), fails), Ok(Scan::Ended));
 }

@@ -4,12 +4,15 @@ use std::os::unix::net::UnixStream;
 use std::sync::mpsc::channel;
 use std::thread;
 
+const HELLO: FromServer = FromServer::Hello { answers_signs: true };
+
 const MARK: Mark = Mark { start: 7, commits: 3 };
 
 fn connection() -> (Connection, UnixStream) {
     let (ours, theirs) = UnixStream::pair().unwrap();
     theirs.set_nonblocking(true).unwrap();
-    (Connection::new(Stream::Unix(ours), Instant::now()).unwrap(), theirs)
+    let entry = Entry::Known(Identity::everybody());
+    (Connection::new(Stream::Unix(ours), entry, Instant::now()).unwrap(), theirs)
 }
 
 fn send(connection: &mut Connection, frame: &[u8], mark: Option<Mark>) {
@@ -36,9 +39,9 @@ fn heard(connection: &mut Connection, peer: &mut UnixStream) -> Vec<u8> {
 fn a_host_hears_of_itself_then_of_the_store_and_then_all_else() {
     let (mut connection, mut peer) = connection();
     connection.tell(b"told");
-    connection.greet(FromServer::Hello);
+    connection.greet(HELLO);
     send(&mut connection, b"said", Some(MARK));
-    let hello = FromServer::Hello.frame();
+    let hello = HELLO.frame();
     let news = FromServer::Mark(MARK).frame();
     assert_eq!(heard(&mut connection, &mut peer), [&hello[..], &news, b"told", b"said"].concat());
     // What it knows is not told again.
@@ -67,7 +70,7 @@ fn a_host_whose_store_went_back_hears_that_and_no_mark() {
 #[test]
 fn a_batch_that_is_lost_is_lost_whole() {
     let (mut connection, mut peer) = connection();
-    connection.greet(FromServer::Hello);
+    connection.greet(HELLO);
     while !connection.outgoing.is_full() {
         send(&mut connection, &[0; 1 << 12], None);
     }
@@ -84,12 +87,12 @@ fn a_batch_that_is_lost_is_lost_whole() {
 fn a_refusal_is_told_once_a_second() {
     let (mut connection, mut peer) = connection();
     let (refusal, start) = (Refusal::Version { read: 1 }, Instant::now());
-    connection.greet(FromServer::Hello);
+    connection.greet(HELLO);
     for after in [0, 0, 500] {
         connection.refuse(refusal, start + Duration::from_millis(after));
     }
     send(&mut connection, &[], None);
-    let once = [FromServer::Hello.frame(), FromServer::Refused(refusal).frame()].concat();
+    let once = [HELLO.frame(), FromServer::Refused(refusal).frame()].concat();
     assert_eq!(heard(&mut connection, &mut peer), once);
 }
 

@@ -1,8 +1,11 @@
 use super::*;
+use crate::strangers::PATIENCE;
 use std::io::{Read, Write};
 use std::net::{SocketAddr, TcpListener, TcpStream};
 use std::sync::mpsc::channel;
 use std::thread;
+
+const HELLO: FromServer = FromServer::Hello { answers_signs: true };
 
 const SOON: Duration = Duration::from_secs(10);
 
@@ -15,7 +18,8 @@ const STALL: Duration = Duration::from_secs(6);
 fn connections() -> (Connections, SocketAddr, Arc<Waker>) {
     let listener = TcpListener::bind("127.0.0.1:0").unwrap();
     let at = listener.local_addr().unwrap();
-    let (connections, waker) = Connections::new(listener.into(), MAX_CONNECTIONS).unwrap();
+    let (connections, waker) =
+        Connections::new(listener.into(), MAX_CONNECTIONS, Access::new()).unwrap();
     (connections, at, waker)
 }
 
@@ -164,6 +168,8 @@ fn a_peer_that_takes_nothing_stops_nobody_and_costs_a_bounded_room() {
     assert!(waits < 4 * LARGE, "{waits} bytes wait");
     // The other one hears what is said to it.
     let (mut stream, other) = peer(&mut connections, at);
+    stream.write_all(&frame(b"here")).unwrap();
+    assert_eq!(hear(&mut connections), Some((other, b"here".to_vec())));
     connections.route(4, other);
     let mut sending = connections.send(None);
     sending.put(4, &frame(b"one"));
@@ -202,13 +208,42 @@ fn a_peer_that_was_stuck_gets_what_waited_when_it_reads() {
 #[test]
 fn a_silent_peer_is_closed_in_its_time() {
     let (mut connections, at, _) = connections();
-    let (_silent, _) = peer(&mut connections, at);
+    let (mut silent, _) = peer(&mut connections, at);
+    silent.write_all(&frame(b"one")).unwrap();
+    assert!(hear(&mut connections).is_some());
     connections.now = Instant::now() + LONG / 2;
     connections.close_dead();
     assert_eq!(connections.count(), 1);
     connections.now = Instant::now() + LONG;
     connections.close_dead();
     assert_eq!(connections.count(), 0);
+}
+
+#[test]
+fn one_that_has_said_no_whole_frame_is_closed_in_a_shorter_time() {
+    let (mut connections, at, _) = connections();
+    let (mut stranger, _) = peer(&mut connections, at);
+    stranger.write_all(&frame(b"half")[..10]).unwrap();
+    assert_eq!(hear(&mut connections), None);
+    connections.close_dead();
+    assert_eq!(connections.count(), 1);
+    connections.now = Instant::now() + PATIENCE;
+    connections.close_dead();
+    assert_eq!(connections.count(), 0);
+}
+
+#[test]
+fn a_stranger_makes_room_for_one_more_and_who_has_spoken_does_not() {
+    let (mut connections, at, _) = connections();
+    let (mut known, first) = peer(&mut connections, at);
+    known.write_all(&frame(b"one")).unwrap();
+    assert!(hear(&mut connections).is_some());
+    let mut streams: Vec<_> = (0..70).map(|_| peer(&mut connections, at)).collect();
+    assert_eq!(connections.count(), 1 + 64, "so many strangers are of one network");
+    assert!(connections.open.contains_key(&first));
+    let (newest, number) = streams.last_mut().unwrap();
+    newest.write_all(&frame(b"two")).unwrap();
+    assert_eq!(hear(&mut connections), Some((*number, b"two".to_vec())));
 }
 
 #[test]
@@ -231,7 +266,7 @@ fn what_is_told_leaves_with_the_next_batch_and_not_before() {
     let (mut connections, at, _) = connections();
     let (mut stream, number) = peer(&mut connections, at);
     connections.tell(number, &frame(b"told"));
-    connections.greet(number, FromServer::Hello);
+    connections.greet(number, HELLO);
     connections.refuse(number, Refusal::Version { read: 1 });
     stream.write_all(&frame(b"one")).unwrap();
     assert!(hear(&mut connections).is_some());
@@ -239,7 +274,7 @@ fn what_is_told_leaves_with_the_next_batch_and_not_before() {
     assert!(stream.peek(&mut [0]).is_err());
     connections.send(None).end();
     stream.set_nonblocking(false).unwrap();
-    let hello = FromServer::Hello.frame();
+    let hello = HELLO.frame();
     let mut heard = vec![0; hello.len()];
     stream.read_exact(&mut heard).unwrap();
     assert_eq!(heard, hello);

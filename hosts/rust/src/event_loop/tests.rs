@@ -1,20 +1,37 @@
 use super::*;
+use crate::access::Access;
+use crate::address::Address;
+use crate::boot_clock::Moment;
 use crate::change::Snapshot;
+use crate::lease::Older;
+use crate::lease_record::LeaseRecord;
+use crate::leases::{Answer, Leases};
+use crate::refusal::ClientSet;
 use crate::requests::Requests;
 use crate::store::{MemoryStore, StoreError};
-use crate::stream::Address;
 use std::io::{Read, Write};
 use std::net::{TcpListener, TcpStream};
+use std::sync::atomic::{AtomicBool, Ordering};
 
 /// A Hello of client 50, incarnation 1, in its frame.
 const HELLO: [u8; 26] =
     [18, 0, 0, 0, 0, 0, 0, 0, 1, 0, 50, 0, 0, 0, 0, 0, 0, 0, 1, 0, 0, 0, 0, 0, 0, 0];
+
+/// The length of a lease, in milliseconds.
+const LEASE: u64 = 300;
+
+/// What the store has of leases: nobody is without.
+const KEPT: LeaseRecord =
+    LeaseRecord { longest: LEASE * 1_000_000, unleased: ClientSet::of_bits(0) };
 
 /// A store that sees, as it commits, how much its peer has heard by then.
 struct Watching {
     store: MemoryStore,
     peer: TcpStream,
     heard: Arc<Mutex<Vec<usize>>>,
+    /// What was committed, batch by batch.
+    batches: Arc<Mutex<Vec<Vec<Change>>>>,
+    is_deposed: Arc<AtomicBool>,
 }
 
 impl Store for Watching {
@@ -26,6 +43,10 @@ impl Store for Watching {
         // Whatever was sent is there by now, over a socket of this machine.
         let heard = self.peer.peek(&mut [0; 64]).unwrap_or(0);
         self.heard.lock().unwrap().push(heard);
+        if self.is_deposed.load(Ordering::SeqCst) {
+            return Err(StoreError::Deposed("another one".into()));
+        }
+        self.batches.lock().unwrap().push(changes.to_vec());
         self.store.commit(changes)
     }
 
@@ -43,12 +64,18 @@ fn event_loop() -> (EventLoop<Watching>, TcpStream, Arc<Mutex<Vec<usize>>>) {
     let mut store = MemoryStore::default();
     let (server, epoch) = ServerHandle::open(&store.load().unwrap()).unwrap();
     store.commit(&[Change::Started { epoch }]).unwrap();
-    let store = Watching { store, peer: peer.try_clone().unwrap(), heard: Arc::clone(&heard) };
-    let (connections, waker) = Connections::new(listener.into(), 4).unwrap();
+    let (batches, is_deposed) = Default::default();
+    let (own, shared) = (peer.try_clone().unwrap(), Arc::clone(&heard));
+    let store = Watching { store, peer: own, heard: shared, batches, is_deposed };
+    let (connections, waker) = Connections::new(listener.into(), 4, Access::new()).unwrap();
     let (_, asked) = Requests::new(waker);
     let log = EventLog::started(epoch, &Address::Unix("nowhere".into()), 0, &[]);
     let (stored, heard_of) = ((store, None), (connections, asked));
-    let events = EventLoop::new(server, stored, heard_of, Arc::new(Timings::new()), epoch, log);
+    let now = Moment::now().unwrap();
+    let terms = Leases::of(Duration::from_millis(LEASE)).unwrap().with_drift(0).unwrap();
+    let leases = LeaseTable::start(KEPT, &[], Some(terms), now);
+    let timings = Arc::new(Timings::new());
+    let events = EventLoop::new(server, stored, heard_of, leases, timings, epoch, log);
     (events, peer, heard)
 }
 
@@ -104,4 +131,97 @@ fn a_server_that_begins_to_serve_says_so_at_once() {
     events.show_if_due(is_news, &shown);
     assert!(shown.lock().unwrap().is_serving);
     assert!(!events.see_phase(), "it is told once");
+}
+
+/// The first sign of an incarnation of client 50, in its frame.
+fn sign_of(incarnation: u64) -> Vec<u8> {
+    let stamp = Moment::of_nanoseconds(5);
+    Sign { client: 50, incarnation, stamp, length: 0, older: Older::Unknown }.frame()
+}
+
+/// That of incarnation 1.
+fn sign() -> Vec<u8> {
+    sign_of(1)
+}
+
+/// Takes turns until the store was asked so often.
+fn turns_until(events: &mut EventLoop<Watching>, asked: usize) -> Result<(), ServeError> {
+    let heard = Arc::clone(&events.store.heard);
+    while heard.lock().unwrap().len() < asked {
+        events.turn()?;
+    }
+    Ok(())
+}
+
+#[test]
+fn terms_leave_when_the_store_was_asked() {
+    let (mut events, mut peer, heard) = event_loop();
+    peer.write_all(&sign()).unwrap();
+    turns_until(&mut events, 1).unwrap();
+    assert_eq!(heard.lock().unwrap()[..], [0]);
+    let mut told = [0; 64];
+    let length = peer.read(&mut told).unwrap();
+    let (answer, _) = frames::split(&told[..length]).next().unwrap();
+    assert!(matches!(Answer::read(answer), Some(Answer::Granted(_))));
+}
+
+#[test]
+fn a_server_behind_which_another_one_started_grants_nothing() {
+    let (mut events, mut peer, _) = event_loop();
+    events.store.is_deposed.store(true, Ordering::SeqCst);
+    peer.write_all(&sign()).unwrap();
+    let ended = turns_until(&mut events, 2).unwrap_err();
+    assert!(matches!(ended, ServeError::Store(StoreError::Deposed(_))), "{ended}");
+    assert!(peer.peek(&mut [0; 64]).is_err(), "nothing was told");
+}
+
+#[test]
+fn what_is_stored_of_leases_comes_before_the_registration() {
+    let (mut events, mut peer, _) = event_loop();
+    // A host that has said no sign.
+    peer.write_all(&HELLO).unwrap();
+    turns_until(&mut events, 1).unwrap();
+    let unleased = LeaseRecord { unleased: [50].into_iter().collect(), ..KEPT };
+    let registered = Change::Registered { client: 50, incarnation: 1 };
+    let batches = events.store.batches.lock().unwrap().clone();
+    assert_eq!(batches, [vec![Change::Leased(unleased), registered]]);
+}
+
+#[test]
+fn an_eviction_is_committed_with_its_turn() {
+    let (mut events, mut peer, _) = event_loop();
+    peer.write_all(&[sign(), HELLO.to_vec()].concat()).unwrap();
+    turns_until(&mut events, 1).unwrap();
+    let begun = Instant::now();
+    while events.status.evicted == 0 {
+        events.turn().unwrap();
+    }
+    assert!(begun.elapsed() >= Duration::from_millis(LEASE - 50), "{:?}", begun.elapsed());
+    let batches = events.store.batches.lock().unwrap().clone();
+    let successor = Change::Registered { client: 50, incarnation: 2 };
+    assert_eq!(batches.last().unwrap()[..2], [successor, Change::Left { client: 50 }]);
+    // Its sign is answered by the word that it has ended.
+    let mut told = [0; 1024];
+    let _ = peer.read(&mut told);
+    peer.write_all(&sign()).unwrap();
+    let asked = events.store.heard.lock().unwrap().len();
+    turns_until(&mut events, asked + 1).unwrap();
+    let length = peer.read(&mut told).unwrap();
+    let ended = frames::split(&told[..length]).find_map(|(frame, _)| Answer::read(frame));
+    assert_eq!(ended, Some(Answer::Ended { incarnation: 1 }));
+}
+
+#[test]
+fn the_greatest_incarnation_is_not_evicted_and_ends_no_server() {
+    const GREATEST: u64 = (1 << 63) - 1;
+    let (mut events, mut peer, _) = event_loop();
+    let hello = [&HELLO[..18], &GREATEST.to_le_bytes()].concat();
+    peer.write_all(&[sign_of(GREATEST), hello].concat()).unwrap();
+    turns_until(&mut events, 1).unwrap();
+    let end = Instant::now() + Duration::from_millis(2 * LEASE);
+    while Instant::now() < end {
+        events.turn().unwrap();
+    }
+    let record = events.server.record(50).unwrap().unwrap();
+    assert_eq!((record.incarnation, record.left, events.status.evicted), (GREATEST, false, 0));
 }

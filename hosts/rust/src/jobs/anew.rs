@@ -1,10 +1,43 @@
-//! A client whose server's store went back: it drops what it knows, and begins anew.
+//! A client whose server's store went back, or whose lease has ended: it drops what it knows, and
+//! begins anew.
 use super::{Asking, Job, Jobs, Stage};
 use crate::client_handle::ClientHandle;
 use crate::pins::Pins;
 use crate::refused::Refused;
 
+/// Why a client has dropped all.
+#[derive(Clone, Copy, Debug, PartialEq, Eq)]
+pub(crate) enum Dropped {
+    StoreWentBack,
+    LeaseEnded,
+}
+
+impl Dropped {
+    /// What is told to who waits and can't go on.
+    pub fn refused(self) -> Refused {
+        match self {
+            Dropped::StoreWentBack => Refused::StoreWentBack,
+            Dropped::LeaseEnded => Refused::LeaseEnded,
+        }
+    }
+}
+
 impl Job {
+    /// What becomes of a job that is open as the client drops all. Behind the end of a lease it goes
+    /// on from its start. If the store went back, only those go on that join and leave.
+    fn behind(self, why: Dropped) -> Option<Job> {
+        match (self, why) {
+            (Job::Hold(taking, reply), Dropped::LeaseEnded) => {
+                Some(Job::Hold(taking.begun_again(), reply))
+            }
+            (job @ (Job::Join(_) | Job::Leave(_)), _) | (job, Dropped::LeaseEnded) => Some(job),
+            (job, Dropped::StoreWentBack) => {
+                job.refuse(why.refused());
+                None
+            }
+        }
+    }
+
     fn refuse(self, why: Refused) {
         match self {
             Job::Join(reply) | Job::Forget(_, reply) | Job::Leave(reply) => reply.end(Err(why)),
@@ -16,15 +49,14 @@ impl Job {
 }
 
 impl Jobs {
-    /// The server's store went back: the client drops all that it holds and knows, as if it had
-    /// crashed, and is void until it begins anew: it answers nothing, says nothing and takes
-    /// nothing. The jobs that are open end, but those that join and leave. One that has left has
-    /// nothing to drop.
-    pub fn drop_all(&mut self) {
+    /// The client drops all that it holds and knows, as if it had crashed, and is void until it
+    /// begins anew: it answers nothing, says nothing and takes nothing. A write that is on its way
+    /// ends: whether it is done is not known. One that has left has nothing to drop.
+    pub fn drop_all(&mut self, why: Dropped) {
         if matches!(self.stage, Stage::Gone | Stage::Ended) {
             return;
         }
-        self.is_void = true;
+        self.void = Some(why);
         self.client.replace(ClientHandle::closed());
         if self.stage == Stage::Leaving {
             self.stage = Stage::Returning;
@@ -34,13 +66,10 @@ impl Jobs {
         self.owed.clear();
         self.asker = None;
         if let Some(written) = self.written.take() {
-            written.refuse(Refused::StoreWentBack);
+            written.refuse(why.refused());
         }
         for (id, job) in std::mem::take(&mut self.open) {
-            match job {
-                Job::Join(_) | Job::Leave(_) => self.open.push((id, job)),
-                job => job.refuse(Refused::StoreWentBack),
-            }
+            self.open.extend(job.behind(why).map(|job| (id, job)));
         }
         self.is_changed = true;
         self.tell_changes();
@@ -48,13 +77,22 @@ impl Jobs {
 
     /// Whether the client has to begin anew.
     pub fn is_void(&self) -> bool {
-        self.is_void
+        self.void.is_some()
+    }
+
+    /// Whether a client that leaves has to join first, since the server may know it by an older
+    /// incarnation alone.
+    pub(super) fn has_to_return(&self) -> bool {
+        let has_joined = self.client.status().is_ok_and(|shown| shown.epoch > 0);
+        self.is_void() || self.has_begun_anew && !has_joined
     }
 
     /// Goes on as a client of a greater incarnation, which has not joined yet.
     pub fn begin_anew(&mut self, client: ClientHandle) {
+        self.incarnation = client.lease().incarnation();
         self.client.replace(client);
-        self.is_void = false;
+        self.void = None;
+        self.has_begun_anew = true;
         self.advance(Asking::Later);
     }
 }

@@ -35,6 +35,12 @@ pub(super) struct Taking {
 }
 
 impl Taking {
+    /// The same, of which nothing is held and nothing is pinned.
+    pub(super) fn begun_again(self) -> Taking {
+        let Taking { keys, purpose, .. } = self;
+        Taking { next: keys.start, keys, purpose, pin: None, asked: None }
+    }
+
     fn mode(&self) -> Mode {
         match self.purpose {
             Purpose::Read => Mode::RangeSS,
@@ -80,7 +86,7 @@ impl Jobs {
         let known = match self.client.scan(&taking.keys, &mut rows)? {
             Scan::Rows => taking.keys.end,
             Scan::Miss(point) => point,
-            Scan::Pending => return Ok(None),
+            Scan::Pending | Scan::Ended => return Ok(None),
         };
         let held = match taking.purpose {
             Purpose::Read => known,
@@ -132,7 +138,7 @@ impl Jobs {
         if end <= taking.next {
             return Ok(());
         }
-        let wider = self.pin(taking.keys.start..end)?;
+        let wider = self.add_pin(taking.keys.start..end)?;
         taking.next = end;
         if let Some(narrower) = taking.pin.replace(wider) {
             // What was called back of it, the wider one remembers.

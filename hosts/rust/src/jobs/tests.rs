@@ -83,7 +83,7 @@ fn a_cache_knows_nothing_of_what_was_dropped() {
     let (keys, mut rows) = (0..30, Vec::new());
     world.read(0, keys.clone());
     assert_eq!(cache.scan(&keys, &mut rows), Ok(Scan::Rows));
-    world.clients[0].drop_all();
+    world.clients[0].drop_all(Dropped::StoreWentBack);
     assert_eq!(cache.scan(&keys, &mut rows), Err(Code::Closed));
     world.clients[0].begin_anew(ClientHandle::open(0, 2).unwrap());
     assert_eq!(cache.scan(&keys, &mut rows), Ok(Scan::Miss(0)));
@@ -134,7 +134,7 @@ fn a_client_that_drops_all_answers_says_and_hears_nothing_until_it_begins_anew()
     world.tell_server(&said);
     let late = world.said_by_server();
     assert!(!late.is_empty());
-    world.clients[0].drop_all();
+    world.clients[0].drop_all(Dropped::StoreWentBack);
     assert_eq!(read.answer.try_recv(), Ok(Err(Refused::StoreWentBack)));
     assert_eq!(write.answer.try_recv(), Ok(Err(Refused::StoreWentBack)));
     let later = world.clients[0].read(0..11);
@@ -155,14 +155,15 @@ fn a_client_that_drops_all_answers_says_and_hears_nothing_until_it_begins_anew()
 
 #[test]
 fn a_client_that_leaves_and_drops_all_has_left_when_the_new_bye_is_kept() {
-    for leaves_first in [true, false] {
+    for leaves in ["before", "between", "behind"] {
         let mut world = World::new();
-        let before = leaves_first.then(|| world.clients[0].leave());
-        world.clients[0].drop_all();
-        let left = before.unwrap_or_else(|| world.clients[0].leave());
+        let before = (leaves == "before").then(|| world.clients[0].leave());
+        world.clients[0].drop_all(Dropped::StoreWentBack);
+        let between = (leaves == "between").then(|| world.clients[0].leave());
         // That the old Bye is kept says nothing of the new one.
         world.clients[0].hear(&[]).unwrap();
         world.clients[0].begin_anew(ClientHandle::open(0, 2).unwrap());
+        let left = before.or(between).unwrap_or_else(|| world.clients[0].leave());
         world.clients[0].hear(&[]).unwrap();
         assert!(left.answer.try_recv().is_err() && world.clients[0].are_open());
         world.clients[0].tick();

@@ -1,4 +1,5 @@
 use super::*;
+use crate::refusal::ClientSet;
 
 const SECOND: u64 = 1_000_000_000;
 
@@ -17,7 +18,7 @@ fn ten() -> Leases {
 }
 
 fn record(longest: u64, unleased: u64) -> LeaseRecord {
-    LeaseRecord { longest: longest * SECOND, unleased }
+    LeaseRecord { longest: longest * SECOND, unleased: ClientSet::of_bits(unleased) }
 }
 
 /// Incarnation 7 of clients 3 and 5, and client 4, which has left.
@@ -104,16 +105,16 @@ fn whoever_is_in_a_store_without_leases_may_answer_for_ever() {
     assert_eq!(table.unleased(), [3, 5]);
     table.sign(sign(3, 7, 10 * SECOND), at(2));
     assert_eq!(table.unleased(), [5]);
-    assert_eq!(table.revise(at(2)).unwrap().unleased & (1 << 3 | 1 << 5), 1 << 5);
+    assert_eq!(table.revise(at(2)).unwrap().unleased.bits() & (1 << 3 | 1 << 5), 1 << 5);
     assert_eq!(table.to_evict(at(14)), [(3, 7)]);
 }
 
 #[test]
 fn a_server_without_leases_evicts_nobody_and_leaves_the_longest() {
     let mut table = table(record(10, 0), None);
-    assert_eq!(table.record(), LeaseRecord { longest: 10 * SECOND, unleased: u64::MAX });
+    assert_eq!(table.record(), record(10, u64::MAX));
     assert_eq!(table.sign(sign(9, 1, 0), at(1)), Some(granted(1, FOR_EVER)));
-    assert_eq!(table.register(9, 1, at(1)).unleased, u64::MAX);
+    assert_eq!(table.register(9, 1, at(1)).unleased.bits(), u64::MAX);
     assert_eq!((table.to_evict(at(9999)), table.revise(at(9999))), (vec![], None));
 }
 

@@ -44,7 +44,9 @@ impl Link {
             match answer.recv_timeout(left.min(pace)) {
                 Ok(answered) => return answered,
                 Err(RecvTimeoutError::Disconnected) => return Err(Refused::Stopped),
-                Err(RecvTimeoutError::Timeout) if left > pace => pace = self.say_again(),
+                Err(RecvTimeoutError::Timeout) if left > pace && !self.is_hopeless() => {
+                    pace = self.say_again();
+                }
                 Err(RecvTimeoutError::Timeout) => {
                     self.jobs().abandon(id);
                     // It may have come meanwhile.
@@ -64,8 +66,21 @@ impl Link {
         pace
     }
 
+    /// Whether the only server there is has turned this side away.
+    fn is_hopeless(&self) -> bool {
+        !self.servers.are_several() && lock(&self.turned_away).is_some()
+    }
+
+    /// Why this side has no right to the client, if it was turned away last.
+    pub fn turned_away(&self) -> Option<String> {
+        lock(&self.turned_away).clone()
+    }
+
     /// That no answer came in time, with the reason if the server tells one.
     fn timed_out(&self) -> Refused {
+        if lock(&self.turned_away).is_some() {
+            return Refused::TurnedAway;
+        }
         match *lock(&self.refusal) {
             Some((refusal, told)) if told.elapsed() < HINT => Refused::Unserved(refusal),
             _ => Refused::TimedOut,

@@ -1,6 +1,8 @@
 //! What callers share with the thread of the connection.
 use super::*;
-use crate::client_handle::Scan;
+use crate::client_handle::{ClientHandle, Scan};
+use crate::host_frame::FromServer;
+use crate::stream::Stream;
 use crate::writer::STALL;
 use std::io::Write;
 use std::os::unix::net::UnixStream;
@@ -15,9 +17,9 @@ fn link() -> Link {
 #[test]
 fn a_peer_that_takes_nothing_holds_no_call_beyond_its_deadline() {
     let (link, (ours, _theirs)) = (link(), UnixStream::pair().unwrap());
-    let stream = Stream::Unix(ours);
-    stream.set_timeouts(BUSY_TICK, ATTEMPT).unwrap();
-    link.writer.open(stream, Vec::new());
+    let carrier = Carrier::from(Stream::Unix(ours));
+    carrier.set_timeouts(BUSY_TICK, ATTEMPT).unwrap();
+    link.writer.open(carrier, Vec::new());
     link.writer.put(|frames| frames.resize(1 << 21, 0));
     std::thread::scope(|scope| {
         for _ in 0..8 {
@@ -45,9 +47,9 @@ fn nothing_is_taken_behind_the_word_that_the_store_went_back() {
     theirs.write_all(&[FromServer::WentBack.frame(), behind.frame()].concat()).unwrap();
     let mut frames = Frames::new(LONGEST_TO_CLIENT);
     let silence = Silence::new(Instant::now(), false);
-    let (address, stream) = (link.servers.at(0), Stream::Unix(ours));
-    let mut connected = Connected { address, stream, heard: Heard::default(), silence };
-    frames.fill(&mut connected.stream).unwrap();
+    let (address, carrier) = (link.servers.at(0), Carrier::from(Stream::Unix(ours)));
+    let mut connected = Connected { address, carrier, heard: Heard::default(), silence };
+    connected.carrier.fill(&mut frames).unwrap();
     let end = link.hear_all(&mut frames, &mut connected).unwrap_err();
     assert!(end.to_string().contains("went back"), "{end}");
     assert!(link.jobs().is_void() && connected.heard.went_back);
@@ -70,4 +72,25 @@ fn callers_hear_that_the_thread_has_panicked() {
     assert!(link.has_ended(Instant::now()));
     let later = link.ask(Instant::now() + 50 * SHORT, |jobs| jobs.read(0..9));
     assert_eq!(later, Err(Refused::Stopped));
+}
+
+#[test]
+fn an_incarnation_that_has_signed_speaks_to_no_server_without_signs() {
+    let path = std::env::temp_dir().join(format!("krl-link-{}.lock", std::process::id()));
+    let (lock_file, first) = LockFile::take(&path, 1).unwrap();
+    let jobs = Jobs::new(ClientHandle::open(1, first).unwrap());
+    let link = Link::new("unix:nowhere".parse().unwrap(), jobs, Some(lock_file));
+    let begins = |is_asked| {
+        link.begin_anew_if_due(is_asked).unwrap();
+        let greeting = link.greeting(is_asked).unwrap();
+        (link.jobs().incarnation(), !greeting.is_empty())
+    };
+    assert_eq!(begins(false), (first, false), "it has said no sign");
+    assert_eq!(link.jobs().lease_left(), None);
+    assert_eq!(begins(true), (first, true));
+    // A server that heard the sign would evict it by terms that it has not heard.
+    let (second, greets) = begins(false);
+    assert!(second > first && !greets);
+    assert_eq!(begins(true), (second, true));
+    std::fs::remove_file(path).unwrap();
 }

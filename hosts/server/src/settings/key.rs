@@ -16,7 +16,56 @@ pub const LISTEN: Key = Key {
     variable: "KRL_LISTEN",
     id: "listen",
     default: super::LISTEN,
-    expected: "an address such as 127.0.0.1:7400, or unix: and a path",
+    expected: "an address such as 127.0.0.1:7400, tls:10.0.0.1:7400, plain:10.0.0.1:7400, or unix: \
+               and a path",
+};
+pub const TLS_AUTHORITY: Key = Key {
+    name: "tls-authority",
+    flag: "--tls-authority",
+    variable: "KRL_TLS_AUTHORITY",
+    id: "tls_authority",
+    default: "",
+    expected: "the path of a file",
+};
+pub const TLS_CERTIFICATE: Key = Key {
+    name: "tls-certificate",
+    flag: "--tls-certificate",
+    variable: "KRL_TLS_CERTIFICATE",
+    id: "tls_certificate",
+    default: "",
+    expected: "the path of a file",
+};
+pub const TLS_KEY: Key = Key {
+    name: "tls-key",
+    flag: "--tls-key",
+    variable: "KRL_TLS_KEY",
+    id: "tls_key",
+    default: "",
+    expected: "the path of a file",
+};
+pub const TABLE: Key = Key {
+    name: "table",
+    flag: "--table",
+    variable: "KRL_TABLE",
+    id: "table",
+    default: "",
+    expected: "1 to 64 letters, digits, '-', '_' and '.'",
+};
+pub const USERS: Key = Key {
+    name: "users",
+    flag: "--users",
+    variable: "KRL_USERS",
+    id: "users",
+    default: "",
+    expected: "users and what each may say, as 1001=3,4 or 1001=3 1002=operator",
+};
+pub const PLAIN: Key = Key {
+    name: "plain-beyond-loopback",
+    flag: "--plain-beyond-loopback",
+    variable: "KRL_PLAIN_BEYOND_LOOPBACK",
+    id: "plain_beyond_loopback",
+    default: "no",
+    expected: "yes or no",
 };
 pub const STORE: Key = Key {
     name: "store",
@@ -32,7 +81,8 @@ pub const STATUS: Key = Key {
     variable: "KRL_STATUS",
     id: "status",
     default: super::STATUS,
-    expected: "an address such as 127.0.0.1:7401, or off",
+    expected: "an address such as 127.0.0.1:7401, or off; one of another machine begins with tls: or \
+               plain:",
 };
 pub const LOG_LEVEL: Key = Key {
     name: "log-level",
@@ -89,4 +139,20 @@ pub const STORE_KEY: Key = Key {
     id: "store_key",
     default: "",
     expected: "the path of a file",
+};
+pub const LEASE: Key = Key {
+    name: "lease",
+    flag: "--lease",
+    variable: "KRL_LEASE",
+    id: "lease",
+    default: "10s",
+    expected: "off, or a length from 300ms to 86400s, such as 10s or 500ms",
+};
+pub const DRIFT: Key = Key {
+    name: "drift",
+    flag: "--drift",
+    variable: "KRL_DRIFT",
+    id: "drift",
+    default: "25",
+    expected: "a whole number from 0 to 100",
 };

@@ -1,9 +1,8 @@
 //! The values of settings, as they are written and read.
 use super::key;
-use krl::Address;
+use krl::{Address, Identity, Leases, TableName};
 use krl_etcd::EtcdAddress;
 use std::fmt;
-use std::net::{SocketAddr, ToSocketAddrs};
 use std::ops::RangeInclusive;
 use std::path::PathBuf;
 use std::time::Duration;
@@ -11,6 +10,9 @@ use tracing::level_filters::LevelFilter;
 
 /// The lengths of leases that may be set.
 const SECONDS: RangeInclusive<u64> = 2..=3600;
+
+/// The greatest drift that leases may have.
+const MAX_DRIFT: u32 = 100;
 
 /// Where a store is.
 #[derive(Clone, Debug, PartialEq, Eq)]
@@ -42,11 +44,44 @@ impl Seconds {
     }
 }
 
-/// Where the status is served, or that it is not.
+/// The length of the leases that clients get, or that they get none.
 #[derive(Clone, Copy, Debug, PartialEq, Eq)]
+pub enum LeaseLength {
+    Off,
+    Of(Leases),
+}
+
+/// How much further the server's clock may go than a client's, in a hundred.
+#[derive(Clone, Copy, Debug, PartialEq, Eq)]
+pub struct Drift(u32);
+
+impl LeaseLength {
+    /// The leases with this drift, unless there are none.
+    pub fn with(self, Drift(drift): Drift) -> Option<Leases> {
+        match self {
+            LeaseLength::Off => None,
+            // A drift that was parsed is one that leases may have.
+            LeaseLength::Of(leases) => leases.with_drift(drift).ok(),
+        }
+    }
+}
+
+/// Where the status is served, or that it is not.
+#[derive(Clone, Debug, PartialEq, Eq)]
 pub enum StatusAddress {
     Off,
-    At(SocketAddr),
+    At(Address),
+}
+
+/// Users of the machine, by number, and what each may say over a Unix socket.
+#[derive(Clone, Debug, PartialEq, Eq)]
+pub struct Users(pub Vec<(u32, Identity)>);
+
+/// Whether something is so.
+#[derive(Clone, Copy, Debug, PartialEq, Eq)]
+pub enum YesNo {
+    Yes,
+    No,
 }
 
 /// How events are written.
@@ -87,8 +122,49 @@ pub fn parse_seconds(text: &str) -> Option<Seconds> {
 pub fn parse_status(text: &str) -> Option<StatusAddress> {
     match text {
         "off" => Some(StatusAddress::Off),
-        _ => text.to_socket_addrs().ok()?.next().map(StatusAddress::At),
+        _ => parse_address(text)
+            .filter(|address| !matches!(address, Address::Unix(_)))
+            .map(StatusAddress::At),
     }
+}
+
+pub fn parse_table(text: &str) -> Option<Optional<TableName>> {
+    match text {
+        "" => Some(Optional(None)),
+        _ => text.parse().ok().map(|table| Optional(Some(table))),
+    }
+}
+
+pub fn parse_users(text: &str) -> Option<Optional<Users>> {
+    let user = |word: &str| {
+        let (number, identity) = word.split_once('=')?;
+        Some((number.parse().ok()?, identity.parse().ok()?))
+    };
+    let users: Vec<_> = text.split_whitespace().map(user).collect::<Option<_>>()?;
+    Some(Optional((!users.is_empty()).then_some(Users(users))))
+}
+
+pub fn parse_yes_no(text: &str) -> Option<YesNo> {
+    match text {
+        "yes" => Some(YesNo::Yes),
+        "no" => Some(YesNo::No),
+        _ => None,
+    }
+}
+
+pub fn parse_lease(text: &str) -> Option<LeaseLength> {
+    if text == "off" {
+        return Some(LeaseLength::Off);
+    }
+    let length = match text.strip_suffix("ms") {
+        Some(milliseconds) => Duration::from_millis(milliseconds.parse().ok()?),
+        None => Duration::from_secs(text.strip_suffix('s')?.parse().ok()?),
+    };
+    Leases::of(length).ok().map(LeaseLength::Of)
+}
+
+pub fn parse_drift(text: &str) -> Option<Drift> {
+    text.parse().ok().filter(|drift| *drift <= MAX_DRIFT).map(Drift)
 }
 
 pub fn parse_level(text: &str) -> Option<LevelFilter> {
@@ -131,7 +207,48 @@ impl fmt::Display for Optional<Address> {
     }
 }
 
+impl fmt::Display for Optional<TableName> {
+    fn fmt(&self, f: &mut fmt::Formatter<'_>) -> fmt::Result {
+        self.0.iter().try_for_each(|table| table.fmt(f))
+    }
+}
+
+impl fmt::Display for Optional<Users> {
+    fn fmt(&self, f: &mut fmt::Formatter<'_>) -> fmt::Result {
+        let users = self.0.iter().flat_map(|users| &users.0);
+        let words: Vec<_> = users.map(|(user, identity)| format!("{user}={identity}")).collect();
+        f.write_str(&words.join(" "))
+    }
+}
+
+impl fmt::Display for YesNo {
+    fn fmt(&self, f: &mut fmt::Formatter<'_>) -> fmt::Result {
+        f.write_str(match self {
+            YesNo::Yes => "yes",
+            YesNo::No => "no",
+        })
+    }
+}
+
 impl fmt::Display for Seconds {
+    fn fmt(&self, f: &mut fmt::Formatter<'_>) -> fmt::Result {
+        self.0.fmt(f)
+    }
+}
+
+impl fmt::Display for LeaseLength {
+    fn fmt(&self, f: &mut fmt::Formatter<'_>) -> fmt::Result {
+        match self {
+            LeaseLength::Off => f.write_str("off"),
+            LeaseLength::Of(leases) => match leases.length() {
+                length if length.subsec_millis() == 0 => write!(f, "{}s", length.as_secs()),
+                length => write!(f, "{}ms", length.as_millis()),
+            },
+        }
+    }
+}
+
+impl fmt::Display for Drift {
     fn fmt(&self, f: &mut fmt::Formatter<'_>) -> fmt::Result {
         self.0.fmt(f)
     }
@@ -152,5 +269,22 @@ impl fmt::Display for LogFormat {
             LogFormat::Text => "text",
             LogFormat::Json => "json",
         })
+    }
+}
+
+#[cfg(test)]
+mod tests {
+    use super::*;
+
+    #[test]
+    fn a_lease_is_shown_as_it_is_written() {
+        for text in ["off", "10s", "300ms", "1500ms", "86400s"] {
+            assert_eq!(parse_lease(text).unwrap().to_string(), text);
+        }
+        for text in ["", "10", "0s", "299ms", "86401s", "10 s", "-1s", "1m", "on"] {
+            assert_eq!(parse_lease(text), None, "{text}");
+        }
+        assert_eq!([parse_drift("0"), parse_drift("100")].map(|it| it.is_some()), [true; 2]);
+        assert_eq!([parse_drift("101"), parse_drift("")], [None; 2]);
     }
 }

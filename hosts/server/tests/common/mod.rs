@@ -66,10 +66,12 @@ impl Serving {
 
     /// Starts a server, at free ports if nothing else is said, and waits until it tells this.
     pub fn start_until(command: &mut Command, told: &str) -> Serving {
-        if !command.get_args().any(|word| word == "--listen") {
-            command.args(["--listen", "127.0.0.1:0"]);
+        for flag in ["--listen", "--status"] {
+            if !command.get_args().any(|word| word == flag) {
+                command.args([flag, "127.0.0.1:0"]);
+            }
         }
-        let words = ["--status", "127.0.0.1:0", "--log-format", "json"];
+        let words = ["--log-format", "json"];
         let mut process = command.args(words).stderr(Stdio::piped()).spawn().unwrap();
         let mut lines = BufReader::new(process.stderr.take().unwrap()).lines();
         let mut status = String::new();

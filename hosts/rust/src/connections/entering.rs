@@ -1,0 +1,57 @@
+//! Connections that come: who is at the other end, and who goes for one more.
+use super::{Connections, Peer};
+use crate::identity::Identity;
+use crate::stream::Accepted;
+
+impl Connections {
+    /// Takes a new connection, if there is room for it, or a stranger that goes.
+    pub(super) fn enter(&mut self, accepted: Accepted) {
+        if self.listening.is_full(self.open.len()) {
+            let Some(stranger) = self.strangers.oldest() else {
+                self.listening.turn_away(accepted, self.open.len());
+                return;
+            };
+            self.close(stranger);
+        }
+        self.open(accepted);
+    }
+
+    fn open(&mut self, accepted: Accepted) {
+        let (number, from) = (self.next, accepted.from);
+        self.next += 1;
+        match Peer::new(accepted, number, &self.poller, &self.access, self.now) {
+            Ok(peer) => {
+                self.open.insert(number, peer);
+                let gone = self.strangers.comes(number, from, self.now);
+                self.close_one(gone);
+            }
+            // The system has no room for it: it is closed.
+            Err(error) => self.listening.not_taken(&error),
+        }
+    }
+
+    /// Sees whether a stranger has said whose it is. Where its identity has too many connections,
+    /// the oldest of them is closed.
+    pub(super) fn meet(&mut self, number: u64) {
+        if !self.strangers.has(number) {
+            return;
+        }
+        let known = self.open.get(&number).and_then(|peer| peer.connection.known());
+        if let Some(identity) = known {
+            let gone = self.strangers.is_known(number, identity);
+            self.close_one(gone);
+        }
+    }
+
+    fn close_one(&mut self, number: Option<u64>) {
+        if let Some(number) = number {
+            self.close(number);
+        }
+    }
+
+    /// Who is at the other end of the connection.
+    pub fn identity(&self, number: u64) -> Identity {
+        let peer = self.open.get(&number);
+        peer.map_or(Identity::nobody(), |peer| peer.connection.identity())
+    }
+}

@@ -1,0 +1,41 @@
+//! What a server's loop shows of itself.
+use super::{EventLoop, SHOWN_FOR};
+use crate::status::Status;
+use crate::store::Store;
+use std::sync::{Mutex, PoisonError};
+use std::time::Duration;
+
+impl<S: Store> EventLoop<S> {
+    /// Sees whether the server serves, and until it does, whose reports are missing. One that
+    /// serves goes on to serve. It answers whether that may be news.
+    pub(super) fn see_phase(&mut self) -> bool {
+        if self.status.is_serving {
+            return false;
+        }
+        self.status.is_serving = self.server.is_serving();
+        // If there is no memory for it, it is shown as it was.
+        if let Ok(missing) = self.server.missing() {
+            self.status.missing = missing;
+        }
+        self.log.phase(self.status.is_serving, &self.status.missing);
+        true
+    }
+
+    pub(super) fn show_if_due(&mut self, is_news: bool, shown: &Mutex<Status>) {
+        let age = self.turned.saturating_duration_since(self.shown);
+        self.is_stale = !is_news && age < SHOWN_FOR;
+        if !self.is_stale {
+            self.shown = self.turned;
+            self.show(shown);
+        }
+    }
+
+    pub(super) fn show(&mut self, shown: &Mutex<Status>) {
+        self.status.connected = self.connections.clients();
+        self.status.connections = self.connections.count() as u64;
+        self.status.held_back = self.held_back.count();
+        self.status.unleased = self.leases.unleased();
+        self.status.longest_lease = Duration::from_nanos(self.leases.record().longest);
+        shown.lock().unwrap_or_else(PoisonError::into_inner).clone_from(&self.status);
+    }
+}

@@ -1,0 +1,162 @@
+use super::super::world::{World, messages, row};
+use super::super::{Asking, Code};
+use super::*;
+use crate::change::{Outcome, Write};
+use crate::client_handle::{ClientHandle, Scan};
+use crate::lease::{FOR_EVER, Grant, Older};
+use crate::refused::Refused;
+use std::thread::sleep;
+
+const LONG: u64 = 60_000_000_000;
+const SHORT: Duration = Duration::from_millis(30);
+
+fn granted(sign: Sign, length: u64) -> Answer {
+    Answer::Granted(Grant { incarnation: sign.incarnation, stamp: sign.stamp, length })
+}
+
+/// Greets, and takes terms of this length.
+fn lease_for(jobs: &mut Jobs, length: u64) {
+    let sign = jobs.greet().unwrap();
+    jobs.hear_answer(granted(sign, length)).unwrap();
+}
+
+/// A world in which client 0 reads a range by a lease that has ended.
+fn ended() -> World {
+    let mut world = World::new();
+    assert_eq!(world.write(1, Write::Insert(row(10, 1))), Outcome::Applied);
+    world.read(0, 0..20);
+    lease_for(&mut world.clients[0], u64::try_from(SHORT.as_nanos()).unwrap());
+    sleep(2 * SHORT);
+    world
+}
+
+#[test]
+fn nothing_of_the_library_is_said_before_the_terms() {
+    let mut jobs = Jobs::new(ClientHandle::open(0, 1).unwrap());
+    let said = |jobs: &mut Jobs| messages(|frames| jobs.take(frames));
+    let sign = jobs.greet().unwrap();
+    jobs.tick();
+    assert_eq!(said(&mut jobs).len(), 0);
+    assert_eq!(jobs.lease_left(), Some(Duration::ZERO));
+    jobs.hear_answer(granted(sign, LONG)).unwrap();
+    jobs.tick();
+    assert_eq!(said(&mut jobs).len(), 1, "its Hello");
+    assert!(jobs.lease_left().unwrap() > Duration::from_secs(50));
+    // Another connection, and the terms of the one before.
+    jobs.greet().unwrap();
+    jobs.hear_answer(granted(sign, LONG)).unwrap();
+    jobs.tick();
+    assert_eq!(said(&mut jobs).len(), 0);
+}
+
+#[test]
+fn a_greeting_that_is_lost_is_said_again_and_each_is_answered() {
+    let mut jobs = Jobs::new(ClientHandle::open(0, 1).unwrap());
+    let first = jobs.greet().unwrap();
+    assert_eq!(jobs.greet_again_if_due(), None);
+    sleep(Duration::from_nanos(GREETS_AGAIN));
+    let second = jobs.greet_again_if_due().unwrap();
+    assert!(second.stamp > first.stamp);
+    jobs.hear_answer(granted(first, LONG)).unwrap();
+    assert_eq!(jobs.speech, Speech::Free);
+    assert_eq!(jobs.greet_again_if_due(), None);
+}
+
+#[test]
+fn a_server_without_signs_grants_for_ever_who_has_no_terms() {
+    let mut jobs = Jobs::new(ClientHandle::open(0, 1).unwrap());
+    jobs.greet().unwrap();
+    jobs.go_without_terms().unwrap();
+    assert_eq!((jobs.speech, jobs.lease_left()), (Speech::Free, None));
+    assert_eq!(jobs.greet().unwrap().length, FOR_EVER, "the next server is told so");
+    // Terms that end are lived by, whatever another server says.
+    lease_for(&mut jobs, LONG);
+    jobs.greet().unwrap();
+    jobs.go_without_terms().unwrap();
+    assert!(jobs.lease_left().is_some_and(|left| left > Duration::ZERO));
+}
+
+#[test]
+fn behind_the_end_nothing_is_answered_said_or_taken() {
+    let mut world = ended();
+    let cache = world.clients[0].cache();
+    assert_eq!(cache.scan(&(0..20), &mut Vec::new()), Ok(Scan::Ended));
+    world.clients[0].tick();
+    assert_eq!(world.said(0).len(), 0);
+    assert!(world.clients[0].hear(&[]).is_ok() && world.clients[0].is_void());
+    assert_eq!(cache.scan(&(0..20), &mut Vec::new()), Err(Code::Closed));
+    assert_eq!(world.clients[0].lease_left(), Some(Duration::ZERO));
+}
+
+#[test]
+fn a_write_on_its_way_ends_and_other_jobs_go_on() {
+    let mut world = World::new();
+    assert_eq!(world.write(0, Write::Insert(row(10, 1))), Outcome::Applied);
+    lease_for(&mut world.clients[0], u64::try_from(SHORT.as_nanos()).unwrap());
+    let write = world.clients[0].write(Write::Put(row(10, 2)));
+    let (read, later) =
+        (world.clients[0].read(0..50), world.clients[0].write(Write::Insert(row(11, 3))));
+    let lost = world.said(0);
+    assert!(!lost.is_empty());
+    sleep(2 * SHORT);
+    world.clients[0].end_lease_if_over();
+    assert_eq!(write.answer.try_recv(), Ok(Err(Refused::LeaseEnded)));
+    assert!(read.answer.try_recv().is_err() && later.answer.try_recv().is_err());
+    world.clients[0].begin_anew(ClientHandle::open_behind(0, 2, Older::IsOver(1)).unwrap());
+    assert_eq!(world.clients[0].incarnation(), 2);
+    lease_for(&mut world.clients[0], LONG);
+    world.clients[0].tick();
+    world.settle();
+    assert_eq!(later.answer.try_recv(), Ok(Ok(Outcome::Applied)));
+    let rows = read.answer.try_recv().unwrap().unwrap();
+    assert!(rows == [row(10, 1)] || rows == [row(10, 1), row(11, 3)], "{rows:?}");
+}
+
+#[test]
+fn a_pin_holds_as_long_as_the_lease() {
+    let mut world = World::new();
+    world.read(0, 0..20);
+    let pin = world.clients[0].pin(0..20).unwrap();
+    assert!(world.clients[0].holds_pin(pin));
+    lease_for(&mut world.clients[0], u64::try_from(SHORT.as_nanos()).unwrap());
+    sleep(2 * SHORT);
+    assert!(!world.clients[0].holds_pin(pin));
+    assert_eq!(world.clients[0].pin(0..20), Err(Refused::LeaseEnded));
+    world.clients[0].begin_anew(ClientHandle::open(0, 2).unwrap());
+    world.settle();
+    world.read(0, 0..20);
+    let next = world.clients[0].pin(0..20).unwrap();
+    assert!(!world.clients[0].holds_pin(pin) && world.clients[0].holds_pin(next));
+}
+
+#[test]
+fn an_incarnation_that_has_ended_begins_anew_or_has_left() {
+    let mut world = World::new();
+    let ended = |incarnation| Answer::Ended { incarnation };
+    world.clients[0].hear_answer(ended(7)).unwrap();
+    assert!(!world.clients[0].is_void(), "another one");
+    world.clients[0].hear_answer(ended(1)).unwrap();
+    assert!(world.clients[0].is_void());
+    let left = world.clients[1].leave();
+    world.clients[1].hear_answer(ended(1)).unwrap();
+    world.clients[1].advance(Asking::Allowed);
+    assert_eq!(left.answer.try_recv(), Ok(Ok(())));
+}
+
+#[test]
+fn signs_ride_on_messages_and_go_alone_when_they_must() {
+    let mut jobs = Jobs::new(ClientHandle::open(0, 1).unwrap());
+    let signs = |jobs: &mut Jobs| {
+        let said = messages(|frames| jobs.take(frames));
+        said.iter().filter(|frame| Sign::read(frame).is_some()).count()
+    };
+    lease_for(&mut jobs, 3_000_000_000);
+    jobs.tick();
+    assert_eq!(signs(&mut jobs), 0, "one was just said");
+    sleep(Duration::from_millis(550));
+    assert_eq!(signs(&mut jobs), 0, "it does not go alone yet");
+    jobs.tick();
+    assert_eq!(signs(&mut jobs), 1);
+    sleep(Duration::from_millis(1050));
+    assert_eq!(signs(&mut jobs), 1);
+}

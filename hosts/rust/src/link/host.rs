@@ -1,0 +1,102 @@
+//! What a client's host and that of its server say to one another beneath the messages.
+use super::{Connected, Link, lock};
+use crate::address::Address;
+use crate::client_handle::ClientHandle;
+use crate::event_log;
+use crate::host_frame::{FromClient, FromServer};
+use crate::jobs::Dropped;
+use crate::lease::Sign;
+use crate::leases::Answer;
+use crate::refusal::Refusal;
+use crate::refused::Refused;
+use std::io::{self, ErrorKind};
+use std::sync::atomic::Ordering;
+use std::time::Instant;
+
+impl Link {
+    /// The Hello of this host.
+    pub(super) fn hello(&self) -> Vec<u8> {
+        FromClient::Hello(*lock(&self.seen)).frame()
+    }
+
+    /// What a connection begins with. To a server that takes no host frames that is nothing, and it
+    /// has no leases.
+    pub(super) fn greeting(&self, is_asked: bool) -> io::Result<Vec<u8>> {
+        if is_asked {
+            let sign = self.jobs().greet()?;
+            return Ok([self.hello(), sign.frame()].concat());
+        }
+        self.jobs().go_without_terms()?;
+        Ok(Vec::new())
+    }
+
+    /// Says the greeting again, if it has not been answered for long.
+    pub(super) fn greet_again_if_due(&self) {
+        let sign = self.jobs().greet_again_if_due();
+        if let Some(sign) = sign.map(Sign::frame) {
+            self.writer.put(|frames| frames.extend([self.hello(), sign].concat()));
+        }
+    }
+
+    /// Takes what the server's host says beneath the messages. If the client has to begin anew
+    /// behind it, the connection ends with that.
+    pub(super) fn hear_host(&self, frame: &[u8], connected: &mut Connected<'_>) -> io::Result<()> {
+        match FromServer::read(frame) {
+            Some(FromServer::Refused(refusal)) => {
+                *lock(&self.refusal) = Some((refusal, Instant::now()));
+                if refusal == Refusal::Denied {
+                    return Err(io::Error::new(ErrorKind::PermissionDenied, refusal.to_string()));
+                }
+            }
+            Some(FromServer::Mark(mark)) => *lock(&self.seen) = Some(mark),
+            Some(FromServer::WentBack) => {
+                connected.heard.went_back = true;
+                return Err(self.drop_all(connected.address));
+            }
+            Some(FromServer::Hello { answers_signs: false }) => self.jobs().go_without_terms()?,
+            Some(FromServer::Hello { answers_signs: true }) => {}
+            None => {
+                let answer = Answer::read(frame);
+                answer.map_or(Ok(()), |answer| self.jobs().hear_answer(answer))?;
+            }
+        }
+        Ok(())
+    }
+
+    /// The server's store lacks what the client has seen. From here on nothing of that is answered,
+    /// and no message that rests on it is said or taken: another connection has another
+    /// incarnation. It answers by what the connection ends with.
+    fn drop_all(&self, address: &Address) -> io::Error {
+        self.jobs().drop_all(Dropped::StoreWentBack);
+        *lock(&self.seen) = None;
+        // The epochs of an older store may be older too.
+        self.epoch.store(0, Ordering::Relaxed);
+        event_log::store_went_back(address);
+        io::Error::other(Refused::StoreWentBack)
+    }
+
+    /// Gives a client that has dropped all, or whose lease has ended, a greater incarnation, under
+    /// which it joins anew.
+    ///
+    /// So does an incarnation that has signed, before it speaks to a server that takes no host
+    /// frames: a server that has heard the sign would evict it by its terms, which it has not heard.
+    pub(super) fn begin_anew_if_due(&self, is_asked: bool) -> io::Result<()> {
+        let mut jobs = self.jobs();
+        jobs.end_lease_if_over();
+        if !is_asked && jobs.has_signed() {
+            jobs.drop_all(Dropped::LeaseEnded);
+        }
+        if !jobs.is_void() {
+            return Ok(());
+        }
+        drop(jobs);
+        let mut lock_file = lock(&self.lock_file);
+        let Some(file) = &mut *lock_file else { return Err(ErrorKind::Interrupted.into()) };
+        // The incarnation is on the disk before the Hello leaves.
+        let incarnation = file.renew()?;
+        let client = ClientHandle::open_behind(file.number(), incarnation, file.older());
+        self.jobs().begin_anew(client.map_err(io::Error::other)?);
+        event_log::began_anew(file.number(), incarnation);
+        Ok(())
+    }
+}

@@ -1,0 +1,341 @@
+//! Certificates, users and strangers.
+mod certificates;
+mod secure;
+
+use krl::{Access, Address, Client, Identity, JoinError, Listener, MemoryStore, Outcome, Refused};
+use krl::{Server, TlsConfig, Value, evict};
+use openssl::ssl::SslVersion;
+use openssl::ssl::{SslConnector, SslConnectorBuilder, SslFiletype, SslMethod, SslVerifyMode};
+use secure::{Setup, at, serve, serve_with, servers, settled};
+use std::io::{Read, Write};
+use std::net::{SocketAddr, TcpListener, TcpStream};
+use std::sync::{Arc, Mutex};
+use std::thread;
+use std::time::{Duration, Instant};
+
+/// Shorter than the timeout of a client that joins.
+const AT_ONCE: Duration = Duration::from_secs(4);
+
+#[test]
+fn a_client_says_its_own_numbers_and_no_other() {
+    let setup = Setup::new("numbers");
+    let server = serve(&setup);
+    let three = setup.config(&["krl:client:3"]);
+    let client = setup.join(&server, &three, 3).unwrap();
+    assert_eq!(client.insert(10, Value::from(1)), Ok(Outcome::Applied));
+    assert_eq!(client.read(0..100).unwrap().len(), 1);
+    assert_eq!(server.status().denied, 0);
+
+    let (begun, taken) = (Instant::now(), server.status().taken);
+    let error = setup.join(&server, &three, 4).unwrap_err();
+    assert!(matches!(&error, JoinError::TurnedAway(_)), "{error}");
+    assert!(begun.elapsed() < AT_ONCE, "{:?}", begun.elapsed());
+    assert!(error.to_string().contains("no right to the client's number"), "{error}");
+    let status = settled(&server);
+    assert!(status.denied > 0 && !status.connected.contains(&4));
+    assert!(status.taken < taken + 20, "only the ticks of client 3 were taken");
+    assert_eq!(client.read(0..100).unwrap().len(), 1);
+}
+
+#[test]
+fn who_is_not_certified_is_turned_away_at_once_and_says_nothing() {
+    let (setup, theirs) = (Setup::new("who"), Setup::new("who-else"));
+    let server = serve(&setup);
+    let strangers = [
+        ("another authority", setup.believing(&theirs, &["krl:client:6"], 5)),
+        ("an expired certificate", setup.config_for(&["krl:client:6"], -1)),
+        ("no name", setup.config(&[])),
+        ("another name", setup.config(&["https://example.org"])),
+        ("another table", setup.config(&["krl:client:6@orders"])),
+        ("a server's certificate", setup.config(&["krl:server"])),
+    ];
+    for (what, config) in strangers {
+        let begun = Instant::now();
+        let error = setup.join(&server, &config, 6).unwrap_err();
+        assert!(matches!(error, JoinError::TurnedAway(_)), "{what}: {error}");
+        assert!(begun.elapsed() < AT_ONCE, "{what}: {:?}", begun.elapsed());
+    }
+    let none = Client::builder(server.address()).number(6).lock_file(setup.lock(6)).join();
+    assert!(matches!(none, Err(JoinError::TurnedAway(_))), "no certificate");
+    let status = settled(&server);
+    assert_eq!((status.taken, status.changes), (0, 0));
+}
+
+#[test]
+fn a_client_speaks_to_no_server_but_its_own() {
+    let (setup, theirs) = (Setup::new("server"), Setup::new("server-else"));
+    let six = setup.config(&["krl:client:6"]);
+    let impostors = [
+        ("a server of another authority", setup.believing(&theirs, &["krl:server"], 5)),
+        ("a client as a server", setup.config(&["krl:client:6"])),
+        ("a server of another table", setup.config(&["krl:server@orders"])),
+        ("an expired server", setup.config_for(&["krl:server"], -1)),
+    ];
+    for (what, shown) in impostors {
+        let server = serve_with(&shown);
+        let error = setup.join(&server, &six, 6).unwrap_err();
+        assert!(matches!(error, JoinError::TurnedAway(_)), "{what}: {error}");
+        assert_eq!(settled(&server).taken, 0, "{what}");
+    }
+}
+
+#[test]
+fn an_operator_ends_clients_and_does_no_more() {
+    let setup = Setup::new("operator");
+    let server = serve(&setup);
+    let operator = setup.config(&["krl:operator"]);
+    // A client that is gone without a Bye.
+    std::mem::forget(setup.join(&server, &setup.config(&["krl:client:3"]), 3).unwrap());
+    let working = setup.join(&server, &operator, 9).unwrap();
+    assert_eq!(working.read(0..10), Err(Refused::TurnedAway));
+    drop(working);
+    evict(servers(&server, &operator), 3, setup.folder.join("3-elsewhere.lock")).unwrap();
+    let five = servers(&server, &setup.config(&["krl:client:5"]));
+    assert!(evict(&five, 4, setup.lock(4)).is_err());
+}
+
+#[test]
+fn names_of_the_table_count_alone() {
+    let setup = Setup::new("table");
+    let orders = |names: &[&str]| setup.config(names).for_table("orders".parse().unwrap());
+    let server = serve_with(&orders(&["krl:server@orders"]));
+    let client = setup.join(&server, &orders(&["krl:client:3@orders"]), 3).unwrap();
+    assert_eq!(client.insert(10, Value::from(1)), Ok(Outcome::Applied));
+    for names in [["krl:client:4"], ["krl:client:4@stock"]] {
+        assert!(setup.join(&server, &orders(&names), 4).is_err(), "{names:?}");
+    }
+    assert!(setup.join(&server, &setup.config(&["krl:client:4@orders"]), 4).is_err());
+}
+
+/// TLS that believes every server, and shows this certificate.
+fn credulous(setup: &Setup, names: Option<&[&str]>) -> SslConnectorBuilder {
+    let mut connector = SslConnector::builder(SslMethod::tls()).unwrap();
+    connector.set_verify(SslVerifyMode::NONE);
+    if let Some(names) = names {
+        let files = setup.certify(names);
+        connector.set_certificate_chain_file(files.certificate).unwrap();
+        connector.set_private_key_file(files.key, SslFiletype::PEM).unwrap();
+    }
+    connector
+}
+
+/// What a peer hears that sends this by TLS, if its hand-shake succeeds.
+fn heard_by_tls(connector: SslConnectorBuilder, at: SocketAddr, said: &[u8]) -> Vec<u8> {
+    let stream = TcpStream::connect(at).unwrap();
+    stream.set_read_timeout(Some(AT_ONCE)).unwrap();
+    let mut heard = Vec::new();
+    if let Ok(mut tls) = connector.build().connect("krl", stream) {
+        let _ = tls.write_all(said);
+        let _ = tls.read_to_end(&mut heard);
+    }
+    heard
+}
+
+#[test]
+fn tls_of_another_kind_and_what_is_no_tls_are_refused() {
+    let setup = Setup::new("kind");
+    let server = serve(&setup);
+    let at = at(&server);
+    let hello = [18, 0, 0, 0, 0, 0, 0, 0, 1, 0, 3, 0, 0, 0, 0, 0, 0, 0, 1, 0, 0, 0, 0, 0, 0, 0];
+    assert_eq!(heard_by_tls(credulous(&setup, None), at, &hello), [], "no certificate");
+    let mut old = credulous(&setup, Some(&["krl:client:3"]));
+    old.set_max_proto_version(Some(SslVersion::TLS1_2)).unwrap();
+    assert_eq!(heard_by_tls(old, at, &hello), [], "TLS 1.2");
+    let mut stream = TcpStream::connect(at).unwrap();
+    stream.set_read_timeout(Some(AT_ONCE)).unwrap();
+    stream.write_all(&hello).unwrap();
+    let mut heard = Vec::new();
+    let _ = stream.read_to_end(&mut heard);
+    assert!(heard.len() < 32, "an alert at most: {heard:?}");
+    assert_eq!(settled(&server).taken, 0);
+    // The same bytes by the right TLS are taken: they are answered by nothing for a while.
+    let mut right = credulous(&setup, Some(&["krl:client:3"])).build();
+    let mut tls = right_connect(&mut right, at);
+    tls.write_all(&hello).unwrap();
+    let end = Instant::now() + AT_ONCE;
+    while server.status().taken == 0 && Instant::now() < end {
+        thread::sleep(Duration::from_millis(5));
+    }
+    assert_eq!(server.status().taken, 1);
+}
+
+fn right_connect(
+    connector: &mut SslConnector,
+    at: SocketAddr,
+) -> openssl::ssl::SslStream<TcpStream> {
+    connector.connect("krl", TcpStream::connect(at).unwrap()).unwrap()
+}
+
+type Recorded = Arc<Mutex<Vec<Vec<u8>>>>;
+
+/// Passes connections on, and notes what each client says.
+fn eavesdrop(server: SocketAddr) -> (SocketAddr, Recorded) {
+    let listener = TcpListener::bind("127.0.0.1:0").unwrap();
+    let at = listener.local_addr().unwrap();
+    let heard = Recorded::default();
+    let noted = Arc::clone(&heard);
+    thread::spawn(move || {
+        for client in listener.incoming().flatten() {
+            let place = noted.lock().unwrap().len();
+            noted.lock().unwrap().push(Vec::new());
+            pass_on(client, server, place, &noted);
+        }
+    });
+    (at, heard)
+}
+
+fn pass_on(mut client: TcpStream, server: SocketAddr, place: usize, noted: &Recorded) {
+    let mut server = TcpStream::connect(server).unwrap();
+    let (mut from, mut to) = (server.try_clone().unwrap(), client.try_clone().unwrap());
+    thread::spawn(move || std::io::copy(&mut from, &mut to));
+    let noted = Arc::clone(noted);
+    thread::spawn(move || {
+        let mut bytes = [0; 4096];
+        while let Ok(count @ 1..) = client.read(&mut bytes) {
+            noted.lock().unwrap()[place].extend(&bytes[..count]);
+            if server.write_all(&bytes[..count]).is_err() {
+                break;
+            }
+        }
+    });
+}
+
+#[test]
+fn what_is_replayed_is_no_message() {
+    let setup = Setup::new("replay");
+    let server = serve(&setup);
+    let (between, heard) = eavesdrop(at(&server));
+    let servers = krl::Servers::from(Address::Tls(between));
+    let servers = servers.with_tls(setup.config(&["krl:client:3"]));
+    let client = Client::join(&servers, 3, setup.lock(3)).unwrap();
+    client.insert(10, Value::new(b"a value that nobody sees").unwrap()).unwrap();
+    client.leave().unwrap();
+    let before = settled(&server);
+    let recorded = heard.lock().unwrap().clone();
+    assert!(recorded.iter().map(Vec::len).sum::<usize>() > 500);
+    for bytes in &recorded {
+        assert!(!bytes.windows(5).any(|window| window == b"value"), "it was encrypted");
+        for place in [at(&server), at(&server), between] {
+            let mut stream = TcpStream::connect(place).unwrap();
+            stream.set_read_timeout(Some(Duration::from_millis(500))).unwrap();
+            let _ = stream.write_all(bytes);
+            let _ = stream.write_all(bytes);
+            let _ = stream.read_to_end(&mut Vec::new());
+        }
+    }
+    let after = settled(&server);
+    assert_eq!((after.taken, after.changes), (before.taken, before.changes));
+}
+
+#[test]
+fn idle_strangers_keep_nobody_out() {
+    let setup = Setup::new("idle");
+    let server = serve(&setup);
+    let [one, two] = [1, 2].map(|number| setup.config(&[&format!("krl:client:{number}")]));
+    let client = setup.join(&server, &one, 1).unwrap();
+    let strangers: Vec<_> = (0..300).map(|_| TcpStream::connect(at(&server)).unwrap()).collect();
+    let begun = Instant::now();
+    let other = setup.join(&server, &two, 2).unwrap();
+    println!("beside 300 idle connections a client joined in {:?}", begun.elapsed());
+    for key in 0..100 {
+        assert_eq!(client.insert(key, Value::from(key)), Ok(Outcome::Applied));
+        assert_eq!(other.read(0..=key).unwrap().len() as u64, key + 1);
+    }
+    let is_open = |stream: &&TcpStream| {
+        stream.set_read_timeout(Some(Duration::from_millis(1))).unwrap();
+        !matches!((&mut &**stream).read(&mut [0; 8]), Ok(0))
+    };
+    let open = strangers.iter().filter(is_open).count();
+    println!("of the 300, {open} were open still");
+    assert!(open <= 64);
+}
+
+#[test]
+fn who_says_a_byte_now_and_then_is_turned_away_by_the_deadline() {
+    let setup = Setup::new("slow");
+    let server = serve(&setup);
+    // The head of a record of a hand-shake, of which the rest never comes.
+    let mut stream = TcpStream::connect(at(&server)).unwrap();
+    stream.set_read_timeout(Some(Duration::from_millis(300))).unwrap();
+    stream.write_all(&[22, 3, 1, 0x10, 0, 1]).unwrap();
+    let begun = Instant::now();
+    while !matches!(stream.read(&mut [0; 8]), Ok(0)) && begun.elapsed() < Duration::from_secs(20) {
+        let _ = stream.write_all(&[0]);
+    }
+    println!("one that says a byte at a time was turned away after {:?}", begun.elapsed());
+    assert!(begun.elapsed() > Duration::from_secs(4), "not by a bad record");
+    assert!(begun.elapsed() < Duration::from_secs(8));
+    // What a server shows of itself may be some milliseconds old.
+    while server.status().connections > 0 {
+        assert!(begun.elapsed() < Duration::from_secs(20), "the connection stands");
+        thread::sleep(Duration::from_millis(1));
+    }
+}
+
+#[test]
+fn an_identity_has_four_connections_and_the_oldest_goes() {
+    let setup = Setup::new("four");
+    let server = serve(&setup);
+    let connector = credulous(&setup, Some(&["krl:client:3"])).build();
+    let mut streams: Vec<_> = (0..6)
+        .map(|_| connector.connect("krl", TcpStream::connect(at(&server)).unwrap()).unwrap())
+        .collect();
+    let end = Instant::now() + AT_ONCE;
+    while server.status().connections != 4 && Instant::now() < end {
+        thread::sleep(Duration::from_millis(20));
+    }
+    assert_eq!(server.status().connections, 4);
+    for (place, stream) in streams.iter_mut().enumerate() {
+        stream.get_ref().set_read_timeout(Some(Duration::from_millis(100))).unwrap();
+        let is_ended = !matches!(
+            stream.ssl_read(&mut [0; 8]),
+            Err(error) if error.io_error().is_some_and(is_silence)
+        );
+        assert_eq!(is_ended, place < 2, "connection {place}");
+    }
+}
+
+fn is_silence(error: &std::io::Error) -> bool {
+    matches!(error.kind(), std::io::ErrorKind::WouldBlock | std::io::ErrorKind::TimedOut)
+}
+
+#[test]
+fn a_server_shows_a_new_certificate_to_who_comes_then() {
+    let setup = Setup::new("reload");
+    let files = setup.certify(&["krl:server"]);
+    let shown = TlsConfig::from_files(&files.authority, &files.certificate, &files.key).unwrap();
+    let server = serve_with(&shown);
+    let client = setup.join(&server, &setup.config(&["krl:client:1"]), 1).unwrap();
+    let other = setup.certify(&["krl:server@orders"]);
+    std::fs::copy(&other.certificate, &files.certificate).unwrap();
+    assert!(shown.reload().is_err());
+    drop(setup.join(&server, &setup.config(&["krl:client:2"]), 2).unwrap());
+    std::fs::copy(&other.key, &files.key).unwrap();
+    shown.reload().unwrap();
+    let error = setup.join(&server, &setup.config(&["krl:client:2"]), 2).unwrap_err();
+    assert!(matches!(error, JoinError::TurnedAway(_)), "{error}");
+    assert_eq!(client.insert(1, Value::from(1)), Ok(Outcome::Applied), "what stands goes on");
+}
+
+#[test]
+fn a_server_listens_by_plain_tcp_on_the_loopback_alone() {
+    let beyond = || Listener::bind(&"plain:0.0.0.0:0".parse().unwrap()).unwrap();
+    let refused = Server::start(beyond(), MemoryStore::default()).unwrap_err();
+    assert!(refused.to_string().contains("beyond the loopback"), "{refused}");
+    let access = Access::new().allow_plain_beyond_loopback();
+    let server = Server::builder(beyond(), MemoryStore::default()).access(access);
+    server.start().unwrap();
+    let tls = Listener::bind(&"tls:127.0.0.1:0".parse().unwrap()).unwrap();
+    let refused = Server::start(tls, MemoryStore::default()).unwrap_err();
+    assert!(refused.to_string().contains("needs a certificate"), "{refused}");
+}
+
+#[test]
+fn the_own_user_speaks_for_any_client_over_a_unix_socket() {
+    let setup = Setup::new("unix");
+    let listener = Listener::bind(&Address::Unix(setup.folder.join("socket"))).unwrap();
+    let access = Access::new().user(65534, "3".parse::<Identity>().unwrap());
+    let server = Server::builder(listener, MemoryStore::default()).access(access).start().unwrap();
+    let client = Client::join(server.address(), 5, setup.lock(5)).unwrap();
+    assert_eq!(client.insert(1, Value::from(1)), Ok(Outcome::Applied));
+}

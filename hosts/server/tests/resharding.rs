@@ -1,0 +1,137 @@
+//! A full store is cut in two, served by two servers, and made one again.
+mod common;
+
+use common::{Serving, errors, run, text};
+use krl::{Client, Outcome, Record, Row, Shard, ShardMap, ShardedClient, Snapshot};
+use krl::{SqliteStore, Value};
+use std::path::Path;
+use std::time::Duration;
+
+/// As many rows as a server has.
+const FULL: u64 = 65_536;
+const CUT: u64 = 40_000;
+
+/// No wait of a test is longer.
+const LONG: Duration = Duration::from_secs(60);
+
+fn full() -> Snapshot {
+    let record = |client, left| Record { client, incarnation: 5, last: None, left };
+    let rows = (0..FULL).map(|key| (2 * key, Value::from(key))).collect();
+    let records = vec![record(9, true), record(2, true)];
+    Snapshot { epoch: 3, rows, records, ..Snapshot::default() }
+}
+
+fn join(serving: &Serving, lock_file: &Path, number: u8) -> Client {
+    let builder = Client::builder(&serving.address).number(number).lock_file(lock_file);
+    builder.timeout(LONG).join().unwrap()
+}
+
+fn shard(first: u64, serving: &Serving) -> Shard {
+    Shard { first, servers: (&serving.address).into() }
+}
+
+/// The keys that a client of all shards finds, and whether each has the value that it had.
+fn keys(client: &ShardedClient) -> Vec<u64> {
+    let rows = client.read(..).unwrap();
+    assert!(rows.iter().all(|Row { key, value }| *value == Value::from(key / 2)));
+    rows.iter().map(|row| row.key).collect()
+}
+
+#[test]
+fn a_full_server_is_split_and_its_clients_go_on() {
+    let folder = tempfile::tempdir().unwrap();
+    let path = |name: &str| folder.path().join(name);
+    let [store, upper, whole] = ["krl.db", "upper.db", "whole.db"].map(path);
+    let [store_name, upper_name, whole_name] =
+        [&store, &upper, &whole].map(|path| path.to_str().unwrap());
+    SqliteStore::create(&store, &full()).unwrap();
+
+    let serving = Serving::start(&store);
+    let client = join(&serving, &path("7.lock"), 7);
+    assert_eq!(client.insert(1, Value::from(0)), Ok(Outcome::Full));
+    let words = ["split", store_name, "80000", upper_name];
+    let refused = run(&words);
+    assert_eq!(refused.status.code(), Some(1));
+    assert!(errors(&refused).contains("served already, by process"), "{}", errors(&refused));
+    serving.signal(&["TERM"]);
+    assert_eq!(serving.ended().status.code(), Some(0));
+    let refused = run(&words);
+    assert_eq!(refused.status.code(), Some(1));
+    assert!(errors(&refused).contains("have not left: 7."), "{}", errors(&refused));
+    assert!(!upper.exists());
+
+    let serving = Serving::start(&store);
+    drop(client);
+    join(&serving, &path("7.lock"), 7).leave().unwrap();
+    serving.signal(&["TERM"]);
+    assert_eq!(serving.ended().status.code(), Some(0));
+    let split = run(&words);
+    assert_eq!(split.status.code(), Some(0), "{}", errors(&split));
+    assert!(text(&split).contains(&format!("{CUT} rows below 80000")), "{}", text(&split));
+    let again = run(&words);
+    assert_eq!(again.status.code(), Some(1));
+    assert!(errors(&again).contains("there is a file"), "{}", errors(&again));
+
+    let servers = [&store, &upper].map(|store| Serving::start(store));
+    let map = ShardMap::new(vec![shard(0, &servers[0]), shard(80_000, &servers[1])]).unwrap();
+    let clients = [1, 2, 9].map(|number| {
+        let builder = ShardedClient::builder(map.clone()).number(number);
+        builder.lock_folder(folder.path()).timeout(LONG).join().unwrap()
+    });
+    let expected: Vec<u64> = (0..FULL).map(|key| 2 * key).collect();
+    for client in &clients {
+        assert!(keys(client) == expected, "a key is lost, or there twice");
+    }
+    for (client, key) in clients.iter().zip([1, 79_999, 80_001]) {
+        assert_eq!(client.insert(key, Value::from(key / 2)), Ok(Outcome::Applied), "{key}");
+    }
+    for client in clients {
+        client.leave().unwrap();
+    }
+    for server in servers {
+        server.signal(&["TERM"]);
+        assert_eq!(server.ended().status.code(), Some(0));
+    }
+
+    let refused = run(&["merge", upper_name, store_name, whole_name]);
+    assert_eq!(refused.status.code(), Some(1));
+    assert!(errors(&refused).contains("the upper one begins at 0"), "{}", errors(&refused));
+    let refused = run(&["merge", store_name, upper_name, whole_name]);
+    assert_eq!(refused.status.code(), Some(1), "it has three rows too many");
+    assert!(errors(&refused).contains("no server could start"), "{}", errors(&refused));
+    assert!(!whole.exists());
+}
+
+#[test]
+fn two_stores_become_one() {
+    let folder = tempfile::tempdir().unwrap();
+    let path = |name: &str| folder.path().join(name).to_str().unwrap().to_string();
+    let [store, upper, whole] = ["krl.db", "upper.db", "whole.db"].map(path);
+    let mut before = full();
+    before.rows.retain(|key, _| key % 64 == 0);
+    SqliteStore::create(&store, &before).unwrap();
+    assert_eq!(run(&["split", &store, "1001", &upper]).status.code(), Some(0));
+    let merged = run(&["merge", &store, &upper, &whole]);
+    assert_eq!(merged.status.code(), Some(0), "{}", errors(&merged));
+    assert_eq!(SqliteStore::read(&whole).unwrap().snapshot, before);
+    let check = text(&run(&["check", &whole]));
+    assert!(check.contains("a server can start on it"), "{check}");
+}
+
+#[test]
+fn what_can_not_be_cut_is_told() {
+    let folder = tempfile::tempdir().unwrap();
+    let path = |name: &str| folder.path().join(name).to_str().unwrap().to_string();
+    let [none, new] = ["none.db", "new.db"].map(path);
+    for at in ["0", "-1", "x", "9223372036854775807"] {
+        let output = run(&["split", &none, at, &new]);
+        assert_eq!(output.status.code(), Some(2), "{at}");
+        if at != "-1" {
+            assert!(errors(&output).contains("a cut is a key from 1 to"), "{}", errors(&output));
+        }
+    }
+    let output = run(&["split", &none, "5", &new]);
+    assert_eq!(output.status.code(), Some(1));
+    assert!(errors(&output).contains("there is no store"), "{}", errors(&output));
+    assert_eq!(std::fs::read_dir(folder.path()).unwrap().count(), 0, "nothing was made");
+}

@@ -1,0 +1,181 @@
+//! A server and its operator over TLS, with the certificates that the packaged script makes.
+mod common;
+
+use common::{Serving, errors, lock_file, program, run, text, until};
+use krl::{Client, JoinError, Outcome, Servers, TlsConfig, Value};
+use std::path::{Path, PathBuf};
+use std::process::{Command, Output};
+
+/// A folder of certificates, and of all else that a test has.
+struct Setup {
+    folder: tempfile::TempDir,
+}
+
+impl Setup {
+    fn new(holders: &[&str]) -> Setup {
+        let folder = tempfile::tempdir().unwrap();
+        let setup = Setup { folder };
+        setup.certify(holders);
+        setup
+    }
+
+    fn certify(&self, holders: &[&str]) {
+        let script = concat!(env!("CARGO_MANIFEST_DIR"), "/../packaging/certificates");
+        let made = Command::new(script).arg(self.path()).args(holders).output().unwrap();
+        assert!(made.status.success(), "{}", errors(&made));
+    }
+
+    fn path(&self) -> &Path {
+        self.folder.path()
+    }
+
+    fn file(&self, name: &str) -> PathBuf {
+        self.path().join(name)
+    }
+
+    /// The three options of what this holder shows.
+    fn shows(&self, holder: &str) -> Vec<String> {
+        let path = |name: &str| self.file(name).to_str().unwrap().to_string();
+        let options = [
+            ("--tls-authority", path("authority.crt")),
+            ("--tls-certificate", path(&format!("{holder}.crt"))),
+            ("--tls-key", path(&format!("{holder}.key"))),
+        ];
+        options.into_iter().flat_map(|(flag, file)| [flag.to_string(), file]).collect()
+    }
+
+    fn serve(&self) -> Serving {
+        self.serve_with(&[])
+    }
+
+    fn serve_with(&self, words: &[&str]) -> Serving {
+        let mut command = program();
+        command.arg("serve").arg("--store").arg(self.file("krl.db")).args(self.shows("server"));
+        command.args(words);
+        Serving::start_by(command.args([
+            "--listen",
+            "tls:127.0.0.1:0",
+            "--status",
+            "tls:127.0.0.1:0",
+        ]))
+    }
+
+    fn join(&self, serving: &Serving, number: u8) -> Result<Client, JoinError> {
+        let [certificate, key] =
+            ["crt", "key"].map(|kind| self.file(&format!("client-{number}.{kind}")));
+        let config = TlsConfig::from_files(self.file("authority.crt"), certificate, key).unwrap();
+        let servers = Servers::from(&serving.address).with_tls(config);
+        Client::join(servers, number, lock_file(self.path(), number))
+    }
+
+    /// Runs the program with these words, and what the holder shows behind them.
+    fn run_as(&self, holder: &str, words: &[&str]) -> Output {
+        program().args(words).args(self.shows(holder)).output().unwrap()
+    }
+}
+
+#[test]
+fn operators_alone_see_the_status_and_order_backups() {
+    let setup = Setup::new(&["server", "operator", "client-3"]);
+    let serving = setup.serve();
+    let client = setup.join(&serving, 3).unwrap();
+    assert_eq!(client.insert(1, Value::from(1)), Ok(Outcome::Applied));
+    let at = serving.status.as_str();
+    assert!(at.starts_with("tls:127.0.0.1:"), "{at}");
+    let shown = setup.run_as("operator", &["status", at]);
+    assert!(text(&shown).contains("connected: 3"), "{}", errors(&shown));
+    let locks = setup.run_as("operator", &["locks", "--status", at]);
+    assert!(locks.status.success(), "{}", errors(&locks));
+    let backup = setup.file("backup.db");
+    let ordered = setup.run_as("operator", &["backup", at, backup.to_str().unwrap()]);
+    assert!(ordered.status.success() && backup.exists(), "{}", errors(&ordered));
+    let refused = setup.run_as("client-3", &["status", at]);
+    assert_eq!(refused.status.code(), Some(1), "{}", errors(&refused));
+    let refused = run(&["status", at]);
+    assert_eq!(refused.status.code(), Some(2));
+    assert!(errors(&refused).contains("needs --tls-authority"), "{}", errors(&refused));
+    // Whoever speaks no TLS hears no HTTP.
+    let plain = run(&["status", at.strip_prefix("tls:").unwrap()]);
+    assert_eq!(plain.status.code(), Some(1));
+}
+
+#[test]
+fn an_operator_evicts_and_a_client_does_not() {
+    let setup = Setup::new(&["server", "operator", "client-3", "client-4"]);
+    // With a lease the operator's word would have to wait for its end.
+    let serving = setup.serve_with(&["--lease", "off"]);
+    // A client that is gone without a Bye.
+    std::mem::forget(setup.join(&serving, 3).unwrap());
+    let at = serving.address.to_string();
+    let lock = setup.file("elsewhere.lock");
+    let words = ["evict", &at, "3", lock.to_str().unwrap()];
+    let refused = setup.run_as("client-4", &words);
+    assert_eq!(refused.status.code(), Some(1));
+    assert!(errors(&refused).contains("was turned away"), "{}", errors(&refused));
+    let evicted = setup.run_as("operator", &words);
+    assert!(evicted.status.success(), "{}", errors(&evicted));
+    until("the eviction is counted", || {
+        let shown = setup.run_as("operator", &["status", "--json", &serving.status]);
+        let shown: serde_json::Value = serde_json::from_str(&text(&shown)).unwrap();
+        shown["denied_total"].as_u64().unwrap() > 0
+    });
+}
+
+#[test]
+fn a_hangup_has_the_certificates_read_again() {
+    let setup = Setup::new(&["server", "operator", "client-1", "client-2"]);
+    let serving = setup.serve();
+    let client = setup.join(&serving, 1).unwrap();
+    std::fs::write(setup.file("server.crt"), "no certificate").unwrap();
+    serving.signal(&["HUP"]);
+    drop(setup.join(&serving, 2).expect("the old ones stay"));
+    // Another authority has certified what the server shows next: its clients turn away.
+    let other = Setup::new(&["server"]);
+    std::fs::copy(other.file("server.crt"), setup.file("server.crt")).unwrap();
+    std::fs::copy(other.file("server.key"), setup.file("server.key")).unwrap();
+    serving.signal(&["HUP"]);
+    until("the new one is shown", || {
+        matches!(setup.join(&serving, 2), Err(JoinError::TurnedAway(_)))
+    });
+    assert_eq!(client.insert(1, Value::from(1)), Ok(Outcome::Applied), "what stands goes on");
+    client.leave().unwrap();
+    serving.signal(&["TERM"]);
+    let log = serving.ended().log;
+    let has = |told: &str| log.iter().any(|event| event["message"] == told);
+    assert!(has("the certificates can't be used: the old ones stay"), "{log:?}");
+    assert!(has("the certificates are read again"), "{log:?}");
+}
+
+#[test]
+fn what_is_dangerous_or_half_said_is_refused() {
+    let setup = Setup::new(&["server"]);
+    let shows = setup.shows("server");
+    let refused = |words: &[&str], told: &str| {
+        let output = run(words);
+        assert_eq!(output.status.code(), Some(2), "{words:?}: {}", errors(&output));
+        assert!(errors(&output).contains(told), "{words:?}: {}", errors(&output));
+    };
+    refused(&["config", "--listen", "10.0.0.5:7400"], "tls:10.0.0.1:7400");
+    refused(&["config", "--listen", "plain:10.0.0.5:7400"], "say --plain-beyond-loopback");
+    refused(&["config", "--status", "plain:0.0.0.0:7401"], "say --plain-beyond-loopback");
+    refused(&["config", "--users", "1001"], "users and what each may say");
+    refused(&["config", "--table", "a table"], "1 to 64 letters");
+    let listen = ["serve", "--listen", "tls:127.0.0.1:0", "--status", "off", "--store"];
+    let store = setup.file("other.db");
+    let words = [&listen[..], &[store.to_str().unwrap()]].concat();
+    let output = run(&words);
+    assert_eq!(output.status.code(), Some(1));
+    assert!(errors(&output).contains("needs a certificate"), "{}", errors(&output));
+    let half = [&words[..], &[&shows[0], &shows[1]]].concat();
+    assert!(errors(&run(&half)).contains("TLS needs all of"), "{}", errors(&run(&half)));
+    let users = ["--users", "1001=3,4 1002=operator", "--plain-beyond-loopback"];
+    let words = [&["config", "--listen", "plain:10.0.0.5:7400"][..], &users].concat();
+    let printed = text(&run(&words));
+    for line in [
+        "listen = \"plain:10.0.0.5:7400\" # from the flag --listen",
+        "users = \"1001=3,4 1002=operator\" # from the flag --users",
+        "plain-beyond-loopback = \"yes\" # from the flag --plain-beyond-loopback",
+    ] {
+        assert!(printed.lines().any(|it| it == line), "{line} is not in {printed}");
+    }
+}
