@@ -32,7 +32,7 @@ in_or_out s f g p true e h = h (inside_span s p e)
 in_or_out s f g p false e h = refl
 
 -- what agrees at each point of the span has the same rows there
-rows_agree : (b c : Belief) (s : Bounds) (rows : List (ℕ × Value)) → ((p : ℕ) → IsPointOf s p → b.value_at p ≡ c.value_at p) → AreRows b s rows → AreRows c s rows
+pub rows_agree : (b c : Belief) (s : Bounds) (rows : List (ℕ × Value)) → ((p : ℕ) → IsPointOf s p → b.value_at p ≡ c.value_at p) → AreRows b s rows → AreRows c s rows
 rows_agree b c s rows h r = record { sorted = r.sorted; at = λ p. r.at p ∙ in_or_out s b.value_at c.value_at p (contains s p) refl (h p) }
 
 -- What all links see
