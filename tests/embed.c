@@ -159,6 +159,10 @@ static void give_leases(void) {
 }
 
 /* Shards need no handle. These begin at 0, 10 and 20. */
+static void versions(void) {
+    want(krl_version() == KRL_VERSION, "the version of the header");
+}
+
 static void cut(void) {
     const uint64_t bounds[] = {10, 20}, falling[] = {20, 10}, first[] = {0};
     krl_part parts[3];
@@ -184,6 +188,7 @@ int main(int count, char **words) {
     give_leases();
     want(seen == 0, "leases take memory");
     cut();
+    versions();
     AGAIN(reply, krl_server_open(&server, 0, entries, 3, NULL, 0));
     want(reply.detail == 1, "the epoch");
     AGAIN(reply, krl_client_open(&client, 3, 1));

@@ -22,6 +22,9 @@
 extern "C" {
 #endif
 
+/* The KRL_VERSION of the library: a host that loads it as it runs compares it with the header's. */
+uint32_t krl_version(void);
+
 /* Clients.
  *
  * Each of these calls, but for open, answers KRL_CLOSED where the handle is closed, KRL_NO_CLIENT where it keeps a

@@ -6,6 +6,12 @@
 #include <stddef.h>
 #include <stdint.h>
 
+/* The version of this interface. Two versions with the same major number and the same minor one fit one another. */
+#define KRL_VERSION_MAJOR 0
+#define KRL_VERSION_MINOR 1
+#define KRL_VERSION_PATCH 0
+#define KRL_VERSION (KRL_VERSION_MAJOR * 1000000 + KRL_VERSION_MINOR * 1000 + KRL_VERSION_PATCH)
+
 /* The last point. Keys lie below it. */
 #define KRL_END UINT64_C(9223372036854775807)
 

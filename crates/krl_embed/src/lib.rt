@@ -25,3 +25,4 @@ mod server_calls;
 mod server_exports;
 mod server_shows;
 mod shards;
+mod version;

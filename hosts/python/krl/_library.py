@@ -15,6 +15,9 @@ from .errors import LibraryError
 NAMED_BY = "KRL_SHARED_LIBRARY"
 """This variable names the file, if it is neither beside the package nor where the system looks."""
 
+VERSION = 1_000
+"""The version of ``krl.h`` whose calls are declared here: ``KRL_VERSION``."""
+
 
 class Handle(ctypes.Structure):
     """A client. One of zeros is closed."""
@@ -103,6 +106,7 @@ _CALLS: dict[str, tuple[type[ctypes.Structure] | None, list[Any]]] = {
     "krl_client_held": (Held, [_HANDLE, c_uint64]),
     "krl_client_status": (ClientState, [_HANDLE]),
     "krl_client_leave": (Reply, [_HANDLE]),
+    "krl_version": (c_uint32, []),
     "krl_take": (Reply, [_HANDLE, c_void_p, c_size_t]),
     "krl_close": (None, [_HANDLE]),
     "krl_respell_to_server": (Reply, _RESPELL),
@@ -114,7 +118,7 @@ _CALLS: dict[str, tuple[type[ctypes.Structure] | None, list[Any]]] = {
 def library() -> ctypes.CDLL:
     """The library, which is loaded once.
 
-    Raises ``LibraryError`` if it is not found, or lacks a call.
+    Raises ``LibraryError`` if it is not found, has another version, or lacks a call.
     """
     tried = []
     for place in _places():
@@ -144,4 +148,17 @@ def _declared(found: ctypes.CDLL) -> ctypes.CDLL:
         call = getattr(found, name)
         call.restype = result
         call.argtypes = arguments
+    version = found.krl_version()
+    if not fits(version):
+        raise OSError(f"{found._name} is version {spelled(version)}, not {spelled(VERSION)}")
     return found
+
+
+def fits(version: int) -> bool:
+    """Whether a library of this version has the calls as they are declared here."""
+    return version // 1000 == VERSION // 1000
+
+
+def spelled(version: int) -> str:
+    """The version as people write it."""
+    return f"{version // 1_000_000}.{version // 1000 % 1000}.{version % 1000}"

@@ -6,11 +6,12 @@ import tempfile
 import unittest
 from pathlib import Path
 
-from krl import LockFileError, Reason, Refusal
+from krl import LockFileError, Reason, Refusal, __version__
 from krl._address import Address, addresses_of
 from krl._frames import Frames, TooLong, framed
 from krl._handle import Range
 from krl._host_frames import Kind, Mark, hello, is_of_host, read
+from krl._library import VERSION, fits, spelled
 from krl._lock_file import LockFile
 from krl._pacing import Backoff, Epochs, Greeting, Heard, Silence, Silent
 from krl._pins import Pins
@@ -32,6 +33,16 @@ class FramesTest(unittest.TestCase):
         self.assertEqual(next(taken), b"one")
         with self.assertRaisesRegex(TooLong, "1025 bytes"):
             next(taken)
+
+
+class VersionTest(unittest.TestCase):
+    def test_another_patch_fits_and_another_minor_or_major_version_does_not(self) -> None:
+        self.assertTrue(fits(VERSION) and fits(VERSION + 1))
+        self.assertFalse(fits(VERSION + 1_000) or fits(VERSION - 1) or fits(VERSION + 1_000_000))
+
+    def test_the_library_and_the_package_have_one_version(self) -> None:
+        self.assertEqual(spelled(VERSION), __version__)
+        self.assertEqual(spelled(12_034_005), "12.34.5")
 
 
 class HostFramesTest(unittest.TestCase):

@@ -225,6 +225,9 @@ unsafe extern "C" {
         room: usize,
     ) -> Reply;
 
+    #[cfg(test)]
+    pub safe fn krl_version() -> u32;
+
     pub fn krl_take(handle: *mut Handle, bytes: *mut u8, room: usize) -> Reply;
     pub fn krl_close(handle: *mut Handle);
 }
@@ -233,6 +236,12 @@ unsafe extern "C" {
 mod tests {
     use super::*;
     use std::mem::{offset_of, size_of};
+
+    #[test]
+    fn the_library_has_the_version_of_this_crate() {
+        let parts = env!("CARGO_PKG_VERSION").split('.').map(|part| part.parse::<u32>().unwrap());
+        assert_eq!(krl_version(), parts.fold(0, |version, part| version * 1000 + part));
+    }
 
     /// `hosts/c/layout.c` has the same numbers, and a C compiler compares them with `krl.h`.
     #[test]
