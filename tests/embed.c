@@ -180,6 +180,19 @@ static void cut(void) {
     want(krl_parts(bounds, 2, 5, 5, parts, 3).code == KRL_BAD_SPAN, "parts of no span");
 }
 
+/* No server has room for nothing, or for more than the most. One with room for two entries takes no third. */
+static void refuse_rooms(void) {
+    const krl_row entries[] = {{10, 0, {0}}, {20, 0, {0}}, {30, 0, {0}}};
+    krl_handle server = {0};
+    krl_reply reply;
+    want(krl_server_open(&server, 0, 0, NULL, 0, NULL, 0).code == KRL_BAD_ROOM, "room for no entry");
+    want(krl_server_open(&server, KRL_MOST_ROOM + 1, 0, NULL, 0, NULL, 0).code == KRL_BAD_ROOM, "too great a room");
+    want(seen == 0 && !server.is_open, "a room that is refused");
+    reply = krl_server_open(&server, 2, 0, entries, 3, NULL, 0);
+    if (reply.code == KRL_OUT_OF_MEMORY) reply = krl_server_open(&server, 2, 0, entries, 3, NULL, 0);
+    want(reply.code == KRL_FULL && !server.is_open, "more entries than room");
+}
+
 int main(int count, char **words) {
     krl_handle server = {0}, client = {0}, other = {0};
     krl_row entries[] = {{10, 2, {1, 2}}, {20, 0, {0}}, {30, 1, {7}}}, rows[4];
@@ -189,7 +202,8 @@ int main(int count, char **words) {
     want(seen == 0, "leases take memory");
     cut();
     versions();
-    AGAIN(reply, krl_server_open(&server, 0, entries, 3, NULL, 0));
+    refuse_rooms();
+    AGAIN(reply, krl_server_open(&server, KRL_DEFAULT_ROOM, 0, entries, 3, NULL, 0));
     want(reply.detail == 1, "the epoch");
     AGAIN(reply, krl_client_open(&client, 3, 1));
     talk(&client, &server);

@@ -21,8 +21,11 @@
 /* Clients are numbered from 0. */
 #define KRL_CLIENTS 64
 
-/* The most entries of an index. */
-#define KRL_MOST_ENTRIES 65536
+/* For how many entries a server has room where nothing asks for another number. */
+#define KRL_DEFAULT_ROOM 65536
+
+/* For how many entries a server can have room, at most. */
+#define KRL_MOST_ROOM 1048576
 
 /* The most bytes of a value. */
 #define KRL_MOST_BYTES 32
@@ -81,7 +84,7 @@ enum krl_code {
     KRL_BAD_KEY = 17,
     /* Some key stands twice among the entries. */
     KRL_TWICE = 18,
-    /* There are more than 65,536 entries. */
+    /* There are more entries than there is room for. */
     KRL_FULL = 19,
     /* A mode that is none. */
     KRL_BAD_MODE = 20,
@@ -105,7 +108,9 @@ enum krl_code {
     KRL_BAD_INCARNATION = 29,
     /* Bounds that make no shards: there are more than 63, or one is not above the one before it, or is 0 or above
      * KRL_END. */
-    KRL_BAD_SHARDS = 30
+    KRL_BAD_SHARDS = 30,
+    /* Room for no entry, or for more than KRL_MOST_ROOM. */
+    KRL_BAD_ROOM = 31
 };
 
 /* What is wrong with bytes that are no message: the first fault from the left. */
@@ -171,7 +176,7 @@ enum krl_outcome {
     KRL_ABSENT = 3,
     /* The client did not hold what the write needs. */
     KRL_OUTCOME_NOT_HELD = 4,
-    /* An insert into an index that has its 65,536 entries. */
+    /* An insert into an index that has as many entries as it has room for. */
     KRL_OUTCOME_FULL = 5
 };
 

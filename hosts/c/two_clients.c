@@ -128,7 +128,7 @@ static krl_row row(uint64_t key, const char *value)
 int main(void)
 {
     const krl_row entries[] = { row(10, "ten"), row(20, "twenty") };
-    krl_reply opened = krl_server_open(&server, 0, entries, 2, NULL, 0);
+    krl_reply opened = krl_server_open(&server, KRL_DEFAULT_ROOM, 0, entries, 2, NULL, 0);
     expect("server_open", opened);
     printf("keep: epoch %" PRIu64 "\n", opened.detail);
     for (int client = 0; client < CLIENTS; client++)

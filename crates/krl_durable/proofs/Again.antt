@@ -1,6 +1,6 @@
 -- What survives, written out and brought back.
 use Rattle.krl_durable.proofs.Names.{◌≡◌, ℕ, zero, suc, ◌≤◌, ◌<◌, true, false, List, [], ◌∷◌, length, take, refl, sym, ap, ◌∙◌, arith, ◌||◌, nat_tests, nat_cmp_total, END, Value, Index, has_key}
-use Rattle.krl_durable.proofs.Names.{Register, Durable, most_entries, AreBelowEnd, key_of_entry, stands_before, Refuses, MakesAgain}
+use Rattle.krl_durable.proofs.Names.{Register, Durable, AreBelowEnd, key_of_entry, stands_before, Refuses, MakesAgain}
 use Rattle.std.specs.Prelude.{nat_eq}
 use Rattle.std.specs.FinMap as map
 use Rattle.krl_durable.specs.declared.refused.Refused.{Refused}
@@ -31,20 +31,20 @@ module _ {V : Type 0} where
       ∙ not_before es i h.1 (omega (arith, lt))
 
 -- entries in order, below END and not too many, are refused for want of memory alone
-for_memory : (es : List (ℕ × Value)) → Rises es → AreBelowEnd es → length es ≤ most_entries → (e : Refused) → Refuses es e → e ≡ refused.OutOfMemory
-for_memory es rise below few refused.OutOfMemory h = refl
-for_memory es rise below few refused.Full h = absurd (omega (arith, few, h))
-for_memory es rise below few refused.BadKey h = absurd (omega (arith, h.4, key_below es h.1 below h.2))
-for_memory es rise below few refused.Twice h = absurd (let bad : true ≡ false = sym h.5 ∙ not_before es h.1 rise h.2 in cc)
+for_memory : (room : ℕ) (es : List (ℕ × Value)) → Rises es → AreBelowEnd es → length es ≤ room → (e : Refused) → Refuses room es e → e ≡ refused.OutOfMemory
+for_memory room es rise below few refused.OutOfMemory h = refl
+for_memory room es rise below few refused.Full h = absurd (omega (arith, few, h))
+for_memory room es rise below few refused.BadKey h = absurd (omega (arith, h.4, key_below es h.1 below h.2))
+for_memory room es rise below few refused.Twice h = absurd (let bad : true ≡ false = sym h.5 ∙ not_before es h.1 rise h.2 in cc)
 
 -- the entries of a map make it again
 entries_again : (m : Index) → map.from_entries (map.entries m) ≡ m
 entries_again m = map.same_map nat_cmp_total map.nat_cmp-IsAntisymmetric (map.from_entries (map.entries m)) m
     (λ q. map.get-from_entries nat_cmp_total (map.entries m) q ∙ sym (map.get-entries m q))
 
-pub makes_again : (d : Durable) (records : Register) → AreBelowEnd (map.entries d.index) → length (map.entries d.index) ≤ most_entries → records ≡ d.register → MakesAgain d records
+pub makes_again : (d : Durable) (records : Register) → AreBelowEnd (map.entries d.index) → length (map.entries d.index) ≤ d.room → records ≡ d.register → MakesAgain d records
 makes_again d records below few e = record {
-  taken = for_memory (map.entries d.index) (rises (map.entries d.index) (sorted_entries d.index (map.entries d.index) refl)) below few;
-  same = ap (λ m. let x : Durable = record { index = m; epoch = d.epoch; register = records } in x) (entries_again d.index)
+  taken = for_memory d.room (map.entries d.index) (rises (map.entries d.index) (sorted_entries d.index (map.entries d.index) refl)) below few;
+  same = ap (λ m. let x : Durable = record { room = d.room; index = m; epoch = d.epoch; register = records } in x) (entries_again d.index)
       ∙ ap (λ r. record d { register = r }) e;
 }

@@ -20,6 +20,7 @@ use Rattle.krl_messages.proofs.Crosses.{value_sent, outcome_sent}
 use Rattle.krl_blocks.proofs.Crosses.{number_sent, blocks_sent}
 use Rattle.krl_durable.specs.contracts.record.Record as record_kept
 use Rattle.krl_durable.specs.contracts.register.Register as register
+use Rattle.krl_durable.specs.contracts.room.Room as room
 use Rattle.krl_durable.specs.contracts.index.Index as index
 use Rattle.krl_durable.specs.contracts.durable.Durable as durable
 
@@ -56,9 +57,12 @@ register_inside = recorded_send _ _ (register.TheInside.the_type).to (register.T
 register_sent : IsSend (register.the_field).row
 register_sent = view_send _ _ _ _ _ register_inside
 
+room_sent : IsSend (room.the_field).row
+room_sent = search sendable depth 24 fits 4000
+
 index_inside : IsSend index.TheInside.the_row
 index_inside = recorded_send _ _ (index.TheInside.the_type).to (index.TheInside.the_type).to_one
-    (struct_send (shape index.TheInside.the_type) (blocks_sent _ value_sent, tt))
+    (struct_send (shape index.TheInside.the_type) (blocks_sent _ value_sent, (room_sent, tt)))
 
 index_sent : IsSend (index.the_field).row
 index_sent = view_send _ _ _ _ _ index_inside

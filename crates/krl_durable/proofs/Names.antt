@@ -18,7 +18,7 @@ pub use Rattle.krl_durable.specs.Kept.{IsRow, IsKept, IsEntries, missing_of, IsR
 pub use Rattle.krl_durable.specs.InitialEntries.{MakesAgain, stands_before, IsGood, Refuses, AreGood, key_of_entry}
 pub use Rattle.krl_durable.specs.Registers.{Register, HasIncarnations, Durable, missing_order, HasLasts, with_record, HasOutcomes, record_of}
 pub use Rattle.krl_durable.specs.Writes.{judge}
-unfoldable pub use Rattle.krl_durable.specs.Writes.{most_entries}
+unfoldable pub use Rattle.krl_durable.specs.Writes.{most_entries, most_room}
 pub use Rattle.krl_durable.specs.declared.record.Record.{Record}
 pub use Rattle.krl_messages.specs.Values.{Value}
 pub use Rattle.krl_modes.specs.declared.point.TheConstants.{END}

@@ -1,7 +1,7 @@
 -- What a search in the blocks says of the index.
 use Rattle.std.proofs.Common.{◌≡◌, ◌≢◌, ℕ, suc, ◌≤◌, ◌<◌, Bool, true, false, cond, List, [], ◌∷◌, ◌++◌, length, take, drop, Option, None, Some, IfSome, MatchOption, refl, sym, ap, subst, ◌∙◌, arith, is_some}
 use Rattle.krl_durable.proofs.Names.{nat_tests, take-append-drop, head_none, nat_lt, AllByRecursion, slice_get, filter, nat_cmp, eq_by_cmp, find, put, is_sorted, END, Value, AreBelow, AreFrom, NoKey, KeysAbove}
-use Rattle.krl_durable.proofs.Names.{KeysRise, HasEntry, IsFound, IsInserted, IsRemoved, IsChanged, last_key, after_keys, low_of, behind, slot_of, AreBelowEnd, IsEntries, most_entries}
+use Rattle.krl_durable.proofs.Names.{KeysRise, HasEntry, IsFound, IsInserted, IsRemoved, IsChanged, last_key, after_keys, low_of, behind, slot_of, AreBelowEnd, IsEntries}
 use Rattle.std.proofs.Math.Seq.{take-append_seam, drop-append_seam}
 use Rattle.std.specs.FinMap as map
 use Rattle.krl_blocks.proofs.Places.{front_all}
@@ -201,11 +201,11 @@ abbrev BelowEnd : ℕ × Value → Type 0
 BelowEnd e = nat_lt e.0 END ≡ true
 
 -- the list that is kept, and what it is kept of
-abbrev pub KeptFor : map.FinMap nat_cmp Value → List (ℕ × Value) → ℕ → Type 0
-KeptFor m fs room = (map.from_sorted fs ≡ m) × IsEntries fs room
+abbrev pub KeptFor : map.FinMap nat_cmp Value → List (ℕ × Value) → ℕ → ℕ → Type 0
+KeptFor m fs room capacity = (map.from_sorted fs ≡ m) × IsEntries fs room capacity
 
-module _ (k : ℕ) (v : Value) (es fs : List (ℕ × Value)) (m : map.FinMap nat_cmp Value) (room : ℕ) (kept : IsEntries es room) (seen : map.from_sorted es ≡ m) where
-  pub kept_inserted : k < END → is_some (map.get m k) ≡ false → length es < most_entries → IsInserted es fs k v → KeptFor (map.insert m k v) fs room
+module _ (k : ℕ) (v : Value) (es fs : List (ℕ × Value)) (m : map.FinMap nat_cmp Value) (room capacity : ℕ) (kept : IsEntries es room capacity) (seen : map.from_sorted es ≡ m) where
+  pub kept_inserted : k < END → is_some (map.get m k) ≡ false → length es < room → IsInserted es fs k v → KeptFor (map.insert m k v) fs room capacity
   kept_inserted lt new less i =
       let n = length i.front in
       let made : fs ≡ map.entries (map.insert m k v) =
@@ -215,10 +215,10 @@ module _ (k : ℕ) (v : Value) (es fs : List (ℕ × Value)) (m : map.FinMap nat
       let end : nat_lt k END ≡ true = grind (arith, nat_tests, lt) in
       let len : length fs ≡ suc (length es) = ap length i.new ∙ length_between i.front i.back (k, v) ∙ ap (λ (xs : List (ℕ × Value)). suc (length xs)) (sym i.old) in (
         same_entries_seen (map.insert m k v) fs made,
-        kept_as (map.insert m k v) fs room made (subst AreBelowEnd (sym i.new) (all_between BelowEnd i.front i.back (k, v) end (subst AreBelowEnd i.old kept.below))) (omega (arith, len, less)) kept.room,
+        kept_as (map.insert m k v) fs room capacity made (subst AreBelowEnd (sym i.new) (all_between BelowEnd i.front i.back (k, v) end (subst AreBelowEnd i.old kept.below))) (omega (arith, len, less)) kept.fits,
       )
 
-  pub kept_changed : (P : Type 0) (o : Option Value) → is_some (map.get m k) ≡ true → MatchOption o (NoKey k es × P) (λ was. IsChanged es fs k v was) → KeptFor (map.insert m k v) fs room
+  pub kept_changed : (P : Type 0) (o : Option Value) → is_some (map.get m k) ≡ true → MatchOption o (NoKey k es × P) (λ was. IsChanged es fs k v was) → KeptFor (map.insert m k v) fs room capacity
   kept_changed P None there h = absurd (let bad : false ≡ true = sym (ap is_some (map.get-entries m k ∙ ap (find nat_cmp k) (entries_kept es m kept.sorted seen) ∙ find_none k es h.0)) ∙ there in cc)
   kept_changed P (Some was) there i =
       let n = length i.front in
@@ -232,11 +232,11 @@ module _ (k : ℕ) (v : Value) (es fs : List (ℕ × Value)) (m : map.FinMap nat
       let whole = all_without BelowEnd i.front i.back e (subst AreBelowEnd i.old kept.below) in
       let len : length fs ≡ length es = ap length i.new ∙ length_between i.front i.back (k, v) ∙ sym (ap length i.old ∙ length_between i.front i.back e) in (
         same_entries_seen (map.insert m k v) fs made,
-        kept_as (map.insert m k v) fs room made (subst AreBelowEnd (sym i.new) (all_between BelowEnd i.front i.back (k, v) whole.0 whole.1)) (let few = kept.few in omega (arith, len, few)) kept.room,
+        kept_as (map.insert m k v) fs room capacity made (subst AreBelowEnd (sym i.new) (all_between BelowEnd i.front i.back (k, v) whole.0 whole.1)) (let few = kept.few in omega (arith, len, few)) kept.fits,
       )
 
-module _ (k : ℕ) (es fs : List (ℕ × Value)) (m : map.FinMap nat_cmp Value) (room : ℕ) (kept : IsEntries es room) (seen : map.from_sorted es ≡ m) where
-  pub kept_removed : (P : Type 0) (o : Option Value) → is_some (map.get m k) ≡ true → MatchOption o (NoKey k es × P) (λ was. IsRemoved es fs k was) → KeptFor (map.remove m k) fs room
+module _ (k : ℕ) (es fs : List (ℕ × Value)) (m : map.FinMap nat_cmp Value) (room capacity : ℕ) (kept : IsEntries es room capacity) (seen : map.from_sorted es ≡ m) where
+  pub kept_removed : (P : Type 0) (o : Option Value) → is_some (map.get m k) ≡ true → MatchOption o (NoKey k es × P) (λ was. IsRemoved es fs k was) → KeptFor (map.remove m k) fs room capacity
   kept_removed P None there h = absurd (let bad : false ≡ true = sym (ap is_some (map.get-entries m k ∙ ap (find nat_cmp k) (entries_kept es m kept.sorted seen) ∙ find_none k es h.0)) ∙ there in cc)
   kept_removed P (Some was) there i =
       let n = length i.front in
@@ -250,5 +250,5 @@ module _ (k : ℕ) (es fs : List (ℕ × Value)) (m : map.FinMap nat_cmp Value) 
       let whole = all_without BelowEnd i.front i.back e (subst AreBelowEnd i.old kept.below) in
       let len : length es ≡ suc (length fs) = ap length i.old ∙ length_between i.front i.back e ∙ ap (λ (xs : List (ℕ × Value)). suc (length xs)) (sym i.new) in (
         same_entries_seen (map.remove m k) fs made,
-        kept_as (map.remove m k) fs room made (subst AreBelowEnd (sym i.new) whole.1) (let few = kept.few in omega (arith, len, few)) kept.room,
+        kept_as (map.remove m k) fs room capacity made (subst AreBelowEnd (sym i.new) whole.1) (let few = kept.few in omega (arith, len, few)) kept.fits,
       )

@@ -26,15 +26,15 @@ IsGood es i = (key_of_entry es i < END) × (stands_before es i ≡ false)
 abbrev pub AreGood : {V : Type 0} → List (ℕ × V) → ℕ → Type 0
 AreGood es n = (i : ℕ) → i < n → IsGood es i
 
--- Why these entries may be refused: there are too many; or the first entry that is not good has a key of
--- END or more, or one that stands before; or memory was not there, whatever the entries.
-abbrev pub Refuses : {V : Type 0} → List (ℕ × V) → Refused → Type 0
-Refuses es refused.OutOfMemory = Unit {0}
-Refuses es refused.Full = most_entries < length es
-Refuses es refused.BadKey =
-    (length es ≤ most_entries) × (i : ℕ) × (i < length es) × AreGood es i × (END ≤ key_of_entry es i)
-Refuses es refused.Twice =
-    (length es ≤ most_entries) × (i : ℕ) × (i < length es) × AreGood es i × (key_of_entry es i < END)
+-- Why these entries may be refused in an index with room for so many: there are more; or the first entry that is not
+-- good has a key of END or more, or one that stands before; or memory was not there, whatever the entries.
+abbrev pub Refuses : {V : Type 0} → ℕ → List (ℕ × V) → Refused → Type 0
+Refuses room es refused.OutOfMemory = Unit {0}
+Refuses room es refused.Full = room < length es
+Refuses room es refused.BadKey =
+    (length es ≤ room) × (i : ℕ) × (i < length es) × AreGood es i × (END ≤ key_of_entry es i)
+Refuses room es refused.Twice =
+    (length es ≤ room) × (i : ℕ) × (i < length es) × AreGood es i × (key_of_entry es i < END)
     × (stands_before es i ≡ true)
 
 abbrev pub refused_name : Refused → List ℕ
@@ -44,15 +44,16 @@ refused_name refused.Twice = codes "Twice"
 refused_name refused.Full = codes "Full"
 
 -- just these parts
-abbrev pub of_parts : List (ℕ × Value) → ℕ → Register → Durable
-of_parts es epoch register = record { index = map.from_entries es; epoch = epoch; register = register }
+abbrev pub of_parts : ℕ → List (ℕ × Value) → ℕ → Register → Durable
+of_parts room es epoch register =
+    record { room = room; index = map.from_entries es; epoch = epoch; register = register }
 
--- nothing has happened to these entries
+-- nothing has happened to these entries, and there is the room where none is named
 abbrev pub fresh : List (ℕ × Value) → Durable
-fresh es = of_parts es 0 []
+fresh es = of_parts most_entries es 0 []
 
 -- d can be written out and brought back: the entries of its index are refused for want of memory alone, and with its
--- epoch and these records they make d again
+-- room, its epoch and these records they make d again
 pub record MakesAgain (d : Durable) (records : Register) : Type 0 where
-  pub taken : (e : Refused) → Refuses (map.entries d.index) e → e ≡ refused.OutOfMemory
-  pub same : of_parts (map.entries d.index) d.epoch records ≡ d
+  pub taken : (e : Refused) → Refuses d.room (map.entries d.index) e → e ≡ refused.OutOfMemory
+  pub same : of_parts d.room (map.entries d.index) d.epoch records ≡ d

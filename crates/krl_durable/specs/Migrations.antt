@@ -9,6 +9,7 @@ use Rattle.krl_durable.specs.declared.not_migrated.NotMigrated.{NotMigrated}
 use Rattle.krl_durable.specs.declared.not_migrated.NotMigrated.TheVariants as refused
 use Rattle.krl_durable.specs.Registers.{Register, Durable, missing_order}
 use Rattle.krl_durable.specs.Kept.{AreOrdered}
+use Rattle.krl_durable.specs.Writes.{most_entries}
 
 -- what survived: each value a number
 pub record DurableV1 : Type 0 where
@@ -18,7 +19,7 @@ pub record DurableV1 : Type 0 where
 
 -- how it is kept
 pub record IsKeptV1 (es : List (ℕ × ℕ)) (epoch : ℕ) : Type 0 where
-  pub ordered : AreOrdered es
+  pub ordered : AreOrdered most_entries es
   pub most : epoch ≤ END
 
 -- just these parts
@@ -29,9 +30,10 @@ of_numbers es epoch register = record { index = map.from_entries es; epoch = epo
 abbrev pub migrated_entries : List (ℕ × ℕ) → List (ℕ × Value)
 migrated_entries es = each_of (λ e. (e.0, to_be_bytes w64 e.1)) es
 
--- the same keys, epoch, register and records, each value its eight bytes
+-- the same keys, epoch, register and records, each value its eight bytes, and the room where none is named
 abbrev pub migrated : DurableV1 → Durable
 migrated d = record {
+  room = most_entries;
   index = map.from_entries (migrated_entries (map.entries d.index));
   epoch = d.epoch;
   register = d.register;

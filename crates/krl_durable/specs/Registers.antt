@@ -10,6 +10,8 @@ Register = List (ℕ × Record)
 
 -- what survives a restart
 pub record Durable : Type 0 where
+  -- how many entries the index has room for
+  pub room : ℕ
   pub index : Index
   pub epoch : ℕ
   pub register : Register

@@ -1,5 +1,5 @@
 -- Writes: what each needs, how it is judged, and what it makes of the index and the register.
-use Rattle.std.specs.Prelude.{ℕ, suc, Bool, not, ◌&&◌, nat_lt, length, Option, Some, None, is_some, if◌then◌else◌}
+use Rattle.std.specs.Prelude.{ℕ, suc, ◌≤◌, Bool, not, ◌&&◌, nat_lt, length, Option, Some, None, is_some, if◌then◌else◌}
 use Rattle.std.specs.FinMap as map
 use Rattle.krl_modes.specs.declared.mode.Mode.{Mode}
 use Rattle.krl_modes.specs.Modes.{range_of, key_of}
@@ -12,9 +12,17 @@ use Rattle.krl_durable.specs.declared.record.Record.{Record}
 use Rattle.krl_durable.specs.Index.{Index, slot_of}
 use Rattle.krl_durable.specs.Registers.{Durable, record_of, with_record}
 
--- the most entries of an index
+-- how many entries an index has room for, where nothing else is said
 unfoldable pub most_entries : ℕ
 most_entries = 65536
+
+-- the most entries that an index can have room for
+unfoldable pub most_room : ℕ
+most_room = 1048576
+
+-- an index can have room for so many entries
+abbrev pub IsRoom : ℕ → Type 0
+IsRoom n = (1 ≤ n) × (n ≤ most_room)
 
 -- the writer's modes, by slot, are what the write needs
 abbrev pub held : Index → (ℕ → Mode) → WriteOp → Bool
@@ -35,12 +43,12 @@ abbrev pub judged_change : Bool → Bool → Outcome
 judged_change present may =
     if present then (if may then outcome.Applied else outcome.NotHeld) else outcome.Absent
 
--- how a write is judged, where the writer has what it needs or not
-abbrev pub judge : Index → WriteOp → Bool → Outcome
-judge m (write.Insert k v) may =
-    judged_insert (is_some (map.get m k)) may (not (nat_lt (length (map.entries m)) most_entries))
-judge m (write.Put k v) may = judged_change (is_some (map.get m k)) may
-judge m (write.Delete k) may = judged_change (is_some (map.get m k)) may
+-- how a write is judged in an index with room for so many entries, where the writer has what it needs or not
+abbrev pub judge : ℕ → Index → WriteOp → Bool → Outcome
+judge room m (write.Insert k v) may =
+    judged_insert (is_some (map.get m k)) may (not (nat_lt (length (map.entries m)) room))
+judge room m (write.Put k v) may = judged_change (is_some (map.get m k)) may
+judge room m (write.Delete k) may = judged_change (is_some (map.get m k)) may
 
 -- what a write makes of the index
 abbrev pub written : Index → WriteOp → Index

@@ -16,7 +16,7 @@ ghost use Rattle.krl_durable.specs.Kept.{IsKept, IsRow};
 ghost use Rattle.krl_durable.specs.InitialEntries.{AreGood, Refuses, MakesAgain, of_parts, fresh};
 ghost use Rattle.krl_durable.specs.Migrations.{migrated_entries, migrated, CannotMigrate};
 ghost use Rattle.krl_messages.specs.Writes.{op_key};
-ghost use Rattle.krl_durable.specs.Writes.{most_entries, judge, applied};
+ghost use Rattle.krl_durable.specs.Writes.{most_entries, IsRoom, judge, applied};
 
 use crate::durable_v1::DurableV1;
 use crate::index::Index;
@@ -24,6 +24,7 @@ use crate::not_migrated::NotMigrated;
 use crate::record::Record;
 use crate::refused::Refused;
 use crate::register::Register;
+use crate::room::Room;
 use crate::slot::Slot;
 use krl_blocks::Entries;
 use krl_messages::{Outcome, Value, WriteOp};
@@ -56,7 +57,12 @@ impl Model for Durable {
       record_contract.the_row.coded,
     ) };
 
-    ghost view = { λ d. record { index = d.index; epoch = d.epoch; register = d.register } };
+    ghost view = { λ d. record {
+      room = d.index.room;
+      index = d.index.index;
+      epoch = d.epoch;
+      register = d.register;
+    } };
 
     ghost invariant = { λ d. d.epoch ≤ END };
 }
@@ -83,9 +89,9 @@ impl Durable {
         ensures { MatchResult result
             (λ d. (length entries.now ≤ most_entries) × AreGood entries.now (length entries.now)
             × (d ≡ fresh entries.now))
-            (Refuses entries.now) }
+            (Refuses most_entries entries.now) }
     {
-        let index = Index::new(alloc, entries)?;
+        let index = Index::new(alloc, Room::standard(), entries)?;
         Ok(Durable {
             index,
             epoch: 0,
@@ -94,19 +100,20 @@ impl Durable {
     }
 
     /// What was kept elsewhere: these entries, in any order, at this epoch, and these records of
-    /// clients, in order of first registration. There is room for 65,536 entries from the start, so
-    /// that no later write takes memory.
+    /// clients, in order of first registration. There is room for so many entries from the start,
+    /// so that no later write takes memory.
     ///
     /// Clients are below 64, with one record each; an incarnation is from 1 to END, `last` at most
     /// END, and the outcome None exactly where `last` is 0.
     ///
     /// # Errors
     ///
-    /// As of `new`: `Full` above 65,536 entries; else the first bad entry in order, by `BadKey`
-    /// where its key is END or more, or by `Twice` where its key stands before; and `OutOfMemory`
-    /// at any point.
+    /// As of `new`: `Full` where there are more than the room; else the first bad entry in order,
+    /// by `BadKey` where its key is END or more, or by `Twice` where its key stands before; and
+    /// `OutOfMemory` at any point.
     pub fn from_parts(
         alloc: Global,
+        room: Room,
         entries: &[(u64, Value)],
         epoch: u64,
         records: &[(u64, Record)],
@@ -115,11 +122,11 @@ impl Durable {
         requires each { AllByRecursion IsRow records.now }
         requires once { IsDistinct nat_eq (keys_of records.now) }
         ensures { MatchResult result
-            (λ d. (length entries.now ≤ most_entries) × AreGood entries.now (length entries.now)
-            × (d ≡ of_parts entries.now epoch records.now))
-            (Refuses entries.now) }
+            (λ d. (length entries.now ≤ room) × AreGood entries.now (length entries.now)
+            × (d ≡ of_parts room entries.now epoch records.now))
+            (Refuses room entries.now) }
     {
-        let index = Index::new(alloc, entries)?;
+        let index = Index::new(alloc, room, entries)?;
         let register = Register::from_records(alloc, records)?;
         Ok(Durable {
             index,
@@ -147,7 +154,7 @@ impl Durable {
         }
         let entries = migrated_entries(alloc, old.entries())?;
         let records = old.records(alloc)?;
-        match Durable::from_parts(alloc, &entries, old.epoch(), &records) {
+        match Durable::from_parts(alloc, Room::standard(), &entries, old.epoch(), &records) {
             Ok(durable) => Ok(durable),
             Err(_) => Err(NotMigrated::OutOfMemory),
         }
@@ -159,6 +166,7 @@ impl Durable {
         ensures kept { IsKept self.now }
     {
         self.index.entries();
+        self.index.room();
         self.register.rows();
         self.epoch
     }
@@ -169,6 +177,14 @@ impl Durable {
         ensures { self.new ≡ record self.old { epoch = suc self.old.epoch } }
     {
         self.epoch += 1;
+    }
+
+    /// How many entries the index has room for. It stays as it was given.
+    pub fn room(&self) -> Room
+        ensures room { result ≡ self.now.room }
+        ensures in_range { IsRoom self.now.room }
+    {
+        self.index.room()
     }
 
     /// The entries of the index, in key order, as runs that lie side by side. It takes no memory.
@@ -229,8 +245,8 @@ impl Durable {
         self.register.get(c)
     }
 
-    /// The records, in order of first registration. With the entries and the epoch, `from_parts`
-    /// makes of them what survives here, and refuses them for want of memory alone.
+    /// The records, in order of first registration. With the room, the entries and the epoch,
+    /// `from_parts` makes of them what survives here, and refuses them for want of memory alone.
     ///
     /// # Errors
     ///
@@ -293,7 +309,7 @@ impl Durable {
 
     /// How a write is judged, where the table grants what it needs or not.
     pub fn judge(&self, op: WriteOp, held: bool) -> Outcome
-        ensures { result ≡ judge self.now.index op held }
+        ensures { result ≡ judge self.now.room self.now.index op held }
     {
         self.index.judge(op, held)
     }
@@ -304,7 +320,7 @@ impl Durable {
     pub fn apply(&mut self, c: u64, op: WriteOp, held: bool) -> Outcome
         requires key { op_key op < END }
         requires unspent { IsSomeAnd (record_of self.old.register c) (λ r. r.last < END) }
-        ensures outcome { result ≡ judge self.old.index op held }
+        ensures outcome { result ≡ judge self.old.room self.old.index op held }
         ensures applied { self.new ≡ applied self.old c op result }
     {
         let outcome = self.index.apply(op, held);

@@ -14,6 +14,7 @@ use crate::entry_map::ordered;
 use crate::record::Record;
 use crate::refused::Refused;
 use crate::register::Register;
+use crate::room::Room;
 use std::alloc::{AllocError, Global};
 use std::marker::Model;
 
@@ -58,9 +59,9 @@ impl DurableV1 {
         ensures { MatchResult result
             (λ d. (length entries.now ≤ most_entries) × AreGood entries.now (length entries.now)
             × (d ≡ of_numbers entries.now 0 []))
-            (Refuses entries.now) }
+            (Refuses most_entries entries.now) }
     {
-        let entries = ordered(alloc, entries)?;
+        let entries = ordered(alloc, Room::standard(), entries)?;
         Ok(DurableV1 {
             entries,
             epoch: 0,
@@ -89,9 +90,9 @@ impl DurableV1 {
         ensures { MatchResult result
             (λ d. (length entries.now ≤ most_entries) × AreGood entries.now (length entries.now)
             × (d ≡ of_numbers entries.now epoch records.now))
-            (Refuses entries.now) }
+            (Refuses most_entries entries.now) }
     {
-        let entries = ordered(alloc, entries)?;
+        let entries = ordered(alloc, Room::standard(), entries)?;
         let register = Register::from_records(alloc, records)?;
         Ok(DurableV1 {
             entries,
@@ -111,7 +112,7 @@ impl DurableV1 {
     /// The entries of the index, in key order.
     pub fn entries(&self) -> &[(u64, u64)]
         ensures entries { result.now ≡ map.entries self.now.index }
-        ensures ordered { AreOrdered result.now }
+        ensures ordered { AreOrdered most_entries result.now }
     {
         self.entries.as_slice()
     }

@@ -16,7 +16,7 @@ pub enum Refused {
     BadKey,
     /// A key that stands twice.
     Twice,
-    /// More than 65,536 entries.
+    /// More entries than there is room for.
     Full,
 }
 

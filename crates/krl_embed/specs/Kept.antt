@@ -60,8 +60,8 @@ pub record ChangesAreKept : Type 0 where
   pub named : (o : Option Change) → change_named (change_row o) ≡ o
   -- a server that is opened on some parts has them, at the next epoch
   pub opened :
-      (epoch : ℕ) (entries : List Row) (records : List RecordRow) (s : State)
-      → meaning s ≡ start (parts epoch entries records) → (meaning s).durable ≡ raised (parts epoch entries records)
+      (room epoch : ℕ) (entries : List Row) (records : List RecordRow) (s : State)
+      → meaning s ≡ start (parts room epoch entries records) → (meaning s).durable ≡ raised (parts room epoch entries records)
   -- after any answers, what they make of what survived before them is what survives
   pub kept :
       (s t : State) (rs : List Stepped) → AllAnswered s rs t → (meaning t).durable ≡ all_kept rs (meaning s).durable

@@ -1,5 +1,5 @@
 -- What opening a client or a server does.
-use Rattle.std.specs.Prelude.{◌≡◌, ◌≤◌, ◌<◌, ℕ, suc, List, [], ◌∷◌, length, map, Option, Some, None, nat_eq, true}
+use Rattle.std.specs.Prelude.{◌≡◌, ◌≤◌, ◌<◌, ◌⊎◌, ℕ, suc, List, [], ◌∷◌, length, map, Option, Some, None, nat_eq, true}
 use Rattle.std.specs.Prelude.{if◌then◌else◌, ◌==◌, nat_lt, unwrap_or}
 use Rattle.std.specs.List.{AllByRecursion, IsDistinct}
 use Rattle.std.specs.Map.{keys_of}
@@ -11,7 +11,7 @@ use Rattle.krl_durable.specs.declared.refused.Refused.{Refused}
 use Rattle.krl_durable.specs.declared.refused.Refused.TheVariants as refused
 use Rattle.krl_durable.specs.Registers.{Durable}
 use Rattle.krl_durable.specs.InitialEntries.{of_parts, Refuses, AreGood}
-use Rattle.krl_durable.specs.Writes.{most_entries}
+use Rattle.krl_durable.specs.Writes.{IsRoom}
 use Rattle.krl_client.specs.Clients.{begun}
 use Rattle.krl_client.specs.Ticks.{says_hello}
 use Rattle.krl_client.specs.Fields.{Fields}
@@ -62,8 +62,8 @@ Begins number incarnation None after r = BeginsClosed number incarnation after r
 Begins number incarnation (Some e) after r = (after ≡ Some e) × IsCode code.OpenAlready r
 
 -- what was kept
-abbrev pub parts : ℕ → List Row → List RecordRow → Durable
-parts epoch entries records = of_parts (map entry_of entries) epoch (map record_of records)
+abbrev pub parts : ℕ → ℕ → List Row → List RecordRow → Durable
+parts room epoch entries records = of_parts room (map entry_of entries) epoch (map record_of records)
 
 -- a server that starts on what was kept
 abbrev pub IsStartedRole : Durable → Role → Type 0
@@ -102,37 +102,43 @@ pub record HasParts (epoch : ℕ) (entries : List Row) (records : List RecordRow
   pub each : AllByRecursion (λ r. is_record r ≡ true) records
   pub once : IsDistinct nat_eq (keys_of (map record_of records))
 
--- no index begins with the entries, of which nothing else is wrong
-abbrev pub RefusesEntries : ℕ → List Row → List RecordRow → ℕ → Refused → Type 0
-RefusesEntries epoch entries records i why =
-    HasParts epoch entries records × Refuses (map entry_of entries) why × (i ≡ 0)
+-- no index with this room begins with the entries, of which nothing else is wrong
+abbrev pub RefusesEntries : ℕ → ℕ → List Row → List RecordRow → ℕ → Refused → Type 0
+RefusesEntries room epoch entries records i why =
+    HasParts epoch entries records × Refuses room (map entry_of entries) why × (i ≡ 0)
 
--- why none starts: the first reason in the order of these lines, or memory
-abbrev pub RefusesParts : ℕ → List Row → List RecordRow → ℕ → Option Code → Type 0
-RefusesParts epoch entries records i (Some code.Spent) = (END ≤ epoch) × (i ≡ 0)
-RefusesParts epoch entries records i (Some code.BadValue) = (epoch < END) × IsTooLong entries i
-RefusesParts epoch entries records i (Some code.BadRecord) = HasValues epoch entries × IsFirstBad records i
-RefusesParts epoch entries records i (Some code.Full) = RefusesEntries epoch entries records i refused.Full
-RefusesParts epoch entries records i (Some code.BadKey) = RefusesEntries epoch entries records i refused.BadKey
-RefusesParts epoch entries records i (Some code.Twice) = RefusesEntries epoch entries records i refused.Twice
-RefusesParts epoch entries records i (Some code.OutOfMemory) = i ≡ 0
-RefusesParts epoch entries records i _ = ⊥
+-- why none starts with this room: the first reason in the order of these lines, or memory
+abbrev pub RefusesParts : ℕ → ℕ → List Row → List RecordRow → ℕ → Option Code → Type 0
+RefusesParts room epoch entries records i (Some code.Spent) = (END ≤ epoch) × (i ≡ 0)
+RefusesParts room epoch entries records i (Some code.BadValue) = (epoch < END) × IsTooLong entries i
+RefusesParts room epoch entries records i (Some code.BadRecord) = HasValues epoch entries × IsFirstBad records i
+RefusesParts room epoch entries records i (Some code.Full) = RefusesEntries room epoch entries records i refused.Full
+RefusesParts room epoch entries records i (Some code.BadKey) = RefusesEntries room epoch entries records i refused.BadKey
+RefusesParts room epoch entries records i (Some code.Twice) = RefusesEntries room epoch entries records i refused.Twice
+RefusesParts room epoch entries records i (Some code.OutOfMemory) = i ≡ 0
+RefusesParts room epoch entries records i _ = ⊥
 
-abbrev pub RefusesOpening : ℕ → List Row → List RecordRow → Reply → Type 0
-RefusesOpening epoch entries records r = RefusesParts epoch entries records r.detail (code_of r)
+abbrev pub RefusesKept : ℕ → ℕ → List Row → List RecordRow → Reply → Type 0
+RefusesKept room epoch entries records r = RefusesParts room epoch entries records r.detail (code_of r)
+
+-- no index has such a room; or it has, and none starts
+abbrev pub RefusesOpening : ℕ → ℕ → List Row → List RecordRow → Reply → Type 0
+RefusesOpening room epoch entries records r =
+    ((IsRoom room → ⊥) × IsCode code.BadRoom r) ⊎ (IsRoom room × RefusesKept room epoch entries records r)
 
 -- nothing is wrong with what was kept
-pub record MayOpen (epoch : ℕ) (entries : List Row) (records : List RecordRow) : Type 0 where
+pub record MayOpen (room epoch : ℕ) (entries : List Row) (records : List RecordRow) : Type 0 where
+  pub is_room : IsRoom room
   pub parts : HasParts epoch entries records
-  pub few : length (map entry_of entries) ≤ most_entries
+  pub few : length (map entry_of entries) ≤ room
   pub keys : AreGood (map entry_of entries) (length (map entry_of entries))
 
-abbrev pub OpensClosed : ℕ → List Row → List RecordRow → Option Endpoint → Reply → Type 0
-OpensClosed epoch entries records None r = RefusesOpening epoch entries records r
-OpensClosed epoch entries records (Some e) r =
-    (code_of r ≡ Some code.Done) × (r.detail ≡ suc epoch) × MayOpen epoch entries records
-    × IsStartedRole (parts epoch entries records) e.role × (e.outgoing ≡ [])
+abbrev pub OpensClosed : ℕ → ℕ → List Row → List RecordRow → Option Endpoint → Reply → Type 0
+OpensClosed room epoch entries records None r = RefusesOpening room epoch entries records r
+OpensClosed room epoch entries records (Some e) r =
+    (code_of r ≡ Some code.Done) × (r.detail ≡ suc epoch) × MayOpen room epoch entries records
+    × IsStartedRole (parts room epoch entries records) e.role × (e.outgoing ≡ [])
 
-abbrev pub Opens : ℕ → List Row → List RecordRow → Option Endpoint → Option Endpoint → Reply → Type 0
-Opens epoch entries records None after r = OpensClosed epoch entries records after r
-Opens epoch entries records (Some e) after r = (after ≡ Some e) × IsCode code.OpenAlready r
+abbrev pub Opens : ℕ → ℕ → List Row → List RecordRow → Option Endpoint → Option Endpoint → Reply → Type 0
+Opens room epoch entries records None after r = OpensClosed room epoch entries records after r
+Opens room epoch entries records (Some e) after r = (after ≡ Some e) × IsCode code.OpenAlready r

@@ -45,7 +45,7 @@ pub enum Code {
     BadKey,
     /// A key that stands twice among the entries.
     Twice,
-    /// More than 65,536 entries.
+    /// More entries than there is room for.
     Full,
     /// A mode that is none.
     BadMode,
@@ -69,6 +69,8 @@ pub enum Code {
     BadIncarnation,
     /// Bounds that make no shards.
     BadShards,
+    /// Room for no entry, or for more than 1,048,576.
+    BadRoom,
 }
 
 impl From<AllocError> for Code {

@@ -5,14 +5,14 @@ ghost use Rattle.krl_server.specs.StateMeaning.{meaning};
 ghost use Rattle.krl_server.specs.Steps.{start};
 ghost use Rattle.krl_embed.specs.Replies.{code_of};
 ghost use Rattle.krl_embed.specs.Opening.{parts, place_said, refused_code, MayOpen};
-ghost use Rattle.krl_embed.specs.Opening.{RefusesOpening, RefusesRecords};
+ghost use Rattle.krl_embed.specs.Opening.{RefusesKept, RefusesOpening, RefusesRecords};
 ghost use Rattle.krl_embed.specs.Records.{AreRows, is_record, record_of};
 
 use crate::code::Code;
 use crate::records::{RecordRow, push_record};
 use crate::reply::Reply;
 use crate::rows::{Row, entries_of};
-use krl_durable::{Durable, Record, Refused};
+use krl_durable::{Durable, Record, Refused, Room};
 use krl_modes::END;
 use krl_server::{Server, StartRefused};
 use std::alloc::Global;
@@ -57,17 +57,19 @@ fn entries_refused(refused: Refused) -> Reply
     }
 }
 
-// What survived, of these rows.
+// What survived, of these rows, in an index with this room.
 fn durable_of(
     alloc: Global,
+    room: Room,
     epoch: u64,
     entries: &[Row],
     records: &[RecordRow],
 ) -> Result<Durable, Reply>
-    ensures durable { IfOk result (λ d. d ≡ parts epoch entries.now records.now) }
-    ensures good { OnOk result (MayOpen epoch entries.now records.now) }
-    ensures why { IfErr result (RefusesOpening epoch entries.now records.now) }
+    ensures durable { IfOk result (λ d. d ≡ parts room epoch entries.now records.now) }
+    ensures good { OnOk result (MayOpen room epoch entries.now records.now) }
+    ensures why { IfErr result (RefusesKept room epoch entries.now records.now) }
 {
+    room.get();
     if epoch >= END {
         return Err(Reply::of(Code::Spent));
     }
@@ -79,24 +81,26 @@ fn durable_of(
         Ok(records) => records,
         Err(reply) => return Err(reply),
     };
-    match Durable::from_parts(alloc, &entries, epoch, &records) {
+    match Durable::from_parts(alloc, room, &entries, epoch, &records) {
         Ok(durable) => Ok(durable),
         Err(refused) => Err(entries_refused(refused)),
     }
 }
 
-/// A server that starts on what was kept.
-pub(crate) fn start(
+// A server that starts on what was kept, in an index with this room.
+fn start_with(
     alloc: Global,
+    room: Room,
     epoch: u64,
     entries: &[Row],
     records: &[RecordRow],
 ) -> Result<Server, Reply>
-    ensures server { IfOk result (λ s. meaning s ≡ start (parts epoch entries.now records.now)) }
-    ensures good { OnOk result (MayOpen epoch entries.now records.now) }
-    ensures why { IfErr result (RefusesOpening epoch entries.now records.now) }
+    ensures server { IfOk result
+        (λ s. meaning s ≡ start (parts room epoch entries.now records.now)) }
+    ensures good { OnOk result (MayOpen room epoch entries.now records.now) }
+    ensures why { IfErr result (RefusesKept room epoch entries.now records.now) }
 {
-    let durable = match durable_of(alloc, epoch, entries, records) {
+    let durable = match durable_of(alloc, room, epoch, entries, records) {
         Ok(durable) => durable,
         Err(reply) => return Err(reply),
     };
@@ -106,5 +110,24 @@ pub(crate) fn start(
             StartRefused::Spent => Err(Reply::of(Code::Spent)),
             StartRefused::OutOfMemory => Err(Reply::of(Code::OutOfMemory)),
         },
+    }
+}
+
+/// A server that starts on what was kept, with room for so many entries.
+pub(crate) fn start(
+    alloc: Global,
+    room: usize,
+    epoch: u64,
+    entries: &[Row],
+    records: &[RecordRow],
+) -> Result<Server, Reply>
+    ensures server { IfOk result
+        (λ s. meaning s ≡ start (parts room epoch entries.now records.now)) }
+    ensures good { OnOk result (MayOpen room epoch entries.now records.now) }
+    ensures why { IfErr result (RefusesOpening room epoch entries.now records.now) }
+{
+    match Room::new(room) {
+        Some(room) => start_with(alloc, room, epoch, entries, records),
+        None => Err(Reply::of(Code::BadRoom)),
     }
 }

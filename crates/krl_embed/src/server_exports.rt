@@ -19,23 +19,25 @@ use crate::server_calls::{self, Recorded, ServerState, Stepped};
 use crate::server_shows::{self, HeldSlot, Waiting};
 use std::alloc::Global;
 
-/// Starts a server on what was kept, in a closed handle. The detail is its epoch.
+/// Starts a server on what was kept, with room for so many entries, in a closed handle. The detail
+/// is its epoch.
 #[unsafe(no_mangle)]
 pub extern "C" fn krl_server_open(
     alloc: Global,
     handle: &mut Handle,
+    room: usize,
     epoch: u64,
     entries: &[Row],
     records: &[RecordRow],
 ) -> Reply
-    ensures { opening.Opens epoch entries.now records.now handle.old.owned.value
+    ensures { opening.Opens room epoch entries.now records.now handle.old.owned.value
         handle.new.owned.value result }
 {
     if let Some(endpoint) = take(alloc, handle) {
         put(handle, endpoint);
         return Reply::of(Code::OpenAlready);
     }
-    let server = match start(alloc, epoch, entries, records) {
+    let server = match start(alloc, room, epoch, entries, records) {
         Ok(server) => server,
         Err(reply) => return reply,
     };

@@ -11,6 +11,6 @@ pub enum Outcome {
     Absent,
     /// The write needs a lock that the client does not hold.
     NotHeld,
-    /// An insert into an index that has its 65,536 entries already.
+    /// An insert into an index that has as many entries as it has room for.
     Full,
 }

@@ -4,7 +4,7 @@ mod starts;
 
 use crate::durable::asks::{Ask, Change, Worth, check};
 use crate::durable::starts::{LEFT, SILENT, Start, many, refusal, two_entries};
-use krl_durable::Refused;
+use krl_durable::{MAX_ROOM, Refused, Room};
 use krl_messages::{Outcome, Value};
 use krl_modes::{END, TOP};
 use std::alloc::Global;
@@ -76,6 +76,36 @@ fn large_index_holds_the_most_entries(rt: HostRuntime) {
 #[test]
 fn large_index_sorts_falling_entries(rt: HostRuntime) {
     check_full(&rt, rt.alloc(), true, &FALLS);
+}
+
+/// An index with room for two entries, which has two.
+static FULL_AT_TWO: [Ask; 4] = [
+    Ask::Writes(3, FIVE_AT_15, true, Outcome::Full),
+    Ask::Writes(3, Change::Delete(10), true, Outcome::Applied),
+    Ask::Writes(3, FIVE_AT_15, true, Outcome::Applied),
+    Ask::Judges(SEVEN_MORE, true, Outcome::Full),
+];
+
+const SEVEN_MORE: Change = Change::Insert(16, Worth::Number(7));
+
+#[test]
+fn small_index_is_full_at_its_room(rt: HostRuntime) {
+    let room = Start::Roomed(2);
+    check(&rt, rt.alloc(), room, &two_entries(), &FULL_AT_TWO);
+}
+
+#[test]
+fn more_entries_than_the_room_are_refused(rt: HostRuntime) {
+    let refused = refusal(rt.alloc(), Start::Roomed(1), &two_entries());
+    assert!(rt; refused == Some(Refused::Full));
+}
+
+#[test]
+fn room_has_bounds(rt: HostRuntime) {
+    assert!(rt; Room::new(0).is_none());
+    assert!(rt; Room::new(1).is_some());
+    assert!(rt; Room::new(MAX_ROOM).is_some());
+    assert!(rt; Room::new(MAX_ROOM + 1).is_none());
 }
 
 static WRITES: [Ask; 14] = [

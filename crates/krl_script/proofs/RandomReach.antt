@@ -10,7 +10,7 @@ use Rattle.std.specs.Int.{w64, to_be_bytes}
 use Rattle.std.specs.List.{IsDistinct}
 use Rattle.rand_pcg.specs.Lcg.{Lcg}
 use Rattle.krl_draws.specs.Generator.{drawn}
-use Rattle.krl_durable.specs.Writes.{most_entries}
+use Rattle.krl_durable.specs.Writes.{most_entries, most_room}
 use Rattle.krl_messages.specs.Values.{Value}
 use Rattle.krl_durable.specs.Index.{Index}
 use Rattle.krl_durable.specs.Kept.{IsKept, AreBelowEnd}
@@ -35,10 +35,11 @@ first_index =
     map.entries-insert nat_cmp_total (map.insert map.empty 20 two) 10 one ∙ ap (put nat_cmp 10 one) (map.entries-insert nat_cmp_total map.empty 20 two ∙ ap (put nat_cmp 20 two) no_entries)
 
 first_kept : IsKept (unused first_entries)
-unfolding most_entries IsDistinct
+unfolding most_entries most_room IsDistinct
 first_kept = record {
   keys = subst AreBelowEnd (sym first_index) (refl, (refl, tt));
   few = subst (λ (es : List (ℕ × Value)). length es ≤ most_entries) (sym first_index) (omega arith);
+  room = (omega arith, omega arith);
   epoch = omega arith;
   clients = tt;
   once = tt;

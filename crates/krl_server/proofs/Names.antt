@@ -66,7 +66,7 @@ pub use Rattle.krl_table.proofs.Rows.RowChanges.{eq_cases}
 pub use Rattle.krl_table.specs.Calls.{with_queue, split_modes, with_mode, cleared, raised_on, wanted, grant_first, dropped, lowered, merged, enqueued, granted_first, behind_first, mode_beside}
 pub use Rattle.krl_table.specs.Calls.{raised, unqueue, queue_with, split}
 pub use Rattle.krl_table.specs.Grants.{is_granted_at_once, taken_after, granted, nobody_waits, most_more, taken}
-pub use Rattle.krl_table.specs.Kept.{times, rows_of, Kept, IsOver, AreCompatible}
+pub use Rattle.krl_table.specs.Kept.{times, rows_of, Kept, KeptTable, IsOver, AreCompatible}
 pub use Rattle.krl_table.specs.Points.{MayDelete, key_at, key_off_slot, range_at, MayInsert}
 pub use Rattle.krl_table.specs.Replies.{first_reply, reply_to, asks_absent, is_wanted_compatible, answerable}
 pub use Rattle.krl_table.specs.Reports.{adopted, conflicts, rebuilt}

@@ -36,7 +36,7 @@ two = (10, byte 1) ∷ (20, byte 2) ∷ []
 
 -- two clients of incarnation 1, which have acknowledged their last pushes
 abbrev server : Index → Rows → (ℕ → Session) → Server
-server m rows sessions = record { durable = record { index = m; epoch = 1; register = (0, new_record 1) ∷ (1, new_record 1) ∷ [] }; rows = rows; sessions = sessions; missing = [] }
+server m rows sessions = record { durable = record { room = most_entries; index = m; epoch = 1; register = (0, new_record 1) ∷ (1, new_record 1) ∷ [] }; rows = rows; sessions = sessions; missing = [] }
 
 abbrev session : ℕ → ℕ → ℕ → Session
 session last_push asked c = record { last_push = last_push; unacked = None; last_request = asked }
@@ -53,7 +53,7 @@ row a b queue = record { modes = λ c. if nat_eq c 0 then a else (if nat_eq c 1 
 -- A server that has just started hears Hello, and grants the gap below 10
 
 abbrev begun : Index → Server
-begun m = start (record { index = m; epoch = 0; register = [] })
+begun m = start (record { room = most_entries; index = m; epoch = 0; register = [] })
 
 abbrev joined : Index → Server
 joined m = (effect (begun m) (hello 0) Registers).server

@@ -37,7 +37,7 @@ pub data Case : Type 0 where
 
 -- the outcome of a new write of the client
 abbrev pub judged : Server → ℕ → WriteOp → Outcome
-judged s c op = judge s.durable.index op (held s.durable.index (column s.rows c) op)
+judged s c op = judge s.durable.room s.durable.index op (held s.durable.index (column s.rows c) op)
 
 -- the last write once more. Where no write was judged there is no outcome
 abbrev pub case_of_last : ℕ → WriteOp → Option Outcome → Case

@@ -9,7 +9,7 @@ use Rattle.krl_messages.specs.Members.{In}
 use Rattle.krl_queue.specs.declared.waiter.Waiter.{Waiter}
 use Rattle.krl_durable.specs.declared.record.Record.{Record}
 use Rattle.krl_durable.specs.Registers.{Register, Durable, record_of}
-use Rattle.krl_durable.specs.Writes.{most_entries}
+use Rattle.krl_durable.specs.Writes.{IsRoom}
 use Rattle.krl_table.specs.Rows.{most_clients}
 use Rattle.krl_server.specs.Servers.{Server, lists}
 use Rattle.krl_server.specs.Cases.{case_of}
@@ -33,7 +33,8 @@ IsEntry c r = (c < most_clients) × (1 ≤ r.incarnation) × (r.incarnation ≤ 
 
 pub record IsDurableWithin (d : Durable) : Type 0 where
   pub epoch : d.epoch ≤ END
-  pub entries : length (map.entries d.index) ≤ most_entries
+  pub entries : length (map.entries d.index) ≤ d.room
+  pub room : IsRoom d.room
   pub once : AreApart (clients_of d.register)
   pub known : (c : ℕ) (r : Record) → record_of d.register c ≡ Some r → IsEntry c r
 

@@ -1,5 +1,5 @@
 -- What a server's state means, and the case that its code found.
-use Rattle.std.specs.Prelude.{◌≡◌, ℕ, List, length, slice_index_or, Option, Some, None, if◌then◌else◌}
+use Rattle.std.specs.Prelude.{◌≡◌, ◌<◌, ℕ, List, length, slice_index_or, Option, Some, None, if◌then◌else◌}
 use Rattle.krl_messages.specs.declared.to_server.ToServerBody.{ToServerBody}
 use Rattle.krl_messages.specs.declared.to_server.ToServerBody.TheVariants as said
 use Rattle.krl_messages.specs.declared.to_client.PushBody.{PushBody}
@@ -22,15 +22,17 @@ sessions_of sessions c = slice_index_or sessions c blank_session
 abbrev pub meaning : State → Server
 meaning st = record {
   durable = st.durable;
-  rows = rows_of st.table;
+  rows = rows_of st.table.map;
   sessions = sessions_of st.sessions;
   missing = st.missing;
 }
 
--- there is a session for each client, and the table's rows stand at slots of the index
+-- there is a session for each client, and the table's rows stand at slots of the index, with a row
+-- for each of them
 pub record IsFormed (st : State) : Type 0 where
   pub full : length st.sessions ≡ 64
-  pub over : IsOver st.durable.index st.table
+  pub over : IsOver st.durable.index st.table.map
+  pub rows : st.durable.room < st.table.room
 
 -- the case of a missing client's report
 abbrev pub case_of_pieces : Server → ℕ → ToServerBody → Case

@@ -162,7 +162,8 @@ impl State {
         requires judged { judged (meaning self.old) client op ≡ outcome }
         ensures rows { (meaning self.new).rows
             ≡ rows_after self.old.durable.index (meaning self.old).rows client op outcome }
-        ensures slots { IsOver (index_after self.old.durable.index op outcome) self.new.table }
+        ensures slots { IsOver (index_after self.old.durable.index op outcome) self.new.table.map }
+        ensures room { self.new.table.room ≡ self.old.table.room }
         ensures rest { self.new ≡ record self.old { table = self.new.table } }
     {
         match outcome {

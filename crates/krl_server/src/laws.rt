@@ -31,7 +31,7 @@ pub fn changes_replay()
     ensures { ChangesReplay }
 {}
 
-/// The numbers of a server stay within END, its index within 65,536 entries, and its register and
+/// The numbers of a server stay within END, its index within its room, and its register and
 /// the missing within the number of clients, each of them once. Who waits or is missing is
 /// registered and has not left.
 pub fn server_within()

@@ -63,8 +63,9 @@ impl Model for Server {
 
 // What a start takes memory for.
 fn parts_of(alloc: Global, durable: &Durable) -> Result<(Table, Sessions, Missing), AllocError>
-    ensures rows { IfOk result (λ parts. (n : ℕ) → rows_of parts.0 n ≡ blank_row) }
-    ensures slots { IfOk result (λ parts. IsOver durable.now.index parts.0) }
+    ensures rows { IfOk result (λ parts. (n : ℕ) → rows_of parts.0.map n ≡ blank_row) }
+    ensures slots { IfOk result (λ parts. IsOver durable.now.index parts.0.map) }
+    ensures room { IfOk result (λ parts. durable.now.room < parts.0.room) }
     ensures full { IfOk result (λ parts. length parts.1 ≡ 64) }
     ensures blank { IfOk result (λ parts. (c : ℕ) → sessions_of parts.1 c ≡ blank_session) }
     ensures missing { IfOk result (λ parts. parts.2 ≡ missing_order durable.now.register) }
@@ -72,7 +73,7 @@ fn parts_of(alloc: Global, durable: &Durable) -> Result<(Table, Sessions, Missin
     let _kept = durable.epoch();
     let clients = durable.missing_order(alloc)?;
     let sessions = Sessions::blank(alloc)?;
-    let table = Table::new(alloc)?;
+    let table = Table::new(alloc, durable.room())?;
     Ok((table, sessions, Missing::new(clients)))
 }
 

@@ -19,7 +19,7 @@ use crate::runs::all_give;
 use crate::starts::{is_spent, started};
 use crate::strangers::STRANGERS;
 use crate::writes::{ANSWERS_AGAIN, LAST_NUMBER, LOSES_AN_ANSWER, WRITES};
-use krl_durable::{Durable, Record};
+use krl_durable::{Durable, Record, Room};
 use krl_messages::{Outcome, Value};
 use krl_modes::END;
 use std::alloc::Global;
@@ -73,7 +73,8 @@ fn kept(alloc: Global, epoch: u64, records: &[(u64, Record)]) -> Option<Durable>
 {
     let entries = one_entry();
     for _ in 0..CALLS {
-        if let Ok(durable) = Durable::from_parts(alloc, &entries, epoch, records) {
+        let room = Room::standard();
+        if let Ok(durable) = Durable::from_parts(alloc, room, &entries, epoch, records) {
             return Some(durable);
         }
     }

@@ -31,7 +31,6 @@ pub use Rattle.krl_table.specs.Extents.{IsFreeOf, AreWithin, cleared_within, Lie
 pub use Rattle.krl_table.specs.Grants.{taken_after, taken_by, can_take, granted, granted_by, nobody_waits, is_granted_at_once, most_more, goes_on, taken}
 pub use Rattle.krl_table.specs.Kept.{IsLeastPoint, row_takes, lesser_point, IsSound, rows_of, IsOver, AreCompatible, IsAll, IsTaken, Kept, times, row_there, AreSet, mode_of, cleared_row}
 pub use Rattle.krl_table.specs.Kept.{lowered_between, lesser, unlisted, waiter_in, IsSet, AreListed, row_of, AllWaitBelow}
-unfoldable pub use Rattle.krl_table.specs.Kept.{most_rows}
 pub use Rattle.krl_table.specs.Points.{MayInsert, key_off_slot, range_at, key_at, MayDelete}
 pub use Rattle.krl_table.specs.Replies.{first_reply, lacks_entry, answerable, row_reply, is_wanted_compatible, asks_absent, first_reply_on}
 pub use Rattle.krl_table.specs.ReportSweep.{IsNextReported, ReportsSame, NothingFrom, BeginsSpan, SameKeys, RangesRise, SameRanges, RangesOff, KeysRise, KeysOff}

@@ -21,9 +21,9 @@ use Rattle.krl_table.specs.Grants.{goes_on, nobody_waits}
 abbrev pub Kept : Type 0
 Kept = map.FinMap nat_cmp SlotRow
 
--- as many as there are slots: the most entries, and END
-unfoldable pub most_rows : ℕ
-most_rows = 65537
+-- a table: the kept rows, and how many there may be
+abbrev pub KeptTable : Type 0
+KeptTable = Stored SlotRow
 
 -- the mode of a client, in a row of modes
 abbrev pub mode_of : List Mode → ℕ → Mode

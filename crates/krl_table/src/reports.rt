@@ -4,11 +4,10 @@ ghost use Rattle.std.specs.FinMap as map;
 ghost use Rattle.krl_modes.specs.declared.point.TheConstants.{END};
 ghost use Rattle.krl_modes.specs.declared.mode.Mode.TheVariants as mode;
 ghost use Rattle.krl_durable.specs.Index.{is_slot};
-ghost use Rattle.krl_durable.specs.Writes.{most_entries};
 ghost use Rattle.krl_table.specs.declared.row.SlotRow.{SlotRow as Kept};
 ghost use Rattle.krl_table.specs.Rows.{blank_row, is_compatible_there, mode_at};
 ghost use Rattle.krl_table.specs.Reports.{rebuilt, adopted};
-ghost use Rattle.krl_table.specs.Kept.{row_of, rows_of, IsOver, most_rows};
+ghost use Rattle.krl_table.specs.Kept.{row_of, rows_of, IsOver};
 ghost use Rattle.krl_table.specs.Extents.{AreWithin};
 
 use crate::extents::Extents;
@@ -64,8 +63,8 @@ pub(crate) fn settle(
 )
     requires over { IsOver durable.now.index rows.old.map }
     requires used { (n : ℕ) (r : Kept) → map.get rows.old.map n ≡ Some r → row_of r ≢ blank_row }
-    requires few { length (map.entries durable.now.index) ≤ most_entries }
-    requires room { most_rows ≤ rows.old.room }
+    requires few { length (map.entries durable.now.index) ≤ durable.now.room }
+    requires room { durable.now.room < rows.old.room }
     requires client { client < 64 }
     requires free { (n : ℕ) → mode_at (rows_of rows.old.map) n client ≡ mode.N }
     requires within { AreWithin extents.old.by_client rows.old.map }

@@ -8,7 +8,6 @@ ghost use Rattle.krl_modes.specs.declared.point.TheConstants.{END};
 ghost use Rattle.krl_modes.specs.declared.part.KeyPart.TheVariants as key_part;
 ghost use Rattle.krl_messages.specs.Values as values;
 ghost use Rattle.krl_durable.specs.Index.{Index, slot_of, span_of, is_slot};
-ghost use Rattle.krl_durable.specs.Writes.{most_entries};
 ghost use Rattle.krl_table.specs.Rows.{mode_at, front_of, blank_row, waiter_of};
 ghost use Rattle.krl_table.specs.Calls.{lowered, cleared, enqueued, dropped, split, merged};
 ghost use Rattle.krl_table.specs.Kept.{mode_of, rows_of, IsOver, Kept};
@@ -29,7 +28,7 @@ use crate::row::SlotRow;
 use crate::waiting::Waiting;
 use crate::{all_rows, reports, row_ops};
 use arrayvec::ArrayVec;
-use krl_durable::Durable;
+use krl_durable::{Durable, Room};
 use krl_messages::Pieces;
 use krl_modes::{Mode, Point, Span, TOP};
 use krl_queue::{WaitNode, Waiter};
@@ -37,14 +36,13 @@ use krl_store::Store;
 use std::alloc::{AllocError, Global};
 use std::marker::Model;
 
-/// As many rows as there are slots: 65,536 keys, and END.
-const MAX_ROWS: usize = 65_537;
-
 /// The rows of the slots where somebody holds or waits; any other slot is blank. A clause sees them
-/// as a finite map; the table as functions of slots and clients is `rows_of` of it.
+/// as a finite map, and how many of them there may be, which stays; the table as functions of slots
+/// and clients is `rows_of` of the map.
 ///
 /// A table keeps no index, and is used with one whose slots its rows stand at: `IsOver`. All memory
-/// is taken by `new`, so that no other call can be refused.
+/// is taken by `new`, so that no other call can be refused: a call that may add a row asks that the
+/// table may have more rows than the index has room for entries.
 ///
 /// Of every table holds: no row is kept that is blank; on each slot the modes of different clients
 /// are compatible; each client has at most one waiter.
@@ -56,38 +54,36 @@ pub struct Table {
 }
 
 impl Model for Table {
-    ghost use Rattle.std.specs.Prelude.{◌≤◌};
-    ghost use Rattle.std.specs.Ordering.{nat_cmp};
-    ghost use Rattle.std.specs.FinMap as map;
-    ghost use Rattle.std.specs.Coded.{coded_ℕ};
+    ghost use Rattle.krl_store.specs.Stores.{Stored, stored_code};
     ghost use Rattle.krl_table.specs.declared.row.SlotRow.{SlotRow};
     ghost use Rattle.krl_table.specs.contracts.row.SlotRow as slot_row;
-    ghost use Rattle.krl_table.specs.Kept.{IsSound, AreListed, most_rows};
+    ghost use Rattle.krl_table.specs.Kept.{IsSound, AreListed};
     ghost use Rattle.krl_table.specs.Extents.{AreWithin};
 
-    ghost Value = { map.FinMap nat_cmp SlotRow };
+    ghost Value = { Stored SlotRow };
 
-    ghost coded = { map.code coded_ℕ slot_row.the_row.coded };
+    ghost coded = { stored_code slot_row.the_row.coded };
 
-    ghost view = { λ t. t.rows.map };
+    ghost view = { λ t. t.rows };
 
     ghost invariant = { λ t. IsSound t.rows.map × AreListed t.waiting.by_client t.rows.map
-        × (most_rows ≤ t.rows.room) × AreWithin t.extents.by_client t.rows.map };
+        × AreWithin t.extents.by_client t.rows.map };
 }
 
 impl Table {
-    /// A table where nobody holds anything, and nobody waits. It makes at most five requests for
-    /// memory.
+    /// A table where nobody holds anything, and nobody waits, for an index with this room: it may
+    /// have a row for each entry, and one for END. It makes at most five requests for memory.
     ///
     /// # Errors
     ///
     /// `AllocError` where memory is refused.
-    pub fn new(alloc: Global) -> Result<Table, AllocError>
-        ensures blank { IfOk result (λ t. (n : ℕ) → rows_of t n ≡ blank_row) }
+    pub fn new(alloc: Global, room: Room) -> Result<Table, AllocError>
+        ensures blank { IfOk result (λ t. (n : ℕ) → rows_of t.map n ≡ blank_row) }
         ensures slots { IfOk result (λ t. (m : Index)
-            → ((n : ℕ) → END ≤ n → map.get m n ≡ None) → IsOver m t) }
+            → ((n : ℕ) → END ≤ n → map.get m n ≡ None) → IsOver m t.map) }
+        ensures room { IfOk result (λ t. t.room ≡ suc room) }
     {
-        let rows = Store::with_room(alloc, MAX_ROWS)?;
+        let rows = Store::with_room(alloc, room.get() + 1)?;
         Ok(Table {
             rows,
             waiting: Waiting::nobody(),
@@ -97,7 +93,7 @@ impl Table {
 
     // Whether somebody holds or waits there.
     fn has_row(&self, slot: u64) -> bool
-        ensures { result ≡ is_some (map.get self.now slot) }
+        ensures { result ≡ is_some (map.get self.now.map slot) }
     {
         self.rows.get(slot).is_some()
     }
@@ -105,7 +101,7 @@ impl Table {
     /// The client's mode on the slot; N where there is no slot.
     pub fn mode(&self, slot: u64, client: u64) -> Mode
         requires { client < 64 }
-        ensures { result ≡ mode_at (rows_of self.now) slot client }
+        ensures { result ≡ mode_at (rows_of self.now.map) slot client }
     {
         match self.rows.get(slot) {
             Some(row) => row.mode(client),
@@ -115,7 +111,7 @@ impl Table {
 
     /// The first waiter of the slot.
     pub fn front(&self, slot: u64) -> Option<Waiter>
-        ensures front { result ≡ front_of (rows_of self.now slot).queue }
+        ensures front { result ≡ front_of (rows_of self.now.map slot).queue }
         ensures client { IfSome result (λ u. u.client < 64) }
     {
         match self.rows.get(slot) {
@@ -126,14 +122,14 @@ impl Table {
 
     /// The slot's first waiter, with what it finds there.
     pub fn first(&self, durable: &Durable, slot: u64) -> Option<FirstWaiter>
-        requires { IsOver durable.now.index self.now }
-        ensures none { IfNone result ((rows_of self.now slot).queue ≡ []) }
+        requires { IsOver durable.now.index self.now.map }
+        ensures none { IfNone result ((rows_of self.now.map slot).queue ≡ []) }
         ensures waiter { IfSome result
-            (λ first. front_of (rows_of self.now slot).queue ≡ Some first.waiter) }
+            (λ first. front_of (rows_of self.now.map slot).queue ≡ Some first.waiter) }
         ensures client { IfSome result (λ first. first.waiter.client < 64) }
         ensures span { IfSome result (λ first. first.span ≡ span_of durable.now.index slot) }
         ensures modes { IfSome result
-            (λ first. (c : ℕ) → mode_of first.modes c ≡ mode_at (rows_of self.now) slot c) }
+            (λ first. (c : ℕ) → mode_of first.modes c ≡ mode_at (rows_of self.now.map) slot c) }
     {
         let row = self.rows.get(slot)?;
         let waiter = row.queue.front()?;
@@ -149,11 +145,11 @@ impl Table {
     /// How the client waits. The clause `sound` says what holds of every table.
     pub fn waiter_of(&self, client: u64) -> Option<Waiter>
         requires { client < 64 }
-        ensures waiter { (m : Index) → IsOver m self.now
-            → result ≡ waiter_of m (rows_of self.now) client }
+        ensures waiter { (m : Index) → IsOver m self.now.map
+            → result ≡ waiter_of m (rows_of self.now.map) client }
         ensures client { IfSome result (λ u. u.client ≡ client) }
-        ensures nowhere { result ≡ None → WaitsNowhere (rows_of self.now) client }
-        ensures sound { (m : Index) → IsOver m self.now → IsTable m (rows_of self.now) }
+        ensures nowhere { result ≡ None → WaitsNowhere (rows_of self.now.map) client }
+        ensures sound { (m : Index) → IsOver m self.now.map → IsTable m (rows_of self.now.map) }
     {
         self.waiting.of(client)
     }
@@ -162,8 +158,8 @@ impl Table {
     /// look at each client's waiter for each of them, and one look more; where nobody waits it
     /// looks at one number. It takes no memory.
     pub fn waiting_slots(&self, durable: &Durable) -> ArrayVec<u64, 64>
-        requires { IsOver durable.now.index self.now }
-        ensures slots { AreWaiting (rows_of self.now) 0 result.items }
+        requires { IsOver durable.now.index self.now.map }
+        ensures slots { AreWaiting (rows_of self.now.map) 0 result.items }
         ensures there { AllByRecursion (λ n. is_slot durable.now.index n ≡ true) result.items }
     {
         let mut slots = ArrayVec::new();
@@ -179,11 +175,12 @@ impl Table {
     /// Lowers the client's mode to this one on each slot whose span lies in the span. It looks at
     /// the rows that are kept there, and at the one after them.
     pub fn lower(&mut self, durable: &Durable, client: u64, span: Span, keep: Mode)
-        requires over { IsOver durable.now.index self.old }
+        requires over { IsOver durable.now.index self.old.map }
         requires client { client < 64 }
-        ensures lowered { (n : ℕ) → rows_of self.new n
-            ≡ lowered durable.now.index (rows_of self.old) client span keep n }
-        ensures slots { IsOver durable.now.index self.new }
+        ensures lowered { (n : ℕ) → rows_of self.new.map n
+            ≡ lowered durable.now.index (rows_of self.old.map) client span keep n }
+        ensures slots { IsOver durable.now.index self.new.map }
+        ensures room { self.new.room ≡ self.old.room }
     {
         let first = durable.find(span.lo());
         // The first slot's span may begin before this one.
@@ -199,8 +196,9 @@ impl Table {
     /// first and the last slot at which it held or waited since it was cleared.
     pub fn clear(&mut self, client: u64)
         requires { client < 64 }
-        ensures cleared { (n : ℕ) → rows_of self.new n ≡ cleared (rows_of self.old) client n }
-        ensures slots { (m : Index) → IsOver m self.old → IsOver m self.new }
+        ensures cleared { (n : ℕ) → rows_of self.new.map n ≡ cleared (rows_of self.old.map) client n }
+        ensures slots { (m : Index) → IsOver m self.old.map → IsOver m self.new.map }
+        ensures room { self.new.room ≡ self.old.room }
     {
         let extent = self.extents.of(client);
         all_rows::clear(&mut self.rows, client, extent);
@@ -211,12 +209,14 @@ impl Table {
     /// The waiter, of a client that has none, goes to the slot of its point: behind all others, or
     /// before them where its client holds a mode there. It takes no memory.
     pub fn enqueue(&mut self, durable: &Durable, node: WaitNode)
-        requires over { IsOver durable.now.index self.old }
+        requires over { IsOver durable.now.index self.old.map }
         requires client { node.client < 64 }
-        requires free { WaitsNowhere (rows_of self.old) node.client }
-        ensures enqueued { (n : ℕ) → rows_of self.new n
-            ≡ enqueued durable.now.index (rows_of self.old) node n }
-        ensures slots { IsOver durable.now.index self.new }
+        requires free { WaitsNowhere (rows_of self.old.map) node.client }
+        requires rows { durable.now.room < self.old.room }
+        ensures enqueued { (n : ℕ) → rows_of self.new.map n
+            ≡ enqueued durable.now.index (rows_of self.old.map) node n }
+        ensures slots { IsOver durable.now.index self.new.map }
+        ensures room { self.new.room ≡ self.old.room }
     {
         let _kept = durable.epoch();
         let waiter = node.waiter();
@@ -229,8 +229,9 @@ impl Table {
 
     /// The slot's first waiter waits no more.
     pub fn drop_front(&mut self, slot: u64)
-        ensures dropped { (n : ℕ) → rows_of self.new n ≡ dropped (rows_of self.old) slot n }
-        ensures slots { (m : Index) → IsOver m self.old → IsOver m self.new }
+        ensures dropped { (n : ℕ) → rows_of self.new.map n ≡ dropped (rows_of self.old.map) slot n }
+        ensures slots { (m : Index) → IsOver m self.old.map → IsOver m self.new.map }
+        ensures room { self.new.room ≡ self.old.room }
     {
         if self.has_row(slot) {
             let first = row_ops::drop_front(&mut self.rows, slot);
@@ -242,25 +243,27 @@ impl Table {
     /// The waiters up to it move there. It takes no memory. The write that makes it a key of the
     /// index, which has room for it, comes behind.
     pub fn split(&mut self, durable: &Durable, key: Point, client: u64)
-        requires over { IsOver durable.now.index self.old }
+        requires over { IsOver durable.now.index self.old.map }
         requires client { client < 64 }
         requires key { key < END }
         requires free { map.get durable.now.index key ≡ None }
-        requires room { length (map.entries durable.now.index) < most_entries }
-        requires may { MayInsert (rows_of self.old) (slot_of durable.now.index key) client }
-        ensures split { (n : ℕ) → rows_of self.new n
-            ≡ split durable.now.index (rows_of self.old) key client n }
+        requires room { length (map.entries durable.now.index) < durable.now.room }
+        requires rows { durable.now.room < self.old.room }
+        requires may { MayInsert (rows_of self.old.map) (slot_of durable.now.index key) client }
+        ensures split { (n : ℕ) → rows_of self.new.map n
+            ≡ split durable.now.index (rows_of self.old.map) key client n }
         ensures slots { (value : values.Value)
-            → IsOver (map.insert durable.now.index key value) self.new }
+            → IsOver (map.insert durable.now.index key value) self.new.map }
         ensures ranges { (value : values.Value) (d p : ℕ)
-            → range_at (map.insert durable.now.index key value) (rows_of self.new) d p
-            ≡ range_at durable.now.index (rows_of self.old) d p }
+            → range_at (map.insert durable.now.index key value) (rows_of self.new.map) d p
+            ≡ range_at durable.now.index (rows_of self.old.map) d p }
         ensures keys { (value : values.Value) (d p : ℕ) → (p ≢ key) ⊎ (d ≢ client)
-            → key_at (map.insert durable.now.index key value) (rows_of self.new) d p
-            ≡ key_at durable.now.index (rows_of self.old) d p }
+            → key_at (map.insert durable.now.index key value) (rows_of self.new.map) d p
+            ≡ key_at durable.now.index (rows_of self.old.map) d p }
         ensures own { (value : values.Value)
-            → key_at (map.insert durable.now.index key value) (rows_of self.new) client key
+            → key_at (map.insert durable.now.index key value) (rows_of self.new.map) client key
             ≡ key_part.X }
+        ensures room { self.new.room ≡ self.old.room }
     {
         let slot = durable.slot_of(key.get());
         row_ops::part(&mut self.rows, slot, key, client);
@@ -270,20 +273,21 @@ impl Table {
     /// The slot, whose entry some client may delete, goes, and its waiters stand before those of
     /// the next. It takes no memory. The write that deletes the entry comes behind.
     pub fn merge(&mut self, durable: &Durable, key: u64)
-        requires over { IsOver durable.now.index self.old }
+        requires over { IsOver durable.now.index self.old.map }
         requires there { is_slot durable.now.index key ≡ true }
         requires key { key < END }
-        requires may { (c : ℕ) × MayDelete (rows_of self.old) key
+        requires may { (c : ℕ) × MayDelete (rows_of self.old.map) key
             (slot_of durable.now.index (suc key)) c }
-        ensures merged { (n : ℕ) → rows_of self.new n
-            ≡ merged durable.now.index (rows_of self.old) key n }
-        ensures slots { IsOver (map.remove durable.now.index key) self.new }
+        ensures merged { (n : ℕ) → rows_of self.new.map n
+            ≡ merged durable.now.index (rows_of self.old.map) key n }
+        ensures slots { IsOver (map.remove durable.now.index key) self.new.map }
         ensures ranges { (d p : ℕ)
-            → range_at (map.remove durable.now.index key) (rows_of self.new) d p
-            ≡ range_at durable.now.index (rows_of self.old) d p }
+            → range_at (map.remove durable.now.index key) (rows_of self.new.map) d p
+            ≡ range_at durable.now.index (rows_of self.old.map) d p }
         ensures keys { (d p : ℕ)
-            → key_at (map.remove durable.now.index key) (rows_of self.new) d p
-            ≡ key_at durable.now.index (rows_of self.old) d p }
+            → key_at (map.remove durable.now.index key) (rows_of self.new.map) d p
+            ≡ key_at durable.now.index (rows_of self.old.map) d p }
+        ensures room { self.new.room ≡ self.old.room }
     {
         let slot = durable.slot_of(key + 1);
         row_ops::join(&mut self.rows, key, slot);
@@ -309,14 +313,16 @@ impl Table {
         client: u64,
         pieces: &Pieces,
     ) -> Result<(), Conflict>
-        requires over { IsOver durable.now.index self.old }
+        requires over { IsOver durable.now.index self.old.map }
         requires client { client < 64 }
+        requires rows { durable.now.room < self.old.room }
         ensures conflict { IsOk result
-            ↔ (conflicts durable.now.index (rows_of self.old) client pieces.now ≡ false) }
-        ensures adopted { OnOk result ((n : ℕ) → rows_of self.new n
-            ≡ adopted durable.now.index (rows_of self.old) client pieces.now n) }
+            ↔ (conflicts durable.now.index (rows_of self.old.map) client pieces.now ≡ false) }
+        ensures adopted { OnOk result ((n : ℕ) → rows_of self.new.map n
+            ≡ adopted durable.now.index (rows_of self.old.map) client pieces.now n) }
         ensures refused { OnErr result (self.new ≡ self.old) }
-        ensures slots { IsOver durable.now.index self.new }
+        ensures slots { IsOver durable.now.index self.new.map }
+        ensures room { self.new.room ≡ self.old.room }
     {
         let _kept = durable.epoch();
         if !reports::all_compatible(&self.rows, durable, client, pieces) {

@@ -16,3 +16,11 @@ applied_index d new c op o known is made = ap (λ (x : Durable). x.index) (made 
     by_record : (x : Option Record) → IsSomeAnd x (λ r. r.last < END) → (applied_by d c op outcome.Applied x).index ≡ written d.index op
     by_record None h = absurd h
     by_record (Some r) h = refl
+
+-- a write leaves the room of the index
+pub applied_room : (d new : Durable) (c : ℕ) (op : WriteOp) (o : Outcome) → new ≡ applied d c op o → new.room ≡ d.room
+applied_room d new c op o made = ap (λ (x : Durable). x.room) made ∙ by_record (record_of d.register c)
+  where
+    by_record : (x : Option Record) → (applied_by d c op o x).room ≡ d.room
+    by_record None = refl
+    by_record (Some r) = refl

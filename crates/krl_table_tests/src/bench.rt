@@ -6,7 +6,7 @@ ghost use Rattle.krl_durable.specs.Registers.{record_of};
 
 use crate::again::CALLS;
 use crate::report::{Report, pieces};
-use krl_durable::{Durable, Record, Refused};
+use krl_durable::{Durable, Record, Refused, Room};
 use krl_messages::{Outcome, Value, WriteOp};
 use krl_modes::{END, Mode, Point, TOP};
 use krl_queue::{WaitNode, Waiter};
@@ -35,13 +35,15 @@ pub struct Bench {
 }
 
 impl Model for Bench {
+    ghost use Rattle.std.specs.Prelude.{◌<◌};
     ghost use Rattle.krl_table.specs.Kept.{IsOver};
 
     ghost Value = { Unit {0} };
 
     ghost view = { λ _. tt };
 
-    ghost invariant = { λ b. IsOver b.durable.index b.table };
+    ghost invariant = { λ b. IsOver b.durable.index b.table.map
+        × (b.durable.room < b.table.room) };
 }
 
 impl Drop for Bench {
@@ -90,7 +92,7 @@ fn entries_at(alloc: Global, keys: &[u64]) -> Result<Vec<(u64, Value)>, AllocErr
 /// What survives of entries at these keys, where the writer is registered.
 fn durable_of(alloc: Global, keys: &[u64]) -> Result<Durable, Refused> {
     let entries = entries_at(alloc, keys)?;
-    Durable::from_parts(alloc, &entries, 0, &REGISTERED)
+    Durable::from_parts(alloc, Room::standard(), &entries, 0, &REGISTERED)
 }
 
 /// The writer is registered, and there is a number for another write of it.
@@ -117,7 +119,7 @@ impl Bench {
     fn try_open(alloc: Global, keys: &[u64]) -> Result<Bench, Refused> {
         let durable = durable_of(alloc, keys)?;
         let _kept = durable.epoch();
-        let table = Table::new(alloc)?;
+        let table = Table::new(alloc, durable.room())?;
         Ok(Bench { durable, table })
     }
 

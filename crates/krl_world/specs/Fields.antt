@@ -2,6 +2,7 @@
 use Rattle.std.specs.Prelude.{◌≡◌, ◌<◌, ℕ, Option, None, Some, is_some, true, List, [], length, slice_index_or}
 use Rattle.std.specs.FinMap as map
 use Rattle.krl_durable.specs.Registers.{Durable, record_of}
+use Rattle.krl_durable.specs.Writes.{most_entries}
 use Rattle.krl_server.specs.Servers.{incarnation_or_0}
 use Rattle.krl_server.specs.declared.state.State.{State as Kept}
 use Rattle.krl_server.specs.StateMeaning as server_state
@@ -25,7 +26,7 @@ pub record Fields : Type 0 where
 -- the server that is there: none runs within a step that moves it
 abbrev pub server_there : Option KeptNode → KeptNode
 server_there (Some n) = n
-server_there None = kept.Down (record { index = map.from_entries []; epoch = 0; register = [] })
+server_there None = kept.Down (record { room = most_entries; index = map.from_entries []; epoch = 0; register = [] })
 
 -- the server that runs
 abbrev pub server_up : KeptNode → Option Kept

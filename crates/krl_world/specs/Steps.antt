@@ -59,7 +59,7 @@ pub record CanOpen (d : Durable) : Type 0 where
 
 -- why no world begins with these entries
 abbrev pub CannotBegin : List (ℕ × Value) → Refused → Type 0
-CannotBegin entries r = (e : IndexRefused) × Refuses entries e × (r ≡ refused_by_index e)
+CannotBegin entries r = (e : IndexRefused) × Refuses most_entries entries e × (r ≡ refused_by_index e)
 
 -- why no world begins with this durable part
 abbrev pub CannotOpen : Durable → Refused → Type 0

@@ -119,8 +119,17 @@ impl Table {
     fn open() -> Table {
         let (mut server, mut client) = (closed(), closed());
         // SAFETY: the handle and what it is given live longer than the call.
-        let opened =
-            unsafe { ffi::krl_server_open(&raw mut server, 0, ptr::null(), 0, ptr::null(), 0) };
+        let opened = unsafe {
+            ffi::krl_server_open(
+                &raw mut server,
+                ffi::DEFAULT_ROOM,
+                0,
+                ptr::null(),
+                0,
+                ptr::null(),
+                0,
+            )
+        };
         assert_eq!(opened.code, DONE, "a server opens");
         // SAFETY: the handle and what it is given live longer than the call.
         let opened = unsafe { ffi::krl_client_open(&raw mut client, 0, 1) };

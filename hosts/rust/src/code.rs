@@ -56,7 +56,7 @@ codes! {
     BadValue = 16, "a value has more than 32 bytes";
     BadKey = 17, "a key is 2^63 - 1 or more";
     Twice = 18, "a key stands twice among the rows";
-    Full = 19, "there are more than 65,536 rows";
+    Full = 19, "there are more rows than the server has room for";
     BadMode = 20, "a mode that is none";
     BadPoint = 21, "a point above 2^63 - 1, or a written key of 2^63 - 1 or more";
     BadSpan = 22, "a range does not begin below its end, or ends above 2^63";
@@ -68,4 +68,5 @@ codes! {
     TooManyPins = 28, "the client has eight pins";
     BadIncarnation = 29, "a client's incarnation is 0";
     BadShards = 30, "bounds that make no shards";
+    BadRoom = 31, "room for no row, or for more than 1,048,576";
 }

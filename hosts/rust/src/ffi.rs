@@ -3,6 +3,9 @@
 use crate::row::Row;
 use std::ffi::c_void;
 
+/// For how many rows a server has room where nothing asks for another number.
+pub const DEFAULT_ROOM: usize = 65_536;
+
 #[repr(C)]
 pub struct Handle {
     pub is_open: bool,
@@ -175,6 +178,7 @@ unsafe extern "C" {
 
     pub fn krl_server_open(
         handle: *mut Handle,
+        room: usize,
         epoch: u64,
         entries: *const Row,
         entries_length: usize,

@@ -95,6 +95,7 @@ impl ServerHandle {
         let reply = unsafe {
             ffi::krl_server_open(
                 handle.raw(),
+                ffi::DEFAULT_ROOM,
                 snapshot.epoch,
                 rows.as_ptr(),
                 rows.len(),

@@ -1,7 +1,7 @@
 //! What survives, made of its parts. A call that is refused memory is made again, so that each run
 //! ends alike, whichever one or two allocations in a row fail.
 use crate::again::CALLS;
-use krl_durable::{Durable, Record, Refused};
+use krl_durable::{Durable, Record, Refused, Room};
 use krl_messages::{Outcome, Value};
 use std::alloc::{AllocError, Global};
 
@@ -14,6 +14,8 @@ pub enum Start {
     Brought,
     /// The same, written out and brought back.
     WrittenOut,
+    /// The same, with room for so many entries.
+    Roomed(usize),
 }
 
 /// A client that has not left, and never wrote.
@@ -39,21 +41,34 @@ pub fn two_entries() -> [(u64, Value); 2] {
     [(20, Value::from_u64(2)), (10, Value::from_u64(1))]
 }
 
-fn brought(alloc: Global, entries: &[(u64, Value)]) -> Result<Durable, Refused> {
-    Durable::from_parts(alloc, entries, 7, &RECORDS)
+fn brought(alloc: Global, room: Room, entries: &[(u64, Value)]) -> Result<Durable, Refused> {
+    Durable::from_parts(alloc, room, entries, 7, &RECORDS)
 }
 
 // What it shows, written out and brought back.
 fn written_out(alloc: Global, durable: &Durable) -> Result<Durable, Refused> {
     let records = durable.records(alloc)?;
-    Durable::from_parts(alloc, durable.run(0), durable.epoch(), &records)
+    Durable::from_parts(
+        alloc,
+        durable.room(),
+        durable.run(0),
+        durable.epoch(),
+        &records,
+    )
+}
+
+// With room for so many entries, written out and brought back.
+fn roomed(alloc: Global, room: usize, entries: &[(u64, Value)]) -> Result<Durable, Refused> {
+    let room = Room::new(room).ok_or(Refused::Full)?;
+    written_out(alloc, &brought(alloc, room, entries)?)
 }
 
 fn try_start(alloc: Global, start: Start, entries: &[(u64, Value)]) -> Result<Durable, Refused> {
     match start {
         Start::Unused => Durable::new(alloc, entries),
-        Start::Brought => brought(alloc, entries),
-        Start::WrittenOut => written_out(alloc, &brought(alloc, entries)?),
+        Start::Brought => brought(alloc, Room::standard(), entries),
+        Start::WrittenOut => written_out(alloc, &brought(alloc, Room::standard(), entries)?),
+        Start::Roomed(room) => roomed(alloc, room, entries),
     }
 }
 

@@ -1,7 +1,7 @@
 -- A grant at once, while nobody waits on the slot: it is what a place in the queue and a turn would give.
 use Rattle.std.proofs.Common.{◌≡◌, ◌≢◌, ℕ, suc, ◌*◌, ◌≤◌, ◌<◌, Bool, true, false, not, ◌&&◌, ◌||◌, nat_eq, Some, None, List, [], ◌∷◌, ◌++◌, length, refl, sym, ap, subst, ◌∙◌, arith}
 use Rattle.krl_server.proofs.Names.{lt-ltb, and_parts, fun_ext, is_some, set, if◌then◌else◌, END, Mode, at_most, compatible, ToClient, ToServer, In, Waiter, eq_cases, Index, slots, slot_of}
-use Rattle.krl_server.proofs.Names.{Row, Rows, front_of, all_below, most_clients, enqueued, queue_with, with_queue, wanted, granted, nobody_waits, is_granted_at_once, Kept, rows_of}
+use Rattle.krl_server.proofs.Names.{Row, Rows, front_of, all_below, most_clients, enqueued, queue_with, with_queue, wanted, granted, nobody_waits, is_granted_at_once, KeptTable, rows_of}
 use Rattle.krl_server.proofs.Names.{asks_absent, is_wanted_compatible, first_reply, IsTable, WaitsNowhere, Session, State, Server, set_session, is_recovering, sessions_of, meaning, meant, Waits}
 use Rattle.krl_server.proofs.Names.{case_of, with_rows, acknowledged, queues, effect, can_push, next_turn, answer_first, grants, Answered, stops, goes_on, callbacks, Acts, Ends}
 use Rattle.krl_server.proofs.Names.{serves, kind_of, ServerStep, IsSound, turn_here, HasTurned, HasAnsweredFirst, IsServer, waiting_clients, Sent, Sends}
@@ -83,14 +83,14 @@ can_again s u lt =
     ∙ lt-ltb (s.sessions u.client).last_push END lt)
 
 -- the state before the push
-abbrev pub noted : State → Waiter → Kept → State
+abbrev pub noted : State → Waiter → KeptTable → State
 noted st u t = record st { table = t; sessions = set st.sessions u.client (record (sessions_of st.sessions u.client) { unacked = None; last_request = u.req }) }
 
-module _ (st : State) (u : Waiter) (t : Kept) (room : u.client < length st.sessions) (rows : (n : ℕ) → rows_of t n ≡ granted st.durable.index (enqueued st.durable.index (rows_of st.table) u) (slot_of st.durable.index u.point) n) where
-  pub granted_means : meaning (noted st u t) ≡ with_rows (queues (acknowledged (meaning st) u.client) u) (granted st.durable.index (enqueued st.durable.index (rows_of st.table) u) (slot_of st.durable.index u.point))
+module _ (st : State) (u : Waiter) (t : KeptTable) (room : u.client < length st.sessions) (rows : (n : ℕ) → rows_of t.map n ≡ granted st.durable.index (enqueued st.durable.index (rows_of st.table.map) u) (slot_of st.durable.index u.point) n) where
+  pub granted_means : meaning (noted st u t) ≡ with_rows (queues (acknowledged (meaning st) u.client) u) (granted st.durable.index (enqueued st.durable.index (rows_of st.table.map) u) (slot_of st.durable.index u.point))
   granted_means =
       ap (λ (r : Rows). let s : Server = record { durable = st.durable; rows = r; sessions = sessions_of (set st.sessions u.client (record { last_push = (sessions_of st.sessions u.client).last_push; unacked = None; last_request = u.req })); missing = st.missing } in s) (fun_ext rows)
-      ∙ ap (λ ls. let s : Server = record { durable = st.durable; rows = granted st.durable.index (enqueued st.durable.index (rows_of st.table) u) (slot_of st.durable.index u.point); sessions = ls; missing = st.missing } in s)
+      ∙ ap (λ ls. let s : Server = record { durable = st.durable; rows = granted st.durable.index (enqueued st.durable.index (rows_of st.table.map) u) (slot_of st.durable.index u.point); sessions = ls; missing = st.missing } in s)
       (sessions_set st.sessions u.client (record { last_push = (sessions_of st.sessions u.client).last_push; unacked = None; last_request = u.req }) room ∙ noted_sessions (sessions_of st.sessions) u)
 
 -- the turn

@@ -1,6 +1,6 @@
 -- What a write that is Applied asks of the table, and what it leaves over the index.
 use Rattle.krl_server.proofs.Names.{◌≡◌, ℕ, suc, ◌≤◌, ◌<◌, Bool, true, false, ◌||◌, None, refl, sym, ap, subst, ◌∙◌, arith, nat_eq, ltb-true, END, Value, WriteOp, Outcome, eq_cases}
-use Rattle.krl_server.proofs.Names.{Index, slot_of, is_slot, IsSlotOf, op_key, held, judge, index_after, most_entries, column, Kept, rows_of, IsOver, MayInsert, MayDelete}
+use Rattle.krl_server.proofs.Names.{Index, slot_of, is_slot, IsSlotOf, op_key, held, judge, index_after, column, Kept, rows_of, IsOver, MayInsert, MayDelete}
 use Rattle.std.specs.Prelude.{is_some, not, nat_lt, length}
 use Rattle.std.specs.FinMap as map
 use Rattle.krl_messages.specs.declared.write_op.WriteOp.TheVariants as write
@@ -12,15 +12,15 @@ use Rattle.krl_server.proofs.Invariant.Within.{insert_room}
 use Rattle.krl_modes.proofs.Basics.{None-if_not_some}
 use mathlib.Core.Bool.{or-true}
 
-room_left : (n : ℕ) → not (nat_lt n most_entries) ≡ false → n < most_entries
-room_left n e = by_test (nat_lt n most_entries) refl e
+room_left : (room n : ℕ) → not (nat_lt n room) ≡ false → n < room
+room_left room n e = by_test (nat_lt n room) refl e
   where
-    by_test : (b : Bool) → nat_lt n most_entries ≡ b → not b ≡ false → n < most_entries
-    by_test true f g = ltb-true n most_entries f
+    by_test : (b : Bool) → nat_lt n room ≡ b → not b ≡ false → n < room
+    by_test true f g = ltb-true n room f
     by_test false f g = absurd (cc)
 
 -- another value leaves the slots
-module _ (m : Index) (k : ℕ) (v : Value) (may : Bool) (lt : k < END) (e : judge m (write.Put k v) may ≡ outcome.Applied) where
+module _ (room : ℕ) (m : Index) (k : ℕ) (v : Value) (may : Bool) (lt : k < END) (e : judge room m (write.Put k v) may ≡ outcome.Applied) where
   same_slots : (n : ℕ) → is_slot (map.insert m k v) n ≡ is_slot m n
   same_slots n = eq_cases n k
       (λ f. subst (λ x. is_slot (map.insert m k v) x ≡ is_slot m x) (sym f)
@@ -43,16 +43,16 @@ module _ (m : Index) (k : ℕ) (v : Value) (may : Bool) (lt : k < END) (e : judg
       same_place {n = n} x = record { slot = same_slots n ∙ x.slot; above = x.above; least = λ j a b. same_slots j ∙ x.least j a b }
 
 -- a write of this shape that is Applied
-pub put_after : (m : Index) (t : Kept) (op : WriteOp) (o : Outcome) (k : ℕ) (v : Value) (may : Bool) → op ≡ write.Put k v → o ≡ outcome.Applied → op_key op < END → judge m op may ≡ o → IsOver m t → IsOver (index_after m op o) t
-put_after m t op o k v may e f lt is over =
+pub put_after : (room : ℕ) (m : Index) (t : Kept) (op : WriteOp) (o : Outcome) (k : ℕ) (v : Value) (may : Bool) → op ≡ write.Put k v → o ≡ outcome.Applied → op_key op < END → judge room m op may ≡ o → IsOver m t → IsOver (index_after m op o) t
+put_after room m t op o k v may e f lt is over =
     subst (λ x. IsOver (index_after m op x) t) (sym f) (subst (λ x. IsOver (index_after m x outcome.Applied) t) (sym e)
-    (put_over m k v may (subst (λ x. op_key x < END) e lt) (sym (ap (λ x. judge m x may) e) ∙ is ∙ f) t over))
+    (put_over room m k v may (subst (λ x. op_key x < END) e lt) (sym (ap (λ x. judge room m x may) e) ∙ is ∙ f) t over))
 
 -- what such a write asks of the index and of the table
-pub record Inserts (m : Index) (t : Kept) (c k : ℕ) : Type 0 where
+pub record Inserts (most : ℕ) (m : Index) (t : Kept) (c k : ℕ) : Type 0 where
   pub key : k < END
   pub free : map.get m k ≡ None
-  pub room : length (map.entries m) < most_entries
+  pub room : length (map.entries m) < most
   pub may : MayInsert (rows_of t) (slot_of m k) c
 
 pub record Deletes (m : Index) (t : Kept) (c k : ℕ) : Type 0 where
@@ -60,20 +60,20 @@ pub record Deletes (m : Index) (t : Kept) (c k : ℕ) : Type 0 where
   pub there : is_slot m k ≡ true
   pub may : MayDelete (rows_of t) k (slot_of m (suc k)) c
 
-pub insert_asks : (m : Index) (t : Kept) (c : ℕ) (op : WriteOp) (o : Outcome) (k : ℕ) (v : Value) → op ≡ write.Insert k v → o ≡ outcome.Applied → op_key op < END → judge m op (held m (column (rows_of t) c) op) ≡ o → Inserts m t c k
-insert_asks m t c op o k v e f lt is =
-    let judged = sym (ap (λ x. judge m x (held m (column (rows_of t) c) x)) e) ∙ is ∙ f in
-    let may = insert_may (is_some (map.get m k)) (held m (column (rows_of t) c) (write.Insert k v)) (not (nat_lt (length (map.entries m)) most_entries)) judged in
+pub insert_asks : (room : ℕ) (m : Index) (t : Kept) (c : ℕ) (op : WriteOp) (o : Outcome) (k : ℕ) (v : Value) → op ≡ write.Insert k v → o ≡ outcome.Applied → op_key op < END → judge room m op (held m (column (rows_of t) c) op) ≡ o → Inserts room m t c k
+insert_asks room m t c op o k v e f lt is =
+    let judged = sym (ap (λ x. judge room m x (held m (column (rows_of t) c) x)) e) ∙ is ∙ f in
+    let may = insert_may (is_some (map.get m k)) (held m (column (rows_of t) c) (write.Insert k v)) (not (nat_lt (length (map.entries m)) room)) judged in
     record {
       key = subst (λ x. op_key x < END) e lt;
       free = None-if_not_some (map.get m k) may.0;
-      room = room_left (length (map.entries m)) (insert_room (is_some (map.get m k)) (held m (column (rows_of t) c) (write.Insert k v)) (not (nat_lt (length (map.entries m)) most_entries)) judged);
+      room = room_left room (length (map.entries m)) (insert_room (is_some (map.get m k)) (held m (column (rows_of t) c) (write.Insert k v)) (not (nat_lt (length (map.entries m)) room)) judged);
       may = may.1;
     }
 
-pub delete_asks : (m : Index) (t : Kept) (c : ℕ) (op : WriteOp) (o : Outcome) (k : ℕ) → op ≡ write.Delete k → o ≡ outcome.Applied → op_key op < END → judge m op (held m (column (rows_of t) c) op) ≡ o → Deletes m t c k
-delete_asks m t c op o k e f lt is =
-    let judged = sym (ap (λ x. judge m x (held m (column (rows_of t) c) x)) e) ∙ is ∙ f in
+pub delete_asks : (room : ℕ) (m : Index) (t : Kept) (c : ℕ) (op : WriteOp) (o : Outcome) (k : ℕ) → op ≡ write.Delete k → o ≡ outcome.Applied → op_key op < END → judge room m op (held m (column (rows_of t) c) op) ≡ o → Deletes m t c k
+delete_asks room m t c op o k e f lt is =
+    let judged = sym (ap (λ x. judge room m x (held m (column (rows_of t) c) x)) e) ∙ is ∙ f in
     let may = change_may (is_some (map.get m k)) (held m (column (rows_of t) c) (write.Delete k)) judged in
     record {
       key = subst (λ x. op_key x < END) e lt;

@@ -27,6 +27,7 @@ pub durable_within : (d : Durable) → IsKept d → IsDurableWithin d
 durable_within d kept = record {
   epoch = kept.epoch;
   entries = kept.few;
+  room = kept.room;
   once = apart_of d.register kept.once;
   known = λ c r e. let x = kept.incarnations c r e in (low_known d.register c r kept.clients e, x.0, x.1, kept.lasts c r e);
 }

@@ -8,7 +8,7 @@ use Rattle.krl_server.proofs.Invariant.Kept.{server_keeps}
 use Rattle.krl_server.proofs.Invariant.Within.{all_within}
 use Rattle.krl_server.proofs.Functions.Known.{durable_within}
 
-module _ (d : Durable) (st : State) (lt : d.epoch < END) (durable : st.durable ≡ record d { epoch = suc d.epoch }) (rows : (n : ℕ) → rows_of st.table n ≡ blank_row) (over : IsOver d.index st.table) (full : length st.sessions ≡ 64) (sessions : (c : ℕ) → sessions_of st.sessions c ≡ blank_session) (missing : st.missing ≡ missing_order d.register) where
+module _ (d : Durable) (st : State) (lt : d.epoch < END) (durable : st.durable ≡ record d { epoch = suc d.epoch }) (rows : (n : ℕ) → rows_of st.table.map n ≡ blank_row) (over : IsOver d.index st.table.map) (room : d.room < st.table.room) (full : length st.sessions ≡ 64) (sessions : (c : ℕ) → sessions_of st.sessions c ≡ blank_session) (missing : st.missing ≡ missing_order d.register) where
   means_start : meaning st ≡ start d
   means_start =
       ap (λ x. record (meaning st) { durable = x }) durable
@@ -23,7 +23,7 @@ module _ (d : Durable) (st : State) (lt : d.epoch < END) (durable : st.durable �
   is_server kept =
       let x = server_keeps.ordered_start d kept.outcomes in
       record {
-        formed = record { full = full; over = subst (λ y. IsOver y.index st.table) (sym durable) over };
+        formed = record { full = full; over = subst (λ y. IsOver y.index st.table.map) (sym durable) over; rows = subst (λ y. y.room < st.table.room) (sym durable) room };
         sound = subst IsSound (sym means_start) (server_keeps.sound_start d over.near);
         ordered = subst IsOrdered (sym means_start) x.0;
         settled = subst IsSettled (sym means_start) x.1;

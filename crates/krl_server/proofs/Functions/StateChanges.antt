@@ -1,6 +1,6 @@
 -- What a change of the state means.
 use Rattle.std.proofs.Common.{◌≡◌, ℕ, suc, ◌+◌, ◌≤◌, ◌<◌, Bool, true, false, Some, None, List, [], ◌∷◌, length, set, refl, sym, ap, subst, ◌∙◌, nat_eq, add-one}
-use Rattle.krl_server.proofs.Names.{lt-ltb, le-ltb, fun_ext, get_or-set_same, get_or-set_other, if◌then◌else◌, END, PushBody, eq_cases, Waiter, Rows, enqueued, Kept, rows_of, Session, Server}
+use Rattle.krl_server.proofs.Names.{lt-ltb, le-ltb, fun_ext, get_or-set_same, get_or-set_other, if◌then◌else◌, END, PushBody, eq_cases, Waiter, Rows, enqueued, KeptTable, rows_of, Session, Server}
 use Rattle.krl_server.proofs.Names.{blank_session, set_session, Done, with_session, push_to, pushes, silent, acknowledged, queues, State, sessions_of, meaning}
 use Rattle.krl_server.proofs.Updates.{session_here, session_other}
 
@@ -35,10 +35,10 @@ set_twice sessions c x y = fun_ext (λ d. by_test (nat_eq d c) d)
     by_test false d = refl
 
 -- a lock request is taken
-pub queued_means : (st : State) (u w : Waiter) (t : Kept) → w ≡ u → w.client < length st.sessions → ((n : ℕ) → rows_of t n ≡ enqueued st.durable.index (rows_of st.table) u n) → meaning (record st { table = t; sessions = set st.sessions w.client (record (sessions_of st.sessions w.client) { unacked = None; last_request = w.req }) }) ≡ queues (acknowledged (meaning st) u.client) u
+pub queued_means : (st : State) (u w : Waiter) (t : KeptTable) → w ≡ u → w.client < length st.sessions → ((n : ℕ) → rows_of t.map n ≡ enqueued st.durable.index (rows_of st.table.map) u n) → meaning (record st { table = t; sessions = set st.sessions w.client (record (sessions_of st.sessions w.client) { unacked = None; last_request = w.req }) }) ≡ queues (acknowledged (meaning st) u.client) u
 queued_means st u w t same room rows =
     ap (λ (r : Rows). let s : Server = record { durable = st.durable; rows = r; sessions = sessions_of (set st.sessions w.client (noted w)); missing = st.missing } in s) (fun_ext rows)
-    ∙ ap (λ ls. let s : Server = record { durable = st.durable; rows = enqueued st.durable.index (rows_of st.table) u; sessions = ls; missing = st.missing } in s)
+    ∙ ap (λ ls. let s : Server = record { durable = st.durable; rows = enqueued st.durable.index (rows_of st.table.map) u; sessions = ls; missing = st.missing } in s)
     (sessions_set st.sessions w.client (noted w) room
     ∙ ap (λ v. set_session (sessions_of st.sessions) v.client (noted v)) same
     ∙ sym (set_twice (sessions_of st.sessions) u.client acknowledged_session (noted u))

@@ -80,7 +80,7 @@ write_kept : (s : Server) (c : ℕ) (op : WriteOp) (o : Outcome) (r : Record) �
 write_kept s c op o r i lt under known is k = subst (λ x. IsKept (applied_by s.durable c op o x).index (rows_after s.durable.index s.rows c op o)) (sym known) (by_outcome o is)
   where
     by_outcome : (o : Outcome) → judged s c op ≡ o → IsKept (applied_by s.durable c op o (Some r)).index (rows_after s.durable.index s.rows c op o)
-    by_outcome outcome.Applied e = written_kept s.durable.index i.near s.rows k c op lt under e
+    by_outcome outcome.Applied e = written_kept s.durable.index i.near s.rows k s.durable.room c op lt under e
     by_outcome outcome.Exists e = k
     by_outcome outcome.Absent e = k
     by_outcome outcome.NotHeld e = k

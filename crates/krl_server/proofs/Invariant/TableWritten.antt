@@ -107,7 +107,7 @@ module _ (m : Index) (near : (q : ℕ) → END ≤ q → map.get m q ≡ None) (
       still j ne e = ap (λ o. nat_eq j END || is_some o) (sym (gone_other m k j ne)) ∙ e
 
   -- the write of c
-  pub written_kept : (c : ℕ) (op : WriteOp) → c < most_clients → op_key op < END → judge m op (held m (column rows c) op) ≡ outcome.Applied → IsKept (written m op) (rows_written m rows c op)
-  written_kept c (write.Insert k v) own lt e = let x = insert_may (is_some (map.get m k)) _ _ e in split_kept k v c lt own (None-if_not_some (map.get m k) x.0) x.1
-  written_kept c (write.Put k v) own lt e = let p = Some-if_some (map.get m k) (change_may (is_some (map.get m k)) _ e).0 in put_kept k v p.0 lt p.1
-  written_kept c (write.Delete k) own lt e = let p = Some-if_some (map.get m k) (change_may (is_some (map.get m k)) _ e).0 in merge_kept k p.0 lt p.1
+  pub written_kept : (room c : ℕ) (op : WriteOp) → c < most_clients → op_key op < END → judge room m op (held m (column rows c) op) ≡ outcome.Applied → IsKept (written m op) (rows_written m rows c op)
+  written_kept room c (write.Insert k v) own lt e = let x = insert_may (is_some (map.get m k)) _ _ e in split_kept k v c lt own (None-if_not_some (map.get m k) x.0) x.1
+  written_kept room c (write.Put k v) own lt e = let p = Some-if_some (map.get m k) (change_may (is_some (map.get m k)) _ e).0 in put_kept k v p.0 lt p.1
+  written_kept room c (write.Delete k) own lt e = let p = Some-if_some (map.get m k) (change_may (is_some (map.get m k)) _ e).0 in merge_kept k p.0 lt p.1

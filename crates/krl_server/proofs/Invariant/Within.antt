@@ -2,7 +2,7 @@
 use Rattle.krl_server.proofs.Names.{◌≡◌, ◌≢◌, ℕ, suc, ◌+◌, ◌-◌, ◌≤◌, ◌<◌, Bool, true, false, not, cond, ◌||◌, Some, None, List, [], ◌∷◌, length, ◌⊎◌, inl, inr, refl, sym, ap, subst, ◌∙◌, ⊎_elim}
 use Rattle.krl_server.proofs.Names.{arith, nat_eq, eq-eqb, eqb-true, ltb-true, ltb-false, eqb-false, or_parts, not-false, none-some, same_Some, nat_lt, is_some, if◌then◌else◌, END, WriteOp, Outcome}
 use Rattle.krl_server.proofs.Names.{ToServer, ToClient, PushBody, eq_cases, Record, Index, slot_of, Register, Durable, record_of, with_record, new_record, left_by, missing_order, op_key, In}
-use Rattle.krl_server.proofs.Names.{most_entries, judge, judged_insert, noted, index_after, applied_by, Rows, most_clients, dropped, granted, asks_absent, Session, Server, is_recovering, lists}
+use Rattle.krl_server.proofs.Names.{judge, judged_insert, noted, index_after, applied_by, Rows, most_clients, dropped, granted, asks_absent, Session, Server, is_recovering, lists}
 use Rattle.krl_server.proofs.Names.{unlist, set_session, blank_session, Ignored, judged, case_of, case_of_record, is_malformed, Done, acknowledged, pushes, effect, Turn, answer_first, tells_absent}
 use Rattle.krl_server.proofs.Names.{grants, Answered, stops, goes_on, Ends, Kind, at_once, recovers, serves, start, can_start, kind_of, AreApart, clients_of, IsEntry, IsDurableWithin, IsWithin}
 use Rattle.krl_server.proofs.Names.{ServerWithin}
@@ -48,7 +48,7 @@ with_each Q es c x here h d r e = eq_cases d c
     (λ ne. h d r (sym (record_other es c d x ne) ∙ e))
 
 with_within : (d : Durable) (c : ℕ) (x : Record) → IsEntry c x → IsDurableWithin d → IsDurableWithin (record d { register = with_record d.register c x })
-with_within d c x here w = record { epoch = w.epoch; entries = w.entries; once = with_apart d.register c x w.once; known = with_each IsEntry d.register c x here w.known }
+with_within d c x here w = record { epoch = w.epoch; entries = w.entries; room = w.room; once = with_apart d.register c x w.once; known = with_each IsEntry d.register c x here w.known }
 
 pub known_in : (es : Register) (c : ℕ) (r : Record) → record_of es c ≡ Some r → In c (clients_of es)
 known_in [] c r e = absurd (none-some r e)
@@ -143,26 +143,26 @@ one_less : (b : Bool) (n : ℕ) → cond b (n - 1) n ≤ n
 one_less true n = omega arith
 one_less false n = omega arith
 
-written_few : (m : Index) (op : WriteOp) (may : Bool) → judge m op may ≡ outcome.Applied → length (map.entries m) ≤ most_entries → length (map.entries (index_after m op outcome.Applied)) ≤ most_entries
-written_few m (write.Insert k v) may e le =
-    let room = ltb-true (length (map.entries m)) most_entries (not-false (nat_lt (length (map.entries m)) most_entries) (insert_room (is_some (map.get m k)) may (not (nat_lt (length (map.entries m)) most_entries)) e)) in
+written_few : (room : ℕ) (m : Index) (op : WriteOp) (may : Bool) → judge room m op may ≡ outcome.Applied → length (map.entries m) ≤ room → length (map.entries (index_after m op outcome.Applied)) ≤ room
+written_few room m (write.Insert k v) may e le =
+    let left = ltb-true (length (map.entries m)) room (not-false (nat_lt (length (map.entries m)) room) (insert_room (is_some (map.get m k)) may (not (nat_lt (length (map.entries m)) room)) e)) in
     let is = map.len-insert nat_cmp_total m k v in
     let more = one_more (map.contains_key m k) (map.len m) in
-    omega (arith, room, is, more, map.len-entries m, map.len-entries (map.insert m k v))
-written_few m (write.Put k v) may e le =
+    omega (arith, left, is, more, map.len-entries m, map.len-entries (map.insert m k v))
+written_few room m (write.Put k v) may e le =
     let is = map.len-insert nat_cmp_total m k v ∙ ap (λ b. cond b (map.len m) (map.len m + 1)) (change_may (is_some (map.get m k)) may e).0 in
     omega (arith, le, is, map.len-entries m, map.len-entries (map.insert m k v))
-written_few m (write.Delete k) may e le =
+written_few room m (write.Delete k) may e le =
     let is = map.len-remove nat_cmp_total m k in
     let less = one_less (map.contains_key m k) (map.len m) in
     omega (arith, le, is, less, map.len-entries m, map.len-entries (map.remove m k))
 
-after_few : (m : Index) (op : WriteOp) (may : Bool) (o : Outcome) → judge m op may ≡ o → length (map.entries m) ≤ most_entries → length (map.entries (index_after m op o)) ≤ most_entries
-after_few m op may outcome.Applied e le = written_few m op may e le
-after_few m op may outcome.Exists e le = le
-after_few m op may outcome.Absent e le = le
-after_few m op may outcome.NotHeld e le = le
-after_few m op may outcome.Full e le = le
+after_few : (room : ℕ) (m : Index) (op : WriteOp) (may : Bool) (o : Outcome) → judge room m op may ≡ o → length (map.entries m) ≤ room → length (map.entries (index_after m op o)) ≤ room
+after_few room m op may outcome.Applied e le = written_few room m op may e le
+after_few room m op may outcome.Exists e le = le
+after_few room m op may outcome.Absent e le = le
+after_few room m op may outcome.NotHeld e le = le
+after_few room m op may outcome.Full e le = le
 
 -- Lines
 
@@ -217,7 +217,8 @@ module _ (s : Server) (m : ToServer) (w : IsWithin s) where
       subst (λ y. IsWithin (record (effects.writes (acknowledged s m.client) m.client op o) { durable = applied_by s.durable m.client op o y })) (sym e) (record {
         durable = record {
           epoch = w.durable.epoch;
-          entries = after_few s.durable.index op _ o is w.durable.entries;
+          entries = after_few s.durable.room s.durable.index op _ o is w.durable.entries;
+          room = w.durable.room;
           once = with_apart s.durable.register m.client (noted r o) w.durable.once;
           known = with_each IsEntry s.durable.register m.client (noted r o) (x.0, x.1, x.2, omega (arith, high, new)) w.durable.known;
         };
@@ -266,7 +267,7 @@ ends_within done kind t outs (serves t' answers a b c) w = answered_within done.
 
 start_within : (d : Durable) → can_start d ≡ true → IsDurableWithin d → IsWithin (start d)
 start_within d can w = record {
-  durable = record { epoch = (let lt = ltb-true d.epoch END can in omega (arith, lt)); entries = w.entries; once = w.once; known = w.known };
+  durable = record { epoch = (let lt = ltb-true d.epoch END can in omega (arith, lt)); entries = w.entries; room = w.room; once = w.once; known = w.known };
   last_push = λ c. omega arith;
   missing = λ c e. ordered_known d.register c w.once e;
   missing_once = ordered_apart d.register w.once;

@@ -1,12 +1,10 @@
 -- There is room for a row at each slot: rows stand at slots of the index, and those are few.
 use Rattle.krl_table.proofs.Names.{◌≡◌, ◌≢◌, ℕ, suc, ◌≤◌, ◌<◌, Bool, true, false, ◌||◌, cond, List, [], ◌∷◌, ◌++◌, Some, None, IsSome, ◌⊎◌, inl, inr, length, map, refl, sym, ap, subst, ◌∙◌}
-use Rattle.krl_table.proofs.Names.{⊎_elim, arith, nat_eq, eq-eqb, ne_eqb, nat_tests, is_some, if◌then◌else◌, nat_cmp, eq_by_cmp, END, Value, Index, slots, is_slot, Kept, IsOver, most_rows}
+use Rattle.krl_table.proofs.Names.{⊎_elim, arith, nat_eq, eq-eqb, ne_eqb, nat_tests, is_some, if◌then◌else◌, nat_cmp, eq_by_cmp, END, Value, Index, slots, is_slot, Kept, IsOver}
 use Rattle.std.specs.FinMap as fin
 use Rattle.std.specs.FinMap.Entries as entries
 use Rattle.std_alloc.proofs.Flags.{T_true}
-use Rattle.krl_durable.specs.Writes.{most_entries}
 use Rattle.krl_table.proofs.Rows.RowChanges.{eq_cases}
-use Rattle.krl_durable.proofs.Kept.{most}
 use Rattle.krl_durable.proofs.Slots as pairs
 use Rattle.krl_blocks.specs.Laid.{Above, Rises}
 use Rattle.std.proofs.Math.Bool.{or-true}
@@ -132,10 +130,6 @@ many_slots : (es : List (ℕ × Value)) → length (map (λ e. e.0) es ++ END �
 many_slots [] = refl
 many_slots (e ∷ es) = ap suc (many_slots es)
 
-pub rows_are : most_rows ≡ 65537
-unfolding most_rows
-rows_are = refl
-
 module _ (m : Index) (t : Kept) (over : IsOver m t) where
   at_slots : (n : ℕ) → Lists n (map (λ e. e.0) (fin.entries t)) → is_slot m n ≡ true
   at_slots n at = over.within n (subst IsSome (sym (fin.get-entries t n)) (key_there (fin.entries t) n at))
@@ -155,10 +149,10 @@ module _ (m : Index) (t : Kept) (over : IsOver m t) where
       let one = one_less k (slots m) (slots_have m k slot) in
       let a = as_many (fin.entries t) in let b = many_slots (fin.entries m) in omega (arith, le, one, a, b)
 
-  -- so there is room at each slot
-  pub room_at : (room k : ℕ) → most_rows ≤ room → length (fin.entries m) ≤ most_entries → is_slot m k ≡ true → fin.get t k ≡ None → length (fin.entries t) < room
-  room_at room k many less slot none = let a = rows_fewer k slot none in let b = most in let e = rows_are in omega (arith, a, b, e, many, less)
+  -- so there is room at each slot, if there are more rows than entries can be
+  pub room_at : (most room k : ℕ) → most < room → length (fin.entries m) ≤ most → is_slot m k ≡ true → fin.get t k ≡ None → length (fin.entries t) < room
+  room_at most room k many less slot none = let a = rows_fewer k slot none in omega (arith, a, many, less)
 
-  -- and at a new one, where the index has room for a key
-  pub room_new : (room : ℕ) → most_rows ≤ room → length (fin.entries m) < most_entries → length (fin.entries t) < room
-  room_new room many less = let a = rows_few in let b = most in let e = rows_are in omega (arith, a, b, e, many, less)
+  -- and at a new one, if the index has room for a key
+  pub room_new : (most room : ℕ) → most < room → length (fin.entries m) < most → length (fin.entries t) < room
+  room_new most room many less = let a = rows_few in omega (arith, a, many, less)

@@ -16,7 +16,7 @@ use krl_queue::Waiter;
 impl Table {
     /// Whether nobody waits anywhere. It looks at one number.
     pub fn nobody_waits(&self) -> bool
-        ensures { (result ≡ true) ↔ ((n : ℕ) → (rows_of self.now n).queue ≡ []) }
+        ensures { (result ≡ true) ↔ ((n : ℕ) → (rows_of self.now.map n).queue ≡ []) }
     {
         self.waiting.is_empty()
     }
@@ -25,8 +25,8 @@ impl Table {
     /// others hold there.
     fn is_free_for(&self, slot: u64, waiter: &Waiter) -> bool
         requires { waiter.now.client < 64 }
-        ensures { result ≡ (nobody_waits (rows_of self.now slot).queue
-            && is_wanted_compatible (rows_of self.now) slot waiter.now) }
+        ensures { result ≡ (nobody_waits (rows_of self.now.map slot).queue
+            && is_wanted_compatible (rows_of self.now.map) slot waiter.now) }
     {
         match self.rows.get(slot) {
             Some(row) => row.queue.is_empty() && row.is_wanted_compatible(waiter),
@@ -46,18 +46,20 @@ impl Table {
         durable: &Durable,
         waiter: &Waiter,
     ) -> Option<ArrayVec<Point, 8>>
-        requires over { IsOver durable.now.index self.old }
+        requires over { IsOver durable.now.index self.old.map }
         requires client { waiter.now.client < 64 }
+        requires rows { durable.now.room < self.old.room }
         ensures when { is_some result
-            ≡ is_granted_at_once durable.now.index (rows_of self.old) waiter.now }
-        ensures granted { IfSome result (λ _. (n : ℕ) → rows_of self.new n
-            ≡ granted durable.now.index (enqueued durable.now.index (rows_of self.old) waiter.now)
+            ≡ is_granted_at_once durable.now.index (rows_of self.old.map) waiter.now }
+        ensures granted { IfSome result (λ _. (n : ℕ) → rows_of self.new.map n
+            ≡ granted durable.now.index (enqueued durable.now.index (rows_of self.old.map) waiter.now)
             (slot_of durable.now.index waiter.now.point) n) }
         ensures taken { IfSome result (λ slots. slots.items
-            ≡ taken durable.now.index (enqueued durable.now.index (rows_of self.old) waiter.now)
+            ≡ taken durable.now.index (enqueued durable.now.index (rows_of self.old.map) waiter.now)
             (slot_of durable.now.index waiter.now.point)) }
         ensures none { IfNone result (self.new ≡ self.old) }
-        ensures slots { IsOver durable.now.index self.new }
+        ensures slots { IsOver durable.now.index self.new.map }
+        ensures room { self.new.room ≡ self.old.room }
     {
         let slot = durable.slot_of(waiter.point.get());
         if reply::asks_absent(slot, waiter) || !self.is_free_for(slot, waiter) {

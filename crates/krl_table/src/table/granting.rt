@@ -44,13 +44,15 @@ impl Table {
     /// beside what others hold, or which is END and the waiter asks for an entry alone. It answers
     /// the slots that were taken, in ascending order; none where nobody waits. It takes no memory.
     pub fn grant(&mut self, durable: &Durable, slot: u64) -> ArrayVec<Point, 8>
-        requires over { IsOver durable.now.index self.old }
-        requires is_compatible_there { IfSome (front_of (rows_of self.old slot).queue)
-            (λ u. is_wanted_compatible (rows_of self.old) slot u ≡ true) }
-        ensures granted { (n : ℕ) → rows_of self.new n
-            ≡ granted durable.now.index (rows_of self.old) slot n }
-        ensures taken { result.items ≡ taken durable.now.index (rows_of self.old) slot }
-        ensures slots { IsOver durable.now.index self.new }
+        requires over { IsOver durable.now.index self.old.map }
+        requires rows { durable.now.room < self.old.room }
+        requires is_compatible_there { IfSome (front_of (rows_of self.old.map slot).queue)
+            (λ u. is_wanted_compatible (rows_of self.old.map) slot u ≡ true) }
+        ensures granted { (n : ℕ) → rows_of self.new.map n
+            ≡ granted durable.now.index (rows_of self.old.map) slot n }
+        ensures taken { result.items ≡ taken durable.now.index (rows_of self.old.map) slot }
+        ensures slots { IsOver durable.now.index self.new.map }
+        ensures room { self.new.room ≡ self.old.room }
     {
         let mut taken = ArrayVec::new();
         if let Some(waiter) = self.front(slot) {
@@ -63,11 +65,12 @@ impl Table {
 
     /// The slot's first waiter gets what it wants there, and waits no more.
     fn grant_first(&mut self, slot: u64)
-        requires there { IsSome (map.get self.old slot) }
-        requires is_compatible_there { IfSome (front_of (rows_of self.old slot).queue)
-            (λ u. is_wanted_compatible (rows_of self.old) slot u ≡ true) }
-        ensures granted { (n : ℕ) → rows_of self.new n ≡ granted_first (rows_of self.old) slot n }
-        ensures slots { (m : Index) → IsOver m self.old → IsOver m self.new }
+        requires there { IsSome (map.get self.old.map slot) }
+        requires is_compatible_there { IfSome (front_of (rows_of self.old.map slot).queue)
+            (λ u. is_wanted_compatible (rows_of self.old.map) slot u ≡ true) }
+        ensures granted { (n : ℕ) → rows_of self.new.map n ≡ granted_first (rows_of self.old.map) slot n }
+        ensures slots { (m : Index) → IsOver m self.old.map → IsOver m self.new.map }
+        ensures room { self.new.room ≡ self.old.room }
         ensures end { slot ≤ END }
     {
         let first = row_ops::grant(&mut self.rows, slot);
@@ -83,16 +86,18 @@ impl Table {
         waiter: &Waiter,
         taken: &mut ArrayVec<Point, 8>,
     )
-        requires over { IsOver durable.now.index self.old }
+        requires over { IsOver durable.now.index self.old.map }
         requires client { waiter.now.client < 64 }
-        ensures rows { rows_of self.new
-            ≡ raised_on (rows_of self.old)
-            (taken_after durable.now.index (rows_of self.old) slot waiter.now
+        requires rows { durable.now.room < self.old.room }
+        ensures rows { rows_of self.new.map
+            ≡ raised_on (rows_of self.old.map)
+            (taken_after durable.now.index (rows_of self.old.map) slot waiter.now
             (8 - length taken.old.items)) waiter.now }
         ensures taken { taken.new.items ≡ taken.old.items
-            ++ taken_after durable.now.index (rows_of self.old) slot waiter.now
+            ++ taken_after durable.now.index (rows_of self.old.map) slot waiter.now
             (8 - length taken.old.items) }
-        ensures slots { IsOver durable.now.index self.new }
+        ensures slots { IsOver durable.now.index self.new.map }
+        ensures room { self.new.room ≡ self.old.room }
     {
         let mut at = slot;
         while !taken.is_full() {
@@ -107,13 +112,13 @@ impl Table {
 
     /// The slot after this one, where the waiter may take it.
     fn next_taken(&self, durable: &Durable, at: u64, waiter: &Waiter) -> Option<Point>
-        requires over { IsOver durable.now.index self.now }
+        requires over { IsOver durable.now.index self.now.map }
         requires client { waiter.now.client < 64 }
         ensures some { IfSome result
-            (λ next. IsTaken durable.now.index self.now at waiter.now next) }
+            (λ next. IsTaken durable.now.index self.now.map at waiter.now next) }
         ensures slot { IfSome result (λ next. is_slot durable.now.index next ≡ true) }
         ensures none { IfNone result
-            (goes_on durable.now.index (rows_of self.now) at waiter.now ≡ false) }
+            (goes_on durable.now.index (rows_of self.now.map) at waiter.now ≡ false) }
     {
         if at >= END || at + 1 >= waiter.hi {
             return None;
@@ -129,9 +134,9 @@ impl Table {
     /// Whether the waiter may take the slot beside its own.
     fn can_take(&self, slot: u64, waiter: &Waiter) -> bool
         requires { waiter.now.client < 64 }
-        ensures result { result ≡ can_take (rows_of self.now) slot waiter.now }
+        ensures result { result ≡ can_take (rows_of self.now.map) slot waiter.now }
         ensures is_compatible_there { result ≡ true
-            → is_wanted_compatible (rows_of self.now) slot waiter.now ≡ true }
+            → is_wanted_compatible (rows_of self.now.map) slot waiter.now ≡ true }
     {
         match self.rows.get(slot) {
             Some(row) => row_takes(row, slot, waiter),
@@ -142,14 +147,16 @@ impl Table {
     /// The waiter's client gets on the slot what it wants, which is compatible with what all others
     /// hold there.
     pub(super) fn raise(&mut self, durable: &Durable, slot: u64, waiter: &Waiter)
-        requires over { IsOver durable.now.index self.old }
+        requires over { IsOver durable.now.index self.old.map }
         requires slot { is_slot durable.now.index slot ≡ true }
         requires client { waiter.now.client < 64 }
-        requires is_compatible_there { is_wanted_compatible (rows_of self.old) slot waiter.now
+        requires rows { durable.now.room < self.old.room }
+        requires is_compatible_there { is_wanted_compatible (rows_of self.old.map) slot waiter.now
             ≡ true }
         ensures raised { (n : ℕ)
-            → rows_of self.new n ≡ raised (rows_of self.old) slot waiter.now n }
-        ensures slots { IsOver durable.now.index self.new }
+            → rows_of self.new.map n ≡ raised (rows_of self.old.map) slot waiter.now n }
+        ensures slots { IsOver durable.now.index self.new.map }
+        ensures room { self.new.room ≡ self.old.room }
     {
         let _kept = durable.epoch();
         row_ops::raise(&mut self.rows, slot, waiter);

@@ -21,11 +21,11 @@ impl Table {
     ///
     /// The clause `grants` is what `grant` asks.
     pub fn answerable(&self, slot: u64, acked: bool) -> Option<Reply>
-        ensures answer { (m : Index) → IsOver m self.now
-            → result ≡ answerable m (rows_of self.now) slot acked }
+        ensures answer { (m : Index) → IsOver m self.now.map
+            → result ≡ answerable m (rows_of self.now.map) slot acked }
         ensures grants { result ≡ Some reply.Grant
-            → IfSome (front_of (rows_of self.now slot).queue)
-            (λ u. is_wanted_compatible (rows_of self.now) slot u ≡ true) }
+            → IfSome (front_of (rows_of self.now.map slot).queue)
+            (λ u. is_wanted_compatible (rows_of self.now.map) slot u ≡ true) }
     {
         if !acked {
             return None;
@@ -40,7 +40,7 @@ impl Table {
     pub fn held(&self, durable: &Durable, client: u64, op: WriteOp) -> bool
         requires client { client < 64 }
         requires key { op_key op < END }
-        ensures { result ≡ held durable.now.index (column (rows_of self.now) client) op }
+        ensures { result ≡ held durable.now.index (column (rows_of self.now.map) client) op }
     {
         match op {
             WriteOp::Insert { key, value: _ } => {

@@ -16,7 +16,7 @@ use krl_store::Store;
 impl Table {
     /// Whether the other client waits on the slot, and the client does not wait there before it.
     pub fn goes_before(&self, slot: u64, client: u64, other: u64) -> bool
-        ensures { result ≡ goes_before client other (rows_of self.now slot).queue }
+        ensures { result ≡ goes_before client other (rows_of self.now.map slot).queue }
     {
         match self.rows.get(slot) {
             Some(row) => row.queue.goes_before(client, other),
@@ -28,7 +28,7 @@ impl Table {
     /// with two searches for each.
     pub fn held_slots(&self, client: u64) -> u64
         requires { client < 64 }
-        ensures { HoldsAt (rows_of self.now) client result }
+        ensures { HoldsAt (rows_of self.now.map) client result }
     {
         count_held(&self.rows, client)
     }
@@ -37,8 +37,8 @@ impl Table {
     /// the rows that are kept from there on as far as that slot, with two searches for each.
     pub fn next_held(&self, client: u64, from: u64) -> Option<u64>
         requires { client < 64 }
-        ensures { MatchOption result (AreHeld (rows_of self.now) client from [])
-            (IsNextHeld (rows_of self.now) client from) }
+        ensures { MatchOption result (AreHeld (rows_of self.now.map) client from [])
+            (IsNextHeld (rows_of self.now.map) client from) }
     {
         next_held(&self.rows, client, from)
     }

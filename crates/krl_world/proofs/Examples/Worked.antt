@@ -1,5 +1,5 @@
 -- What the server does in a short run: a client says Hello, and locks the gap below 10 and the entry there.
-use Rattle.krl_world.proofs.Names.{◌≡◌, ℕ, Option, Some, None, List, [], ◌∷◌, ◌++◌, refl, sym, subst, Value, Holding, ToServer, ToClient, Index, slots, most_clients, Server, Registers, Waits}
+use Rattle.krl_world.proofs.Names.{◌≡◌, ℕ, Option, Some, None, List, [], ◌∷◌, ◌++◌, refl, sym, subst, Value, Holding, ToServer, ToClient, Index, slots, most_entries, most_clients, Server, Registers, Waits}
 use Rattle.krl_world.proofs.Names.{case_of, effect, Turn, turn_at, turn_among, next_turn, answer_first, Answered, stops, goes_on, callbacks_at, callbacks_among, callbacks, Acts, kind_of, Ends}
 use Rattle.krl_world.proofs.Names.{serves, ServerStep, start}
 use Rattle.std.specs.FinMap as map
@@ -31,7 +31,7 @@ grant = record { client = 0; incarnation = 1; body = told.Push 1 1 (push.Grant 1
 -- The server, with this index
 
 abbrev pub begun : Index → Server
-begun m = start (record { index = m; epoch = 0; register = [] })
+begun m = start (record { room = most_entries; index = m; epoch = 0; register = [] })
 
 abbrev pub joined : Index → Server
 joined m = (effect (begun m) hello Registers).server

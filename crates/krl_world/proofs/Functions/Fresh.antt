@@ -1,11 +1,14 @@
 -- The world in which nothing has happened since it was opened.
-use Rattle.krl_world.proofs.Names.{◌≡◌, ℕ, ◌<◌, ◌≤◌, ◌+◌, ◌∙◌, Bool, true, false, Option, Some, None, List, [], ◌∷◌, ◌++◌, length, get_or, refl, sym, ap, arith, nat_eq, nat_lt}
+use Rattle.krl_world.proofs.Names.{◌≡◌, ℕ, ◌<◌, ◌≤◌, ◌+◌, ◌∙◌, inl, inr, subst, Bool, true, false, Option, Some, None, List, [], ◌∷◌, ◌++◌, length, get_or, refl, sym, ap, arith, nat_eq, nat_lt}
 use Rattle.krl_world.proofs.Names.{if◌then◌else◌, length-append, get_or-append, get_or-eq_default, nat_tests, AllByRecursion, Record, Register, Durable, record_of, incarnation_or_0, start, Message}
-use Rattle.krl_world.proofs.Names.{AppliedWrite, Up, never_started, opened, meaning, seats_of, seat_of, kept_nobody, AreUnstarted}
+use Rattle.krl_world.proofs.Names.{AppliedWrite, Up, never_started, opened, meaning, seats_of, seat_of, kept_nobody, AreUnstarted, IsReason, can_start, refused_by_server}
+use Rattle.krl_world.specs.Steps.{CannotOpen}
 use Rattle.std.proofs.Math.Seq.{get_or-append_seam}
 use Rattle.std.proofs.Math.Path.{fun_ext}
 use Rattle.krl_durable.specs.Kept.{IsKept}
 use Rattle.krl_server.specs.declared.state.State.{State as Kept}
+use Rattle.krl_server.specs.declared.start_refused.StartRefused.{StartRefused}
+use Rattle.krl_server.specs.declared.start_refused.StartRefused.TheVariants as beginner
 use Rattle.krl_server.specs.StateMeaning as server_state
 use Rattle.krl_world.specs.declared.node.Seat.{Seat as KeptSeat}
 use Rattle.krl_world.specs.declared.node.ServerNode.TheVariants as kept
@@ -34,6 +37,11 @@ pub opened_fields : (d opening : Durable) (s : Kept) (seats : List KeptSeat) (se
 unfolding opened
 opened_fields d opening s seats sent writes e k f g h m = let n = unstarted opening seats k g in
     λ t. record { opening = opening; server = Up ((f ∙ ap start e) t); seats = n t; sent = h t; writes = m t }
+
+-- no world is opened where no server starts
+pub cannot_open : (d opening : Durable) (r : StartRefused) → d ≡ opening → IsReason d r → CannotOpen opening (refused_by_server r)
+cannot_open d opening beginner.Spent same h = inr (refl, subst (λ e. can_start e ≡ false) same h)
+cannot_open d opening beginner.OutOfMemory same h = inl refl
 
 -- one seat more
 pub one_more : (d : Durable) (n : ℕ) (seats : List KeptSeat) (x : KeptSeat) → AreUnstarted d n seats → x ≡ record { last_incarnation = incarnation_or_0 (record_of d.register n); client = None } → AreUnstarted d (n + 1) (seats ++ x ∷ [])

@@ -1,4 +1,4 @@
-use Rattle.krl_table.proofs.Names.{◌≤◌, ◌+◌, refl, sym, subst, ◌∙◌, arith, with_mode, most_rows, rows_of, IsSet, ReportsSame}
+use Rattle.krl_table.proofs.Names.{◌<◌, ◌≤◌, ◌+◌, refl, sym, subst, ◌∙◌, arith, with_mode, rows_of, IsSet, ReportsSame}
 use Rattle.krl_table.proofs.Invariant.Rooms.{room_at}
 use Rattle.krl_table.proofs.ReportRows.PieceByPiece.{begins_past_slot, settle_begins, settle_goes, settle_ends}
 use Rattle.krl_table.proofs.ReportRows.Rising.{same_begins, same_goes, next_same, nothing_same}
@@ -20,7 +20,7 @@ next-requires c = let w = c.loop-reported.invariant in record { near = c.require
 pub set-requires-clause-room : goal.set-requires-clause-room
 set-requires-clause-room c none =
     let w = c.loop-reported.invariant in
-    room_at c.args.durable.now.index c.loop-reported.rows.map w.settled.over c.loop-reported.rows.room c.in-Some.reported.slot (subst (λ n. most_rows ≤ n) (sym w.room) c.requires.room) c.requires.few c.in-Some.ensures.some.there none
+    room_at c.args.durable.now.index c.loop-reported.rows.map w.settled.over c.args.durable.now.room c.loop-reported.rows.room c.in-Some.reported.slot (subst (λ n. c.args.durable.now.room < n) (sym w.room) c.requires.room) c.requires.few c.in-Some.ensures.some.there none
 
 pub loop-reported-preserved : goal.loop-reported-preserved
 loop-reported-preserved c =

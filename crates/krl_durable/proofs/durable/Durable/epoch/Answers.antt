@@ -4,10 +4,11 @@ use Rattle.krl_durable.proofs.durable.Durable.epoch.Goals as goal
 
 pub returns-clause-kept : goal.returns-clause-kept
 returns-clause-kept c =
-    let inside : Durable = record { index = c.self.inside.index; epoch = c.self.inside.epoch; register = c.self.inside.register } in
+    let inside : Durable = record { room = c.self.inside.index.room; index = c.self.inside.index.index; epoch = c.self.inside.epoch; register = c.self.inside.register } in
     let kept : IsKept inside = record {
       keys = c.entries.ensures.below;
       few = c.entries.ensures.few;
+      room = c.room.ensures.in_range;
       epoch = c.self.invariant;
       clients = clients_seen c.self.inside.register c.rows.ensures.rows;
       once = c.rows.ensures.once;

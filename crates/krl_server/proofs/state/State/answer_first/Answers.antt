@@ -3,8 +3,8 @@ use Rattle.krl_server.proofs.Outputs.Numbers.{sixty_four}
 use Rattle.krl_server.proofs.Functions.FirstTurn.{front_in, front_waits, not_answerable, answered_grant, answered_absent}
 use Rattle.krl_server.proofs.state.State.answer_first.Goals as goal
 
-own : (st : State) (n : _) (u : Waiter) → IsSound (meaning st) → front_of (rows_of st.table n).queue ≡ Some u → u.client < 64
-own st n u sound first = subst (λ k. u.client < k) sixty_four (sound.clients n u (front_in (rows_of st.table n).queue u first))
+own : (st : State) (n : _) (u : Waiter) → IsSound (meaning st) → front_of (rows_of st.table.map n).queue ≡ Some u → u.client < 64
+own st n u sound first = subst (λ k. u.client < k) sixty_four (sound.clients n u (front_in (rows_of st.table.map n).queue u first))
 
 pub session-requires-clause-client : goal.session-requires-clause-client
 session-requires-clause-client c = own c.args.self.now c.args.slot c.in-Some.waiter c.requires.sound (sym c.front.ensures.front ∙ c.in-Some.is)

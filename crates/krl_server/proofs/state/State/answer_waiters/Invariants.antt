@@ -7,7 +7,7 @@ abbrev pub invariant-loop-i : goal.invariant-loop-i
 invariant-loop-i l = record {
   formed : IsFormed l.self;
   sound : IsSound (meaning l.self);
-  table : IsTable l.self.durable.index (rows_of l.self.table);
+  table : IsTable l.self.durable.index (rows_of l.self.table.map);
   all : HaveWaiters (meaning l.self) 0 l.slots;
   left : AreLeft (meaning l.self) l.slots l.i;
   begun : (outs : List ToClient) × HasBegun (meaning l.fn.self) (meaning l.self) outs × Sends l.fn.outbox l.outbox outs;

@@ -8,7 +8,7 @@ returns-clause-count c =
     let low = c.loop-client-test.false in
     let high = c.loop-client.auto.client-end in
     let all : c.loop-client.client ≡ 64 = omega (arith, low, high) in
-    c.loop-client.invariant.count ∙ ap (λ n. count_below n (waits c.args.self.now.durable.index (rows_of c.args.self.now.table))) (all ∙ sym sixty_four)
+    c.loop-client.invariant.count ∙ ap (λ n. count_below n (waits c.args.self.now.durable.index (rows_of c.args.self.now.table.map))) (all ∙ sym sixty_four)
 
 pub returns-then-nobody_waits-clause-count : goal.returns-then-nobody_waits-clause-count
-returns-then-nobody_waits-clause-count c = sym (none_count c.args.self.now.durable.index (rows_of c.args.self.now.table) most_clients (c.nobody_waits.ensures.0 c.if-nobody_waits.true))
+returns-then-nobody_waits-clause-count c = sym (none_count c.args.self.now.durable.index (rows_of c.args.self.now.table.map) most_clients (c.nobody_waits.ensures.0 c.if-nobody_waits.true))

@@ -8,4 +8,4 @@ returns-clause-queues c =
     let st = c.args.self.now in let w = c.waiter-waiter.result in let t = c.enqueue.new.self in
     ap (λ (x : State). meaning (record x { table = t })) c.note_request.ensures
     ∙ queued_means st c.args.node w t c.waiter-waiter.ensures (omega (arith, below, c.requires.formed.full))
-    (subst (λ (x : State). (n : ℕ) → rows_of t n ≡ enqueued x.durable.index (rows_of x.table) c.args.node n) c.note_request.ensures c.enqueue.ensures.enqueued)
+    (subst (λ (x : State). (n : ℕ) → rows_of t.map n ≡ enqueued x.durable.index (rows_of x.table.map) c.args.node n) c.note_request.ensures c.enqueue.ensures.enqueued)

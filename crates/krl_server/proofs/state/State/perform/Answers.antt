@@ -22,7 +22,7 @@ pub enqueue-requires-clause-client : goal.enqueue-requires-clause-client
 enqueue-requires-clause-client c = subst (λ (u : Waiter). u.client < 64) (sym c.in_ok-node-in-Waits.ensures.made) ((facts_of (meaning c.args.self.now) c.args.message.now c.args.case.now _ c.requires.case c.in-Waits.is).client)
 
 pub enqueue-requires-clause-free : goal.enqueue-requires-clause-free
-enqueue-requires-clause-free c = subst (λ (u : Waiter). WaitsNowhere (rows_of c.args.self.now.table) u.client) (sym c.in_ok-node-in-Waits.ensures.made) (waits_nowhere c.args.self.now.durable.index (rows_of c.args.self.now.table) c.args.message.now.client c.requires.server.ordered.table (facts_of (meaning c.args.self.now) c.args.message.now c.args.case.now _ c.requires.case c.in-Waits.is).free)
+enqueue-requires-clause-free c = subst (λ (u : Waiter). WaitsNowhere (rows_of c.args.self.now.table.map) u.client) (sym c.in_ok-node-in-Waits.ensures.made) (waits_nowhere c.args.self.now.durable.index (rows_of c.args.self.now.table.map) c.args.message.now.client c.requires.server.ordered.table (facts_of (meaning c.args.self.now) c.args.message.now c.args.case.now _ c.requires.case c.in-Waits.is).free)
 
 pub write-outcome-requires-clause-client : goal.write-outcome-requires-clause-client
 write-outcome-requires-clause-client c = (facts_of (meaning c.args.self.now) c.args.message.now c.args.case.now _ c.requires.case c.in-Writes.is).client

@@ -6,7 +6,7 @@ use Rattle.krl_server.proofs.state.State.report.Goals as goal
 
 pub returns-clause-contradicts : goal.returns-clause-contradicts
 returns-clause-contradicts c = c.adopt_report-2.ensures.contradicts
-    ∙ same_conflicts c.args.self.now.durable.index c.in_ok-ordered.ordered c.args.pieces.now c.in_ok-ordered.ensures.same (rows_of c.args.self.now.table) c.args.client
+    ∙ same_conflicts c.args.self.now.durable.index c.in_ok-ordered.ordered c.args.pieces.now c.in_ok-ordered.ensures.same (rows_of c.args.self.now.table.map) c.args.client
 
 pub returns-clause-adopts : goal.returns-clause-adopts
 returns-clause-adopts c =

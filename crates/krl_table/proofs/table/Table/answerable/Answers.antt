@@ -13,13 +13,13 @@ returns-in-Some-clause-answer c m over =
     let t = c.self.inside.rows.map in
     let here : get t c.args.slot ≡ Some c.in-Some.row.now = sym c.in-Some.ensures in
     let acked : c.args.acked ≡ true = grind (arith, c.if-not-acked.false) in
-    c.reply.ensures ∙ ap (λ o. row_reply c.args.slot (row_there o)) (sym here) ∙ reply_is m t (subst (IsOver m) (sym c.self.view_is) over) c.args.slot
-    ∙ ap (λ x. answerable m (rows_of x) c.args.slot true) c.self.view_is
-    ∙ ap (answerable m (rows_of c.args.self.now) c.args.slot) (sym acked)
+    c.reply.ensures ∙ ap (λ o. row_reply c.args.slot (row_there o)) (sym here) ∙ reply_is m t (subst (IsOver m) (sym (ap (λ s. s.map) c.self.view_is)) over) c.args.slot
+    ∙ ap (λ x. answerable m (rows_of x) c.args.slot true) (ap (λ s. s.map) c.self.view_is)
+    ∙ ap (answerable m (rows_of c.args.self.now.map) c.args.slot) (sym acked)
 
 pub returns-in-Some-clause-grants : goal.returns-in-Some-clause-grants
 returns-in-Some-clause-grants c is =
     let t = c.self.inside.rows.map in
     let here : get t c.args.slot ≡ Some c.in-Some.row.now = sym c.in-Some.ensures in
-    let row = ap (λ x. rows_of x c.args.slot) (sym c.self.view_is) ∙ ap row_there here in
+    let row = ap (λ x. rows_of x c.args.slot) (sym (ap (λ s. s.map) c.self.view_is)) ∙ ap row_there here in
     subst (λ x. IfSome (front_of x.queue) (λ u. is_compatible_in_row x u.client (wanted x u) ≡ true)) (sym row) (reply_grants c.args.slot (row_of c.in-Some.row.now) (sym c.reply.ensures ∙ is))

@@ -10,9 +10,9 @@ no_first (u ∷ us) e = absurd (cc)
 
 pub returns-in_err-waiter-clause-none : goal.returns-in_err-waiter-clause-none
 returns-in_err-waiter-clause-none c =
-    let here : get c.args.self.now c.args.slot ≡ Some c.in_ok-row.row.now = ap (λ m. get m c.args.slot) (sym c.self.view_is) ∙ sym c.in_ok-row.ensures in
+    let here : get c.args.self.now.map c.args.slot ≡ Some c.in_ok-row.row.now = ap (λ m. get m c.args.slot) (sym (ap (λ s. s.map) c.self.view_is)) ∙ sym c.in_ok-row.ensures in
     let none = ap (λ o. (row_there o).queue) here ∙ no_first c.in_ok-row.row.now.queue (sym c.in_err-waiter.ensures) in
-    subst (λ o. IfNone o ((rows_of c.args.self.now c.args.slot).queue ≡ [])) (sym c.from_residual-in_err-waiter.ensures) none
+    subst (λ o. IfNone o ((rows_of c.args.self.now.map c.args.slot).queue ≡ [])) (sym c.from_residual-in_err-waiter.ensures) none
 
 pub returns-clause-client : goal.returns-clause-client
 returns-clause-client c =

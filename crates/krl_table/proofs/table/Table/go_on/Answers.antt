@@ -1,4 +1,4 @@
-use Rattle.krl_table.proofs.Names.{◌≡◌, ◌≤◌, ◌<◌, ℕ, Bool, true, false, ◌==◌, length, sym, subst, arith, nat_tests, is_slot, raised, is_wanted_compatible, rows_of}
+use Rattle.krl_table.proofs.Names.{◌≡◌, ◌≤◌, ◌<◌, ℕ, Bool, true, false, ◌==◌, length, refl, sym, subst, ◌∙◌, arith, nat_tests, is_slot, raised, is_wanted_compatible, rows_of}
 use Rattle.krl_table.proofs.Calls.Raises.{IsGoing, begins, ends_rows, ends_taken, test_ends, goes}
 use Rattle.krl_table.proofs.table.Table.go_on.Goals as goal
 
@@ -9,42 +9,45 @@ filled : (b : Bool) (n : ℕ) → b ≡ true → b ≡ (n == 8) → n ≡ 8
 filled b n t e = grind (arith, nat_tests)
 
 pub loop-self-init : goal.loop-self-init
-loop-self-init c = begins c.args.durable.now.index c.args.self.now c.args.slot c.args.waiter.now c.args.taken.now.items c.requires.over
+loop-self-init c = (begins c.args.durable.now.index c.args.self.now.map c.args.slot c.args.waiter.now c.args.taken.now.items c.requires.over, refl)
 
 pub next_taken-requires : goal.next_taken-requires
-next_taken-requires c = record { over = c.loop-self.invariant.over; client = c.requires.client }
+next_taken-requires c = record { over = c.loop-self.invariant.0.over; client = c.requires.client }
 
 pub raise-requires : goal.raise-requires
 raise-requires c =
     let m = c.args.durable.now.index in record {
-      over = c.loop-self.invariant.over;
+      over = c.loop-self.invariant.0.over;
       slot = subst (λ i. is_slot m i ≡ true) (sym c.get.ensures.number) c.in-Some.ensures.slot;
       client = c.requires.client;
-      is_compatible_there = subst (λ i. is_wanted_compatible (rows_of c.loop-self.self) i c.args.waiter.now ≡ true) (sym c.get.ensures.number) c.in-Some.ensures.some.is_compatible_there;
+      rows = subst (λ n. c.args.durable.now.room < n) (sym c.loop-self.invariant.1) c.requires.rows;
+      is_compatible_there = subst (λ i. is_wanted_compatible (rows_of c.loop-self.self.map) i c.args.waiter.now ≡ true) (sym c.get.ensures.number) c.in-Some.ensures.some.is_compatible_there;
     }
 
 pub returns-in_default-clause-rows : goal.returns-in_default-clause-rows
 returns-in_default-clause-rows c =
-    let m = c.args.durable.now.index in let w = c.args.waiter.now in let t = c.loop-self.self in
-    ends_rows m c.args.self.now c.args.slot w c.args.taken.now.items t c.loop-self.at c.loop-self.taken.items c.loop-self.invariant
-    (test_ends m c.args.self.now c.args.slot w c.args.taken.now.items t c.loop-self.at c.loop-self.taken.items c.loop-self.invariant c.in_default.ensures.none)
+    let m = c.args.durable.now.index in let w = c.args.waiter.now in let t = c.loop-self.self.map in
+    ends_rows m c.args.self.now.map c.args.slot w c.args.taken.now.items t c.loop-self.at c.loop-self.taken.items c.loop-self.invariant.0
+    (test_ends m c.args.self.now.map c.args.slot w c.args.taken.now.items t c.loop-self.at c.loop-self.taken.items c.loop-self.invariant.0 c.in_default.ensures.none)
 
 pub returns-in_default-clause-taken : goal.returns-in_default-clause-taken
 returns-in_default-clause-taken c =
-    let m = c.args.durable.now.index in let w = c.args.waiter.now in let t = c.loop-self.self in
-    ends_taken m c.args.self.now c.args.slot w c.args.taken.now.items t c.loop-self.at c.loop-self.taken.items c.loop-self.invariant
-    (test_ends m c.args.self.now c.args.slot w c.args.taken.now.items t c.loop-self.at c.loop-self.taken.items c.loop-self.invariant c.in_default.ensures.none)
+    let m = c.args.durable.now.index in let w = c.args.waiter.now in let t = c.loop-self.self.map in
+    ends_taken m c.args.self.now.map c.args.slot w c.args.taken.now.items t c.loop-self.at c.loop-self.taken.items c.loop-self.invariant.0
+    (test_ends m c.args.self.now.map c.args.slot w c.args.taken.now.items t c.loop-self.at c.loop-self.taken.items c.loop-self.invariant.0 c.in_default.ensures.none)
 
 pub returns-in_default-clause-slots : goal.returns-in_default-clause-slots
-returns-in_default-clause-slots c = c.loop-self.invariant.over
+returns-in_default-clause-slots c = c.loop-self.invariant.0.over
 
 pub loop-self-preserved : goal.loop-self-preserved
 loop-self-preserved c =
-    let m = c.args.durable.now.index in let w = c.args.waiter.now in let t = c.loop-self.self in let u = c.raise.new.self in let k = c.in-Some.next in let x = c.in-Some.ensures.some in
-    let g = goes m c.args.self.now c.args.slot w c.args.taken.now.items t c.loop-self.at c.loop-self.taken.items c.loop-self.invariant u k
+    let m = c.args.durable.now.index in let w = c.args.waiter.now in let t = c.loop-self.self.map in let u = c.raise.new.self.map in let k = c.in-Some.next in let x = c.in-Some.ensures.some in
+    let g = goes m c.args.self.now.map c.args.slot w c.args.taken.now.items t c.loop-self.at c.loop-self.taken.items c.loop-self.invariant.0 u k
     (room c.is_full.result (length c.loop-self.taken.items) c.loop-self-test.true c.is_full.ensures.value c.is_full.ensures.fits)
     x.slot x.on
     (subst (λ i. (n : ℕ) → rows_of u n ≡ raised (rows_of t) i w n) c.get.ensures.number c.raise.ensures.raised)
-    c.raise.ensures.slots in
-    subst (λ i. IsGoing m c.args.self.now c.args.slot w c.args.taken.now.items u i c.push.new.self.items) (sym c.get-at.ensures.number)
-    (subst (λ l. IsGoing m c.args.self.now c.args.slot w c.args.taken.now.items u k l) (sym c.push.ensures.items) g)
+    c.raise.ensures.slots in (
+      subst (λ i. IsGoing m c.args.self.now.map c.args.slot w c.args.taken.now.items u i c.push.new.self.items) (sym c.get-at.ensures.number)
+          (subst (λ l. IsGoing m c.args.self.now.map c.args.slot w c.args.taken.now.items u k l) (sym c.push.ensures.items) g),
+      c.raise.ensures.room ∙ c.loop-self.invariant.1,
+    )

@@ -11,7 +11,7 @@ first_of_two false b e = e
 
 pub returns-clause-when : goal.returns-clause-when
 returns-clause-when c =
-    let m = c.args.durable.now.index in let rows = rows_of c.args.self.now in let w = c.args.waiter.now in let k = c.slot_of-slot.result in
+    let m = c.args.durable.now.index in let rows = rows_of c.args.self.now.map in let w = c.args.waiter.now in let k = c.slot_of-slot.result in
     let is_free : c.is_free_for.result ≡ true = grind (arith, c.if-not-is_free_for.false) in
     let at : slot_of m w.point ≡ k = ap (slot_of m) (sym c.get.ensures.number) ∙ sym c.slot_of-slot.ensures.slot in
     let slot = subst (λ p. IsSlotOf m p k) c.get.ensures.number (c.slot_of-slot.ensures.least c.get.ensures.in_range) in
@@ -20,20 +20,20 @@ returns-clause-when c =
 
 pub returns-clause-granted : goal.returns-clause-granted
 returns-clause-granted c n =
-    let m = c.args.durable.now.index in let rows = rows_of c.args.self.now in let w = c.args.waiter.now in let k = c.slot_of-slot.result in
+    let m = c.args.durable.now.index in let rows = rows_of c.args.self.now.map in let w = c.args.waiter.now in let k = c.slot_of-slot.result in
     let is_free : c.is_free_for.result ≡ true = grind (arith, c.if-not-is_free_for.false) in
     let at : slot_of m w.point ≡ k = ap (slot_of m) (sym c.get.ensures.number) ∙ sym c.slot_of-slot.ensures.slot in
     let free = first_of_two (nobody_waits (rows k).queue) (is_wanted_compatible rows k w) (sym c.is_free_for.ensures
     ∙ is_free) in
     let many = one_noted c.new-taken.result.items c.push.new.self.items _ c.new-taken.ensures c.push.ensures.items in
     ap (λ (r : Rows). r n) (c.go_on.ensures.rows
-    ∙ ap (λ j. raised_on (rows_of c.raise.new.self) (taken_after m (rows_of c.raise.new.self) k w j) w) many
+    ∙ ap (λ j. raised_on (rows_of c.raise.new.self.map) (taken_after m (rows_of c.raise.new.self.map) k w j) w) many
     ∙ ap (λ (r : Rows). raised_on r (taken_after m r k w 7) w) (fun_ext c.raise.ensures.raised)
     ∙ sym (at_once_granted m rows w k at free))
 
 pub returns-clause-taken : goal.returns-clause-taken
 returns-clause-taken c =
-    let m = c.args.durable.now.index in let rows = rows_of c.args.self.now in let w = c.args.waiter.now in let k = c.slot_of-slot.result in
+    let m = c.args.durable.now.index in let rows = rows_of c.args.self.now.map in let w = c.args.waiter.now in let k = c.slot_of-slot.result in
     let is_free : c.is_free_for.result ≡ true = grind (arith, c.if-not-is_free_for.false) in
     let at : slot_of m w.point ≡ k = ap (slot_of m) (sym c.get.ensures.number) ∙ sym c.slot_of-slot.ensures.slot in
     let free = first_of_two (nobody_waits (rows k).queue) (is_wanted_compatible rows k w) (sym c.is_free_for.ensures
@@ -41,8 +41,8 @@ returns-clause-taken c =
     let many = one_noted c.new-taken.result.items c.push.new.self.items _ c.new-taken.ensures c.push.ensures.items in
     let point = unwrapped c.new.result c.unwrap.result k c.unwrap.ensures c.new.ensures.point in
     c.go_on.ensures.taken
-    ∙ ap (λ l. l ++ taken_after m (rows_of c.raise.new.self) k w (8 - length c.push.new.self.items)) (c.push.ensures.items ∙ ap (λ l. l ++ c.unwrap.result ∷ []) c.new-taken.ensures)
-    ∙ ap (λ i. i ∷ taken_after m (rows_of c.raise.new.self) k w (8 - length c.push.new.self.items)) point
-    ∙ ap (λ j. k ∷ taken_after m (rows_of c.raise.new.self) k w j) many
+    ∙ ap (λ l. l ++ taken_after m (rows_of c.raise.new.self.map) k w (8 - length c.push.new.self.items)) (c.push.ensures.items ∙ ap (λ l. l ++ c.unwrap.result ∷ []) c.new-taken.ensures)
+    ∙ ap (λ i. i ∷ taken_after m (rows_of c.raise.new.self.map) k w (8 - length c.push.new.self.items)) point
+    ∙ ap (λ j. k ∷ taken_after m (rows_of c.raise.new.self.map) k w j) many
     ∙ ap (λ (r : Rows). k ∷ taken_after m r k w 7) (fun_ext c.raise.ensures.raised)
     ∙ sym (at_once_taken m rows w k at free)

@@ -5,5 +5,5 @@ use Rattle.krl_table.proofs.table.Table.is_free_for.Goals as goal
 pub returns-in-None : goal.returns-in-None
 returns-in-None c =
     let w = c.args.waiter.now in
-    let none : get c.args.self.now c.args.slot ≡ None = ap (λ m. get m c.args.slot) (sym c.self.view_is) ∙ sym c.get.ensures ∙ ap (λ o. option_copied o) c.in-None.is in
+    let none : get c.args.self.now.map c.args.slot ≡ None = ap (λ m. get m c.args.slot) (sym (ap (λ s. s.map) c.self.view_is)) ∙ sym c.get.ensures ∙ ap (λ o. option_copied o) c.in-None.is in
     sym (ap (λ o. nobody_waits (row_there o).queue && is_compatible_in_row (row_there o) w.client (wanted (row_there o) w)) none ∙ blank_is_compatible w.client (wanted blank_row w))

@@ -1,4 +1,4 @@
-use Rattle.krl_table.proofs.Names.{◌≡◌, ◌≤◌, ◌<◌, ℕ, true, sym, ap, subst, ◌∙◌, arith, Index, low_of, is_slot, IsSlotOf, lowered, most_rows, rows_of, IsOver}
+use Rattle.krl_table.proofs.Names.{◌≡◌, ◌≤◌, ◌<◌, ℕ, true, sym, ap, subst, ◌∙◌, arith, Index, low_of, is_slot, IsSlotOf, lowered, rows_of, IsOver}
 use Rattle.krl_table.proofs.Invariant.Sounds.{listed_same}
 use Rattle.krl_table.proofs.Calls.Clears.{lowered_sound, lowered_queue, lowered_over, lowered_is, begins_past}
 use Rattle.krl_table.proofs.Calls.Clears.{begins_at}
@@ -31,18 +31,17 @@ invariant_of-self c =
     let t = c.self.inside.rows.map in let u = c.lower.new.rows.map in let from = c.if-first-lo.from in let hi = c.hi.result in (
       lowered_sound from hi c.args.client c.args.keep c.requires.client t u c.lower.ensures.all c.self.invariant.0,
       listed_same c.self.inside.waiting.by_client t u (lowered_queue from hi c.args.client c.args.keep c.requires.client t u c.lower.ensures.all) c.self.invariant.1,
-      subst (λ n. most_rows ≤ n) (sym c.lower.ensures.room) c.self.invariant.2,
-      lower_within c.self.inside.extents.by_client from hi c.args.client c.args.keep t u c.lower.ensures.all c.self.invariant.3,
+      lower_within c.self.inside.extents.by_client from hi c.args.client c.args.keep t u c.lower.ensures.all c.self.invariant.2,
     )
 
 pub returns-clause-lowered : goal.returns-clause-lowered
 returns-clause-lowered c n =
     let m = c.args.durable.now.index in let t = c.self.inside.rows.map in let u = c.lower.new.rows.map in let from = c.if-first-lo.from in let hi = c.hi.result in
-    let over = subst (IsOver m) (sym c.self.view_is) c.requires.over in
+    let over = subst (IsOver m) (sym (ap (λ s. s.map) c.self.view_is)) c.requires.over in
     lowered_is from hi c.args.client c.args.keep c.requires.client t u c.lower.ensures.all m over c.args.span c.hi.ensures.end (begins c) n
-    ∙ ap (λ x. lowered m (rows_of x) c.args.client c.args.span c.args.keep n) c.self.view_is
+    ∙ ap (λ x. lowered m (rows_of x) c.args.client c.args.span c.args.keep n) (ap (λ s. s.map) c.self.view_is)
 
 pub returns-clause-slots : goal.returns-clause-slots
 returns-clause-slots c =
     let m = c.args.durable.now.index in
-    lowered_over c.if-first-lo.from c.hi.result c.args.client c.args.keep c.requires.client c.self.inside.rows.map c.lower.new.rows.map c.lower.ensures.all m (subst (IsOver m) (sym c.self.view_is) c.requires.over)
+    lowered_over c.if-first-lo.from c.hi.result c.args.client c.args.keep c.requires.client c.self.inside.rows.map c.lower.new.rows.map c.lower.ensures.all m (subst (IsOver m) (sym (ap (λ s. s.map) c.self.view_is)) c.requires.over)

@@ -1,5 +1,5 @@
 use Rattle.krl_table.proofs.Names.{◌≡◌, ◌≤◌, ◌<◌, ℕ, suc, ◌+◌, sym, ap, subst, ◌∙◌, add-one, arith, END, Mode, range_of, Index, slot_of, IsSlotOf, mode_at, merged, range_at, key_at, MayDelete}
-use Rattle.krl_table.proofs.Names.{most_rows, Kept, rows_of, IsOver}
+use Rattle.krl_table.proofs.Names.{Kept, rows_of, IsOver}
 use Rattle.krl_modes.specs.declared.mode.Mode.TheVariants as mode
 use Rattle.krl_modes.specs.declared.part.RangePart.TheVariants as range
 use Rattle.krl_table.proofs.Invariant.Sounds.{held_row}
@@ -22,7 +22,7 @@ pub join-requires : goal.join-requires
 join-requires c =
     let m = c.args.durable.now.index in let t = c.self.inside.rows.map in let s = c.slot_of-slot.result in let k = c.args.key in let w = c.requires.may.0 in
     let at = found m k s c.requires.key c.slot_of-slot.ensures.least in
-    let may = may_there m c.args.self.now t k s w c.self.view_is c.slot_of-slot.ensures.slot c.requires.may.1 in
+    let may = may_there m c.args.self.now.map t k s w (ap (λ s. s.map) c.self.view_is) c.slot_of-slot.ensures.slot c.requires.may.1 in
     let lt = under m k s c.requires.over.near c.requires.key c.requires.there at in
     record {
       gone = held_row t k w (holds (mode_at (rows_of t) k w) (its_gap t k s w may));
@@ -34,45 +34,44 @@ pub invariant_of-self : goal.invariant_of-self
 invariant_of-self c =
     let m = c.args.durable.now.index in let t = c.self.inside.rows.map in let u = c.join.new.rows.map in let s = c.slot_of-slot.result in let k = c.args.key in let w = c.requires.may.0 in
     let at = found m k s c.requires.key c.slot_of-slot.ensures.least in
-    let may = may_there m c.args.self.now t k s w c.self.view_is c.slot_of-slot.ensures.slot c.requires.may.1 in
-    let over = subst (IsOver m) (sym c.self.view_is) c.requires.over in (
+    let may = may_there m c.args.self.now.map t k s w (ap (λ s. s.map) c.self.view_is) c.slot_of-slot.ensures.slot c.requires.may.1 in
+    let over = subst (IsOver m) (sym (ap (λ s. s.map) c.self.view_is)) c.requires.over in (
       merge_sound m k s c.requires.over.near c.requires.key c.requires.there at t u w over c.self.invariant.0 may c.join.ensures.set,
       merge_listed m k s c.requires.over.near c.requires.key c.requires.there at t u w over c.self.invariant.0 may c.join.ensures.set c.self.inside.waiting.by_client c.self.invariant.1,
-      subst (λ n. most_rows ≤ n) (sym c.join.ensures.room) c.self.invariant.2,
-      merge_within c.self.inside.extents.by_client c.follow.new.self.by_client t u k s c.follow.ensures.wider c.self.invariant.3 c.follow.ensures.there c.join.ensures.set,
+      merge_within c.self.inside.extents.by_client c.follow.new.self.by_client t u k s c.follow.ensures.wider c.self.invariant.2 c.follow.ensures.there c.join.ensures.set,
     )
 
 pub returns-clause-merged : goal.returns-clause-merged
 returns-clause-merged c n =
     let m = c.args.durable.now.index in let t = c.self.inside.rows.map in let u = c.join.new.rows.map in let s = c.slot_of-slot.result in let k = c.args.key in let w = c.requires.may.0 in
     let at = found m k s c.requires.key c.slot_of-slot.ensures.least in
-    let may = may_there m c.args.self.now t k s w c.self.view_is c.slot_of-slot.ensures.slot c.requires.may.1 in
-    let over = subst (IsOver m) (sym c.self.view_is) c.requires.over in
+    let may = may_there m c.args.self.now.map t k s w (ap (λ s. s.map) c.self.view_is) c.slot_of-slot.ensures.slot c.requires.may.1 in
+    let over = subst (IsOver m) (sym (ap (λ s. s.map) c.self.view_is)) c.requires.over in
     merge_rows m k s c.requires.over.near c.requires.key c.requires.there at t u w over c.self.invariant.0 may c.join.ensures.set n
-    ∙ ap (λ x. merged m (rows_of x) k n) c.self.view_is
+    ∙ ap (λ x. merged m (rows_of x) k n) (ap (λ s. s.map) c.self.view_is)
 
 pub returns-clause-slots : goal.returns-clause-slots
 returns-clause-slots c =
     let m = c.args.durable.now.index in let t = c.self.inside.rows.map in let u = c.join.new.rows.map in let s = c.slot_of-slot.result in let k = c.args.key in let w = c.requires.may.0 in
     let at = found m k s c.requires.key c.slot_of-slot.ensures.least in
-    let may = may_there m c.args.self.now t k s w c.self.view_is c.slot_of-slot.ensures.slot c.requires.may.1 in
-    let over = subst (IsOver m) (sym c.self.view_is) c.requires.over in
+    let may = may_there m c.args.self.now.map t k s w (ap (λ s. s.map) c.self.view_is) c.slot_of-slot.ensures.slot c.requires.may.1 in
+    let over = subst (IsOver m) (sym (ap (λ s. s.map) c.self.view_is)) c.requires.over in
     merge_over m k s c.requires.over.near c.requires.key c.requires.there at t u w over c.self.invariant.0 may c.join.ensures.set
 
 pub returns-clause-ranges : goal.returns-clause-ranges
 returns-clause-ranges c d p =
     let m = c.args.durable.now.index in let t = c.self.inside.rows.map in let u = c.join.new.rows.map in let s = c.slot_of-slot.result in let k = c.args.key in let w = c.requires.may.0 in
     let at = found m k s c.requires.key c.slot_of-slot.ensures.least in
-    let may = may_there m c.args.self.now t k s w c.self.view_is c.slot_of-slot.ensures.slot c.requires.may.1 in
-    let over = subst (IsOver m) (sym c.self.view_is) c.requires.over in
+    let may = may_there m c.args.self.now.map t k s w (ap (λ s. s.map) c.self.view_is) c.slot_of-slot.ensures.slot c.requires.may.1 in
+    let over = subst (IsOver m) (sym (ap (λ s. s.map) c.self.view_is)) c.requires.over in
     merge_ranges m k s c.requires.over.near c.requires.key c.requires.there at t u w over c.self.invariant.0 may c.join.ensures.set d p
-    ∙ ap (λ x. range_at m (rows_of x) d p) c.self.view_is
+    ∙ ap (λ x. range_at m (rows_of x) d p) (ap (λ s. s.map) c.self.view_is)
 
 pub returns-clause-keys : goal.returns-clause-keys
 returns-clause-keys c d p =
     let m = c.args.durable.now.index in let t = c.self.inside.rows.map in let u = c.join.new.rows.map in let s = c.slot_of-slot.result in let k = c.args.key in let w = c.requires.may.0 in
     let at = found m k s c.requires.key c.slot_of-slot.ensures.least in
-    let may = may_there m c.args.self.now t k s w c.self.view_is c.slot_of-slot.ensures.slot c.requires.may.1 in
-    let over = subst (IsOver m) (sym c.self.view_is) c.requires.over in
+    let may = may_there m c.args.self.now.map t k s w (ap (λ s. s.map) c.self.view_is) c.slot_of-slot.ensures.slot c.requires.may.1 in
+    let over = subst (IsOver m) (sym (ap (λ s. s.map) c.self.view_is)) c.requires.over in
     merge_keys m k s c.requires.over.near c.requires.key c.requires.there at t u w over c.self.invariant.0 may c.join.ensures.set d p
-    ∙ ap (λ x. key_at m (rows_of x) d p) c.self.view_is
+    ∙ ap (λ x. key_at m (rows_of x) d p) (ap (λ s. s.map) c.self.view_is)

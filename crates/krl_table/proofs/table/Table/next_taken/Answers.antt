@@ -9,7 +9,7 @@ of_point (Some p) k P h x = subst P (sym h) x
 
 pub returns-then-can_take-clause-some : goal.returns-then-can_take-clause-some
 returns-then-can_take-clause-some c =
-    let m = c.args.durable.now.index in let t = c.args.self.now in let at = c.args.at in let w = c.args.waiter.now in let next = c.slot_of-next.result in
+    let m = c.args.durable.now.index in let t = c.args.self.now.map in let at = c.args.at in let w = c.args.waiter.now in let next = c.slot_of-next.result in
     let slot : slot_of m (suc at) ≡ next = ap (slot_of m) (sym (add-one at)) ∙ sym c.slot_of-next.ensures.slot in
     let near : nat_lt at END ≡ true = grind (arith, nat_tests, c.if-at-ge-END.false) in
     let below : nat_lt (suc at) w.hi ≡ true = grind (arith, nat_tests, c.if-at-waiter.false) in
@@ -21,7 +21,7 @@ returns-then-can_take-clause-some c =
 
 pub returns-else-can_take-clause-none : goal.returns-else-can_take-clause-none
 returns-else-can_take-clause-none c =
-    let m = c.args.durable.now.index in let t = c.args.self.now in let at = c.args.at in let w = c.args.waiter.now in let next = c.slot_of-next.result in
+    let m = c.args.durable.now.index in let t = c.args.self.now.map in let at = c.args.at in let w = c.args.waiter.now in let next = c.slot_of-next.result in
     let slot : slot_of m (suc at) ≡ next = ap (slot_of m) (sym (add-one at)) ∙ sym c.slot_of-next.ensures.slot in
     let near : nat_lt at END ≡ true = grind (arith, nat_tests, c.if-at-ge-END.false) in
     let below : nat_lt (suc at) w.hi ≡ true = grind (arith, nat_tests, c.if-at-waiter.false) in
