@@ -35,7 +35,7 @@ pub record Agrees (u : State) : Type 0 where
   pub same : AllSame u
 
 -- who stands at a seat that is set
-by_seat : (u : State) (d : ℕ) (x : Seat) (c : ℕ) (k : Client) (P : Type 0) → (c ≡ d → x.client ≡ Some k → P) → (c ≢ d → client_of u c ≡ Some k → P) → (if nat_eq c d then x else u.seats c).client ≡ Some k → P
+pub by_seat : (u : State) (d : ℕ) (x : Seat) (c : ℕ) (k : Client) (P : Type 0) → (c ≡ d → x.client ≡ Some k → P) → (c ≢ d → client_of u c ≡ Some k → P) → (if nat_eq c d then x else u.seats c).client ≡ Some k → P
 by_seat u d x c k P f g e = by_test (nat_eq c d) refl e
   where
     by_test : (b : Bool) → nat_eq c d ≡ b → (if b then x else u.seats c).client ≡ Some k → P
@@ -69,7 +69,7 @@ goes_on u d k l ms ru rv i g h = record {
     here : client_of (with_client u d (Some l) ms) d ≡ Some l
     here = ap (λ b. (if b then (let x : Seat = record { last_incarnation = (u.seats d).last_incarnation; client = Some l } in x) else u.seats d).client) (eq-eqb d d refl)
 
-heard_of : (u : State) (s : Server) (c : ℕ) (k : Client) (m : ToServer) → IsReachable u → u.server ≡ Up s → client_of u c ≡ Some k → Within u c k → In (message.ToServer m) u.sent → m.client ≡ c → Heard s m k
+pub heard_of : (u : State) (s : Server) (c : ℕ) (k : Client) (m : ToServer) → IsReachable u → u.server ≡ Up s → client_of u c ≡ Some k → Within u c k → In (message.ToServer m) u.sent → m.client ≡ c → Heard s m k
 heard_of u s c k m ru up runs within at own = let st = standing u s c k ru up runs in let x = has_said u c k ru runs in record {
   own = λ e. ap (incarnation_of s) own ∙ st.joined (let b = st.begun in omega (arith, b, e));
   hello = λ is. x.hellos m own at is;
@@ -95,10 +95,10 @@ nudges_on u s d up h = record {
       (in_both u.sent (from_server (nudge s d)) (message.ToClient o) at));
 }
 
-abbrev new_seat : State → ℕ → Seat
+abbrev pub new_seat : State → ℕ → Seat
 new_seat u d = record { last_incarnation = suc (u.seats d).last_incarnation; client = Some (begun d (suc (u.seats d).last_incarnation)) }
 
-abbrev hello : State → ℕ → List ToServer
+abbrev pub hello : State → ℕ → List ToServer
 hello u d = says_hello (begun d (suc (u.seats d).last_incarnation)) ∷ []
 
 hello_asks : (u : State) (d : ℕ) (m : ToServer) (n : ℕ) → In m (hello u d) → request_said m.body ≤ n
@@ -121,9 +121,9 @@ starts_on u d ru h = record {
 
 does_on : (u v : State) → IsReachable u → IsReachable v → Does u v → Agrees u → Agrees v
 does_on u _ ru rv rests h = h
-does_on u _ ru rv (goes d k l ms i g) h = goes_on u d k l ms ru rv i g h
+does_on u _ ru rv (goes d k l ms i g x) h = goes_on u d k l ms ru rv i g h
 does_on u _ ru rv (starts d) h = starts_on u d ru h
-does_on u _ ru rv (ends d number ms most) h = record {
+does_on u _ ru rv (ends d number ms most silent) h = record {
   knows = λ s c k up. by_seat u d _ c k (Knows s c k) (λ e f. absurd (let bad : None ≡ Some k = f in cc)) (λ ne f. h.knows s c k up f);
   within = λ c k. by_seat u d _ c k (Within (with_client u d None ms) c k) (λ e f. absurd (let bad : None ≡ Some k = f in cc))
       (λ ne f. within_by_clients u (with_client u d None ms) c k ms refl (λ m at own. let x = (most m at).1 in omega (arith, x)) (h.within c k f));

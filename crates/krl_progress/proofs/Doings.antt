@@ -1,7 +1,8 @@
 -- What each step does to lock requests: at a client's seat, or at the server.
-use Rattle.krl_progress.proofs.Names.{◌≡◌, ℕ, suc, ◌≤◌, ◌<◌, inl, inr, ⊎_elim, ◌∙◌, false, ◌&&◌, Option, Some, None, List, [], ◌∷◌, ◌++◌, refl, sym, subst, arith, nat_eq, nat_lt, nat_le, if◌then◌else◌, and_parts, eqb-true, ltb-true, END, In, in_both}
+use Rattle.krl_progress.proofs.Names.{◌≡◌, ℕ, suc, ◌≤◌, ◌<◌, ◌⊎◌, inl, inr, ⊎_elim, ◌∙◌, true, false, ◌&&◌, Option, Some, None, List, [], ◌∷◌, ◌++◌, is_some, refl, sym, ap, subst, arith, same_Some, nat_eq, nat_lt, nat_le, if◌then◌else◌, and_parts, eqb-true, ltb-true, END, In, in_both}
 use Rattle.krl_progress.proofs.Names.{ToServer, ToClient, Client, Message, AppliedWrite, Step, Command, Answer, ServerNode, Up, Down, State, Server, Durable, client_of, with_client, seated, served, message_at, ServerReads, ClientReads, ServerStep, Delivers, Obeys, nudged, started, crashed, Takes, refused_by_client, Pieces, start, nudge, span, applies, case_of, command_refusal}
-use Rattle.krl_client.specs.Clients.{begun, is_waiting, outstanding, LockRequest, NotAsked, Granted, NoEntry, Dropped, Waiting, has_joined}
+use Rattle.krl_client.specs.Clients.{begun, is_waiting, outstanding, LockRequest, NotAsked, Granted, NoEntry, Dropped, Waiting, has_joined, LastWrite, Unwritten, Outstanding, Judged}
+use Rattle.krl_messages.specs.declared.outcome.Outcome.{Outcome}
 use Rattle.krl_client.specs.Commands.{says_lock, locked, says_write, wrote, says_release, says_bye, forgot, pinned, unpinned, lock_refusal}
 use Rattle.krl_client.specs.declared.refused.CommandRefused.TheVariants as refused
 use Rattle.krl_client.specs.Ticks.{tick, says_hello, lock_again, write_again}
@@ -23,7 +24,7 @@ use Rattle.krl_steps.specs.declared.step.Command.TheVariants as command
 use Rattle.krl_world.specs.declared.message.Message.TheVariants as message
 use Rattle.krl_world.proofs.Refinement.Taken.{at_in, client_ok, not_named, runs_ok}
 use Rattle.krl_server.proofs.Tests.{if_case, if_both}
-use Rattle.krl_progress.proofs.Moves.{passed}
+use Rattle.krl_progress.proofs.Moves.{passed, Follows, reads_follow, write_free}
 
 -- the number of the lock request that is said, or 0
 abbrev pub request_of : RequestBody → ℕ
@@ -59,11 +60,57 @@ pub data Goes (u : State) (d : ℕ) (k : Client) : Client → List ToServer → 
   adopts : (e : ℕ) (ms : List ToServer) (m : ToClient) → In (message.ToClient m) u.sent → m.client ≡ d → m.incarnation ≡ k.incarnation → m.body ≡ told.Epoch e → k.epoch < e → AsksAtMost k.number 0 ms → Goes u d k (joined k e) ms
   accepts : (b : PushBody) (ms : List ToServer) (m : ToClient) → In (message.ToClient m) u.sent → m.client ≡ d → m.incarnation ≡ k.incarnation → m.body ≡ told.Push k.epoch (suc k.seen) b → AsksAtMost k.number 0 ms → Goes u d k (accepted k b) ms
 
+-- Writes
+
+-- the number of the write that is said
+abbrev pub write_of : RequestBody → Option ℕ
+write_of (asked.Lock req point hi g) = None
+write_of (asked.Write number op) = Some number
+write_of (asked.Release s keep) = None
+write_of asked.Ack = None
+
+abbrev pub write_said : ToServerBody → Option ℕ
+write_said said.Hello = None
+write_said said.Bye = None
+write_said (said.Report epoch pieces) = None
+write_said (said.Request r) = write_of r.body
+
+-- the messages say no write but the client's outstanding one
+abbrev pub SaysItsWrite : Client → List ToServer → Type 0
+SaysItsWrite l ms = (m : ToServer) → In m ms → (n : ℕ) → write_said m.body ≡ Some n → (is_some (outstanding l.written) ≡ true) × (n ≡ l.writes)
+
+abbrev pub SaysNoWrite : List ToServer → Type 0
+SaysNoWrite ms = (m : ToServer) → In m ms → write_said m.body ≡ None
+
+pub one_silent : (m : ToServer) → write_said m.body ≡ None → SaysNoWrite (m ∷ [])
+one_silent m e x (inl f) = ap (λ (y : ToServer). write_said y.body) f ∙ e
+one_silent m e x (inr at) = absurd at
+
+none_silent : SaysNoWrite []
+none_silent x at = absurd at
+
+silent_says : (l : Client) (ms : List ToServer) → SaysNoWrite ms → SaysItsWrite l ms
+silent_says l ms h m at n e = absurd (let bad : None ≡ Some n = sym (h m at) ∙ e in cc)
+
+both_say : (l : Client) (xs ys : List ToServer) → SaysItsWrite l xs → SaysItsWrite l ys → SaysItsWrite l (xs ++ ys)
+both_say l xs ys h g m at = ⊎_elim (λ (a : In m xs). h m a) (λ (a : In m ys). g m a) (in_both xs ys m at)
+
+-- what becomes of a client's write, and what the client says of it
+pub record WriteGoes (k l : Client) (ms : List ToServer) : Type 0 where
+  pub follows : Follows k l
+  pub number : (l.writes ≡ k.writes) ⊎ (l.writes ≡ suc k.writes)
+  pub ends : l.writes ≡ k.writes → outstanding k.written ≡ None → outstanding l.written ≡ None
+  pub says : SaysItsWrite l ms
+
+pub its_write : (k : Client) (op : WriteOp) → is_some (outstanding k.written) ≡ true → SaysItsWrite k (says_write k op ∷ [])
+its_write k op some m (inl f) n e = (some, let x : Some k.writes ≡ Some n = sym (ap (λ (y : ToServer). write_said y.body) f) ∙ e in sym (same_Some k.writes n x))
+its_write k op some m (inr at) n e = absurd at
+
 pub data Does (u : State) : State → Type 0 where
   rests : Does u u
-  goes : (d : ℕ) (k l : Client) (ms : List ToServer) → client_of u d ≡ Some k → Goes u d k l ms → Does u (with_client u d (Some l) ms)
+  goes : (d : ℕ) (k l : Client) (ms : List ToServer) → client_of u d ≡ Some k → Goes u d k l ms → WriteGoes k l ms → Does u (with_client u d (Some l) ms)
   starts : (d : ℕ) → Does u (seated u d (record { last_incarnation = suc (u.seats d).last_incarnation; client = Some (begun d (suc (u.seats d).last_incarnation)) }) (says_hello (begun d (suc (u.seats d).last_incarnation)) ∷ []))
-  ends : (d number : ℕ) (ms : List ToServer) → AsksAtMost number 0 ms → Does u (with_client u d None ms)
+  ends : (d number : ℕ) (ms : List ToServer) → AsksAtMost number 0 ms → SaysNoWrite ms → Does u (with_client u d None ms)
   reads : (old new : Server) (m : ToServer) (outs : List ToClient) (writes : List AppliedWrite) → u.server ≡ Up old → In (message.ToServer m) u.sent → ServerStep old m new outs → Does u (served u (Up new) outs writes)
   nudges : (s : Server) (c : ℕ) → u.server ≡ Up s → Does u (served u (Up s) (nudge s c) [])
   stops : (s : Server) → u.server ≡ Up s → Does u (served u (Down s.durable) [] [])
@@ -105,7 +152,66 @@ client_goes u ps k m at = if_case (ReadsBy u m.client ps k) (nat_eq m.client k.n
     of_body inc (told.Callback e s keep) is = if_case (ReadsBy u m.client ps k) _ (Lowers s keep) Ignores
         (λ e. same _ _ refl refl refl refl refl (one_asks k.number k.req (says_release k s keep) refl (omega arith))) (λ e. quiet)
 
+reads_number : (k : Client) (x : Case) → (receiver.after k x).writes ≡ k.writes
+reads_number k Ignores = refl
+reads_number k AcksAgain = refl
+reads_number k (Adopts epoch) = refl
+reads_number k (Accepts (push.Grant req hs)) = refl
+reads_number k (Accepts (push.Absent req point)) = refl
+reads_number k (Accepts (push.Answer number o h)) = refl
+reads_number k (Lowers s keep) = refl
+
+judged_none : (k : Client) (number : ℕ) (o : Outcome) (x : LastWrite) → outstanding x ≡ None → outstanding (receiver.judged_as k number o x) ≡ None
+judged_none k number o Unwritten e = refl
+judged_none k number o (Outstanding change) e = absurd (cc)
+judged_none k number o (Judged old) e = refl
+
+reads_none : (k : Client) (x : Case) → outstanding k.written ≡ None → outstanding (receiver.after k x).written ≡ None
+reads_none k Ignores e = e
+reads_none k AcksAgain e = e
+reads_none k (Adopts epoch) e = e
+reads_none k (Accepts (push.Grant req hs)) e = e
+reads_none k (Accepts (push.Absent req point)) e = e
+reads_none k (Accepts (push.Answer number o h)) e = judged_none k number o k.written e
+reads_none k (Lowers s keep) e = e
+
+reads_silent : (ps : Pieces) (k : Client) (x : Case) → SaysNoWrite (receiver.sends ps k x)
+reads_silent ps k Ignores = none_silent
+reads_silent ps k AcksAgain = one_silent (says_ack k) refl
+reads_silent ps k (Adopts epoch) = one_silent (says_report ps (joined k epoch)) refl
+reads_silent ps k (Accepts what) = one_silent (says_ack (accepted k what)) refl
+reads_silent ps k (Lowers s keep) = one_silent (says_release k s keep) refl
+
+reads_write : (ps : Pieces) (k : Client) (m : ToClient) → WriteGoes k (receiver.after k (receiver.case_of k m)) (receiver.sends ps k (receiver.case_of k m))
+reads_write ps k m = record {
+  follows = reads_follow k m;
+  number = inl (reads_number k (receiver.case_of k m));
+  ends = λ e. reads_none k (receiver.case_of k m);
+  says = silent_says (receiver.after k (receiver.case_of k m)) (receiver.sends ps k (receiver.case_of k m)) (reads_silent ps k (receiver.case_of k m));
+}
+
 -- and a tick
+
+tick_says : (ps : Pieces) (k : Client) → SaysItsWrite k (tick ps k)
+tick_says ps k = if_both (SaysItsWrite k) (has_joined k) _ (says_hello k ∷ [])
+    (both_say k ((if nat_eq k.seen 0 then says_report ps k else says_ack k) ∷ []) (lock_again k k.asked ++ write_again k (outstanding k.written))
+    (silent_says k ((if nat_eq k.seen 0 then says_report ps k else says_ack k) ∷ []) (one_silent (if nat_eq k.seen 0 then says_report ps k else says_ack k) (if_both (λ (m : ToServer). write_said m.body ≡ None) (nat_eq k.seen 0) (says_report ps k) (says_ack k) refl refl)))
+    (both_say k (lock_again k k.asked) (write_again k (outstanding k.written)) (silent_says k (lock_again k k.asked) (locks_again k.asked)) (writes_again (outstanding k.written) refl)))
+    (silent_says k (says_hello k ∷ []) (one_silent (says_hello k) refl))
+  where
+    locks_again : (a : LockRequest) → SaysNoWrite (lock_again k a)
+    locks_again NotAsked = none_silent
+    locks_again Granted = none_silent
+    locks_again NoEntry = none_silent
+    locks_again Dropped = none_silent
+    locks_again (Waiting point hi g) = one_silent (says_lock k point hi g) refl
+
+    writes_again : (o : Option WriteOp) → outstanding k.written ≡ o → SaysItsWrite k (write_again k o)
+    writes_again None e = silent_says k [] none_silent
+    writes_again (Some op) e = its_write k op (ap is_some e)
+
+tick_writes : (ps : Pieces) (k : Client) → WriteGoes k k (tick ps k)
+tick_writes ps k = record { follows = λ e. inr (refl, inr (refl, refl)); number = inl refl; ends = λ e f. f; says = tick_says ps k }
 
 tick_asks : (ps : Pieces) (k : Client) → AsksAtMost k.number k.req (tick ps k)
 tick_asks ps k = if_both (AsksAtMost k.number k.req) (has_joined k) _ (says_hello k ∷ [])
@@ -134,23 +240,40 @@ not_waiting k point hi e =
     let d = passed _ refused.NotJoined _ b.1 in
     (passed (is_waiting k.asked) refused.Busy _ d.1).0
 
-seat_does : (u v : State) (d : ℕ) (k l : Client) (ms : List ToServer) → client_of u d ≡ Some k → Goes u d k l ms → v ≡ with_client u d (Some l) ms → Does u v
-seat_does u v d k l ms i g e = subst (Does u) (sym e) (goes d k l ms i g)
+seat_does : (u v : State) (d : ℕ) (k l : Client) (ms : List ToServer) → client_of u d ≡ Some k → Goes u d k l ms → WriteGoes k l ms → v ≡ with_client u d (Some l) ms → Does u v
+seat_does u v d k l ms i g x e = subst (Does u) (sym e) (goes d k l ms i g x)
+
+-- a client whose write and pushes stay
+unwritten : (k l : Client) (ms : List ToServer) → l.seen ≡ k.seen → l.written ≡ k.written → l.writes ≡ k.writes → SaysNoWrite ms → WriteGoes k l ms
+unwritten k l ms seen written writes silent = record {
+  follows = λ e. inr (seen, inr (written, writes));
+  number = inl writes;
+  ends = λ e f. ap outstanding written ∙ f;
+  says = silent_says l ms silent;
+}
+
+writes_now : (k : Client) (op : WriteOp) → outstanding k.written ≡ None → WriteGoes k (wrote k op) (says_write (wrote k op) op ∷ [])
+writes_now k op none = record {
+  follows = λ e. inr (refl, inl none);
+  number = inr refl;
+  ends = λ e. absurd (omega (arith, e));
+  says = its_write (wrote k op) op refl;
+}
 
 obeys_does : (u v : State) (c : ℕ) (k : Client) (what : Command) (answer : Answer) → command_refusal k what ≡ None → client_of u c ≡ Some k → Obeys u c k what answer v → Does u v
-obeys_does u v c k (command.Lock point hi g) answer r i d = seat_does u v c k _ _ i (locks point hi g (not_waiting k point hi r)) d.1
-obeys_does u v c k (command.Write op) answer r i d = seat_does u v c k _ _ i (same (wrote k op) (says_write (wrote k op) op ∷ []) refl refl refl refl refl (one_asks k.number k.req (says_write (wrote k op) op) refl (omega arith))) d.1
+obeys_does u v c k (command.Lock point hi g) answer r i d = seat_does u v c k _ _ i (locks point hi g (not_waiting k point hi r)) (unwritten k (locked k point hi g) _ refl refl refl (one_silent (says_lock (locked k point hi g) point hi g) refl)) d.1
+obeys_does u v c k (command.Write op) answer r i d = seat_does u v c k _ _ i (same (wrote k op) (says_write (wrote k op) op ∷ []) refl refl refl refl refl (one_asks k.number k.req (says_write (wrote k op) op) refl (omega arith))) (writes_now k op (write_free k op r).0) d.1
 obeys_does u v c k (command.Scan lo hi) answer r i d = rests_at u v d.1
-obeys_does u v c k (command.Forget lo hi) answer r i d = seat_does u v c k _ _ i (same (forgot k (span lo hi)) (says_release k (span lo hi) mode.N ∷ []) refl refl refl refl refl (one_asks k.number k.req (says_release k (span lo hi) mode.N) refl (omega arith))) d.1
-obeys_does u v c k (command.Pin lo hi) answer r i d = seat_does u v c k _ _ i (same (pinned k (span lo hi) d.0) [] refl refl refl refl refl (none_asks k.number k.req)) d.3
-obeys_does u v c k (command.Unpin id) answer r i d = seat_does u v c k _ _ i (same (unpinned k id) [] refl refl refl refl refl (none_asks k.number k.req)) d.1
-obeys_does u v c k command.Leave answer r i d = subst (Does u) (sym d.1) (ends c k.number (says_bye k ∷ []) (one_asks k.number 0 (says_bye k) refl (omega arith)))
+obeys_does u v c k (command.Forget lo hi) answer r i d = seat_does u v c k _ _ i (same (forgot k (span lo hi)) (says_release k (span lo hi) mode.N ∷ []) refl refl refl refl refl (one_asks k.number k.req (says_release k (span lo hi) mode.N) refl (omega arith))) (unwritten k (forgot k (span lo hi)) _ refl refl refl (one_silent (says_release k (span lo hi) mode.N) refl)) d.1
+obeys_does u v c k (command.Pin lo hi) answer r i d = seat_does u v c k _ _ i (same (pinned k (span lo hi) d.0) [] refl refl refl refl refl (none_asks k.number k.req)) (unwritten k (pinned k (span lo hi) d.0) [] refl refl refl none_silent) d.3
+obeys_does u v c k (command.Unpin id) answer r i d = seat_does u v c k _ _ i (same (unpinned k id) [] refl refl refl refl refl (none_asks k.number k.req)) (unwritten k (unpinned k id) [] refl refl refl none_silent) d.1
+obeys_does u v c k command.Leave answer r i d = subst (Does u) (sym d.1) (ends c k.number (says_bye k ∷ []) (one_asks k.number 0 (says_bye k) refl (omega arith)) (one_silent (says_bye k) refl))
 
 -- Each step
 
 client_does : (u v : State) (m : ToClient) (o : Option Client) → client_of u m.client ≡ o → In (message.ToClient m) u.sent → ClientReads u o m v → Does u v
 client_does u v m None i at d = rests_at u v d
-client_does u v m (Some k) i at d = seat_does u v m.client k _ _ i (client_goes u d.0 k m at) d.2
+client_does u v m (Some k) i at d = seat_does u v m.client k _ _ i (client_goes u d.0 k m at) (reads_write d.0 k m) d.2
 
 read_does : (u v : State) (m : ToServer) (n : ServerNode) → u.server ≡ n → In (message.ToServer m) u.sent → ServerReads u n m v → Does u v
 read_does u v m (Up s) up at d = subst (Does u) (sym d.3) (reads s d.0 m d.1 (applies m (case_of s m)) up at d.2)
@@ -176,9 +299,9 @@ crashed_does u v (Down d) up e = rests_at u v e
 pub does : (u v : State) (s : Step) (answer : Answer) → Takes u s answer v → Does u v
 does u v (step.Deliver i) answer t = delivers_does u v (message_at u.sent i) (at_in u.sent i) t.1.1
 does u v (step.Command c what) answer t = obeys_does u v c t.1.0 what answer (not_named refused_by_client (command_refusal t.1.0 what) (runs_ok (client_of u c) t.1.0 _ t.1.1 (client_ok c _ t.0))) t.1.1 t.1.2
-does u v (step.Tick c) answer t = let d = t.1.1 in seat_does u v c d.0 d.0 (tick d.2.0 d.0) d.1 (same d.0 _ refl refl refl refl refl (tick_asks d.2.0 d.0)) d.2.2
+does u v (step.Tick c) answer t = let d = t.1.1 in seat_does u v c d.0 d.0 (tick d.2.0 d.0) d.1 (same d.0 _ refl refl refl refl refl (tick_asks d.2.0 d.0)) (tick_writes d.2.0 d.0) d.2.2
 does u v (step.Nudge c) answer t = nudged_does u v c u.server refl t.1.1
 does u v (step.StartClient c) answer t = subst (Does u) (sym t.1.1) (starts c)
-does u v (step.CrashClient c) answer t = subst (Does u) (sym t.1.1) (ends c c [] (none_asks c 0))
+does u v (step.CrashClient c) answer t = subst (Does u) (sym t.1.1) (ends c c [] (none_asks c 0) none_silent)
 does u v step.StartServer answer t = started_does u v u.server refl t.1.1
 does u v step.CrashServer answer t = crashed_does u v u.server refl t.1.1

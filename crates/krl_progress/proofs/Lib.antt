@@ -18,4 +18,9 @@ pub mod Seated
 pub mod Later
 pub mod Known
 pub mod Agreed
+pub mod Pending
+pub mod Awaited
+pub mod Answering
+pub mod Arrivals
+pub mod PushesArrive
 mod Names

@@ -76,14 +76,14 @@ module _ (c inc epoch seen0 number : ℕ) (op : WriteOp) (some : 1 ≤ epoch) (r
       let f3 = third_round r2.1 r3.1 (length r1.1.sent) (length r2.1.sent) r3.0 r3.2 r3.3 (live_again _ r2.1 f2.0) f2.1 in
       subst RisenAt (sym r3.4) (⊎_elim (λ (x : RisenAt r3.1). x) (λ (x : WaitsAt r3.1 × ⊥). absurd x.1) f3.1)
 
-serving_now : (s : Server) → is_serving (Up s) ≡ true → is_recovering s.missing ≡ false
+pub serving_now : (s : Server) → is_serving (Up s) ≡ true → is_recovering s.missing ≡ false
 serving_now s e = by_test (is_recovering s.missing) refl
   where
     by_test : (b : Bool) → is_recovering s.missing ≡ b → b ≡ false
     by_test false f = refl
     by_test true f = absurd (let x : false ≡ true = sym (ap (λ (b : Bool). if b then false else true) f) ∙ e in cc)
 
-nobody_listed : (cs : List ℕ) (c : ℕ) → is_recovering cs ≡ false → lists cs c ≡ false
+pub nobody_listed : (cs : List ℕ) (c : ℕ) → is_recovering cs ≡ false → lists cs c ≡ false
 nobody_listed [] c e = refl
 nobody_listed (d ∷ cs) c e = absurd (cc)
 

@@ -3,3 +3,4 @@ pub mod Laws
 pub mod Answers
 pub mod Writes
 pub mod Requests
+pub mod Pushes

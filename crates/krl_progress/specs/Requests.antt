@@ -1,11 +1,12 @@
 -- What a server and a client know of a lock request.
-use Rattle.std.specs.Prelude.{◌≡◌, ℕ, suc, true, false, Some}
+use Rattle.std.specs.Prelude.{◌≡◌, ℕ, suc, true, false, Some, is_some}
 use Rattle.krl_messages.specs.declared.to_client.PushBody.{PushBody}
+use Rattle.krl_messages.specs.declared.to_client.PushBody.TheVariants as push
 use Rattle.krl_queue.specs.declared.waiter.Waiter.{Waiter}
 use Rattle.krl_table.specs.Rows.{waits}
 use Rattle.krl_server.specs.Servers.{Server}
 use Rattle.krl_server.specs.Waits.{waiter_of}
-use Rattle.krl_client.specs.Clients.{Client, is_waiting}
+use Rattle.krl_client.specs.Clients.{Client, is_waiting, outstanding}
 use Rattle.krl_world.specs.States.{Up, State, client_of}
 use Rattle.krl_world.specs.Steps.{IsReachable}
 use Rattle.krl_progress.specs.Answers.{answers_request}
@@ -32,3 +33,16 @@ abbrev pub RequestsAreKnown : Type 0
 RequestsAreKnown =
     (w : State) (s : Server) (c : ℕ) (k : Client) → IsReachable w → w.server ≡ Up s → client_of w c ≡ Some k →
     k.epoch ≡ s.durable.epoch → RequestIsKnown s c k
+
+-- the client waits for what the push says: the reply to its lock request, or how its outstanding write was judged
+abbrev pub IsAwaited : Client → PushBody → Type 0
+IsAwaited k (push.Grant req hs) = (is_waiting k.asked ≡ true) × (req ≡ k.req)
+IsAwaited k (push.Absent req point) = (is_waiting k.asked ≡ true) × (req ≡ k.req)
+IsAwaited k (push.Answer number outcome h) = (is_some (outstanding k.written) ≡ true) × (number ≡ k.writes)
+
+-- In every reachable world: a push that a client of the server's epoch has yet to accept is one that it waits for.
+abbrev pub PushesAreAwaited : Type 0
+PushesAreAwaited =
+    (w : State) (s : Server) (c : ℕ) (k : Client) (b : PushBody) → IsReachable w → w.server ≡ Up s →
+    client_of w c ≡ Some k → k.epoch ≡ s.durable.epoch → (s.sessions c).unacked ≡ Some b →
+    (s.sessions c).last_push ≡ suc k.seen → IsAwaited k b

@@ -1,5 +1,5 @@
 -- An outstanding write.
-use Rattle.std.specs.Prelude.{◌≡◌, ℕ, ◌<◌, true, Some, length}
+use Rattle.std.specs.Prelude.{◌≡◌, ℕ, suc, ◌<◌, true, Some, None, length}
 use Rattle.krl_modes.specs.declared.point.TheConstants.{END}
 use Rattle.krl_messages.specs.declared.write_op.WriteOp.{WriteOp}
 use Rattle.krl_client.specs.Clients.{Client, outstanding}
@@ -13,3 +13,11 @@ WritesMoveOnIn n =
     (w v : State) (c : ℕ) (k l : Client) (op : WriteOp) → IsReachable w → is_serving w.server ≡ true →
     client_of w c ≡ Some k → outstanding k.written ≡ Some op → k.seen < END → Rounds n (length w.sent) w v →
     client_of v c ≡ Some l → k.seen < l.seen
+
+-- within n good rounds an outstanding write is answered, where its client has asked for no further lock by then and has
+-- made no further write
+abbrev pub WritesAreAnsweredIn : ℕ → Type 0
+WritesAreAnsweredIn n =
+    (w v : State) (c : ℕ) (k l : Client) (op : WriteOp) → IsReachable w → is_serving w.server ≡ true →
+    client_of w c ≡ Some k → outstanding k.written ≡ Some op → suc k.seen < END → Rounds n (length w.sent) w v →
+    client_of v c ≡ Some l → l.req ≡ k.req → l.writes ≡ k.writes → outstanding l.written ≡ None

@@ -1,9 +1,10 @@
 //! What becomes of every world in good rounds: each function's contract is a law, and its body is
 //! empty.
 ghost use Rattle.krl_progress.specs.Laws.{RecoveryEndsIn, RoundsCanBeMade};
-ghost use Rattle.krl_progress.specs.Writes.{WritesMoveOnIn};
+ghost use Rattle.krl_progress.specs.Writes.{WritesMoveOnIn, WritesAreAnsweredIn};
 ghost use Rattle.krl_progress.specs.Answers.{AnswersAtOnce, GivesWay, CallbackFrees};
-ghost use Rattle.krl_progress.specs.Requests.{RequestsAreKnown};
+ghost use Rattle.krl_progress.specs.Pushes.{PushesArriveIn};
+ghost use Rattle.krl_progress.specs.Requests.{RequestsAreKnown, PushesAreAwaited};
 
 /// After any past: where the server runs, and each client whose report is missing runs, the server
 /// serves after five good rounds.
@@ -44,4 +45,22 @@ pub fn rounds_can_be_made()
 /// on the client's last lock request.
 pub fn requests_are_known()
     ensures { RequestsAreKnown }
+{}
+
+/// In every reachable world: a push that a client of the server's epoch has yet to accept is one
+/// that the client waits for.
+pub fn pushes_are_awaited()
+    ensures { PushesAreAwaited }
+{}
+
+/// After any past: an outstanding write is answered within six good rounds, where its client asks
+/// for no further lock meanwhile.
+pub fn writes_are_answered()
+    ensures { WritesAreAnsweredIn 6 }
+{}
+
+/// After any past: a push that a client of the server's epoch has yet to accept is accepted within
+/// three good rounds.
+pub fn pushes_arrive()
+    ensures { PushesArriveIn 3 }
 {}
