@@ -3,6 +3,10 @@
  * Client 0 reads a range and keeps it. Client 1 inserts into that range, which calls client 0 back. Client 0 reads the
  * range again and sees the new row. A second scan of it sends nothing.
  *
+ * With the word --leases the server gives leases, and client 0 is cut off while it has the range. It answers from its
+ * cache until its lease ends, and nothing from then on. A little later the server evicts it, and client 1 inserts. The
+ * program counts the time by itself.
+ *
  *     cc -std=c11 -I FOLDER_OF_krl.h two_clients.c libkrl_embed.a liblibc_c.a -o two_clients
  */
 #include <inttypes.h>
@@ -14,9 +18,43 @@
 
 enum { CLIENTS = 2, ROOM = 1 << 16, ROWS = 16, PREFIX = 8, MOST_ROUNDS = 1000 };
 
+/* What the host of the server reads and writes itself of messages: `docs/WIRE.md` has them. */
+enum { VERSION = 1, KIND_AT = 1, HELLO = 0, BYE = 1, SHORTEST = 18 };
+
+#define MILLISECOND UINT64_C(1000000)
+enum { LEASE = 600, DRIFT = 25, STEP = 100 };
+
+/* A client, and what its host keeps. */
+typedef struct client {
+    krl_handle handle;
+    uint64_t incarnation;
+    krl_lease lease;
+    /* Nothing that it says arrives, and nothing reaches it. */
+    bool is_cut_off;
+} client;
+
+/* What the server's host keeps of a client number. */
+typedef struct known {
+    /* The incarnation that was registered last, or 0. */
+    uint64_t registered;
+    /* It has not left. */
+    bool is_present;
+    /* From when on it answers nothing, by the server's clock. */
+    uint64_t until;
+    /* The incarnation that signed last. */
+    uint64_t signer;
+    krl_kept_lease kept;
+} known;
+
+static const krl_terms no_leases = { .length = KRL_FOR_EVER, .drift = DRIFT };
+static const krl_terms leases = { .length = LEASE * MILLISECOND, .drift = DRIFT };
+
 static krl_handle server;
-static krl_handle clients[CLIENTS];
+static krl_terms terms;
+static known known_clients[CLIENTS];
+static client clients[CLIENTS];
 static unsigned long delivered;
+static uint64_t elapsed;
 
 /* Ends the program where a call did not do what it should. */
 static void expect(const char *what, krl_reply reply)
@@ -36,25 +74,138 @@ static uint64_t number_at(const uint8_t *bytes)
     return number;
 }
 
-/* What a server has to keep would go to the disk here, before any message leaves. */
+/* What the clock of a client's machine shows, and that of the server's. No two show the same. */
+static uint64_t client_clock(int number)
+{
+    return elapsed + 1000 * MILLISECOND * (uint64_t)(number + 1);
+}
+
+static uint64_t server_clock(void)
+{
+    return elapsed + 77 * MILLISECOND;
+}
+
+/* What a server has to keep would go to the disk here, before any message leaves: this of a client's lease, */
+static void keep_lease(uint64_t number, krl_kept_lease kept)
+{
+    krl_kept_lease *before = &known_clients[number].kept;
+    if (before->longest == kept.longest && before->is_unleased == kept.is_unleased)
+        return;
+    *before = kept;
+    printf("keep: client %" PRIu64 " may have leases of %" PRIu64 " ms%s\n", number, kept.longest / MILLISECOND,
+           kept.is_unleased ? ", and one without end" : "");
+}
+
+/* and this of a step. What is kept of a lease comes before the registration that rests on it. */
 static void keep(const krl_change *change)
 {
     static const char *const names[] = { "nothing", "registered", "left", "judged" };
-    if (change->kind != KRL_UNCHANGED)
-        printf("keep: client %" PRIu64 " %s\n", change->client, names[change->kind]);
+    known *of = &known_clients[change->client];
+    if (change->kind == KRL_UNCHANGED)
+        return;
+    if (change->kind == KRL_REGISTERED) {
+        /* The host of an incarnation that never signed knows nothing of leases. */
+        const krl_terms *granted = of->signer == change->number ? &terms : &no_leases;
+        keep_lease(change->client, krl_kept_register(&of->kept, granted));
+        of->until = krl_until_register(granted, server_clock());
+        of->registered = change->number;
+    }
+    if (change->kind != KRL_JUDGED)
+        of->is_present = change->kind == KRL_REGISTERED;
+    printf("keep: client %" PRIu64 " %s\n", change->client, names[change->kind]);
 }
 
-static void to_server(const uint8_t *message, size_t length)
+static void step_server(const uint8_t *message, size_t length)
 {
     krl_stepped stepped = krl_server_step(&server, message, length);
     expect("server_step", stepped.reply);
     keep(&stepped.change);
 }
 
+/* Whether the server may have the message. A Hello that has to wait for the end of an older lease is dropped. */
+static bool hears(const uint8_t *message)
+{
+    const known *of = &known_clients[number_at(message + KRL_CLIENT_AT)];
+    if (message[KIND_AT] != HELLO || !of->is_present)
+        return true;
+    krl_take_over asks = { .registered = of->registered };
+    asks.incarnation = number_at(message + KRL_INCARNATION_AT);
+    /* Without leases who starts a client vouches that the one before is over. */
+    asks.is_vouched = terms.length == KRL_FOR_EVER;
+    return krl_until_hears(of->until, &asks, server_clock());
+}
+
+static void to_server(const uint8_t *message, size_t length)
+{
+    if (hears(message))
+        step_server(message, length);
+}
+
 static void to_client(const uint8_t *message, size_t length)
 {
-    uint64_t client = number_at(message + KRL_CLIENT_AT);
-    expect("client_step", krl_client_step(&clients[client], message, length));
+    client *to = &clients[number_at(message + KRL_CLIENT_AT)];
+    if (!to->is_cut_off)
+        expect("client_step", krl_client_step(&to->handle, message, length));
+}
+
+static void to_nobody(const uint8_t *message, size_t length)
+{
+    (void)message, (void)length;
+}
+
+/* Takes a client's sign, whose lease has so far this length. It answers the length that the server grants, or 0 to an
+ * incarnation that has ended. */
+static uint64_t hear_sign(int number, uint64_t incarnation, uint64_t length)
+{
+    known *of = &known_clients[number];
+    bool is_registered = of->is_present && of->registered == incarnation;
+    if (incarnation <= of->registered && !is_registered)
+        return 0;
+    of->signer = incarnation;
+    if (is_registered)
+        of->until = krl_until_sign(of->until, &terms, length, server_clock());
+    return terms.length;
+}
+
+/* Says a sign, and takes the terms that answer it. It answers whether there were some. */
+static bool say_sign(int number)
+{
+    client *of = &clients[number];
+    uint64_t stamp = client_clock(number);
+    uint64_t length = hear_sign(number, of->incarnation, of->lease.length);
+    if (length != 0)
+        krl_lease_take_terms(&of->lease, stamp, length, client_clock(number));
+    return length != 0;
+}
+
+static bool holds_lease(int number)
+{
+    return krl_lease_holds(&clients[number].lease, client_clock(number));
+}
+
+/* Evicts a client: the next incarnation says Hello, and Bye. */
+static void evict(uint64_t number)
+{
+    uint64_t numbers[] = { number, known_clients[number].registered + 1 };
+    uint8_t message[SHORTEST] = { VERSION };
+    for (int i = 0; i < 16; i++)
+        message[KRL_CLIENT_AT + i] = (uint8_t)(numbers[i / 8] >> 8 * (i % 8));
+    /* That incarnation answers nothing, so its lease may end. */
+    known_clients[number].signer = numbers[1];
+    for (uint8_t kind = HELLO; kind <= BYE; kind++) {
+        message[KIND_AT] = kind;
+        step_server(message, sizeof message);
+    }
+}
+
+/* Evicts each client whose lease has ended. */
+static void evict_silent(void)
+{
+    for (uint64_t number = 0; number < CLIENTS; number++) {
+        const known *of = &known_clients[number];
+        if (of->is_present && krl_until_has_come(of->until, server_clock()))
+            evict(number);
+    }
 }
 
 /* Takes what `from` has to say, and hands each message to `deliver`. It answers how many there were. */
@@ -78,8 +229,10 @@ static void settle(void)
 {
     for (int round = 0; round < MOST_ROUNDS; round++) {
         int count = 0;
-        for (int client = 0; client < CLIENTS; client++)
-            count += hand_over(&clients[client], to_server);
+        for (int number = 0; number < CLIENTS; number++) {
+            bool arrives = !clients[number].is_cut_off && holds_lease(number);
+            count += hand_over(&clients[number].handle, arrives ? to_server : to_nobody);
+        }
         count += hand_over(&server, to_client);
         if (count == 0)
             return;
@@ -88,34 +241,81 @@ static void settle(void)
     exit(1);
 }
 
-/* Scans a client's cache, and locks what it lacks until the cache answers. */
-static void scan(int client, uint64_t lo, uint64_t hi)
+/* Starts a client. Its host says a sign first, and no Hello before it has terms; the server may have spent the
+ * incarnation, to evict the one before. */
+static void join(int number)
 {
+    client *of = &clients[number];
+    do {
+        krl_close(&of->handle);
+        of->incarnation++;
+        of->lease = krl_lease_new();
+        expect("client_open", krl_client_open(&of->handle, (uint64_t)number, of->incarnation));
+    } while (!say_sign(number));
+}
+
+/* A step of time. Who is not cut off says a sign and a tick, and the server evicts who has been silent for too long. */
+static void pass_time(void)
+{
+    elapsed += STEP * MILLISECOND;
+    for (int number = 0; number < CLIENTS; number++) {
+        if (!clients[number].is_cut_off)
+            say_sign(number);
+        expect("tick", krl_client_tick(&clients[number].handle));
+    }
+    evict_silent();
+    settle();
+}
+
+/* Scans a client's cache, and locks what it lacks until the cache answers. The clock is read behind the rows. */
+static void scan(int number, uint64_t lo, uint64_t hi)
+{
+    krl_handle *handle = &clients[number].handle;
     krl_row rows[ROWS];
     unsigned long before = delivered;
-    krl_reply reply = krl_client_scan(&clients[client], lo, hi, rows, ROWS);
+    krl_reply reply = krl_client_scan(handle, lo, hi, rows, ROWS);
     for (int asked = 0; reply.code == KRL_MISS && asked < ROWS; asked++) {
-        expect("lock", krl_client_lock(&clients[client], reply.detail, hi, KRL_RANGE_S_S));
+        expect("lock", krl_client_lock(handle, reply.detail, hi, KRL_RANGE_S_S));
         settle();
-        reply = krl_client_scan(&clients[client], lo, hi, rows, ROWS);
+        reply = krl_client_scan(handle, lo, hi, rows, ROWS);
     }
     expect("scan", reply);
-    printf("client %d reads:", client);
+    if (!holds_lease(number)) {
+        printf("client %d answers nothing: its lease has ended\n", number);
+        return;
+    }
+    printf("client %d reads:", number);
     for (uint64_t i = 0; i < reply.detail; i++)
         printf(" %" PRIu64 "=%.*s", rows[i].key, (int)rows[i].length, (const char *)rows[i].bytes);
     printf(" (%s)\n", delivered == before ? "from its cache" : "after messages");
 }
 
-static void insert(int client, uint64_t key, const char *value)
+static krl_client_state status_of(int number)
 {
-    const uint8_t *bytes = (const uint8_t *)value;
-    expect("lock", krl_client_lock(&clients[client], key, key + 1, KRL_RANGE_I_N));
-    settle();
-    expect("insert", krl_client_insert(&clients[client], key, bytes, strlen(value)));
-    settle();
-    krl_client_state state = krl_client_status(&clients[client]);
+    krl_client_state state = krl_client_status(&clients[number].handle);
     expect("status", state.reply);
-    printf("client %d inserts %" PRIu64 ": %s\n", client, key, state.outcome == KRL_APPLIED ? "applied" : "refused");
+    return state;
+}
+
+/* Asks for the gap in which a key would stand. */
+static void ask_for_gap(int number, uint64_t key)
+{
+    expect("lock", krl_client_lock(&clients[number].handle, key, key + 1, KRL_RANGE_I_N));
+    settle();
+}
+
+/* Inserts a row, if the client has the gap. */
+static void insert(int number, uint64_t key, const char *value)
+{
+    if (status_of(number).lock == KRL_LOCK_WAITING) {
+        printf("client %d waits for the gap at %" PRIu64 "\n", number, key);
+        return;
+    }
+    const uint8_t *bytes = (const uint8_t *)value;
+    expect("insert", krl_client_insert(&clients[number].handle, key, bytes, strlen(value)));
+    settle();
+    bool is_applied = status_of(number).outcome == KRL_APPLIED;
+    printf("client %d inserts %" PRIu64 ": %s\n", number, key, is_applied ? "applied" : "refused");
 }
 
 static krl_row row(uint64_t key, const char *value)
@@ -125,28 +325,75 @@ static krl_row row(uint64_t key, const char *value)
     return made;
 }
 
-int main(void)
+/* The server is there, and client 1 calls client 0 back. */
+static void call_back(void)
 {
-    const krl_row entries[] = { row(10, "ten"), row(20, "twenty") };
-    krl_reply opened = krl_server_open(&server, KRL_DEFAULT_ROOM, 0, entries, 2, NULL, 0);
-    expect("server_open", opened);
-    printf("keep: epoch %" PRIu64 "\n", opened.detail);
-    for (int client = 0; client < CLIENTS; client++)
-        expect("client_open", krl_client_open(&clients[client], (uint64_t)client, 1));
-    settle();
-
     scan(0, 0, 100);
     scan(0, 0, 100);
+    ask_for_gap(1, 15);
     insert(1, 15, "fifteen");
     scan(0, 0, 100);
     scan(0, 0, 100);
     scan(1, 15, 16);
+}
 
-    for (int client = 0; client < CLIENTS; client++)
-        expect("leave", krl_client_leave(&clients[client]));
+/* Client 0 can't be called back. */
+static void cut_off(void)
+{
+    clients[0].is_cut_off = true;
+    printf("client 0 is cut off\n");
+    ask_for_gap(1, 17);
+    for (int step = 1; step <= 8; step++) {
+        pass_time();
+        printf("%d ms\n", step * STEP);
+        scan(0, 0, 100);
+        insert(1, 17, "seventeen");
+    }
+    clients[0].is_cut_off = false;
+    printf("client 0 joins anew\n");
+    join(0);
     settle();
-    for (int client = 0; client < CLIENTS; client++)
-        krl_close(&clients[client]);
+    scan(0, 0, 100);
+}
+
+static void start(void)
+{
+    const krl_row entries[] = { row(10, "ten"), row(20, "twenty") };
+    krl_reply opened = krl_server_open(&server, KRL_DEFAULT_ROOM, 0, entries, 2, NULL, 0);
+    expect("server_open", opened);
+    for (uint64_t number = 0; number < CLIENTS; number++) {
+        /* Where nothing was kept of leases, a client may have one without end. */
+        known_clients[number].kept.is_unleased = true;
+        keep_lease(number, krl_kept_start(&known_clients[number].kept, &terms));
+    }
+    printf("keep: epoch %" PRIu64 "\n", opened.detail);
+    for (int number = 0; number < CLIENTS; number++)
+        join(number);
+    settle();
+}
+
+static void stop(void)
+{
+    for (int number = 0; number < CLIENTS; number++)
+        expect("leave", krl_client_leave(&clients[number].handle));
+    settle();
+    for (int number = 0; number < CLIENTS; number++)
+        krl_close(&clients[number].handle);
     krl_close(&server);
+}
+
+int main(int count, char **words)
+{
+    bool is_leased = count == 2 && strcmp(words[1], "--leases") == 0;
+    if (count != 1 && !is_leased) {
+        fprintf(stderr, "two_clients: expected --leases, or no word\n");
+        return 1;
+    }
+    terms = is_leased ? leases : no_leases;
+    start();
+    call_back();
+    if (is_leased)
+        cut_off();
+    stop();
     return 0;
 }

@@ -1,6 +1,6 @@
 //! The clients of a drive: four processes that read and write, and are killed in turn.
 use crate::history::{History, Tally};
-use crate::log::notes;
+use crate::log::{Note, notes};
 use crate::nodes::{READERS, WRITERS, end_file};
 use krl::Snapshot;
 use std::error::Error;
@@ -18,6 +18,33 @@ pub const ENDING: Duration = Duration::from_secs(60);
 /// What a drive has to come to at least, for each round: a run that does nothing says nothing.
 const LEAST_ANSWERED: u64 = 5;
 const LEAST_READS: u64 = 20;
+
+/// A busy machine may take so long for what a round has to come to.
+const ROUND: Duration = Duration::from_secs(20);
+
+/// How much the clients have noted.
+#[derive(Clone, Copy, Debug, Default)]
+struct Noted {
+    answered: u64,
+    reads: u64,
+}
+
+impl Noted {
+    /// Whether what was noted since then is as much as a round has to come to.
+    fn is_a_round_since(self, before: Noted) -> bool {
+        self.answered >= before.answered + LEAST_ANSWERED
+            && self.reads >= before.reads + LEAST_READS
+    }
+
+    fn with(mut self, note: &Note) -> Noted {
+        match note {
+            Note::Begun { .. } => {}
+            Note::Answered { .. } => self.answered += 1,
+            Note::Read { .. } => self.reads += 1,
+        }
+        self
+    }
+}
 
 /// A process of the drive. It dies with the drive, also if that fails.
 pub struct Process(Child);
@@ -68,6 +95,8 @@ pub struct Clients {
     other: Option<PathBuf>,
     running: Vec<(u8, Process)>,
     killed: usize,
+    /// How much they had noted as the last round ended.
+    noted: Noted,
 }
 
 impl Clients {
@@ -83,7 +112,8 @@ impl Clients {
         servers: String,
     ) -> std::io::Result<Clients> {
         let folder = folder.to_path_buf();
-        let mut clients = Clients { folder, servers, other, running: Vec::new(), killed: 0 };
+        let (running, noted) = (Vec::new(), Noted::default());
+        let mut clients = Clients { folder, servers, other, running, killed: 0, noted };
         for number in READERS.into_iter().chain(WRITERS) {
             clients.start_one(number)?;
         }
@@ -119,6 +149,26 @@ impl Clients {
             thread::sleep(Duration::from_millis(5));
         }
         Ok(())
+    }
+
+    /// Waits until the clients have noted what a round has to come to, since this was called last.
+    /// Clients that take too long for it are left to [`judge`].
+    pub fn wait_for_a_round(&mut self) {
+        let (end, before) = (Instant::now() + ROUND, self.noted);
+        loop {
+            self.noted = self.count_notes();
+            if self.noted.is_a_round_since(before) || Instant::now() >= end {
+                return;
+            }
+            thread::sleep(Duration::from_millis(20));
+        }
+    }
+
+    /// How much they have noted. One that has not begun has no file.
+    fn count_notes(&self) -> Noted {
+        let numbers = READERS.into_iter().chain(WRITERS);
+        let notes = numbers.flat_map(|number| notes(&self.folder, number).unwrap_or_default());
+        notes.fold(Noted::default(), |noted, note| noted.with(&note))
     }
 
     /// How many were killed.

@@ -3,7 +3,7 @@
 use crate::Found;
 use crate::clients::{Clients, ENDING, Process, judge, this};
 use crate::log::now;
-use crate::lossy;
+use crate::lossy::{self, Carrier};
 use crate::nodes::store_file;
 use crate::ports::free_address;
 use krl::{SqliteStore, Store};
@@ -17,9 +17,16 @@ struct Drive {
     folder: PathBuf,
     store: String,
     server_at: SocketAddr,
-    kind: &'static str,
+    net: Net,
     server: Process,
     clients: Clients,
+}
+
+/// What lies between the clients and the server.
+#[derive(Clone, Copy, Debug, PartialEq, Eq)]
+struct Net {
+    carrier: Carrier,
+    is_lossy: bool,
 }
 
 /// How an address of TLS begins.
@@ -31,6 +38,9 @@ const LEASE: u64 = 2000;
 /// A round over TLS is so much longer: each start of the server is followed by a hand-shake of each
 /// client.
 const LONGER_BY_TLS: u32 = 3;
+
+/// And so much longer if messages are lost: a lost greeting is said again a fifth of a second later.
+const LONGER_BY_LOSS: u32 = 2;
 
 /// The clients of another program have to note so many lines for each round.
 const LEAST_BY_OTHERS: u64 = 5;
@@ -48,16 +58,12 @@ fn drive(folder: &Path, rounds: u64, store: &str, net: &str, other: Option<PathB
     let is_beside = other.is_some();
     std::fs::create_dir_all(folder)?;
     let server_at = free_address()?;
-    let (clients_at, kind) = match net {
-        "direct" => (server_at, ""),
-        "lossy" => (lossy::start(server_at)?, ""),
-        "tls" => (server_at, TLS),
-        _ => return Err("a network is direct, lossy or tls".into()),
-    };
-    let server = start_server(folder, &format!("{kind}{server_at}"), store, lease_of(kind))?;
-    let clients = Clients::start_beside(other, folder, format!("{kind}{clients_at}"))?;
+    let net = Net::of_name(net)?;
+    let clients_at = net.start(server_at)?;
+    let server = start_server(folder, &net.address(server_at), store, net.lease())?;
+    let clients = Clients::start_beside(other, folder, net.address(clients_at))?;
     let (folder, store) = (folder.to_path_buf(), store.to_string());
-    let mut drive = Drive { folder, store, server_at, kind, server, clients };
+    let mut drive = Drive { folder, store, server_at, net, server, clients };
     drive.clients.wait_for_others()?;
     let down = drive.kill_for(rounds)?;
     let hung = drive.clients.end()?;
@@ -81,9 +87,46 @@ fn drive(folder: &Path, rounds: u64, store: &str, net: &str, other: Option<PathB
     judge(&tally, rounds, hung)
 }
 
-/// How many milliseconds a lease has at an address of this kind. Over TLS the server has leases too.
-fn lease_of(kind: &str) -> u64 {
-    if kind == TLS { LEASE } else { 0 }
+impl Net {
+    fn of_name(name: &str) -> Result<Net, Box<dyn Error>> {
+        let (carrier, is_lossy) = match name {
+            "direct" => (Carrier::Plain, false),
+            "lossy" => (Carrier::Plain, true),
+            "tls" => (Carrier::Tls, false),
+            "lossy-tls" => (Carrier::Tls, true),
+            _ => return Err("a network is direct, lossy, tls or lossy-tls".into()),
+        };
+        Ok(Net { carrier, is_lossy })
+    }
+
+    /// Starts the network, and says where clients connect.
+    fn start(self, server: SocketAddr) -> std::io::Result<SocketAddr> {
+        if self.is_lossy { lossy::start(server, self.carrier) } else { Ok(server) }
+    }
+
+    fn address(self, at: SocketAddr) -> String {
+        match self.carrier {
+            Carrier::Plain => at.to_string(),
+            Carrier::Tls => format!("{TLS}{at}"),
+        }
+    }
+
+    /// How many milliseconds a lease has. Over TLS the server has leases too.
+    fn lease(self) -> u64 {
+        match self.carrier {
+            Carrier::Plain => 0,
+            Carrier::Tls => LEASE,
+        }
+    }
+
+    /// How much longer a round is than over TCP alone.
+    fn longer(self) -> u32 {
+        match (self.carrier, self.is_lossy) {
+            (Carrier::Plain, _) => 1,
+            (Carrier::Tls, false) => LONGER_BY_TLS,
+            (Carrier::Tls, true) => LONGER_BY_TLS * LONGER_BY_LOSS,
+        }
+    }
 }
 
 /// Starts a server whose leases have so many milliseconds, or that has none: then it is 0.
@@ -117,11 +160,12 @@ impl Drive {
     /// ran.
     fn kill_for(&mut self, rounds: u64) -> Result<Vec<(u64, u64)>, Box<dyn Error>> {
         let mut down = Vec::new();
-        let longer = if self.kind == TLS { LONGER_BY_TLS } else { 1 };
+        let longer = self.net.longer();
         // Time for the first rows.
         thread::sleep(Duration::from_millis(500));
         for round in 0..rounds {
             thread::sleep(Duration::from_millis(200 + 37 * (round % 5)) * longer);
+            self.clients.wait_for_a_round();
             if self.server.ended()?.is_some() {
                 return Err("the server ended by itself".into());
             }
@@ -129,8 +173,8 @@ impl Drive {
             let from = now();
             thread::sleep(Duration::from_millis(if round % 3 == 0 { 100 } else { 5 }));
             let to = now();
-            let address = format!("{}{}", self.kind, self.server_at);
-            self.server = start_server(&self.folder, &address, &self.store, lease_of(self.kind))?;
+            let address = self.net.address(self.server_at);
+            self.server = start_server(&self.folder, &address, &self.store, self.net.lease())?;
             down.push((from, to));
             if matches!(round % 5, 1 | 3) {
                 thread::sleep(Duration::from_millis(50));

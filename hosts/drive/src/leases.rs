@@ -2,7 +2,7 @@
 use crate::Found;
 use crate::clients::{Clients, Process, judge};
 use crate::kill::start_server;
-use crate::lossy;
+use crate::lossy::{self, Carrier};
 use crate::nodes::{READERS, store_file};
 use crate::ports::free_address;
 use krl::{SqliteStore, Store};
@@ -60,7 +60,7 @@ pub fn run(folder: &Path, rounds: u64, net: &str) -> Found {
     let server_at = free_address()?;
     let clients_at = match net {
         "direct" => server_at,
-        "lossy" => lossy::start(server_at)?,
+        "lossy" => lossy::start(server_at, Carrier::Plain)?,
         _ => return Err("a network is direct or lossy".into()),
     };
     let server = start_server(folder, &server_at.to_string(), "sqlite", LEASE)?;

@@ -1,5 +1,7 @@
 //! A network between clients and a server that drops, repeats and swaps one message in ten each.
-use std::io::{Read, Write};
+use crate::sealed::Sealed;
+use std::error::Error;
+use std::io::{self, Read, Write};
 use std::net::{Shutdown, SocketAddr, TcpListener, TcpStream};
 use std::thread;
 use std::time::Duration;
@@ -13,34 +15,95 @@ const LONGEST: u64 = 1 << 21;
 /// How long a message that is held back waits for the next one.
 const TIMEOUT: Duration = Duration::from_secs(5);
 
+/// What carries the messages on both sides of the network.
+#[derive(Clone, Copy, Debug, PartialEq, Eq)]
+pub enum Carrier {
+    Plain,
+    /// TLS ends in the network: below it no single message could be lost.
+    Tls,
+}
+
+/// Both ends of a client's connection. They are shut with it.
+struct Ends([TcpStream; 2]);
+
 /// Starts the network, and says where clients connect.
-pub fn start(server: SocketAddr) -> std::io::Result<SocketAddr> {
+pub fn start(server: SocketAddr, carrier: Carrier) -> io::Result<SocketAddr> {
     let listener = TcpListener::bind("127.0.0.1:0")?;
     let address = listener.local_addr()?;
     thread::spawn(move || {
         for (seed, client) in (1..).zip(listener.incoming().flatten()) {
             // If no server runs, the client's connection ends.
             if let Ok(server) = TcpStream::connect(server) {
-                let _ = join(client, server, seed);
+                thread::spawn(move || {
+                    // If a hand-shake fails the client's connection ends too.
+                    let _ = join(client, server, carrier, seed);
+                });
             }
         }
     });
     Ok(address)
 }
 
-fn join(client: TcpStream, server: TcpStream, seed: u64) -> std::io::Result<()> {
-    for stream in [&client, &server] {
-        stream.set_nodelay(true)?;
-        stream.set_write_timeout(Some(TIMEOUT))?;
+fn join(
+    client: TcpStream,
+    server: TcpStream,
+    carrier: Carrier,
+    seed: u64,
+) -> Result<(), Box<dyn Error>> {
+    let ends = Ends([client.try_clone()?, server.try_clone()?]);
+    for end in &ends.0 {
+        end.set_nodelay(true)?;
+        end.set_write_timeout(Some(TIMEOUT))?;
     }
-    let (from, to) = (client.try_clone()?, server.try_clone()?);
-    thread::spawn(move || pass(from, to, Draws(2 * seed)));
-    thread::spawn(move || pass(server, client, Draws(2 * seed + 1)));
+    match carrier {
+        Carrier::Plain => {
+            let (to_client, to_server) = (client.try_clone()?, server.try_clone()?);
+            Ok(pass_both((client, to_server), (server, to_client), ends, seed)?)
+        }
+        Carrier::Tls => {
+            let (client, number) = Sealed::accept(client)?;
+            let server = Sealed::connect(server, number)?;
+            let (to_client, to_server) = (client.try_clone()?, server.try_clone()?);
+            Ok(pass_both((client, to_server), (server, to_client), ends, seed)?)
+        }
+    }
+}
+
+/// Passes messages on in both directions, until one side ends.
+fn pass_both<S: Read + Write + Send + 'static>(
+    there: (S, S),
+    back: (S, S),
+    ends: Ends,
+    seed: u64,
+) -> io::Result<()> {
+    let of_both = ends.try_clone()?;
+    thread::spawn(move || {
+        pass(back.0, back.1, Draws(2 * seed + 1));
+        drop(of_both);
+    });
+    pass(there.0, there.1, Draws(2 * seed));
+    drop(ends);
     Ok(())
 }
 
-/// Passes messages on until one side ends, and ends the other then.
-fn pass(mut from: TcpStream, mut to: TcpStream, mut draws: Draws) {
+impl Ends {
+    fn try_clone(&self) -> io::Result<Ends> {
+        let Ends([client, server]) = self;
+        Ok(Ends([client.try_clone()?, server.try_clone()?]))
+    }
+}
+
+impl Drop for Ends {
+    fn drop(&mut self) {
+        for end in &self.0 {
+            // One that its other side has ended is shut already.
+            let _ = end.shutdown(Shutdown::Both);
+        }
+    }
+}
+
+/// Passes messages on until one side ends.
+fn pass(mut from: impl Read, mut to: impl Write, mut draws: Draws) {
     let mut held: Option<Vec<u8>> = None;
     while let Some(frame) = read_frame(&mut from) {
         let frames = match draws.below(ONE_IN) {
@@ -57,12 +120,10 @@ fn pass(mut from: TcpStream, mut to: TcpStream, mut draws: Draws) {
             break;
         }
     }
-    let _ = from.shutdown(Shutdown::Both);
-    let _ = to.shutdown(Shutdown::Both);
 }
 
 /// A length and its message.
-fn read_frame(stream: &mut TcpStream) -> Option<Vec<u8>> {
+fn read_frame(stream: &mut impl Read) -> Option<Vec<u8>> {
     let mut length = [0; 8];
     stream.read_exact(&mut length).ok()?;
     let count = u64::from_le_bytes(length);

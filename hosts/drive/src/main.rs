@@ -1,7 +1,7 @@
 //! Drives servers and clients of krl, each in a process of its own, and checks what they read.
 //!
 //! ```text
-//! krl_drive kill FOLDER ROUNDS [sqlite|unsynced] [direct|lossy|tls]  kills servers and clients
+//! krl_drive kill FOLDER ROUNDS [sqlite|unsynced [direct|lossy|tls|lossy-tls]]  kills all of them
 //! krl_drive beside FOLDER ROUNDS PROGRAM [direct|lossy]           half of the clients are PROGRAM's
 //! krl_drive leases FOLDER ROUNDS [direct|lossy]                  stops and kills clients with leases
 //! krl_drive takeover FOLDER ROUNDS                                kills who holds what another wants
@@ -43,6 +43,7 @@ mod machines;
 mod nodes;
 mod ports;
 mod relay;
+mod sealed;
 mod shards;
 mod site;
 mod stand_bys;

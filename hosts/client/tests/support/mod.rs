@@ -28,12 +28,18 @@ pub struct World {
 
 impl World {
     pub fn new(name: &str) -> World {
-        let name = format!("krl-client-{}-{name}", std::process::id());
-        let folder = std::env::temp_dir().join(name);
-        std::fs::create_dir_all(&folder).unwrap();
+        let folder = World::folder_of(name);
         let listener = Listener::bind(&"127.0.0.1:0".parse().unwrap()).unwrap();
         let server = Server::start(listener, MemoryStore::default()).unwrap();
         World { server, folder }
+    }
+
+    /// A new folder of a test.
+    pub fn folder_of(test: &str) -> PathBuf {
+        let folder = format!("krl-client-{}-{test}", std::process::id());
+        let folder = std::env::temp_dir().join(folder);
+        std::fs::create_dir_all(&folder).unwrap();
+        folder
     }
 
     /// A client in this process.
