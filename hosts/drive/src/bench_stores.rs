@@ -1,11 +1,13 @@
-//! Measurements of stores, by hand: a server over SQLite and one over etcd, and etcd by itself, in
-//! turns. The cluster has three nodes on this machine, and all use its one disk.
+//! Measurements of stores, by hand: servers over SQLite, over etcd and over PostgreSQL, and etcd by
+//! itself, in turns. The cluster has three nodes on this machine, and all use its one disk.
 use crate::Found;
 use crate::cluster::Cluster;
+use crate::database::Database;
 use crate::gateway::Gateway;
 use crate::site::Site;
 use krl::{Address, Client, Listener, Outcome, Server, Snapshot, SqliteStore, Store, Value};
 use krl_etcd::{Credentials, EtcdAddress, EtcdStore};
+use krl_postgres::PostgresStore;
 use std::error::Error;
 use std::net::SocketAddr;
 use std::path::Path;
@@ -24,33 +26,74 @@ const SLICE: Duration = Duration::from_secs(2);
 const WRITERS: [u8; 2] = [1, 8];
 
 /// What is measured, in each round.
-const KINDS: [Kind; 3] = [Kind::Sqlite, Kind::Etcd, Kind::EtcdAlone];
+const KINDS: [Kind; 4] = [Kind::Sqlite, Kind::Etcd, Kind::EtcdAlone, Kind::Postgres];
 
-#[derive(Clone, Copy, Debug)]
+#[derive(Clone, Copy, Debug, PartialEq, Eq)]
 enum Kind {
     Sqlite,
     Etcd,
     EtcdAlone,
+    Postgres,
+}
+
+/// What the stores are kept by.
+struct Keepers {
+    cluster: Cluster,
+    /// None if there is no PostgreSQL.
+    database: Option<Database>,
+}
+
+impl Keepers {
+    fn kinds(&self) -> Vec<Kind> {
+        let are_there = |kind: &Kind| *kind != Kind::Postgres || self.database.is_some();
+        KINDS.into_iter().filter(are_there).collect()
+    }
+
+    /// A store in the database, which has nothing else of krl.
+    fn new_postgres(&self) -> Result<PostgresStore, Box<dyn Error>> {
+        let database = self.database.as_ref().ok_or("there is no PostgreSQL")?;
+        database.connect().run("DROP SCHEMA IF EXISTS krl CASCADE");
+        self.postgres()
+    }
+
+    /// What the database has.
+    fn postgres(&self) -> Result<PostgresStore, Box<dyn Error>> {
+        let database = self.database.as_ref().ok_or("there is no PostgreSQL")?;
+        Ok(PostgresStore::open(&database.address(), None)?)
+    }
 }
 
 pub fn run(folder: &Path, rounds: usize) -> Found {
     std::fs::create_dir_all(folder)?;
     let cluster = Cluster::start(folder, Rc::new(Site::Here))?;
+    let keepers = Keepers { cluster, database: Database::start() };
     for writers in WRITERS {
-        let mut rates = KINDS.map(|_| Vec::new());
-        for round in 0..rounds {
-            for (kind, rates) in KINDS.iter().zip(&mut rates) {
-                let place = folder.join(format!("{kind:?}-{writers}-{round}"));
-                rates.push(rate(*kind, &cluster, &place, writers)?);
-            }
-        }
-        for (kind, mut rates) in KINDS.iter().zip(rates) {
-            rates.sort_unstable();
-            let (least, middle, most) = spread(&rates);
-            println!("{kind:?}, {writers} writers: {middle} a second, {least} to {most}");
+        writes(folder, &keepers, rounds, writers)?;
+    }
+    starts(folder, &keepers, rounds)
+}
+
+/// How many writes a second are answered, by each kind in turn.
+fn writes(
+    folder: &Path,
+    keepers: &Keepers,
+    rounds: usize,
+    writers: u8,
+) -> Result<(), Box<dyn Error>> {
+    let kinds = keepers.kinds();
+    let mut rates = vec![Vec::new(); kinds.len()];
+    for round in 0..rounds {
+        for (kind, rates) in kinds.iter().zip(&mut rates) {
+            let place = folder.join(format!("{kind:?}-{writers}-{round}"));
+            rates.push(rate(*kind, keepers, &place, writers)?);
         }
     }
-    starts(folder, &cluster, rounds)
+    for (kind, mut rates) in kinds.iter().zip(rates) {
+        rates.sort_unstable();
+        let (least, middle, most) = spread(&rates);
+        println!("{kind:?}, {writers} writers: {middle} a second, {least} to {most}");
+    }
+    Ok(())
 }
 
 /// The least, the middle and the greatest of what is in order.
@@ -59,18 +102,19 @@ fn spread<T: Copy>(values: &[T]) -> (T, T, T) {
 }
 
 /// How many writes a second are answered. The folder is a new one.
-fn rate(kind: Kind, cluster: &Cluster, folder: &Path, writers: u8) -> Result<u64, Box<dyn Error>> {
+fn rate(kind: Kind, keepers: &Keepers, folder: &Path, writers: u8) -> Result<u64, Box<dyn Error>> {
     std::fs::create_dir_all(folder)?;
     let count = match kind {
         Kind::Sqlite => served(SqliteStore::open(folder.join("store.db"))?, folder, writers)?,
         Kind::Etcd => {
-            let address = table(cluster, folder);
+            let address = table(&keepers.cluster, folder);
             served(EtcdStore::open(&address, &Credentials::default())?, folder, writers)?
         }
         Kind::EtcdAlone => {
-            let node = cluster.nodes()[0];
+            let node = keepers.cluster.nodes()[0];
             at_once(writers, |writer| put_alone(node, writer))?
         }
+        Kind::Postgres => served(keepers.new_postgres()?, folder, writers)?,
     };
     Ok(count / SLICE.as_secs())
 }
@@ -135,23 +179,41 @@ fn put_alone(node: SocketAddr, writer: u8) -> Result<u64, Box<dyn Error>> {
 }
 
 /// How long a server takes to start over a full table.
-fn starts(folder: &Path, cluster: &Cluster, rounds: usize) -> Found {
+fn starts(folder: &Path, keepers: &Keepers, rounds: usize) -> Found {
     let rows = (0..ROWS).map(|place| (STEP * place, Value::from(place))).collect();
     let snapshot = Snapshot { epoch: 1, rows, ..Snapshot::default() };
-    let (file, address) = (folder.join("full.db"), table(cluster, Path::new("full")));
-    SqliteStore::create(&file, &snapshot)?;
-    EtcdStore::create(&address, &Credentials::default(), &snapshot)?;
-    let mut times = [Vec::new(), Vec::new()];
-    for _ in 0..rounds {
-        times[0].push(start(SqliteStore::open(&file)?)?);
-        times[1].push(start(EtcdStore::open(&address, &Credentials::default())?)?);
+    let (file, address) = (folder.join("full.db"), table(&keepers.cluster, Path::new("full")));
+    let mut kinds = keepers.kinds();
+    kinds.retain(|kind| *kind != Kind::EtcdAlone);
+    for kind in &kinds {
+        match kind {
+            Kind::Sqlite => SqliteStore::create(&file, &snapshot)?,
+            Kind::Postgres => fill_database(keepers, &snapshot)?,
+            _ => EtcdStore::create(&address, &Credentials::default(), &snapshot)?,
+        }
     }
-    for (kind, mut times) in KINDS.iter().zip(times) {
+    let mut times = vec![Vec::new(); kinds.len()];
+    for _ in 0..rounds {
+        for (kind, times) in kinds.iter().zip(&mut times) {
+            times.push(match kind {
+                Kind::Sqlite => start(SqliteStore::open(&file)?)?,
+                Kind::Postgres => start(keepers.postgres()?)?,
+                _ => start(EtcdStore::open(&address, &Credentials::default())?)?,
+            });
+        }
+    }
+    for (kind, mut times) in kinds.iter().zip(times) {
         times.sort_unstable();
         let (least, middle, most) = spread(&times);
         println!("{kind:?}, a start on {ROWS} rows: {middle:.2?}, {least:.2?} to {most:.2?}");
     }
     Ok(true)
+}
+
+fn fill_database(keepers: &Keepers, snapshot: &Snapshot) -> Result<(), Box<dyn Error>> {
+    drop(keepers.new_postgres()?);
+    let database = keepers.database.as_ref().ok_or("there is no PostgreSQL")?;
+    Ok(PostgresStore::create(&database.address(), None, snapshot)?)
 }
 
 fn start(store: impl Store + 'static) -> Result<Duration, Box<dyn Error>> {

@@ -5,25 +5,28 @@
 //! A server that was frozen or cut off goes on behind another one that serves. If the servers are
 //! *heedless*, no lease and no timeout ends them: then the store alone tells them apart.
 use crate::Found;
-use crate::clients::{Clients, judge};
+use crate::clients::{Clients, ENDING, judge};
 use crate::fault::Fault;
 use crate::log::{Note, notes, now};
 use crate::machines::Machines;
 use crate::nodes::WRITERS;
 use crate::relay::Holds;
 use crate::site::Site;
-use crate::stand_bys::{LEASE, StandBys};
+use crate::stand_bys::{ClientLeases, LEASE, StandBys};
 use krl::Store;
 use krl_etcd::{Credentials, EtcdStore};
 use std::collections::BTreeMap;
 use std::error::Error;
-use std::path::Path;
+use std::path::{Path, PathBuf};
 use std::rc::Rc;
 use std::thread;
-use std::time::Duration;
+use std::time::{Duration, Instant};
 
 /// How long the clients go on after a fault.
 const PAUSE: Duration = Duration::from_secs(1);
+
+/// How often the drive looks whether a write was answered.
+const LOOK_AT_ANSWERS: Duration = Duration::from_millis(50);
 
 /// How long others write before a frozen server wakes up.
 const FROZEN: Duration = Duration::from_millis(700);
@@ -48,17 +51,24 @@ struct Told {
 type Done = Result<(), Box<dyn Error>>;
 
 struct Drive {
+    folder: PathBuf,
     servers: StandBys,
     told: Vec<Told>,
 }
 
 /// Drives servers of this program for so many rounds. `faults` names the faults that take turns.
-pub fn run(folder: &Path, rounds: usize, program: &Path, faults: &str, site: Site) -> Found {
+pub fn run(
+    folder: &Path,
+    rounds: usize,
+    (program, leases): (&Path, ClientLeases),
+    faults: &str,
+    site: Site,
+) -> Found {
     let faults = faults.split(',').map(str::parse).collect::<Result<Vec<Fault>, _>>()?;
     std::fs::create_dir_all(folder)?;
-    let servers = StandBys::start(folder, program, site)?;
+    let servers = StandBys::start(folder, (program, leases), site)?;
     let mut clients = Clients::start(folder, servers.addresses())?;
-    let mut drive = Drive { servers, told: Vec::new() };
+    let mut drive = Drive { folder: folder.to_path_buf(), servers, told: Vec::new() };
     let rounds_of_faults = faults.into_iter().cycle().take(rounds);
     // If no server serves any more, what was read until then is compared all the same.
     let failed = drive.break_all(rounds_of_faults, &mut clients).err();
@@ -92,6 +102,7 @@ impl Drive {
         thread::sleep(PAUSE);
         for (round, fault) in faults.enumerate() {
             self.round(round, fault)?;
+            self.wait_for_a_write()?;
             thread::sleep(PAUSE);
             if round % 3 == 1 {
                 clients.kill_next()?;
@@ -99,6 +110,19 @@ impl Drive {
             self.servers.all_run()?;
         }
         Ok(())
+    }
+
+    /// Waits until a write was answered that was begun from now on: by a server that serves, once
+    /// it has heard of each client, or has evicted it.
+    fn wait_for_a_write(&self) -> Done {
+        let (from, end) = (now(), Instant::now() + ENDING);
+        while Instant::now() < end {
+            if answers(&self.folder)?.iter().any(|(begun, _)| *begun > from) {
+                return Ok(());
+            }
+            thread::sleep(LOOK_AT_ANSWERS);
+        }
+        Err("no write is answered any more".into())
     }
 
     fn round(&mut self, round: usize, fault: Fault) -> Done {

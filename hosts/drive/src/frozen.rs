@@ -3,7 +3,7 @@
 use crate::Found;
 use crate::clients::ENDING;
 use crate::site::Site;
-use crate::stand_bys::{LEASE, StandBys};
+use crate::stand_bys::{ClientLeases, LEASE, StandBys};
 use krl::{Client, Servers, Value};
 use std::error::Error;
 use std::ops::Range;
@@ -15,7 +15,8 @@ const ROWS: u64 = 10;
 
 pub fn run(folder: &Path, rounds: u64, program: &Path, site: Site) -> Found {
     std::fs::create_dir_all(folder)?;
-    let mut servers = StandBys::start(folder, program, site)?;
+    // What the reader keeps has to outlive a server, and not a lease.
+    let mut servers = StandBys::start(folder, (program, ClientLeases::None), site)?;
     let writer = join(&servers, 1, folder)?;
     fill(&writer, 2 * rounds)?;
     writer.leave()?;

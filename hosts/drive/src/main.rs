@@ -5,7 +5,7 @@
 //! krl_drive beside FOLDER ROUNDS PROGRAM [direct|lossy]           half of the clients are PROGRAM's
 //! krl_drive leases FOLDER ROUNDS [direct|lossy]                  stops and kills clients with leases
 //! krl_drive takeover FOLDER ROUNDS                                kills who holds what another wants
-//! krl_drive failover FOLDER ROUNDS SERVER [FAULTS [here]]         breaks servers that stand by
+//! krl_drive failover FOLDER ROUNDS SERVER [FAULTS [HOW..]]        breaks servers that stand by
 //! krl_drive frozen FOLDER ROUNDS SERVER                           freezes servers of a reader
 //! krl_drive shards FOLDER SECONDS KILLS                           kills servers of two shards
 //! krl_drive strangers                                             connects what is no client
@@ -18,7 +18,8 @@
 //! ```
 //!
 //! FAULTS are names as `kill,freeze,cut`: see `fault.rs`. Each server of `failover` has a machine of
-//! its own, a network namespace, if this user can make one, and not if `here` is said.
+//! its own, a network namespace, if this user can make one, and not if one HOW is `here`. Its clients
+//! have leases, and not if one is `leaseless`.
 //!
 //! The status is 0 if all is well, 3 if something wrong was read or lost, and 1 if the
 //! drive itself failed.
@@ -27,6 +28,8 @@ mod bench_stores;
 mod certificates;
 mod clients;
 mod cluster;
+#[path = "../../postgres/tests/database/mod.rs"]
+mod database;
 mod failover;
 mod fault;
 mod ffi;
@@ -60,6 +63,7 @@ mod row {
 
 use cluster::NODES;
 use site::Site;
+use stand_bys::ClientLeases;
 use std::error::Error;
 use std::path::Path;
 use std::process::ExitCode;
@@ -100,14 +104,9 @@ fn run(words: &[&str]) -> Found {
         ["leases", folder, rounds] => leases::run(Path::new(folder), rounds.parse()?, "direct"),
         ["leases", folder, rounds, net] => leases::run(Path::new(folder), rounds.parse()?, net),
         ["takeover", folder, rounds] => takeover::run(Path::new(folder), rounds.parse()?),
-        ["failover", folder, rounds, server] => {
-            failover(folder, rounds, server, FAULTS, Site::best(NODES))
-        }
-        ["failover", folder, rounds, server, faults] => {
-            failover(folder, rounds, server, faults, Site::best(NODES))
-        }
-        ["failover", folder, rounds, server, faults, "here"] => {
-            failover(folder, rounds, server, faults, Site::Here)
+        ["failover", folder, rounds, server] => failover(folder, rounds, server, FAULTS, &[]),
+        ["failover", folder, rounds, server, faults, ref how @ ..] => {
+            failover(folder, rounds, server, faults, how)
         }
         ["frozen", folder, rounds, server] => {
             let site = Site::best(NODES);
@@ -139,6 +138,13 @@ fn run(words: &[&str]) -> Found {
     }
 }
 
-fn failover(folder: &str, rounds: &str, server: &str, faults: &str, site: Site) -> Found {
-    failover::run(Path::new(folder), rounds.parse()?, Path::new(server), faults, site)
+fn failover(folder: &str, rounds: &str, server: &str, faults: &str, how: &[&str]) -> Found {
+    if let Some(other) = how.iter().find(|word| !["here", "leaseless"].contains(word)) {
+        return Err(format!("failover is done here or leaseless, and not {other}").into());
+    }
+    let site = if how.contains(&"here") { Site::Here } else { Site::best(NODES) };
+    let is_leaseless = how.contains(&"leaseless");
+    let leases = if is_leaseless { ClientLeases::None } else { ClientLeases::Short };
+    let server = (Path::new(server), leases);
+    failover::run(Path::new(folder), rounds.parse()?, server, faults, site)
 }

@@ -18,6 +18,25 @@ use std::time::{Duration, Instant};
 /// How many seconds a server may be silent.
 pub const LEASE: u64 = 2;
 
+/// How long the leases of the clients are.
+#[derive(Clone, Copy, Debug)]
+pub enum ClientLeases {
+    /// As short as a server grants them.
+    Short,
+    /// There are none.
+    None,
+}
+
+impl ClientLeases {
+    /// The setting of a server that grants them.
+    fn setting(self) -> &'static str {
+        match self {
+            ClientLeases::Short => "2s",
+            ClientLeases::None => "off",
+        }
+    }
+}
+
 /// The port of a server on a machine of its own.
 const PORT: u16 = 7400;
 
@@ -30,6 +49,7 @@ const CONNECT: Duration = Duration::from_millis(100);
 pub struct StandBys {
     folder: PathBuf,
     program: PathBuf,
+    leases: ClientLeases,
     servers_at: Vec<SocketAddr>,
     relays: Vec<Relay>,
     servers: Vec<Process>,
@@ -39,7 +59,11 @@ pub struct StandBys {
 
 impl StandBys {
     /// Starts a cluster and servers of this program, whose logs are in the folder.
-    pub fn start(folder: &Path, program: &Path, site: Site) -> Result<StandBys, Box<dyn Error>> {
+    pub fn start(
+        folder: &Path,
+        (program, leases): (&Path, ClientLeases),
+        site: Site,
+    ) -> Result<StandBys, Box<dyn Error>> {
         let site = Rc::new(site);
         let cluster = Cluster::start(folder, Rc::clone(&site))?;
         let relay = |place| Relay::start(cluster.nodes(), site.entry(place));
@@ -48,6 +72,7 @@ impl StandBys {
         let mut all = StandBys {
             folder: folder.to_path_buf(),
             program: program.to_path_buf(),
+            leases,
             servers_at: servers_at.collect::<Result<_, _>>()?,
             relays,
             servers: Vec::new(),
@@ -69,7 +94,7 @@ impl StandBys {
         let mut command = self.site.command(place, &self.program);
         command.args(["serve", "--status", "off", "--election-lease", &LEASE.to_string()]);
         command.args(["--store", &store, "--listen", &plain(&self.servers_at[place])]);
-        command.args(["--plain-beyond-loopback", "yes", "--lease", "off"]);
+        command.args(["--plain-beyond-loopback", "yes", "--lease", self.leases.setting()]);
         Process::start(command.stderr(log).stdin(Stdio::null()))
     }
 

@@ -109,8 +109,8 @@ the epoch is 4294967296 greater than in the backup, so that no client has seen i
     Restore {
         /// The backup. It is only read, and no server may run on it
         file: PathBuf,
-        /// The new store: a file, or a place in a cluster as <etcd://10.0.0.1:2379/krl/orders>. What
-        /// exists is never replaced
+        /// The new store: a file, a place in a cluster as <etcd://10.0.0.1:2379/krl/orders>, or a
+        /// database as <postgres://krl@10.0.0.1/orders>. What exists is never replaced
         #[arg(long, value_name = "NEW", value_parser = StorePlace::parse)]
         store: StorePlace,
         /// Every client's process has ended
@@ -231,9 +231,9 @@ pub struct ServeOptions {
     pub tls: TlsOptions,
     #[command(flatten)]
     pub access: AccessOptions,
-    /// What keeps the table: a file of SQLite, which is made if there is none, or a cluster, as
-    /// etcd://10.0.0.1:2379,10.0.0.2:2379/krl/orders. Over a cluster several servers may run: one
-    /// serves, and the others stand by
+    /// What keeps the table: a file of SQLite, which is made if there is none; or a cluster, as
+    /// etcd://10.0.0.1:2379,10.0.0.2:2379/krl/orders, over which several servers may run: one
+    /// serves, and the others stand by; or a database, as <postgres://krl@10.0.0.1/orders>
     #[arg(long, env = "KRL_STORE", value_name = "STORE")]
     pub store: Option<String>,
     /// The certificate of the authority that certified the cluster's nodes, as PEM

@@ -5,6 +5,7 @@ use crate::settings::{BadSetting, StorePlace};
 use crate::stand_by;
 use krl::{END, LeaseRecord, Snapshot, SqliteStore};
 use krl_etcd::EtcdStore;
+use krl_postgres::PostgresStore;
 use std::error::Error;
 use std::path::Path;
 
@@ -25,7 +26,7 @@ pub fn restore(backup: &Path, store: &StorePlace, are_stopped: bool) -> Result<(
     }
     let file = match store {
         StorePlace::File(path) => Some(path.as_path()),
-        StorePlace::Etcd(_) => None,
+        StorePlace::Etcd(_) | StorePlace::Postgres(_) => None,
     };
     for path in [Some(backup), file].into_iter().flatten() {
         if let Some(by) = owner::served_by(path) {
@@ -44,6 +45,9 @@ pub fn restore(backup: &Path, store: &StorePlace, are_stopped: bool) -> Result<(
         StorePlace::File(path) => SqliteStore::create(path, &snapshot),
         StorePlace::Etcd(address) => {
             EtcdStore::create(address, &stand_by::credentials_of_environment(), &snapshot)
+        }
+        StorePlace::Postgres(address) => {
+            PostgresStore::create(address, stand_by::user().as_ref(), &snapshot)
         }
     };
     made.map_err(|error| cause(&error))?;

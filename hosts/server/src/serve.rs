@@ -6,6 +6,7 @@ use crate::role::Role;
 use crate::settings::{Settings, StatusAddress, StorePlace};
 use crate::{reload, stand_by, status_port};
 use krl::{Access, Listener, ServeError, Server, SqliteStore, Store};
+use krl_postgres::PostgresStore;
 use sd_notify::NotifyState;
 use signal_hook::consts::{SIGINT, SIGTERM};
 use signal_hook::flag::{register, register_conditional_shutdown};
@@ -53,6 +54,10 @@ fn run(settings: &Settings) -> Result<(), Box<dyn Error>> {
     match &settings.store.value {
         StorePlace::File(path) => serve_file(settings, path, &access, &signal, &role)?,
         StorePlace::Etcd(address) => stand_by::run(settings, address, &access, &signal, &role)?,
+        StorePlace::Postgres(address) => {
+            let store = PostgresStore::open(address, stand_by::user().as_ref())?;
+            serve_store(settings, store, &access, &signal, &role)?;
+        }
     }
     if let Some(signal) = signal.name() {
         tracing::info!(signal, "stopping");
@@ -68,11 +73,22 @@ fn serve_file(
     signal: &Signal,
     role: &Role,
 ) -> Result<(), Box<dyn Error>> {
-    let listen = &settings.listen.value;
-    let _owner = Owner::take(path, listen)?;
+    let _owner = Owner::take(path, &settings.listen.value)?;
     let store = SqliteStore::open(path).map_err(|error| {
         format!("the store {} can't be opened: {}", path.display(), cause(&error))
     })?;
+    serve_store(settings, store, access, signal, role)
+}
+
+/// Serves what a store has, until a signal comes. Nothing stands by: who loses the store ends.
+fn serve_store(
+    settings: &Settings,
+    store: impl Store + 'static,
+    access: &Access,
+    signal: &Signal,
+    role: &Role,
+) -> Result<(), Box<dyn Error>> {
+    let listen = &settings.listen.value;
     let listener = Listener::bind(listen)
         .map_err(|error| format!("can't listen for clients at {listen}: {error}"))?;
     let server = start(settings, listener, (store, access))?;

@@ -101,8 +101,8 @@ pub fn credentials_of_environment() -> Credentials {
     }
 }
 
-/// The user of etcd and the password, which stand in no command line and no file.
-fn user() -> Option<(String, String)> {
+/// The store's user and the password, which stand in no command line and no file.
+pub fn user() -> Option<(String, String)> {
     let password = std::env::var("KRL_STORE_PASSWORD").unwrap_or_default();
     std::env::var("KRL_STORE_USER").ok().map(|user| (user, password))
 }

@@ -73,7 +73,8 @@ pub const STORE: Key = Key {
     variable: "KRL_STORE",
     id: "store",
     default: "krl.db",
-    expected: "the path of a file, or etcd:// (etcds:// for TLS), endpoints and a prefix",
+    expected: "the path of a file; or etcd:// (etcds:// for TLS), endpoints and a prefix; or \
+               postgres://, a host and a database, without a password",
 };
 pub const STATUS: Key = Key {
     name: "status",

@@ -2,6 +2,7 @@
 use super::key;
 use krl::{Address, Identity, Leases, TableName};
 use krl_etcd::EtcdAddress;
+use krl_postgres::PostgresAddress;
 use std::fmt;
 use std::ops::RangeInclusive;
 use std::path::PathBuf;
@@ -21,6 +22,8 @@ pub enum StorePlace {
     File(PathBuf),
     /// A cluster of etcd.
     Etcd(EtcdAddress),
+    /// A database of PostgreSQL.
+    Postgres(PostgresAddress),
 }
 
 impl StorePlace {
@@ -98,6 +101,7 @@ pub fn parse_address(text: &str) -> Option<Address> {
 pub fn parse_store(text: &str) -> Option<StorePlace> {
     match text.split_once("://") {
         Some(("etcd" | "etcds", _)) => text.parse().ok().map(StorePlace::Etcd),
+        Some(("postgres" | "postgresql", _)) => text.parse().ok().map(StorePlace::Postgres),
         _ => (!text.is_empty()).then(|| StorePlace::File(text.into())),
     }
 }
@@ -191,6 +195,7 @@ impl fmt::Display for StorePlace {
         match self {
             StorePlace::File(path) => path.display().fmt(f),
             StorePlace::Etcd(address) => address.fmt(f),
+            StorePlace::Postgres(address) => address.fmt(f),
         }
     }
 }

@@ -1,0 +1,143 @@
+//! What one commit changes, as columns of the tables.
+use krl::{Change, LeaseRecord, Outcome, Record, Snapshot, Value, Write};
+use std::collections::{BTreeMap, BTreeSet};
+
+/// The outcomes by the number that stands for them. 0 stands for none.
+const OUTCOMES: [Outcome; 5] =
+    [Outcome::Applied, Outcome::Exists, Outcome::Absent, Outcome::NotHeld, Outcome::Full];
+
+/// Which rows and which clients changes concern.
+#[derive(Debug, Default)]
+struct Touched {
+    rows: BTreeMap<u64, Option<Value>>,
+    clients: BTreeSet<u8>,
+    leases: bool,
+    starts: bool,
+}
+
+/// The columns that a commit sets.
+#[derive(Debug, Default)]
+pub(crate) struct Batch {
+    pub put_keys: Vec<i64>,
+    pub put_values: Vec<Vec<u8>>,
+    pub deleted_keys: Vec<i64>,
+    /// `client, place, incarnation, last, outcome, has_left`.
+    pub clients: [Vec<i64>; 6],
+    /// What is known of leases, if that changes.
+    pub leases: Option<LeaseRecord>,
+    /// A server starts: the head of the one before is kept.
+    pub starts: bool,
+}
+
+impl Batch {
+    /// What the changes come to, that are in the snapshot already.
+    pub fn new(changes: &[Change], snapshot: &Snapshot) -> Batch {
+        let mut touched = Touched::default();
+        for change in changes {
+            touched.note(change);
+        }
+        let leases = touched.leases.then_some(snapshot.leases);
+        let mut batch = Batch { leases, starts: touched.starts, ..Batch::default() };
+        for (key, value) in touched.rows {
+            match value {
+                Some(value) => batch.put(key, value),
+                None => batch.deleted_keys.push(key.cast_signed()),
+            }
+        }
+        for (place, record) in (0..).zip(&snapshot.records) {
+            if touched.clients.contains(&record.client) {
+                batch.set_record(place, record);
+            }
+        }
+        batch
+    }
+
+    /// All that the snapshot has, for an empty database.
+    pub fn of_all(snapshot: &Snapshot) -> Batch {
+        let mut batch = Batch { leases: Some(snapshot.leases), ..Batch::default() };
+        snapshot.rows.iter().for_each(|(key, value)| batch.put(*key, *value));
+        (0..).zip(&snapshot.records).for_each(|(place, record)| batch.set_record(place, record));
+        batch
+    }
+
+    fn put(&mut self, key: u64, value: Value) {
+        self.put_keys.push(key.cast_signed());
+        self.put_values.push(value.as_bytes().to_vec());
+    }
+
+    fn set_record(&mut self, place: i64, record: &Record) {
+        let columns = self.clients.iter_mut().zip(fields(place, record));
+        columns.for_each(|(column, field)| column.push(field));
+    }
+}
+
+impl Touched {
+    fn note(&mut self, change: &Change) {
+        match *change {
+            Change::Started { .. } => self.starts = true,
+            Change::Registered { client, .. } | Change::Left { client } => {
+                self.clients.insert(client);
+            }
+            Change::Judged { client, write, outcome, .. } => {
+                self.clients.insert(client);
+                if outcome == Outcome::Applied {
+                    self.note_write(write);
+                }
+            }
+            Change::Leased(_) => self.leases = true,
+        }
+    }
+
+    fn note_write(&mut self, write: Write) {
+        match write {
+            Write::Insert(row) | Write::Put(row) => self.rows.insert(row.key, Some(row.value)),
+            Write::Delete(key) => self.rows.insert(key, None),
+        };
+    }
+}
+
+fn fields(place: i64, record: &Record) -> [i64; 6] {
+    let (last, outcome) = record.last.map_or((0, 0), |(last, outcome)| {
+        let number = (1..).zip(OUTCOMES).find(|(_, of)| *of == outcome);
+        (last.cast_signed(), number.map_or(0, |(number, _)| number))
+    });
+    let incarnation = record.incarnation.cast_signed();
+    [record.client.into(), place, incarnation, last, outcome, record.left.into()]
+}
+
+/// The record of `client, incarnation, last, outcome, has_left`, if it is one.
+pub(crate) fn record(fields: [i64; 5]) -> Option<Record> {
+    let [client, incarnation, last, outcome, has_left] = fields;
+    let outcome = match outcome {
+        0 => None,
+        number => Some(*OUTCOMES.get(usize::try_from(number).ok()? - 1)?),
+    };
+    Some(Record {
+        client: u8::try_from(client).ok().filter(|client| *client < 64)?,
+        incarnation: incarnation.cast_unsigned(),
+        last: outcome.map(|outcome| (last.cast_unsigned(), outcome)),
+        left: match has_left {
+            0 => false,
+            1 => true,
+            _ => return None,
+        },
+    })
+}
+
+#[cfg(test)]
+mod tests {
+    use super::*;
+
+    #[test]
+    fn records_are_read_as_they_are_written() {
+        for outcome in OUTCOMES.into_iter().map(Some).chain([None]) {
+            let last = outcome.map(|outcome| (u64::MAX, outcome));
+            let of = Record { client: 63, incarnation: u64::MAX, last, left: last.is_none() };
+            let [client, _, incarnation, last, outcome, has_left] = fields(7, &of);
+            assert_eq!(record([client, incarnation, last, outcome, has_left]), Some(of));
+        }
+        for fields in [[64, 1, 0, 0, 0], [1, 1, 0, 6, 0], [1, 1, 0, -1, 0], [1, 1, 0, 0, 2]] {
+            assert_eq!(record(fields), None, "{fields:?}");
+        }
+    }
+}

@@ -1,0 +1,28 @@
+//! A store of krl in PostgreSQL.
+//!
+//! Each commit compares one row, the head, and sets it anew in one statement with what it changes.
+//! Of two servers that both believe to serve, the older one's first change is refused, and it ends.
+//!
+//! **The store is only as safe as the failover of the database.** A replica that is promoted and
+//! lacks a transaction that was answered takes that back, and the epoch may fall: then nothing that
+//! krl promises holds. See [`PostgresStore`].
+mod address;
+mod batch;
+mod head;
+mod link;
+mod sql;
+mod store;
+
+#[cfg(test)]
+extern crate self as krl_postgres;
+
+#[cfg(test)]
+#[path = "../tests/database/mod.rs"]
+mod database;
+
+#[cfg(test)]
+#[path = "../../drive/src/ports.rs"]
+mod ports;
+
+pub use address::{BadPostgresAddress, PostgresAddress};
+pub use store::PostgresStore;

@@ -1,0 +1,254 @@
+//! A connection to the database, which is made anew when it ends.
+use crate::batch::Batch;
+use crate::head::Head;
+use crate::sql;
+use std::fmt;
+use std::thread;
+use std::time::{Duration, Instant};
+use tokio::runtime::{Builder, Runtime};
+use tokio_postgres::error::SqlState;
+use tokio_postgres::types::ToSql;
+use tokio_postgres::{Client, Config, Error, IsolationLevel, NoTls, Row, Statement};
+
+/// The pause before another attempt.
+const PAUSE: Duration = Duration::from_millis(50);
+
+/// Why something was not done.
+#[derive(Debug)]
+pub(crate) enum Failure {
+    /// It may be done or not, or may still be.
+    Unknown(String),
+    /// It is not done.
+    Refused(String),
+}
+
+/// All that is stored, as it was at one moment.
+pub(crate) struct Loaded {
+    /// Whether the database writes to the disk what it says to have written.
+    pub is_safe: bool,
+    pub head: Row,
+    pub starts: Vec<Row>,
+    pub entries: Vec<Row>,
+    pub clients: Vec<Row>,
+    pub leases: Row,
+}
+
+pub(crate) struct Link {
+    runtime: Runtime,
+    config: Config,
+    session: Option<Session>,
+}
+
+/// A connection, with what is asked often.
+struct Session {
+    client: Client,
+    commit: Statement,
+    confirm: Statement,
+}
+
+impl Link {
+    pub fn new(config: Config) -> std::io::Result<Link> {
+        let runtime = Builder::new_current_thread().enable_all().build()?;
+        Ok(Link { runtime, config, session: None })
+    }
+
+    /// Loads all.
+    pub fn load(&mut self, end: Instant) -> Result<Loaded, Failure> {
+        self.again(end, |link| {
+            link.ask(end, async |session: &mut Session| load(&mut session.client).await)
+        })
+    }
+
+    /// Commits what the batch sets, and `next` as the head, if the head is `last`. It answers the
+    /// head as it stands then.
+    pub fn commit(
+        &mut self,
+        last: &Head,
+        next: &Head,
+        batch: &Batch,
+        end: Instant,
+    ) -> Result<Option<Head>, Failure> {
+        self.again(end, |link| {
+            link.ask(end, async |session: &mut Session| commit(session, last, next, batch).await)
+        })
+    }
+
+    /// The head as it stands, on every machine that a commit comes to.
+    pub fn confirm(&mut self, head: &Head, end: Instant) -> Result<Option<Head>, Failure> {
+        self.again(end, |link| {
+            link.ask(end, async |session: &mut Session| confirm(session, head).await)
+        })
+    }
+
+    /// The value of a setting of the session.
+    #[cfg(test)]
+    pub fn setting(&mut self, name: &str, end: Instant) -> Result<String, Failure> {
+        self.ask(end, async |session: &mut Session| {
+            session.client.query_one("SELECT current_setting($1)", &[&name]).await?.try_get(0)
+        })
+    }
+
+    /// Does something that may be done more than once, until it is answered or the time is over.
+    fn again<T>(
+        &mut self,
+        end: Instant,
+        mut what: impl FnMut(&mut Link) -> Result<T, Failure>,
+    ) -> Result<T, Failure> {
+        loop {
+            match what(self) {
+                Err(Failure::Unknown(_)) if Instant::now() + PAUSE < end => thread::sleep(PAUSE),
+                ended => return ended,
+            }
+        }
+    }
+
+    /// Asks once. A connection whose question was not answered is given up.
+    fn ask<T>(
+        &mut self,
+        end: Instant,
+        what: impl AsyncFnOnce(&mut Session) -> Result<T, Error>,
+    ) -> Result<T, Failure> {
+        let left = end.saturating_duration_since(Instant::now());
+        let session = self.session.take().filter(|session| !session.client.is_closed());
+        let asked = self.runtime.block_on(async {
+            let asking = async {
+                let mut session = match session {
+                    Some(session) => session,
+                    None => connect(&self.config).await?,
+                };
+                let answer = what(&mut session).await?;
+                Ok::<_, Error>((session, answer))
+            };
+            tokio::time::timeout(left, asking).await
+        });
+        match asked {
+            Ok(Ok((session, answer))) => {
+                self.session = Some(session);
+                Ok(answer)
+            }
+            Ok(Err(error)) => Err(Failure::of(&error)),
+            Err(_) => Err(Failure::Unknown("no answer came in time".to_string())),
+        }
+    }
+}
+
+/// Connects, and makes the tables, unless they are there.
+async fn connect(config: &Config) -> Result<Session, Error> {
+    let (client, connection) = config.connect(NoTls).await?;
+    tokio::spawn(connection);
+    client.batch_execute(sql::SESSION).await?;
+    client.batch_execute(sql::TABLES).await?;
+    let (commit, confirm) =
+        (client.prepare(sql::COMMIT).await?, client.prepare(sql::CONFIRM).await?);
+    Ok(Session { client, commit, confirm })
+}
+
+async fn load(client: &mut Client) -> Result<Loaded, Error> {
+    let all = client.build_transaction().isolation_level(IsolationLevel::RepeatableRead);
+    let all = all.read_only(true).start().await?;
+    let loaded = Loaded {
+        is_safe: all.query_one(sql::IS_SAFE, &[]).await?.try_get(0)?,
+        head: all.query_one(sql::HEAD, &[]).await?,
+        starts: all.query(sql::STARTS, &[]).await?,
+        entries: all.query(sql::ENTRIES, &[]).await?,
+        clients: all.query(sql::CLIENTS, &[]).await?,
+        leases: all.query_one(sql::LEASES, &[]).await?,
+    };
+    all.commit().await?;
+    Ok(loaded)
+}
+
+async fn commit(
+    session: &Session,
+    last: &Head,
+    next: &Head,
+    batch: &Batch,
+) -> Result<Option<Head>, Error> {
+    let ([epoch, transaction, commits], owner) = columns(next);
+    let ([last_epoch, last_transaction, last_commits], last_owner) = columns(last);
+    let keeps_last = batch.starts && last.owner != 0;
+    let [clients, places, incarnations, lasts, outcomes, have_left] = &batch.clients;
+    let leases = batch.leases.unwrap_or_default();
+    let (longest, unleased) = (leases.longest.cast_signed(), leases.unleased.bits().cast_signed());
+    let values: [&(dyn ToSql + Sync); 21] = [
+        &epoch,
+        &owner,
+        &transaction,
+        &commits,
+        &last_epoch,
+        &last_owner,
+        &last_transaction,
+        &last_commits,
+        &keeps_last,
+        &batch.put_keys,
+        &batch.put_values,
+        &batch.deleted_keys,
+        clients,
+        places,
+        incarnations,
+        lasts,
+        outcomes,
+        have_left,
+        &batch.leases.is_some(),
+        &longest,
+        &unleased,
+    ];
+    let count: i64 = session.client.query_one(&session.commit, &values).await?.try_get(0)?;
+    // An attempt whose answer was lost may have set it. Then the replicas may still lack it.
+    if count == 1 { Ok(Some(*next)) } else { confirm(session, next).await }
+}
+
+/// The head as it stands. If it is the one that is expected, the replicas have it too.
+async fn confirm(session: &Session, expected: &Head) -> Result<Option<Head>, Error> {
+    let ([epoch, transaction, commits], owner) = columns(expected);
+    let values: [&(dyn ToSql + Sync); 4] = [&epoch, &owner, &transaction, &commits];
+    let count: i64 = session.client.query_one(&session.confirm, &values).await?.try_get(0)?;
+    if count == 1 { Ok(Some(*expected)) } else { head(&session.client).await }
+}
+
+async fn head(client: &Client) -> Result<Option<Head>, Error> {
+    Ok(Head::of(&client.query_one(sql::HEAD, &[]).await?))
+}
+
+/// `epoch, transaction, commits`, and the owner.
+fn columns(head: &Head) -> ([i64; 3], String) {
+    let numbers = [head.epoch, head.transaction, head.commits].map(u64::cast_signed);
+    (numbers, head.owner_text())
+}
+
+impl Failure {
+    fn of(error: &Error) -> Failure {
+        let Some(told) = error.as_db_error() else {
+            return Failure::Unknown(error.to_string());
+        };
+        let why = format!("{}: {}", told.severity(), told.message());
+        if leaves_it_open(told.code()) { Failure::Unknown(why) } else { Failure::Refused(why) }
+    }
+}
+
+/// Whether an error of the database says nothing of what was asked, or passes by itself: the server
+/// ends or starts, is a replica, has no connection left, or two transactions met.
+fn leaves_it_open(code: &SqlState) -> bool {
+    let code = code.code();
+    ["08", "40", "53", "57P", "25006"].iter().any(|class| code.starts_with(class))
+}
+
+impl fmt::Display for Failure {
+    fn fmt(&self, f: &mut fmt::Formatter<'_>) -> fmt::Result {
+        let (Failure::Unknown(why) | Failure::Refused(why)) = self;
+        f.write_str(why)
+    }
+}
+
+#[cfg(test)]
+mod tests {
+    use super::*;
+
+    #[test]
+    fn some_errors_leave_open_what_was_done() {
+        let open = ["08006", "40001", "53300", "57P01", "57P03", "25006"];
+        assert!(open.iter().all(|code| leaves_it_open(&SqlState::from_code(code))));
+        let sure = ["28P01", "3D000", "42501", "22P02", "57014"];
+        assert!(!sure.iter().any(|code| leaves_it_open(&SqlState::from_code(code))));
+    }
+}

@@ -1,0 +1,194 @@
+//! A server of PostgreSQL with an empty database, for tests.
+#![allow(dead_code, reason = "each test uses a part of it")]
+use crate::ports;
+use krl_postgres::PostgresAddress;
+use std::net::SocketAddr;
+use std::path::{Path, PathBuf};
+use std::process::{Child, Command, Stdio};
+use std::sync::atomic::{AtomicU32, Ordering};
+use std::thread;
+use std::time::{Duration, Instant};
+
+/// Where Debian and others have its programs.
+const PROGRAMS: &str = "/usr/lib/postgresql";
+
+/// The user whom the server runs as if this process is root's: it refuses root.
+const USER: &str = "postgres";
+
+/// A server that runs until this is dropped.
+pub struct Database {
+    server: Child,
+    folder: PathBuf,
+    at: SocketAddr,
+}
+
+static COUNT: AtomicU32 = AtomicU32::new(0);
+
+impl Database {
+    /// A new server, or none if PostgreSQL is not there.
+    pub fn start() -> Option<Database> {
+        Database::start_with(&[])
+    }
+
+    /// One with these settings, as `fsync=off`.
+    pub fn start_with(settings: &[&str]) -> Option<Database> {
+        let Some(programs) = programs() else {
+            eprintln!("NOT RUN: there is no PostgreSQL");
+            return None;
+        };
+        // Another process may take a free address before the server does.
+        let started = (0..5).find_map(|_| Database::start_once(&programs, settings));
+        Some(started.expect("PostgreSQL ends again and again"))
+    }
+
+    fn start_once(programs: &Path, settings: &[&str]) -> Option<Database> {
+        let count = COUNT.fetch_add(1, Ordering::Relaxed);
+        let name = format!("krl-postgres-{}-{count}", std::process::id());
+        let folder = std::env::temp_dir().join(name);
+        std::fs::create_dir_all(&folder).unwrap();
+        if is_root() {
+            let owned = Command::new("chown").arg(USER).arg(&folder).status();
+            assert!(owned.unwrap().success());
+        }
+        let data = folder.join("data");
+        let mut init = program(&programs.join("initdb"));
+        init.arg("--pgdata").arg(&data).args(["--username", "krl", "--auth", "trust"]);
+        init.args(["--no-sync", "--encoding", "UTF8", "--locale", "C"]);
+        assert!(init.stdout(Stdio::null()).stderr(Stdio::null()).status().unwrap().success());
+        let at = ports::free_address().unwrap();
+        let mut command = program(&programs.join("postgres"));
+        command.arg("-D").arg(&data).args(["-h", "127.0.0.1", "-k", ""]);
+        command.args(["-p", &at.port().to_string()]);
+        command.args(settings.iter().flat_map(|setting| ["-c", setting]));
+        let server = command.stdout(Stdio::null()).stderr(Stdio::null()).spawn().unwrap();
+        Database { server, folder, at }.answers()
+    }
+
+    /// This server, once it answers, or none if it has ended.
+    fn answers(mut self) -> Option<Database> {
+        let end = Instant::now() + Duration::from_secs(60);
+        let runtime = tokio::runtime::Builder::new_current_thread().enable_all().build().unwrap();
+        let text = self.address().to_string();
+        let answers = || {
+            let connecting = tokio_postgres::connect(&text, tokio_postgres::NoTls);
+            runtime.block_on(connecting).is_ok()
+        };
+        while !answers() {
+            if self.server.try_wait().unwrap().is_some() {
+                return None;
+            }
+            assert!(Instant::now() < end, "PostgreSQL does not answer");
+            thread::sleep(Duration::from_millis(20));
+        }
+        Some(self)
+    }
+
+    /// Where the table is.
+    pub fn address(&self) -> PostgresAddress {
+        address_at(self.at)
+    }
+
+    /// The server's own address, for a relay to it.
+    pub fn at(&self) -> SocketAddr {
+        self.at
+    }
+
+    /// A connection of its own.
+    pub fn connect(&self) -> Sql {
+        let runtime = tokio::runtime::Builder::new_current_thread().enable_all().build().unwrap();
+        let text = self.address().to_string();
+        let (client, connection) =
+            runtime.block_on(tokio_postgres::connect(&text, tokio_postgres::NoTls)).unwrap();
+        runtime.spawn(connection);
+        Sql { client, runtime }
+    }
+
+    /// Waits until so many statements wait for a lock.
+    pub fn wait_for_waiting(&self, count: i64) {
+        let asked = "SELECT count(*) FROM pg_stat_activity WHERE wait_event_type = 'Lock'";
+        self.connect().wait_until(asked, count);
+    }
+
+    /// Ends the server as an operator does, and waits until it has ended.
+    pub fn stop(&mut self) {
+        self.end("-INT");
+    }
+
+    fn end(&mut self, signal: &str) {
+        if self.server.try_wait().is_ok_and(|ended| ended.is_some()) {
+            return;
+        }
+        let status = Command::new("kill").args([signal, &self.server.id().to_string()]).status();
+        assert!(status.unwrap().success());
+        let end = Instant::now() + Duration::from_secs(60);
+        while self.server.try_wait().is_ok_and(|ended| ended.is_none()) && Instant::now() < end {
+            thread::sleep(Duration::from_millis(10));
+        }
+    }
+}
+
+impl Drop for Database {
+    fn drop(&mut self) {
+        // At once, whoever is connected.
+        self.end("-QUIT");
+        let _ = self.server.kill();
+        let _ = self.server.wait();
+        let _ = std::fs::remove_dir_all(&self.folder);
+    }
+}
+
+/// A connection that runs statements.
+pub struct Sql {
+    client: tokio_postgres::Client,
+    runtime: tokio::runtime::Runtime,
+}
+
+impl Sql {
+    /// Runs statements that answer nothing.
+    pub fn run(&self, statements: &str) {
+        self.runtime.block_on(self.client.batch_execute(statements)).unwrap();
+    }
+
+    /// Asks again and again until the one number of the answer is this one.
+    pub fn wait_until(&self, asked: &str, expected: i64) {
+        let end = Instant::now() + Duration::from_secs(60);
+        loop {
+            let row = self.runtime.block_on(self.client.query_one(asked, &[])).unwrap();
+            if row.get::<_, i64>(0) == expected {
+                return;
+            }
+            assert!(Instant::now() < end, "{asked}: {row:?}");
+            thread::sleep(Duration::from_millis(10));
+        }
+    }
+}
+
+/// The table of the server that is reached there.
+pub fn address_at(at: SocketAddr) -> PostgresAddress {
+    format!("postgres://krl@{at}/postgres").parse().unwrap()
+}
+
+/// The folder of the newest version's programs.
+fn programs() -> Option<PathBuf> {
+    let versions = std::fs::read_dir(PROGRAMS).ok()?;
+    let folders = versions.flatten().map(|version| version.path().join("bin"));
+    folders.filter(|folder| folder.join("postgres").exists()).max()
+}
+
+fn is_root() -> bool {
+    let id = Command::new("id").arg("-u").output();
+    id.is_ok_and(|output| output.stdout.starts_with(b"0"))
+}
+
+/// The program, as a user whom PostgreSQL takes, in a folder that this user may enter.
+fn program(path: &Path) -> Command {
+    let mut command = if is_root() {
+        let mut command = Command::new("setpriv");
+        command.args(["--reuid", USER, "--regid", USER, "--init-groups", "--"]).arg(path);
+        command
+    } else {
+        Command::new(path)
+    };
+    command.current_dir("/");
+    command
+}

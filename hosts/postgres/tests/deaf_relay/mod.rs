@@ -1,0 +1,90 @@
+//! A relay to the database, which can lose what the database answers.
+use std::io::{Read, Write};
+use std::net::{Ipv4Addr, Shutdown, SocketAddr, TcpListener, TcpStream};
+use std::sync::Arc;
+use std::sync::atomic::{AtomicBool, AtomicU8, Ordering};
+use std::thread;
+
+const KEEPS: u8 = 0;
+const LOSES_NEXT: u8 = 1;
+const LOSES_ALL: u8 = 2;
+
+/// What connections share.
+#[derive(Default)]
+struct Shared {
+    loses: AtomicU8,
+    has_lost: AtomicBool,
+}
+
+/// A relay. It ends with the process.
+pub struct DeafRelay {
+    at: SocketAddr,
+    shared: Arc<Shared>,
+}
+
+impl DeafRelay {
+    pub fn start(database: SocketAddr) -> DeafRelay {
+        let listener = TcpListener::bind((Ipv4Addr::LOCALHOST, 0)).unwrap();
+        let (at, shared) = (listener.local_addr().unwrap(), Arc::new(Shared::default()));
+        let relay = DeafRelay { at, shared: Arc::clone(&shared) };
+        thread::spawn(move || {
+            for client in listener.incoming().flatten() {
+                // A database that has ended takes no connection: the client sees its own end.
+                let Ok(server) = TcpStream::connect(database) else { continue };
+                join(client, server, &shared);
+            }
+        });
+        relay
+    }
+
+    pub fn address(&self) -> SocketAddr {
+        self.at
+    }
+
+    /// The next answer gets lost, and its connection ends.
+    pub fn lose_next_answer(&self) {
+        self.shared.loses.store(LOSES_NEXT, Ordering::SeqCst);
+    }
+
+    /// From now on each answer gets lost, and its connection ends.
+    pub fn lose_all_answers(&self) {
+        self.shared.loses.store(LOSES_ALL, Ordering::SeqCst);
+    }
+
+    pub fn has_lost(&self) -> bool {
+        self.shared.has_lost.load(Ordering::SeqCst)
+    }
+}
+
+impl Shared {
+    /// Whether an answer that came just now gets lost.
+    fn loses_this(&self) -> bool {
+        let next =
+            self.loses.compare_exchange(LOSES_NEXT, KEEPS, Ordering::SeqCst, Ordering::SeqCst);
+        let loses = next.is_ok() || next == Err(LOSES_ALL);
+        self.has_lost.fetch_or(loses, Ordering::SeqCst);
+        loses
+    }
+}
+
+/// Passes on what either side sends, until one ends.
+fn join(client: TcpStream, server: TcpStream, shared: &Arc<Shared>) {
+    let (asks, answers) = (client.try_clone().unwrap(), server.try_clone().unwrap());
+    let shared = Arc::clone(shared);
+    thread::spawn(move || pass(asks, server, || false));
+    thread::spawn(move || pass(answers, client, || shared.loses_this()));
+}
+
+/// Passes bytes on until there are no more, or some get lost. Both connections end then.
+fn pass(mut from: TcpStream, mut to: TcpStream, loses: impl Fn() -> bool) {
+    let mut bytes = [0; 16 * 1024];
+    loop {
+        let count = from.read(&mut bytes).unwrap_or(0);
+        if count == 0 || loses() || to.write_all(&bytes[..count]).is_err() {
+            break;
+        }
+    }
+    // One of them may have ended already.
+    let _ = from.shutdown(Shutdown::Both);
+    let _ = to.shutdown(Shutdown::Both);
+}

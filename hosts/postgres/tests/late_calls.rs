@@ -1,0 +1,108 @@
+//! Commits that wait for one another, that come late, and whose answers get lost. They start a
+//! server of PostgreSQL.
+mod database;
+mod deaf_relay;
+#[path = "../../drive/src/ports.rs"]
+mod ports;
+
+use database::{Database, address_at};
+use deaf_relay::DeafRelay;
+use krl::{Change, Outcome, Row, Store, StoreError, Value, Write};
+use krl_postgres::{PostgresAddress, PostgresStore};
+use std::thread;
+use std::time::Duration;
+
+/// Lets everybody wait who wants to change the head, until the transaction ends.
+const LOCK_HEAD: &str = "BEGIN; SELECT * FROM krl.head FOR UPDATE;";
+
+/// What a server of another epoch does as it starts.
+const START: &str = "UPDATE krl.head SET epoch = 2, owner = repeat('a', 32), transaction = 1,
+    commits = 1;";
+
+fn loaded(address: &PostgresAddress) -> PostgresStore {
+    let mut store = PostgresStore::open(address, None).unwrap();
+    store.load().unwrap();
+    store
+}
+
+/// What begins a table: a server of epoch 1, and a client.
+fn begin() -> [Change; 2] {
+    [Change::Started { epoch: 1 }, Change::Registered { client: 9, incarnation: 1 }]
+}
+
+fn put(number: u64, value: u64) -> Change {
+    let write = Write::Put(Row { key: 10, value: value.into() });
+    Change::Judged { client: 9, number, write, outcome: Outcome::Applied }
+}
+
+fn value_of(database: &Database) -> Option<u64> {
+    let mut store = PostgresStore::open(&database.address(), None).unwrap();
+    store.load().unwrap().rows.get(&10).and_then(Value::to_u64)
+}
+
+fn is_deposed(committed: &Result<(), StoreError>) -> bool {
+    matches!(committed, Err(StoreError::Deposed(_)))
+}
+
+#[test]
+fn of_two_commits_that_wait_for_the_head_one_is_made() {
+    let Some(database) = Database::start() else { return };
+    let mut old = loaded(&database.address()).with_commit_timeout(Duration::from_secs(60));
+    old.commit(&begin()).unwrap();
+    let mut new = loaded(&database.address()).with_commit_timeout(Duration::from_secs(60));
+    let sql = database.connect();
+    sql.run(LOCK_HEAD);
+    let (old, new) = thread::scope(|scope| {
+        let old = scope.spawn(|| old.commit(&[put(1, 1)]));
+        let new = scope.spawn(|| new.commit(&[Change::Started { epoch: 2 }]));
+        database.wait_for_waiting(2);
+        sql.run("COMMIT");
+        (old.join().unwrap(), new.join().unwrap())
+    });
+    assert!(is_deposed(&old) ^ is_deposed(&new), "{old:?}, {new:?}");
+    assert!(old.is_ok() ^ new.is_ok(), "{old:?}, {new:?}");
+    assert_eq!(value_of(&database), old.is_ok().then_some(1));
+}
+
+#[test]
+fn a_commit_that_comes_behind_another_start_is_not_made() {
+    let Some(database) = Database::start() else { return };
+    let mut old = loaded(&database.address()).with_commit_timeout(Duration::from_millis(300));
+    old.commit(&begin()).unwrap();
+    let sql = database.connect();
+    sql.run(LOCK_HEAD);
+    let lost = old.commit(&[put(1, 1)]);
+    assert!(matches!(lost, Err(StoreError::Unanswered(_))), "{lost:?}");
+    database.wait_for_waiting(1);
+    sql.run(START);
+    sql.run("COMMIT");
+    database.wait_for_waiting(0);
+    assert_eq!(value_of(&database), None);
+}
+
+#[test]
+fn a_commit_whose_answer_got_lost_is_found_to_be_made() {
+    let Some(database) = Database::start() else { return };
+    let relay = DeafRelay::start(database.at());
+    let mut store = loaded(&address_at(relay.address()));
+    store.commit(&begin()).unwrap();
+    relay.lose_next_answer();
+    store.commit(&[put(1, 1)]).unwrap();
+    assert!(relay.has_lost());
+    store.commit(&[put(2, 2)]).unwrap();
+    assert_eq!(value_of(&database), Some(2));
+}
+
+#[test]
+fn a_commit_whose_answer_got_lost_is_told_as_unknown_if_the_database_is_gone() {
+    let Some(mut database) = Database::start() else { return };
+    let relay = DeafRelay::start(database.at());
+    let store = loaded(&address_at(relay.address()));
+    let mut store = store.with_commit_timeout(Duration::from_secs(2));
+    store.commit(&begin()).unwrap();
+    relay.lose_all_answers();
+    let lost = store.commit(&[put(1, 1)]);
+    database.stop();
+    assert!(matches!(lost, Err(StoreError::Unanswered(_))), "{lost:?}");
+    assert!(relay.has_lost());
+}
