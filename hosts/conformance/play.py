@@ -28,8 +28,18 @@ PATIENCE = float(os.environ.get("KRL_PATIENCE", "30"))
 """How many seconds a step waits, and the client's calls."""
 
 LENGTH = 8
-REASONS = ("Version", "ClientNumber", "Incarnation", "Full", "Missing")
-HOST_KINDS = {"Hello": 16, "Refused": 17, "Mark": 18, "WentBack": 19}
+REASONS = (
+    "Version",
+    "ClientNumber",
+    "Incarnation",
+    "Full",
+    "Missing",
+    "LeaseRuns",
+    "Denied",
+    "OtherShard",
+)
+HOST_KINDS = {"Hello": 16, "Refused": 17, "Mark": 18, "WentBack": 19, "Shard": 22}
+SHARD = ("first", "end", "version")
 
 
 class Failed(Exception):
@@ -44,8 +54,11 @@ def fail(why: str) -> NoReturn:
 def host_frame(said: dict[str, Any]) -> bytes:
     """A frame of a server's host."""
     head = bytes([0, HOST_KINDS[said["host"]]])
+    if said["host"] == "Shard":
+        return head + b"".join(said[name].to_bytes(8, "little") for name in SHARD)
     if said["host"] == "Refused":
-        numbers = (said["first"], said["second"])
+        # What a shard refuses has a third number.
+        numbers = [said[name] for name in ("first", "second", "version") if name in said]
         reason = bytes([REASONS.index(said["reason"])])
         return head + reason + b"".join(number.to_bytes(8, "little") for number in numbers)
     return head + bytes.fromhex(said.get("mark", ""))
@@ -55,6 +68,9 @@ def read_frame(frame: bytes) -> dict[str, Any]:
     """What a client says."""
     if frame[:2] == b"\0\0":
         return {"host": "Hello", "mark": frame[2:].hex() or None}
+    if frame[:2] == b"\0\2":
+        numbers = (int.from_bytes(frame[at : at + 8], "little") for at in (2, 10, 18))
+        return {"host": "Shard", **dict(zip(SHARD, numbers, strict=True))}
     try:
         return decode(frame)
     except (ValueError, IndexError, KeyError) as error:

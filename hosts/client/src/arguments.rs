@@ -34,6 +34,10 @@ eight commands run at once. Lock files in $XDG_STATE_HOME/krl, or
 ~/.local/state/krl, tell which are free. So keep these eight numbers for one
 user of one machine, and give --number, or KRL_NUMBER, to others, as 40-47.
 
+A table of several servers is named by --map FILE, or KRL_MAP, in place of
+--server. The file has a line version = N, and for each shard a table [[shard]]
+with first, its first key, and servers, its addresses.
+
 Without a command it is a prompt; lines from a pipe or a file are run until the
 first one fails.
 
@@ -51,10 +55,11 @@ Examples:
   krl-client insert 15 one
   krl-client scan 10 20
   krl-client watch 10..20 --count 1
+  krl-client --map map.toml scan ..
   krl-client hold 10..20 --update -- ./rebuild.sh
   krl-client bench --clients 4 --seconds 5";
 
-/// Reads, writes, watches and holds ranges of a krl server.
+/// Reads, writes, watches and holds ranges of a krl server, or of the servers of a map.
 #[derive(Debug, Parser)]
 #[command(name = "krl-client", version, after_help = HELP, disable_help_subcommand = true)]
 pub struct Arguments {
@@ -77,6 +82,9 @@ pub struct Options {
         default_value = "127.0.0.1:7400"
     )]
     pub server: Servers,
+    /// A file that tells which servers have which keys, in place of one server
+    #[arg(long, global = true, env = "KRL_MAP", value_name = "FILE")]
+    pub map: Option<PathBuf>,
     /// By TLS: the certificate of the authority that certified the server, as PEM
     #[arg(
         long,
@@ -138,9 +146,8 @@ pub struct Options {
 }
 
 impl Options {
-    /// Where the server is, with what is shown to it.
-    pub fn servers(&self) -> Result<Servers, Failure> {
-        let servers = self.server.clone();
+    /// The servers, with what is shown to them.
+    pub fn with_tls(&self, servers: Servers) -> Result<Servers, Failure> {
         let (Some(authority), Some(certificate), Some(key)) =
             (&self.tls_authority, &self.tls_certificate, &self.tls_key)
         else {
@@ -230,7 +237,7 @@ pub enum ClientCommand {
         /// The key
         key: String,
     },
-    /// Tells how long the server takes to answer: it reads the greatest key
+    /// Tells how long each server takes to answer: it reads the greatest key there
     Ping,
     /// Prints a range, and again whenever it changes, until Ctrl-C
     Watch {

@@ -7,11 +7,11 @@ use crate::arguments::{BenchWords, Options};
 use crate::failure::Failure;
 use crate::session::Session;
 use crate::signals::{Signals, Taken};
-use krl::{Client, END, Outcome};
+use crate::table::Table;
+use krl::{END, Outcome, Row};
 use rand::SeedableRng;
 use rand::rngs::StdRng;
 use std::ops::Range;
-use std::sync::Arc;
 use std::thread;
 use std::time::{Duration, Instant};
 use workload::{Measured, Span, Worker, random_value};
@@ -22,7 +22,7 @@ pub fn run(options: &Options, words: &BenchWords, signals: &Signals) -> Result<u
     refuse_clients(options, words)?;
     let sessions = Session::join_some(options, usize::from(words.clients))?;
     for session in &sessions {
-        signals.ends(&session.client);
+        signals.ends(&session.table);
     }
     let taken = signals.to_loop();
     let ended = measure_all(&sessions, &keys, words, &taken);
@@ -72,7 +72,7 @@ fn measure_all(
     words: &BenchWords,
     signals: &Taken<'_>,
 ) -> Result<(Measured, Duration), Failure> {
-    let maker = sessions.first().map(|session| &session.client);
+    let maker = sessions.first().map(|session| &session.table);
     let maker = maker.ok_or_else(|| Failure::Usage("a benchmark needs a client".into()))?;
     refuse_rows(maker, keys)?;
     let mut made = keys.start..keys.start;
@@ -85,8 +85,8 @@ fn measure_all(
 }
 
 /// A benchmark overwrites nobody's rows.
-fn refuse_rows(client: &Client, keys: &Range<u64>) -> Result<(), Failure> {
-    if client.read(keys.clone())?.is_empty() {
+fn refuse_rows(table: &Table, keys: &Range<u64>) -> Result<(), Failure> {
+    if table.read(keys.clone())?.is_empty() {
         return Ok(());
     }
     Err(Failure::Refused(format!(
@@ -99,7 +99,7 @@ fn refuse_rows(client: &Client, keys: &Range<u64>) -> Result<(), Failure> {
 
 /// Makes the rows, and says the keys of those that it has made.
 fn make_rows(
-    client: &Client,
+    table: &Table,
     keys: &Range<u64>,
     value_size: u8,
     made: &mut Range<u64>,
@@ -110,18 +110,19 @@ fn make_rows(
         if signals.is_ended() {
             break;
         }
-        let outcome = client.insert(key, random_value(&mut random, value_size))?;
+        let row = Row { key, value: random_value(&mut random, value_size) };
+        let outcome = table.insert(&row)?;
         if outcome != Outcome::Applied {
             return Err(Failure::Refused(format!("the row of key {key} can't be made: {outcome}")));
         }
         made.end = key + 1;
     }
     // Each client begins with an empty cache.
-    Ok(client.forget(keys.clone())?)
+    Ok(table.forget(keys.clone())?)
 }
 
-fn delete_rows(client: &Client, mut made: Range<u64>) -> Result<(), Failure> {
-    made.try_for_each(|key| client.delete(key).map(drop))?;
+fn delete_rows(table: &Table, mut made: Range<u64>) -> Result<(), Failure> {
+    made.try_for_each(|key| table.delete(key).map(drop))?;
     Ok(())
 }
 
@@ -134,10 +135,10 @@ fn measure(
     signals: &Taken<'_>,
 ) -> Result<(Measured, Duration), Failure> {
     let span = Span::from(Instant::now(), words.warm_up, words.seconds);
-    let clients = sessions.iter().map(|session| &session.client);
-    let workers: Result<Vec<Worker>, Failure> = clients
-        .flat_map(|client| (0..words.threads).map(move |_| client))
-        .map(|client| Worker::new(Arc::clone(client), keys, words))
+    let tables = sessions.iter().map(|session| &session.table);
+    let workers: Result<Vec<Worker>, Failure> = tables
+        .flat_map(|table| (0..words.threads).map(move |_| table))
+        .map(|table| Worker::new(table.clone(), keys, words))
         .collect();
     let mut all = Measured::default();
     thread::scope(|scope| {

@@ -1,5 +1,5 @@
 //! Why a command did not do what it should, and the exit status that tells it.
-use krl::{JoinError, LockFileError, Refused};
+use krl::{JoinError, LockFileError, Refused, ShardRefused};
 use std::fmt;
 use std::io;
 
@@ -78,13 +78,33 @@ impl From<Refused> for Failure {
                     .into(),
             ),
             Refused::Unserved(why) => Failure::NoAnswer(why.to_string()),
+            Refused::OtherShard(other) => Failure::NotJoined(other.to_string()),
             Refused::BadRange | Refused::BadKey => Failure::Usage(refused.to_string()),
             other => Failure::Refused(other.to_string()),
         }
     }
 }
 
+impl From<ShardRefused> for Failure {
+    fn from(ShardRefused { shard, refused, .. }: ShardRefused) -> Failure {
+        Failure::from(refused).at_shard(shard)
+    }
+}
+
 impl Failure {
+    /// The same failure, at this shard of the table, if it has some.
+    pub fn at_shard(self, shard: Option<usize>) -> Failure {
+        let Some(shard) = shard else { return self };
+        let at = |why: String| format!("shard {shard}: {why}");
+        match self {
+            Failure::Refused(why) => Failure::Refused(at(why)),
+            Failure::Usage(why) => Failure::Usage(at(why)),
+            Failure::NoAnswer(why) => Failure::NoAnswer(at(why)),
+            Failure::NotJoined(why) => Failure::NotJoined(at(why)),
+            failure @ (Failure::Output(_) | Failure::NotStarted(..)) => failure,
+        }
+    }
+
     /// A client that did not join under this number.
     pub fn of_join(error: JoinError, number: u8, server: &krl::Servers) -> Failure {
         match error {

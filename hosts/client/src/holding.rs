@@ -18,9 +18,7 @@ pub fn hold(
     for_update: bool,
     words: &[OsString],
 ) -> Result<u8, Failure> {
-    let client = &context.session.client;
-    let (_rows, _pin) =
-        if for_update { client.pin_for_update(keys)? } else { client.pin_for_read(keys)? };
+    let _pin = context.session.table.pin(keys, for_update)?;
     let [name, arguments @ ..] = words else {
         return Err(Failure::Usage("a command is expected behind --".into()));
     };

@@ -5,9 +5,12 @@ mod commands;
 mod failure;
 mod holding;
 mod output;
+mod pinging;
+mod place;
 mod prompt;
 mod session;
 mod signals;
+mod table;
 mod values;
 mod watching;
 mod words;
@@ -37,13 +40,8 @@ fn run(arguments: &Arguments) -> Result<u8, Failure> {
         return bench::run(options, words, &signals);
     }
     let session = Session::join(options)?;
-    signals.ends(&session.client);
-    let context = Context {
-        session: &session,
-        server: &options.server,
-        printer: Printer::of(options),
-        signals: &signals,
-    };
+    signals.ends(&session.table);
+    let context = Context { session: &session, printer: Printer::of(options), signals: &signals };
     let ended = match &arguments.command {
         Some(command) => run_one(command, options, &context),
         None => prompt::run(&mut |command| run_one(command, options, &context)),

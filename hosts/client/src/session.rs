@@ -1,17 +1,19 @@
 //! A client that has joined: its number, its lock file, and how it leaves.
 use crate::arguments::Options;
 use crate::failure::Failure;
-use krl::{Client, JoinError, LockFileError};
+use crate::place::Place;
+use crate::table::Table;
+use krl::{Client, JoinError, LockFileError, Servers, ShardJoinError, ShardMap, ShardedClient};
 use std::env;
 use std::fs::DirBuilder;
 use std::os::unix::fs::DirBuilderExt;
 use std::path::{Path, PathBuf};
-use std::sync::Arc;
 use std::time::{Duration, Instant};
 
 /// A client that has joined.
 pub struct Session {
-    pub client: Arc<Client>,
+    pub table: Table,
+    pub place: Place,
     pub number: u8,
     /// How long the join took.
     pub joined_in: Duration,
@@ -26,20 +28,20 @@ impl Session {
 
     /// Joins so many clients, the greatest free numbers first.
     pub fn join_some(options: &Options, count: usize) -> Result<Vec<Session>, Failure> {
-        let files = LockFiles::of(options)?;
+        let (place, files) = (Place::of(options)?, LockFiles::of(options)?);
         let mut sessions = Vec::new();
         for number in options.number.0.clone().rev() {
             if sessions.len() == count {
                 break;
             }
-            sessions.extend(join_as(options, number, &files.of_number(number))?);
+            sessions.extend(join_as(options, &place, number, &files)?);
         }
         if sessions.len() < count { Err(none_is_free(options)) } else { Ok(sessions) }
     }
 
     /// Gives all back. If the server does not answer, it tells what others may notice.
     pub fn leave(self) {
-        if self.client.depart(self.client.timeout()).is_err() {
+        if self.table.depart(self.table.timeout()).is_err() {
             eprintln!(
                 "krl-client: the server did not hear that client {} left: others may wait for what \
                  it held until a client of its number joins again",
@@ -50,19 +52,52 @@ impl Session {
 }
 
 /// The client of this number, or `None` if another process is it and there is a choice.
-fn join_as(options: &Options, number: u8, file: &Path) -> Result<Option<Session>, Failure> {
+fn join_as(
+    options: &Options,
+    place: &Place,
+    number: u8,
+    files: &LockFiles,
+) -> Result<Option<Session>, Failure> {
     let begun = Instant::now();
-    let builder = Client::builder(options.servers()?);
-    match builder.number(number).lock_file(file).timeout(options.timeout).join() {
-        Ok(client) => {
-            let client = Arc::new(client);
-            Ok(Some(Session { client, number, joined_in: begun.elapsed() }))
+    let joined = match place {
+        Place::One(servers) => join_one(options, servers, number, files),
+        Place::Sharded(map) => join_sharded(options, map, number, files),
+    };
+    match joined {
+        Ok(table) => {
+            let (place, joined_in) = (place.clone(), begun.elapsed());
+            Ok(Some(Session { table, place, number, joined_in }))
         }
-        Err(JoinError::LockFile(LockFileError::Taken)) if options.number.only().is_none() => {
+        Err(ShardJoinError { error: JoinError::LockFile(LockFileError::Taken), .. })
+            if options.number.only().is_none() =>
+        {
             Ok(None)
         }
-        Err(error) => Err(Failure::of_join(error, number, &options.server)),
+        Err(ShardJoinError { shard, error, .. }) => {
+            let server = place.servers_of(shard).unwrap_or(&options.server);
+            Err(Failure::of_join(error, number, server).at_shard(shard))
+        }
     }
+}
+
+fn join_one(
+    options: &Options,
+    servers: &Servers,
+    number: u8,
+    files: &LockFiles,
+) -> Result<Table, ShardJoinError> {
+    let builder = Client::builder(servers).number(number).timeout(options.timeout);
+    Ok(builder.lock_file(files.of_number(number)).join()?.into())
+}
+
+fn join_sharded(
+    options: &Options,
+    map: &ShardMap,
+    number: u8,
+    files: &LockFiles,
+) -> Result<Table, ShardJoinError> {
+    let builder = ShardedClient::builder(map.clone()).number(number).timeout(options.timeout);
+    Ok(builder.lock_folder(files.folder()).join()?.into())
 }
 
 fn none_is_free(options: &Options) -> Failure {
@@ -84,12 +119,24 @@ enum LockFiles {
 impl LockFiles {
     fn of(options: &Options) -> Result<LockFiles, Failure> {
         match (&options.lock_file, options.number.only()) {
+            (Some(_), _) if options.map.is_some() => {
+                let why = "a lock file is of one server: --lock-file does not go with --map";
+                Err(Failure::Usage(why.into()))
+            }
             (Some(file), Some(_)) => Ok(LockFiles::One(file.clone())),
             (Some(_), None) => {
                 let why = "a lock file is of one number: --lock-file needs --number and one number";
                 Err(Failure::Usage(why.into()))
             }
             (None, _) => folder().map(LockFiles::In),
+        }
+    }
+
+    /// The folder of all lock files.
+    fn folder(&self) -> &Path {
+        match self {
+            LockFiles::One(file) => file.parent().unwrap_or(Path::new("")),
+            LockFiles::In(folder) => folder,
         }
     }
 

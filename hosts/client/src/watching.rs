@@ -2,7 +2,8 @@
 use crate::commands::Context;
 use crate::failure::Failure;
 use crate::signals::Taken;
-use krl::{Client, Refused, Row};
+use crate::table::Table;
+use krl::{Refused, Row, ShardRefused};
 use std::ops::Range;
 use std::time::Duration;
 
@@ -13,16 +14,16 @@ const LOOK: Duration = Duration::from_millis(200);
 ///
 /// Between two changes the client holds the range, and the server is asked nothing.
 pub fn watch(context: &Context<'_>, keys: &Range<u64>, count: Option<u64>) -> Result<(), Failure> {
-    let client = &context.session.client;
-    let mut rows = client.read(keys.clone())?;
+    let table = &context.session.table;
+    let mut rows = table.read(keys.clone())?;
     let signals = context.signals.to_loop();
     context.printer.change(0, &rows)?;
-    let timeout = client.timeout();
+    let timeout = table.timeout();
     // A signal is seen soon, also while the server is away.
-    client.set_timeout(LOOK);
+    table.set_timeout(LOOK);
     let mut ended = Ok(());
     for number in 1..=count.unwrap_or(u64::MAX) {
-        match next_change(client, keys, &rows, &signals) {
+        match next_change(table, keys, &rows, &signals) {
             Ok(Some(changed)) => rows = changed,
             Ok(None) => break,
             Err(refused) => {
@@ -35,27 +36,33 @@ pub fn watch(context: &Context<'_>, keys: &Range<u64>, count: Option<u64>) -> Re
             break;
         }
     }
-    client.set_timeout(timeout);
+    table.set_timeout(timeout);
     ended
 }
 
 /// The rows of the range once they are others, or `None` if a signal came before.
 fn next_change(
-    client: &Client,
+    table: &Table,
     keys: &Range<u64>,
     rows: &[Row],
     signals: &Taken<'_>,
-) -> Result<Option<Vec<Row>>, Refused> {
+) -> Result<Option<Vec<Row>>, ShardRefused> {
     while !signals.is_ended() {
-        if !client.wait_for_change(keys.clone(), rows, LOOK) {
+        if !table.wait_for_change(keys.clone(), rows, LOOK) {
             continue;
         }
-        match client.read(keys.clone()) {
+        match table.read(keys.clone()) {
             Ok(read) if read != rows => return Ok(Some(read)),
             // It is as it was, or somebody has it still.
-            Ok(_) | Err(Refused::TimedOut | Refused::Unserved(_)) => {}
+            Ok(_) => {}
+            Err(refused) if is_waiting(refused.refused) => {}
             Err(refused) => return Err(refused),
         }
     }
     Ok(None)
+}
+
+/// Whether an answer may still come.
+fn is_waiting(refused: Refused) -> bool {
+    matches!(refused, Refused::TimedOut | Refused::Unserved(_))
 }

@@ -85,6 +85,7 @@ class Reason(IntEnum):
     INCARNATION = 2
     FULL = 3
     MISSING = 4
+    OTHER_SHARD = 7
 
 
 @dataclass(frozen=True)
@@ -114,6 +115,11 @@ class Refusal:
                 f"the server knows incarnation {self.second} of client {self.first}, which is "
                 "greater: another process is that client, it was evicted, or its lock file was "
                 "lost under a clock that is behind"
+            )
+        if self.reason is Reason.OTHER_SHARD:
+            return (
+                f"the server serves the keys from {self.first} on below {self.second} alone, and "
+                "this client is one of all keys"
             )
         if self.reason is Reason.FULL:
             return f"the server has all its connections, which are {self.first}"

@@ -52,6 +52,9 @@ class RulesTest(unittest.TestCase):
     def test_no_message(self) -> None:
         self.play("no_message")
 
+    def test_other_shard(self) -> None:
+        self.play("other_shard")
+
     def test_each_script_is_played(self) -> None:
         played = {name[len("test_") :] for name in dir(self) if name.startswith("test_")}
         there = {script.stem for script in (KIT / "scripts").glob("*.jsonl")}

@@ -67,7 +67,7 @@ impl Client {
     /// `BadNumber` above 63; `LockFile` if another process has the file, or it can't be used;
     /// `NoThread`; `NoAnswer`, with the reason if the connection failed; `Unserved`, if the server
     /// tells why it does not serve the client; `TurnedAway`, if this side has no right to the client;
-    /// `Refused` if memory is refused.
+    /// `OtherShard`, if the server serves another shard than the client takes it for; `Refused` if memory is refused.
     pub fn join(
         servers: impl Into<Servers>,
         number: u8,
@@ -131,6 +131,7 @@ impl Client {
         match refused {
             Refused::TimedOut => JoinError::NoAnswer(fault),
             Refused::Unserved(refusal) => JoinError::Unserved(refusal),
+            Refused::OtherShard(other) => JoinError::OtherShard(other),
             Refused::TurnedAway => JoinError::TurnedAway(turned_away.unwrap_or_default()),
             refused => JoinError::Refused(refused),
         }

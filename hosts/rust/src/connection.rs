@@ -78,6 +78,8 @@ pub(crate) struct Connection {
     host: Option<Host>,
     /// Nothing more is heard of it, and what waits is the last that is written.
     is_ended: bool,
+    /// Its client takes the server for what it serves.
+    is_let_in: bool,
 }
 
 impl Connection {
@@ -95,6 +97,7 @@ impl Connection {
             told: Vec::new(),
             host: None,
             is_ended: false,
+            is_let_in: false,
         })
     }
 
@@ -226,6 +229,15 @@ impl Connection {
     /// Hears nothing more of it. It is over when all is written that leaves with the next batch.
     pub fn end(&mut self) {
         self.is_ended = true;
+    }
+
+    /// Its client takes the server for what it serves.
+    pub fn let_in(&mut self) {
+        self.is_let_in = true;
+    }
+
+    pub fn is_let_in(&self) -> bool {
+        self.is_let_in
     }
 
     pub fn is_over(&self) -> bool {

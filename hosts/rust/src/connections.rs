@@ -216,6 +216,17 @@ impl Connections {
         }
     }
 
+    /// The client of this connection takes the server for what it serves.
+    pub fn let_in(&mut self, number: u64) {
+        if let Some(peer) = self.open.get_mut(&number) {
+            peer.connection.let_in();
+        }
+    }
+
+    pub fn is_let_in(&self, number: u64) -> bool {
+        self.open.get(&number).is_some_and(|peer| peer.connection.is_let_in())
+    }
+
     /// A connection that has something to send.
     fn in_sending(&mut self, number: u64) -> Option<&mut Connection> {
         let peer = self.open.get_mut(&number)?;

@@ -12,6 +12,7 @@ use crate::address::Address;
 use crate::change::{Change, Record};
 use crate::history::Mark;
 use crate::identity::Identity;
+use crate::shard_fence::OtherShard;
 use std::collections::BTreeMap;
 use std::fmt::Display;
 use std::time::{Duration, Instant};
@@ -55,6 +56,7 @@ pub(crate) struct EventLog {
     is_serving: Option<bool>,
     missing: Vec<u8>,
     bad_messages: Seldom,
+    other_shards: Seldom,
     strangers: Seldom,
     denials: Seldom,
     alarms: Seldom,
@@ -72,6 +74,7 @@ impl EventLog {
             is_serving: None,
             missing: Vec::new(),
             bad_messages: Seldom::default(),
+            other_shards: Seldom::default(),
             strangers: Seldom::default(),
             denials: Seldom::default(),
             alarms: Seldom::default(),
@@ -143,6 +146,13 @@ impl EventLog {
                 return;
             }
             tell!(info, client, incarnation = *incarnation, "a client has left");
+        }
+    }
+
+    /// The client of a connection takes the server for another shard's, and is closed.
+    pub fn other_shard(&mut self, connection: u64, other: &OtherShard) {
+        if let Some(passed_over) = self.other_shards.lets(Instant::now()) {
+            tell!(warn, connection, passed_over, "a connection is closed: {other}");
         }
     }
 

@@ -15,6 +15,7 @@ use crate::refusal::{ClientSet, Refusal};
 use crate::requests::Request;
 use crate::routing::{Sender, sender};
 use crate::server::ServeError;
+use crate::shard_bounds::ShardBounds;
 use crate::status::Status;
 use crate::store::Store;
 use crate::timings::{Open, Timings};
@@ -75,6 +76,7 @@ pub(crate) struct EventLoop<S> {
     open: Open,
     log: EventLog,
     frames: Vec<u8>,
+    shard: Option<ShardBounds>,
 }
 
 impl<S: Store> EventLoop<S> {
@@ -110,6 +112,7 @@ impl<S: Store> EventLoop<S> {
             open: Open::new(),
             log,
             frames: Vec::new(),
+            shard: None,
         }
     }
 
@@ -209,6 +212,9 @@ impl<S: Store> EventLoop<S> {
     ) -> Result<(), ServeError> {
         if !self.connections.identity(connection).may_say(frame) {
             self.deny(connection, frame);
+            return Ok(());
+        }
+        if !self.lets_in(connection, frame) {
             return Ok(());
         }
         if !host_frame::is_of_host(frame) {
@@ -387,6 +393,7 @@ impl<S: Store> EventLoop<S> {
 mod leases;
 mod looks;
 mod notices;
+mod sharding;
 mod showing;
 #[cfg(test)]
 mod tests;

@@ -4,6 +4,8 @@
 //! The first byte of a host frame is 0. No message of the library begins so: its version is 1.
 use crate::history::Mark;
 use crate::refusal::{ClientSet, Refusal};
+use crate::shard_bounds::ShardBounds;
+use crate::shard_frame;
 
 const HOST: u8 = 0;
 
@@ -16,6 +18,8 @@ pub(crate) enum FromClient {
     /// It takes host frames, and has seen so much of the store, if anything. This is the first
     /// frame of its connection.
     Hello(Option<Mark>),
+    /// It takes the server for this shard's.
+    Shard(ShardBounds),
 }
 
 /// What the host of a server says, and only to a host that has said Hello.
@@ -29,6 +33,8 @@ pub(crate) enum FromServer {
     Mark(Mark),
     /// The store lacks what the client's host has seen of it.
     WentBack,
+    /// It serves this shard, as the client's host has said.
+    Shard(ShardBounds),
 }
 
 /// Whether the frame, without its length, is one of a host.
@@ -38,17 +44,27 @@ pub(crate) fn is_of_host(frame: &[u8]) -> bool {
 
 impl FromClient {
     const HELLO: u8 = 0;
+    const SHARD: u8 = 2;
 
     /// The frame, with its length.
     pub fn frame(self) -> Vec<u8> {
-        let FromClient::Hello(seen) = self;
-        framed(&[HOST, FromClient::HELLO], &seen.map(spelled_mark).unwrap_or_default())
+        match self {
+            FromClient::Hello(seen) => {
+                framed(&[HOST, FromClient::HELLO], &seen.map(spelled_mark).unwrap_or_default())
+            }
+            FromClient::Shard(shard) => {
+                framed(&[HOST, FromClient::SHARD], &shard_frame::spelled_bytes(Some(shard)))
+            }
+        }
     }
 
     /// What the frame says, or `None` if it is of another kind: then it says nothing.
     pub fn read(frame: &[u8]) -> Option<FromClient> {
         match frame {
             [HOST, FromClient::HELLO, seen @ ..] => Some(FromClient::Hello(mark(seen))),
+            [HOST, FromClient::SHARD, shard @ ..] => {
+                shard_frame::read(shard).map(FromClient::Shard)
+            }
             _ => None,
         }
     }
@@ -59,6 +75,7 @@ impl FromServer {
     const REFUSED: u8 = 17;
     const MARK: u8 = 18;
     const WENT_BACK: u8 = 19;
+    const SHARD: u8 = 22;
 
     /// The frame, with its length.
     pub fn frame(self) -> Vec<u8> {
@@ -68,12 +85,14 @@ impl FromServer {
                 framed(&[HOST, FromServer::HELLO], answers)
             }
             FromServer::Refused(refusal) => {
-                let (reason, [first, second]) = spelled(refusal);
-                let numbers = [first.to_le_bytes(), second.to_le_bytes()].concat();
+                let (reason, numbers) = spelled(refusal);
                 framed(&[HOST, FromServer::REFUSED, reason], &numbers)
             }
             FromServer::Mark(mark) => framed(&[HOST, FromServer::MARK], &spelled_mark(mark)),
             FromServer::WentBack => framed(&[HOST, FromServer::WENT_BACK], &[]),
+            FromServer::Shard(shard) => {
+                framed(&[HOST, FromServer::SHARD], &shard_frame::spelled_bytes(Some(shard)))
+            }
         }
     }
 
@@ -88,14 +107,18 @@ impl FromServer {
             }
             [HOST, FromServer::MARK, numbers @ ..] => mark(numbers).map(FromServer::Mark),
             [HOST, FromServer::WENT_BACK, ..] => Some(FromServer::WentBack),
+            [HOST, FromServer::SHARD, shard @ ..] => {
+                shard_frame::read(shard).map(FromServer::Shard)
+            }
             _ => None,
         }
     }
 }
 
-/// The tag of a reason, and its two numbers.
-fn spelled(refusal: Refusal) -> (u8, [u64; 2]) {
-    match refusal {
+/// The tag of a reason, and its numbers.
+fn spelled(refusal: Refusal) -> (u8, Vec<u8>) {
+    let (tag, numbers) = match refusal {
+        Refusal::OtherShard(served) => return (7, shard_frame::spelled_bytes(served)),
         Refusal::Version { read } => (0, [read.into(), 0]),
         Refusal::ClientNumber { number } => (1, [number, 0]),
         Refusal::Incarnation { client, registered } => (2, [client.into(), registered]),
@@ -103,7 +126,8 @@ fn spelled(refusal: Refusal) -> (u8, [u64; 2]) {
         Refusal::Missing(clients) => (4, [clients.bits(), 0]),
         Refusal::LeaseRuns { client, registered } => (5, [client.into(), registered]),
         Refusal::Denied => (6, [0, 0]),
-    }
+    };
+    (tag, numbers.map(u64::to_le_bytes).concat())
 }
 
 fn spelled_mark(Mark { start, commits }: Mark) -> Vec<u8> {
@@ -128,6 +152,7 @@ fn refusal(reason: u8, numbers: &[u8]) -> Option<Refusal> {
         4 => Refusal::Missing(ClientSet::of_bits(first)),
         5 => Refusal::LeaseRuns { client: u8::try_from(first).ok()?, registered: second },
         6 => Refusal::Denied,
+        7 => shard_frame::read_refusal(numbers)?,
         _ => return None,
     })
 }
@@ -146,6 +171,10 @@ mod tests {
     const HELLO: FromServer = FromServer::Hello { answers_signs: true };
     const MARK: Mark = Mark { start: 1 << 127 | 5, commits: 258 };
 
+    fn shard() -> ShardBounds {
+        "5..258@7".parse().unwrap()
+    }
+
     fn said() -> Vec<FromServer> {
         let missing = Refusal::Missing([3, 63].into_iter().collect());
         let refusals = [
@@ -156,8 +185,11 @@ mod tests {
             missing,
             Refusal::LeaseRuns { client: 63, registered: 7 },
             Refusal::Denied,
+            Refusal::OtherShard(None),
+            Refusal::OtherShard(Some(shard())),
         ];
-        let others = [HELLO, FromServer::Mark(MARK), FromServer::WentBack];
+        let shard = FromServer::Shard(shard());
+        let others = [HELLO, FromServer::Mark(MARK), FromServer::WentBack, shard];
         refusals.map(FromServer::Refused).into_iter().chain(others).collect()
     }
 
@@ -180,6 +212,8 @@ mod tests {
             let hello = FromClient::Hello(seen);
             assert_eq!(FromClient::read(&body(&hello.frame())), Some(hello));
         }
+        let named = FromClient::Shard(shard());
+        assert_eq!(FromClient::read(&body(&named.frame())), Some(named));
     }
 
     #[test]
@@ -195,6 +229,11 @@ mod tests {
         assert_eq!(body(&HELLO.frame()), [0, 16, 1]);
         let older = FromServer::Hello { answers_signs: false };
         assert_eq!((body(&older.frame()), FromServer::read(&[0, 16])), (vec![0, 16], Some(older)));
+        let numbers = [5, 0, 0, 0, 0, 0, 0, 0, 2, 1, 0, 0, 0, 0, 0, 0, 7, 0, 0, 0, 0, 0, 0, 0];
+        assert_eq!(body(&FromClient::Shard(shard()).frame()), [&[0, 2][..], &numbers].concat());
+        assert_eq!(body(&FromServer::Shard(shard()).frame()), [&[0, 22][..], &numbers].concat());
+        let other = FromServer::Refused(Refusal::OtherShard(Some(shard())));
+        assert_eq!(body(&other.frame()), [&[0, 17, 7][..], &numbers].concat());
     }
 
     #[test]
@@ -207,7 +246,7 @@ mod tests {
             }
         }
         assert_eq!(
-            FromServer::read(&[0, 17, 7, 0, 0, 0, 0, 0, 0, 0, 0, 0, 0, 0, 0, 0, 0, 0, 0]),
+            FromServer::read(&[0, 17, 8, 0, 0, 0, 0, 0, 0, 0, 0, 0, 0, 0, 0, 0, 0, 0, 0]),
             None
         );
         assert_eq!(FromServer::read(&[0, 0]), None, "a client's");

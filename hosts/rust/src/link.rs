@@ -15,6 +15,7 @@ use crate::message::epoch_of;
 use crate::refusal::Refusal;
 use crate::refused::Refused;
 use crate::servers::Servers;
+use crate::shard_fence::{Fence, OtherShard};
 use crate::silence::{Silence, Silent};
 use crate::writer::{ATTEMPT, Writer, Written};
 use std::convert::Infallible;
@@ -47,6 +48,8 @@ pub(crate) struct Link {
     refusal: Mutex<Option<(Refusal, Instant)>>,
     /// Why this side has no right to the client, if the server turned it away last.
     turned_away: Mutex<Option<String>>,
+    /// The shards of the two sides, if it did so for that.
+    other_shard: Mutex<Option<OtherShard>>,
     /// How much the client has seen of the server's store.
     seen: Mutex<Option<Mark>>,
     /// The greatest epoch that a server has said.
@@ -69,6 +72,7 @@ struct Connected<'l> {
     carrier: Carrier,
     heard: Heard,
     silence: Silence,
+    fence: Fence,
 }
 
 /// How a connection went.
@@ -89,6 +93,7 @@ impl Link {
             fault: Mutex::default(),
             refusal: Mutex::default(),
             turned_away: Mutex::default(),
+            other_shard: Mutex::default(),
             seen: Mutex::default(),
             epoch: AtomicU64::new(0),
             lock_file: Mutex::new(lock_file),
@@ -170,6 +175,7 @@ impl Link {
             };
             event_log::disconnected(address, &fault);
             if fault.kind() == ErrorKind::PermissionDenied {
+                *lock(&self.other_shard) = OtherShard::of_fault(&fault);
                 *lock(&self.turned_away) = Some(fault.to_string());
             }
             *lock(&self.fault) = Some(fault);
@@ -190,7 +196,9 @@ impl Link {
     }
 
     fn connect<'l>(&self, address: &'l Address, greeting: &Greeting) -> io::Result<Connected<'l>> {
-        let is_asked = greeting.is_said();
+        // What a server serves is heard by host frames alone.
+        let shard = self.servers.shard();
+        let is_asked = greeting.is_said() || shard.is_some();
         self.begin_anew_if_due(is_asked)?;
         let carrier = Carrier::connect(address, self.servers.tls(), CONNECT)?;
         carrier.set_timeouts(IDLE_TICK, ATTEMPT)?;
@@ -199,7 +207,8 @@ impl Link {
         *lock(&self.fault) = None;
         event_log::connected(address);
         let silence = Silence::new(Instant::now(), is_asked);
-        Ok(Connected { address, carrier, heard: Heard::default(), silence })
+        let (heard, fence) = (Heard::default(), Fence::new(shard));
+        Ok(Connected { address, carrier, heard, silence, fence })
     }
 
     /// Hears what the server says, until the connection ends.

@@ -1,4 +1,5 @@
 //! Why a server does not serve a client, as the server's host tells it.
+use crate::shard_bounds::ShardBounds;
 use std::fmt;
 
 /// Why a server does not serve a client. It is a hint for people: the library's rules don't rest
@@ -40,11 +41,13 @@ pub enum Refusal {
     /// Who is at the other end of the connection may not say what it said: its certificate, or its
     /// user, is not that of the client.
     Denied,
+    /// The server serves this shard, or all keys, and the client takes it for another one.
+    OtherShard(Option<ShardBounds>),
 }
 
 impl Refusal {
     /// How many reasons there are.
-    pub(crate) const REASONS: usize = 7;
+    pub(crate) const REASONS: usize = 8;
 
     /// The number of the reason, below [`Refusal::REASONS`].
     pub(crate) fn reason(self) -> usize {
@@ -56,6 +59,7 @@ impl Refusal {
             Refusal::Missing(_) => 4,
             Refusal::LeaseRuns { .. } => 5,
             Refusal::Denied => 6,
+            Refusal::OtherShard(_) => 7,
         }
     }
 }
@@ -137,6 +141,12 @@ impl fmt::Display for Refusal {
                 "the server does not let this side of the connection speak for the client: its \
                  certificate, or its user, has no right to the client's number",
             ),
+            Refusal::OtherShard(Some(served)) => {
+                write!(f, "the server serves {served}, and the client takes it for another shard")
+            }
+            Refusal::OtherShard(None) => {
+                f.write_str("the server serves no shard, and the client takes it for one's")
+            }
             Refusal::Missing(clients) => write!(
                 f,
                 "the server waits for the reports of the clients {clients}, or until they are \

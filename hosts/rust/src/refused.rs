@@ -2,6 +2,7 @@
 use crate::code::Code;
 use crate::lock_file::LockFileError;
 use crate::refusal::Refusal;
+use crate::shard_fence::OtherShard;
 use std::fmt;
 use std::io;
 
@@ -19,6 +20,9 @@ pub enum Refused {
     /// take each other's certificates, or the certificate or the user is not that of the client's
     /// number. It comes at once if the client has one server.
     TurnedAway,
+    /// The same, and the server serves another shard than the client takes it for, or by another
+    /// map. It comes at once if the client has one server.
+    OtherShard(OtherShard),
     /// The server's store lacks what this client has seen of it: it is an older copy, or another
     /// store. The client has dropped its cache and its pins, and joins anew. A write may have
     /// changed that store or not.
@@ -65,6 +69,9 @@ pub enum JoinError {
     /// take each other's certificates, or the certificate or the user is not that of the client's
     /// number. It comes at once if the client has one server.
     TurnedAway(String),
+    /// The server serves another shard than the client takes it for, or by another map. It comes at
+    /// once if the client has one server.
+    OtherShard(OtherShard),
     /// The system has no thread for the client's connection.
     NoThread(io::Error),
     /// The client refused to start.
@@ -95,6 +102,7 @@ impl fmt::Display for Refused {
                 "the connection was turned away: the certificate or the user gives no right to the \
                  client",
             ),
+            Refused::OtherShard(other) => other.fmt(f),
             Refused::StoreWentBack => f.write_str(
                 "the server's store went back, and lacks what this client has seen of it: the \
                  client has dropped its cache and its pins, and joins anew",
@@ -129,6 +137,7 @@ impl fmt::Display for JoinError {
             }
             JoinError::Unserved(refusal) => refusal.fmt(f),
             JoinError::TurnedAway(why) => write!(f, "the connection was turned away: {why}"),
+            JoinError::OtherShard(other) => other.fmt(f),
             JoinError::NoThread(error) => write!(f, "the client gets no thread: {error}"),
             JoinError::Refused(refused) => refused.fmt(f),
         }
@@ -139,6 +148,7 @@ impl std::error::Error for Refused {
     fn source(&self) -> Option<&(dyn std::error::Error + 'static)> {
         match self {
             Refused::Other(code) => Some(code),
+            Refused::OtherShard(other) => Some(other),
             _ => None,
         }
     }
@@ -151,6 +161,7 @@ impl std::error::Error for JoinError {
             JoinError::NoAnswer(error) => error.as_ref().map(|error| error as _),
             JoinError::NoThread(error) => Some(error),
             JoinError::Refused(refused) => Some(refused),
+            JoinError::OtherShard(other) => Some(other),
             JoinError::BadNumber
             | JoinError::Incomplete(_)
             | JoinError::Unserved(_)

@@ -2,7 +2,7 @@
 use crate::access::Access;
 use crate::address::Address;
 use crate::boot_clock::Moment;
-use crate::change::Change;
+use crate::change::{Change, Snapshot};
 use crate::code::Code;
 use crate::connections::Connections;
 use crate::event_log::EventLog;
@@ -12,6 +12,8 @@ use crate::leases::{LeaseTable, Leases};
 use crate::monitor::Monitor;
 use crate::requests::{Request, Requests};
 use crate::server_builder::ServerBuilder;
+use crate::shard_bounds::ShardBounds;
+use crate::shard_fence;
 use crate::status::Status;
 use crate::store::{Store, StoreError};
 use crate::stream::Listener;
@@ -43,6 +45,14 @@ pub enum ServeError {
     Network(io::Error),
     /// The clock by which leases run can't be read.
     Clock(io::Error),
+    /// The store has a key that the server's shard does not have: it is another shard's store, or
+    /// was not split.
+    OtherKey {
+        /// The key.
+        key: u64,
+        /// The shard.
+        shard: ShardBounds,
+    },
     /// A thread of the server panicked.
     Panicked,
 }
@@ -89,7 +99,7 @@ impl Server {
         listener: Listener,
         mut store: impl Store + 'static,
         (access, leases): (Access, Option<Leases>),
-        max_connections: usize,
+        (bounds, max_connections): (Option<ShardBounds>, usize),
     ) -> Result<Server, ServeError> {
         let address = listener.address()?;
         access.check(&address)?;
@@ -97,6 +107,7 @@ impl Server {
             listener.let_users_connect()?;
         }
         let snapshot = store.load()?;
+        refuse_other_keys(&snapshot, bounds)?;
         let (server, epoch) = ServerHandle::open(&snapshot).map_err(ServeError::Refused)?;
         let record = snapshot.leases.at_start(leases);
         let revised = (record != snapshot.leases).then_some(Change::Leased(record));
@@ -117,6 +128,7 @@ impl Server {
         let (stored, heard) = ((store, history), (connections, asked));
         let shared = Arc::clone(&timings);
         let events = EventLoop::new(server, stored, heard, table, shared, epoch, log);
+        let events = events.of_shard(bounds);
         let thread = thread::Builder::new().name("krl-server".into());
         let thread = thread.spawn(move || events.run_to_the_end(&shown))?;
         Ok(Server { address, requests, status, timings, thread: Some(thread) })
@@ -192,6 +204,13 @@ impl Server {
     }
 }
 
+/// Refuses a store with a key that the shard does not have: nobody would find it.
+fn refuse_other_keys(store: &Snapshot, shard: Option<ShardBounds>) -> Result<(), ServeError> {
+    let Some(shard) = shard else { return Ok(()) };
+    let stray = shard_fence::stray_key(store, shard);
+    stray.map_or(Ok(()), |key| Err(ServeError::OtherKey { key, shard }))
+}
+
 impl fmt::Debug for Server {
     fn fmt(&self, f: &mut fmt::Formatter<'_>) -> fmt::Result {
         f.debug_struct("Server").field("address", self.address()).finish_non_exhaustive()
@@ -214,6 +233,11 @@ impl fmt::Display for ServeError {
             ServeError::Refused(code) => write!(f, "the server can't run: {code}"),
             ServeError::Network(error) => write!(f, "the listener failed: {error}"),
             ServeError::Clock(error) => write!(f, "the clock of leases can't be read: {error}"),
+            ServeError::OtherKey { key, shard } => write!(
+                f,
+                "the store has the key {key}, which the shard {shard} does not have: it is another \
+                 shard's, or has to be split"
+            ),
             ServeError::Panicked => f.write_str("a thread of the server panicked"),
         }
     }
@@ -225,7 +249,7 @@ impl std::error::Error for ServeError {
             ServeError::Store(error) => Some(error),
             ServeError::Refused(code) => Some(code),
             ServeError::Network(error) | ServeError::Clock(error) => Some(error),
-            ServeError::Panicked => None,
+            ServeError::OtherKey { .. } | ServeError::Panicked => None,
         }
     }
 }

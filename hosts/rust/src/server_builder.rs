@@ -3,6 +3,7 @@ use crate::access::Access;
 use crate::connections::MAX_CONNECTIONS;
 use crate::leases::Leases;
 use crate::server::{ServeError, Server};
+use crate::shard_bounds::ShardBounds;
 use crate::store::Store;
 use crate::stream::Listener;
 use std::fmt;
@@ -16,12 +17,13 @@ pub struct ServerBuilder<S> {
     max_connections: usize,
     access: Access,
     leases: Option<Leases>,
+    shard: Option<ShardBounds>,
 }
 
 impl<S: Store + 'static> ServerBuilder<S> {
     pub(crate) fn new(listener: Listener, store: S) -> ServerBuilder<S> {
         let (access, max_connections) = (Access::new(), MAX_CONNECTIONS);
-        ServerBuilder { listener, store, max_connections, access, leases: None }
+        ServerBuilder { listener, store, max_connections, access, leases: None, shard: None }
     }
 
     /// Whom the server lets in: if this is not called, whoever can connect, by plain TCP on the
@@ -47,14 +49,21 @@ impl<S: Store + 'static> ServerBuilder<S> {
         self
     }
 
+    /// The shard that the server serves, by a map of this version: it serves clients that take it for
+    /// this, and no others. If this is not called it serves all keys, and no client of a shard.
+    pub fn shard(mut self, shard: ShardBounds) -> ServerBuilder<S> {
+        self.shard = Some(shard);
+        self
+    }
+
     /// Starts the server.
     ///
     /// # Errors
     ///
-    /// Those of [`Server::start`].
+    /// Those of [`Server::start`]; `OtherKey` if the store has a key that the shard does not have.
     pub fn start(self) -> Result<Server, ServeError> {
-        let ServerBuilder { listener, store, max_connections, access, leases } = self;
-        Server::start_with(listener, store, (access, leases), max_connections)
+        let ServerBuilder { listener, store, max_connections, access, leases, shard } = self;
+        Server::start_with(listener, store, (access, leases), (shard, max_connections))
     }
 }
 

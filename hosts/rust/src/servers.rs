@@ -1,5 +1,6 @@
 //! Where a client finds its server: one place, or several at which servers stand by.
 use crate::address::{Address, BadAddress};
+use crate::shard_bounds::ShardBounds;
 use crate::tls::TlsConfig;
 use std::fmt;
 use std::net::SocketAddr;
@@ -16,6 +17,7 @@ pub struct Servers {
     first: Address,
     others: Vec<Address>,
     tls: Option<TlsConfig>,
+    shard: Option<ShardBounds>,
 }
 
 impl Servers {
@@ -24,6 +26,18 @@ impl Servers {
     #[must_use]
     pub fn with_tls(self, config: TlsConfig) -> Servers {
         Servers { tls: Some(config), ..self }
+    }
+
+    /// The same servers, which a client takes for those of this shard: it says nothing to a server
+    /// that serves another one, or the shard of another map.
+    #[must_use]
+    pub fn of_shard(self, shard: ShardBounds) -> Servers {
+        Servers { shard: Some(shard), ..self }
+    }
+
+    /// The shard that a client takes them for, if not for servers of all keys.
+    pub(crate) fn shard(&self) -> Option<ShardBounds> {
+        self.shard
     }
 
     /// What a client shows to them, and whom it believes.
@@ -54,7 +68,7 @@ impl Servers {
 
 impl From<Address> for Servers {
     fn from(address: Address) -> Servers {
-        Servers { first: address, others: Vec::new(), tls: None }
+        Servers { first: address, others: Vec::new(), tls: None, shard: None }
     }
 }
 
@@ -82,7 +96,8 @@ impl FromStr for Servers {
     fn from_str(text: &str) -> Result<Servers, BadAddress> {
         let mut addresses = text.split(',').map(str::parse);
         let first = addresses.next().unwrap_or(Err(BadAddress::Form))?;
-        Ok(Servers { first, others: addresses.collect::<Result<_, _>>()?, tls: None })
+        let others = addresses.collect::<Result<_, _>>()?;
+        Ok(Servers { first, others, tls: None, shard: None })
     }
 }
 

@@ -5,7 +5,9 @@ use crate::range::keys_of;
 use crate::refused::Refused;
 use crate::row::END;
 use crate::servers::Servers;
+use crate::shard_bounds::ShardBounds;
 use std::fmt;
+use std::num::NonZeroU64;
 use std::ops::{Range, RangeBounds};
 
 /// One shard: the keys from `first` on below the next shard's first one, and its servers.
@@ -19,12 +21,17 @@ pub struct Shard {
 
 /// All keys, cut into shards, of which each has a server and a store of its own.
 ///
-/// **All clients have to have the same map.** A client with another one writes keys at the wrong
-/// server, where the others don't see them, and nothing notices that yet.
+/// **All clients have to have the same map**: a client with another one would write keys at the wrong
+/// server, where the others don't see them. A map with a version is fenced: each server is started
+/// as that of its shard ([`ServerBuilder::shard`]), and serves clients of the same map alone. A map
+/// without a version is not: nothing notices two of them.
+///
+/// [`ServerBuilder::shard`]: crate::ServerBuilder::shard
 #[derive(Clone, Debug, PartialEq, Eq)]
 pub struct ShardMap {
     shards: Vec<Shard>,
     partition: Partition,
+    version: Option<NonZeroU64>,
 }
 
 /// Shards that make no map: there is none, or there are more than 64; the first one does not begin
@@ -55,13 +62,43 @@ impl ShardMap {
             return Err(BadShardMap);
         }
         let partition = Partition::new(firsts.collect()).map_err(|_| BadShardMap)?;
-        Ok(ShardMap { shards, partition })
+        Ok(ShardMap { shards, partition, version: None })
     }
 
     /// The shards, in ascending order. Their number, from 0, is their place here.
     #[must_use]
     pub fn shards(&self) -> &[Shard] {
         &self.shards
+    }
+
+    /// The same map with a version. Each change of the map takes a greater one.
+    #[must_use]
+    pub fn with_version(self, version: NonZeroU64) -> ShardMap {
+        ShardMap { version: Some(version), ..self }
+    }
+
+    /// The version, if the map has one.
+    #[must_use]
+    pub fn version(&self) -> Option<NonZeroU64> {
+        self.version
+    }
+
+    /// What the shard of this number has of the keys, by the version of this map. A map without a
+    /// version says `None`, and so does one that has no such shard.
+    #[must_use]
+    pub fn bounds_of(&self, shard: usize) -> Option<ShardBounds> {
+        let first = self.shards.get(shard)?.first;
+        let end = self.shards.get(shard + 1).map_or(END + 1, |next| next.first);
+        ShardBounds::new(first..end, self.version?).ok()
+    }
+
+    /// The servers of a shard, which a client takes for its own.
+    pub(crate) fn servers_of(&self, place: usize, shard: &Shard) -> Servers {
+        let servers = shard.servers.clone();
+        match self.bounds_of(place) {
+            Some(bounds) => servers.of_shard(bounds),
+            None => servers,
+        }
     }
 
     /// The shard of a key.
@@ -130,5 +167,16 @@ mod tests {
         assert_eq!(map.parts(..).unwrap(), whole);
         assert_eq!(map.parts(5..5), Ok(Vec::new()));
         assert_eq!(map.parts(..=u64::MAX), Err(Refused::BadRange));
+    }
+
+    #[test]
+    fn a_map_with_a_version_says_what_each_shard_has() {
+        let map = map(&[0, 10, END]).unwrap();
+        assert_eq!((map.version(), map.bounds_of(0)), (None, None));
+        let map = map.with_version(NonZeroU64::new(3).unwrap());
+        let bounds: Vec<_> = (0..4).map(|shard| map.bounds_of(shard)).collect();
+        let expected = ["0..10@3", "10..9223372036854775807@3", "9223372036854775807..@3"];
+        let expected = expected.map(|text| Some(text.parse().unwrap()));
+        assert_eq!(bounds, [&expected[..], &[None]].concat());
     }
 }

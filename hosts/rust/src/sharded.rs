@@ -86,6 +86,10 @@ impl ShardedClient {
         ShardedClient { map, clients }
     }
 
+    pub(crate) fn clients(&self) -> &[Client] {
+        &self.clients
+    }
+
     /// The map.
     #[must_use]
     pub fn map(&self) -> &ShardMap {

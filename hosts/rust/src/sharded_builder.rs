@@ -60,11 +60,11 @@ impl ShardedBuilder {
         let folder = self.lock_folder.as_deref().ok_or(missing)?;
         let joined: Vec<Joined> = thread::scope(|scope| {
             let shards = self.map.shards().iter();
-            let joining = shards.map(|shard| {
+            let joining = shards.enumerate().map(|(place, shard)| {
                 let (lock_file, timeout) = (lock_file(folder, shard, number), self.timeout);
-                let join = move || {
-                    Client::start(shard.servers.clone(), number, &lock_file, timeout, Errand::Work)
-                };
+                let servers = self.map.servers_of(place, shard);
+                let join =
+                    move || Client::start(servers, number, &lock_file, timeout, Errand::Work);
                 thread::Builder::new().spawn_scoped(scope, join)
             });
             let joining: Vec<_> = joining.collect();

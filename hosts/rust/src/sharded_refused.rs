@@ -72,3 +72,9 @@ impl std::error::Error for ShardJoinError {
         Some(&self.error)
     }
 }
+
+impl From<JoinError> for ShardJoinError {
+    fn from(error: JoinError) -> ShardJoinError {
+        ShardJoinError { shard: None, error }
+    }
+}

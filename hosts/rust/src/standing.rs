@@ -10,7 +10,7 @@ use std::ops::RangeBounds;
 use std::time::{Duration, Instant};
 
 /// No call waits longer than this, a year.
-const MAX_WAIT: Duration = Duration::from_secs(365 * 24 * 3600);
+pub(crate) const MAX_WAIT: Duration = Duration::from_secs(365 * 24 * 3600);
 
 impl Client {
     /// Reads the range and pins it: the rows stay what they are while the pin lives. Other clients

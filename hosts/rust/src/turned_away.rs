@@ -37,7 +37,9 @@ fn says_hello(stream: &mut Stream, end: Instant) -> bool {
     let mut frames = Frames::new(LONGEST);
     while Instant::now() < end && reads(stream, &mut frames) {
         match frames.next() {
-            Ok(Some(frame)) => return FromClient::read(frame).is_some(),
+            Ok(Some(frame)) => {
+                return matches!(FromClient::read(frame), Some(FromClient::Hello(_)));
+            }
             Ok(None) => {}
             Err(_) => return false,
         }

@@ -88,6 +88,9 @@ so.")]
         number: u8,
         /// The client's lock file, or a new file if that is lost
         lock_file: PathBuf,
+        /// The shard that the server serves, as its own --shard says, if it serves one
+        #[arg(long, value_name = "SHARD")]
+        shard: Option<krl::ShardBounds>,
     },
     /// Have a running server copy its store into a new file
     Backup {
@@ -245,6 +248,10 @@ pub struct ServeOptions {
     /// The key of that certificate, as PEM in PKCS #8
     #[arg(long, env = "KRL_STORE_KEY", value_name = "FILE", requires = "store_certificate")]
     pub store_key: Option<String>,
+    /// The shard that the server serves, as FIRST..END@VERSION: its keys, and the version of the map.
+    /// Clients of another map are refused
+    #[arg(long, env = "KRL_SHARD", value_name = "SHARD")]
+    pub shard: Option<String>,
     /// Where clients reach this server, if that is not where it listens. The store tells it
     #[arg(long, env = "KRL_ADVERTISE", value_name = "ADDRESS")]
     pub advertise: Option<String>,

@@ -22,7 +22,7 @@ mod tls_files;
 use clap::{ArgMatches, CommandFactory, FromArgMatches};
 use command_line::{Command, CommandLine, ServeOptions, TlsOptions};
 use http::StatusPort;
-use krl::{Servers, StoreError};
+use krl::{Servers, ShardBounds, StoreError};
 use settings::{BadSetting, Settings};
 use std::error::Error;
 use std::path::Path;
@@ -54,8 +54,8 @@ fn run(command: Command, matches: &ArgMatches) -> Result<ExitCode, Box<dyn Error
             print!("{}", pages::fetch(&StatusPort::new(&address, &tls)?, json)?);
         }
         Command::Locks(options) => print!("{}", locks::ask(&options)?),
-        Command::Evict { address, tls, number, lock_file } => {
-            evict(&address, &tls, number, &lock_file)?;
+        Command::Evict { address, tls, number, lock_file, shard } => {
+            evict((&address, shard), &tls, number, &lock_file)?;
         }
         Command::Backup { address, tls, file } => {
             backup::ask(&StatusPort::new(&address, &tls)?, &file)?;
@@ -75,7 +75,7 @@ fn settings(options: &ServeOptions, matches: &ArgMatches) -> Result<Settings, Ba
 }
 
 fn evict(
-    address: &str,
+    (address, shard): (&str, Option<ShardBounds>),
     tls: &TlsOptions,
     number: u8,
     lock_file: &Path,
@@ -88,6 +88,9 @@ fn evict(
         address.parse().map_err(|error| BadSetting::new(format!("'{address}': {error}")))?;
     if let Some(config) = TlsFiles::of(tls)?.read()? {
         servers = servers.with_tls(config);
+    }
+    if let Some(shard) = shard {
+        servers = servers.of_shard(shard);
     }
     krl::evict(servers, number, lock_file)?;
     eprintln!("krl-server: client {number} has left");

@@ -100,13 +100,16 @@ fn serve_store(
     Ok(())
 }
 
-/// Starts a server that lets these in, with the leases of the settings.
+/// Starts a server that lets these in, with the leases and the shard of the settings.
 pub fn start(
     settings: &Settings,
     listener: Listener,
     (store, access): (impl Store + 'static, &Access),
 ) -> Result<Server, ServeError> {
-    let builder = Server::builder(listener, store).access(access.clone());
+    let mut builder = Server::builder(listener, store).access(access.clone());
+    if let Some(shard) = settings.shard.value.0 {
+        builder = builder.shard(shard);
+    }
     match settings.lease.value.with(settings.drift.value) {
         Some(leases) => builder.leases(leases).start(),
         None => builder.start(),
@@ -121,6 +124,7 @@ pub fn ready(settings: &Settings, server: &Server, role: &Role) {
         epoch = server.status().epoch,
         address = %server.address(),
         store = %settings.store.value,
+        shard = %settings.shard.value,
         "ready"
     );
     tell(&[NotifyState::Ready]);

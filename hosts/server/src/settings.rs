@@ -10,7 +10,7 @@ pub use value::{Drift, LeaseLength, LogFormat, Optional, Seconds, StatusAddress,
 use crate::command_line::ServeOptions;
 use clap::ArgMatches;
 use clap::parser::ValueSource;
-use krl::Address;
+use krl::{Address, ShardBounds};
 use serde::Deserialize;
 use std::fmt;
 use std::path::{Path, PathBuf};
@@ -47,6 +47,7 @@ pub struct Settings {
     pub store_authority: Setting<Optional<PathBuf>>,
     pub store_certificate: Setting<Optional<PathBuf>>,
     pub store_key: Setting<Optional<PathBuf>>,
+    pub shard: Setting<Optional<ShardBounds>>,
     pub advertise: Setting<Optional<Address>>,
     pub election_lease: Setting<Seconds>,
     pub status: Setting<StatusAddress>,
@@ -71,6 +72,7 @@ struct ConfigFile {
     store_authority: Option<String>,
     store_certificate: Option<String>,
     store_key: Option<String>,
+    shard: Option<String>,
     advertise: Option<String>,
     election_lease: Option<u64>,
     status: Option<String>,
@@ -124,6 +126,12 @@ impl Settings {
                 options.store_key.as_ref(),
                 file.store_key,
                 path,
+            )?,
+            shard: given.setting(
+                &key::SHARD,
+                options.shard.as_ref(),
+                file.shard,
+                value::parse_shard,
             )?,
             advertise: given.setting(
                 &key::ADVERTISE,
@@ -261,6 +269,7 @@ impl fmt::Display for Settings {
         optional_line(f, &key::STORE_AUTHORITY, &self.store_authority)?;
         optional_line(f, &key::STORE_CERTIFICATE, &self.store_certificate)?;
         optional_line(f, &key::STORE_KEY, &self.store_key)?;
+        optional_line(f, &key::SHARD, &self.shard)?;
         if let StorePlace::Etcd(_) = self.store.value {
             optional_line(f, &key::ADVERTISE, &self.advertise)?;
             line(f, &key::ELECTION_LEASE, &self.election_lease)?;

@@ -3,13 +3,13 @@ use crate::arguments::{BenchWords, Mix, Skew};
 use crate::bench::histogram::Histogram;
 use crate::failure::Failure;
 use crate::signals::Taken;
-use krl::{Client, MAX_VALUE_BYTES, Outcome, Row, Value};
+use crate::table::Table;
+use krl::{MAX_VALUE_BYTES, Outcome, Row, Value};
 use rand::Rng;
 use rand::SeedableRng;
 use rand::distributions::{Distribution, WeightedIndex};
 use rand::rngs::StdRng;
 use std::ops::Range;
-use std::sync::Arc;
 use std::time::{Duration, Instant};
 
 /// What was measured.
@@ -90,7 +90,7 @@ impl Places {
 
 /// A thread of a client.
 pub struct Worker {
-    client: Arc<Client>,
+    table: Table,
     keys: Range<u64>,
     places: Places,
     mix: Mix,
@@ -104,13 +104,9 @@ pub struct Worker {
 }
 
 impl Worker {
-    pub fn new(
-        client: Arc<Client>,
-        keys: &Range<u64>,
-        words: &BenchWords,
-    ) -> Result<Worker, Failure> {
+    pub fn new(table: Table, keys: &Range<u64>, words: &BenchWords) -> Result<Worker, Failure> {
         Ok(Worker {
-            client,
+            table,
             keys: keys.clone(),
             places: Places::of(words.skew, words.keys)?,
             mix: words.mix,
@@ -144,11 +140,11 @@ impl Worker {
         let lo = (self.keys.start + place).min(self.keys.end - self.rows);
         let keys = lo..lo + self.rows;
         let begun = Instant::now();
-        if self.client.cached_into(keys.clone(), &mut self.room) {
+        if self.table.cached_into(keys.clone(), &mut self.room) {
             self.measured.cached.record_if(counted, begun.elapsed());
             return;
         }
-        match self.client.read(keys) {
+        match self.table.read(keys) {
             Ok(_) => self.measured.asked.record_if(counted, begun.elapsed()),
             Err(_) => self.measured.failed += 1,
         }
@@ -157,7 +153,7 @@ impl Worker {
     fn write(&mut self, place: u64, counted: bool) {
         let value = random_value(&mut self.random, self.value_size);
         let begun = Instant::now();
-        match self.client.put(self.keys.start + place, value) {
+        match self.table.put(self.keys.start + place, value) {
             Ok(Outcome::Applied) => self.measured.writes.record_if(counted, begun.elapsed()),
             _ => self.measured.failed += 1,
         }

@@ -28,10 +28,12 @@ pub struct World {
 
 impl World {
     pub fn new(name: &str) -> World {
-        let folder = World::folder_of(name);
-        let listener = Listener::bind(&"127.0.0.1:0".parse().unwrap()).unwrap();
-        let server = Server::start(listener, MemoryStore::default()).unwrap();
-        World { server, folder }
+        World::over(name, None)
+    }
+
+    /// A world whose server serves this shard.
+    pub fn over(name: &str, shard: Option<&str>) -> World {
+        World { server: start(shard), folder: World::folder_of(name) }
     }
 
     /// A new folder of a test.
@@ -51,7 +53,7 @@ impl World {
     /// The program with these words, for this server.
     pub fn command(&self, words: &[&str]) -> Command {
         let mut command = Command::new(env!("CARGO_BIN_EXE_krl-client"));
-        let settings = ["KRL_NUMBER", "KRL_LOCK_FILE", "KRL_TIMEOUT", "KRL_FORMAT"];
+        let settings = ["KRL_MAP", "KRL_NUMBER", "KRL_LOCK_FILE", "KRL_TIMEOUT", "KRL_FORMAT"];
         for name in settings {
             command.env_remove(name);
         }
@@ -93,6 +95,16 @@ impl World {
         wait_for("a client holds something", || {
             self.server.status().holdings.iter().any(|it| it.client == number && it.slots > 0)
         });
+    }
+}
+
+/// A server of this shard, or of all keys.
+pub fn start(shard: Option<&str>) -> Server {
+    let listener = Listener::bind(&"127.0.0.1:0".parse().unwrap()).unwrap();
+    let builder = Server::builder(listener, MemoryStore::default());
+    match shard {
+        Some(shard) => builder.shard(shard.parse().unwrap()).start().unwrap(),
+        None => builder.start().unwrap(),
     }
 }
 

@@ -11,7 +11,7 @@ impl<S: Store> EventLoop<S> {
     pub(super) fn deny(&mut self, connection: u64, frame: &[u8]) {
         self.status.denied += 1;
         self.log.denied(connection, &self.connections.identity(connection), client_of(frame));
-        if FromClient::read(frame).is_some() {
+        if let Some(FromClient::Hello(_)) = FromClient::read(frame) {
             self.connections.greet(connection, FromServer::Hello { answers_signs: true });
         }
         self.connections.refuse(connection, Refusal::Denied);

@@ -2,9 +2,10 @@
 use super::{Asked, JobId, Jobs, Reply};
 use crate::client_handle::Scan;
 use crate::code::Code;
+use crate::refused::Refused;
 use crate::row::Row;
 use std::ops::Range;
-use std::sync::mpsc::sync_channel;
+use std::sync::mpsc::{SyncSender, sync_channel};
 
 /// A caller waits until the client no longer knows that the range has these rows.
 pub(super) struct Watched {
@@ -17,14 +18,27 @@ pub(super) struct Watched {
 impl Jobs {
     /// Ends when the client no longer knows that the range has these rows. It asks for nothing.
     pub fn watch(&mut self, keys: Range<u64>, rows: Vec<Row>) -> Asked<()> {
+        let (told, answer) = sync_channel(1);
+        Asked { id: self.watch_and_tell(keys, rows, told), answer }
+    }
+
+    /// The same, and the end is told to one who may wait for several. There has to be room for it.
+    pub fn watch_and_tell(
+        &mut self,
+        keys: Range<u64>,
+        rows: Vec<Row>,
+        told: SyncSender<Result<(), Refused>>,
+    ) -> JobId {
         self.next += 1;
-        let (reply, answer) = sync_channel(1);
-        if self.stage != super::Stage::Ended {
-            self.watched.push(Watched { id: self.next, keys, rows, reply: Reply(reply) });
+        let reply = Reply(told);
+        if self.stage == super::Stage::Ended {
+            reply.end(Err(Refused::Stopped));
+        } else {
+            self.watched.push(Watched { id: self.next, keys, rows, reply });
             self.is_changed = true;
             self.tell_changes();
         }
-        Asked { id: self.next, answer }
+        self.next
     }
 
     /// The epoch that the client has joined.

@@ -79,7 +79,7 @@ impl Link {
     /// That no answer came in time, with the reason if the server tells one.
     fn timed_out(&self) -> Refused {
         if lock(&self.turned_away).is_some() {
-            return Refused::TurnedAway;
+            return lock(&self.other_shard).map_or(Refused::TurnedAway, Refused::OtherShard);
         }
         match *lock(&self.refusal) {
             Some((refusal, told)) if told.elapsed() < HINT => Refused::Unserved(refusal),

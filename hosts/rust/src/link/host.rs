@@ -14,9 +14,12 @@ use std::sync::atomic::Ordering;
 use std::time::Instant;
 
 impl Link {
-    /// The Hello of this host.
+    /// The Hello of this host, and the shard that it takes the server for.
     pub(super) fn hello(&self) -> Vec<u8> {
-        FromClient::Hello(*lock(&self.seen)).frame()
+        let mut frames = FromClient::Hello(*lock(&self.seen)).frame();
+        let shard = self.servers().shard().map(FromClient::Shard);
+        frames.extend(shard.map(FromClient::frame).unwrap_or_default());
+        frames
     }
 
     /// What a connection begins with. To a server that takes no host frames that is nothing, and it
@@ -42,6 +45,9 @@ impl Link {
     /// behind it, the connection ends with that.
     pub(super) fn hear_host(&self, frame: &[u8], connected: &mut Connected<'_>) -> io::Result<()> {
         match FromServer::read(frame) {
+            Some(FromServer::Refused(Refusal::OtherShard(served))) => {
+                return Err(connected.fence.is_refused(served).into());
+            }
             Some(FromServer::Refused(refusal)) => {
                 *lock(&self.refusal) = Some((refusal, Instant::now()));
                 if refusal == Refusal::Denied {
@@ -53,11 +59,17 @@ impl Link {
                 connected.heard.went_back = true;
                 return Err(self.drop_all(connected.address));
             }
-            Some(FromServer::Hello { answers_signs: false }) => self.jobs().go_without_terms()?,
+            Some(FromServer::Shard(served)) => connected.fence.hear(served)?,
+            Some(FromServer::Hello { answers_signs: false }) => {
+                connected.fence.passes()?;
+                self.jobs().go_without_terms()?;
+            }
             Some(FromServer::Hello { answers_signs: true }) => {}
             None => {
-                let answer = Answer::read(frame);
-                answer.map_or(Ok(()), |answer| self.jobs().hear_answer(answer))?;
+                if let Some(answer) = Answer::read(frame) {
+                    connected.fence.passes()?;
+                    self.jobs().hear_answer(answer)?;
+                }
             }
         }
         Ok(())

@@ -48,7 +48,8 @@ fn nothing_is_taken_behind_the_word_that_the_store_went_back() {
     let mut frames = Frames::new(LONGEST_TO_CLIENT);
     let silence = Silence::new(Instant::now(), false);
     let (address, carrier) = (link.servers.at(0), Carrier::from(Stream::Unix(ours)));
-    let mut connected = Connected { address, carrier, heard: Heard::default(), silence };
+    let mut connected =
+        Connected { address, carrier, heard: Heard::default(), silence, fence: Fence::new(None) };
     connected.carrier.fill(&mut frames).unwrap();
     let end = link.hear_all(&mut frames, &mut connected).unwrap_err();
     assert!(end.to_string().contains("went back"), "{end}");

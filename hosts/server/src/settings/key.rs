@@ -109,6 +109,14 @@ pub const ADVERTISE: Key = Key {
     default: "",
     expected: "an address at which clients reach this server",
 };
+pub const SHARD: Key = Key {
+    name: "shard",
+    flag: "--shard",
+    variable: "KRL_SHARD",
+    id: "shard",
+    default: "",
+    expected: "FIRST..END@VERSION, as 0..500000@3, or 500000..@3 for the last shard",
+};
 pub const ELECTION_LEASE: Key = Key {
     name: "election-lease",
     flag: "--election-lease",

@@ -1,6 +1,6 @@
 //! The values of settings, as they are written and read.
 use super::key;
-use krl::{Address, Identity, Leases, TableName};
+use krl::{Address, Identity, Leases, ShardBounds, TableName};
 use krl_etcd::EtcdAddress;
 use krl_postgres::PostgresAddress;
 use std::fmt;
@@ -119,6 +119,13 @@ pub fn parse_optional_address(text: &str) -> Option<Optional<Address>> {
     }
 }
 
+pub fn parse_shard(text: &str) -> Option<Optional<ShardBounds>> {
+    match text {
+        "" => Some(Optional(None)),
+        _ => text.parse().ok().map(|shard| Optional(Some(shard))),
+    }
+}
+
 pub fn parse_seconds(text: &str) -> Option<Seconds> {
     text.parse().ok().filter(|seconds| SECONDS.contains(seconds)).map(Seconds)
 }
@@ -209,6 +216,12 @@ impl fmt::Display for Optional<PathBuf> {
 impl fmt::Display for Optional<Address> {
     fn fmt(&self, f: &mut fmt::Formatter<'_>) -> fmt::Result {
         self.0.iter().try_for_each(|address| address.fmt(f))
+    }
+}
+
+impl fmt::Display for Optional<ShardBounds> {
+    fn fmt(&self, f: &mut fmt::Formatter<'_>) -> fmt::Result {
+        self.0.iter().try_for_each(|shard| shard.fmt(f))
     }
 }
 

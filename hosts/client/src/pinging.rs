@@ -1,0 +1,56 @@
+//! How long each server takes to answer.
+use crate::arguments::Format;
+use crate::commands::Context;
+use crate::failure::Failure;
+use crate::output::{print, print_json};
+use crate::place::Station;
+use krl::Refused;
+use serde_json::json;
+use std::time::{Duration, Instant};
+
+/// Asks each server of the table once, and prints how long it takes and its epoch.
+pub fn ping(context: &Context<'_>) -> Result<(), Failure> {
+    context.session.place.stations().iter().try_for_each(|station| ping_one(context, station))
+}
+
+/// The greatest key is read anew, which asks the server whatever the cache has.
+fn ping_one(context: &Context<'_>, station: &Station<'_>) -> Result<(), Failure> {
+    let (table, probed) = (&context.session.table, station.point..station.point + 1);
+    table.forget(probed.clone())?;
+    let begun = Instant::now();
+    table.read(probed.clone())?;
+    let took = begun.elapsed();
+    table.forget(probed)?;
+    let epoch = table
+        .epoch(station.shard)
+        .map_err(|refused: Refused| Failure::from(refused).at_shard(station.shard))?;
+    tell(context, station, took, epoch)
+}
+
+fn tell(
+    context: &Context<'_>,
+    station: &Station<'_>,
+    took: Duration,
+    epoch: u64,
+) -> Result<(), Failure> {
+    let (number, joined) = (context.session.number, context.session.joined_in);
+    match context.printer.format {
+        Format::Text => print(&format!(
+            "{station} answered in {took:.1?}; client {number} joined in {joined:.1?}, epoch \
+             {epoch}\n",
+        )),
+        Format::Json => {
+            let mut answer = json!({
+                "server": station.servers.to_string(),
+                "round_trip_seconds": took.as_secs_f64(),
+                "join_seconds": joined.as_secs_f64(),
+                "client": number,
+                "epoch": epoch,
+            });
+            if let Some(shard) = station.shard {
+                answer["shard"] = shard.into();
+            }
+            print_json(&answer)
+        }
+    }
+}

@@ -1,0 +1,46 @@
+//! Whom a server of a shard hears: clients that take it for what it serves.
+use super::EventLoop;
+use crate::host_frame::{self, FromClient, FromServer};
+use crate::lease::Sign;
+use crate::refusal::Refusal;
+use crate::shard_bounds::ShardBounds;
+use crate::shard_fence;
+use crate::store::Store;
+
+impl<S: Store> EventLoop<S> {
+    /// The same server, of this shard.
+    pub fn of_shard(mut self, shard: Option<ShardBounds>) -> EventLoop<S> {
+        self.shard = shard;
+        self
+    }
+
+    /// Whether a frame is heard further. A message and a sign are heard behind the word of the client's
+    /// host that it takes the server for what it serves, or at a server of all keys.
+    pub(super) fn lets_in(&mut self, connection: u64, frame: &[u8]) -> bool {
+        if let Some(FromClient::Shard(expected)) = FromClient::read(frame) {
+            if self.compare(connection, Some(expected)) {
+                self.connections.tell(connection, &FromServer::Shard(expected).frame());
+            }
+            return false;
+        }
+        let is_free = host_frame::is_of_host(frame) && Sign::read(frame).is_none();
+        is_free || self.connections.is_let_in(connection) || self.compare(connection, None)
+    }
+
+    /// Lets the connection in if its client takes the server for what it serves, and else ends it. It
+    /// answers which.
+    fn compare(&mut self, connection: u64, expected: Option<ShardBounds>) -> bool {
+        match shard_fence::compare(expected, self.shard) {
+            Ok(()) => {
+                self.connections.let_in(connection);
+                true
+            }
+            Err(other) => {
+                self.log.other_shard(connection, &other);
+                self.connections.refuse(connection, Refusal::OtherShard(self.shard));
+                self.connections.end(connection);
+                false
+            }
+        }
+    }
+}

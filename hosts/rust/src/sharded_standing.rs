@@ -1,0 +1,63 @@
+//! What a sharded client does that stands for long: it waits for changes, and it leaves while
+//! others share it.
+use crate::jobs::Jobs;
+use crate::partition::Part;
+use crate::row::Row;
+use crate::sharded::ShardedClient;
+use crate::sharded_refused::ShardRefused;
+use crate::standing::MAX_WAIT;
+use std::ops::RangeBounds;
+use std::sync::mpsc::{RecvTimeoutError, sync_channel};
+use std::time::{Duration, Instant};
+
+impl ShardedClient {
+    /// Waits until the client no longer knows that the range has these rows, at any shard, as
+    /// [`Client::wait_for_change`] does for one: it sends nothing, and answers `false` after the
+    /// time. The rows have to be in key order, as [`ShardedClient::read`] gives them.
+    ///
+    /// [`Client::wait_for_change`]: crate::Client::wait_for_change
+    #[must_use]
+    pub fn wait_for_change(
+        &self,
+        keys: impl RangeBounds<u64>,
+        rows: &[Row],
+        timeout: Duration,
+    ) -> bool {
+        let Ok(parts) = self.map().parts(keys) else { return true };
+        if parts.is_empty() {
+            return true;
+        }
+        // Each part tells one end, so none waits for room.
+        let (told, change) = sync_channel(parts.len());
+        let watch = |Part { shard, keys }: &Part| {
+            let known = rows.iter().filter(|row| keys.contains(&row.key)).copied().collect();
+            let mut jobs = self.clients()[*shard].link.jobs();
+            (*shard, jobs.watch_and_tell(keys.clone(), known, told.clone()))
+        };
+        let watched: Vec<_> = parts.iter().map(watch).collect();
+        drop(told);
+        let is_known = change.recv_timeout(timeout.min(MAX_WAIT)) == Err(RecvTimeoutError::Timeout);
+        for (shard, job) in watched {
+            self.clients()[shard].link.jobs().abandon(job);
+        }
+        !is_known
+    }
+
+    /// Does what [`ShardedClient::leave`] does, by a client that several threads share: from then
+    /// on its calls are refused. It waits so long until all servers have kept that it left.
+    ///
+    /// # Errors
+    ///
+    /// Those of [`ShardedClient::leave`].
+    pub fn depart(&self, timeout: Duration) -> Result<(), ShardRefused> {
+        let end = Instant::now() + timeout.min(MAX_WAIT);
+        let leave = |client: &crate::Client| client.link.begin(Jobs::leave);
+        let leaving: Vec<_> = self.clients().iter().map(leave).collect();
+        let mut left = Ok(());
+        for ((shard, client), leaving) in self.clients().iter().enumerate().zip(leaving) {
+            let answered = client.link.finish(leaving, end).map_err(ShardRefused::at(shard));
+            left = left.and(answered);
+        }
+        left
+    }
+}

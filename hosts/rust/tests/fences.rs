@@ -1,0 +1,231 @@
+//! The fence between maps: a server of a shard serves clients of that shard by the same map alone.
+mod peer;
+
+use krl::{Change, Client, JoinError, MemoryStore, Outcome, Refused, ServeError, Server};
+use krl::{OtherShard, Row, Shard, ShardBounds, ShardMap, ShardedClient, Value, evict};
+use peer::{HELLO, Peer, frame};
+use std::io::{Read, Write};
+use std::net::{SocketAddr, TcpListener, TcpStream};
+use std::num::NonZeroU64;
+use std::path::PathBuf;
+use std::thread;
+use std::time::Duration;
+
+/// No wait of a test is longer.
+const LONG: Duration = Duration::from_secs(20);
+
+/// The Hello of a host, and the answer to it.
+const HOST_HELLO: [u8; 10] = [2, 0, 0, 0, 0, 0, 0, 0, 0, 0];
+const HOST_ANSWER: [u8; 11] = [3, 0, 0, 0, 0, 0, 0, 0, 0, 16, 1];
+
+fn bounds(text: &str) -> ShardBounds {
+    text.parse().unwrap()
+}
+
+/// A folder that is gone when the test is.
+struct Folder(PathBuf);
+
+impl Folder {
+    fn new(name: &str) -> Folder {
+        let name = format!("krl-fences-{}-{name}", std::process::id());
+        let folder = std::env::temp_dir().join(name);
+        std::fs::create_dir_all(&folder).unwrap();
+        Folder(folder)
+    }
+
+    /// A client of this server, which it takes for that of a shard, or of all keys.
+    fn join(&self, server: &Server, shard: Option<&str>) -> Result<Client, JoinError> {
+        let servers = krl::Servers::from(server.address());
+        let servers = match shard {
+            Some(shard) => servers.of_shard(bounds(shard)),
+            None => servers,
+        };
+        let builder = Client::builder(servers).number(3).timeout(LONG);
+        builder.lock_file(self.0.join("client.lock")).join()
+    }
+}
+
+impl Drop for Folder {
+    fn drop(&mut self) {
+        let _ = std::fs::remove_dir_all(&self.0);
+    }
+}
+
+fn start(address: &str, store: MemoryStore, shard: Option<&str>) -> Result<Server, ServeError> {
+    let builder = Server::builder(TcpListener::bind(address).unwrap(), store);
+    match shard {
+        Some(shard) => builder.shard(bounds(shard)).start(),
+        None => builder.start(),
+    }
+}
+
+fn server(shard: Option<&str>) -> Server {
+    start("127.0.0.1:0", MemoryStore::default(), shard).unwrap()
+}
+
+fn map(version: u64, shards: &[(u64, &Server)]) -> ShardMap {
+    let shard = |(first, server): &(u64, &Server)| {
+        let servers = server.address().into();
+        Shard { first: *first, servers }
+    };
+    let map = ShardMap::new(shards.iter().map(shard).collect()).unwrap();
+    map.with_version(NonZeroU64::new(version).unwrap())
+}
+
+#[test]
+fn a_client_of_the_same_shard_is_served_and_every_other_one_is_refused() {
+    let folder = Folder::new("same");
+    let shards = [None, Some("0..9@3"), Some("0..8@3"), Some("1..9@3"), Some("0..9@4")];
+    for served in shards {
+        let server = server(served);
+        for expected in shards {
+            let joined = folder.join(&server, expected);
+            if expected == served {
+                let client = joined.unwrap();
+                assert_eq!(client.insert(5, Value::from(1)), Ok(Outcome::Applied));
+                client.leave().unwrap();
+                continue;
+            }
+            let Err(JoinError::OtherShard(OtherShard { expected: ours, served: theirs, .. })) =
+                joined
+            else {
+                panic!("{expected:?} at {served:?}: {joined:?}");
+            };
+            assert_eq!((ours, theirs), (expected.map(bounds), served.map(bounds)));
+        }
+        let records = server.monitor().snapshot().unwrap().records;
+        assert_eq!(records.len(), 1, "the library hears the served client alone");
+    }
+}
+
+#[test]
+fn the_library_hears_nothing_before_the_shard_was_said() {
+    let server = server(Some("0..9@3"));
+    let refused = {
+        let numbers: Vec<u8> = [0_u64, 9, 3].into_iter().flat_map(u64::to_le_bytes).collect();
+        [&[27, 0, 0, 0, 0, 0, 0, 0, 0, 17, 7][..], &numbers].concat()
+    };
+    let sign = {
+        let numbers: Vec<u8> = [3_u64, 1, 5, 0, 0].into_iter().flat_map(u64::to_le_bytes).collect();
+        [&[42, 0, 0, 0, 0, 0, 0, 0, 0, 1][..], &numbers].concat()
+    };
+    for speech in [frame(HELLO, 3, 1, &[]), sign] {
+        let mut peer = Peer::new(&server);
+        peer.say(&HOST_HELLO);
+        peer.say(&speech);
+        assert_eq!(peer.hear(LONG), [&HOST_ANSWER[..], &refused].concat());
+    }
+    let mut silent = Peer::new(&server);
+    silent.say(&frame(HELLO, 3, 1, &[]));
+    assert_eq!(silent.hear(LONG), [], "its host takes no host frames");
+    assert_eq!(server.status().taken, 0);
+    assert!(server.monitor().snapshot().unwrap().records.is_empty());
+}
+
+/// The next frame of a stream, or `None` at its end.
+fn next_frame(stream: &mut TcpStream) -> Option<Vec<u8>> {
+    let mut length = [0; 8];
+    stream.read_exact(&mut length).ok()?;
+    let mut frame = vec![0; usize::try_from(u64::from_le_bytes(length)).unwrap()];
+    stream.read_exact(&mut frame).ok()?;
+    Some(frame)
+}
+
+/// A server that answers signs and knows nothing of shards. It gives all that its first client says.
+fn heedless_server() -> (SocketAddr, thread::JoinHandle<Vec<Vec<u8>>>) {
+    let listener = TcpListener::bind("127.0.0.1:0").unwrap();
+    let address = listener.local_addr().unwrap();
+    let heard = thread::spawn(move || {
+        let (mut stream, mut heard) = (listener.accept().unwrap().0, Vec::new());
+        stream.write_all(&HOST_ANSWER).unwrap();
+        while let Some(frame) = next_frame(&mut stream) {
+            if frame.starts_with(&[0, 1]) {
+                let (incarnation, moment) = (&frame[10..18], &frame[18..26]);
+                let kind = [26, 0, 0, 0, 0, 0, 0, 0, 0, 20];
+                let terms = [&kind[..], incarnation, moment, &u64::MAX.to_le_bytes()].concat();
+                let _ = stream.write_all(&terms);
+            }
+            heard.push(frame);
+        }
+        heard
+    });
+    (address, heard)
+}
+
+#[test]
+fn a_client_says_nothing_of_the_library_to_a_server_that_confirms_no_shard() {
+    let folder = Folder::new("heedless");
+    let (address, heard) = heedless_server();
+    let servers = krl::Servers::from(address).of_shard(bounds("0..9@3"));
+    let builder = Client::builder(servers).number(3).lock_file(folder.0.join("client.lock"));
+    let refused = builder.timeout(LONG).join().unwrap_err();
+    let JoinError::OtherShard(other) = &refused else { panic!("{refused:?}") };
+    assert_eq!((other.expected, other.served), (Some(bounds("0..9@3")), None));
+    let heard = heard.join().unwrap();
+    assert!(heard.iter().all(|frame| frame.starts_with(&[0])), "{heard:?}");
+    assert!(heard[1].starts_with(&[0, 2, 0, 0, 0, 0, 0, 0, 0, 0, 9]), "{heard:?}");
+}
+
+#[test]
+fn who_has_an_old_map_behind_a_split_writes_to_no_side_of_it() {
+    let folder = Folder::new("split");
+    let one = server(Some("0..@1"));
+    let old_map = map(1, &[(0, &one)]);
+    let join = |map: &ShardMap, number| {
+        let builder = ShardedClient::builder(map.clone()).number(number).timeout(LONG);
+        builder.lock_folder(&folder.0).join()
+    };
+    let old = join(&old_map, 1).unwrap();
+    assert_eq!(old.insert(50, Value::from(1)), Ok(Outcome::Applied));
+    // The client is evicted, its process goes on, and the server is split and started anew.
+    let address = one.address().to_string();
+    let mut whole = one.monitor().snapshot().unwrap();
+    one.stop().unwrap();
+    for client in whole.present() {
+        whole.apply(&Change::Left { client });
+    }
+    let (lower, upper) = whole.split(40);
+    let store = |snapshot| MemoryStore { snapshot };
+    let lower = start(&address, store(lower), Some("0..40@2")).unwrap();
+    let upper = start("127.0.0.1:0", store(upper), Some("40..@2")).unwrap();
+    let new_map = map(2, &[(0, &lower), (40, &upper)]);
+    for key in [10, 60] {
+        let refused = old.insert(key, Value::from(2)).unwrap_err();
+        let Refused::OtherShard(other) = refused.refused else { panic!("{refused:?}") };
+        assert_eq!((refused.shard, other.served), (Some(0), Some(bounds("0..40@2"))));
+        assert!(refused.to_string().contains("has to be loaded anew"), "{refused}");
+    }
+    let new = join(&new_map, 2).unwrap();
+    assert_eq!(new.read(..), Ok(vec![Row { key: 50, value: Value::from(1) }]));
+    assert_eq!(new.insert(60, Value::from(3)), Ok(Outcome::Applied));
+    drop(old);
+    let keys = |server: &Server| -> Vec<u64> {
+        server.monitor().snapshot().unwrap().rows.into_keys().collect()
+    };
+    assert_eq!((keys(&lower), keys(&upper)), (vec![], vec![50, 60]));
+}
+
+#[test]
+fn a_store_with_a_key_of_another_shard_is_not_served() {
+    let mut store = MemoryStore::default();
+    for key in [10, 50] {
+        store.snapshot.rows.insert(key, Value::from(0));
+    }
+    let refused = start("127.0.0.1:0", store, Some("0..40@2")).unwrap_err();
+    let ServeError::OtherKey { key: 50, shard } = &refused else { panic!("{refused:?}") };
+    assert_eq!(*shard, bounds("0..40@2"));
+    assert!(refused.to_string().contains("the key 50"), "{refused}");
+}
+
+#[test]
+fn an_operator_who_names_the_shard_evicts_its_client() {
+    let folder = Folder::new("evict");
+    let server = server(Some("0..9@3"));
+    std::mem::forget(folder.join(&server, Some("0..9@3")).unwrap());
+    let at = |shard: &str| krl::Servers::from(server.address()).of_shard(bounds(shard));
+    let lock = folder.0.join("operator.lock");
+    assert!(matches!(evict(at("0..9@2"), 3, &lock), Err(JoinError::OtherShard(_))));
+    evict(at("0..9@3"), 3, &lock).unwrap();
+    let records = server.monitor().snapshot().unwrap().records;
+    assert!(records.iter().all(|record| record.left), "{records:?}");
+}

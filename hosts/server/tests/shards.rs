@@ -1,0 +1,64 @@
+//! A server of one shard: whom it serves, on which store, and who may evict there.
+mod common;
+
+use common::{Serving, errors, program, run};
+use krl::{Change, Client, JoinError, Outcome, Servers, Snapshot, SqliteStore, Value};
+use std::path::Path;
+use std::time::Duration;
+
+/// No wait of a test is longer.
+const LONG: Duration = Duration::from_secs(60);
+
+fn serve(store: &Path, shard: &str) -> Serving {
+    Serving::start_by(program().arg("serve").arg("--store").arg(store).args(["--shard", shard]))
+}
+
+fn join(serving: &Serving, shard: &str, lock_file: &Path) -> Result<Client, JoinError> {
+    let servers = Servers::from(&serving.address).of_shard(shard.parse().unwrap());
+    Client::builder(servers).number(3).lock_file(lock_file).timeout(LONG).join()
+}
+
+#[test]
+fn a_server_of_a_shard_serves_its_clients_alone() {
+    let folder = tempfile::tempdir().unwrap();
+    let (store, lock) = (folder.path().join("krl.db"), folder.path().join("3.lock"));
+    let serving = serve(&store, "0..500@3");
+    let refused = join(&serving, "0..500@2", &lock).unwrap_err();
+    assert!(matches!(refused, JoinError::OtherShard(_)), "{refused:?}");
+    let client = join(&serving, "0..500@3", &lock).unwrap();
+    assert_eq!(client.insert(499, Value::from(1)), Ok(Outcome::Applied));
+    client.leave().unwrap();
+}
+
+#[test]
+fn a_store_with_a_key_of_another_shard_is_not_served() {
+    let folder = tempfile::tempdir().unwrap();
+    let store = folder.path().join("krl.db");
+    let rows = [(700, Value::from(1))].into();
+    SqliteStore::create(&store, &Snapshot { epoch: 1, rows, ..Snapshot::default() }).unwrap();
+    let words = ["serve", "--shard", "0..500@3", "--status", "off", "--listen", "127.0.0.1:0"];
+    let ended = run(&[&words[..], &["--store", store.to_str().unwrap()]].concat());
+    assert_eq!(ended.status.code(), Some(1));
+    let said = [errors(&ended), common::text(&ended)].concat();
+    assert!(said.contains("the store has the key 700, which the shard 0..500@3"), "{said}");
+    let refused = run(&["config", "--shard", "500..0@3"]);
+    assert_eq!(refused.status.code(), Some(2));
+    assert!(errors(&refused).contains("has to be FIRST..END@VERSION"), "{}", errors(&refused));
+}
+
+#[test]
+fn who_evicts_at_a_shard_names_it() {
+    let folder = tempfile::tempdir().unwrap();
+    let (store, lock) = (folder.path().join("krl.db"), folder.path().join("operator.lock"));
+    let mut before = Snapshot::default();
+    before.apply(&Change::Started { epoch: 1 });
+    before.apply(&Change::Registered { client: 3, incarnation: 17 });
+    SqliteStore::create(&store, &before).unwrap();
+    let serving = serve(&store, "0..500@3");
+    let (address, lock) = (serving.address.to_string(), lock.to_str().unwrap().to_string());
+    let refused = run(&["evict", &address, "3", &lock]);
+    assert_eq!(refused.status.code(), Some(1));
+    assert!(errors(&refused).contains("0..500@3 alone"), "{}", errors(&refused));
+    let evicted = run(&["evict", &address, "3", &lock, "--shard", "0..500@3"]);
+    assert_eq!(evicted.status.code(), Some(0), "{}", errors(&evicted));
+}
