@@ -58,10 +58,12 @@ impl Place {
     /// That no row fits in where this key is.
     pub fn full(&self, key: u64) -> String {
         match self {
-            Place::One(_) => "the table has its 65,536 rows".into(),
+            Place::One(_) => "the table has all the rows that its server has room for".into(),
             Place::Sharded(map) => {
                 let shard = map.shard_of(key).map_or(String::new(), |shard| shard.to_string());
-                format!("shard {shard} has its 65,536 rows: it has to be split")
+                format!(
+                    "shard {shard} has all the rows that its server has room for: it has to be split"
+                )
             }
         }
     }

@@ -42,7 +42,7 @@ class Outcome(Enum):
     NOT_HELD = 4
     """The client did not hold what the write needs. No call answers it: the client asks again."""
     FULL = 5
-    """The table has its 65,536 rows."""
+    """The table has all the rows that its server has room for."""
 
 
 class Row(NamedTuple):

@@ -26,7 +26,7 @@ pub enum Outcome {
     Absent,
     /// The client did not hold what the write needs.
     NotHeld,
-    /// An insert into a table that has its 65,536 rows.
+    /// An insert into a table that has all the rows that its server has room for.
     Full,
 }
 

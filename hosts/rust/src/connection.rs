@@ -2,7 +2,7 @@
 //! written.
 use crate::access::Entry;
 use crate::event_log::Seldom;
-use crate::frames::{Frames, GULP, LONGEST_TO_SERVER};
+use crate::frames::{Frames, GULP};
 use crate::history::Mark;
 use crate::host_frame::FromServer;
 use crate::identity::Identity;
@@ -83,13 +83,19 @@ pub(crate) struct Connection {
 }
 
 impl Connection {
-    pub fn new(stream: Stream, entry: Entry, now: Instant) -> io::Result<Connection> {
+    /// A new connection, whose messages have at most `longest` bytes.
+    pub fn new(
+        stream: Stream,
+        entry: Entry,
+        longest: usize,
+        now: Instant,
+    ) -> io::Result<Connection> {
         stream.set_waiting(false)?;
         Ok(Connection {
             stream,
             entry,
             has_spoken: false,
-            incoming: Frames::new(LONGEST_TO_SERVER),
+            incoming: Frames::new(longest),
             unread: Unread::Nothing,
             heard: now,
             outgoing: Outgoing::default(),

@@ -8,6 +8,7 @@ use crate::host_frame::FromServer;
 use crate::listening::Listening;
 use crate::poller::{Poller, Readiness, Ready, Watched};
 use crate::refusal::Refusal;
+use crate::room::Room;
 use crate::routing::Routes;
 use crate::strangers::Strangers;
 use crate::stream::{Accepted, Listener};
@@ -29,6 +30,8 @@ pub(crate) struct Connections {
     poller: Poller,
     listening: Listening,
     access: Access,
+    /// The longest message that is taken.
+    longest: usize,
     open: HashMap<u64, Peer>,
     strangers: Strangers,
     routes: Routes,
@@ -59,10 +62,12 @@ pub(crate) enum Turn {
 }
 
 impl Connections {
-    /// Takes connections from the listener, and what wakes it from other threads.
+    /// Takes at most so many connections from the listener, for a server of this room; and what wakes
+    /// it from other threads.
     pub fn new(
         listener: Listener,
         most: usize,
+        room: Room,
         access: Access,
     ) -> io::Result<(Connections, Arc<Waker>)> {
         let (poller, waker) = Poller::new(&listener)?;
@@ -70,6 +75,7 @@ impl Connections {
             poller,
             listening: Listening::new(listener, most)?,
             access,
+            longest: room.longest_message(),
             open: HashMap::new(),
             strangers: Strangers::default(),
             routes: Routes::default(),
@@ -308,10 +314,11 @@ impl Peer {
         number: u64,
         poller: &Poller,
         access: &Access,
+        longest: usize,
         now: Instant,
     ) -> io::Result<Peer> {
         let entry = access.enter(&accepted)?;
-        let connection = Connection::new(accepted.stream, entry, now)?;
+        let connection = Connection::new(accepted.stream, entry, longest, now)?;
         poller.add(number, connection.stream())?;
         let watched = Watched::Reads;
         Ok(Peer { connection, is_in_ready: false, is_in_sending: false, watched })

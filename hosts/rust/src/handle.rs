@@ -3,6 +3,7 @@ use crate::change::{Change, Outcome, Record, Snapshot, Write};
 use crate::code::Code;
 use crate::ffi;
 use crate::locks::HeldSlot;
+use crate::room::Room;
 use crate::row::Row;
 use crate::watch::{CLIENTS, Waiting, mode_name};
 use std::ptr;
@@ -84,9 +85,9 @@ pub(crate) fn done(reply: ffi::Reply) -> Result<u64, Code> {
 pub(crate) struct ServerHandle(Handle);
 
 impl ServerHandle {
-    /// Starts a server on what was kept, and says its epoch: it has to be kept before anything is
-    /// sent.
-    pub fn open(snapshot: &Snapshot) -> Result<(ServerHandle, u64), Code> {
+    /// Starts a server of this room on what was kept, and says its epoch: it has to be kept before
+    /// anything is sent.
+    pub fn open(snapshot: &Snapshot, room: Room) -> Result<(ServerHandle, u64), Code> {
         let rows: Vec<Row> =
             snapshot.rows.iter().map(|(key, value)| Row { key: *key, value: *value }).collect();
         let records: Vec<_> = snapshot.records.iter().map(raw_record).collect();
@@ -95,7 +96,7 @@ impl ServerHandle {
         let reply = unsafe {
             ffi::krl_server_open(
                 handle.raw(),
-                ffi::DEFAULT_ROOM,
+                room.rows(),
                 snapshot.epoch,
                 rows.as_ptr(),
                 rows.len(),

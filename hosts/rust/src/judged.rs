@@ -2,6 +2,7 @@
 use crate::change::Snapshot;
 use crate::code::Code;
 use crate::handle::ServerHandle;
+use crate::room::Room;
 
 impl Snapshot {
     /// Judges it as a server does that starts on it. Nothing is kept, and no server runs after it.
@@ -11,6 +12,6 @@ impl Snapshot {
     /// The code by which the library refuses it: it is not what a server kept, or memory was
     /// refused.
     pub fn judge(&self) -> Result<(), Code> {
-        ServerHandle::open(self).map(drop)
+        ServerHandle::open(self, Room::MAX).map(drop)
     }
 }

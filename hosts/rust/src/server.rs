@@ -1,5 +1,4 @@
 //! A server over a network and a store.
-use crate::access::Access;
 use crate::address::Address;
 use crate::boot_clock::Moment;
 use crate::change::{Change, Snapshot};
@@ -8,10 +7,11 @@ use crate::connections::Connections;
 use crate::event_log::EventLog;
 use crate::event_loop::EventLoop;
 use crate::handle::ServerHandle;
-use crate::leases::{LeaseTable, Leases};
+use crate::leases::LeaseTable;
 use crate::monitor::Monitor;
 use crate::requests::{Request, Requests};
-use crate::server_builder::ServerBuilder;
+use crate::room::Room;
+use crate::server_builder::{Options, ServerBuilder};
 use crate::shard_bounds::ShardBounds;
 use crate::shard_fence;
 use crate::status::Status;
@@ -52,6 +52,13 @@ pub enum ServeError {
         key: u64,
         /// The shard.
         shard: ShardBounds,
+    },
+    /// The store has more rows than the server has room for.
+    MoreRows {
+        /// How many rows.
+        rows: usize,
+        /// The room.
+        room: Room,
     },
     /// A thread of the server panicked.
     Panicked,
@@ -98,17 +105,18 @@ impl Server {
     pub(crate) fn start_with(
         listener: Listener,
         mut store: impl Store + 'static,
-        (access, leases): (Access, Option<Leases>),
-        (bounds, max_connections): (Option<ShardBounds>, usize),
+        options: Options,
     ) -> Result<Server, ServeError> {
+        let Options { access, leases, shard, room, max_connections } = options;
         let address = listener.address()?;
         access.check(&address)?;
         if access.has_users() {
             listener.let_users_connect()?;
         }
         let snapshot = store.load()?;
-        refuse_other_keys(&snapshot, bounds)?;
-        let (server, epoch) = ServerHandle::open(&snapshot).map_err(ServeError::Refused)?;
+        refuse_other_keys(&snapshot, shard)?;
+        refuse_more_rows(&snapshot, room)?;
+        let (server, epoch) = ServerHandle::open(&snapshot, room).map_err(ServeError::Refused)?;
         let record = snapshot.leases.at_start(leases);
         let revised = (record != snapshot.leases).then_some(Change::Leased(record));
         // The epoch and what is known of leases are kept before anything is sent.
@@ -118,7 +126,7 @@ impl Server {
         let now = Moment::now().map_err(ServeError::Clock)?;
         let table = LeaseTable::start(record, &snapshot.records, leases, now);
         let history = store.history()?;
-        let (connections, waker) = Connections::new(listener, max_connections, access)?;
+        let (connections, waker) = Connections::new(listener, max_connections, room, access)?;
         let (requests, asked) = Requests::new(waker);
         let status = Arc::new(Mutex::new(Status { epoch, ..Status::default() }));
         let shown = Arc::clone(&status);
@@ -128,7 +136,7 @@ impl Server {
         let (stored, heard) = ((store, history), (connections, asked));
         let shared = Arc::clone(&timings);
         let events = EventLoop::new(server, stored, heard, table, shared, epoch, log);
-        let events = events.of_shard(bounds);
+        let events = events.of_shard(shard);
         let thread = thread::Builder::new().name("krl-server".into());
         let thread = thread.spawn(move || events.run_to_the_end(&shown))?;
         Ok(Server { address, requests, status, timings, thread: Some(thread) })
@@ -211,6 +219,12 @@ fn refuse_other_keys(store: &Snapshot, shard: Option<ShardBounds>) -> Result<(),
     stray.map_or(Ok(()), |key| Err(ServeError::OtherKey { key, shard }))
 }
 
+/// Refuses a store with more rows than the server has room for.
+fn refuse_more_rows(store: &Snapshot, room: Room) -> Result<(), ServeError> {
+    let rows = store.rows.len();
+    if rows > room.rows() { Err(ServeError::MoreRows { rows, room }) } else { Ok(()) }
+}
+
 impl fmt::Debug for Server {
     fn fmt(&self, f: &mut fmt::Formatter<'_>) -> fmt::Result {
         f.debug_struct("Server").field("address", self.address()).finish_non_exhaustive()
@@ -233,6 +247,10 @@ impl fmt::Display for ServeError {
             ServeError::Refused(code) => write!(f, "the server can't run: {code}"),
             ServeError::Network(error) => write!(f, "the listener failed: {error}"),
             ServeError::Clock(error) => write!(f, "the clock of leases can't be read: {error}"),
+            ServeError::MoreRows { rows, room } => write!(
+                f,
+                "the store has {rows} rows, and the server room for {room}: start it with more room"
+            ),
             ServeError::OtherKey { key, shard } => write!(
                 f,
                 "the store has the key {key}, which the shard {shard} does not have: it is another \
@@ -249,7 +267,9 @@ impl std::error::Error for ServeError {
             ServeError::Store(error) => Some(error),
             ServeError::Refused(code) => Some(code),
             ServeError::Network(error) | ServeError::Clock(error) => Some(error),
-            ServeError::OtherKey { .. } | ServeError::Panicked => None,
+            ServeError::OtherKey { .. } | ServeError::MoreRows { .. } | ServeError::Panicked => {
+                None
+            }
         }
     }
 }

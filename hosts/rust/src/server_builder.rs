@@ -2,6 +2,7 @@
 use crate::access::Access;
 use crate::connections::MAX_CONNECTIONS;
 use crate::leases::Leases;
+use crate::room::Room;
 use crate::server::{ServeError, Server};
 use crate::shard_bounds::ShardBounds;
 use crate::store::Store;
@@ -9,27 +10,40 @@ use crate::stream::Listener;
 use std::fmt;
 
 /// A server that has not started: its listener, its store, whom it lets in, how many connections it
-/// takes, and the leases that it grants.
+/// takes, for how many rows it has room, and the leases that it grants.
 #[must_use = "a builder does nothing before `start`"]
 pub struct ServerBuilder<S> {
     listener: Listener,
     store: S,
-    max_connections: usize,
-    access: Access,
-    leases: Option<Leases>,
-    shard: Option<ShardBounds>,
+    options: Options,
+}
+
+/// What a server is told before it starts.
+#[derive(Debug)]
+pub(crate) struct Options {
+    pub access: Access,
+    pub leases: Option<Leases>,
+    pub shard: Option<ShardBounds>,
+    pub room: Room,
+    pub max_connections: usize,
 }
 
 impl<S: Store + 'static> ServerBuilder<S> {
     pub(crate) fn new(listener: Listener, store: S) -> ServerBuilder<S> {
-        let (access, max_connections) = (Access::new(), MAX_CONNECTIONS);
-        ServerBuilder { listener, store, max_connections, access, leases: None, shard: None }
+        let options = Options {
+            access: Access::new(),
+            leases: None,
+            shard: None,
+            room: Room::default(),
+            max_connections: MAX_CONNECTIONS,
+        };
+        ServerBuilder { listener, store, options }
     }
 
     /// Whom the server lets in: if this is not called, whoever can connect, by plain TCP on the
     /// loopback alone, and its own user over a Unix socket.
     pub fn access(mut self, access: Access) -> ServerBuilder<S> {
-        self.access = access;
+        self.options.access = access;
         self
     }
 
@@ -37,7 +51,7 @@ impl<S: Store + 'static> ServerBuilder<S> {
     /// oldest is closed that has not said who it is; if there is none, the new one is closed as it
     /// comes. Each client takes one.
     pub fn max_connections(mut self, count: usize) -> ServerBuilder<S> {
-        self.max_connections = count;
+        self.options.max_connections = count;
         self
     }
 
@@ -45,14 +59,22 @@ impl<S: Store + 'static> ServerBuilder<S> {
     /// longer, once no cache of that client can answer any more. If this is not called it grants
     /// none, and only an operator evicts a client.
     pub fn leases(mut self, leases: Leases) -> ServerBuilder<S> {
-        self.leases = Some(leases);
+        self.options.leases = Some(leases);
         self
     }
 
     /// The shard that the server serves, by a map of this version: it serves clients that take it for
     /// this, and no others. If this is not called it serves all keys, and no client of a shard.
     pub fn shard(mut self, shard: ShardBounds) -> ServerBuilder<S> {
-        self.shard = Some(shard);
+        self.options.shard = Some(shard);
+        self
+    }
+
+    /// For how many rows the server has room: 65,536 if this is not called. An insert into a table that
+    /// has so many is judged `Full`. The memory for them is reserved at the start, and used as rows
+    /// come.
+    pub fn room(mut self, room: Room) -> ServerBuilder<S> {
+        self.options.room = room;
         self
     }
 
@@ -60,18 +82,17 @@ impl<S: Store + 'static> ServerBuilder<S> {
     ///
     /// # Errors
     ///
-    /// Those of [`Server::start`]; `OtherKey` if the store has a key that the shard does not have.
+    /// Those of [`Server::start`]; `OtherKey` if the store has a key that the shard does not have;
+    /// `MoreRows` if it has more rows than there is room for.
     pub fn start(self) -> Result<Server, ServeError> {
-        let ServerBuilder { listener, store, max_connections, access, leases, shard } = self;
-        Server::start_with(listener, store, (access, leases), (shard, max_connections))
+        Server::start_with(self.listener, self.store, self.options)
     }
 }
 
 impl<S> fmt::Debug for ServerBuilder<S> {
     fn fmt(&self, f: &mut fmt::Formatter<'_>) -> fmt::Result {
         let mut shown = f.debug_struct("ServerBuilder");
-        shown.field("listener", &self.listener).field("access", &self.access);
-        shown.field("max_connections", &self.max_connections);
+        shown.field("listener", &self.listener).field("options", &self.options);
         shown.finish_non_exhaustive()
     }
 }

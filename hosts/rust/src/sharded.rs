@@ -25,7 +25,7 @@ use std::time::{Duration, Instant};
 /// first one alone, also after a crash between the two.
 ///
 /// All that [`Client`] says of a client holds at each shard: so each shard has its own lock file,
-/// its own eight pins, and its own 65,536 rows.
+/// its own eight pins, and its own room for rows.
 #[derive(Debug)]
 pub struct ShardedClient {
     map: ShardMap,

@@ -248,6 +248,9 @@ pub struct ServeOptions {
     /// The key of that certificate, as PEM in PKCS #8
     #[arg(long, env = "KRL_STORE_KEY", value_name = "FILE", requires = "store_certificate")]
     pub store_key: Option<String>,
+    /// How many rows the table may have, from 1 to 1048576
+    #[arg(long, env = "KRL_ROOM", value_name = "ROWS")]
+    pub room: Option<String>,
     /// The shard that the server serves, as FIRST..END@VERSION: its keys, and the version of the map.
     /// Clients of another map are refused
     #[arg(long, env = "KRL_SHARD", value_name = "SHARD")]

@@ -100,13 +100,14 @@ fn serve_store(
     Ok(())
 }
 
-/// Starts a server that lets these in, with the leases and the shard of the settings.
+/// Starts a server that lets these in, with the leases, the room and the shard of the settings.
 pub fn start(
     settings: &Settings,
     listener: Listener,
     (store, access): (impl Store + 'static, &Access),
 ) -> Result<Server, ServeError> {
     let mut builder = Server::builder(listener, store).access(access.clone());
+    builder = builder.room(settings.room.value);
     if let Some(shard) = settings.shard.value.0 {
         builder = builder.shard(shard);
     }
@@ -124,6 +125,7 @@ pub fn ready(settings: &Settings, server: &Server, role: &Role) {
         epoch = server.status().epoch,
         address = %server.address(),
         store = %settings.store.value,
+        room = %settings.room.value,
         shard = %settings.shard.value,
         "ready"
     );

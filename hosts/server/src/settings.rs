@@ -10,7 +10,7 @@ pub use value::{Drift, LeaseLength, LogFormat, Optional, Seconds, StatusAddress,
 use crate::command_line::ServeOptions;
 use clap::ArgMatches;
 use clap::parser::ValueSource;
-use krl::{Address, ShardBounds};
+use krl::{Address, Room, ShardBounds};
 use serde::Deserialize;
 use std::fmt;
 use std::path::{Path, PathBuf};
@@ -47,6 +47,7 @@ pub struct Settings {
     pub store_authority: Setting<Optional<PathBuf>>,
     pub store_certificate: Setting<Optional<PathBuf>>,
     pub store_key: Setting<Optional<PathBuf>>,
+    pub room: Setting<Room>,
     pub shard: Setting<Optional<ShardBounds>>,
     pub advertise: Setting<Optional<Address>>,
     pub election_lease: Setting<Seconds>,
@@ -72,6 +73,7 @@ struct ConfigFile {
     store_authority: Option<String>,
     store_certificate: Option<String>,
     store_key: Option<String>,
+    room: Option<u64>,
     shard: Option<String>,
     advertise: Option<String>,
     election_lease: Option<u64>,
@@ -126,6 +128,12 @@ impl Settings {
                 options.store_key.as_ref(),
                 file.store_key,
                 path,
+            )?,
+            room: given.setting(
+                &key::ROOM,
+                options.room.as_ref(),
+                file.room.map(|rows| rows.to_string()),
+                |text| text.parse().ok(),
             )?,
             shard: given.setting(
                 &key::SHARD,
@@ -269,6 +277,7 @@ impl fmt::Display for Settings {
         optional_line(f, &key::STORE_AUTHORITY, &self.store_authority)?;
         optional_line(f, &key::STORE_CERTIFICATE, &self.store_certificate)?;
         optional_line(f, &key::STORE_KEY, &self.store_key)?;
+        line(f, &key::ROOM, &self.room)?;
         optional_line(f, &key::SHARD, &self.shard)?;
         if let StorePlace::Etcd(_) = self.store.value {
             optional_line(f, &key::ADVERTISE, &self.advertise)?;
@@ -283,7 +292,7 @@ impl fmt::Display for Settings {
 }
 
 /// The settings that are numbers in a file.
-const NUMBERS: [&str; 2] = [key::ELECTION_LEASE.name, key::DRIFT.name];
+const NUMBERS: [&str; 3] = [key::ELECTION_LEASE.name, key::DRIFT.name, key::ROOM.name];
 
 fn line<T: fmt::Display>(
     f: &mut fmt::Formatter<'_>,

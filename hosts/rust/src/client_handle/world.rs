@@ -4,6 +4,7 @@ use crate::change::Snapshot;
 use crate::frames::split;
 use crate::handle::ServerHandle;
 use crate::message::client_of;
+use crate::room::Room;
 use crate::row::{Row, Value};
 use std::ops::Range;
 use std::sync::{Arc, Mutex};
@@ -47,7 +48,8 @@ impl<S: Scanned> World<S> {
     /// A world in which the scanned client knows all rows.
     pub fn new(scanned: impl FnOnce(ClientHandle) -> S) -> World<S> {
         let rows = (0..ROWS).map(|place| (STEP * place, Value::from(place))).collect();
-        let (server, _) = ServerHandle::open(&Snapshot { rows, ..Snapshot::default() }).unwrap();
+        let (server, _) =
+            ServerHandle::open(&Snapshot { rows, ..Snapshot::default() }, Room::default()).unwrap();
         let [first, other] = [0, 1].map(|number| ClientHandle::open(number, 1).unwrap());
         let mut world = World { server, scanned: scanned(first), other, frames: Vec::new() };
         world.settle();

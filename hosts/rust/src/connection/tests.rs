@@ -1,4 +1,5 @@
 use super::*;
+use crate::frames::LONGEST_TO_SERVER;
 use std::io::Write;
 use std::os::unix::net::UnixStream;
 use std::sync::mpsc::channel;
@@ -12,7 +13,7 @@ fn connection() -> (Connection, UnixStream) {
     let (ours, theirs) = UnixStream::pair().unwrap();
     theirs.set_nonblocking(true).unwrap();
     let entry = Entry::Known(Identity::everybody());
-    (Connection::new(Stream::Unix(ours), entry, Instant::now()).unwrap(), theirs)
+    (Connection::new(Stream::Unix(ours), entry, LONGEST_TO_SERVER, Instant::now()).unwrap(), theirs)
 }
 
 fn send(connection: &mut Connection, frame: &[u8], mark: Option<Mark>) {

@@ -19,7 +19,7 @@ impl Connections {
     fn open(&mut self, accepted: Accepted) {
         let (number, from) = (self.next, accepted.from);
         self.next += 1;
-        match Peer::new(accepted, number, &self.poller, &self.access, self.now) {
+        match Peer::new(accepted, number, &self.poller, &self.access, self.longest, self.now) {
             Ok(peer) => {
                 self.open.insert(number, peer);
                 let gone = self.strangers.comes(number, from, self.now);

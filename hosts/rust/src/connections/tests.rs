@@ -1,4 +1,5 @@
 use super::*;
+use crate::room::Room;
 use crate::strangers::PATIENCE;
 use std::io::{Read, Write};
 use std::net::{SocketAddr, TcpListener, TcpStream};
@@ -19,7 +20,7 @@ fn connections() -> (Connections, SocketAddr, Arc<Waker>) {
     let listener = TcpListener::bind("127.0.0.1:0").unwrap();
     let at = listener.local_addr().unwrap();
     let (connections, waker) =
-        Connections::new(listener.into(), MAX_CONNECTIONS, Access::new()).unwrap();
+        Connections::new(listener.into(), MAX_CONNECTIONS, Room::default(), Access::new()).unwrap();
     (connections, at, waker)
 }
 

@@ -8,6 +8,7 @@ use crate::lease_record::LeaseRecord;
 use crate::leases::{Answer, Leases};
 use crate::refusal::ClientSet;
 use crate::requests::Requests;
+use crate::room::Room;
 use crate::store::{MemoryStore, StoreError};
 use std::io::{Read, Write};
 use std::net::{TcpListener, TcpStream};
@@ -62,12 +63,13 @@ fn event_loop() -> (EventLoop<Watching>, TcpStream, Arc<Mutex<Vec<usize>>>) {
     peer.set_nonblocking(true).unwrap();
     let heard = Arc::default();
     let mut store = MemoryStore::default();
-    let (server, epoch) = ServerHandle::open(&store.load().unwrap()).unwrap();
+    let (server, epoch) = ServerHandle::open(&store.load().unwrap(), Room::default()).unwrap();
     store.commit(&[Change::Started { epoch }]).unwrap();
     let (batches, is_deposed) = Default::default();
     let (own, shared) = (peer.try_clone().unwrap(), Arc::clone(&heard));
     let store = Watching { store, peer: own, heard: shared, batches, is_deposed };
-    let (connections, waker) = Connections::new(listener.into(), 4, Access::new()).unwrap();
+    let (connections, waker) =
+        Connections::new(listener.into(), 4, Room::default(), Access::new()).unwrap();
     let (_, asked) = Requests::new(waker);
     let log = EventLog::started(epoch, &Address::Unix("nowhere".into()), 0, &[]);
     let (stored, heard_of) = ((store, None), (connections, asked));

@@ -5,6 +5,7 @@ use crate::client_handle::{ClientHandle, Scan};
 use crate::frames::split;
 use crate::handle::ServerHandle;
 use crate::message::client_of;
+use crate::room::Room;
 use crate::row::{Row, Value};
 use std::ops::Range;
 
@@ -22,7 +23,7 @@ pub(crate) fn messages(take: impl FnOnce(&mut Vec<u8>)) -> Vec<Vec<u8>> {
 
 impl World {
     pub fn new() -> World {
-        let (server, _) = ServerHandle::open(&Snapshot::default()).unwrap();
+        let (server, _) = ServerHandle::open(&Snapshot::default(), Room::default()).unwrap();
         let clients = [0, 1].map(|number| Jobs::new(ClientHandle::open(number, 1).unwrap()));
         let mut world = World { server, clients };
         let joined = [0, 1].map(|place: usize| world.clients[place].join());

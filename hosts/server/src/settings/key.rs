@@ -109,6 +109,14 @@ pub const ADVERTISE: Key = Key {
     default: "",
     expected: "an address at which clients reach this server",
 };
+pub const ROOM: Key = Key {
+    name: "room",
+    flag: "--room",
+    variable: "KRL_ROOM",
+    id: "room",
+    default: "65536",
+    expected: "the most rows of the table, from 1 to 1048576",
+};
 pub const SHARD: Key = Key {
     name: "shard",
     flag: "--shard",
