@@ -39,7 +39,7 @@ const LEASE: u64 = 2000;
 /// client.
 const LONGER_BY_TLS: u32 = 3;
 
-/// And so much longer if messages are lost: a lost greeting is said again a fifth of a second later.
+/// And so much longer if messages are lost: a lost greeting is said again after 200 milliseconds.
 const LONGER_BY_LOSS: u32 = 2;
 
 /// The clients of another program have to note so many lines for each round.

@@ -8,6 +8,7 @@
 //! krl_drive failover FOLDER ROUNDS SERVER [FAULTS [HOW..]]        breaks servers that stand by
 //! krl_drive frozen FOLDER ROUNDS SERVER                           freezes servers of a reader
 //! krl_drive shards FOLDER SECONDS KILLS                           kills servers of two shards
+//! krl_drive haste FOLDER                                          measures a hasty client's neighbour
 //! krl_drive strangers                                             connects what is no client
 //! krl_drive reports                                               reports in the worst orders
 //! krl_drive strings COUNT CHANGED                                 hands strings to both decoders
@@ -30,11 +31,13 @@ mod clients;
 mod cluster;
 #[path = "../../postgres/tests/database/mod.rs"]
 mod database;
+mod delayed;
 mod failover;
 mod fault;
 mod ffi;
 mod frozen;
 mod gateway;
+mod haste;
 mod history;
 mod kill;
 mod lease_costs;
@@ -118,6 +121,7 @@ fn run(words: &[&str]) -> Found {
         ["strangers"] => strangers::run(),
         ["reports"] => long_reports::run(),
         ["strings", count, changed] => strings::run(count.parse()?, changed.parse()?),
+        ["haste", folder] => haste::run(Path::new(folder)),
         ["bench", folder] => bench::run(Path::new(folder)),
         ["lease-costs", folder] => lease_costs::run(Path::new(folder)),
         ["stores", folder, rounds] => bench_stores::run(Path::new(folder), rounds.parse()?),

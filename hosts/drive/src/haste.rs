@@ -1,0 +1,169 @@
+//! How long a patient client waits beside a hasty one, which always has a lock request on its way,
+//! over a network that loses nothing.
+use crate::Found;
+use crate::delayed;
+use krl::{Address, Client, Listener, MemoryStore, Outcome, Server, Value};
+use std::error::Error;
+use std::ops::Range;
+use std::path::Path;
+use std::sync::atomic::{AtomicBool, AtomicU64, Ordering};
+use std::thread;
+use std::time::{Duration, Instant};
+
+/// Each message takes so long.
+const DELAY: Duration = Duration::from_millis(1);
+
+/// What the hasty client reads, each range in a thread of its own. The patient one writes into the
+/// first of them.
+const WANTED: Range<u64> = 0..100;
+const OTHER: Range<u64> = 1000..1100;
+const KEY: u64 = 50;
+
+/// A run ends when the hasty client has been granted so much, or behind this time.
+const GRANTS: u64 = 10_000;
+const LONGEST: Duration = Duration::from_secs(6);
+
+/// How long the patient one rests between two writes, and how long the hasty one between two looks
+/// at what it has in its cache.
+const REST: Duration = Duration::from_millis(5);
+const LOOK: Duration = Duration::from_micros(50);
+
+/// How long a call waits.
+const TIMEOUT: Duration = Duration::from_secs(10);
+
+/// How often the smallest answer time is taken.
+const TRIPS: u64 = 100;
+
+/// What the hasty client does with the range that the patient one wants. It gives the other one
+/// back as soon as it has it.
+#[derive(Clone, Copy, Debug)]
+enum Habit {
+    /// It gives that back too.
+    GivesBack,
+    /// It keeps that until it is called back, and asks for it again then.
+    Keeps,
+}
+
+/// What both clients share while they run.
+#[derive(Debug)]
+struct Run {
+    begun: Instant,
+    granted: AtomicU64,
+    is_over: AtomicBool,
+}
+
+impl Run {
+    fn is_over(&self) -> bool {
+        self.is_over.load(Ordering::Relaxed)
+            || self.granted.load(Ordering::Relaxed) >= GRANTS
+            || self.begun.elapsed() > LONGEST
+    }
+
+    /// The hasty client reads a range again and again, and does this behind each read.
+    fn read_again(
+        &self,
+        client: &Client,
+        range: Range<u64>,
+        then: impl Fn(Range<u64>) -> Result<(), krl::Refused>,
+    ) -> Result<(), String> {
+        while !self.is_over() {
+            client.read(range.clone()).map_err(|refused| refused.to_string())?;
+            self.granted.fetch_add(1, Ordering::Relaxed);
+            then(range.clone()).map_err(|refused| refused.to_string())?;
+        }
+        Ok(())
+    }
+
+    /// Waits until a range is called back.
+    fn keep(&self, client: &Client, range: &Range<u64>) {
+        while !self.is_over() && client.cached(range.clone()).is_some() {
+            thread::sleep(LOOK);
+        }
+    }
+
+    /// The patient client writes now and then. It answers how long each write took.
+    fn write_at_times(&self, client: &Client) -> Result<Vec<Duration>, Box<dyn Error>> {
+        let mut waits = Vec::new();
+        while !self.is_over() {
+            thread::sleep(REST);
+            let asked = Instant::now();
+            let outcome = client.put(KEY, Value::from(waits.len() as u64))?;
+            waits.push(asked.elapsed());
+            if outcome != Outcome::Applied {
+                return Err("the row of the patient client is gone".into());
+            }
+        }
+        Ok(waits)
+    }
+}
+
+/// Measures each habit. It judges nothing.
+pub fn run(folder: &Path) -> Found {
+    std::fs::create_dir_all(folder)?;
+    let listener = Listener::bind(&"127.0.0.1:0".parse()?)?;
+    let server = Server::start(listener, MemoryStore::default())?;
+    let Address::Tcp(at) = *server.address() else { return Err("it listens elsewhere".into()) };
+    let at = delayed::start(at, DELAY)?;
+    let join = |number: u8| Client::join(at, number, folder.join(format!("client-{number}.lock")));
+    let (hasty, patient) = (join(0)?, join(1)?);
+    let trip = smallest_trip(&hasty)?;
+    patient.set_timeout(TIMEOUT);
+    patient.insert(KEY, Value::from(0))?;
+    for habit in [Habit::GivesBack, Habit::Keeps] {
+        let taken = server.status().taken;
+        let (granted, mut waits) = measure(&hasty, &patient, habit)?;
+        let messages = server.status().taken - taken;
+        waits.sort_unstable();
+        let in_trips = |wait: Option<&Duration>| {
+            wait.map_or(0.0, |wait| wait.as_secs_f64() / trip.as_secs_f64())
+        };
+        println!(
+            "{habit:?}: {granted} grants, {messages} messages to the server; a patient client \
+             wrote {} times, and waited {:.1} round trips of {trip:.1?} at the middle and {:.1} at \
+             the longest",
+            waits.len(),
+            in_trips(waits.get(waits.len() / 2)),
+            in_trips(waits.last())
+        );
+    }
+    Ok(true)
+}
+
+/// How much the hasty client was granted, and how long the patient one waited each time.
+fn measure(
+    hasty: &Client,
+    patient: &Client,
+    habit: Habit,
+) -> Result<(u64, Vec<Duration>), Box<dyn Error>> {
+    let run =
+        Run { begun: Instant::now(), granted: AtomicU64::new(0), is_over: AtomicBool::new(false) };
+    let waits = thread::scope(|scope| {
+        let wanted = scope.spawn(|| match habit {
+            Habit::GivesBack => run.read_again(hasty, WANTED, |range| hasty.forget(range)),
+            Habit::Keeps => run.read_again(hasty, WANTED, |range| {
+                run.keep(hasty, &range);
+                Ok(())
+            }),
+        });
+        let other = scope.spawn(|| run.read_again(hasty, OTHER, |range| hasty.forget(range)));
+        let waits = run.write_at_times(patient);
+        run.is_over.store(true, Ordering::Relaxed);
+        for reader in [wanted, other] {
+            reader.join().map_err(|_| "a reader panicked")??;
+        }
+        waits
+    });
+    Ok((run.granted.into_inner(), waits?))
+}
+
+/// The smallest time of a request and its answer.
+fn smallest_trip(client: &Client) -> Result<Duration, Box<dyn Error>> {
+    let mut smallest = TIMEOUT;
+    for _ in 0..TRIPS {
+        let begun = Instant::now();
+        client.read(OTHER)?;
+        smallest = smallest.min(begun.elapsed());
+        client.forget(OTHER)?;
+    }
+    Ok(smallest)
+}
