@@ -21,6 +21,9 @@ const COMMIT_TIMEOUT: Duration = Duration::from_secs(5);
 /// promoted takes back what clients were told, and the epoch may fall, so that an older server's
 /// changes are taken. Then nothing is promised. Only synchronous replication keeps the promise:
 /// `synchronous_standby_names` names the replicas, and none is promoted that it did not wait for.
+///
+/// It waits for the database by a runtime of its own. So it panics on a thread on which another
+/// runtime of tokio runs: start a server over it on a thread that has none.
 pub struct PostgresStore {
     link: Link,
     commit_timeout: Duration,
