@@ -53,6 +53,7 @@ mod link;
 mod listening;
 mod lock_file;
 mod locks;
+mod map_change;
 #[cfg(feature = "map-file")]
 mod map_file;
 mod message;

@@ -75,6 +75,17 @@ impl ShardMap {
     pub fn from_file(path: impl AsRef<Path>) -> Result<ShardMap, BadMapFile> {
         ShardMap::from_toml(&std::fs::read_to_string(path).map_err(BadMapFile::File)?)
     }
+
+    /// The text that tells this map. That of a map without a version lacks it, and is read as none.
+    #[must_use]
+    pub fn to_toml(&self) -> String {
+        let version = self.version().map(|version| format!("version = {version}\n"));
+        let shard = |Shard { first, servers }: &Shard| {
+            let servers = toml::Value::String(servers.to_string());
+            format!("\n[[shard]]\nfirst = {first}\nservers = {servers}\n")
+        };
+        version.into_iter().chain(self.shards().iter().map(shard)).collect()
+    }
 }
 
 impl ShardEntry {
@@ -128,6 +139,7 @@ mod tests {
             map.shards().iter().map(|shard| (shard.first, shard.servers.to_string())).collect();
         let last = (9, "tls:db1:7400,tls:db2:7400".into());
         assert_eq!(shards, [(0, "127.0.0.1:1".into()), last]);
+        assert_eq!(map.to_toml(), MAP);
     }
 
     #[test]

@@ -9,7 +9,7 @@ use std::net::{SocketAddr, TcpListener, TcpStream};
 use std::num::NonZeroU64;
 use std::path::PathBuf;
 use std::thread;
-use std::time::Duration;
+use std::time::{Duration, Instant};
 
 /// No wait of a test is longer.
 const LONG: Duration = Duration::from_secs(20);
@@ -203,6 +203,32 @@ fn who_has_an_old_map_behind_a_split_writes_to_no_side_of_it() {
         server.monitor().snapshot().unwrap().rows.into_keys().collect()
     };
     assert_eq!((keys(&lower), keys(&upper)), (vec![], vec![50, 60]));
+}
+
+#[test]
+fn a_client_goes_on_when_its_server_is_started_as_its_shard_again() {
+    let folder = Folder::new("again");
+    let mut server = server(Some("0..9@3"));
+    let address = server.address().to_string();
+    let client = folder.join(&server, Some("0..9@3")).unwrap();
+    assert_eq!(client.insert(5, Value::from(1)), Ok(Outcome::Applied));
+    client.forget(..).unwrap();
+    for shard in ["0..9@2", "0..9@3"] {
+        let snapshot = server.monitor().snapshot().unwrap();
+        server.stop().unwrap();
+        server = start(&address, MemoryStore { snapshot }, Some(shard)).unwrap();
+        let end = Instant::now() + LONG;
+        let served = loop {
+            match client.read(0..9) {
+                Ok(rows) => break Some(rows),
+                Err(Refused::OtherShard(_)) if shard == "0..9@2" => break None,
+                Err(refused) => assert!(Instant::now() < end, "{refused:?}"),
+            }
+        };
+        let rows = vec![Row { key: 5, value: Value::from(1) }];
+        assert_eq!(served, (shard == "0..9@3").then_some(rows));
+    }
+    assert_eq!(client.put(5, Value::from(2)), Ok(Outcome::Applied));
 }
 
 #[test]

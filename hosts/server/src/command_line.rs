@@ -1,4 +1,5 @@
 //! The words of the command line.
+use crate::next_map::{MergeMap, SplitMap};
 use crate::settings::StorePlace;
 use clap::{Args, Parser, Subcommand, ValueEnum};
 use std::path::PathBuf;
@@ -137,6 +138,8 @@ the new one then, and split again.")]
         at: u64,
         /// The new store. What exists is never replaced
         new_store: PathBuf,
+        #[command(flatten)]
+        map: SplitMap,
     },
     /// Make one new store of two neighboring ones
     #[command(long_about = "\
@@ -152,6 +155,8 @@ of both: a server that still ran on one of them would show rows that nobody chan
         upper: PathBuf,
         /// The new store. What exists is never replaced
         new_store: PathBuf,
+        #[command(flatten)]
+        map: MergeMap,
     },
     /// Say what a store holds, and whether a server can start on it
     Check {

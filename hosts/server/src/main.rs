@@ -6,6 +6,7 @@ mod command_line;
 mod http;
 mod locks;
 mod log;
+mod next_map;
 mod owner;
 mod pages;
 mod reload;
@@ -63,8 +64,12 @@ fn run(command: Command, matches: &ArgMatches) -> Result<ExitCode, Box<dyn Error
         Command::Restore { file, store, clients_are_stopped } => {
             restore::restore(&file, &store, clients_are_stopped)?;
         }
-        Command::Split { store, at, new_store } => reshard::split(&store, at, &new_store)?,
-        Command::Merge { lower, upper, new_store } => reshard::merge(&lower, &upper, &new_store)?,
+        Command::Split { store, at, new_store, map } => {
+            reshard::split(&store, at, &new_store, &map)?;
+        }
+        Command::Merge { lower, upper, new_store, map } => {
+            reshard::merge(&lower, &upper, &new_store, &map)?;
+        }
         Command::Check { file } => return check::check(&file),
     }
     Ok(ExitCode::SUCCESS)

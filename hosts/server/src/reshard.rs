@@ -1,5 +1,6 @@
 //! A store that is cut in two, and two that become one, while no server runs on them.
 use crate::cause;
+use crate::next_map::{MergeMap, NextMap, SplitMap};
 use crate::owner::Owner;
 use krl::{END, Snapshot, SqliteStore, Store};
 use std::error::Error;
@@ -11,9 +12,10 @@ type Done = Result<(), Box<dyn Error>>;
 ///
 /// The new store is on the disk before the old one changes. So if this is cut off, no row is lost:
 /// either the new store is not there, or the old one still has all its rows.
-pub fn split(store: &Path, at: u64, new: &Path) -> Done {
+pub fn split(store: &Path, at: u64, new: &Path, map: &SplitMap) -> Done {
     let _owner = own(store)?;
     let before = read(store)?;
+    let next = map.next(at, &before)?;
     let (lower, upper) = before.split(at);
     judge(store, &lower)?;
     judge(new, &upper)?;
@@ -24,17 +26,19 @@ pub fn split(store: &Path, at: u64, new: &Path) -> Done {
     })?;
     println!("{}: {} rows below {at}, epoch {}", store.display(), lower.rows.len(), lower.epoch);
     println!("{}: {} rows from {at} on, epoch {}", new.display(), upper.rows.len(), upper.epoch);
-    Ok(())
+    next.as_ref().map_or(Ok(()), NextMap::write)
 }
 
 /// Makes a new store of two. They are only read.
-pub fn merge(lower: &Path, upper: &Path, new: &Path) -> Done {
+pub fn merge(lower: &Path, upper: &Path, new: &Path, map: &MergeMap) -> Done {
     let _owners = (own(lower)?, own(upper)?);
-    let whole = read(lower)?.merge(read(upper)?)?;
+    let (lower, upper) = (read(lower)?, read(upper)?);
+    let next = map.next(&lower, &upper)?;
+    let whole = lower.merge(upper)?;
     judge(new, &whole)?;
     create(new, &whole)?;
     println!("{}: {} rows, epoch {}", new.display(), whole.rows.len(), whole.epoch);
-    Ok(())
+    next.as_ref().map_or(Ok(()), NextMap::write)
 }
 
 /// No server starts on the store while this process has it.

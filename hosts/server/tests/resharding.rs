@@ -135,3 +135,44 @@ fn what_can_not_be_cut_is_told() {
     assert!(errors(&output).contains("there is no store"), "{}", errors(&output));
     assert_eq!(std::fs::read_dir(folder.path()).unwrap().count(), 0, "nothing was made");
 }
+
+#[test]
+fn a_split_and_a_merge_write_the_next_map() {
+    let folder = tempfile::tempdir().unwrap();
+    let path = |name: &str| folder.path().join(name).to_str().unwrap().to_string();
+    let [store, upper, whole] = ["krl.db", "upper.db", "whole.db"].map(path);
+    let [map, next, last] = ["1.toml", "2.toml", "3.toml"].map(path);
+    let mut before = full();
+    before.rows.retain(|key, _| key % 64 == 0);
+    SqliteStore::create(&store, &before).unwrap();
+    let text_of = |version: u8| {
+        format!("version = {version}\n\n[[shard]]\nfirst = 0\nservers = \"127.0.0.1:1\"\n")
+    };
+    std::fs::write(&map, text_of(1)).unwrap();
+    let split = ["split", &store, "1001", &upper, "--map", &map, "--new-map", &next];
+    let refused = run(&split);
+    assert_eq!(refused.status.code(), Some(2), "where the new store is served is not said");
+    let split = [&split[..], &["--servers", "127.0.0.1:2"]].concat();
+    let done = run(&split);
+    assert_eq!(done.status.code(), Some(0), "{}", errors(&done));
+    let said = text(&done);
+    assert!(said.contains("    127.0.0.1:1: --shard 0..1001@2\n"), "{said}");
+    assert!(said.contains("    127.0.0.1:2: --shard 1001..@2\n"), "{said}");
+    let upper_shard = "\n[[shard]]\nfirst = 1001\nservers = \"127.0.0.1:2\"\n";
+    assert_eq!(std::fs::read_to_string(&next).unwrap(), text_of(2) + upper_shard);
+    // The store that is named is that of the other shard.
+    let refused = run(&["split", &upper, "500", &whole, "--map", &next, "--new-map", &last]
+        .iter()
+        .copied()
+        .chain(["--servers", "127.0.0.1:3"])
+        .collect::<Vec<_>>());
+    assert_eq!(refused.status.code(), Some(1));
+    assert!(errors(&refused).contains("not one of shard 0 in the map"), "{}", errors(&refused));
+    let merge = ["merge", &store, &upper, &whole, "--map", &next, "--new-map", &last, "--at"];
+    let refused = run(&[&merge[..], &["1000"]].concat());
+    assert_eq!(refused.status.code(), Some(1), "no shard begins there");
+    assert!(!Path::new(&whole).exists());
+    let done = run(&[&merge[..], &["1001"]].concat());
+    assert_eq!(done.status.code(), Some(0), "{}", errors(&done));
+    assert_eq!(std::fs::read_to_string(&last).unwrap(), text_of(3));
+}

@@ -1,0 +1,117 @@
+//! The map behind a split or a merge, as a file.
+use clap::Args;
+use krl::{Servers, ShardMap, Snapshot};
+use std::error::Error;
+use std::fs::OpenOptions;
+use std::io::Write;
+use std::path::{Path, PathBuf};
+
+type Result<T> = std::result::Result<T, Box<dyn Error>>;
+
+/// The map of a split.
+#[derive(Debug, Args)]
+pub struct SplitMap {
+    /// The map of now. The next map is written to --new-map
+    #[arg(long, value_name = "FILE", requires_all = ["servers", "new_map"])]
+    map: Option<PathBuf>,
+    /// Where the new store will be served, as in a map
+    #[arg(long, value_name = "ADDRESS", requires = "map")]
+    servers: Option<Servers>,
+    /// The file of the next map. What exists is never replaced
+    #[arg(long, value_name = "FILE", requires = "map")]
+    new_map: Option<PathBuf>,
+}
+
+/// The map of a merge.
+#[derive(Debug, Args)]
+pub struct MergeMap {
+    /// The map of now. The next map is written to --new-map
+    #[arg(long, value_name = "FILE", requires_all = ["at", "new_map"])]
+    map: Option<PathBuf>,
+    /// Where the upper one of the two shards begins
+    #[arg(long, value_name = "KEY", requires = "map")]
+    at: Option<u64>,
+    /// The file of the next map. What exists is never replaced
+    #[arg(long, value_name = "FILE", requires = "map")]
+    new_map: Option<PathBuf>,
+}
+
+/// A map that is not written yet.
+pub struct NextMap {
+    map: ShardMap,
+    path: PathBuf,
+}
+
+impl SplitMap {
+    /// The next map, if one is wanted. The store has to be that of the shard that is cut.
+    pub fn next(&self, at: u64, store: &Snapshot) -> Result<Option<NextMap>> {
+        let (Some(path), Some(servers), Some(new)) = (&self.map, &self.servers, &self.new_map)
+        else {
+            return Ok(None);
+        };
+        let map = read(path)?;
+        refuse_other_store(&map, at, store)?;
+        let next = map.split(at, servers.clone()).map_err(|error| no_map(path, at, &error))?;
+        NextMap::new(next, new).map(Some)
+    }
+}
+
+impl MergeMap {
+    /// The next map, if one is wanted. The stores have to be those of the two shards.
+    pub fn next(&self, lower: &Snapshot, upper: &Snapshot) -> Result<Option<NextMap>> {
+        let (Some(path), Some(at), Some(new)) = (&self.map, self.at, &self.new_map) else {
+            return Ok(None);
+        };
+        let map = read(path)?;
+        let next = map.merge(at).map_err(|error| no_map(path, at, &error))?;
+        refuse_other_store(&map, at - 1, lower)?;
+        refuse_other_store(&map, at, upper)?;
+        NextMap::new(next, new).map(Some)
+    }
+}
+
+impl NextMap {
+    fn new(map: ShardMap, path: &Path) -> Result<NextMap> {
+        if path.exists() {
+            return Err(format!("there is a file {} already", path.display()).into());
+        }
+        Ok(NextMap { map, path: path.into() })
+    }
+
+    /// Writes the map, and prints by which shard each server has to be started.
+    pub fn write(&self) -> Result<()> {
+        let at = self.path.display();
+        let written = OpenOptions::new().write(true).create_new(true).open(&self.path);
+        let written = written.and_then(|mut file| {
+            file.write_all(self.map.to_toml().as_bytes())?;
+            file.sync_all()
+        });
+        written.map_err(|error| {
+            format!("the stores are as they should be, but the map {at} can't be written: {error}")
+        })?;
+        println!("{at}: the next map. Start each server anew by it:");
+        for (place, shard) in self.map.shards().iter().enumerate() {
+            if let Some(bounds) = self.map.bounds_of(place) {
+                println!("    {}: --shard {bounds}", shard.servers);
+            }
+        }
+        Ok(())
+    }
+}
+
+fn read(path: &Path) -> Result<ShardMap> {
+    ShardMap::from_file(path)
+        .map_err(|error| format!("the map {} can't be used: {error}", path.display()).into())
+}
+
+fn no_map(path: &Path, at: u64, error: &dyn Error) -> Box<dyn Error> {
+    format!("{} and a shard from {at} on give no next map: {error}", path.display()).into()
+}
+
+/// Refuses a store with a key that the shard of this point does not have.
+fn refuse_other_store(map: &ShardMap, point: u64, store: &Snapshot) -> Result<()> {
+    let shard = map.shard_of(point)?;
+    let stray = store.rows.keys().find(|key| map.shard_of(**key) != Ok(shard));
+    let Some(key) = stray else { return Ok(()) };
+    Err(format!("the store has the key {key}, which is not one of shard {shard} in the map").into())
+}
