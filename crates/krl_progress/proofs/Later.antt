@@ -70,14 +70,14 @@ effect_later : (s : Server) (m : ToServer) (c : ℕ) → Later s (effect s m (ca
 effect_later s m c = eq_cases c m.client (λ e. subst (Later s (effect s m (case_of s m)).server) (sym e) (own_later s m))
     (λ ne. alike s (effect s m (case_of s m)).server c (other_inc s m (case_of s m) c ne) (other_session s m (case_of s m) c ne))
 
-turn_later : (s : Server) (t : Turn) (c : ℕ) → next_turn s ≡ Some t → Later s (answer_first s t).server c
+pub turn_later : (s : Server) (t : Turn) (c : ℕ) → next_turn s ≡ Some t → Later s (answer_first s t).server c
 turn_later s t c e = let inc = ap (λ (d : Durable). incarnation_or_0 (record_of d.register c)) (server_keeps.turn_durable s t) in
     eq_cases c t.waiter.client
     (λ f. more inc (let x = ap (λ (y : Session). y.last_push) (turn_pushes s t e).session in
     subst (λ d. (s.sessions d).last_push < ((answer_first s t).server.sessions d).last_push) (sym f) (omega (arith, x))))
     (λ ne. alike s (answer_first s t).server c inc (turn_sessions s t c ne))
 
-answered_later : (s t : Server) (outs : List ToClient) (c : ℕ) → Answered s t outs → Later s t c
+pub answered_later : (s t : Server) (outs : List ToClient) (c : ℕ) → Answered s t outs → Later s t c
 answered_later s t outs c (stops x e) = alike x x c refl refl
 answered_later s t outs c (goes_on x y turn later e rest) = then x (answer_first x turn).server y c (turn_later x turn c e) (answered_later (answer_first x turn).server y later c rest)
 

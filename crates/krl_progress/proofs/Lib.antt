@@ -23,4 +23,6 @@ pub mod Awaited
 pub mod Answering
 pub mod Arrivals
 pub mod PushesArrive
+pub mod Blocking
+pub mod BlocksEnd
 mod Names

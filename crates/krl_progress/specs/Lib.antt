@@ -4,3 +4,4 @@ pub mod Answers
 pub mod Writes
 pub mod Requests
 pub mod Pushes
+pub mod Blocks

@@ -3,6 +3,7 @@
 ghost use Rattle.krl_progress.specs.Laws.{RecoveryEndsIn, RoundsCanBeMade};
 ghost use Rattle.krl_progress.specs.Writes.{WritesMoveOnIn, WritesAreAnsweredIn};
 ghost use Rattle.krl_progress.specs.Answers.{AnswersAtOnce, GivesWay, CallbackFrees};
+ghost use Rattle.krl_progress.specs.Blocks.{BlocksEndIn};
 ghost use Rattle.krl_progress.specs.Pushes.{PushesArriveIn};
 ghost use Rattle.krl_progress.specs.Requests.{RequestsAreKnown, PushesAreAwaited};
 
@@ -63,4 +64,11 @@ pub fn writes_are_answered()
 /// three good rounds.
 pub fn pushes_arrive()
     ensures { PushesArriveIn 3 }
+{}
+
+/// After any past: no block of a first waiter lasts four good rounds in which nothing else moves it:
+/// no push to the waiter or to the blocker, no change of the slot, no write and no pin of the
+/// blocker there.
+pub fn blocks_end()
+    ensures { BlocksEndIn 4 }
 {}
