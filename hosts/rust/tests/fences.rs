@@ -218,7 +218,7 @@ fn a_client_goes_on_when_its_server_is_started_as_its_shard_again() {
         server.stop().unwrap();
         server = start(&address, MemoryStore { snapshot }, Some(shard)).unwrap();
         let end = Instant::now() + LONG;
-        let served = loop {
+        let found = loop {
             match client.read(0..9) {
                 Ok(rows) => break Some(rows),
                 Err(Refused::OtherShard(_)) if shard == "0..9@2" => break None,
@@ -226,7 +226,7 @@ fn a_client_goes_on_when_its_server_is_started_as_its_shard_again() {
             }
         };
         let rows = vec![Row { key: 5, value: Value::from(1) }];
-        assert_eq!(served, (shard == "0..9@3").then_some(rows));
+        assert_eq!(found, (shard == "0..9@3").then_some(rows));
     }
     assert_eq!(client.put(5, Value::from(2)), Ok(Outcome::Applied));
 }

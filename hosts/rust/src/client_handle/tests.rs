@@ -26,6 +26,8 @@ fn judge<S: Scanned>(
     mut follow: impl FnMut(&mut S),
 ) -> Judged {
     const TIME: Duration = Duration::from_secs(3);
+    // A busy machine may let no scan fall between.
+    const LONGEST: Duration = Duration::from_secs(60);
     // It is odd while the other client holds the row.
     let turn = AtomicU64::new(0);
     let (is_over, scans, wrong) = (AtomicBool::new(false), AtomicU64::new(0), AtomicU64::new(0));
@@ -47,7 +49,8 @@ fn judge<S: Scanned>(
             });
         }
         let begun = Instant::now();
-        while begun.elapsed() < TIME {
+        let is_judged = || scans.load(Ordering::Relaxed) > 0 || begun.elapsed() > LONGEST;
+        while begun.elapsed() < TIME || !is_judged() {
             world.take_last();
             turn.fetch_add(1, Ordering::SeqCst);
             await_scan(&scans);
@@ -63,10 +66,10 @@ fn judge<S: Scanned>(
 
 /// Waits until a scan is counted, but not for long.
 fn await_scan(scans: &AtomicU64) {
-    const LONG: Duration = Duration::from_micros(100);
+    const LONG: Duration = Duration::from_millis(10);
     let (before, begun) = (scans.load(Ordering::Relaxed), Instant::now());
     while scans.load(Ordering::Relaxed) == before && begun.elapsed() < LONG {
-        std::hint::spin_loop();
+        thread::yield_now();
     }
 }
 
