@@ -122,7 +122,7 @@ starts_on u d ru h = record {
 does_on : (u v : State) → IsReachable u → IsReachable v → Does u v → Agrees u → Agrees v
 does_on u _ ru rv rests h = h
 does_on u _ ru rv (goes d k l ms i g x) h = goes_on u d k l ms ru rv i g h
-does_on u _ ru rv (starts d) h = starts_on u d ru h
+does_on u _ ru rv (starts d down) h = starts_on u d ru h
 does_on u _ ru rv (ends d number ms most silent) h = record {
   knows = λ s c k up. by_seat u d _ c k (Knows s c k) (λ e f. absurd (let bad : None ≡ Some k = f in cc)) (λ ne f. h.knows s c k up f);
   within = λ c k. by_seat u d _ c k (Within (with_client u d None ms) c k) (λ e f. absurd (let bad : None ≡ Some k = f in cc))

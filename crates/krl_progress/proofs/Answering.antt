@@ -131,7 +131,7 @@ module _ (c inc epoch seen0 req0 number : ℕ) (op : WriteOp) (some : 1 ≤ epoc
         subst X (some_is l k1 f) (steps_on u hu k l ms here
         (ap (λ (y : Client). y.epoch) (some_is l k1 f) ∙ hv k1 at ∙ sym (now c inc epoch seen0 number op some room n u hu k here)) (subst (λ y. Goes u y k l ms) (sym e) g) x (h k here)))
         (λ ne f. h k1 f) at
-    does_on u _ hu hv (starts d) h k1 at = by_seat u d (new_seat u d) c k1 (X k1)
+    does_on u _ hu hv (starts d down) h k1 at = by_seat u d (new_seat u d) c k1 (X k1)
         (λ e f. absurd (let z : 0 ≡ k1.epoch = ap (λ (y : Client). y.epoch) (some_is (begun d (suc (u.seats d).last_incarnation)) k1 f) in let y = hv k1 at in omega (arith, z, y, some)))
         (λ ne f. h k1 f) at
     does_on u _ hu hv (ends d number ms most silent) h k1 at = by_seat u d _ c k1 (X k1) (λ e f. absurd (let bad : None ≡ Some k1 = f in cc)) (λ ne f. h k1 f) at
@@ -155,11 +155,11 @@ module _ (c inc epoch seen0 req0 number : ℕ) (op : WriteOp) (some : 1 ≤ epoc
 
 -- Three rounds, and three more
 
-runs_longer : (steps : List Step) (u v : State) → Runs u steps v → length u.sent ≤ length v.sent
+pub runs_longer : (steps : List Step) (u v : State) → Runs u steps v → length u.sent ≤ length v.sent
 runs_longer [] u v r = let x = ap (λ (y : State). length y.sent) r in omega (arith, x)
 runs_longer (s ∷ steps) u v r = let a = longer (loses_a_node s) u r.1 (moves u r.1 s r.0 r.2) in let b = runs_longer steps r.1 v r.3 in omega (arith, a, b)
 
-later_rounds : (m from more : ℕ) (w v : State) → from ≤ more → Rounds m from w v → Rounds m more w v
+pub later_rounds : (m from more : ℕ) (w v : State) → from ≤ more → Rounds m from w v → Rounds m more w v
 later_rounds zero from more w v le r = r
 later_rounds (suc m) from more w v le r = (r.0, r.1, record { stays = r.2.stays; ticked = r.2.ticked; handed = λ i lt within. r.2.handed i (omega (arith, lt, le)) within }, r.3, r.4)
 

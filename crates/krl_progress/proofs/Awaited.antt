@@ -128,7 +128,7 @@ starts_on u d ru h = record {
 does_on : (u v : State) → IsReachable u → Does u v → Awaits u → Awaits v
 does_on u _ ru rests h = h
 does_on u _ ru (goes d k l ms i g x) h = goes_on u d k l ms ru i g x h
-does_on u _ ru (starts d) h = starts_on u d ru h
+does_on u _ ru (starts d down) h = starts_on u d ru h
 does_on u _ ru (ends d number ms most silent) h = record {
   says = λ c k. by_seat u d _ c k (Says (with_client u d None ms) c k) (λ e f. absurd (let bad : None ≡ Some k = f in cc))
       (λ ne f. says_by_clients u (with_client u d None ms) c k ms refl (λ m at own. silent m at) (h.says c k f));

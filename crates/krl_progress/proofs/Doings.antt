@@ -24,7 +24,7 @@ use Rattle.krl_steps.specs.declared.step.Command.TheVariants as command
 use Rattle.krl_world.specs.declared.message.Message.TheVariants as message
 use Rattle.krl_world.proofs.Refinement.Taken.{at_in, client_ok, not_named, runs_ok}
 use Rattle.krl_server.proofs.Tests.{if_case, if_both}
-use Rattle.krl_progress.proofs.Moves.{passed, Follows, reads_follow, write_free}
+use Rattle.krl_progress.proofs.Moves.{passed, was_down, Follows, reads_follow, write_free}
 
 -- the number of the lock request that is said, or 0
 abbrev pub request_of : RequestBody → ℕ
@@ -109,7 +109,7 @@ its_write k op some m (inr at) n e = absurd at
 pub data Does (u : State) : State → Type 0 where
   rests : Does u u
   goes : (d : ℕ) (k l : Client) (ms : List ToServer) → client_of u d ≡ Some k → Goes u d k l ms → WriteGoes k l ms → Does u (with_client u d (Some l) ms)
-  starts : (d : ℕ) → Does u (seated u d (record { last_incarnation = suc (u.seats d).last_incarnation; client = Some (begun d (suc (u.seats d).last_incarnation)) }) (says_hello (begun d (suc (u.seats d).last_incarnation)) ∷ []))
+  starts : (d : ℕ) → client_of u d ≡ None → Does u (seated u d (record { last_incarnation = suc (u.seats d).last_incarnation; client = Some (begun d (suc (u.seats d).last_incarnation)) }) (says_hello (begun d (suc (u.seats d).last_incarnation)) ∷ []))
   ends : (d number : ℕ) (ms : List ToServer) → AsksAtMost number 0 ms → SaysNoWrite ms → Does u (with_client u d None ms)
   reads : (old new : Server) (m : ToServer) (outs : List ToClient) (writes : List AppliedWrite) → u.server ≡ Up old → In (message.ToServer m) u.sent → ServerStep old m new outs → Does u (served u (Up new) outs writes)
   nudges : (s : Server) (c : ℕ) → u.server ≡ Up s → Does u (served u (Up s) (nudge s c) [])
@@ -301,7 +301,7 @@ does u v (step.Deliver i) answer t = delivers_does u v (message_at u.sent i) (at
 does u v (step.Command c what) answer t = obeys_does u v c t.1.0 what answer (not_named refused_by_client (command_refusal t.1.0 what) (runs_ok (client_of u c) t.1.0 _ t.1.1 (client_ok c _ t.0))) t.1.1 t.1.2
 does u v (step.Tick c) answer t = let d = t.1.1 in seat_does u v c d.0 d.0 (tick d.2.0 d.0) d.1 (same d.0 _ refl refl refl refl refl (tick_asks d.2.0 d.0)) (tick_writes d.2.0 d.0) d.2.2
 does u v (step.Nudge c) answer t = nudged_does u v c u.server refl t.1.1
-does u v (step.StartClient c) answer t = subst (Does u) (sym t.1.1) (starts c)
+does u v (step.StartClient c) answer t = subst (Does u) (sym t.1.1) (starts c (was_down u c _ t.0).0)
 does u v (step.CrashClient c) answer t = subst (Does u) (sym t.1.1) (ends c c [] (none_asks c 0) none_silent)
 does u v step.StartServer answer t = started_does u v u.server refl t.1.1
 does u v step.CrashServer answer t = crashed_does u v u.server refl t.1.1

@@ -25,4 +25,6 @@ pub mod Arrivals
 pub mod PushesArrive
 pub mod Blocking
 pub mod BlocksEnd
+pub mod Growing
+pub mod Outlasting
 mod Names

@@ -1,7 +1,7 @@
 //! What becomes of every world in good rounds: each function's contract is a law, and its body is
 //! empty.
 ghost use Rattle.krl_progress.specs.Laws.{RecoveryEndsIn, RoundsCanBeMade};
-ghost use Rattle.krl_progress.specs.Writes.{WritesMoveOnIn, WritesAreAnsweredIn};
+ghost use Rattle.krl_progress.specs.Writes.{WritesMoveOnIn, WritesAreAnsweredIn, WritesOutlastRecoveriesIn};
 ghost use Rattle.krl_progress.specs.Answers.{AnswersAtOnce, GivesWay, CallbackFrees};
 ghost use Rattle.krl_progress.specs.Blocks.{BlocksEndIn};
 ghost use Rattle.krl_progress.specs.Pushes.{PushesArriveIn};
@@ -54,8 +54,8 @@ pub fn pushes_are_awaited()
     ensures { PushesAreAwaited }
 {}
 
-/// After any past: an outstanding write is answered within six good rounds, where its client asks
-/// for no further lock meanwhile.
+/// After any past: if the server serves, an outstanding write is answered within six good rounds,
+/// if its client asks for no further lock meanwhile.
 pub fn writes_are_answered()
     ensures { WritesAreAnsweredIn 6 }
 {}
@@ -71,4 +71,10 @@ pub fn pushes_arrive()
 /// blocker there.
 pub fn blocks_end()
     ensures { BlocksEndIn 4 }
+{}
+
+/// After any past: if the server runs, and each client whose report is missing runs, an outstanding
+/// write is answered within eleven good rounds, if its client asks for no further lock meanwhile.
+pub fn writes_outlast_recoveries()
+    ensures { WritesOutlastRecoveriesIn 11 }
 {}
