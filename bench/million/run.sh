@@ -1,0 +1,94 @@
+#!/bin/sh
+# A server of a million entries: what each phase of its life takes, and how the cost of a message grows up to there.
+#
+#   bench/million/run.sh [LIBRARY [ROUNDS]]    needs cc, rustc, and rt on the path; minutes, and 1 GB of memory
+#
+# LIBRARY is a libkrl_embed.a; if none is given, that of crates/krl_embed/out, which `rt lib` makes there. There are
+# five rounds if nothing is said.
+#
+# The first table is of phases.c, one server and 64 clients in one process, which hand each message over in memory: the
+# least seconds of a phase, of processor time and on the wall, and the most memory at its end, in kilobytes.
+#
+#   begin              the program's own store of 1,000,000 rows is written to once: all later memory is beyond this
+#   open               the server, with room for 1,048,576 entries and none in it, and the clients
+#   fill               each client locks all behind the last key and inserts 15,625 rows with values of 32 bytes
+#   read               each client reads its rows for the first time: a lock for each 8 of them
+#   scan               each client scans its rows from its cache; they are compared with what was kept and written
+#   drop, start        the server is dropped, and started again on the rows and the records that were kept
+#   report             all clients report, and the server serves
+#   scan-again         as scan
+#   serve-again        each client takes rows of another one's, puts one and inserts one; then all are read again
+#   scan-last          as scan
+#
+# The second table is of calls.c, which tells a full server messages at places that no processor could guess, and of its
+# twin in Rust, by turns: the least nanoseconds of a message, and how much they grow from 65,536 entries on.
+#
+#   near, far          a lock of one of the first 100 slots, or of any slot, and its release
+#   delete, insert     of any row, whose slots are held
+#   report             the report of one client that holds all
+#   give-back          the Hello of its next incarnation, which gives all that back
+#   hello              the Hello of a client that is new
+#   start              the start on all entries; of the twin, its map of them alone
+set -eu
+
+here=$(CDPATH='' cd -- "$(dirname -- "$0")" && pwd)
+embed=$here/../../crates/krl_embed
+library=${1-$embed/out/libkrl_embed.a}
+rounds=${2-5}
+kit=$(dirname -- "$(rt doc)")
+room=$(mktemp -d)
+trap 'rm -rf "$room"' EXIT
+
+for program in phases calls; do
+    cc -std=c11 -O2 -Wall -Wextra -Werror -I "$embed" "$here/$program.c" "$library" "$kit/c/liblibc_c.a" \
+        -o "$room/$program"
+done
+rustc --edition 2024 -O -o "$room/twin" "$here/twin.rs"
+
+# Says which round begins.
+tell() {
+    echo "million: $1, round $2 of $rounds" >&2
+}
+
+round=1
+while [ "$round" -le "$rounds" ]; do
+    tell phases "$round"
+    "$room/phases" >>"$room/phases.lines"
+    tell calls "$round"
+    "$room/calls" | sed 's/^/krl /' >>"$room/calls.lines"
+    "$room/twin" | sed 's/^/rust /' >>"$room/calls.lines"
+    round=$((round + 1))
+done
+
+awk '
+    $1 == "phase" { next }
+    sub(/: /, ":") { split($0, part, ":"); if (part[2] > most[part[1]]) most[part[1]] = part[2]; next }
+    !($1 in processor) { phases[++count] = $1; processor[$1] = $2; wall[$1] = $3 }
+    $2 < processor[$1] { processor[$1] = $2 }
+    $3 < wall[$1] { wall[$1] = $3 }
+    $4 > resident[$1] { resident[$1] = $4 }
+    $5 > size[$1] { size[$1] = $5 }
+    END {
+        printf "%-12s %10s %10s %10s %10s\n", "phase", "processor", "wall", "VmRSS", "VmSize"
+        for (i = 1; i <= count; i++) {
+            phase = phases[i]
+            printf "%-12s %10.3f %10.3f %10d %10d\n", phase, processor[phase], wall[phase], resident[phase], size[phase]
+        }
+        for (name in most) print name ": " most[name]
+    }' "$room/phases.lines"
+awk '
+    { key = $1 " " $2 " " $3; nanos = $4 / $5 }
+    !(key in least) || nanos < least[key] { least[key] = nanos }
+    !($2 in seen) { seen[$2] = 1; kinds[++count] = $2 }
+    function row(side, kind,    small, middle, large) {
+        small = least[side " " kind " 1024"]
+        middle = least[side " " kind " 65536"]
+        large = least[side " " kind " 1048576"]
+        return sprintf(" %12.0f %12.0f %12.0f %6.2f", small, middle, large, large / middle)
+    }
+    END {
+        head = sprintf(" %12s %12s %12s %6s", "1,024", "65,536", "1,048,576", "growth")
+        printf "%-10s%s%s\n", "krl, Rust", head, head
+        for (i = 1; i <= count; i++) printf "%-10s%s%s\n", kinds[i], row("krl", kinds[i]), row("rust", kinds[i])
+    }' "$room/calls.lines"
+echo "load: $(cat /proc/loadavg)"
