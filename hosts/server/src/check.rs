@@ -1,7 +1,7 @@
 //! What a store holds, and whether a server can start on it.
 use crate::cause;
 use crate::owner;
-use krl::{Record, SqliteStore};
+use krl::{Record, Room, SqliteStore};
 use std::error::Error;
 use std::path::Path;
 use std::process::ExitCode;
@@ -23,7 +23,7 @@ pub fn check(path: &Path) -> Result<ExitCode, Box<dyn Error>> {
     println!("clients that have left: {}", list(&gone));
     match snapshot.judge() {
         Ok(()) => {
-            println!("a server can start on it");
+            println!("a server can start on it{}", room_for(snapshot.rows.len()));
             Ok(ExitCode::SUCCESS)
         }
         Err(code) => {
@@ -31,6 +31,14 @@ pub fn check(path: &Path) -> Result<ExitCode, Box<dyn Error>> {
             Ok(ExitCode::FAILURE)
         }
     }
+}
+
+/// How a server has to be started that has room for so many rows, if it has to be told.
+fn room_for(rows: usize) -> String {
+    if rows <= Room::default().rows() {
+        return String::new();
+    }
+    format!(", with --room {rows} or more")
 }
 
 fn list(records: &[&Record]) -> String {

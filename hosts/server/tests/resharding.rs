@@ -7,7 +7,7 @@ use krl::{SqliteStore, Value};
 use std::path::Path;
 use std::time::Duration;
 
-/// As many rows as a server has.
+/// As many rows as a server has room for, if nothing else is said.
 const FULL: u64 = 65_536;
 const CUT: u64 = 40_000;
 
@@ -96,10 +96,10 @@ fn a_full_server_is_split_and_its_clients_go_on() {
     let refused = run(&["merge", upper_name, store_name, whole_name]);
     assert_eq!(refused.status.code(), Some(1));
     assert!(errors(&refused).contains("the upper one begins at 0"), "{}", errors(&refused));
-    let refused = run(&["merge", store_name, upper_name, whole_name]);
-    assert_eq!(refused.status.code(), Some(1), "it has three rows too many");
-    assert!(errors(&refused).contains("no server could start"), "{}", errors(&refused));
-    assert!(!whole.exists());
+    let merged = run(&["merge", store_name, upper_name, whole_name]);
+    assert_eq!(merged.status.code(), Some(0), "{}", errors(&merged));
+    let check = text(&run(&["check", whole_name]));
+    assert!(check.contains("a server can start on it, with --room 65539 or more"), "{check}");
 }
 
 #[test]
