@@ -109,6 +109,14 @@ fn sync_folder_of(path: &Path) -> io::Result<()> {
     }
 }
 
+impl Drop for LockFile {
+    /// Frees the file also if a process that was forked a moment ago has it open too, until it runs
+    /// its own program.
+    fn drop(&mut self) {
+        let _ = self.file.unlock();
+    }
+}
+
 impl fmt::Display for LockFileError {
     fn fmt(&self, f: &mut fmt::Formatter<'_>) -> fmt::Result {
         match self {
