@@ -87,7 +87,9 @@ fn durable_of(
     }
 }
 
-// A server that starts on what was kept, in an index with this room.
+// A server that starts on what was kept, in an index with this room. A frame of its own would have
+// the server on the stack once more.
+#[inline(always)]
 fn start_with(
     alloc: Global,
     room: Room,
