@@ -154,14 +154,19 @@ static void open_all(void)
     }
 }
 
+static void forget(uint64_t number, uint64_t lo, uint64_t hi)
+{
+    expect(krl_client_forget(&clients[number], lo, hi).code == KRL_DONE, "a range is given back");
+    settle(number);
+}
+
 /* One lock, of all behind the last key, lets a client insert all rows of its part. */
 static void fill_part(uint64_t part)
 {
     lock(part, part_begin(part), KRL_TOP, KRL_RANGE_X_X);
     for (uint64_t n = 0; n < PART; n++)
         insert(part, key_of(part * PART + n * STRIDE % PART));
-    expect(krl_client_forget(&clients[part], 0, KRL_TOP).code == KRL_DONE, "a part is given back");
-    settle(part);
+    forget(part, 0, KRL_TOP);
 }
 
 static void fill(void)
@@ -186,6 +191,15 @@ static void read_all(void)
         read_part(part);
         tell_progress("read", part + 1);
     }
+}
+
+/* What a cache shows says nothing of the index of the server that has started again: each client reads it anew. */
+static void read_anew(void)
+{
+    for (uint64_t number = 0; number < CLIENTS; number++)
+        forget(number, 0, KRL_TOP);
+    expect(krl_server_held(&server, 0).detail == 0, "all is given back");
+    read_all();
 }
 
 static bool is_same(const krl_row *one, const krl_row *other)
@@ -266,11 +280,10 @@ static void write_beside(uint64_t number)
     expect(krl_client_put(&clients[number], key, value, sizeof value).code == KRL_DONE, "a put is asked for");
     expect_applied(number);
     insert(number, key - 1);
-    expect(krl_client_forget(&clients[number], key - STEP + 1, key + 1).code == KRL_DONE, "it is given back");
-    settle(number);
+    forget(number, key - STEP + 1, key + 1);
 }
 
-static void serve_again(void)
+static void write_again(void)
 {
     for (uint64_t number = 0; number < CLIENTS; number++)
         write_beside(number);
@@ -322,7 +335,9 @@ int main(void)
     run("start", start_again);
     run("report", report_all);
     run("scan-again", scan_all);
-    run("serve-again", serve_again);
+    run("read-anew", read_anew);
+    run("scan-anew", scan_all);
+    run("write-again", write_again);
     run("scan-last", scan_all);
     printf("longest report, bytes: %" PRIu64 "\nVmHWM: %" PRIu64 "\n", longest_report, kilobytes("VmHWM"));
     return 0;

@@ -16,8 +16,9 @@
 #   scan               each client scans its rows from its cache; they are compared with what was kept and written
 #   drop, start        the server is dropped, and started again on the rows and the records that were kept
 #   report             all clients report, and the server serves
-#   scan-again         as scan
-#   serve-again        each client takes rows of another one's, puts one and inserts one; then all are read again
+#   scan-again         as scan, from the caches of before
+#   read-anew          each client gives all back and reads its rows anew; scan-anew compares what the server has now
+#   write-again        each client takes rows of another one's, puts one and inserts one; these are read again
 #   scan-last          as scan
 #
 # The second table is of calls.c, which tells a full server messages at places that no processor could guess, and of its
@@ -39,11 +40,14 @@ kit=$(dirname -- "$(rt doc)")
 room=$(mktemp -d)
 trap 'rm -rf "$room"' EXIT
 
-for program in phases calls; do
-    cc -std=c11 -O2 -Wall -Wextra -Werror -I "$embed" "$here/$program.c" "$library" "$kit/c/liblibc_c.a" \
-        -o "$room/$program"
-done
-rustc --edition 2024 -O -o "$room/twin" "$here/twin.rs"
+# Makes the program $2 of the file $1.
+compile() {
+    cc -std=c11 -O2 -Wall -Wextra -Werror -I "$embed" "$here/$1" "$library" "$kit/c/liblibc_c.a" -o "$room/$2"
+}
+
+compile phases.c phases
+compile calls.c krl
+rustc --edition 2024 -O -o "$room/rust" "$here/twin.rs"
 
 # Says which round begins.
 tell() {
@@ -54,9 +58,11 @@ round=1
 while [ "$round" -le "$rounds" ]; do
     tell phases "$round"
     "$room/phases" >>"$room/phases.lines"
-    tell calls "$round"
-    "$room/calls" | sed 's/^/krl /' >>"$room/calls.lines"
-    "$room/twin" | sed 's/^/rust /' >>"$room/calls.lines"
+    tell messages "$round"
+    for side in krl rust; do
+        "$room/$side" >"$room/round"
+        sed "s/^/$side /" "$room/round" >>"$room/calls.lines"
+    done
     round=$((round + 1))
 done
 
