@@ -20,7 +20,11 @@ const LEAST_ANSWERED: u64 = 5;
 const LEAST_READS: u64 = 20;
 
 /// A busy machine may take so long for what a round has to come to.
-const ROUND: Duration = Duration::from_secs(20);
+const ROUND: Duration = Duration::from_secs(10);
+
+/// Clients that have taken longer in so many rounds are not waited for any more: beside a wrong
+/// server some may come to nothing.
+const MAX_IN_VAIN: u32 = 2;
 
 /// How much the clients have noted.
 #[derive(Clone, Copy, Debug, Default)]
@@ -97,6 +101,8 @@ pub struct Clients {
     killed: usize,
     /// How much they had noted as the last round ended.
     noted: Noted,
+    /// In how many rounds they came to too little.
+    in_vain: u32,
 }
 
 impl Clients {
@@ -113,7 +119,7 @@ impl Clients {
     ) -> std::io::Result<Clients> {
         let folder = folder.to_path_buf();
         let (running, noted) = (Vec::new(), Noted::default());
-        let mut clients = Clients { folder, servers, other, running, killed: 0, noted };
+        let mut clients = Clients { folder, servers, other, running, killed: 0, noted, in_vain: 0 };
         for number in READERS.into_iter().chain(WRITERS) {
             clients.start_one(number)?;
         }
@@ -155,9 +161,13 @@ impl Clients {
     /// Clients that take too long for it are left to [`judge`].
     pub fn wait_for_a_round(&mut self) {
         let (end, before) = (Instant::now() + ROUND, self.noted);
-        loop {
+        while self.in_vain < MAX_IN_VAIN {
             self.noted = self.count_notes();
-            if self.noted.is_a_round_since(before) || Instant::now() >= end {
+            if self.noted.is_a_round_since(before) {
+                return;
+            }
+            if Instant::now() >= end {
+                self.in_vain += 1;
                 return;
             }
             thread::sleep(Duration::from_millis(20));
