@@ -91,7 +91,7 @@ _SPAN: list[Any] = [_HANDLE, c_uint64, c_uint64]
 _WRITE: list[Any] = [_HANDLE, c_uint64, c_char_p, c_size_t]
 _RESPELL: list[Any] = [c_char_p, c_size_t, c_char_p, c_size_t]
 
-_CALLS: dict[str, tuple[type[ctypes.Structure] | None, list[Any]]] = {
+_CALLS: dict[str, tuple[type[ctypes.Structure | c_uint32] | None, list[Any]]] = {
     "krl_client_open": (Reply, _SPAN),
     "krl_client_step": (Reply, [_HANDLE, c_char_p, c_size_t]),
     "krl_client_tick": (Reply, [_HANDLE]),
