@@ -42,7 +42,8 @@ RunsWithoutPush v c (s ∷ steps) w =
 abbrev pub AnswerSince : Moment → (ℕ → ℕ) → List Part → Rows → Type 0
 AnswerSince w c [] rows = rows ≡ []
 AnswerSince w c (p ∷ ps) rows =
-    (v : State) × (some : Rows) × (rest : Rows) × ((steps : List Step) × RunsWithoutPush (w p.shard) (c p.shard) steps v)
+    (v : State) × (some : Rows) × (rest : Rows)
+    × ((steps : List Step) × RunsWithoutPush (w p.shard) (c p.shard) steps v)
     × AnswersScan v (c p.shard) p.lo p.hi some × AnswerSince w c ps rest × (rows ≡ some ++ rest)
 
 abbrev pub ScanWithoutPushes : Type 0
