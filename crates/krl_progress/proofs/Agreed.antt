@@ -163,7 +163,7 @@ agrees u h = runs_agree (opened u.opening) u h.1 (reachable_stays.first u.openin
 -- In the words of the server
 
 module _ (s : Server) (c : ℕ) (table : IsTable s.durable.index s.rows) where
-  waits_not : Away s.rows c → waits s.durable.index s.rows c ≡ false
+  pub waits_not : Away s.rows c → waits s.durable.index s.rows c ≡ false
   waits_not away = by_test (waits s.durable.index s.rows c) refl
     where
       by_test : (b : Bool) → waits s.durable.index s.rows c ≡ b → b ≡ false

@@ -39,12 +39,12 @@ abbrev Follows : ℕ → ℕ → ℕ → Client → Type 0
 Follows seen req number k = IsOver req number k ⊎ IsOnItsWay seen req number k
 
 -- the push that the client accepts
-judged_now : (k : Client) (number : ℕ) (o : Outcome) (x : LastWrite) → is_some (outstanding x) ≡ true → number ≡ k.writes → outstanding (receiver.judged_as k number o x) ≡ None
+pub judged_now : (k : Client) (number : ℕ) (o : Outcome) (x : LastWrite) → is_some (outstanding x) ≡ true → number ≡ k.writes → outstanding (receiver.judged_as k number o x) ≡ None
 judged_now k number o Unwritten some is = absurd (cc)
 judged_now k number o (Outstanding change) some is = ap (λ n. outstanding (if nat_eq n k.writes then Judged o else Outstanding change)) is ∙ ap (λ b. outstanding (if b then Judged o else Outstanding change)) (eq-eqb k.writes k.writes refl)
 judged_now k number o (Judged old) some is = absurd (cc)
 
-replied : (k : Client) (req : ℕ) (reply : LockRequest) → is_waiting reply ≡ false → is_waiting k.asked ≡ true → req ≡ k.req → is_waiting (asked_after k req k.asked reply) ≡ false
+pub replied : (k : Client) (req : ℕ) (reply : LockRequest) → is_waiting reply ≡ false → is_waiting k.asked ≡ true → req ≡ k.req → is_waiting (asked_after k req k.asked reply) ≡ false
 replied k req reply free w is = ap (λ b. is_waiting (if b && nat_eq req k.req then reply else k.asked)) w ∙ ap (λ b. is_waiting (if b then reply else k.asked)) (eq-eqb req k.req is) ∙ free
 
 accepts_awaited : (seen req number : ℕ) (k : Client) (b : PushBody) → IsAwaited k b → IsOnItsWay seen req number k → Follows seen req number (accepted k b)
@@ -72,7 +72,7 @@ over_stays req number k l ms le x (inr (inl a)) = inr (inl (⊎_elim (λ (y : l.
 over_stays req number k l ms le x (inr (inr a)) = inr (⊎_elim (λ (y : l.writes ≡ k.writes). inr (y ∙ a.0, x.ends y a.1)) (λ (y : l.writes ≡ suc k.writes). inl (let z = a.0 in omega (arith, y, z))) x.number)
 
 -- the push that is accepted is the one that the server has not heard acknowledged
-came : (u : State) (s : Server) (c : ℕ) (k : Client) (b : PushBody) (m : ToClient) → IsReachable u → u.server ≡ Up s → client_of u c ≡ Some k → k.epoch ≡ s.durable.epoch → In (message.ToClient m) u.sent → m.client ≡ c → m.incarnation ≡ k.incarnation → m.body ≡ told.Push k.epoch (suc k.seen) b → IsAwaited k b
+pub came : (u : State) (s : Server) (c : ℕ) (k : Client) (b : PushBody) (m : ToClient) → IsReachable u → u.server ≡ Up s → client_of u c ≡ Some k → k.epoch ≡ s.durable.epoch → In (message.ToClient m) u.sent → m.client ≡ c → m.incarnation ≡ k.incarnation → m.body ≡ told.Push k.epoch (suc k.seen) b → IsAwaited k b
 came u s c k b m ru up runs here at own inc is = by_push (s.sessions c).unacked refl
   where
     st : HasStanding u s c k
@@ -102,7 +102,7 @@ module _ (c inc epoch seen0 req0 number : ℕ) (op : WriteOp) (some : 1 ≤ epoc
 
   over_steps : Steps (IsOver req0 number)
   over_steps u h k _ _ i e (same l ms inc2 ep seen req asked most) x f = over_stays req0 number k l ms (omega (arith, req)) x f
-  over_steps u h k _ _ i e (locks point hi g free) x f = over_stays req0 number k _ _ (omega arith) x f
+  over_steps u h k _ _ i e (locks point hi g free reach) x f = over_stays req0 number k _ _ (omega arith) x f
   over_steps u h k _ _ i e (adopts ep ms m at own inc2 is lt most) x f = absurd (omega (arith, lt, e))
   over_steps u h k _ _ i e (accepts b ms m at own inc2 is most) x f = over_stays req0 number k (accepted k b) ms (let y = (accepted_counts k b).0 in omega (arith, y)) x f
 
@@ -110,7 +110,7 @@ module _ (c inc epoch seen0 req0 number : ℕ) (op : WriteOp) (some : 1 ≤ epoc
   way_steps u h k _ _ i e (same l ms inc2 ep seen req asked most) x a = ⊎_elim
       (λ (w : l.writes ≡ k.writes). inr (req ∙ a.0, w ∙ a.1, ⊎_elim (λ (y : k.seen ≡ seen0). inl (seen ∙ y)) (λ (y : (k.seen ≡ suc seen0) × (is_waiting k.asked ≡ false)). inr (seen ∙ y.0, ap is_waiting asked ∙ y.1)) a.2))
       (λ (w : l.writes ≡ suc k.writes). inl (inr (inl (let z = a.1 in omega (arith, z, w))))) x.number
-  way_steps u h k _ _ i e (locks point hi g free) x a = inl (inl (let z = a.0 in omega (arith, z)))
+  way_steps u h k _ _ i e (locks point hi g free reach) x a = inl (inl (let z = a.0 in omega (arith, z)))
   way_steps u h k _ _ i e (adopts ep ms m at own inc2 is lt most) x a = absurd (omega (arith, lt, e))
   way_steps u h k _ _ i e (accepts b ms m at own inc2 is most) x a = accepts_awaited seen0 req0 number k b
       (came u h.at.server c k b m h.at.reachable h.at.up i (now c inc epoch seen0 number op some room n u h k i ∙ sym h.at.now) at own inc2 is) a

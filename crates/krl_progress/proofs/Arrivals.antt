@@ -128,7 +128,7 @@ module _ (c inc epoch seen0 : ℕ) (some : 1 ≤ epoch) (room : seen0 < END) (n 
   made_later s t (kept i l q) e h = omega (arith, l, h)
   made_later s t (more i l) e h = omega (arith, l, h)
 
-  made_kept : (u v : State) (s : Step) (answer : Answer) → loses_a_node s ≡ false → Live u → Made u → Takes u s answer v → Made v
+  pub made_kept : (u v : State) (s : Step) (answer : Answer) → loses_a_node s ≡ false → Live u → Made u → Takes u s answer v → Made v
   made_kept u v s answer calm h made t x e = by_way (way u v s answer t.1)
     where
       g : Live v

@@ -75,7 +75,7 @@ locked_awaited k point hi g (push.Answer number o y) free h = h
 module _ (u : State) (ru : IsReachable u) (d : ℕ) (k : Client) (runs : client_of u d ≡ Some k) where
   goes_pending : (s : Server) → u.server ≡ Up s → Knows s d k → Pending s d k → (l : Client) (ms : List ToServer) → Goes u d k l ms → WriteGoes k l ms → Pending s d l
   goes_pending s up knows h _ _ (same l ms inc epoch seen req asked most) x now b e n = still_awaited k l b req asked (same_write k l ms x epoch seen) (h (sym epoch ∙ now) b e (n ∙ ap (λ y. suc y) seen))
-  goes_pending s up knows h _ _ (locks point hi g free) x now b e n = locked_awaited k point hi g b free (h now b e n)
+  goes_pending s up knows h _ _ (locks point hi g free reach) x now b e n = locked_awaited k point hi g b free (h now b e n)
   goes_pending s up knows h _ _ (adopts epoch ms m at own inc is lt most) x now b e n =
       absurd (let t = ((has_told u s d ru up).epochs m own at epoch is).0 in let reg = (standing u s d k ru up runs).reg in
       let fresh = knows.early (omega (arith, t, reg, inc)) (omega (arith, lt, now)) in
@@ -90,7 +90,7 @@ module _ (u : State) (ru : IsReachable u) (d : ℕ) (k : Client) (runs : client_
     where
       old : (l : Client) (ms : List ToServer) → Goes u d k l ms → WriteGoes k l ms → (m : ToServer) → m.client ≡ d → In (message.ToServer m) u.sent → Writes m l
       old _ _ (same l ms i epoch sn req asked most) x m own at some inc r is now seen n number = its_still k l n (same_write k l ms x epoch sn) (h m own at (omega (arith, some, epoch)) (inc ∙ i) r is (now ∙ epoch) (seen ∙ sn) n number)
-      old _ _ (locks point hi g free) x m own at some inc r is now seen n number = h m own at some inc r is now seen n number
+      old _ _ (locks point hi g free reach) x m own at some inc r is now seen n number = h m own at some inc r is now seen n number
       old _ _ (adopts epoch ms o a p i b lt most) x m own at some inc r is now seen n number = absurd (let y = ((has_said u d k ru runs).requests m own at inc r is).0 in omega (arith, y, lt, now))
       old _ _ (accepts what ms o a p i b most) x m own at some inc r is now seen n number = absurd (let f = accepted_seen k what in let f0 = f.0 in let y = ((has_said u d k ru runs).requests m own at (inc ∙ f.2) r is).1 (now ∙ f.1) in omega (arith, y, seen, f0))
 

@@ -1,29 +1,29 @@
 -- No block lasts four good rounds: a tick, the callback that it brings out, the Release, and its hearing.
-use Rattle.krl_progress.proofs.Names.{◌≡◌, ℕ, suc, ◌≤◌, ◌<◌, ◌∙◌, inl, inr, false, Some, is_some, List, [], ◌∷◌, ◌++◌, length, slice_get, refl, sym, ap, subst, arith, ltb-true}
-use Rattle.krl_progress.proofs.Names.{ToServer, ToClient, In, Client, Message, Record, Acts, Server, is_recovering, Step, Answer, Up, State, message_at, Delivers, ServerReads, ClientReads, Runs, Takes, ServerStep, case_of, effect, from_clients, from_server, kind_of, callbacks, callback_to, most_clients, span_of, cap}
+use Rattle.krl_progress.proofs.Names.{◌≡◌, ℕ, ◌≤◌, ◌<◌, ◌∙◌, inl, true, false, Some, is_some, List, length, refl, sym, ap, subst, arith, ltb-true}
+use Rattle.krl_progress.proofs.Names.{ToServer, ToClient, In, Client, Message, Acts, Server, is_recovering, Step, Answer, Up, State, message_at, Delivers, ServerReads, ClientReads, Runs, Takes, ServerStep, case_of, effect, from_clients, from_server, kind_of, callbacks, callback_to, most_clients, span_of, cap}
 use Rattle.krl_modes.specs.declared.mode.Mode.{Mode}
+use Rattle.krl_modes.specs.Modes.{at_most}
+use Rattle.krl_modes.proofs.ModeLaws.{mode_order}
 use Rattle.krl_table.specs.Calls.{wanted}
-use Rattle.krl_messages.specs.declared.to_server.ToServerBody.TheVariants as said
-use Rattle.krl_messages.specs.declared.to_server.RequestBody.{RequestBody}
 use Rattle.krl_messages.specs.declared.to_server.RequestBody.TheVariants as asked
 use Rattle.krl_messages.specs.declared.to_client.ToClientBody.TheVariants as told
-use Rattle.krl_server.specs.Servers.{incarnation_of}
-use Rattle.krl_server.specs.Cases.{case_of_request}
 use Rattle.krl_server.proofs.Invariant.Tabled.{slots_have}
-use Rattle.krl_client.specs.Ticks.{tick}
-use Rattle.krl_client.specs.Clients.{requests}
 use Rattle.krl_client.specs.Messages as receiver
 use Rattle.krl_steps.specs.declared.step.Step.TheVariants as step
 use Rattle.krl_world.specs.declared.message.Message.TheVariants as message
 use Rattle.krl_progress.specs.Rounds.{loses_a_node, IsRound}
 use Rattle.krl_progress.specs.Blocks.{Block, HasSeen, IsBlocked, Throughout, RoundsWhile, BlocksEndIn}
-use Rattle.krl_progress.proofs.Moves.{moves, still_sent, some_is}
-use Rattle.krl_progress.proofs.Standings.{HasStanding, standing}
+use Rattle.krl_progress.proofs.Standings.{standing}
 use Rattle.krl_progress.proofs.Recovers.{same_up, At, at_kept, near, within, again as at_again}
-use Rattle.krl_progress.proofs.WriteSteps.{place, to_server, to_clients}
+use Rattle.krl_progress.proofs.WriteSteps.{to_server, to_clients}
 use Rattle.krl_progress.proofs.CallsBack.{lowers_there, sends_of}
-use Rattle.krl_progress.proofs.Arrivals.{request_from, Hears, hears, again, request_hears}
-use Rattle.krl_progress.proofs.Blocking.{blocker_called, acts_calls, lock_acts, ends_off, tick_asks}
+use Rattle.krl_progress.proofs.Arrivals.{request_from}
+use Rattle.krl_progress.proofs.Seen.{Sent, sent_now, sent_still, still, st, same_inc, same_server, same_epoch, own_inc, own_request, heard_now}
+use Rattle.krl_progress.proofs.Whiles as whiles
+use Rattle.krl_progress.proofs.Whiles.{hit}
+use Rattle.krl_progress.proofs.Sinking.{low_self, world_sinks, wanted_sinks}
+use Rattle.krl_progress.proofs.Blocking.{blocker_called, acts_calls, lock_acts, ends_off}
+use Rattle.krl_progress.proofs.Repeating.{LockSaid, lock_said, lock_still, tick_says}
 
 module _ (b : Block) (waiter_inc blocker_inc epoch : ℕ) (some : 1 ≤ epoch) (n : ℕ) where
   -- the block, and that its clients and the server run on
@@ -32,81 +32,43 @@ module _ (b : Block) (waiter_inc blocker_inc epoch : ℕ) (some : 1 ≤ epoch) (
     waiter_at : At b.waiter.client waiter_inc epoch n u
     blocker_at : At b.blocker blocker_inc epoch n u
 
-  abbrev keep : Mode
-  keep = cap b.wants
+  -- the waiter wants no more than this
+  abbrev WantsAtMost : Mode → State → Type 0
+  WantsAtMost want u = (s : Server) → u.server ≡ Up s → at_most (wanted (s.rows b.slot) b.waiter) want ≡ true
 
-  -- what a client of the block says, as a message
-  module _ (u : State) (s : Server) (c inc seen : ℕ) (at : At c inc epoch n u) (up : u.server ≡ Up s) (h : HasSeen u s c seen) where
-    same_inc : h.client.incarnation ≡ inc
-    same_inc = ap (λ (y : Client). y.incarnation) (some_is h.client at.client (sym h.runs ∙ at.runs)) ∙ at.same
+  abbrev Repeated : State → Type 0
+  Repeated = LockSaid b.waiter.client waiter_inc epoch b.waiter_seen some n
 
-    same_server : s ≡ at.server
-    same_server = same_up s at.server (sym up ∙ at.up)
+  -- the callback for a waiter that wants this, and its answer
+  abbrev called : Mode → ToClient
+  called want = record { client = b.blocker; incarnation = blocker_inc; body = told.Callback epoch b.span (cap want) }
 
-    same_epoch : h.client.epoch ≡ epoch
-    same_epoch = h.epoch ∙ ap (λ (y : Server). y.durable.epoch) same_server ∙ at.now
+  abbrev release : Mode → ToServer
+  release want = request_from b.blocker blocker_inc epoch b.blocker_seen (asked.Release b.span (cap want))
 
-    st : HasStanding u s c h.client
-    st = standing u s c h.client at.reachable up h.runs
+  -- such a message was sent for a waiter that wants no more since
+  record SentFor (message_for : Mode → Message) (u : State) : Type 0 where
+    want : Mode
+    sent : Sent n (message_for want) u
+    enough : WantsAtMost want u
 
-    own_inc : incarnation_of s c ≡ inc
-    own_inc = st.joined (omega (arith, same_epoch, some)) ∙ same_inc
+  abbrev CalledBack : State → Type 0
+  CalledBack = SentFor (λ want. message.ToClient (called want))
 
-    own_request : (body : RequestBody) → requests h.client body ≡ request_from c inc epoch seen body
-    own_request body j = record { client = st.number j; incarnation = same_inc j; body = said.Request (record { epoch = same_epoch j; seen = h.accepted j; body = body }) }
-
-    heard : (body : RequestBody) → is_recovering s.missing ≡ false → Hears s c h.client body (case_of s (request_from c inc epoch seen body))
-    heard body serves = subst (λ m. Hears s c h.client body (case_of s m)) (λ j. request_from c (same_inc j) (same_epoch j) (h.accepted j) body)
-        (request_hears u s c h.client at.reachable up h.runs h.epoch serves (near c inc epoch n u at) body)
-
-    -- it is heard, and is no late one
-    heard_now : (body : RequestBody) → is_recovering s.missing ≡ false → (r : Record) × (case_of s (request_from c inc epoch seen body) ≡ case_of_request s c r body)
-    heard_now body serves = by_case (heard body serves)
-      where
-        by_case : Hears s c h.client body (case_of s (request_from c inc epoch seen body)) → (r : Record) × (case_of s (request_from c inc epoch seen body) ≡ case_of_request s c r body)
-        by_case (hears r e x l) = (r, x)
-        by_case (again p x e l) = absurd (let a = h.accepted in let z = h.last in omega (arith, l, a, z))
-
-  -- Messages behind number n
-
-  record Sent (m : Message) (u : State) : Type 0 where
-    index : ℕ
-    above : n < index
-    sent : message_at u.sent index ≡ Some m
-
-  sent_now : (u v : State) (m : Message) (more : List Message) → n ≤ length u.sent → v.sent ≡ u.sent ++ more → In m more → Sent m v
-  sent_now u v m more long e at = let p = place u.sent more m at in record { index = suc p.0; above = (let a = p.1 in omega (arith, a, long)); sent = subst (λ xs. slice_get xs p.0 ≡ Some m) (sym e) p.2 }
-
-  abbrev lock_said : ℕ → ℕ → ℕ → Mode → Message
-  lock_said req point hi g = message.ToServer (request_from b.waiter.client waiter_inc epoch b.waiter_seen (asked.Lock req point hi g))
-
-  record LockSaid (u : State) : Type 0 where
-    req : ℕ
-    point : ℕ
-    hi : ℕ
-    mode : Mode
-    sent : Sent (lock_said req point hi mode) u
-
-  abbrev called : ToClient
-  called = record { client = b.blocker; incarnation = blocker_inc; body = told.Callback epoch b.span keep }
-
-  abbrev release : ToServer
-  release = request_from b.blocker blocker_inc epoch b.blocker_seen (asked.Release b.span keep)
+  abbrev Released : State → Type 0
+  Released = SentFor (λ want. message.ToServer (release want))
 
   -- The four steps
 
-  hit_tick : (u v : State) (answer : Answer) → Along u → Takes u (step.Tick b.waiter.client) answer v → LockSaid v
-  hit_tick u v answer h t =
-      let d = t.1.1 in
-      let w = h.blocked.waiting in
-      let is = some_is d.0 w.client (sym d.1 ∙ w.runs) in
-      let a = tick_asks b u h.waiter_at.reachable h.blocked d.2.0 (let x = same_epoch u h.blocked.server b.waiter.client waiter_inc b.waiter_seen h.waiter_at h.blocked.up w in omega (arith, x, some)) in
-      let own = own_request u h.blocked.server b.waiter.client waiter_inc b.waiter_seen h.waiter_at h.blocked.up w (asked.Lock a.req a.point a.hi a.mode) in
-      let there = subst (λ (k : Client). In (request_from b.waiter.client waiter_inc epoch b.waiter_seen (asked.Lock a.req a.point a.hi a.mode)) (tick d.2.0 k)) (sym is) (subst (λ m. In m (tick d.2.0 w.client)) own a.said) in
-      record { req = a.req; point = a.point; hi = a.hi; mode = a.mode; sent = sent_now u v (lock_said a.req a.point a.hi a.mode) (from_clients (tick d.2.0 d.0)) h.waiter_at.long (ap (λ (y : State). y.sent) d.2.2) (to_clients _ (tick d.2.0 d.0) there) }
+  hit_tick : (u v : State) (answer : Answer) → Along u → Takes u (step.Tick b.waiter.client) answer v → Repeated v
+  hit_tick u v answer h t = tick_says b.waiter waiter_inc epoch b.waiter_seen some n u v answer h.blocked.server b.slot h.blocked.behind h.waiter_at h.blocked.up h.blocked.first h.blocked.waiting t
 
-  hit_lock : (req point hi : ℕ) (g : Mode) (i : ℕ) (u v : State) (answer : Answer) → Along u → Along v → message_at u.sent i ≡ Some (lock_said req point hi g) → Takes u (step.Deliver i) answer v → Sent (message.ToClient called) v
-  hit_lock req point hi g i u v answer h after sent t = sent_now u v (message.ToClient called) (from_server d.1) h.waiter_at.long (ap (λ (y : State). y.sent) d.3) (to_server called d.1 at)
+  hit_lock : (req point hi : ℕ) (g : Mode) (i : ℕ) (u v : State) (answer : Answer) → Along u → Along v → message_at u.sent i ≡ Some (lock_said b.waiter.client waiter_inc epoch b.waiter_seen some n req point hi g) → Takes u (step.Deliver i) answer v → CalledBack v
+  hit_lock req point hi g i u v answer h after sent t = record {
+    want = want;
+    sent = sent_now n u v (message.ToClient (called want)) (from_server d.1) h.waiter_at.long (ap (λ (y : State). y.sent) d.3) (to_server (called want) d.1 at);
+    enough = λ y e. subst (λ (z : Server). at_most (wanted (z.rows b.slot) b.waiter) want ≡ true) (same_up x y (sym after.blocked.up ∙ e)) (low_self want);
+  }
     where
       s : Server
       s = h.blocked.server
@@ -120,26 +82,29 @@ module _ (b : Block) (waiter_inc blocker_inc epoch : ℕ) (some : 1 ≤ epoch) (
       x : Server
       x = after.blocked.server
 
+      want : Mode
+      want = wanted (x.rows b.slot) b.waiter
+
       same : d.0 ≡ x
       same = same_up d.0 x (sym (ap (λ (y : State). y.server) d.3) ∙ after.blocked.up)
 
       acts : kind_of (case_of s m) ≡ Acts
-      acts = let r = heard_now u s b.waiter.client waiter_inc b.waiter_seen h.waiter_at h.blocked.up h.blocked.waiting (asked.Lock req point hi g) h.blocked.serves in ap kind_of r.1 ∙ lock_acts s b.waiter.client req point hi g
+      acts = let r = heard_now epoch some n u s b.waiter.client waiter_inc b.waiter_seen h.waiter_at h.blocked.up h.blocked.waiting (asked.Lock req point hi g) h.blocked.serves in ap kind_of r.1 ∙ lock_acts s b.waiter.client req point hi g
 
       below : b.blocker < most_clients
       below = ltb-true b.blocker most_clients (near b.blocker blocker_inc epoch n v after.blocker_at)
 
-      in_callbacks : In (callback_to x b.blocker (span_of x.durable.index b.slot) (cap (wanted (x.rows b.slot) b.waiter))) (callbacks x)
+      in_callbacks : In (callback_to x b.blocker (span_of x.durable.index b.slot) (cap want)) (callbacks x)
       in_callbacks = blocker_called x b.slot b.waiter after.blocked.behind b.blocker (slots_have x.durable.index b.slot after.blocked.slot) after.blocked.first after.blocked.possible below after.blocked.blocks
 
-      is_called : callback_to x b.blocker (span_of x.durable.index b.slot) (cap (wanted (x.rows b.slot) b.waiter)) ≡ called
-      is_called j = record { client = b.blocker; incarnation = own_inc v x b.blocker blocker_inc b.blocker_seen after.blocker_at after.blocked.up after.blocked.blocking j; body = told.Callback ((ap (λ (y : Server). y.durable.epoch) (same_server v x b.blocker blocker_inc b.blocker_seen after.blocker_at after.blocked.up after.blocked.blocking) ∙ after.blocker_at.now) j) (after.blocked.span j) (cap (after.blocked.wants j)) }
+      is_called : callback_to x b.blocker (span_of x.durable.index b.slot) (cap want) ≡ called want
+      is_called j = record { client = b.blocker; incarnation = own_inc epoch some n v x b.blocker blocker_inc b.blocker_seen after.blocker_at after.blocked.up after.blocked.blocking j; body = told.Callback ((ap (λ (y : Server). y.durable.epoch) (same_server epoch some n v x b.blocker blocker_inc b.blocker_seen after.blocker_at after.blocked.up after.blocked.blocking) ∙ after.blocker_at.now) j) (after.blocked.span j) (cap want) }
 
-      at : In called d.1
-      at = acts_calls (effect s m (case_of s m)) (kind_of (case_of s m)) d.0 d.1 called acts (ap (λ (y : Server). is_recovering y.missing) same ∙ after.blocked.serves) d.2 (subst (λ y. In called (callbacks y)) (sym same) (subst (λ y. In y (callbacks x)) is_called in_callbacks))
+      at : In (called want) d.1
+      at = acts_calls (effect s m (case_of s m)) (kind_of (case_of s m)) d.0 d.1 (called want) acts (ap (λ (y : Server). is_recovering y.missing) same ∙ after.blocked.serves) d.2 (subst (λ y. In (called want) (callbacks y)) (sym same) (subst (λ y. In y (callbacks x)) is_called in_callbacks))
 
-  hit_callback : (i : ℕ) (u v : State) (answer : Answer) → Along u → message_at u.sent i ≡ Some (message.ToClient called) → Takes u (step.Deliver i) answer v → Sent (message.ToServer release) v
-  hit_callback i u v answer h sent t = sent_now u v (message.ToServer release) (from_clients (receiver.sends d.0 k (receiver.case_of k called))) h.blocker_at.long (ap (λ (y : State). y.sent) d.2) (to_clients release _ at)
+  hit_callback : (want : Mode) (i : ℕ) (u v : State) (answer : Answer) → Along u → message_at u.sent i ≡ Some (message.ToClient (called want)) → Takes u (step.Deliver i) answer v → Sent n (message.ToServer (release want)) v
+  hit_callback want i u v answer h sent t = sent_now n u v (message.ToServer (release want)) (from_clients (receiver.sends d.0 k (receiver.case_of k (called want)))) h.blocker_at.long (ap (λ (y : State). y.sent) d.2) (to_clients (release want) _ at)
     where
       w : HasSeen u h.blocked.server b.blocker b.blocker_seen
       w = h.blocked.blocking
@@ -147,25 +112,25 @@ module _ (b : Block) (waiter_inc blocker_inc epoch : ℕ) (some : 1 ≤ epoch) (
       k : Client
       k = w.client
 
-      d : ClientReads u (Some k) called v
-      d = subst (λ o. ClientReads u o called v) w.runs (subst (λ o. Delivers u o v) sent t.1.1)
+      d : ClientReads u (Some k) (called want) v
+      d = subst (λ o. ClientReads u o (called want) v) w.runs (subst (λ o. Delivers u o v) sent t.1.1)
 
-      own : called ≡ record { client = k.number; incarnation = k.incarnation; body = told.Callback epoch b.span keep }
-      own j = record { client = sym (st u h.blocked.server b.blocker blocker_inc b.blocker_seen h.blocker_at h.blocked.up w).number j; incarnation = sym (same_inc u h.blocked.server b.blocker blocker_inc b.blocker_seen h.blocker_at h.blocked.up w) j; body = told.Callback epoch b.span keep }
+      own : called want ≡ record { client = k.number; incarnation = k.incarnation; body = told.Callback epoch b.span (cap want) }
+      own j = record { client = sym (st epoch some n u h.blocked.server b.blocker blocker_inc b.blocker_seen h.blocker_at h.blocked.up w).number j; incarnation = sym (same_inc epoch some n u h.blocked.server b.blocker blocker_inc b.blocker_seen h.blocker_at h.blocked.up w) j; body = told.Callback epoch b.span (cap want) }
 
-      case : receiver.case_of k called ≡ receiver.Lowers b.span keep
-      case = ap (receiver.case_of k) own ∙ lowers_there k epoch b.span keep (same_epoch u h.blocked.server b.blocker blocker_inc b.blocker_seen h.blocker_at h.blocked.up w) h.blocked.free h.blocked.unpinned
+      case : receiver.case_of k (called want) ≡ receiver.Lowers b.span (cap want)
+      case = ap (receiver.case_of k) own ∙ lowers_there k epoch b.span (cap want) (same_epoch epoch some n u h.blocked.server b.blocker blocker_inc b.blocker_seen h.blocker_at h.blocked.up w) h.blocked.free h.blocked.unpinned
 
-      at : In release (receiver.sends d.0 k (receiver.case_of k called))
-      at = subst (In release) (sym (sends_of d.0 k b.span keep _ case)) (inl (sym (own_request u h.blocked.server b.blocker blocker_inc b.blocker_seen h.blocker_at h.blocked.up w (asked.Release b.span keep))))
+      at : In (release want) (receiver.sends d.0 k (receiver.case_of k (called want)))
+      at = subst (In (release want)) (sym (sends_of d.0 k b.span (cap want) _ case)) (inl (sym (own_request epoch some n u h.blocked.server b.blocker blocker_inc b.blocker_seen h.blocker_at h.blocked.up w (asked.Release b.span (cap want)))))
 
-  hit_release : (i : ℕ) (u v : State) (answer : Answer) → Along u → Along v → message_at u.sent i ≡ Some (message.ToServer release) → Takes u (step.Deliver i) answer v → ⊥
-  hit_release i u v answer h after sent t =
+  hit_release : (want : Mode) (i : ℕ) (u v : State) (answer : Answer) → Along u → Along v → message_at u.sent i ≡ Some (message.ToServer (release want)) → WantsAtMost want v → Takes u (step.Deliver i) answer v → ⊥
+  hit_release want i u v answer h after sent enough t =
       let s = h.blocked.server in
-      let d : ServerReads u (Up s) release v = subst (λ x. ServerReads u x release v) h.blocked.up (subst (λ o. Delivers u o v) sent t.1.1) in
+      let d : ServerReads u (Up s) (release want) v = subst (λ x. ServerReads u x (release want) v) h.blocked.up (subst (λ o. Delivers u o v) sent t.1.1) in
       let same = same_up d.0 after.blocked.server (sym (ap (λ (y : State). y.server) d.3) ∙ after.blocked.up) in
-      let r = heard_now u s b.blocker blocker_inc b.blocker_seen h.blocker_at h.blocked.up h.blocked.blocking (asked.Release b.span keep) h.blocked.serves in
-      ends_off b u v h.blocked after.blocked release d.1 refl r.1 (subst (λ y. ServerStep s release y d.1) same d.2)
+      let r = heard_now epoch some n u s b.blocker blocker_inc b.blocker_seen h.blocker_at h.blocked.up h.blocked.blocking (asked.Release b.span (cap want)) h.blocked.serves in
+      ends_off b want u v h.blocked after.blocked (enough after.blocked.server after.blocked.up) (release want) d.1 refl r.1 (subst (λ y. ServerStep s (release want) y d.1) same d.2)
 
   -- Rounds
 
@@ -177,31 +142,32 @@ module _ (b : Block) (waiter_inc blocker_inc epoch : ℕ) (some : 1 ≤ epoch) (
   }
 
   abbrev Hits : (State → Type 0) → Step → (State → Type 0) → Type 0
-  Hits X s0 Y = (u v : State) (answer : Answer) → Along u → Along v → X u → Takes u s0 answer v → Y v
+  Hits = whiles.Hits (IsBlocked b) Along along
 
   abbrev Lasts : (State → Type 0) → Type 0
-  Lasts X = (u v : State) (s : Step) (answer : Answer) → X u → Takes u s answer v → X v
+  Lasts = whiles.Lasts (IsBlocked b) Along along
 
-  module _ (X Y : State → Type 0) (s0 : Step) (x_lasts : Lasts X) (y_lasts : Lasts Y) (hits : Hits X s0 Y) where
-    stays_hit : (steps : List Step) (u v : State) → ((s : Step) → In s steps → loses_a_node s ≡ false) → Along u → Y u → (r : Runs u steps v) → Throughout (IsBlocked b) u steps v r → Along v × Y v
-    stays_hit [] u v calm h y r all = subst (λ z. Along z × Y z) (sym r) (h, y)
-    stays_hit (s ∷ steps) u v calm h y r all = stays_hit steps r.1 v (λ z i. calm z (inr i)) (along u r.1 s r.0 (calm s (inl refl)) h all.0 r.2) (y_lasts u r.1 s r.0 y r.2) r.3 all.1
+  -- what becomes true in a run while the block stands
+  hits_in : (X Y : State → Type 0) (s0 : Step) → Lasts X → Lasts Y → Hits X s0 Y → (steps : List Step) (u v : State) → ((s : Step) → In s steps → loses_a_node s ≡ false) → In s0 steps → Along u → X u → (r : Runs u steps v) → Throughout (IsBlocked b) u steps v r → Along v × Y v
+  hits_in = hit (IsBlocked b) Along along
 
-    hit : (steps : List Step) (u v : State) → ((s : Step) → In s steps → loses_a_node s ≡ false) → In s0 steps → Along u → X u → (r : Runs u steps v) → Throughout (IsBlocked b) u steps v r → Along v × Y v
-    hit [] u v calm i h x r all = absurd i
-    hit (s ∷ steps) u v calm (inl e) h x r all =
-        let next = along u r.1 s r.0 (calm s (inl refl)) h all.0 r.2 in
-        stays_hit steps r.1 v (λ z i. calm z (inr i)) next (hits u r.1 r.0 h next x (subst (λ z. Takes u z r.0 r.1) (sym e) r.2)) r.3 all.1
-    hit (s ∷ steps) u v calm (inr i) h x r all = hit steps r.1 v (λ z j. calm z (inr j)) i (along u r.1 s r.0 (calm s (inl refl)) h all.0 r.2) (x_lasts u r.1 s r.0 x r.2) r.3 all.1
+  lock_lasts : Lasts Repeated
+  lock_lasts u v s answer before after h t = lock_still b.waiter.client waiter_inc epoch b.waiter_seen some n u v s answer h t
 
-  still : (i : ℕ) (m : Message) → Lasts (λ u. message_at u.sent i ≡ Some m)
-  still i m u v s answer e t = still_sent (loses_a_node s) u v i m (moves u v s answer t) e
+  -- the waiter's client has no further push, so it wants no more
+  wants_last : (want : Mode) → Lasts (WantsAtMost want)
+  wants_last want u v s answer before after h t y e =
+      let old = before.blocked in
+      let new = after.blocked in
+      let c = b.waiter.client in
+      let inc = own_inc epoch some n v new.server c waiter_inc b.waiter_seen after.waiter_at new.up new.waiting ∙ sym (own_inc epoch some n u old.server c waiter_inc b.waiter_seen before.waiter_at old.up old.waiting) in
+      let sinks = world_sinks u v s answer old.server new.server c before.waiter_at.reachable old.up new.up old.serves inc (new.waiting.last ∙ sym old.waiting.last) t in
+      let low = wanted_sinks old.server new.server b.slot b.waiter sinks old.slot in
+      let now = mode_order.transitive (wanted (new.server.rows b.slot) b.waiter) (wanted (old.server.rows b.slot) b.waiter) want low (h old.server old.up) in
+      subst (λ (z : Server). at_most (wanted (z.rows b.slot) b.waiter) want ≡ true) (same_up new.server y (sym new.up ∙ e)) now
 
-  sent_lasts : (m : Message) → Lasts (Sent m)
-  sent_lasts m u v s answer h t = record { index = h.index; above = h.above; sent = still h.index m u v s answer h.sent t }
-
-  lock_lasts : Lasts LockSaid
-  lock_lasts u v s answer h t = record { req = h.req; point = h.point; hi = h.hi; mode = h.mode; sent = sent_lasts (lock_said h.req h.point h.hi h.mode) u v s answer h.sent t }
+  for_lasts : (message_for : Mode → Message) → Lasts (SentFor message_for)
+  for_lasts message_for u v s answer before after h t = record { want = h.want; sent = sent_still n (message_for h.want) u v s answer h.sent t; enough = wants_last h.want u v s answer before after h.enough t }
 
 -- Four rounds
 
@@ -212,35 +178,47 @@ module _ (b : Block) (waiter_inc blocker_inc epoch : ℕ) (some : 1 ≤ epoch) w
   along_again : (n : ℕ) (u : State) → AlongAt n u → AlongAt (length u.sent) u
   along_again n u h = record { blocked = h.blocked; waiter_at = at_again b.waiter.client waiter_inc epoch n u h.waiter_at; blocker_at = at_again b.blocker blocker_inc epoch n u h.blocker_at }
 
+  -- the message of number i was sent, and this holds
+  abbrev With : ℕ → Message → (State → Type 0) → State → Type 0
+  With i x Z u = (message_at u.sent i ≡ Some x) × Z u
+
   -- what is sent behind number n, and handed over in the next round
-  one : (n m : ℕ) (x : Message) (Y : State → Type 0) (w v : State) (steps : List Step) → Lasts b waiter_inc blocker_inc epoch some m Y → ((i : ℕ) → Hits b waiter_inc blocker_inc epoch some m (λ u. message_at u.sent i ≡ Some x) (step.Deliver i) Y) → AlongAt m w → Sent b waiter_inc blocker_inc epoch some n x w → IsRound w n steps → (r : Runs w steps v) → Throughout (IsBlocked b) w steps v r → AlongAt m v × Y v
-  one n m x Y w v steps y_lasts hits h sent round r all =
-      hit b waiter_inc blocker_inc epoch some m (λ u. message_at u.sent sent.index ≡ Some x) Y (step.Deliver sent.index)
-      (still b waiter_inc blocker_inc epoch some m sent.index x) y_lasts (hits sent.index)
-      steps w v round.stays (round.handed sent.index sent.above (within w.sent sent.index x sent.sent)) h sent.sent r all
+  one : (n m : ℕ) (x : Message) (Z Y : State → Type 0) (w v : State) (steps : List Step) → Lasts b waiter_inc blocker_inc epoch some m Z → Lasts b waiter_inc blocker_inc epoch some m Y → ((i : ℕ) → Hits b waiter_inc blocker_inc epoch some m (With i x Z) (step.Deliver i) Y) → AlongAt m w → Sent n x w → Z w → IsRound w n steps → (r : Runs w steps v) → Throughout (IsBlocked b) w steps v r → AlongAt m v × Y v
+  one n m x Z Y w v steps z_lasts y_lasts hits h sent z round r all =
+      hits_in b waiter_inc blocker_inc epoch some m (With sent.index x Z) Y (step.Deliver sent.index)
+      (λ u y s a before after e t. (still sent.index x u y s a e.0 t, z_lasts u y s a before after e.1 t)) y_lasts (hits sent.index)
+      steps w v round.stays (round.handed sent.index sent.above (within w.sent sent.index x sent.sent)) h (sent.sent, z) r all
 
   four_rounds : (w v : State) → AlongAt (length w.sent) w → RoundsWhile (IsBlocked b) 4 (length w.sent) w v → ⊥
   four_rounds w v h r1 =
       let n1 = length w.sent in
-      let f1 = hit b waiter_inc blocker_inc epoch some n1 (λ u. Unit {0}) (LockSaid b waiter_inc blocker_inc epoch some n1) (step.Tick b.waiter.client)
-      (λ u x s a e t. tt) (lock_lasts b waiter_inc blocker_inc epoch some n1) (λ u x a g after e t. hit_tick b waiter_inc blocker_inc epoch some n1 u x a g t)
+      let f1 = hits_in b waiter_inc blocker_inc epoch some n1 (λ u. Unit {0}) (Repeated b waiter_inc blocker_inc epoch some n1) (step.Tick b.waiter.client)
+      (λ u x s a g after e t. tt) (lock_lasts b waiter_inc blocker_inc epoch some n1) (λ u x a g after e t. hit_tick b waiter_inc blocker_inc epoch some n1 u x a g t)
       r1.0 w r1.1 r1.2.stays (r1.2.ticked b.waiter.client (ap is_some h.waiter_at.runs)) h tt r1.3 r1.4 in
       let r2 = r1.5 in
       let n2 = length r1.1.sent in
       let x = f1.1 in
-      let f2 = one n1 n2 (lock_said b waiter_inc blocker_inc epoch some n1 x.req x.point x.hi x.mode) (Sent b waiter_inc blocker_inc epoch some n2 (message.ToClient (called b waiter_inc blocker_inc epoch some n2))) r1.1 r2.1 r2.0
-      (sent_lasts b waiter_inc blocker_inc epoch some n2 _) (λ i. hit_lock b waiter_inc blocker_inc epoch some n2 x.req x.point x.hi x.mode i)
-      (along_again n1 r1.1 f1.0) x.sent r2.2 r2.3 r2.4 in
+      let f2 = one n1 n2 (lock_said b.waiter.client waiter_inc epoch b.waiter_seen some n1 x.req x.point x.hi x.mode) (λ u. Unit {0}) (CalledBack b waiter_inc blocker_inc epoch some n2) r1.1 r2.1 r2.0
+      (λ u y s a g after e t. tt) (for_lasts b waiter_inc blocker_inc epoch some n2 _) (λ i u y a g after e t. hit_lock b waiter_inc blocker_inc epoch some n2 x.req x.point x.hi x.mode i u y a g after e.0 t)
+      (along_again n1 r1.1 f1.0) x.sent tt r2.2 r2.3 r2.4 in
       let r3 = r2.5 in
       let n3 = length r2.1.sent in
-      let f3 = one n2 n3 (message.ToClient (called b waiter_inc blocker_inc epoch some n2)) (Sent b waiter_inc blocker_inc epoch some n3 (message.ToServer (release b waiter_inc blocker_inc epoch some n3))) r2.1 r3.1 r3.0
-      (sent_lasts b waiter_inc blocker_inc epoch some n3 _) (λ i u y a g after e t. hit_callback b waiter_inc blocker_inc epoch some n3 i u y a g e t)
-      (along_again n2 r2.1 f2.0) f2.1 r3.2 r3.3 r3.4 in
+      let y = f2.1 in
+      let f3 = one n2 n3 (message.ToClient (called b waiter_inc blocker_inc epoch some n2 y.want)) (WantsAtMost b waiter_inc blocker_inc epoch some n3 y.want) (Released b waiter_inc blocker_inc epoch some n3) r2.1 r3.1 r3.0
+      (wants_last b waiter_inc blocker_inc epoch some n3 y.want) (for_lasts b waiter_inc blocker_inc epoch some n3 _)
+      (λ i u z a g after e t. record {
+        want = y.want;
+        sent = hit_callback b waiter_inc blocker_inc epoch some n3 y.want i u z a g e.0 t;
+        enough = wants_last b waiter_inc blocker_inc epoch some n3 y.want u z (step.Deliver i) a g after e.1 t;
+      })
+      (along_again n2 r2.1 f2.0) y.sent y.enough r3.2 r3.3 r3.4 in
       let r4 = r3.5 in
       let n4 = length r3.1.sent in
-      let f4 = one n3 n4 (message.ToServer (release b waiter_inc blocker_inc epoch some n3)) (λ u. ⊥) r3.1 r4.1 r4.0
-      (λ u y s a e t. e) (λ i. hit_release b waiter_inc blocker_inc epoch some n4 i)
-      (along_again n3 r3.1 f3.0) f3.1 r4.2 r4.3 r4.4 in
+      let z = f3.1 in
+      let f4 = one n3 n4 (message.ToServer (release b waiter_inc blocker_inc epoch some n3 z.want)) (WantsAtMost b waiter_inc blocker_inc epoch some n4 z.want) (λ u. ⊥) r3.1 r4.1 r4.0
+      (wants_last b waiter_inc blocker_inc epoch some n4 z.want) (λ u q s a g after e t. e)
+      (λ i u q a g after e t. hit_release b waiter_inc blocker_inc epoch some n4 z.want i u q a g after e.0 (wants_last b waiter_inc blocker_inc epoch some n4 z.want u q (step.Deliver i) a g after e.1 t) t)
+      (along_again n3 r3.1 f3.0) z.sent z.enough r4.2 r4.3 r4.4 in
       f4.1
 
 pub blocks_end : BlocksEndIn 4

@@ -1,5 +1,5 @@
 -- What each step does to lock requests: at a client's seat, or at the server.
-use Rattle.krl_progress.proofs.Names.{◌≡◌, ℕ, suc, ◌≤◌, ◌<◌, ◌⊎◌, inl, inr, ⊎_elim, ◌∙◌, true, false, ◌&&◌, Option, Some, None, List, [], ◌∷◌, ◌++◌, is_some, refl, sym, ap, subst, arith, same_Some, nat_eq, nat_lt, nat_le, if◌then◌else◌, and_parts, eqb-true, ltb-true, END, In, in_both}
+use Rattle.krl_progress.proofs.Names.{◌≡◌, ℕ, suc, ◌≤◌, ◌<◌, ◌⊎◌, inl, inr, ⊎_elim, ◌∙◌, true, false, not, ◌&&◌, Option, Some, None, List, [], ◌∷◌, ◌++◌, is_some, refl, sym, ap, subst, arith, same_Some, nat_eq, nat_lt, nat_le, if◌then◌else◌, and_parts, eqb-true, ltb-true, END, In, in_both}
 use Rattle.krl_progress.proofs.Names.{ToServer, ToClient, Client, Message, AppliedWrite, Step, Command, Answer, ServerNode, Up, Down, State, Server, Durable, client_of, with_client, seated, served, message_at, ServerReads, ClientReads, ServerStep, Delivers, Obeys, nudged, started, crashed, Takes, refused_by_client, Pieces, start, nudge, span, applies, case_of, command_refusal}
 use Rattle.krl_client.specs.Clients.{begun, is_waiting, outstanding, LockRequest, NotAsked, Granted, NoEntry, Dropped, Waiting, has_joined, LastWrite, Unwritten, Outstanding, Judged}
 use Rattle.krl_messages.specs.declared.outcome.Outcome.{Outcome}
@@ -24,6 +24,9 @@ use Rattle.krl_steps.specs.declared.step.Command.TheVariants as command
 use Rattle.krl_world.specs.declared.message.Message.TheVariants as message
 use Rattle.krl_world.proofs.Refinement.Taken.{at_in, client_ok, not_named, runs_ok}
 use Rattle.krl_server.proofs.Tests.{if_case, if_both}
+use Rattle.krl_server.specs.Cases.{is_reach}
+use Rattle.krl_modes.specs.declared.point.TheConstants.{TOP}
+use Rattle.std.proofs.lemmas.Bool.{not-false}
 use Rattle.krl_progress.proofs.Moves.{passed, was_down, Follows, reads_follow, write_free}
 
 -- the number of the lock request that is said, or 0
@@ -56,7 +59,7 @@ both_ask number n xs ys h g x at = ⊎_elim (λ (a : In x xs). h x a) (λ (a : I
 -- what becomes of a client that runs
 pub data Goes (u : State) (d : ℕ) (k : Client) : Client → List ToServer → Type 0 where
   same : (l : Client) (ms : List ToServer) → l.incarnation ≡ k.incarnation → l.epoch ≡ k.epoch → l.seen ≡ k.seen → l.req ≡ k.req → l.asked ≡ k.asked → AsksAtMost k.number k.req ms → Goes u d k l ms
-  locks : (point hi : ℕ) (g : Mode) → is_waiting k.asked ≡ false → Goes u d k (locked k point hi g) (says_lock (locked k point hi g) point hi g ∷ [])
+  locks : (point hi : ℕ) (g : Mode) → is_waiting k.asked ≡ false → is_reach point hi ≡ true → Goes u d k (locked k point hi g) (says_lock (locked k point hi g) point hi g ∷ [])
   adopts : (e : ℕ) (ms : List ToServer) (m : ToClient) → In (message.ToClient m) u.sent → m.client ≡ d → m.incarnation ≡ k.incarnation → m.body ≡ told.Epoch e → k.epoch < e → AsksAtMost k.number 0 ms → Goes u d k (joined k e) ms
   accepts : (b : PushBody) (ms : List ToServer) (m : ToClient) → In (message.ToClient m) u.sent → m.client ≡ d → m.incarnation ≡ k.incarnation → m.body ≡ told.Push k.epoch (suc k.seen) b → AsksAtMost k.number 0 ms → Goes u d k (accepted k b) ms
 
@@ -240,6 +243,13 @@ not_waiting k point hi e =
     let d = passed _ refused.NotJoined _ b.1 in
     (passed (is_waiting k.asked) refused.Busy _ d.1).0
 
+-- the points that it asks for are some points
+reaches : (k : Client) (point hi : ℕ) → lock_refusal k point hi ≡ None → is_reach point hi ≡ true
+reaches k point hi e =
+    let a = passed (nat_lt END point) refused.BadPoint _ e in
+    let b = passed (not (nat_lt point hi && nat_le hi TOP)) refused.BadSpan _ a.1 in
+    ap (λ x. not x && (nat_lt point hi && nat_le hi TOP)) a.0 ∙ not-false (nat_lt point hi && nat_le hi TOP) b.0
+
 seat_does : (u v : State) (d : ℕ) (k l : Client) (ms : List ToServer) → client_of u d ≡ Some k → Goes u d k l ms → WriteGoes k l ms → v ≡ with_client u d (Some l) ms → Does u v
 seat_does u v d k l ms i g x e = subst (Does u) (sym e) (goes d k l ms i g x)
 
@@ -261,7 +271,7 @@ writes_now k op none = record {
 }
 
 obeys_does : (u v : State) (c : ℕ) (k : Client) (what : Command) (answer : Answer) → command_refusal k what ≡ None → client_of u c ≡ Some k → Obeys u c k what answer v → Does u v
-obeys_does u v c k (command.Lock point hi g) answer r i d = seat_does u v c k _ _ i (locks point hi g (not_waiting k point hi r)) (unwritten k (locked k point hi g) _ refl refl refl (one_silent (says_lock (locked k point hi g) point hi g) refl)) d.1
+obeys_does u v c k (command.Lock point hi g) answer r i d = seat_does u v c k _ _ i (locks point hi g (not_waiting k point hi r) (reaches k point hi r)) (unwritten k (locked k point hi g) _ refl refl refl (one_silent (says_lock (locked k point hi g) point hi g) refl)) d.1
 obeys_does u v c k (command.Write op) answer r i d = seat_does u v c k _ _ i (same (wrote k op) (says_write (wrote k op) op ∷ []) refl refl refl refl refl (one_asks k.number k.req (says_write (wrote k op) op) refl (omega arith))) (writes_now k op (write_free k op r).0) d.1
 obeys_does u v c k (command.Scan lo hi) answer r i d = rests_at u v d.1
 obeys_does u v c k (command.Forget lo hi) answer r i d = seat_does u v c k _ _ i (same (forgot k (span lo hi)) (says_release k (span lo hi) mode.N ∷ []) refl refl refl refl refl (one_asks k.number k.req (says_release k (span lo hi) mode.N) refl (omega arith))) (unwritten k (forgot k (span lo hi)) _ refl refl refl (one_silent (says_release k (span lo hi) mode.N) refl)) d.1

@@ -38,19 +38,19 @@ goes_grow u d k l ms g x = record {
   where
     epoch_of : (l : Client) (ms : List ToServer) → Goes u d k l ms → k.epoch ≤ l.epoch
     epoch_of _ _ (same l ms i epoch sn req asked most) = omega (arith, epoch)
-    epoch_of _ _ (locks point hi g free) = omega arith
+    epoch_of _ _ (locks point hi g free reach) = omega arith
     epoch_of _ _ (adopts e ms m at own inc is lt most) = omega (arith, lt)
     epoch_of _ _ (accepts b ms m at own inc is most) = let a = (accepted_same k b).2 in omega (arith, a)
 
     seen_of : (l : Client) (ms : List ToServer) → Goes u d k l ms → l.epoch ≡ k.epoch → k.seen ≤ l.seen
     seen_of _ _ (same l ms i epoch sn req asked most) e = omega (arith, sn)
-    seen_of _ _ (locks point hi g free) e = omega arith
+    seen_of _ _ (locks point hi g free reach) e = omega arith
     seen_of _ _ (adopts ep ms m at own inc is lt most) e = absurd (omega (arith, lt, e))
     seen_of _ _ (accepts b ms m at own inc is most) e = let a = (accepted_seen k b).0 in omega (arith, a)
 
     asks_of : (l : Client) (ms : List ToServer) → Goes u d k l ms → l.epoch ≡ k.epoch → k.req ≤ l.req
     asks_of _ _ (same l ms i epoch sn req asked most) e = omega (arith, req)
-    asks_of _ _ (locks point hi g free) e = omega arith
+    asks_of _ _ (locks point hi g free reach) e = omega arith
     asks_of _ _ (adopts ep ms m at own inc is lt most) e = absurd (omega (arith, lt, e))
     asks_of _ _ (accepts b ms m at own inc is most) e = let a = (accepted_same k b).3 in omega (arith, a)
 

@@ -77,7 +77,7 @@ module _ (u v : State) (ru : IsReachable u) (rv : IsReachable v) (s : Server) (u
     early = λ e lt. h.early (e ∙ inc) (omega (arith, epoch, lt));
     now = λ e. alike (s.sessions d) s.rows d k (h.now (sym epoch ∙ e)) l seen req asked;
   }
-  goes_knows _ _ i (locks point hi g free) = record { early = λ e lt. h.early e lt; now = λ e. asks_now (s.sessions d) s.rows d k (h.now e) point hi g free }
+  goes_knows _ _ i (locks point hi g free reach) = record { early = λ e lt. h.early e lt; now = λ e. asks_now (s.sessions d) s.rows d k (h.now e) point hi g free }
   goes_knows _ _ i (adopts e ms m at own inc is lt most) = record {
     early = λ f less. h.early f (omega (arith, lt, less));
     now = λ f. let t = (toldu.epochs m own at e is).0 in let reg = st.reg in
@@ -106,9 +106,9 @@ goes_within u v d k l ms hs h e g m own at inc some r is now = by_goes l ms g (�
     by_goes : (l : Client) (ms : List ToServer) → Goes u d k l ms → In (message.ToServer m) u.sent ⊎ In m ms → m.incarnation ≡ l.incarnation → 1 ≤ l.epoch → r.epoch ≡ l.epoch → request_of r.body ≤ l.req
     by_goes _ _ (same l ms i f seen req asked most) (inl x) inc some now = let y = h m own x (inc ∙ i) (omega (arith, some, f)) r is (now ∙ f) in omega (arith, y, req)
     by_goes _ _ (same l ms i f seen req asked most) (inr x) inc some now = let y = (most m x).1 in omega (arith, y, said_is, req)
-    by_goes _ _ (locks point hi g free) (inl x) inc some now = let y = h m own x inc some r is now in omega (arith, y)
-    by_goes _ _ (locks point hi g free) (inr (inl x)) inc some now = let y = ap (λ (z : ToServer). request_said z.body) x in omega (arith, y, said_is)
-    by_goes _ _ (locks point hi g free) (inr (inr x)) inc some now = absurd x
+    by_goes _ _ (locks point hi g free reach) (inl x) inc some now = let y = h m own x inc some r is now in omega (arith, y)
+    by_goes _ _ (locks point hi g free reach) (inr (inl x)) inc some now = let y = ap (λ (z : ToServer). request_said z.body) x in omega (arith, y, said_is)
+    by_goes _ _ (locks point hi g free reach) (inr (inr x)) inc some now = absurd x
     by_goes _ _ (adopts e ms n a o i b lt most) (inl x) inc some now = absurd (let y = (hs.requests m own x inc r is).0 in omega (arith, y, lt, now))
     by_goes _ _ (adopts e ms n a o i b lt most) (inr x) inc some now = let y = (most m x).1 in omega (arith, y, said_is)
     by_goes _ _ (accepts b ms n a o i p most) (inl x) inc some now = let q = accepted_same k b in let q1 = q.2 in let q2 = q.3 in let y = h m own x (inc ∙ q.1) (omega (arith, some, q1)) r is (now ∙ q1) in omega (arith, y, q2)
@@ -117,8 +117,8 @@ goes_within u v d k l ms hs h e g m own at inc some r is now = by_goes l ms g (�
 -- another client's messages are its own
 pub goes_mine : (u : State) (d : ℕ) (k l : Client) (ms : List ToServer) (m : ToServer) → Goes u d k l ms → In m ms → m.client ≡ k.number
 goes_mine u d k _ _ m (same l ms i f seen req asked most) at = (most m at).0
-goes_mine u d k _ _ m (locks point hi g free) (inl e) = ap (λ (z : ToServer). z.client) e
-goes_mine u d k _ _ m (locks point hi g free) (inr x) = absurd x
+goes_mine u d k _ _ m (locks point hi g free reach) (inl e) = ap (λ (z : ToServer). z.client) e
+goes_mine u d k _ _ m (locks point hi g free reach) (inr x) = absurd x
 goes_mine u d k _ _ m (adopts e ms n a o i b lt most) at = (most m at).0
 goes_mine u d k _ _ m (accepts b ms n a o i p most) at = (most m at).0
 

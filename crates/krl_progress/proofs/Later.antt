@@ -66,7 +66,7 @@ own_later s m = let c = m.client in let t = acknowledged s m.client in by_said s
   answers_again = λ r request number op o a under some last is. then s t (effect s m (AnswersAgain number op o)).server m.client (acked_here s m.client) (pushes_later t m.client _);
 })
 
-effect_later : (s : Server) (m : ToServer) (c : ℕ) → Later s (effect s m (case_of s m)).server c
+pub effect_later : (s : Server) (m : ToServer) (c : ℕ) → Later s (effect s m (case_of s m)).server c
 effect_later s m c = eq_cases c m.client (λ e. subst (Later s (effect s m (case_of s m)).server) (sym e) (own_later s m))
     (λ ne. alike s (effect s m (case_of s m)).server c (other_inc s m (case_of s m) c ne) (other_session s m (case_of s m) c ne))
 

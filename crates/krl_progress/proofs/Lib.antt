@@ -23,8 +23,23 @@ pub mod Awaited
 pub mod Answering
 pub mod Arrivals
 pub mod PushesArrive
+pub mod Sinking
+pub mod Reaching
+pub mod Seen
+pub mod Whiles
+pub mod Repeating
 pub mod Blocking
 pub mod BlocksEnd
+pub mod FirstBlocks
+pub mod FirstWaits
+pub mod KeepsFirst
+pub mod Standstill
+pub mod Calming
+pub mod Taking
+pub mod Lateness
+pub mod Owing
+pub mod Paying
+pub mod LocksAnswered
 pub mod Growing
 pub mod Outlasting
 mod Names

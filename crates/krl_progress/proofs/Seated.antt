@@ -75,7 +75,7 @@ module _ (x : Session) (rows : Rows) (c : ℕ) (k : Client) (h : Current x rows 
         by_request (comes w r a b1 f n z) = absurd (let bad = ap (answers_request k.req) (sym (same b1 f)) ∙ ap (answers_request k.req) e in not_both (answers_request k.req b1) z bad)
 
 -- it joins the epoch of a server that has heard nothing of it there
-not_waiting_on : (a : LockRequest) → is_waiting (dropped a) ≡ false
+pub not_waiting_on : (a : LockRequest) → is_waiting (dropped a) ≡ false
 not_waiting_on NotAsked = refl
 not_waiting_on Granted = refl
 not_waiting_on NoEntry = refl

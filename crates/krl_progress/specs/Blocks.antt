@@ -1,10 +1,8 @@
 -- How long a client may block a first waiter.
 use Rattle.std.specs.Prelude.{◌≡◌, ℕ, zero, suc, true, false, List, [], ◌∷◌, Some, length}
-use Rattle.krl_modes.specs.declared.mode.Mode.{Mode}
 use Rattle.krl_modes.specs.Spans.{Bounds}
 use Rattle.krl_queue.specs.declared.waiter.Waiter.{Waiter}
 use Rattle.krl_durable.specs.Index.{span_of, is_slot}
-use Rattle.krl_table.specs.Calls.{wanted}
 use Rattle.krl_table.specs.Replies.{asks_absent}
 use Rattle.krl_server.specs.Servers.{Server, is_recovering}
 use Rattle.krl_server.specs.Callbacks.{is_compatible}
@@ -34,7 +32,6 @@ pub record Block : Type 0 where
   pub slot : ℕ
   pub span : Bounds
   pub waiter : Waiter
-  pub wants : Mode
   pub blocker : ℕ
   pub waiter_seen : ℕ  -- the last push to the waiter's client
   pub blocker_seen : ℕ  -- the last push to the blocker
@@ -57,7 +54,6 @@ pub record IsBlocked (b : Block) (w : State) : Type 0 where
   pub span : span_of server.durable.index b.slot ≡ b.span
   pub behind : List Waiter
   pub first : (server.rows b.slot).queue ≡ b.waiter ∷ behind
-  pub wants : wanted (server.rows b.slot) b.waiter ≡ b.wants
   pub possible : asks_absent server.durable.index b.waiter ≡ false
   pub blocks : is_compatible server b.slot b.waiter b.blocker ≡ false
   pub waiting : HasSeen w server b.waiter.client b.waiter_seen

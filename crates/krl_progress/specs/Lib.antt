@@ -5,3 +5,7 @@ pub mod Writes
 pub mod Requests
 pub mod Pushes
 pub mod Blocks
+pub mod FirstWaits
+pub mod Standstills
+pub mod Calm
+pub mod Locks

@@ -4,6 +4,10 @@ ghost use Rattle.krl_progress.specs.Laws.{RecoveryEndsIn, RoundsCanBeMade};
 ghost use Rattle.krl_progress.specs.Writes.{WritesMoveOnIn, WritesAreAnsweredIn, WritesOutlastRecoveriesIn};
 ghost use Rattle.krl_progress.specs.Answers.{AnswersAtOnce, GivesWay, CallbackFrees};
 ghost use Rattle.krl_progress.specs.Blocks.{BlocksEndIn};
+ghost use Rattle.krl_progress.specs.FirstWaits.{FirstWaitsEndIn};
+ghost use Rattle.krl_progress.specs.Standstills.{NoStandstillIn};
+ghost use Rattle.krl_progress.specs.Calm.{SomebodyMovesOnIn};
+ghost use Rattle.krl_progress.specs.Locks.{LocksAreAnsweredIn};
 ghost use Rattle.krl_progress.specs.Pushes.{PushesArriveIn};
 ghost use Rattle.krl_progress.specs.Requests.{RequestsAreKnown, PushesAreAwaited};
 
@@ -71,6 +75,34 @@ pub fn pushes_arrive()
 /// blocker there.
 pub fn blocks_end()
     ensures { BlocksEndIn 4 }
+{}
+
+/// After any past: nobody stands first for four good rounds in which nothing else moves it: no push
+/// to the waiter or to who blocks it, no change of the slot, no write and no pin of a blocker
+/// there. So the waiter is answered, however many blocked it. Push numbers are not spent.
+pub fn first_waits_end()
+    ensures { FirstWaitsEndIn 4 }
+{}
+
+/// After any past: nobody waits through four good rounds in which no push comes, every lock request
+/// is taken, no write is outstanding, nobody pins, and each client that holds or waits for something
+/// runs. Push numbers are not spent.
+pub fn no_standstill()
+    ensures { NoStandstillIn 4 }
+{}
+
+/// After any past: if a client waits for a lock, some client accepts a push within nine good rounds,
+/// if meanwhile the server serves, nobody asks for a further lock or pins, and each client that
+/// holds or waits for something runs. Push numbers are not spent.
+pub fn somebody_moves_on()
+    ensures { SomebodyMovesOnIn 9 }
+{}
+
+/// After any past: nobody waits for a lock after 1161 good rounds in which the server serves, nobody
+/// asks for a further lock, writes anew or pins, and each client that holds or waits for something
+/// runs. Push numbers are not spent.
+pub fn locks_are_answered()
+    ensures { LocksAreAnsweredIn 1161 }
 {}
 
 /// After any past: if the server runs, and each client whose report is missing runs, an outstanding

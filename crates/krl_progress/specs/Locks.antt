@@ -1,0 +1,35 @@
+-- That lock requests are answered.
+use Rattle.std.specs.Prelude.{◌≡◌, ◌<◌, ℕ, false, Some, length}
+use Rattle.krl_modes.specs.declared.point.TheConstants.{END}
+use Rattle.krl_modes.specs.Spans.{Bounds}
+use Rattle.krl_server.specs.Servers.{Server, is_recovering}
+use Rattle.krl_client.specs.Clients.{Client, is_waiting, meets_pin}
+use Rattle.krl_world.specs.States.{Up, State, client_of}
+use Rattle.krl_world.specs.Steps.{IsReachable}
+use Rattle.krl_progress.specs.Blocks.{RoundsWhile}
+use Rattle.krl_progress.specs.Standstills.{HasPart}
+
+-- The client has made so many lock requests in this epoch and so many writes, pins nothing, and has push numbers left.
+pub record IsUndisturbedFor (reqs writes : ℕ) (k : Client) : Type 0 where
+  pub asked : k.req ≡ reqs
+  pub written : k.writes ≡ writes
+  pub unpinned : (span : Bounds) → meets_pin k span ≡ false
+  pub room : k.seen < END
+
+-- In this world the server serves, each client that holds something or waits for something runs in its epoch, and no
+-- client of its epoch asks for a further lock, writes anew, or pins.
+pub record IsUndisturbed (reqs writes : ℕ → ℕ) (w : State) : Type 0 where
+  pub server : Server
+  pub up : w.server ≡ Up server
+  pub serves : is_recovering server.missing ≡ false
+  pub here : (c : ℕ) → HasPart server c →
+      (k : Client) × (client_of w c ≡ Some k) × (k.epoch ≡ server.durable.epoch)
+  pub undisturbed : (c : ℕ) (k : Client) → client_of w c ≡ Some k → k.epoch ≡ server.durable.epoch →
+      IsUndisturbedFor (reqs c) (writes c) k
+
+-- After n undisturbed good rounds no client of the server's epoch waits for a lock, whatever was lost before them.
+abbrev pub LocksAreAnsweredIn : ℕ → Type 0
+LocksAreAnsweredIn n =
+    (reqs writes : ℕ → ℕ) (w v : State) (s : Server) (c : ℕ) (k : Client) → IsReachable w →
+    IsUndisturbed reqs writes w → RoundsWhile (IsUndisturbed reqs writes) n (length w.sent) w v →
+    v.server ≡ Up s → client_of v c ≡ Some k → k.epoch ≡ s.durable.epoch → is_waiting k.asked ≡ false
