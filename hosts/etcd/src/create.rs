@@ -35,6 +35,7 @@ pub(crate) fn create(
     let (salt, owner) = (draw_salt()?, draw_owner()?);
     let rows = place.buckets(snapshot, salt);
     let others = place.records(snapshot).into_iter().chain([place.leases(snapshot)]);
+    let others = others.chain(place.room(snapshot));
     let sets: Vec<Json> = rows.chain(others).collect();
     for part in sets.chunks(MAX_KEYS) {
         place.set(part)?;
@@ -107,5 +108,10 @@ impl Place<'_> {
 
     fn leases(&self, snapshot: &Snapshot) -> Json {
         request::put(&self.key("lease"), lease::encode(snapshot.leases).as_bytes())
+    }
+
+    fn room(&self, snapshot: &Snapshot) -> Option<Json> {
+        let room = snapshot.room?.to_string();
+        Some(request::put(&self.key("room"), room.as_bytes()))
     }
 }

@@ -5,6 +5,7 @@
 //! PREFIX/bucket/0017   the rows of a bucket
 //! PREFIX/client/03     the record of a client
 //! PREFIX/lease         what is known of leases
+//! PREFIX/room          the greatest room of a server, as a number of rows
 //! PREFIX/start/7       the head as the server of epoch 7 left it
 //! PREFIX/active        the address of the server that serves, with a lease: no promise rests on it
 //! ```
@@ -18,7 +19,7 @@ use crate::lease;
 use crate::record;
 use crate::request;
 use krl::{
-    Change, History, LeaseRecord, Mark, Outcome, Record, Snapshot, Store, StoreError, Write,
+    Change, History, LeaseRecord, Mark, Outcome, Record, Room, Snapshot, Store, StoreError, Write,
 };
 use serde_json::{Value as Json, json};
 use std::collections::BTreeSet;
@@ -64,6 +65,7 @@ struct Table {
     /// By place of first registration.
     records: Vec<Record>,
     leases: LeaseRecord,
+    room: Option<Room>,
     starts: Vec<(u64, Head)>,
 }
 
@@ -81,14 +83,15 @@ struct Part {
     buckets: BTreeSet<usize>,
     clients: BTreeSet<u8>,
     sets_leases: bool,
+    sets_room: bool,
     /// The head that the server before this one left.
     past: Option<Head>,
 }
 
 impl Part {
     fn keys(&self) -> usize {
-        let others = usize::from(self.past.is_some()) + usize::from(self.sets_leases);
-        self.buckets.len() + self.clients.len() + others
+        let others = [self.past.is_some(), self.sets_leases, self.sets_room];
+        self.buckets.len() + self.clients.len() + others.iter().filter(|sets| **sets).count()
     }
 }
 
@@ -161,6 +164,7 @@ impl EtcdStore {
             match name.split_once('/') {
                 None if name == "head" || name == "active" => {}
                 None if name == "lease" => self.table.leases = parse_lease(name, value)?,
+                None if name == "room" => self.table.room = Some(parse_room(name, value)?),
                 Some(("bucket", number)) => {
                     let (number, rows) = parse_bucket(name, number, salt, value)?;
                     self.table.buckets[number] = rows;
@@ -223,6 +227,9 @@ impl EtcdStore {
         if part.sets_leases {
             let text = lease::encode(self.table.leases);
             sets.push(request::put(&self.key("lease"), text.as_bytes()));
+        }
+        if let Some(room) = self.table.room.filter(|_| part.sets_room) {
+            sets.push(request::put(&self.key("room"), room.to_string().as_bytes()));
         }
         let asked = json!({
             "compare": [self.fence()], "success": sets, "failure": [request::get(&self.key("head"))],
@@ -306,6 +313,10 @@ impl EtcdStore {
                 part.sets_leases = true;
                 self.table.leases = leases;
             }
+            Change::Room(room) => {
+                part.sets_room = true;
+                self.table.room = Some(room);
+            }
         }
         self.table.note_record(change);
     }
@@ -324,12 +335,13 @@ impl EtcdStore {
 impl Table {
     fn has_something(&self, records: &[(usize, Record)]) -> bool {
         let has_rows = self.buckets.iter().any(|rows| !rows.is_empty());
-        has_rows || !records.is_empty() || !self.starts.is_empty()
+        has_rows || !records.is_empty() || !self.starts.is_empty() || self.room.is_some()
     }
 
     fn snapshot(&self, epoch: u64) -> Snapshot {
         let rows = self.buckets.iter().flatten().map(|(key, value)| (*key, *value)).collect();
-        Snapshot { epoch, rows, records: self.records.clone(), leases: self.leases }
+        let (records, leases, room) = (self.records.clone(), self.leases, self.room);
+        Snapshot { epoch, rows, records, leases, room }
     }
 
     fn note_record(&mut self, change: &Change) {
@@ -434,6 +446,11 @@ fn parse_head(name: &str, value: &[u8]) -> Result<Head, Failure> {
 fn parse_lease(name: &str, value: &[u8]) -> Result<LeaseRecord, Failure> {
     let text = std::str::from_utf8(value).map_err(|_| strange(name))?;
     lease::decode(text).ok_or_else(|| strange(name))
+}
+
+fn parse_room(name: &str, value: &[u8]) -> Result<Room, Failure> {
+    let room: Option<Room> = std::str::from_utf8(value).ok().and_then(|text| text.parse().ok());
+    room.filter(|room| room.to_string().as_bytes() == value).ok_or_else(|| strange(name))
 }
 
 fn parse_bucket(

@@ -1,5 +1,5 @@
 //! What one commit changes, as columns of the tables.
-use krl::{Change, LeaseRecord, Outcome, Record, Snapshot, Value, Write};
+use krl::{Change, LeaseRecord, Outcome, Record, Room, Snapshot, Value, Write};
 use std::collections::{BTreeMap, BTreeSet};
 
 /// The outcomes by the number that stands for them. 0 stands for none.
@@ -12,6 +12,7 @@ struct Touched {
     rows: BTreeMap<u64, Option<Value>>,
     clients: BTreeSet<u8>,
     leases: bool,
+    room: bool,
     starts: bool,
 }
 
@@ -25,6 +26,8 @@ pub(crate) struct Batch {
     pub clients: [Vec<i64>; 6],
     /// What is known of leases, if that changes.
     pub leases: Option<LeaseRecord>,
+    /// The greatest room of a server, if that changes.
+    pub room: Option<Room>,
     /// A server starts: the head of the one before is kept.
     pub starts: bool,
 }
@@ -37,7 +40,8 @@ impl Batch {
             touched.note(change);
         }
         let leases = touched.leases.then_some(snapshot.leases);
-        let mut batch = Batch { leases, starts: touched.starts, ..Batch::default() };
+        let room = snapshot.room.filter(|_| touched.room);
+        let mut batch = Batch { leases, room, starts: touched.starts, ..Batch::default() };
         for (key, value) in touched.rows {
             match value {
                 Some(value) => batch.put(key, value),
@@ -54,7 +58,8 @@ impl Batch {
 
     /// All that the snapshot has, for an empty database.
     pub fn of_all(snapshot: &Snapshot) -> Batch {
-        let mut batch = Batch { leases: Some(snapshot.leases), ..Batch::default() };
+        let (leases, room) = (Some(snapshot.leases), snapshot.room);
+        let mut batch = Batch { leases, room, ..Batch::default() };
         snapshot.rows.iter().for_each(|(key, value)| batch.put(*key, *value));
         (0..).zip(&snapshot.records).for_each(|(place, record)| batch.set_record(place, record));
         batch
@@ -85,6 +90,7 @@ impl Touched {
                 }
             }
             Change::Leased(_) => self.leases = true,
+            Change::Room(_) => self.room = true,
         }
     }
 

@@ -1,9 +1,11 @@
 //! The fence: the one row that every commit compares, and sets anew.
 use std::fmt;
+use std::ops::RangeInclusive;
 use tokio_postgres::Row;
 
-/// The format of the tables that this version reads and writes.
-const FORMAT: u64 = 1;
+/// The formats of the tables that this version reads. What it commits makes them of the last one, as
+/// `sql::COMMIT` says. Format 1 has no room.
+const FORMATS: RangeInclusive<u64> = 1..=2;
 
 /// The row of `krl.head`. The owner is drawn anew by each store that is opened, and 0 in a new
 /// database. The transaction counts what the owner has committed: a statement that is sent again,
@@ -26,7 +28,7 @@ impl Head {
     /// server of this version sets.
     pub fn of(row: &Row) -> Option<Head> {
         let number = |at: usize| row.try_get(at).ok().map(i64::cast_unsigned);
-        number(4).filter(|format| *format == FORMAT)?;
+        number(4).filter(|format| FORMATS.contains(format))?;
         let owner: &str = row.try_get(1).ok()?;
         Some(Head {
             epoch: number(0)?,

@@ -31,6 +31,8 @@ pub(crate) struct Loaded {
     pub entries: Vec<Row>,
     pub clients: Vec<Row>,
     pub leases: Row,
+    /// The greatest room of a server, if one is kept.
+    pub room: Option<Row>,
 }
 
 pub(crate) struct Link {
@@ -153,6 +155,7 @@ async fn load(client: &mut Client) -> Result<Loaded, Error> {
         entries: all.query(sql::ENTRIES, &[]).await?,
         clients: all.query(sql::CLIENTS, &[]).await?,
         leases: all.query_one(sql::LEASES, &[]).await?,
+        room: all.query_opt(sql::ROOM, &[]).await?,
     };
     all.commit().await?;
     Ok(loaded)
@@ -170,7 +173,8 @@ async fn commit(
     let [clients, places, incarnations, lasts, outcomes, have_left] = &batch.clients;
     let leases = batch.leases.unwrap_or_default();
     let (longest, unleased) = (leases.longest.cast_signed(), leases.unleased.bits().cast_signed());
-    let values: [&(dyn ToSql + Sync); 21] = [
+    let room = batch.room.and_then(|room| i64::try_from(room.rows()).ok());
+    let values: [&(dyn ToSql + Sync); 22] = [
         &epoch,
         &owner,
         &transaction,
@@ -192,6 +196,7 @@ async fn commit(
         &batch.leases.is_some(),
         &longest,
         &unleased,
+        &room,
     ];
     let count: i64 = session.client.query_one(&session.commit, &values).await?.try_get(0)?;
     // An attempt whose answer was lost may have set it. Then the replicas may still lack it.

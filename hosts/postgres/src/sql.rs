@@ -19,6 +19,8 @@ pub(crate) const TABLES: &str = "
         WITH (fillfactor = 10);
     CREATE TABLE IF NOT EXISTS krl.lease (
         id integer PRIMARY KEY CHECK (id = 0), longest bigint NOT NULL, unleased bigint NOT NULL);
+    CREATE TABLE IF NOT EXISTS krl.room (
+        id integer PRIMARY KEY CHECK (id = 0), most_rows bigint NOT NULL);
     INSERT INTO krl.head VALUES (0, 0, repeat('0', 32), 0, 0) ON CONFLICT DO NOTHING;
     INSERT INTO krl.lease VALUES (0, 0, -1) ON CONFLICT DO NOTHING;
     COMMIT;";
@@ -40,12 +42,14 @@ pub(crate) const ENTRIES: &str = "SELECT key, value FROM krl.entry";
 pub(crate) const CLIENTS: &str =
     "SELECT client, incarnation, last, outcome, has_left FROM krl.client ORDER BY place";
 pub(crate) const LEASES: &str = "SELECT longest, unleased FROM krl.lease";
+pub(crate) const ROOM: &str = "SELECT most_rows FROM krl.room";
 
-/// Commits a batch if the head is as it should be. It is one statement, and so one transaction: the
+/// Commits a batch if the head is as it should be, and makes the format this version's, so that no
+/// server of before the room was kept passes it over. It is one statement, and so one transaction: the
 /// head's row is locked by it, and compared again once another one has let it go.
 pub(crate) const COMMIT: &str = "
     WITH fence AS (
-        UPDATE krl.head SET epoch = $1, owner = $2, transaction = $3, commits = $4
+        UPDATE krl.head SET epoch = $1, owner = $2, transaction = $3, commits = $4, format = 2
         WHERE epoch = $5 AND owner = $6 AND transaction = $7 AND commits = $8 RETURNING 1),
     past AS (
         INSERT INTO krl.start SELECT $5, $6, $8 WHERE $9 AND EXISTS (SELECT FROM fence)),
@@ -64,7 +68,11 @@ pub(crate) const COMMIT: &str = "
             last = excluded.last, outcome = excluded.outcome, has_left = excluded.has_left),
     leases AS (
         UPDATE krl.lease SET longest = $20, unleased = $21
-        WHERE $19 AND EXISTS (SELECT FROM fence))
+        WHERE $19 AND EXISTS (SELECT FROM fence)),
+    room AS (
+        INSERT INTO krl.room SELECT 0, $22::bigint
+        WHERE $22::bigint IS NOT NULL AND EXISTS (SELECT FROM fence)
+        ON CONFLICT (id) DO UPDATE SET most_rows = excluded.most_rows)
     SELECT count(*) FROM fence";
 
 /// Asks whether the head is as it should be. It writes the row, so that it comes to the replicas

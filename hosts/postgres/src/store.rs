@@ -3,7 +3,9 @@ use crate::address::PostgresAddress;
 use crate::batch::{self, Batch};
 use crate::head::Head;
 use crate::link::{Failure, Link, Loaded};
-use krl::{Change, ClientSet, History, LeaseRecord, Mark, Snapshot, Store, StoreError, Value};
+use krl::{
+    Change, ClientSet, History, LeaseRecord, Mark, Room, Snapshot, Store, StoreError, Value,
+};
 use std::fmt;
 use std::time::{Duration, Instant};
 use tokio_postgres::Row;
@@ -227,7 +229,8 @@ fn strange(table: &str) -> Failure {
 fn snapshot(loaded: &Loaded, epoch: u64) -> Result<Snapshot, Failure> {
     let rows = loaded.entries.iter().map(entry).collect::<Result<_, _>>()?;
     let records = loaded.clients.iter().map(record).collect::<Result<_, _>>()?;
-    Ok(Snapshot { epoch, rows, records, leases: leases(&loaded.leases)? })
+    let room = loaded.room.as_ref().map(room).transpose()?;
+    Ok(Snapshot { epoch, rows, records, leases: leases(&loaded.leases)?, room })
 }
 
 fn entry(row: &Row) -> Result<(u64, Value), Failure> {
@@ -248,6 +251,12 @@ fn record(row: &Row) -> Result<krl::Record, Failure> {
 fn leases(row: &Row) -> Result<LeaseRecord, Failure> {
     let number = |at: usize| row.try_get(at).map(i64::cast_unsigned).map_err(|_| strange("lease"));
     Ok(LeaseRecord { longest: number(0)?, unleased: ClientSet::of_bits(number(1)?) })
+}
+
+fn room(row: &Row) -> Result<Room, Failure> {
+    let rows: Option<i64> = row.try_get(0).ok();
+    let rows = rows.and_then(|rows| usize::try_from(rows).ok());
+    rows.and_then(|rows| Room::of(rows).ok()).ok_or_else(|| strange("room"))
 }
 
 fn mark(row: &Row) -> Result<Mark, Failure> {

@@ -1,5 +1,6 @@
 //! What survives a restart of a server, and how it changes.
 use crate::lease_record::LeaseRecord;
+use crate::room::Room;
 use crate::row::{Row, Value};
 use std::collections::BTreeMap;
 use std::fmt;
@@ -77,6 +78,8 @@ pub enum Change {
     },
     /// What is known of leases changed.
     Leased(LeaseRecord),
+    /// A server has started with more room than any before it on this store.
+    Room(Room),
 }
 
 /// All that survives.
@@ -90,6 +93,9 @@ pub struct Snapshot {
     pub records: Vec<Record>,
     /// What is known of leases.
     pub leases: LeaseRecord,
+    /// The greatest room that a server had over it. A store that no server has served keeps none, and
+    /// one of before it was kept neither.
+    pub room: Option<Room>,
 }
 
 impl Snapshot {
@@ -100,6 +106,7 @@ impl Snapshot {
             Change::Registered { client, incarnation } => self.register(client, incarnation),
             Change::Left { client } => self.revise(client, |record| record.left = true),
             Change::Leased(leases) => self.leases = leases,
+            Change::Room(room) => self.room = Some(room),
             Change::Judged { client, number, write, outcome } => {
                 self.revise(client, |record| record.last = Some((number, outcome)));
                 if outcome == Outcome::Applied {

@@ -12,6 +12,7 @@ use crate::address::Address;
 use crate::change::{Change, Record};
 use crate::history::Mark;
 use crate::identity::Identity;
+use crate::room_at_start::RoomAtStart;
 use crate::shard_fence::OtherShard;
 use std::collections::BTreeMap;
 use std::fmt::Display;
@@ -82,6 +83,14 @@ impl EventLog {
         }
     }
 
+    /// A server with this room has started. Less than one had before may be meant, or be a slip.
+    pub fn has_room(start: &RoomAtStart) {
+        let RoomAtStart { room, greatest } = start;
+        if room < greatest {
+            tell!(warn, %room, %greatest, "the server has less room than one had before it");
+        }
+    }
+
     /// The phase of the server, and the clients whose reports are missing. It tells when they
     /// change.
     pub fn phase(&mut self, is_serving: bool, missing: &[u8]) {
@@ -103,7 +112,10 @@ impl EventLog {
             match *change {
                 Change::Registered { client, incarnation } => self.joined(client, incarnation),
                 Change::Left { client } => self.left(client),
-                Change::Started { .. } | Change::Judged { .. } | Change::Leased(_) => {}
+                Change::Started { .. }
+                | Change::Judged { .. }
+                | Change::Leased(_)
+                | Change::Room(_) => {}
             }
         }
     }

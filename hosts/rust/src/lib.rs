@@ -70,6 +70,7 @@ mod refused;
 mod requests;
 mod resharding;
 mod room;
+mod room_at_start;
 mod routing;
 mod row;
 mod server;

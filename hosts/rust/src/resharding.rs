@@ -1,5 +1,6 @@
 //! What survives of a shard that is cut in two, or of two shards that become one.
 use crate::change::{Record, Snapshot};
+use std::collections::BTreeMap;
 use std::fmt;
 
 /// What makes no shard out of two.
@@ -25,9 +26,10 @@ impl Snapshot {
         clients
     }
 
-    /// Cuts it in two: the rows below the key, and those from it on. Both keep the epoch, the records
-    /// and what is known of leases. A server can start on either only if it can start on this, and a client may be told
-    /// of the cut only if all have left before: else one would go on to answer for both halves.
+    /// Cuts it in two: the rows below the key, and those from it on. Both keep the epoch, the records,
+    /// what is known of leases and the room. A server can start on either only if it can start on this,
+    /// and a client may be told of the cut only if all have left before: else one would go on to answer
+    /// for both halves.
     #[must_use]
     pub fn split(mut self, at: u64) -> (Snapshot, Snapshot) {
         let upper = Snapshot { rows: self.rows.split_off(&at), ..self.without_rows() };
@@ -35,9 +37,9 @@ impl Snapshot {
     }
 
     /// Makes one of this, whose keys are all lower, and of another one. Its epoch is the greater
-    /// one, so that no client has joined a later one, and so are each client's incarnation and the
-    /// longest lease. The clients are in the order of this one's records, and behind them those that only the other
-    /// one has.
+    /// one, so that no client has joined a later one, and so are each client's incarnation, the longest
+    /// lease and the room. The clients are in the order of this one's records, and behind them those
+    /// that only the other one has.
     ///
     /// # Errors
     ///
@@ -49,6 +51,7 @@ impl Snapshot {
         {
             return Err(NotNeighbors::Overlap { lower: last, upper: first });
         }
+        self.room = self.kept_room().max(upper.kept_room());
         self.epoch = self.epoch.max(upper.epoch);
         self.leases = self.leases.with_those_of(upper.leases);
         self.rows.extend(upper.rows);
@@ -67,8 +70,8 @@ impl Snapshot {
     }
 
     fn without_rows(&self) -> Snapshot {
-        let Snapshot { epoch, ref records, leases, .. } = *self;
-        Snapshot { epoch, records: records.clone(), leases, ..Snapshot::default() }
+        let Snapshot { epoch, ref records, leases, room, .. } = *self;
+        Snapshot { epoch, records: records.clone(), leases, room, rows: BTreeMap::new() }
     }
 }
 
@@ -85,6 +88,7 @@ impl std::error::Error for NotNeighbors {}
 mod tests {
     use super::*;
     use crate::change::Outcome;
+    use crate::room::Room;
     use crate::row::{END, Value};
 
     fn record(client: u8, incarnation: u64) -> Record {
@@ -93,7 +97,8 @@ mod tests {
 
     fn snapshot(epoch: u64, keys: &[u64], records: &[Record]) -> Snapshot {
         let rows = keys.iter().map(|key| (*key, Value::from(*key))).collect();
-        Snapshot { epoch, rows, records: records.to_vec(), ..Snapshot::default() }
+        let room = Some(Room::default());
+        Snapshot { epoch, rows, records: records.to_vec(), room, ..Snapshot::default() }
     }
 
     #[test]
@@ -121,6 +126,21 @@ mod tests {
         let records = [record(9, 6), record(2, 7), record(4, 1)];
         assert_eq!(merged, snapshot(8, &[1, 2, 3], &records));
         assert_eq!(merged.judge(), Ok(()));
+    }
+
+    #[test]
+    fn both_halves_keep_the_room_and_the_greater_one_stays() {
+        let room = |rows| Some(Room::of(rows).unwrap());
+        let whole = Snapshot { room: room(100), ..snapshot(1, &[1, 5], &[]) };
+        let (lower, upper) = whole.split(5);
+        assert_eq!((lower.room, upper.room), (room(100), room(100)));
+        let greater = Snapshot { room: room(200), ..upper.clone() };
+        assert_eq!(lower.clone().merge(greater).unwrap().room, room(200));
+        let older = Snapshot { room: None, ..upper };
+        assert_eq!(lower.clone().merge(older).unwrap().room, Some(Room::default()));
+        let new = Snapshot::default();
+        assert_eq!(lower.merge(new.clone()).unwrap().room, room(100));
+        assert_eq!(new.clone().merge(new).unwrap().room, None);
     }
 
     #[test]

@@ -28,6 +28,11 @@ impl Room {
         (1..=ffi::MOST_ROOM).contains(&rows).then_some(Room(rows)).ok_or(BadRoom)
     }
 
+    /// The least room for so many rows, or the greatest if no room is for so many.
+    pub(crate) fn for_rows(rows: usize) -> Room {
+        Room(rows.clamp(1, ffi::MOST_ROOM))
+    }
+
     /// The most rows.
     #[must_use]
     pub fn rows(self) -> usize {

@@ -11,6 +11,7 @@ use crate::leases::LeaseTable;
 use crate::monitor::Monitor;
 use crate::requests::{Request, Requests};
 use crate::room::Room;
+use crate::room_at_start::RoomAtStart;
 use crate::server_builder::{Options, ServerBuilder};
 use crate::shard_bounds::ShardBounds;
 use crate::shard_fence;
@@ -27,6 +28,7 @@ use std::thread::{self, JoinHandle};
 /// A server that runs in a thread of its own. It ends when it is dropped.
 pub struct Server {
     address: Address,
+    room: Room,
     requests: Requests,
     status: Arc<Mutex<Status>>,
     timings: Arc<Timings>,
@@ -115,37 +117,46 @@ impl Server {
         }
         let snapshot = store.load()?;
         refuse_other_keys(&snapshot, shard)?;
-        refuse_more_rows(&snapshot, room)?;
+        let at_start = RoomAtStart::of(&snapshot, room)?;
+        let room = at_start.room;
         let (server, epoch) = ServerHandle::open(&snapshot, room).map_err(ServeError::Refused)?;
         let record = snapshot.leases.at_start(leases);
         let revised = (record != snapshot.leases).then_some(Change::Leased(record));
-        // The epoch and what is known of leases are kept before anything is sent.
-        let kept: Vec<Change> = [Change::Started { epoch }].into_iter().chain(revised).collect();
-        store.commit(&kept)?;
+        // The epoch, what is known of leases and the room are kept before anything is sent.
+        let changes = [Change::Started { epoch }].into_iter().chain(revised);
+        let changes: Vec<Change> = changes.chain(at_start.change(&snapshot)).collect();
+        store.commit(&changes)?;
         // No older server grants anything behind that commit, and the clock is read behind it.
         let now = Moment::now().map_err(ServeError::Clock)?;
         let table = LeaseTable::start(record, &snapshot.records, leases, now);
         let history = store.history()?;
         let (connections, waker) = Connections::new(listener, max_connections, room, access)?;
         let (requests, asked) = Requests::new(waker);
-        let status = Arc::new(Mutex::new(Status { epoch, ..Status::default() }));
+        let status = Arc::new(Mutex::new(Status { epoch, room, ..Status::default() }));
         let shown = Arc::clone(&status);
         let timings = Arc::new(Timings::new());
         let (rows, records) = (snapshot.rows.len(), &snapshot.records);
         let log = EventLog::started(epoch, &address, rows, records);
+        EventLog::has_room(&at_start);
         let (stored, heard) = ((store, history), (connections, asked));
         let shared = Arc::clone(&timings);
         let events = EventLoop::new(server, stored, heard, table, shared, epoch, log);
-        let events = events.of_shard(shard);
+        let events = events.of_shard(shard).of_room(room);
         let thread = thread::Builder::new().name("krl-server".into());
         let thread = thread.spawn(move || events.run_to_the_end(&shown))?;
-        Ok(Server { address, requests, status, timings, thread: Some(thread) })
+        Ok(Server { address, room, requests, status, timings, thread: Some(thread) })
     }
 
     /// Where it listens.
     #[must_use]
     pub fn address(&self) -> &Address {
         &self.address
+    }
+
+    /// For how many rows it has room.
+    #[must_use]
+    pub fn room(&self) -> Room {
+        self.room
     }
 
     /// What it looks like now, or a few milliseconds ago. Who waits for whom is as of 50
@@ -219,12 +230,6 @@ fn refuse_other_keys(store: &Snapshot, shard: Option<ShardBounds>) -> Result<(),
     stray.map_or(Ok(()), |key| Err(ServeError::OtherKey { key, shard }))
 }
 
-/// Refuses a store with more rows than the server has room for.
-fn refuse_more_rows(store: &Snapshot, room: Room) -> Result<(), ServeError> {
-    let rows = store.rows.len();
-    if rows > room.rows() { Err(ServeError::MoreRows { rows, room }) } else { Ok(()) }
-}
-
 impl fmt::Debug for Server {
     fn fmt(&self, f: &mut fmt::Formatter<'_>) -> fmt::Result {
         f.debug_struct("Server").field("address", self.address()).finish_non_exhaustive()
@@ -249,7 +254,8 @@ impl fmt::Display for ServeError {
             ServeError::Clock(error) => write!(f, "the clock of leases can't be read: {error}"),
             ServeError::MoreRows { rows, room } => write!(
                 f,
-                "the store has {rows} rows, and the server room for {room}: start it with more room"
+                "the store has {rows} rows, and the server room for {room}: give it room for {rows} \
+                 or more, or none, and it takes the room that the store keeps"
             ),
             ServeError::OtherKey { key, shard } => write!(
                 f,

@@ -24,7 +24,7 @@ pub(crate) struct Options {
     pub access: Access,
     pub leases: Option<Leases>,
     pub shard: Option<ShardBounds>,
-    pub room: Room,
+    pub room: Option<Room>,
     pub max_connections: usize,
 }
 
@@ -34,7 +34,7 @@ impl<S: Store + 'static> ServerBuilder<S> {
             access: Access::new(),
             leases: None,
             shard: None,
-            room: Room::default(),
+            room: None,
             max_connections: MAX_CONNECTIONS,
         };
         ServerBuilder { listener, store, options }
@@ -70,11 +70,14 @@ impl<S: Store + 'static> ServerBuilder<S> {
         self
     }
 
-    /// For how many rows the server has room: 65,536 if this is not called. An insert into a table that
-    /// has so many is judged `Full`. The memory for them is reserved at the start, and used as rows
-    /// come.
+    /// For how many rows the server has room. An insert into a table that has so many is judged `Full`.
+    /// The memory for them is reserved at the start, and used as rows come.
+    ///
+    /// If this is not called, it is the greatest room that a server had over this store, and 65,536
+    /// over a new one. With less than that the server has the room that is said here, the store keeps
+    /// the greatest, and the log tells of both.
     pub fn room(mut self, room: Room) -> ServerBuilder<S> {
-        self.options.room = room;
+        self.options.room = Some(room);
         self
     }
 

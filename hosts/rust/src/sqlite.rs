@@ -3,10 +3,13 @@ use crate::change::{Change, Outcome, Record, Snapshot, Write};
 use crate::history::{History, Mark};
 use crate::lease_record::LeaseRecord;
 use crate::refusal::ClientSet;
+use crate::room::Room;
 use crate::row::{Row, Value};
 use crate::sqlite_version::{self, Found};
 use crate::store::{Store, StoreError};
-use rusqlite::{Connection, Row as SqlRow, Transaction, TransactionBehavior, params};
+use rusqlite::{
+    Connection, OptionalExtension, Row as SqlRow, Transaction, TransactionBehavior, params,
+};
 use std::path::Path;
 use std::time::Duration;
 
@@ -35,6 +38,8 @@ const TABLES: &str = "
         place INTEGER PRIMARY KEY, bits BLOB NOT NULL UNIQUE, commits INTEGER NOT NULL);
     CREATE TABLE IF NOT EXISTS lease (
         id INTEGER PRIMARY KEY CHECK (id = 0), longest INTEGER NOT NULL, unleased INTEGER NOT NULL);
+    CREATE TABLE IF NOT EXISTS room (
+        id INTEGER PRIMARY KEY CHECK (id = 0), most_rows INTEGER NOT NULL);
     INSERT OR IGNORE INTO epoch VALUES (0, 0);
     INSERT OR IGNORE INTO lease VALUES (0, 0, -1);";
 
@@ -55,6 +60,8 @@ const LAST: &str = "SELECT bits, commits FROM start ORDER BY place DESC LIMIT 1"
 
 // `unleased` has the bit of value 2^n for client n, as a number with a sign.
 const LEASE: &str = "UPDATE lease SET longest = ?1, unleased = ?2 WHERE id = 0";
+
+const ROOM: &str = "INSERT OR REPLACE INTO room VALUES (0, ?1)";
 
 const PUT: &str = "INSERT OR REPLACE INTO entry (key, value) VALUES (?1, ?2)";
 const DELETE: &str = "DELETE FROM entry WHERE key = ?1";
@@ -203,14 +210,31 @@ pub(crate) fn load(connection: &Connection) -> Result<Snapshot, StoreError> {
         snapshot.records.push(record_of(row)?);
     }
     snapshot.leases = lease_record(connection)?;
+    snapshot.room = kept_room(connection)?;
     Ok(snapshot)
 }
 
-/// What the file has of leases. One of an older version, which is only read, has nothing.
+/// Whether the file has this table. One of an older version, which is only read, may have none.
+fn has_table(connection: &Connection, name: &str) -> Result<bool, StoreError> {
+    let named = "SELECT count(*) FROM sqlite_master WHERE type = 'table' AND name = ?1";
+    let tables: i64 = connection.query_row(named, [name], |row| row.get(0))?;
+    Ok(tables > 0)
+}
+
+/// The greatest room that a server had, if the file keeps one.
+fn kept_room(connection: &Connection) -> Result<Option<Room>, StoreError> {
+    if !has_table(connection, "room")? {
+        return Ok(None);
+    }
+    let kept = connection.query_row("SELECT most_rows FROM room", [], |row| row.get::<_, i64>(0));
+    let Some(rows) = kept.optional()? else { return Ok(None) };
+    let room = usize::try_from(rows).ok().and_then(|rows| Room::of(rows).ok());
+    room.map(Some).ok_or_else(|| StoreError::says("the room in the store is one of no server"))
+}
+
+/// What the file has of leases.
 fn lease_record(connection: &Connection) -> Result<LeaseRecord, StoreError> {
-    let named = "SELECT count(*) FROM sqlite_master WHERE type = 'table' AND name = 'lease'";
-    let tables: i64 = connection.query_row(named, [], |row| row.get(0))?;
-    if tables == 0 {
+    if !has_table(connection, "lease")? {
         return Ok(LeaseRecord::UNKNOWN);
     }
     let kept = connection.query_row("SELECT longest, unleased FROM lease", [], |row| {
@@ -232,6 +256,9 @@ pub(crate) fn save(connection: &mut Connection, snapshot: &Snapshot) -> Result<(
         save_record(&transaction, record)?;
     }
     commit_one(&transaction, &Change::Leased(snapshot.leases))?;
+    if let Some(room) = snapshot.room {
+        commit_one(&transaction, &Change::Room(room))?;
+    }
     Ok(transaction.commit()?)
 }
 
@@ -262,6 +289,7 @@ fn commit_one(transaction: &Transaction<'_>, change: &Change) -> Result<(), Stor
             let unleased = unleased.bits().cast_signed();
             run(transaction, LEASE, params![signed(*longest)?, unleased])
         }
+        Change::Room(room) => run(transaction, ROOM, params![signed(room.rows() as u64)?]),
     }
 }
 

@@ -148,6 +148,7 @@ mod tests {
     use super::*;
     use crate::change::{Change, Outcome, Record};
     use crate::lease_record::LeaseRecord;
+    use crate::room::Room;
     use crate::row::Value;
     use crate::store::Store;
     use std::os::unix::fs::PermissionsExt;
@@ -189,6 +190,7 @@ mod tests {
                 record(63, Some((1, Outcome::Applied)), false),
             ],
             leases: LeaseRecord { longest: 12, unleased: [2, 9].into_iter().collect() },
+            room: Room::of(1_000_000).ok(),
         }
     }
 
@@ -199,7 +201,7 @@ mod tests {
         SqliteStore::create(&file, &snapshot()).unwrap();
         assert_eq!(folder.names(), ["copy.db"]);
         assert_eq!(file.metadata().unwrap().permissions().mode() & 0o777, 0o600);
-        let expected = StoreFile { version: 3, snapshot: snapshot() };
+        let expected = StoreFile { version: 4, snapshot: snapshot() };
         assert_eq!(SqliteStore::read(&file).unwrap(), expected);
         assert_eq!(folder.names(), ["copy.db"]);
         assert_eq!(SqliteStore::open(&file).unwrap().load().unwrap(), snapshot());
@@ -273,14 +275,15 @@ mod tests {
     fn an_older_store_is_read_as_it_is_and_raised_when_it_is_opened() {
         let folder = Folder::new("older");
         for (version, marks) in [
-            (0, "DROP TABLE start; PRAGMA application_id = 0; PRAGMA user_version = 0;"),
-            (1, "DROP TABLE start; PRAGMA user_version = 1;"),
-            (2, "PRAGMA user_version = 2;"),
+            (0, "DROP TABLE lease; DROP TABLE start; PRAGMA application_id = 0;"),
+            (1, "DROP TABLE lease; DROP TABLE start;"),
+            (2, "DROP TABLE lease;"),
+            (3, "UPDATE lease SET longest = 0, unleased = -1;"),
         ] {
             let file = folder.0.join(format!("{version}.db"));
             SqliteStore::create(&file, &snapshot()).unwrap();
-            let older = format!("DROP TABLE lease; {marks}");
-            let before = Snapshot { leases: LeaseRecord::UNKNOWN, ..snapshot() };
+            let older = format!("DROP TABLE room; {marks} PRAGMA user_version = {version};");
+            let before = Snapshot { leases: LeaseRecord::UNKNOWN, room: None, ..snapshot() };
             Connection::open(&file).unwrap().execute_batch(&older).unwrap();
             let version_of = |file| SqliteStore::read(file).map(|it| it.version).unwrap();
             assert_eq!([version_of(&file), version_of(&file)], [version, version]);
@@ -293,7 +296,7 @@ mod tests {
             drop(store);
             let expected = Snapshot { epoch: 8, ..before };
             assert_eq!(SqliteStore::read(&file).unwrap().snapshot, expected);
-            assert_eq!(version_of(&file), 3);
+            assert_eq!(version_of(&file), 4);
         }
     }
 
@@ -302,11 +305,11 @@ mod tests {
         let folder = Folder::new("newer");
         let file = folder.0.join("new.db");
         SqliteStore::create(&file, &snapshot()).unwrap();
-        Connection::open(&file).unwrap().execute_batch("PRAGMA user_version = 4").unwrap();
+        Connection::open(&file).unwrap().execute_batch("PRAGMA user_version = 5").unwrap();
         let before = std::fs::read(&file).unwrap();
         for refused in [SqliteStore::read(&file).map(drop), SqliteStore::open(&file).map(drop)] {
             let refused = refused.unwrap_err().to_string();
-            assert!(refused.contains("version 4, and"), "{refused}");
+            assert!(refused.contains("version 5, and"), "{refused}");
         }
         assert_eq!(std::fs::read(&file).unwrap(), before);
         assert_eq!(folder.names(), ["new.db"]);

@@ -6,7 +6,7 @@ use rusqlite::Connection;
 const APPLICATION: i64 = 0x6b72_6c31;
 
 /// The version of the tables, as SQLite's user version.
-pub(crate) const VERSION: i64 = 3;
+pub(crate) const VERSION: i64 = 4;
 
 /// The tables of a store of before there were versions, by name.
 const NAMES: [&str; 3] = ["entry", "epoch", "record"];
@@ -16,8 +16,9 @@ const NAMES: [&str; 3] = ["entry", "epoch", "record"];
 pub(crate) enum Found {
     /// It has nothing yet.
     New,
-    /// A store of this older version: 0 if it is of before there were versions. It lacks what is
-    /// known of leases, and one of before version 2 the starts of its servers.
+    /// A store of this older version: 0 if it is of before there were versions. It lacks the room of
+    /// its servers, one of before version 3 what is known of leases, and one of before version 2 the
+    /// starts of its servers.
     Older(i64),
     /// A store of this version.
     Current,
@@ -28,7 +29,7 @@ fn found(application: i64, version: i64, tables: &[String]) -> Result<Found, Str
     match (application, version) {
         (0, 0) if tables.is_empty() => Ok(Found::New),
         (0, 0) if tables == NAMES => Ok(Found::Older(0)),
-        (APPLICATION, 1 | 2) => Ok(Found::Older(version)),
+        (APPLICATION, 1..VERSION) => Ok(Found::Older(version)),
         (APPLICATION, VERSION) => Ok(Found::Current),
         (APPLICATION, other) => Err(format!(
             "the store has version {other}, and this program reads versions up to {VERSION}"
@@ -70,7 +71,8 @@ mod tests {
         assert_eq!(found(0, 0, &ours), Ok(Found::Older(0)));
         assert_eq!(found(APPLICATION, 1, &ours), Ok(Found::Older(1)));
         assert_eq!(found(APPLICATION, 2, &ours), Ok(Found::Older(2)));
-        assert_eq!(found(APPLICATION, 3, &ours), Ok(Found::Current));
+        assert_eq!(found(APPLICATION, 3, &ours), Ok(Found::Older(3)));
+        assert_eq!(found(APPLICATION, 4, &ours), Ok(Found::Current));
         for (application, version, tables) in [
             (0, 0, tables(&["entry", "epoch"])),
             (0, 0, tables(&["entry", "epoch", "other", "record"])),
@@ -82,7 +84,7 @@ mod tests {
             let what = found(application, version, &tables).unwrap_err();
             assert!(what.contains("another program"), "{application} {version} {tables:?}: {what}");
         }
-        for version in [0, 4, -1] {
+        for version in [0, 5, -1] {
             let what = found(APPLICATION, version, &ours).unwrap_err();
             assert!(what.contains(&format!("version {version},")), "{what}");
         }

@@ -1,4 +1,5 @@
 //! What an operator sees of a server.
+use crate::room::Room;
 use crate::watch::{HeldSlots, Wait};
 use std::fmt;
 use std::time::Duration;
@@ -8,6 +9,8 @@ use std::time::Duration;
 pub struct Status {
     /// How many times a server has started on this store.
     pub epoch: u64,
+    /// For how many rows the server has room.
+    pub room: Room,
     /// It answers requests. Otherwise it waits for the reports of the clients in `missing`.
     pub is_serving: bool,
     /// The clients that have to report, or be evicted, before the server serves.
@@ -129,7 +132,8 @@ impl fmt::Display for Status {
             "messages: {taken} taken, {sent} sent, {refused} refused, {denied} denied, {held_back} \
              held back"
         )?;
-        writeln!(f, "store: {} changes in {} transactions", self.changes, self.commits)
+        let Status { changes, commits, room, .. } = self;
+        writeln!(f, "store: {changes} changes in {commits} transactions, room for {room} rows")
     }
 }
 
@@ -164,6 +168,7 @@ mod tests {
         );
         assert!(text.contains("client 3 waits for 0, 2: RangeX-X at 10, for 40 ms\n"));
         assert!(text.contains("client 2 holds 7 slots\n"));
+        assert!(text.ends_with("store: 0 changes in 0 transactions, room for 65536 rows\n"));
         assert!(!text.contains("ALARM") && !text.contains("leases"));
         let leased = Status {
             longest_lease: Duration::from_secs(10),

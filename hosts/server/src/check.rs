@@ -1,7 +1,7 @@
 //! What a store holds, and whether a server can start on it.
 use crate::cause;
 use crate::owner;
-use krl::{Record, Room, SqliteStore};
+use krl::{Record, SqliteStore};
 use std::error::Error;
 use std::path::Path;
 use std::process::ExitCode;
@@ -19,11 +19,12 @@ pub fn check(path: &Path) -> Result<ExitCode, Box<dyn Error>> {
     println!("version: {}", file.version);
     println!("epoch: {}", snapshot.epoch);
     println!("rows: {}", snapshot.rows.len());
+    println!("room: {}", snapshot.kept_room().unwrap_or_default());
     println!("clients that have not left: {}", list(&there));
     println!("clients that have left: {}", list(&gone));
     match snapshot.judge() {
         Ok(()) => {
-            println!("a server can start on it{}", room_for(snapshot.rows.len()));
+            println!("a server can start on it");
             Ok(ExitCode::SUCCESS)
         }
         Err(code) => {
@@ -31,14 +32,6 @@ pub fn check(path: &Path) -> Result<ExitCode, Box<dyn Error>> {
             Ok(ExitCode::FAILURE)
         }
     }
-}
-
-/// How a server has to be started that has room for so many rows, if it has to be told.
-fn room_for(rows: usize) -> String {
-    if rows <= Room::default().rows() {
-        return String::new();
-    }
-    format!(", with --room {rows} or more")
 }
 
 fn list(records: &[&Record]) -> String {

@@ -253,7 +253,8 @@ pub struct ServeOptions {
     /// The key of that certificate, as PEM in PKCS #8
     #[arg(long, env = "KRL_STORE_KEY", value_name = "FILE", requires = "store_certificate")]
     pub store_key: Option<String>,
-    /// How many rows the table may have, from 1 to 1048576
+    /// How many rows the table may have, from 1 to 1048576. If it is not said, it is the greatest that
+    /// a server over this store had before, and 65536 over a new store
     #[arg(long, env = "KRL_ROOM", value_name = "ROWS")]
     pub room: Option<String>,
     /// The shard that the server serves, as FIRST..END@VERSION: its keys, and the version of the map.

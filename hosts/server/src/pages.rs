@@ -221,6 +221,7 @@ fn as_json(status: &Status, state: &State) -> Page {
         "role": state.word(),
         "serves_since": state.since(),
         "epoch": status.epoch,
+        "room": status.room.rows(),
         "phase": if status.is_serving { "serving" } else { "recovering" },
         "failure": status.failure,
         "missing": status.missing,
@@ -348,7 +349,7 @@ mod tests {
         };
         let page = as_json(&status, &State::Starts);
         let value: serde_json::Value = serde_json::from_str(&page.text).unwrap();
-        assert_eq!(value["epoch"], 4);
+        assert_eq!((&value["epoch"], &value["room"]), (&json!(4), &json!(65_536)));
         assert_eq!(value["phase"], "recovering");
         assert_eq!(value["commits_total"], 9);
         assert_eq!((&value["unleased"], &value["evicted_total"]), (&json!([6]), &json!(0)));

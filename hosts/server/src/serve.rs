@@ -107,7 +107,9 @@ pub fn start(
     (store, access): (impl Store + 'static, &Access),
 ) -> Result<Server, ServeError> {
     let mut builder = Server::builder(listener, store).access(access.clone());
-    builder = builder.room(settings.room.value);
+    if let Some(room) = settings.room.value.0 {
+        builder = builder.room(room);
+    }
     if let Some(shard) = settings.shard.value.0 {
         builder = builder.shard(shard);
     }
@@ -125,7 +127,7 @@ pub fn ready(settings: &Settings, server: &Server, role: &Role) {
         epoch = server.status().epoch,
         address = %server.address(),
         store = %settings.store.value,
-        room = %settings.room.value,
+        room = %server.room(),
         shard = %settings.shard.value,
         "ready"
     );

@@ -47,7 +47,7 @@ pub struct Settings {
     pub store_authority: Setting<Optional<PathBuf>>,
     pub store_certificate: Setting<Optional<PathBuf>>,
     pub store_key: Setting<Optional<PathBuf>>,
-    pub room: Setting<Room>,
+    pub room: Setting<Optional<Room>>,
     pub shard: Setting<Optional<ShardBounds>>,
     pub advertise: Setting<Optional<Address>>,
     pub election_lease: Setting<Seconds>,
@@ -133,7 +133,7 @@ impl Settings {
                 &key::ROOM,
                 options.room.as_ref(),
                 file.room.map(|rows| rows.to_string()),
-                |text| text.parse().ok(),
+                value::parse_room,
             )?,
             shard: given.setting(
                 &key::SHARD,
@@ -277,7 +277,7 @@ impl fmt::Display for Settings {
         optional_line(f, &key::STORE_AUTHORITY, &self.store_authority)?;
         optional_line(f, &key::STORE_CERTIFICATE, &self.store_certificate)?;
         optional_line(f, &key::STORE_KEY, &self.store_key)?;
-        line(f, &key::ROOM, &self.room)?;
+        optional_line(f, &key::ROOM, &self.room)?;
         optional_line(f, &key::SHARD, &self.shard)?;
         if let StorePlace::Etcd(_) = self.store.value {
             optional_line(f, &key::ADVERTISE, &self.advertise)?;

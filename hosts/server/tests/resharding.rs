@@ -2,7 +2,7 @@
 mod common;
 
 use common::{Serving, errors, run, text};
-use krl::{Client, Outcome, Record, Row, Shard, ShardMap, ShardedClient, Snapshot};
+use krl::{Client, Outcome, Record, Room, Row, Shard, ShardMap, ShardedClient, Snapshot};
 use krl::{SqliteStore, Value};
 use std::path::Path;
 use std::time::Duration;
@@ -18,7 +18,8 @@ fn full() -> Snapshot {
     let record = |client, left| Record { client, incarnation: 5, last: None, left };
     let rows = (0..FULL).map(|key| (2 * key, Value::from(key))).collect();
     let records = vec![record(9, true), record(2, true)];
-    Snapshot { epoch: 3, rows, records, ..Snapshot::default() }
+    let room = Some(Room::default());
+    Snapshot { epoch: 3, rows, records, room, ..Snapshot::default() }
 }
 
 fn join(serving: &Serving, lock_file: &Path, number: u8) -> Client {
@@ -99,7 +100,9 @@ fn a_full_server_is_split_and_its_clients_go_on() {
     let merged = run(&["merge", store_name, upper_name, whole_name]);
     assert_eq!(merged.status.code(), Some(0), "{}", errors(&merged));
     let check = text(&run(&["check", whole_name]));
-    assert!(check.contains("a server can start on it, with --room 65539 or more"), "{check}");
+    assert!(check.contains("rows: 65539\nroom: 65539\n"), "{check}");
+    assert!(check.contains("a server can start on it\n"), "{check}");
+    drop(Serving::start(&whole));
 }
 
 #[test]

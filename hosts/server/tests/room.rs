@@ -1,9 +1,11 @@
 //! A server with room for a number of rows that its operator names.
 mod common;
 
-use common::{Serving, errors, program, run, text};
+use common::{Ended, Serving, errors, program, run, text};
 use krl::{Client, Outcome, Value};
+use std::io::{BufRead, BufReader};
 use std::path::Path;
+use std::process::Stdio;
 use std::time::Duration;
 
 /// No wait of a test is longer.
@@ -36,12 +38,85 @@ fn a_table_takes_as_many_rows_as_its_server_has_room_for() {
     let ended = run(&[&words[..], &["--store", store.to_str().unwrap()]].concat());
     assert_eq!(ended.status.code(), Some(1));
     let said = [errors(&ended), text(&ended)].concat();
-    assert!(said.contains("the store has 3 rows, and the server room for 2"), "{said}");
+    let told = "the store has 3 rows, and the server room for 2: give it room for 3 or more";
+    assert!(said.contains(told), "{said}");
 
     let serving = serve(&store, "100000");
     let client = join(&serving, &lock);
     assert_eq!(client.insert(4, Value::from(4)), Ok(Outcome::Applied));
     client.leave().unwrap();
+}
+
+/// The room that a server shows.
+fn shown(serving: &Serving) -> usize {
+    let (status, page) = serving.get("/status.json");
+    assert_eq!(status, 200, "{page}");
+    let page: serde_json::Value = serde_json::from_str(&page).unwrap();
+    page["room"].as_u64().unwrap().try_into().unwrap()
+}
+
+/// The room that a server shows, which then ends in order, and what it has told.
+fn shown_to_the_end(serving: Serving) -> (usize, Ended) {
+    let room = shown(&serving);
+    serving.signal(&["TERM"]);
+    (room, serving.ended())
+}
+
+fn checked(store: &Path) -> String {
+    text(&run(&["check", store.to_str().unwrap()]))
+}
+
+#[test]
+fn a_forgotten_flag_changes_no_room() {
+    let folder = tempfile::tempdir().unwrap();
+    let [small, great] = ["small.db", "great.db"].map(|name| folder.path().join(name));
+    for (store, room) in [(&small, "3"), (&great, "1000000")] {
+        drop(serve(store, room));
+        assert_eq!(shown_to_the_end(Serving::start(store)).0.to_string(), room);
+        let check = checked(store);
+        assert!(check.lines().any(|line| line == format!("room: {room}")), "{check}");
+    }
+    let serving = Serving::start(&small);
+    let client = join(&serving, &folder.path().join("3.lock"));
+    let outcomes = (0..4).map(|key| client.insert(key, Value::from(key)).unwrap());
+    let full = [Outcome::Applied, Outcome::Applied, Outcome::Applied, Outcome::Full];
+    assert_eq!(outcomes.collect::<Vec<_>>(), full);
+    client.leave().unwrap();
+}
+
+#[test]
+fn a_server_with_less_room_than_before_serves_and_tells_so() {
+    let folder = tempfile::tempdir().unwrap();
+    let store = folder.path().join("krl.db");
+    assert_eq!(shown_to_the_end(Serving::start(&store)).0, 65_536);
+    let mut serve = program();
+    serve.args(["serve", "--room", "3", "--listen", "127.0.0.1:0", "--status", "off", "--store"]);
+    let mut process = serve.arg(&store).stderr(Stdio::piped()).spawn().unwrap();
+    let lines = BufReader::new(process.stderr.take().unwrap()).lines().map(Result::unwrap);
+    let told: Vec<String> = lines.take_while(|line| !line.contains(" ready ")).collect();
+    process.kill().unwrap();
+    process.wait().unwrap();
+    let less = "the server has less room than one had before it room=3 greatest=65536";
+    assert!(told.iter().any(|line| line.contains(less)), "{told:?}");
+    let check = checked(&store);
+    assert!(check.contains("room: 65536\n"), "{check}");
+    assert_eq!(shown_to_the_end(Serving::start(&store)).0, 65_536);
+}
+
+#[test]
+fn a_backup_and_what_is_restored_of_it_keep_the_room() {
+    let folder = tempfile::tempdir().unwrap();
+    let path = |name: &str| folder.path().join(name).to_str().unwrap().to_string();
+    let [store, backup, restored] = ["krl.db", "backup.db", "restored.db"].map(path);
+    let serving = serve(Path::new(&store), "70000");
+    let made = run(&["backup", &serving.status, &backup]);
+    assert_eq!(made.status.code(), Some(0), "{}", errors(&made));
+    let made = run(&["restore", &backup, "--store", &restored, "--clients-are-stopped"]);
+    assert_eq!(made.status.code(), Some(0), "{}", errors(&made));
+    for file in [backup, restored] {
+        let check = checked(Path::new(&file));
+        assert!(check.contains("room: 70000\n"), "{check}");
+    }
 }
 
 #[test]

@@ -319,6 +319,7 @@ fn a_restored_backup_is_served_at_once() {
     for line in [
         "epoch: 4294967297",
         "rows: 2",
+        "room: 65536",
         "clients that have not left: none",
         "clients that have left: 3, 4",
         "a server can start on it",

@@ -8,7 +8,6 @@ use std::process::Output;
 const DEFAULTS: &str = "\
 listen = \"127.0.0.1:7400\" # by default
 store = \"krl.db\" # by default
-room = 65536 # by default
 status = \"127.0.0.1:7401\" # by default
 log-level = \"info\" # by default
 log-format = \"text\" # by default
@@ -128,7 +127,7 @@ fn the_packaged_file_sets_each_key() {
     let output = run(&["config", "--config", path]);
     let end = format!("# from the file {path}");
     let said = text(&output);
-    assert_eq!((said.lines().count(), output.status.code()), (8, Some(0)), "{}", errors(&output));
+    assert_eq!((said.lines().count(), output.status.code()), (7, Some(0)), "{}", errors(&output));
     assert!(said.lines().all(|line| line.ends_with(&end)), "{said}");
 }
 

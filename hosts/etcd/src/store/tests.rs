@@ -36,6 +36,8 @@ fn changes() -> Vec<Change> {
         leased(10_000_000_000, 1 << 63 | 5),
         Change::Started { epoch: 2 },
         leased(u64::MAX, 0),
+        Change::Room(Room::of(3).unwrap()),
+        Change::Room(Room::MAX),
     ]
 }
 
@@ -217,6 +219,9 @@ fn what_no_server_commits_is_not_loaded() {
         ("other", "something", b""),
         ("headless", "client/03", b"0 1 0 - here"),
         ("lease", "lease", b"10 5"),
+        ("room", "room", b"0"),
+        ("spelled", "room", b"+3"),
+        ("unserved", "room", b"3"),
     ] {
         let mut store = open(&cluster.address(table));
         let set = request::put(&store.key(name), value);

@@ -37,6 +37,8 @@ fn changes() -> Vec<Change> {
         leased(10_000_000_000, 1 << 63 | 5),
         Change::Started { epoch: 2 },
         leased(u64::MAX, 0),
+        Change::Room(Room::of(3).unwrap()),
+        Change::Room(Room::MAX),
     ]
 }
 
@@ -195,13 +197,29 @@ fn a_copy_becomes_a_store_of_its_own() {
 }
 
 #[test]
+fn a_store_of_before_the_room_was_kept_is_brought_forward() {
+    let Some(database) = Database::start() else { return };
+    loaded(&database).0.commit(&[Change::Started { epoch: 1 }, REGISTER]).unwrap();
+    let sql = database.connect();
+    sql.run("DROP TABLE krl.room");
+    sql.run("UPDATE krl.head SET format = 1");
+    let (mut store, found) = loaded(&database);
+    assert_eq!((found.room, found.kept_room()), (None, Some(Room::default())));
+    sql.run("DO 'BEGIN ASSERT (SELECT format FROM krl.head) = 1; END'");
+    store.commit(&[Change::Started { epoch: 2 }, Change::Room(Room::MAX)]).unwrap();
+    sql.run("DO 'BEGIN ASSERT (SELECT format FROM krl.head) = 2; END'");
+    assert_eq!(loaded(&database).1.room, Some(Room::MAX));
+}
+
+#[test]
 fn what_no_server_commits_is_not_loaded() {
     let Some(database) = Database::start() else { return };
     loaded(&database).0.commit(&[Change::Started { epoch: 1 }]).unwrap();
     let sql = database.connect();
     for (wrong, right) in [
         ("UPDATE krl.head SET owner = 'nobody'", "UPDATE krl.head SET owner = repeat('1', 32)"),
-        ("UPDATE krl.head SET format = 2", "UPDATE krl.head SET format = 1"),
+        ("UPDATE krl.head SET format = 3", "UPDATE krl.head SET format = 2"),
+        ("INSERT INTO krl.room VALUES (0, 0)", "DELETE FROM krl.room"),
         ("INSERT INTO krl.entry VALUES (-1, '')", "DELETE FROM krl.entry"),
         ("INSERT INTO krl.entry VALUES (1, repeat('x', 33)::bytea)", "DELETE FROM krl.entry"),
         ("INSERT INTO krl.client VALUES (64, 0, 1, 0, 0, 0)", "DELETE FROM krl.client"),

@@ -1,11 +1,18 @@
 //! What a server's loop shows of itself.
 use super::{EventLoop, SHOWN_FOR};
+use crate::room::Room;
 use crate::status::Status;
 use crate::store::Store;
 use std::sync::{Mutex, PoisonError};
 use std::time::Duration;
 
 impl<S: Store> EventLoop<S> {
+    /// From now on it shows that the server has this room.
+    pub(crate) fn of_room(mut self, room: Room) -> EventLoop<S> {
+        self.status.room = room;
+        self
+    }
+
     /// Sees whether the server serves, and until it does, whose reports are missing. One that
     /// serves goes on to serve. It answers whether that may be news.
     pub(super) fn see_phase(&mut self) -> bool {

@@ -25,6 +25,8 @@ fn changes() -> Vec<Change> {
         leased(10_000_000_000, 1 << 63 | 5),
         Change::Started { epoch: 2 },
         leased(u64::MAX >> 1, 0),
+        Change::Room(Room::of(3).unwrap()),
+        Change::Room(Room::MAX),
     ]
 }
 

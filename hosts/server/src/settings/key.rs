@@ -114,7 +114,7 @@ pub const ROOM: Key = Key {
     flag: "--room",
     variable: "KRL_ROOM",
     id: "room",
-    default: "65536",
+    default: "",
     expected: "the most rows of the table, from 1 to 1048576",
 };
 pub const SHARD: Key = Key {

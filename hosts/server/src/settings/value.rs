@@ -1,6 +1,6 @@
 //! The values of settings, as they are written and read.
 use super::key;
-use krl::{Address, Identity, Leases, ShardBounds, TableName};
+use krl::{Address, Identity, Leases, Room, ShardBounds, TableName};
 use krl_etcd::EtcdAddress;
 use krl_postgres::PostgresAddress;
 use std::fmt;
@@ -119,6 +119,13 @@ pub fn parse_optional_address(text: &str) -> Option<Optional<Address>> {
     }
 }
 
+pub fn parse_room(text: &str) -> Option<Optional<Room>> {
+    match text {
+        "" => Some(Optional(None)),
+        _ => text.parse().ok().map(|room| Optional(Some(room))),
+    }
+}
+
 pub fn parse_shard(text: &str) -> Option<Optional<ShardBounds>> {
     match text {
         "" => Some(Optional(None)),
@@ -216,6 +223,12 @@ impl fmt::Display for Optional<PathBuf> {
 impl fmt::Display for Optional<Address> {
     fn fmt(&self, f: &mut fmt::Formatter<'_>) -> fmt::Result {
         self.0.iter().try_for_each(|address| address.fmt(f))
+    }
+}
+
+impl fmt::Display for Optional<Room> {
+    fn fmt(&self, f: &mut fmt::Formatter<'_>) -> fmt::Result {
+        self.0.iter().try_for_each(|room| room.fmt(f))
     }
 }
 
