@@ -34,6 +34,10 @@ const TIMEOUT: Duration = Duration::from_secs(10);
 /// How often the smallest answer time is taken.
 const TRIPS: u64 = 100;
 
+/// The patient client waits for no more round trips than this, each as much longer as a thread of
+/// this machine was kept from running.
+const MOST_TRIPS: u32 = 10;
+
 /// What the hasty client does with the range that the patient one wants. It gives the other one
 /// back as soon as it has it.
 #[derive(Clone, Copy, Debug)]
@@ -74,6 +78,17 @@ impl Run {
         Ok(())
     }
 
+    /// How much longer than it asked for a thread has slept at most.
+    fn longest_stall(&self) -> Duration {
+        let mut longest = Duration::ZERO;
+        while !self.is_over() {
+            let begun = Instant::now();
+            thread::sleep(LOOK);
+            longest = longest.max(begun.elapsed().saturating_sub(LOOK));
+        }
+        longest
+    }
+
     /// Waits until a range is called back.
     fn keep(&self, client: &Client, range: &Range<u64>) {
         while !self.is_over() && client.cached(range.clone()).is_some() {
@@ -97,7 +112,16 @@ impl Run {
     }
 }
 
-/// Measures each habit. It judges nothing.
+/// What a run has measured.
+#[derive(Debug)]
+struct Measured {
+    granted: u64,
+    /// In ascending order.
+    waits: Vec<Duration>,
+    stall: Duration,
+}
+
+/// Measures each habit. The patient client may not wait for many round trips.
 pub fn run(folder: &Path) -> Found {
     std::fs::create_dir_all(folder)?;
     let listener = Listener::bind(&"127.0.0.1:0".parse()?)?;
@@ -109,35 +133,38 @@ pub fn run(folder: &Path) -> Found {
     let trip = smallest_trip(&hasty)?;
     patient.set_timeout(TIMEOUT);
     patient.insert(KEY, Value::from(0))?;
+    let mut is_bounded = true;
     for habit in [Habit::GivesBack, Habit::Keeps] {
         let taken = server.status().taken;
-        let (granted, mut waits) = measure(&hasty, &patient, habit)?;
+        let Measured { granted, waits, stall } = measure(&hasty, &patient, habit)?;
         let messages = server.status().taken - taken;
-        waits.sort_unstable();
-        let in_trips = |wait: Option<&Duration>| {
-            wait.map_or(0.0, |wait| wait.as_secs_f64() / trip.as_secs_f64())
-        };
+        let in_trips = |wait: Duration| wait.as_secs_f64() / trip.as_secs_f64();
+        let middle = waits.get(waits.len() / 2).copied().unwrap_or(TIMEOUT);
+        let longest = waits.last().copied().unwrap_or(TIMEOUT);
+        let long = waits.iter().filter(|wait| **wait > MOST_TRIPS * trip).count();
+        let bound = MOST_TRIPS * (trip + stall);
         println!(
             "{habit:?}: {granted} grants, {messages} messages to the server; a patient client \
              wrote {} times, and waited {:.1} round trips of {trip:.1?} at the middle and {:.1} at \
-             the longest",
+             the longest, of {:.1} that it may on this machine; {long} waits took more than \
+             {MOST_TRIPS}",
             waits.len(),
-            in_trips(waits.get(waits.len() / 2)),
-            in_trips(waits.last())
+            in_trips(middle),
+            in_trips(longest),
+            in_trips(bound)
         );
+        is_bounded &= longest <= bound;
     }
-    Ok(true)
+    Ok(is_bounded)
 }
 
-/// How much the hasty client was granted, and how long the patient one waited each time.
-fn measure(
-    hasty: &Client,
-    patient: &Client,
-    habit: Habit,
-) -> Result<(u64, Vec<Duration>), Box<dyn Error>> {
+/// How much the hasty client was granted, how long the patient one waited each time, and how long a
+/// thread that wanted to run had to wait.
+fn measure(hasty: &Client, patient: &Client, habit: Habit) -> Result<Measured, Box<dyn Error>> {
     let run =
         Run { begun: Instant::now(), granted: AtomicU64::new(0), is_over: AtomicBool::new(false) };
-    let waits = thread::scope(|scope| {
+    let (mut waits, stall) = thread::scope(|scope| {
+        let stall = scope.spawn(|| run.longest_stall());
         let wanted = scope.spawn(|| match habit {
             Habit::GivesBack => run.read_again(hasty, WANTED, |range| hasty.forget(range)),
             Habit::Keeps => run.read_again(hasty, WANTED, |range| {
@@ -151,9 +178,11 @@ fn measure(
         for reader in [wanted, other] {
             reader.join().map_err(|_| "a reader panicked")??;
         }
-        waits
-    });
-    Ok((run.granted.into_inner(), waits?))
+        let stall = stall.join().map_err(|_| "the thread that sleeps panicked")?;
+        waits.map(|waits| (waits, stall))
+    })?;
+    waits.sort_unstable();
+    Ok(Measured { granted: run.granted.into_inner(), waits, stall })
 }
 
 /// The smallest time of a request and its answer.

@@ -12,6 +12,7 @@ from . import errors
 from ._library import ClientState, Code, Handle, Held, Reply, library
 
 _ROW = struct.Struct("<QQ32s")
+_LOCK_WAITING = 1
 _LOCK_ABSENT = 3
 _RANGE_X = 3
 _KEY_X = 3
@@ -86,9 +87,14 @@ class Status:
     """What a client shows of itself."""
 
     epoch: int
+    is_waiting: bool
     is_absent: bool
     number: int
     outcome: Outcome | None
+
+    def awaits_a_push(self) -> bool:
+        """A lock or a write is not answered: a push may be on its way."""
+        return self.is_waiting or (self.number > 0 and self.outcome is None)
 
 
 class CodeError(Exception):
@@ -213,7 +219,8 @@ class ClientHandle:
         assert isinstance(state, ClientState)
         self._done(state.reply)
         outcome = Outcome(state.outcome) if state.outcome else None
-        return Status(state.epoch, state.lock == _LOCK_ABSENT, state.number, outcome)
+        is_waiting, is_absent = state.lock == _LOCK_WAITING, state.lock == _LOCK_ABSENT
+        return Status(state.epoch, is_waiting, is_absent, state.number, outcome)
 
     def leave(self) -> None:
         """Says Bye. After that only this call, which says it again, and ``take`` do anything."""

@@ -7,6 +7,7 @@ from __future__ import annotations
 
 from enum import Enum, auto
 
+from ._crossed import Crossed
 from ._handle import ClientHandle, CodeError, Miss, Mode, Outcome, Range, Rows, store_went_back
 from ._job import Job, Join, Leave, Write
 from ._library import Code
@@ -14,6 +15,7 @@ from ._pins import Pins
 from .errors import Closed, Refused, Stopped
 
 _CALLBACK = 20
+_PUSHES = (17, 18, 19)
 
 
 class Stage(Enum):
@@ -44,6 +46,9 @@ class Jobs:
         """The write that is on its way. It is in ``_open`` too."""
         self._asker: Job | None = None
         """The job for which the last lock was asked."""
+        self._asked = Range(0, 0)
+        """The keys of that lock."""
+        self._crossed = Crossed()
         self._may_ask = True
         self._pins = Pins()
         self._owed: list[Range] = []
@@ -137,9 +142,30 @@ class Jobs:
         self.advance(may_ask=False)
 
     def _step(self, message: bytes) -> None:
+        if self.stage in (Stage.LEAVING, Stage.GONE):
+            self._give(message)
+            return
+        before = self.client.status()
         span = _called_back(message)
         if span is not None:
             self._pins.note(span)
+            if before.awaits_a_push():
+                self._crossed.note(span, message)
+        self._give(message)
+        if len(message) > 1 and message[1] in _PUSHES:
+            self._call_back_again(before.is_waiting)
+
+    def _call_back_again(self, was_waiting: bool) -> None:
+        """Takes the callbacks again that may have crossed the push that has come, and for the last
+        time if no other push may be on its way."""
+        if was_waiting and not self.client.status().is_waiting:
+            self._crossed.leave_out(self._asked)
+        for message in self._crossed.messages():
+            self._give(message)
+        if not self.client.status().awaits_a_push():
+            self._crossed = Crossed()
+
+    def _give(self, message: bytes) -> None:
         try:
             self.client.step(message)
         except CodeError as error:
@@ -217,7 +243,7 @@ class Jobs:
             if error.code not in (Code.BUSY, Code.NOT_JOINED):
                 raise
         else:
-            self._asker = job
+            self._asker, self._asked = job, keys
 
     def is_told_absent(self, job: Job) -> bool:
         """Whether the server said that there is no entry for the lock that the job asked for."""
@@ -289,7 +315,7 @@ class Jobs:
         self.client.close()
         if self.stage is Stage.LEAVING:
             self.stage = Stage.RETURNING
-        self._pins, self._owed = Pins(), []
+        self._pins, self._owed, self._crossed = Pins(), [], Crossed()
         self._first_pin = self._next_pin
         self._asker = self._written = None
         for job in list(self._open):

@@ -28,6 +28,12 @@ class RulesTest(unittest.TestCase):
     def test_callback_behind_grant(self) -> None:
         self.play("callback_behind_grant")
 
+    def test_callback_before_grant(self) -> None:
+        self.play("callback_before_grant")
+
+    def test_callback_before_answer(self) -> None:
+        self.play("callback_before_answer")
+
     def test_not_held(self) -> None:
         self.play("not_held")
 

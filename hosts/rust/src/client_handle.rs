@@ -45,6 +45,8 @@ pub(crate) enum Scan {
 pub(crate) struct Shown {
     /// The epoch that it has joined, or 0.
     pub epoch: u64,
+    /// The last lock that it asked for is not answered.
+    pub is_waiting: bool,
     /// The last lock that it asked for was granted.
     pub is_granted: bool,
     /// There was no entry to lock.
@@ -103,6 +105,13 @@ impl HeldCache<'_> {
     /// Scans the cache, and puts the rows behind those that are there.
     pub fn scan_behind(&self, keys: &Range<u64>, rows: &mut Vec<Row>) -> Result<Scan, Code> {
         self.0.scan_behind(keys, rows)
+    }
+}
+
+impl Shown {
+    /// A lock or a write is not answered: a push may be on its way.
+    pub fn awaits_a_push(&self) -> bool {
+        self.is_waiting || (self.number > 0 && self.outcome.is_none())
     }
 }
 
@@ -229,12 +238,14 @@ impl ClientHandle {
     }
 
     pub fn status(&self) -> Result<Shown, Code> {
+        const LOCK_WAITING: u32 = 1;
         const LOCK_GRANTED: u32 = 2;
         const LOCK_ABSENT: u32 = 3;
         let state = self.handle.get().handle.client_state();
         done(state.reply)?;
         Ok(Shown {
             epoch: state.epoch,
+            is_waiting: state.lock == LOCK_WAITING,
             is_granted: state.lock == LOCK_GRANTED,
             is_absent: state.lock == LOCK_ABSENT,
             number: state.number,

@@ -1,5 +1,6 @@
 //! What a client has been asked to do, as far as it has come.
 mod anew;
+mod crossed;
 mod hold;
 mod leased;
 mod pinning;
@@ -18,6 +19,7 @@ use std::sync::mpsc::{Receiver, SyncSender, sync_channel};
 use std::time::{Duration, Instant};
 
 pub(crate) use anew::Dropped;
+use crossed::Crossed;
 use hold::Taking;
 pub(crate) use hold::{Held, Purpose};
 use leased::Speech;
@@ -105,6 +107,9 @@ pub(crate) struct Jobs {
     next: JobId,
     /// The job for which the last lock was asked.
     asker: Option<JobId>,
+    /// The points of that lock.
+    asked: Range<u64>,
+    crossed: Crossed,
     asking: Asking,
     room: Vec<Row>,
     /// None if a tick is due.
@@ -137,6 +142,8 @@ impl Jobs {
             is_changed: false,
             next: 0,
             asker: None,
+            asked: 0..0,
+            crossed: Crossed::default(),
             asking: Asking::Allowed,
             room: Vec::with_capacity(64),
             ticked: None,
@@ -244,12 +251,7 @@ impl Jobs {
             if let Some(span) = called_back(message) {
                 self.pins.note(&span);
             }
-            match self.client.step(message) {
-                // If memory was refused the message is as good as lost, and a client that has left
-                // hears nothing.
-                Ok(()) | Err(Code::OutOfMemory | Code::Gone) => {}
-                Err(code) => return Err(code),
-            }
+            self.step(message)?;
         }
         self.is_changed = true;
         self.advance(Asking::Later);
@@ -348,9 +350,9 @@ impl Jobs {
         if self.asking == Asking::Later {
             return Ok(false);
         }
-        match self.client.lock(points, mode) {
+        match self.client.lock(points.clone(), mode) {
             Ok(()) => {
-                self.asker = Some(id);
+                (self.asker, self.asked) = (Some(id), points);
                 Ok(true)
             }
             Err(Code::Busy | Code::NotJoined) => Ok(false),

@@ -1,5 +1,6 @@
 //! A client whose server's store went back, or whose lease has ended: it drops what it knows, and
 //! begins anew.
+use super::crossed::Crossed;
 use super::{Asking, Job, Jobs, Stage};
 use crate::client_handle::ClientHandle;
 use crate::pins::Pins;
@@ -64,6 +65,7 @@ impl Jobs {
         self.pins = Pins::default();
         self.first_pin = self.next_pin;
         self.owed.clear();
+        self.crossed = Crossed::default();
         self.asker = None;
         if let Some(written) = self.written.take() {
             written.refuse(why.refused());

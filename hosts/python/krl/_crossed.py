@@ -1,0 +1,38 @@
+"""Callbacks that may have crossed a push, so that a hasty client keeps nobody waiting.
+
+A server passes over a release that names an older push than its last one. So a release is lost that
+is said while a push is on its way, and the server calls back again. Of a client that asks for the
+next thing as soon as the last one is answered a push would be on its way each time. So it takes
+such a callback again as soon as it has the push, before it asks for anything else. The library says
+the release again then, and this time it names that push.
+"""
+
+from __future__ import annotations
+
+from ._handle import Range
+
+_MOST = 64
+"""A server has one callback for each client that waits, and 64 clients."""
+
+
+class Crossed:
+    """The callbacks that came while the server had yet to answer something."""
+
+    def __init__(self) -> None:
+        self._callbacks: dict[Range, bytes] = {}
+
+    def note(self, span: Range, message: bytes) -> None:
+        """The callback of this span came. The server calls back again where one is left out."""
+        if span in self._callbacks or len(self._callbacks) < _MOST:
+            self._callbacks[span] = message
+
+    def leave_out(self, keys: Range) -> None:
+        """A lock of these keys was answered behind the callbacks: what it gave is not given back
+        for them. Who waited there before was served before, or the server calls back again."""
+        self._callbacks = {
+            span: message for span, message in self._callbacks.items() if not span.meets(keys)
+        }
+
+    def messages(self) -> list[bytes]:
+        """The callbacks that are to be taken again."""
+        return list(self._callbacks.values())
