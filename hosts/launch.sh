@@ -72,22 +72,25 @@ build_host() {
 
 # Runs the server or the client with these words.
 run() {
+    hosts=$top/hosts
     case $1 in
-    serve) run_host krl-server server "$@" ;;
+    serve)
+        build_if_older krl-server "$hosts/rust" "$hosts/server" "$hosts/etcd" "$hosts/postgres"
+        ;;
     *)
         shift
-        run_host krl-client client "$@"
+        build_if_older krl-client "$hosts/rust" "$hosts/client"
         ;;
     esac
-}
-
-# Runs the program $1, whose sources are in the folder $2, with the words behind them.
-run_host() {
-    host=$1 folder=$2
-    shift 2
-    program=$target/release/$host
-    make_library
-    is_newest "$program" "$library" "$top/hosts/Cargo.toml" "$top/hosts/rust" "$top/hosts/$folder" || build_host "$host"
     rm -rf "$work"
     exec "$program" "$@"
+}
+
+# Builds the program $1 if it is older than the library or than what lies in the folders behind it.
+build_if_older() {
+    host=$1
+    shift
+    program=$target/release/$host
+    make_library
+    is_newest "$program" "$library" "$hosts/Cargo.toml" "$@" || build_host "$host"
 }
