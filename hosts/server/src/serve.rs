@@ -131,7 +131,15 @@ pub fn ready(settings: &Settings, server: &Server, role: &Role) {
         shard = %settings.shard.value,
         "ready"
     );
-    tell(&[NotifyState::Ready]);
+    tell(&[NotifyState::Ready, NotifyState::Status(&format!("serves at {}", server.address()))]);
+}
+
+/// Tells the log and the service manager that another server serves, which clients reach at this
+/// address. One that stands by has started: else its manager would wait, and end it in the end.
+pub fn stands_by(leader: &str) {
+    tracing::info!(%leader, "stands by");
+    let status = format!("stands by: the server at {leader} serves");
+    tell(&[NotifyState::Ready, NotifyState::Status(&status)]);
 }
 
 /// How a server that did not fail has ended.

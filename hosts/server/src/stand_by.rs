@@ -38,12 +38,10 @@ pub fn run(
     }
 }
 
-/// Tells the log who serves, once, and answers whether to go on.
+/// Tells who serves, once, and answers whether to go on.
 fn hear(standing: Standing<'_>, role: &Role, signal: &Signal) -> bool {
     match standing {
-        Standing::StandsBy(leader) if role.stands_by(leader) => {
-            tracing::info!(%leader, "stands by");
-        }
+        Standing::StandsBy(leader) if role.stands_by(leader) => serve::stands_by(leader),
         Standing::Unanswered(why) => tracing::warn!(%why, "the store does not answer"),
         _ => {}
     }

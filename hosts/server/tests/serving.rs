@@ -1,10 +1,9 @@
 //! A server that starts, is looked at, and stops.
 mod common;
 
-use common::{Serving, errors, join, lock_file, program, run, text, until};
+use common::{ServiceManager, Serving, errors, join, lock_file, program, run, text, until};
 use krl::{Address, END, Outcome, Row, Snapshot, SqliteStore, Value};
 use std::collections::BTreeMap;
-use std::os::unix::net::UnixDatagram;
 use std::os::unix::process::ExitStatusExt;
 use std::path::Path;
 use std::sync::atomic::{AtomicBool, AtomicU64, Ordering};
@@ -376,20 +375,12 @@ fn what_is_no_store_is_told() {
 #[test]
 fn a_service_manager_is_told() {
     let folder = tempfile::tempdir().unwrap();
-    let path = folder.path().join("notify");
-    let socket = UnixDatagram::bind(&path).unwrap();
-    socket.set_read_timeout(Some(Duration::from_secs(10))).unwrap();
-    let said = || {
-        let mut text = [0; 100];
-        let length = socket.recv(&mut text).unwrap();
-        String::from_utf8(text[..length].to_vec()).unwrap()
-    };
-    let store = folder.path().join("krl.db");
+    let (store, manager) = (folder.path().join("krl.db"), ServiceManager::new(folder.path()));
     let mut command = program();
-    command.arg("serve").arg("--store").arg(&store).env("NOTIFY_SOCKET", &path);
-    let serving = Serving::start_by(&mut command);
-    assert_eq!(said(), "READY=1\n");
+    let serving = Serving::start_by(manager.runs(command.arg("serve").arg("--store").arg(&store)));
+    let status = format!("STATUS=serves at {}", serving.address);
+    assert_eq!(manager.next(), ["READY=1", &status]);
     serving.signal(&["TERM"]);
-    assert_eq!(said(), "STOPPING=1\n");
+    assert_eq!(manager.next(), ["STOPPING=1"]);
     assert_eq!(serving.ended().status.code(), Some(0));
 }

@@ -4,7 +4,7 @@ mod cluster;
 mod common;
 
 use cluster::{Cluster, free_address};
-use common::{Serving, errors, lock_file, program, until};
+use common::{ServiceManager, Serving, errors, lock_file, program, until};
 use krl::{Client, Outcome, Refused, Servers, Value};
 use std::net::TcpListener;
 use std::process::Command;
@@ -82,6 +82,25 @@ fn a_server_that_stops_in_order_gives_its_place_at_once() {
     assert_eq!(first.ended().status.code(), Some(0));
     // That is half of the lease at most.
     until("the second one serves", || second.get("/readyz").0 == 200);
+}
+
+/// A service manager ends a service that does not say in time that it has started.
+#[test]
+fn a_service_manager_is_told_that_a_server_stands_by() {
+    let Some(cluster) = Cluster::start() else { return };
+    let folder = tempfile::tempdir().unwrap();
+    let manager = ServiceManager::new(folder.path());
+    let first = Serving::start_by(&mut over(&cluster, "managed"));
+    let mut command = over(&cluster, "managed");
+    let second = Serving::start_until(manager.runs(&mut command), "stands by");
+    let stands_by = "STATUS=stands by: the server at 127.0.0.1:0 serves";
+    assert_eq!(manager.next(), ["READY=1", stands_by]);
+    first.signal(&["TERM"]);
+    let told = manager.next();
+    assert_eq!(told[0], "READY=1");
+    assert!(told[1].starts_with("STATUS=serves at 127.0.0.1:"), "{told:?}");
+    second.signal(&["TERM"]);
+    assert_eq!(manager.next(), ["STOPPING=1"]);
 }
 
 #[test]

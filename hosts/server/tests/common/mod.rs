@@ -4,6 +4,7 @@ use krl::{Address, Client};
 use serde_json::Value;
 use std::io::{BufRead, BufReader, Read, Write};
 use std::net::TcpStream;
+use std::os::unix::net::UnixDatagram;
 use std::path::{Path, PathBuf};
 use std::process::{Child, Command, ExitStatus, Output, Stdio};
 use std::thread::{self, JoinHandle};
@@ -132,6 +133,33 @@ impl Serving {
         let (_, page) = self.get("/metrics");
         let value = page.lines().find_map(|line| line.strip_prefix(name)?.strip_prefix(' '));
         value.expect(&page).parse().unwrap()
+    }
+}
+
+/// A service manager, which is told the state of a service.
+pub struct ServiceManager {
+    socket: UnixDatagram,
+    path: PathBuf,
+}
+
+impl ServiceManager {
+    pub fn new(folder: &Path) -> ServiceManager {
+        let path = folder.join("notify");
+        let socket = UnixDatagram::bind(&path).unwrap();
+        socket.set_read_timeout(Some(Duration::from_secs(30))).unwrap();
+        ServiceManager { socket, path }
+    }
+
+    /// Has the service of this command tell its state here.
+    pub fn runs<'c>(&self, command: &'c mut Command) -> &'c mut Command {
+        command.env("NOTIFY_SOCKET", &self.path)
+    }
+
+    /// What the service says next, as lines.
+    pub fn next(&self) -> Vec<String> {
+        let mut text = [0; 1000];
+        let length = self.socket.recv(&mut text).unwrap();
+        std::str::from_utf8(&text[..length]).unwrap().lines().map(Into::into).collect()
     }
 }
 
