@@ -50,7 +50,7 @@ pub struct BenchWords {
     /// The least key of these rows
     #[arg(long, value_name = "KEY", default_value_t = 0)]
     pub first_key: u64,
-    /// Which keys are read and written: uniform, or zipf[:EXPONENT], as zipf:1.0
+    /// Which keys are read and written: uniform, zipf, or zipf:EXPONENT, as zipf:1.5
     #[arg(long, value_name = "SKEW", default_value = "uniform")]
     pub skew: Skew,
     /// Rows of each read
