@@ -149,6 +149,18 @@ impl Write {
     }
 }
 
+impl Change {
+    /// How many rows a table has behind the change that had so many before.
+    pub(crate) fn rows_after(&self, before: u64) -> u64 {
+        let Change::Judged { write, outcome: Outcome::Applied, .. } = self else { return before };
+        match write {
+            Write::Insert(_) => before + 1,
+            Write::Put(_) => before,
+            Write::Delete(_) => before.saturating_sub(1),
+        }
+    }
+}
+
 impl Outcome {
     /// Each outcome, in the order of their numbers from 1.
     pub(crate) const ALL: [Outcome; 5] =
@@ -174,5 +186,34 @@ impl Outcome {
 impl fmt::Display for Outcome {
     fn fmt(&self, f: &mut fmt::Formatter<'_>) -> fmt::Result {
         fmt::Debug::fmt(self, f)
+    }
+}
+
+#[cfg(test)]
+mod tests {
+    use super::*;
+
+    #[test]
+    fn the_rows_that_are_counted_are_those_of_the_table() {
+        let row = |key| Row { key, value: Value::from(key) };
+        let judged = |write, outcome| Change::Judged { client: 3, number: 1, write, outcome };
+        let mut table = Snapshot::default();
+        let mut rows = 0;
+        for (change, count) in [
+            (Change::Started { epoch: 1 }, 0),
+            (Change::Registered { client: 3, incarnation: 1 }, 0),
+            (judged(Write::Insert(row(1)), Outcome::Applied), 1),
+            (judged(Write::Insert(row(2)), Outcome::NotHeld), 1),
+            (judged(Write::Insert(row(2)), Outcome::Applied), 2),
+            (judged(Write::Insert(row(2)), Outcome::Exists), 2),
+            (judged(Write::Put(row(1)), Outcome::Applied), 2),
+            (judged(Write::Delete(7), Outcome::Absent), 2),
+            (judged(Write::Delete(1), Outcome::Applied), 1),
+            (Change::Left { client: 3 }, 1),
+        ] {
+            table.apply(&change);
+            rows = change.rows_after(rows);
+            assert_eq!((rows, table.rows.len() as u64), (count, count), "{change:?}");
+        }
     }
 }

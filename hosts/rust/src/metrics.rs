@@ -54,6 +54,7 @@ impl Page {
     fn gauges(&mut self, status: &Status, since_last_turn: Duration) {
         let mut gauge = |name: &str, help: &str, value: u64| self.one(name, "gauge", help, value);
         gauge("krl_epoch", "How many times a server has started on this store", status.epoch);
+        gauge("krl_rows", "The rows of the table", status.rows);
         gauge("krl_room_rows", "The most rows of the table", status.room.rows() as u64);
         gauge(
             "krl_serving",
@@ -223,6 +224,7 @@ mod tests {
         };
         let status = Status {
             epoch: 4,
+            rows: 5,
             missing: vec![1],
             connected: vec![0, 3],
             waits: vec![wait],
@@ -244,6 +246,7 @@ mod tests {
         for line in [
             "krl_build_info{version=\"0.1.0\"} 1",
             "# TYPE krl_epoch gauge\nkrl_epoch 4",
+            "# TYPE krl_rows gauge\nkrl_rows 5",
             "# TYPE krl_room_rows gauge\nkrl_room_rows 65536",
             "krl_serving 0",
             "krl_last_turn_seconds 0.03",
@@ -289,6 +292,6 @@ mod tests {
                 assert!(helped.contains(family(line)), "{line}");
             }
         }
-        assert_eq!(helped.len(), 29);
+        assert_eq!(helped.len(), 30);
     }
 }

@@ -141,7 +141,7 @@ impl Server {
         let (stored, heard) = ((store, history), (connections, asked));
         let shared = Arc::clone(&timings);
         let events = EventLoop::new(server, stored, heard, table, shared, epoch, log);
-        let events = events.of_shard(shard).of_room(room);
+        let events = events.of_shard(shard).of_table(rows, room);
         let thread = thread::Builder::new().name("krl-server".into());
         let thread = thread.spawn(move || events.run_to_the_end(&shown))?;
         Ok(Server { address, room, requests, status, timings, thread: Some(thread) })

@@ -9,6 +9,8 @@ use std::time::Duration;
 pub struct Status {
     /// How many times a server has started on this store.
     pub epoch: u64,
+    /// The rows of the table.
+    pub rows: u64,
     /// For how many rows the server has room.
     pub room: Room,
     /// It answers requests. Otherwise it waits for the reports of the clients in `missing`.
@@ -132,8 +134,8 @@ impl fmt::Display for Status {
             "messages: {taken} taken, {sent} sent, {refused} refused, {denied} denied, {held_back} \
              held back"
         )?;
-        let Status { changes, commits, room, .. } = self;
-        writeln!(f, "store: {changes} changes in {commits} transactions, room for {room} rows")
+        let Status { rows, room, changes, commits, .. } = self;
+        writeln!(f, "store: {changes} changes in {commits} transactions, {rows} rows of {room}")
     }
 }
 
@@ -152,6 +154,7 @@ mod tests {
         };
         Status {
             epoch: 4,
+            rows: 5,
             missing: vec![1],
             connected: vec![0, 3],
             waits: vec![wait],
@@ -168,7 +171,7 @@ mod tests {
         );
         assert!(text.contains("client 3 waits for 0, 2: RangeX-X at 10, for 40 ms\n"));
         assert!(text.contains("client 2 holds 7 slots\n"));
-        assert!(text.ends_with("store: 0 changes in 0 transactions, room for 65536 rows\n"));
+        assert!(text.ends_with("store: 0 changes in 0 transactions, 5 rows of 65536\n"));
         assert!(!text.contains("ALARM") && !text.contains("leases"));
         let leased = Status {
             longest_lease: Duration::from_secs(10),

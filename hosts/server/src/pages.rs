@@ -221,6 +221,7 @@ fn as_json(status: &Status, state: &State) -> Page {
         "role": state.word(),
         "serves_since": state.since(),
         "epoch": status.epoch,
+        "rows": status.rows,
         "room": status.room.rows(),
         "phase": if status.is_serving { "serving" } else { "recovering" },
         "failure": status.failure,
@@ -341,6 +342,7 @@ mod tests {
         let holdings = vec![HeldSlots { client: 2, slots: 7 }];
         let status = Status {
             epoch: 4,
+            rows: 5,
             waits: vec![wait],
             holdings,
             commits: 9,
@@ -350,7 +352,7 @@ mod tests {
         let page = as_json(&status, &State::Starts);
         let value: serde_json::Value = serde_json::from_str(&page.text).unwrap();
         assert_eq!((&value["epoch"], &value["room"]), (&json!(4), &json!(65_536)));
-        assert_eq!(value["phase"], "recovering");
+        assert_eq!((&value["rows"], &value["phase"]), (&json!(5), &json!("recovering")));
         assert_eq!(value["commits_total"], 9);
         assert_eq!((&value["unleased"], &value["evicted_total"]), (&json!([6]), &json!(0)));
         assert_eq!(value["waits"][0]["waits_for"], json!([0, 2]));

@@ -1,7 +1,7 @@
 //! A server with room for a number of rows that its operator names.
 mod common;
 
-use common::{Ended, Serving, errors, program, run, text};
+use common::{Ended, Serving, errors, program, run, text, until};
 use krl::{Client, Outcome, Value};
 use std::io::{BufRead, BufReader};
 use std::path::Path;
@@ -60,6 +60,35 @@ fn shown_to_the_end(serving: Serving) -> (usize, Ended) {
     let room = shown(&serving);
     serving.signal(&["TERM"]);
     (room, serving.ended())
+}
+
+/// A server counts the rows of its table, also of one that it finds in its store.
+#[test]
+fn the_rows_of_the_table_are_shown() {
+    let folder = tempfile::tempdir().unwrap();
+    let (store, lock) = (folder.path().join("krl.db"), folder.path().join("client.lock"));
+    let serving = serve(&store, "100");
+    let shows = |serving: &Serving, rows: u64| {
+        let line = format!("\nkrl_rows {rows}\n");
+        until(&format!("{rows} rows"), || serving.get("/metrics").1.contains(&line));
+    };
+    let client = join(&serving, &lock);
+    for key in 0..5 {
+        assert_eq!(client.insert(key, Value::from(key)), Ok(Outcome::Applied));
+    }
+    assert_eq!(client.insert(4, Value::from(9)), Ok(Outcome::Exists));
+    assert_eq!(client.put(4, Value::from(9)), Ok(Outcome::Applied));
+    assert_eq!(client.delete(2), Ok(Outcome::Applied));
+    assert_eq!(client.delete(2), Ok(Outcome::Absent));
+    shows(&serving, 4);
+    client.leave().unwrap();
+    serving.signal(&["TERM"]);
+    serving.ended();
+    let serving = serve(&store, "100");
+    shows(&serving, 4);
+    let page = serving.get("/status.json").1;
+    assert!(page.contains("\"rows\": 4"), "{page}");
+    assert!(serving.get("/status").1.contains("4 rows of 100\n"));
 }
 
 fn checked(store: &Path) -> String {

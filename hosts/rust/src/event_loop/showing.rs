@@ -7,8 +7,9 @@ use std::sync::{Mutex, PoisonError};
 use std::time::Duration;
 
 impl<S: Store> EventLoop<S> {
-    /// From now on it shows that the server has this room.
-    pub(crate) fn of_room(mut self, room: Room) -> EventLoop<S> {
+    /// From now on it shows how many rows the table has, and for how many there is room.
+    pub(crate) fn of_table(mut self, rows: usize, room: Room) -> EventLoop<S> {
+        self.status.rows = rows as u64;
         self.status.room = room;
         self
     }
