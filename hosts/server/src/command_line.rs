@@ -4,7 +4,7 @@ use crate::settings::StorePlace;
 use clap::{Args, Parser, Subcommand, ValueEnum};
 use std::path::PathBuf;
 
-/// A key-range lock server over an SQLite file.
+/// A key-range lock server over a file of SQLite, a cluster of etcd, or PostgreSQL.
 #[derive(Debug, Parser)]
 #[command(
     name = "krl-server",
@@ -39,6 +39,7 @@ Examples:
       Serves clients of other machines, which show certificates of the authority
   krl-server serve --config /etc/krl/krl.toml
   krl-server status
+  krl-server health --ready
   krl-server locks 10 20
   krl-server backup 127.0.0.1:7401 /var/lib/krl/monday.db
   krl-server check /var/lib/krl/monday.db
@@ -62,6 +63,22 @@ pub enum Command {
         /// Print it as JSON
         #[arg(long)]
         json: bool,
+    },
+    /// Ask whether a server is alive, or whether it is ready: the exit status says so
+    #[command(long_about = "\
+Ask whether a server is alive, or whether it is ready: the exit status says so.
+
+It is 0 if that is so, and 1 if not, or if the server gives no answer within five seconds. A server
+that stands by, or waits for reports of clients, is alive and not ready.")]
+    Health {
+        /// The server's status port, with tls: before it if it serves by TLS
+        #[arg(default_value = crate::settings::STATUS)]
+        address: String,
+        #[command(flatten)]
+        tls: TlsOptions,
+        /// Ask whether it answers requests of clients, and not only whether its loop turns
+        #[arg(long)]
+        ready: bool,
     },
     /// Print who holds which slots of a range, in which mode, and who waits there
     #[command(long_about = "\

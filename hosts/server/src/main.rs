@@ -3,6 +3,7 @@
 mod backup;
 mod check;
 mod command_line;
+mod health;
 mod http;
 mod locks;
 mod log;
@@ -22,6 +23,7 @@ mod tls_files;
 
 use clap::{ArgMatches, CommandFactory, FromArgMatches};
 use command_line::{Command, CommandLine, ServeOptions, TlsOptions};
+use health::Asked;
 use http::StatusPort;
 use krl::{Servers, ShardBounds, StoreError};
 use settings::{BadSetting, Settings};
@@ -53,6 +55,10 @@ fn run(command: Command, matches: &ArgMatches) -> Result<ExitCode, Box<dyn Error
         Command::Config(options) => print!("{}", settings(&options, matches)?),
         Command::Status { address, tls, json } => {
             print!("{}", pages::fetch(&StatusPort::new(&address, &tls)?, json)?);
+        }
+        Command::Health { address, tls, ready } => {
+            let asked = if ready { Asked::Ready } else { Asked::Alive };
+            return health::ask(&StatusPort::new(&address, &tls)?, asked);
         }
         Command::Locks(options) => print!("{}", locks::ask(&options)?),
         Command::Evict { address, tls, number, lock_file, shard } => {

@@ -23,8 +23,8 @@ const MAX_TURN: Duration = Duration::from_secs(1);
 /// The most bytes of an order.
 const MAX_ORDER: u64 = 1 << 16;
 
-/// How long `krl-server status` waits for an answer.
-const WAIT: Duration = Duration::from_secs(5);
+/// How long a command waits for an answer.
+pub const WAIT: Duration = Duration::from_secs(5);
 
 /// A page and its status.
 #[derive(Debug, PartialEq, Eq)]
