@@ -47,8 +47,8 @@ Exit status:
   2    a word can't be understood
   3    the server did not answer in time
   4    the client could not join
-  126  hold: the command can't be run; 127: there is no such command; else the
-       status is the command's
+  125  hold: the range was lost before the command had ended; 126: the command
+       can't be run; 127: there is no such command; else the command's status
   130  Ctrl-C ended it (watch: 0)
 
 Examples:

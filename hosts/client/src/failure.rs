@@ -2,6 +2,7 @@
 use krl::{JoinError, LockFileError, Refused, ShardRefused};
 use std::fmt;
 use std::io;
+use std::process::ExitStatus;
 
 /// The status of a process that a signal ended, less the signal's number.
 pub const SIGNALLED: u8 = 128;
@@ -23,6 +24,8 @@ pub enum Failure {
     Output(io::Error),
     /// A command that `hold` should run does not start.
     NotStarted(String, io::ErrorKind),
+    /// A command has ended so, and `hold` had lost the range by then.
+    NotHeld(ExitStatus),
 }
 
 impl Failure {
@@ -38,6 +41,7 @@ impl Failure {
             Failure::Refused(_) | Failure::Output(_) => 1,
             Failure::NotStarted(_, io::ErrorKind::NotFound) => 127,
             Failure::NotStarted(..) => 126,
+            Failure::NotHeld(_) => 125,
         }
     }
 
@@ -59,6 +63,12 @@ impl fmt::Display for Failure {
             | Failure::NotJoined(why)
             | Failure::NotStarted(why, _) => f.write_str(why),
             Failure::Output(error) => write!(f, "the output can't be written: {error}"),
+            Failure::NotHeld(ended) => write!(
+                f,
+                "the range was not held until the command had ended ({ended}): others may have \
+                 changed it meanwhile, since no word of the server came in time, or its store went \
+                 back"
+            ),
         }
     }
 }
@@ -101,7 +111,9 @@ impl Failure {
             Failure::Usage(why) => Failure::Usage(at(why)),
             Failure::NoAnswer(why) => Failure::NoAnswer(at(why)),
             Failure::NotJoined(why) => Failure::NotJoined(at(why)),
-            failure @ (Failure::Output(_) | Failure::NotStarted(..)) => failure,
+            failure @ (Failure::Output(_) | Failure::NotStarted(..) | Failure::NotHeld(_)) => {
+                failure
+            }
         }
     }
 

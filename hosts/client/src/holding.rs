@@ -11,14 +11,15 @@ use std::ops::Range;
 use std::os::unix::process::ExitStatusExt;
 use std::process::{Child, Command, ExitStatus};
 
-/// Pins the range, runs the command, and answers its exit status.
+/// Pins the range, runs the command, and answers its exit status. It fails if the range was not
+/// pinned until the command had ended.
 pub fn hold(
     context: &Context<'_>,
     keys: Range<u64>,
     for_update: bool,
     words: &[OsString],
 ) -> Result<u8, Failure> {
-    let _pin = context.session.table.pin(keys, for_update)?;
+    let pin = context.session.table.pin(keys, for_update)?;
     let [name, arguments @ ..] = words else {
         return Err(Failure::Usage("a command is expected behind --".into()));
     };
@@ -31,7 +32,7 @@ pub fn hold(
         let why = format!("the end of {} is not known: {error}", name.to_string_lossy());
         Failure::NotStarted(why, error.kind())
     })?;
-    Ok(status_of(status))
+    if pin.holds() { Ok(status_of(status)) } else { Err(Failure::NotHeld(status)) }
 }
 
 /// Waits for the command. Its process number is its own until no signal goes to it any more.

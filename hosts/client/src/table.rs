@@ -19,8 +19,18 @@ pub enum WeakTable {
 
 /// A pinned range, of one server or of several.
 pub enum TablePin<'t> {
-    One { _pin: Pin<'t> },
-    Sharded { _pin: ShardedPin<'t> },
+    One(Pin<'t>),
+    Sharded(ShardedPin<'t>),
+}
+
+impl TablePin<'_> {
+    /// Whether the range was pinned all the time until now.
+    pub fn holds(&self) -> bool {
+        match self {
+            TablePin::One(pin) => pin.holds(),
+            TablePin::Sharded(pin) => pin.holds(),
+        }
+    }
 }
 
 type Answer<T> = Result<T, ShardRefused>;
@@ -84,14 +94,10 @@ impl Table {
     /// Reads the range and pins it, for an update or to read it alone.
     pub fn pin(&self, keys: Range<u64>, for_update: bool) -> Answer<TablePin<'_>> {
         Ok(match (self, for_update) {
-            (Table::One(client), true) => TablePin::One { _pin: client.pin_for_update(keys)?.1 },
-            (Table::One(client), false) => TablePin::One { _pin: client.pin_for_read(keys)?.1 },
-            (Table::Sharded(client), true) => {
-                TablePin::Sharded { _pin: client.pin_for_update(keys)?.1 }
-            }
-            (Table::Sharded(client), false) => {
-                TablePin::Sharded { _pin: client.pin_for_read(keys)?.1 }
-            }
+            (Table::One(client), true) => TablePin::One(client.pin_for_update(keys)?.1),
+            (Table::One(client), false) => TablePin::One(client.pin_for_read(keys)?.1),
+            (Table::Sharded(client), true) => TablePin::Sharded(client.pin_for_update(keys)?.1),
+            (Table::Sharded(client), false) => TablePin::Sharded(client.pin_for_read(keys)?.1),
         })
     }
 

@@ -6,7 +6,7 @@ use nix::sys::signal::Signal;
 use std::path::Path;
 use std::thread;
 use std::time::Duration;
-use support::{World, signal, wait_for};
+use support::{Ended, World, signal, wait_for};
 
 #[test]
 fn the_status_is_the_commands() {
@@ -98,6 +98,28 @@ fn one_at_a_time_holds_a_range_for_update() {
     assert_eq!(most_at_once(&world, &["hold", "10", "20", "--update"]), 1);
     assert_eq!(most_at_once(&world, &["hold", "16", "18", "--update"]), 1, "no row is there");
     assert!(most_at_once(&world, &["hold", "10", "20"]) > 1, "without --update it is shared");
+}
+
+/// The command stops the program that holds the range for it, until the server has evicted that.
+#[test]
+fn a_range_that_is_lost_while_the_command_runs_is_told() {
+    let world = World::leased("lost", Duration::from_secs(2));
+    let [started, ends] = ["started", "ends"].map(|name| world.folder.join(name));
+    let script = format!(
+        "kill -STOP $PPID; touch {}; while [ -d {} -a ! -e {} ]; do sleep 0.05; done; kill -CONT $PPID",
+        started.display(),
+        world.folder.display(),
+        ends.display()
+    );
+    let program = world.spawn(&["hold", "10", "20", "--", "sh", "-c", &script]);
+    wait_for("the command runs", || started.exists());
+    wait_for("its client is evicted", || world.server.status().evicted == 1);
+    std::fs::write(&ends, "").unwrap();
+    let ended = Ended::from(program.wait_with_output().unwrap());
+    assert_eq!(ended.status, 125, "{ended:?}");
+    assert!(ended.errors.contains("was not held until the command had ended"), "{ended:?}");
+    assert!(ended.errors.contains("exit status: 0"), "{ended:?}");
+    assert_eq!(world.run(&["hold", "10", "20", "--", "sh", "-c", "exit 7"]).status, 7);
 }
 
 #[test]

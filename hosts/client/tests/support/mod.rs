@@ -1,6 +1,6 @@
 //! A server in this process, and the program as a process that asks it.
 #![allow(dead_code, reason = "each file of tests takes a part of this")]
-use krl::{Client, Listener, MemoryStore, Server};
+use krl::{Client, Leases, Listener, MemoryStore, Server, ServerBuilder};
 use nix::sys::signal::{Signal, kill};
 use nix::unistd::Pid;
 use std::io::Write;
@@ -34,6 +34,13 @@ impl World {
     /// A world whose server serves this shard.
     pub fn over(name: &str, shard: Option<&str>) -> World {
         World { server: start(shard), folder: World::folder_of(name) }
+    }
+
+    /// A world whose server grants leases of this length.
+    pub fn leased(name: &str, length: Duration) -> World {
+        let leases = Leases::of(length).unwrap();
+        let server = builder().leases(leases).start().unwrap();
+        World { server, folder: World::folder_of(name) }
     }
 
     /// A new folder of a test.
@@ -100,12 +107,15 @@ impl World {
 
 /// A server of this shard, or of all keys.
 pub fn start(shard: Option<&str>) -> Server {
-    let listener = Listener::bind(&"127.0.0.1:0".parse().unwrap()).unwrap();
-    let builder = Server::builder(listener, MemoryStore::default());
     match shard {
-        Some(shard) => builder.shard(shard.parse().unwrap()).start().unwrap(),
-        None => builder.start().unwrap(),
+        Some(shard) => builder().shard(shard.parse().unwrap()).start().unwrap(),
+        None => builder().start().unwrap(),
     }
+}
+
+fn builder() -> ServerBuilder<MemoryStore> {
+    let listener = Listener::bind(&"127.0.0.1:0".parse().unwrap()).unwrap();
+    Server::builder(listener, MemoryStore::default())
 }
 
 impl Drop for World {
