@@ -75,10 +75,14 @@ run() {
     hosts=$top/hosts
     case $1 in
     serve)
+        [ -x "$target/release/krl-server" ] || ! asks_for_help "$@" ||
+            tell_without_help krl-server './krl serve' docs/OPERATING.md
         build_if_older krl-server "$hosts/rust" "$hosts/server" "$hosts/etcd" "$hosts/postgres"
         ;;
     *)
         shift
+        [ -x "$target/release/krl-client" ] || ! asks_for_help "$@" ||
+            tell_without_help krl-client './krl client' hosts/client/README.md
         build_if_older krl-client "$hosts/rust" "$hosts/client"
         ;;
     esac
@@ -93,4 +97,22 @@ build_if_older() {
     program=$target/release/$host
     make_library
     is_newest "$program" "$library" "$hosts/Cargo.toml" "$@" || build_host "$host"
+}
+
+# Where help is asked for of a program that is not built, says where else it is: nobody waits for a proof to read it.
+tell_without_help() {
+    say "the help of $1 is its own, and it is not built yet: '$2' builds it, the first time in some 20 minutes"
+    say "until then see $3"
+    exit 1
+}
+
+# Whether one of the words before '--' asks for help.
+asks_for_help() {
+    for word; do
+        case $word in
+        --) return 1 ;;
+        -h | --help) return 0 ;;
+        esac
+    done
+    return 1
 }
