@@ -15,6 +15,7 @@ mod reshard;
 mod restore;
 mod role;
 mod sealed;
+mod seldom;
 mod serve;
 mod settings;
 mod stand_by;

@@ -1,12 +1,13 @@
 //! Servers over a cluster: one serves, and the others stand by.
 use crate::role::Role;
+use crate::seldom::Seldom;
 use crate::serve::{self, Ended, Signal};
 use crate::settings::{Key, Settings, key};
 use krl::{Access, Listener, ServeError, Store, StoreError};
 use krl_etcd::{Credentials, Election, EtcdAddress, EtcdStore, Standing, Term};
 use std::error::Error;
 use std::path::PathBuf;
-use std::time::Duration;
+use std::time::{Duration, Instant};
 
 /// Stands by, serves, and stands by again, until a signal comes.
 pub fn run(
@@ -21,8 +22,9 @@ pub fn run(
     let lease = settings.election_lease.value.duration();
     let election =
         Election::new(address.clone(), credentials.clone(), &advertised.to_string(), lease)?;
+    let unanswered = Seldom::default();
     loop {
-        let mut hears = |standing: Standing<'_>| hear(standing, role, signal);
+        let mut hears = |standing: Standing<'_>| hear(standing, role, signal, &unanswered);
         let Some(term) = election.campaign(&mut hears)? else { return Ok(()) };
         let mut store = EtcdStore::open(address, &credentials)?.with_commit_timeout(lease);
         store.concerns().iter().for_each(|concern| tracing::warn!("{concern}"));
@@ -38,11 +40,15 @@ pub fn run(
     }
 }
 
-/// Tells who serves, once, and answers whether to go on.
-fn hear(standing: Standing<'_>, role: &Role, signal: &Signal) -> bool {
+/// Tells who serves, once, or why nobody knows, now and then; and answers whether to go on.
+fn hear(standing: Standing<'_>, role: &Role, signal: &Signal, unanswered: &Seldom) -> bool {
     match standing {
         Standing::StandsBy(leader) if role.stands_by(leader) => serve::stands_by(leader),
-        Standing::Unanswered(why) => tracing::warn!(%why, "the store does not answer"),
+        Standing::Unanswered(why) => {
+            if let Some(passed_over) = unanswered.lets(Instant::now()) {
+                tracing::warn!(%why, passed_over, "the store does not answer");
+            }
+        }
         _ => {}
     }
     signal.name().is_none()

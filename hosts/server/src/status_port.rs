@@ -2,6 +2,7 @@
 use crate::pages::{self, Asker};
 use crate::role::Role;
 use crate::sealed;
+use crate::seldom::Seldom;
 use hyper::server::conn::Http;
 use hyper::service::service_fn;
 use krl::{Address, Listener, TlsConfig, TlsSession};
@@ -10,7 +11,7 @@ use std::io::{self, ErrorKind};
 use std::net::TcpListener;
 use std::sync::Arc;
 use std::thread;
-use std::time::Duration;
+use std::time::{Duration, Instant};
 use tokio::io::{AsyncRead, AsyncWrite};
 use tokio::net::TcpStream;
 use tokio::sync::Semaphore;
@@ -64,32 +65,37 @@ fn refused(why: &str) -> io::Error {
 async fn serve(listener: TcpListener, tls: Option<TlsConfig>, role: Role) -> io::Result<()> {
     let listener = tokio::net::TcpListener::from_std(listener)?;
     let places = Arc::new(Semaphore::new(MAX_CONNECTIONS));
+    let refused = Arc::new(Seldom::default());
     loop {
         let Ok(place) = Arc::clone(&places).acquire_owned().await else { return Ok(()) };
         let Ok((stream, peer)) = listener.accept().await else {
             sleep(PAUSE).await;
             continue;
         };
-        let (role, tls) = (role.clone(), tls.clone());
+        let (role, tls, refused) = (role.clone(), tls.clone(), Arc::clone(&refused));
         tokio::spawn(async move {
             let _place = place;
             match tls {
                 None => answer(stream, Asker::Unknown(peer.ip()), role).await,
-                Some(tls) => answer_operator(stream, &tls, role).await,
+                Some(tls) => answer_operator(stream, &tls, role, &refused).await,
             }
         });
     }
 }
 
 /// Answers by TLS, if an operator is at the other end. Anybody else is closed.
-async fn answer_operator(stream: TcpStream, tls: &TlsConfig, role: Role) {
+async fn answer_operator(stream: TcpStream, tls: &TlsConfig, role: Role, refused: &Seldom) {
     let Ok(session) = TlsSession::accept(tls) else { return };
-    let opened = timeout(HANDSHAKE, sealed::open(stream, session)).await;
-    match opened {
-        Ok(Ok((plain, peer))) if peer.is_operator() => answer(plain, Asker::Operator, role).await,
-        Ok(Ok((_, peer))) => tracing::warn!(%peer, "the status is for operators"),
-        Ok(Err(error)) => tracing::warn!(%error, "the status port refused a connection"),
-        Err(_) => {}
+    let why = match timeout(HANDSHAKE, sealed::open(stream, session)).await {
+        Ok(Ok((plain, peer))) if peer.is_operator() => {
+            return answer(plain, Asker::Operator, role).await;
+        }
+        Ok(Ok((_, peer))) => format!("{peer} is no operator"),
+        Ok(Err(error)) => error.to_string(),
+        Err(_) => return,
+    };
+    if let Some(passed_over) = refused.lets(Instant::now()) {
+        tracing::warn!(%why, passed_over, "the status port refused a connection");
     }
 }
 

@@ -6,8 +6,9 @@ mod common;
 use cluster::{Cluster, free_address};
 use common::{ServiceManager, Serving, errors, lock_file, program, until};
 use krl::{Client, Outcome, Refused, Servers, Value};
+use std::io::{BufRead, BufReader};
 use std::net::TcpListener;
-use std::process::Command;
+use std::process::{Command, Stdio};
 use std::time::Duration;
 
 /// How long a server may be silent.
@@ -129,4 +130,35 @@ fn an_address_that_is_taken_ends_a_server_that_would_serve() {
     let output = command.args(["--status", "off", "--listen", &address]).output().unwrap();
     assert_eq!(output.status.code(), Some(1));
     assert!(errors(&output).contains("in use"), "{}", errors(&output));
+}
+
+/// The moment of a line of the log, in seconds of its day.
+fn moment(event: &serde_json::Value) -> f64 {
+    let time = event["timestamp"].as_str().unwrap().trim_end_matches('Z');
+    let parts = time.split_once('T').unwrap().1.split(':');
+    parts.fold(0.0, |seconds, part| seconds * 60.0 + part.parse::<f64>().unwrap())
+}
+
+/// The cluster is asked ten times a second.
+#[test]
+fn a_store_that_does_not_answer_is_told_once_a_second() {
+    const DAY: f64 = 24.0 * 3600.0;
+    let store = format!("etcd://{}/none", free_address());
+    let words = ["serve", "--store", &store, "--listen", "127.0.0.1:0", "--status", "off"];
+    let mut command = program();
+    command.args(words).args(["--log-format", "json"]).stderr(Stdio::piped());
+    let mut process = command.spawn().unwrap();
+    let lines = BufReader::new(process.stderr.take().unwrap()).lines();
+    let events = lines.map(|line| serde_json::from_str(&line.unwrap()).unwrap());
+    let told: Vec<serde_json::Value> = events
+        .filter(|event: &serde_json::Value| event["message"] == "the store does not answer")
+        .take(3)
+        .collect();
+    process.kill().unwrap();
+    process.wait().unwrap();
+    assert_eq!(told.len(), 3);
+    for pair in told.windows(2) {
+        let between = (moment(&pair[1]) - moment(&pair[0])).rem_euclid(DAY);
+        assert!(between > 0.9, "{pair:?}");
+    }
 }

@@ -3,8 +3,11 @@ mod common;
 
 use common::{Serving, errors, lock_file, program, run, text, until};
 use krl::{Client, JoinError, Outcome, Servers, TlsConfig, Value};
+use std::io::{Read, Write};
+use std::net::TcpStream;
 use std::path::{Path, PathBuf};
 use std::process::{Command, Output};
+use std::time::Instant;
 
 /// A folder of certificates, and of all else that a test has.
 struct Setup {
@@ -97,6 +100,27 @@ fn operators_alone_see_the_status_and_order_backups() {
     // Whoever speaks no TLS hears no HTTP.
     let plain = run(&["status", at.strip_prefix("tls:").unwrap()]);
     assert_eq!(plain.status.code(), Some(1));
+}
+
+#[test]
+fn strangers_at_the_status_port_do_not_flood_the_log() {
+    let setup = Setup::new(&["server"]);
+    let serving = setup.serve();
+    let at = serving.status.strip_prefix("tls:").unwrap();
+    let began = Instant::now();
+    for _ in 0..50 {
+        let mut stranger = TcpStream::connect(at).unwrap();
+        stranger.write_all(b"GET /status HTTP/1.1\r\n\r\n").unwrap();
+        // It is closed, perhaps with a reason.
+        let _ = stranger.read_to_end(&mut Vec::new());
+    }
+    let took = began.elapsed().as_secs();
+    serving.signal(&["TERM"]);
+    let log = serving.ended().log;
+    let is_refusal =
+        |event: &&serde_json::Value| event["message"] == "the status port refused a connection";
+    let told = log.iter().filter(is_refusal).count() as u64;
+    assert!((1..=took + 2).contains(&told), "{told} times in {took} seconds: {log:?}");
 }
 
 #[test]
