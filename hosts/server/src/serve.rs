@@ -12,6 +12,7 @@ use signal_hook::consts::{SIGINT, SIGTERM};
 use signal_hook::flag::{register, register_conditional_shutdown};
 use signal_hook::low_level::signal_name;
 use std::error::Error;
+use std::fmt;
 use std::io;
 use std::path::Path;
 use std::process::ExitCode;
@@ -35,7 +36,9 @@ pub fn serve(settings: &Settings) -> ExitCode {
             ExitCode::SUCCESS
         }
         Err(error) => {
-            tracing::error!("{error}");
+            if !error.is::<HasFailed>() {
+                tracing::error!("{error}");
+            }
             ExitCode::FAILURE
         }
     }
@@ -142,6 +145,18 @@ pub fn stands_by(leader: &str) {
     tell(&[NotifyState::Ready, NotifyState::Status(&status)]);
 }
 
+/// A server had started, and has failed. The log has told so as it did.
+#[derive(Debug)]
+pub struct HasFailed(pub ServeError);
+
+impl fmt::Display for HasFailed {
+    fn fmt(&self, f: &mut fmt::Formatter<'_>) -> fmt::Result {
+        self.0.fmt(f)
+    }
+}
+
+impl Error for HasFailed {}
+
 /// How a server that did not fail has ended.
 #[derive(Clone, Copy, Debug, PartialEq, Eq)]
 pub enum Ended {
@@ -155,7 +170,7 @@ pub fn until_it_ends(
     server: Server,
     signal: &Signal,
     runs: impl Fn(Duration) -> bool,
-) -> Result<Ended, ServeError> {
+) -> Result<Ended, HasFailed> {
     let mut ended = Ended::BySignal;
     while server.is_running() && signal.name().is_none() {
         if !runs(LOOK) {
@@ -166,7 +181,7 @@ pub fn until_it_ends(
     if signal.name().is_some() {
         tell(&[NotifyState::Stopping]);
     }
-    server.stop()?;
+    server.stop().map_err(HasFailed)?;
     Ok(ended)
 }
 

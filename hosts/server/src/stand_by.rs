@@ -1,7 +1,7 @@
 //! Servers over a cluster: one serves, and the others stand by.
 use crate::role::Role;
 use crate::seldom::Seldom;
-use crate::serve::{self, Ended, Signal};
+use crate::serve::{self, Ended, HasFailed, Signal};
 use crate::settings::{Key, Settings, key};
 use krl::{Access, Listener, ServeError, Store, StoreError};
 use krl_etcd::{Credentials, Election, EtcdAddress, EtcdStore, Standing, Term};
@@ -31,10 +31,11 @@ pub fn run(
         let ended = serve_term(settings, store, (access, &term), signal, role);
         role.ends();
         match ended {
-            Ok(Ended::BySignal) => return Ok(()),
-            Ok(Ended::LeaseRanOut) => {
+            Ok(Ok(Ended::BySignal)) => return Ok(()),
+            Ok(Ok(Ended::LeaseRanOut)) => {
                 tracing::warn!("the lease in the store has run out: another server may serve");
             }
+            Ok(Err(HasFailed(error))) => stands_by_again(error).map_err(HasFailed)?,
             Err(error) => stands_by_again(error)?,
         }
     }
@@ -54,20 +55,20 @@ fn hear(standing: Standing<'_>, role: &Role, signal: &Signal, unanswered: &Seldo
     signal.name().is_none()
 }
 
-/// Serves while the lease runs.
+/// Serves while the lease runs, if the server starts.
 fn serve_term(
     settings: &Settings,
     store: impl Store + 'static,
     (access, term): (&Access, &Term),
     signal: &Signal,
     role: &Role,
-) -> Result<Ended, ServeError> {
+) -> Result<Result<Ended, HasFailed>, ServeError> {
     // Clients are refused at this address at all other times, and try the next one.
     let listener = Listener::bind(&settings.listen.value)?;
     let server = serve::start(settings, listener, (store, access))?;
     serve::ready(settings, &server, role);
     let runs = |wait: Duration| term.runs_after(wait);
-    serve::until_it_ends(server, signal, runs)
+    Ok(serve::until_it_ends(server, signal, runs))
 }
 
 /// Whether a server that ended so stands by again: it has lost the store, and not failed.

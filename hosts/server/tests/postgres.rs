@@ -42,8 +42,9 @@ fn an_older_server_ends_once_another_one_has_started() {
     let second = Serving::start_by(&mut over(&database));
     let ended = first.ended();
     assert_eq!(ended.status.code(), Some(1));
-    let told = ended.log.iter().any(|event| event.to_string().contains("another server"));
-    assert!(told, "{:?}", ended.log);
+    let errors: Vec<_> = ended.log.iter().filter(|event| event["level"] == "ERROR").collect();
+    assert_eq!(errors.len(), 1, "it is told once: {:?}", ended.log);
+    assert!(errors[0].to_string().contains("another server"), "{errors:?}");
     let client = join(&second.address, folder.path(), 4);
     assert_eq!(client.insert(1, Value::from(1)), Ok(Outcome::Applied));
     client.leave().unwrap();
