@@ -12,6 +12,7 @@ mod session;
 mod signals;
 mod table;
 mod values;
+mod waiting;
 mod watching;
 mod words;
 

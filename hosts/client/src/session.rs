@@ -3,6 +3,7 @@ use crate::arguments::Options;
 use crate::failure::Failure;
 use crate::place::Place;
 use crate::table::Table;
+use crate::waiting::told_if_long;
 use krl::{Client, JoinError, LockFileError, Servers, ShardJoinError, ShardMap, ShardedClient};
 use std::env;
 use std::fs::DirBuilder;
@@ -22,7 +23,14 @@ pub struct Session {
 impl Session {
     /// Joins by the greatest number of the options that is free.
     pub fn join(options: &Options) -> Result<Session, Failure> {
-        let mut sessions = Session::join_some(options, 1)?;
+        let waits_for = || {
+            let (timeout, server) = (humantime::format_duration(options.timeout), &options.server);
+            match &options.map {
+                None => format!("waiting for the server at {server}, for up to {timeout}"),
+                Some(map) => format!("waiting for the servers of {}", map.display()),
+            }
+        };
+        let mut sessions = told_if_long(waits_for, || Session::join_some(options, 1))?;
         sessions.pop().ok_or_else(|| none_is_free(options))
     }
 

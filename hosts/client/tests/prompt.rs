@@ -5,6 +5,7 @@ use nix::pty::{OpenptyResult, openpty};
 use nix::sys::signal::Signal;
 use std::fs::File;
 use std::io::{Read, Write};
+use std::net::TcpListener;
 use std::os::fd::{FromRawFd, RawFd};
 use std::process::{Child, Stdio};
 use std::sync::mpsc::{Receiver, channel};
@@ -27,9 +28,13 @@ fn file(descriptor: RawFd) -> File {
 
 impl Prompt {
     fn start(world: &World) -> Prompt {
+        Prompt::start_with(world, &[])
+    }
+
+    fn start_with(world: &World, words: &[&str]) -> Prompt {
         let OpenptyResult { master, slave } = openpty(None, None).unwrap();
         let (screen, terminal) = (file(master), file(slave));
-        let mut command = world.command(&[]);
+        let mut command = world.command(words);
         command.env("TERM", "xterm");
         command.stdin(Stdio::from(terminal.try_clone().unwrap()));
         command.stdout(Stdio::from(terminal.try_clone().unwrap()));
@@ -100,6 +105,20 @@ fn commands_are_typed_one_by_one() {
     // The key that goes up finds the lines of the prompt before.
     prompt.types("\x1b[A\x1b[A\r");
     prompt.shows("5=c");
+    // Before the next prompt the terminal itself would take the key.
+    prompt.shows("krl> ");
     prompt.types("\x04");
     assert_eq!(prompt.program.wait().unwrap().code(), Some(0));
+}
+
+#[test]
+fn a_user_is_told_for_what_the_program_waits() {
+    let world = World::new("waits-at-a-terminal");
+    // A socket that takes connections and says nothing.
+    let silent = TcpListener::bind("127.0.0.1:0").unwrap();
+    let at = silent.local_addr().unwrap().to_string();
+    let mut prompt = Prompt::start_with(&world, &["--server", &at, "--timeout", "3s", "get", "5"]);
+    prompt.shows(&format!("waiting for the server at {at}, for up to 3s"));
+    prompt.shows("did not answer in time");
+    assert_eq!(prompt.program.wait().unwrap().code(), Some(3));
 }
