@@ -365,11 +365,8 @@ impl<S: Store> EventLoop<S> {
                 history.commit();
             }
             self.timings.committed(changes.len(), began);
-            let before = self.status.rows;
-            self.status.rows = changes.iter().fold(before, |rows, change| change.rows_after(rows));
             self.log.committed(changes);
-            self.status.changes += changes.len() as u64;
-            self.status.commits += 1;
+            self.count(changes);
         }
         Ok(())
     }

@@ -8,7 +8,7 @@ use std::error::Error;
 use std::path::{Path, PathBuf};
 use std::time::Duration;
 
-/// How long a backup may take: a table has at most 65,536 rows.
+/// How long a backup may take: a table has at most 1,048,576 rows.
 pub const TIMEOUT: Duration = Duration::from_secs(60);
 
 /// The path at which a status port takes the order.

@@ -1,5 +1,6 @@
 //! What a server's loop shows of itself.
 use super::{EventLoop, SHOWN_FOR};
+use crate::change::Change;
 use crate::room::Room;
 use crate::status::Status;
 use crate::store::Store;
@@ -12,6 +13,14 @@ impl<S: Store> EventLoop<S> {
         self.status.rows = rows as u64;
         self.status.room = room;
         self
+    }
+
+    /// Counts what is committed.
+    pub(super) fn count(&mut self, changes: &[Change]) {
+        let rows = self.status.rows;
+        self.status.rows = changes.iter().fold(rows, |rows, change| change.rows_after(rows));
+        self.status.changes += changes.len() as u64;
+        self.status.commits += 1;
     }
 
     /// Sees whether the server serves, and until it does, whose reports are missing. One that
