@@ -8,8 +8,8 @@ use std::error::Error;
 use std::path::{Path, PathBuf};
 use std::time::Duration;
 
-/// How long a backup may take: a table has at most 1,048,576 rows.
-pub const TIMEOUT: Duration = Duration::from_secs(60);
+/// How long a backup may take: a table of 1,048,576 rows on a busy machine takes more than a minute.
+pub const TIMEOUT: Duration = Duration::from_secs(600);
 
 /// The path at which a status port takes the order.
 pub const PATH: &str = "/backup";

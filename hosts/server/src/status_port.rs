@@ -1,15 +1,19 @@
 //! The status port: HTTP in a thread of its own.
+use crate::backup;
 use crate::pages::{self, Asker};
 use crate::role::Role;
 use crate::sealed;
 use crate::seldom::Seldom;
 use hyper::server::conn::Http;
 use hyper::service::service_fn;
+use hyper::{Body, Request};
 use krl::{Address, Listener, TlsConfig, TlsSession};
 use std::convert::Infallible;
 use std::io::{self, ErrorKind};
 use std::net::TcpListener;
+use std::pin::pin;
 use std::sync::Arc;
+use std::sync::atomic::{AtomicBool, Ordering};
 use std::thread;
 use std::time::{Duration, Instant};
 use tokio::io::{AsyncRead, AsyncWrite};
@@ -26,7 +30,7 @@ const HEAD: Duration = Duration::from_secs(5);
 /// How long a hand-shake may take.
 const HANDSHAKE: Duration = Duration::from_secs(5);
 
-/// How long a connection may take in all.
+/// How long a connection may take in all, unless it orders a backup.
 const WHOLE: Duration = Duration::from_secs(90);
 
 /// How long to wait before the next try when the system has no room for another connection.
@@ -104,12 +108,18 @@ async fn answer(
     asker: Asker,
     role: Role,
 ) {
-    let answer = service_fn(|request| {
+    let is_order = AtomicBool::new(false);
+    let answer = service_fn(|request: Request<Body>| {
+        is_order.store(request.uri().path() == backup::PATH, Ordering::Relaxed);
         let role = role.clone();
         async move { Ok::<_, Infallible>(pages::answer(request, asker, role).await) }
     });
     let mut http = Http::new();
     http.http1_only(true).http1_keep_alive(false).http1_header_read_timeout(HEAD);
+    let mut served = pin!(http.serve_connection(stream, answer));
     // Who asks and goes away, or takes too long, gets no answer.
-    let _ = timeout(WHOLE, http.serve_connection(stream, answer)).await;
+    let is_late = timeout(WHOLE, &mut served).await.is_err();
+    if is_late && is_order.load(Ordering::Relaxed) {
+        let _ = timeout(backup::TIMEOUT, served).await;
+    }
 }
