@@ -106,7 +106,8 @@ fn a_range_that_is_lost_while_the_command_runs_is_told() {
     let world = World::leased("lost", Duration::from_secs(2));
     let [started, ends] = ["started", "ends"].map(|name| world.folder.join(name));
     let script = format!(
-        "kill -STOP $PPID; touch {}; while [ -d {} -a ! -e {} ]; do sleep 0.05; done; kill -CONT $PPID",
+        "kill -STOP $PPID; touch {}; while [ -d {} -a ! -e {} ]; do sleep 0.05; done; \
+         kill -CONT $PPID",
         started.display(),
         world.folder.display(),
         ends.display()

@@ -8,7 +8,7 @@ use std::error::Error;
 use std::path::{Path, PathBuf};
 use std::time::Duration;
 
-/// How long a backup may take: a table of 1,048,576 rows on a busy machine takes more than a minute.
+/// How long a backup may take: one of 1,048,576 rows may take minutes on a busy machine.
 pub const TIMEOUT: Duration = Duration::from_secs(600);
 
 /// The path at which a status port takes the order.
