@@ -5,3 +5,4 @@ pub mod Runs
 pub mod Interpreting
 pub mod RandomLemmas
 pub mod RandomReach
+pub mod RestLemmas

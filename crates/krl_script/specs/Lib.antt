@@ -5,3 +5,4 @@ pub mod Transcripts
 pub mod Fields
 pub mod Runs
 pub mod RandomRuns
+pub mod Rests

@@ -7,6 +7,8 @@ mod interpreter;
 mod progress;
 mod query;
 mod random;
+mod rest;
+mod rows;
 mod run;
 mod soundness;
 mod undelivered;
@@ -19,4 +21,5 @@ pub use krl_text::{
 };
 pub use progress::{Progress, Untold};
 pub use random::{busy_run, random_run};
+pub use rest::{Rest, bring_to_rest};
 pub use run::run_script;

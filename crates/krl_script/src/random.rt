@@ -1,9 +1,5 @@
 //! Random runs.
-ghost use Rattle.std.specs.Prelude.{◌≡◌, ◌≢◌, ℕ, ◌≤◌, ◌&&◌, ◌++◌, List, None, Some, true, IfOk};
-ghost use Rattle.std.specs.Prelude.{IfSome, IfNone, IsErrOf, filter, is_none, nat_le, nat_lt};
-ghost use Rattle.krl_blocks.specs.Laid.{flat};
-ghost use Rattle.krl_blocks.specs.Runs.{runs_of};
-ghost use Rattle.krl_messages.specs.Values as values;
+ghost use Rattle.std.specs.Prelude.{◌≡◌, ℕ, ◌≤◌, None, Some, true, IfOk, IsErrOf, is_none};
 ghost use Rattle.krl_world.specs.States.{index_of};
 ghost use Rattle.krl_world.specs.Fields.{meaning};
 ghost use Rattle.krl_world.specs.Promises.{IsCompatible, ScansIndex};
@@ -19,14 +15,14 @@ ghost use Rattle.krl_script.specs.RandomRuns.{Hurries, GoesAt, RunsRandomly, End
 ghost use Rattle.krl_script.specs.RandomRuns.{random_line, WroteLineOf};
 
 use crate::progress::Progress;
+use crate::rows::answers_index;
 use crate::soundness::least_unsound;
 use crate::undelivered::Undelivered;
-use krl_blocks::Entries;
 use krl_draws::{Generator, Observed};
 use krl_messages::Value;
 use krl_modes::END;
 use krl_text::{MAX_STEPS, ScriptFault, Sink, write_line};
-use krl_world::{Answer, Command, Refused, Step, World};
+use krl_world::{Answer, Refused, Step, World};
 use std::alloc::{AllocError, Global};
 
 // So many messages may wait between two steps of a busy run.
@@ -68,70 +64,6 @@ fn opening(alloc: Global) -> Result<Vec<(u64, Value)>, AllocError>
     entries.push((10, Value::from_u64(1)))?;
     entries.push((20, Value::from_u64(2)))?;
     Ok(entries)
-}
-
-// The rows behind those of the entries with keys from lo on below hi; None where the rows do not
-// begin with them.
-fn rows_behind<'a>(
-    entries: &[(u64, Value)],
-    rows: &'a [(u64, Value)],
-    lo: u64,
-    hi: u64,
-) -> Option<&'a [(u64, Value)]>
-    ensures some { IfSome result
-        (λ rest. rows.now ≡ filter (λ e. nat_le lo e.0 && nat_lt e.0 hi) entries.now ++ rest.now) }
-    ensures none { IfNone result ((rest : List (ℕ × values.Value))
-        → rows.now ≢ filter (λ e. nat_le lo e.0 && nat_lt e.0 hi) entries.now ++ rest) }
-{
-    let mut left = rows;
-    for entry in entries {
-        if entry.0 < lo || entry.0 >= hi {
-            continue;
-        }
-        match left.split_first() {
-            Some((row, rest)) if *row == *entry => left = rest,
-            _ => return None,
-        }
-    }
-    Some(left)
-}
-
-// Whether these rows are the entries with keys from lo on below hi.
-fn are_range(entries: &Entries<'_, Value>, rows: &[(u64, Value)], lo: u64, hi: u64) -> bool
-    ensures sound { rows.now ≡ filter
-        (λ e. nat_le lo e.0 && nat_lt e.0 hi) (flat (runs_of entries.now))
-        → result ≡ true }
-    ensures looks { result ≡ true
-        → rows.now ≡ filter (λ e. nat_le lo e.0 && nat_lt e.0 hi) (flat (runs_of entries.now)) }
-{
-    let mut left = rows;
-    for i in 0..entries.len() {
-        match rows_behind(entries.get(i), left, lo, hi) {
-            None => return false,
-            Some(rest) => left = rest,
-        }
-    }
-    left.is_empty()
-}
-
-// Whether what a step answered is what the index has, where it is a scan's rows.
-fn answers_index(world: &World, step: Step, outcome: &Result<Answer, Refused>) -> bool
-    ensures sound { ScansIndex (index_of (meaning world.now)) step outcome.now → result ≡ true }
-    ensures looks { result ≡ true → ScansIndex (index_of (meaning world.now)) step outcome.now }
-{
-    let Step::Command(_, command) = step else {
-        return true;
-    };
-    let Command::Scan { lo, hi } = command else {
-        return true;
-    };
-    let Ok(answer) = outcome else {
-        return true;
-    };
-    let Answer::Rows(rows) = answer else {
-        return true;
-    };
-    are_range(&world.index(), rows.as_slice(), lo, hi)
 }
 
 // A message that the step delivered waits no more.

@@ -3,7 +3,7 @@ use Rattle.krl_blocks.specs.Runs.{runs_of}
 use Rattle.krl_world.specs.States.{index_of}
 use Rattle.krl_world.specs.Fields.{meaning}
 use Rattle.krl_script.proofs.RandomLemmas.{range_answered, answered_range}
-use Rattle.krl_script.proofs.random.answers_index.Goals as goal
+use Rattle.krl_script.proofs.rows.answers_index.Goals as goal
 
 pub returns-clause-sound : goal.returns-clause-sound
 returns-clause-sound c =

@@ -4,7 +4,7 @@ use Rattle.krl_blocks.specs.Laid.{flat}
 use Rattle.krl_blocks.specs.Runs.{runs_of}
 use Rattle.krl_messages.specs.Values.{Value}
 use Rattle.krl_script.proofs.RandomLemmas.{runs_must, runs_go_on}
-use Rattle.krl_script.proofs.random.are_range.Goals as goal
+use Rattle.krl_script.proofs.rows.are_range.Goals as goal
 
 pub returns-in-None-clause-sound : goal.returns-in-None-clause-sound
 returns-in-None-clause-sound c = λ all.

@@ -2,8 +2,8 @@ use Rattle.std.proofs.Common.{◌&&◌, ℕ, nat_le, nat_lt, length, ap, arith}
 use Rattle.krl_messages.specs.Values.{Value}
 use Rattle.krl_world.proofs.Promises.Bounded.{within_span}
 use Rattle.krl_script.proofs.RandomLemmas.{row_must, range_goes_on, other_first, same_first}
-use Rattle.krl_script.proofs.random.rows_behind.Goals.{in_default-via-in-Some+else-eq, in_default-via-in_default}
-use Rattle.krl_script.proofs.random.rows_behind.Goals as goal
+use Rattle.krl_script.proofs.rows.rows_behind.Goals.{in_default-via-in-Some+else-eq, in_default-via-in_default}
+use Rattle.krl_script.proofs.rows.rows_behind.Goals as goal
 
 pub returns-in_default-clause-none : goal.returns-in_default-clause-none
 returns-in_default-clause-none c = λ rest all.

@@ -1,7 +1,7 @@
 use Rattle.std.proofs.Common.{◌≡◌, ◌&&◌, ◌++◌, ℕ, nat_le, nat_lt, take}
 use Rattle.std.specs.List.{filter}
 use Rattle.krl_messages.specs.Values.{Value}
-use Rattle.krl_script.proofs.random.rows_behind.Given as goal
+use Rattle.krl_script.proofs.rows.rows_behind.Given as goal
 
 abbrev pub invariant-loop-entry : goal.invariant-loop-entry
 invariant-loop-entry l =

@@ -3,7 +3,7 @@ use Rattle.std.specs.List.{filter}
 use Rattle.krl_blocks.specs.Laid.{flat}
 use Rattle.krl_blocks.specs.Runs.{runs_of}
 use Rattle.krl_messages.specs.Values.{Value}
-use Rattle.krl_script.proofs.random.are_range.Given as goal
+use Rattle.krl_script.proofs.rows.are_range.Given as goal
 
 abbrev pub invariant-loop-i : goal.invariant-loop-i
 invariant-loop-i l =
