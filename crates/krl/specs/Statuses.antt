@@ -5,6 +5,10 @@ use Rattle.krl_text.specs.declared.fault.ScriptFault.{ScriptFault}
 use Rattle.krl_script.specs.Runs.{Ran}
 use Rattle.krl_text.specs.Transfers.{Known}
 use Rattle.krl_script.specs.RandomRuns.{WroteFrontOf}
+use Rattle.krl_script.specs.Rests.{WroteRest}
+use Rattle.krl_script.specs.declared.rest.Rest.{Rest}
+use Rattle.krl_script.specs.declared.rest.Rest.TheVariants as rest
+use Rattle.krl_world.specs.States.{State}
 
 -- of a script: 0 where its last line was run, else 1
 abbrev pub script_status : Result (Unit {0}) ScriptFault → ℕ
@@ -17,6 +21,13 @@ random_status (Ok (w, true)) = 0
 random_status (Ok (w, false)) = 1
 random_status (Err fault) = 1
 
+-- of the rounds after it: 0 where nobody waits, 3 where somebody still does, else 1
+abbrev pub rest_status : Result Rest ScriptFault → ℕ
+rest_status (Ok (rest.Reached n)) = 0
+rest_status (Ok rest.Missed) = 3
+rest_status (Ok (rest.Unsound n)) = 1
+rest_status (Err fault) = 1
+
 -- A script was run, with this status.
 abbrev pub RanTo : Known → Known → Known → Known → ℕ → Type 0
 RanTo unread left before after status =
@@ -27,3 +38,16 @@ RanTo unread left before after status =
 abbrev pub DroveTo : Known → Known → List ℕ → ℕ → Type 0
 DroveTo before after line status =
     ((status ≡ 0) × Appends before after line) ⊎ ((status ≡ 1) × WroteFrontOf before after line)
+
+-- The line of good rounds that end in some world was written, or how far the writer got.
+abbrev pub RestedTo : Known → Known → ℕ → Type 0
+RestedTo before after status =
+    (w : State) × (ended : Result Rest ScriptFault) × WroteRest before after w ended
+    × (status ≡ rest_status ended)
+
+-- The line of a random run was written, and then that of its rounds; or a front of the first was,
+-- and the status is 1.
+abbrev pub CameToRest : Known → Known → List ℕ → ℕ → Type 0
+CameToRest before after line status =
+    ((mid : Known) × Appends before mid line × RestedTo mid after status)
+    ⊎ ((status ≡ 1) × WroteFrontOf before after line)

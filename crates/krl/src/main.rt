@@ -2,9 +2,9 @@
 //! world through steps that are drawn, and `krl nodes` runs a server and two clients on threads.
 #![tactic(auto)]
 
-ghost use Rattle.std.specs.Prelude.{◌≡◌, None, IfOk};
-ghost use Rattle.krl_script.specs.RandomRuns.{random_line};
-ghost use Rattle.krl.specs.Statuses.{RanTo, DroveTo, random_status};
+ghost use Rattle.std.specs.Prelude.{◌≡◌, None, true, IfOk};
+ghost use Rattle.krl_script.specs.RandomRuns.{random_line, WroteLineOf};
+ghost use Rattle.krl.specs.Statuses.{RanTo, DroveTo, CameToRest, random_status, rest_status};
 
 mod nodes;
 mod progress;
@@ -17,11 +17,13 @@ use krl_drawing::Form;
 use krl_nodes::{Gate, NodesReport, NotRun, run_nodes, run_nodes_by};
 use krl_picture::write_picture;
 use krl_script::{
-    AnyReader, AnyWriter, Progress, ScriptFault, Sink, Source, busy_run, random_run, read_text,
-    run_script,
+    AnyReader, AnyWriter, Progress, Rest, ScriptFault, Sink, Source, bring_to_rest, busy_run,
+    random_run, read_text, run_script,
 };
+use krl_world::World;
 use nodes::{Telling, tell};
 use progress::Told;
+use std::alloc::Global;
 use std::io;
 use std::io::IsTerminal;
 use std::process::ExitCode;
@@ -119,7 +121,11 @@ fn random(rt: &HostRuntime, options: &RandomOptions) -> u8 {
     let is_told = options.progress || rt.stderr().is_terminal();
     let mut progress = Told::new(rt, is_told, options.steps);
     let mut writer = AnyWriter(io::writer(rt));
-    random_over(rt, &mut writer, &mut progress, options)
+    if options.rest {
+        rest_over(rt, &mut writer, &mut progress, options)
+    } else {
+        random_over(rt, &mut writer, &mut progress, options)
+    }
 }
 
 // The exit status of a random run. Where its line can't be written, that is said on standard error.
@@ -132,6 +138,35 @@ fn status_of<H: Eprint + AllocGlobal, T>(rt: &H, ended: &Result<(T, bool), Scrip
     status::of_random(ended)
 }
 
+// The exit status of the rounds after it. Where their line can't be written, that is said too.
+fn status_of_rest<H: Eprint + AllocGlobal>(rt: &H, ended: &Result<Rest, ScriptFault>) -> u8
+    ensures { result ≡ rest_status ended.now }
+{
+    if let Err(fault) = ended {
+        say_of_run(rt, *fault);
+    }
+    status::of_rest(ended)
+}
+
+// Takes the steps, and writes the line of the run.
+fn drive<W: Sink, P: Progress>(
+    alloc: Global,
+    writer: &mut W,
+    progress: &mut P,
+    options: &RandomOptions,
+) -> Result<(World, bool), ScriptFault>
+    ensures sound { IfOk result (λ end. end.1 ≡ true) }
+    ensures wrote { WroteLineOf (W.contents writer.old) (W.contents writer.new)
+        (random_line options.now.seed options.now.steps None) result }
+{
+    let (seed, steps) = (options.seed, options.steps);
+    if options.busy {
+        busy_run(alloc, writer, progress, seed, steps)
+    } else {
+        random_run(alloc, writer, progress, seed, steps)
+    }
+}
+
 // Takes the steps, writes the line of the run, and says on standard error why it can't be written.
 fn random_over<H: Eprint + AllocGlobal, W: Sink, P: Progress>(
     rt: &H,
@@ -142,13 +177,26 @@ fn random_over<H: Eprint + AllocGlobal, W: Sink, P: Progress>(
     ensures { DroveTo (W.contents writer.old) (W.contents writer.new)
         (random_line options.now.seed options.now.steps None) result }
 {
-    let (seed, steps) = (options.seed, options.steps);
-    if options.busy {
-        let ended = busy_run(rt.alloc(), writer, progress, seed, steps);
-        status_of(rt, &ended)
-    } else {
-        let ended = random_run(rt.alloc(), writer, progress, seed, steps);
-        status_of(rt, &ended)
+    let ended = drive(rt.alloc(), writer, progress, options);
+    status_of(rt, &ended)
+}
+
+// The same, and then good rounds until nobody waits, with a line of their own.
+fn rest_over<H: Eprint + AllocGlobal, W: Sink, P: Progress>(
+    rt: &H,
+    writer: &mut W,
+    progress: &mut P,
+    options: &RandomOptions,
+) -> u8
+    ensures { CameToRest (W.contents writer.old) (W.contents writer.new)
+        (random_line options.now.seed options.now.steps None) result }
+{
+    match drive(rt.alloc(), writer, progress, options) {
+        Ok((mut world, true)) => {
+            let ended = bring_to_rest(rt.alloc(), writer, &mut world);
+            status_of_rest(rt, &ended)
+        }
+        ended => status_of(rt, &ended),
     }
 }
 

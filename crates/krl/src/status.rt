@@ -1,8 +1,8 @@
 //! The exit status of each ending.
 ghost use Rattle.std.specs.Prelude.{◌≡◌};
-ghost use Rattle.krl.specs.Statuses.{script_status, random_status};
+ghost use Rattle.krl.specs.Statuses.{script_status, random_status, rest_status};
 
-use krl_script::ScriptFault;
+use krl_script::{Rest, ScriptFault};
 
 /// Of a script: 0 where its last line was run, else 1.
 pub fn of_script(ended: &Result<(), ScriptFault>) -> u8
@@ -21,5 +21,16 @@ pub fn of_random<T>(ended: &Result<(T, bool), ScriptFault>) -> u8
     match ended {
         Ok((_, true)) => 0,
         Ok((_, false)) | Err(_) => 1,
+    }
+}
+
+/// Of the rounds after it: 0 where nobody waits, 3 where somebody still does, else 1.
+pub fn of_rest(ended: &Result<Rest, ScriptFault>) -> u8
+    ensures { result ≡ rest_status ended.now }
+{
+    match ended {
+        Ok(Rest::Reached(_)) => 0,
+        Ok(Rest::Missed) => 3,
+        Ok(Rest::Unsound(_)) | Err(_) => 1,
     }
 }

@@ -20,6 +20,8 @@ pub struct RandomOptions {
     pub steps: u64,
     /// Whether it delivers the oldest messages after each step, until few wait.
     pub busy: bool,
+    /// Whether it goes on by good rounds then, until nobody waits.
+    pub rest: bool,
     /// Whether it tells how far it is, wherever standard error goes.
     pub progress: bool,
     pub ghost in_range: { (seed ≤ END) × (1 ≤ steps) × (steps ≤ most_steps) },
@@ -87,7 +89,13 @@ four clients lock, write, scan, give back, start and stop, the server stops and 
 come late, again or never. After each step the run looks whether what every two clients hold is
 compatible at each point from 0 to 63, and whether the rows of a scan are those of the index. Then
 the line 'random SEED STEPS sound' is printed, and the status is 0. The same words give the same
-run. With --busy messages seldom come late, so the clients do more.";
+run. With --busy messages seldom come late, so the clients do more.
+
+With --rest a sound run goes on: all that is down starts, and good rounds follow, without crashes or
+further requests. In each every client ticks, and what was sent in the round before is delivered.
+Once nobody waits, 'rest after N rounds' is printed, and the status is 0. If somebody still waits
+after 1172 rounds, a line that begins with 'no rest after 1172 rounds' says who waits for what, and
+the status is 3.";
 
 const NODES: &str = "\
 A server runs on the entries 10=1 and 20=2, and clients 1 and 2 beside it, each on a thread of its
@@ -192,6 +200,11 @@ fn random_command<'a>(alloc: Global) -> Result<Command<'a>, AllocError> {
         ))?
         .arg(flag(
             alloc,
+            "rest",
+            "Go on after the steps until nobody waits, and say after how many rounds",
+        ))?
+        .arg(flag(
+            alloc,
             "progress",
             "Tell of every 10,000th step on standard error, also where it is no terminal",
         ))
@@ -229,6 +242,7 @@ fn random_options(matches: &ArgMatches) -> Option<RandomOptions> {
         seed,
         steps,
         busy: matches.get_flag("busy"),
+        rest: matches.get_flag("rest"),
         progress: matches.get_flag("progress"),
     })
 }

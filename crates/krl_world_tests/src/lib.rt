@@ -12,6 +12,8 @@ mod random;
 #[cfg(test)]
 mod refused;
 #[cfg(test)]
+mod rest;
+#[cfg(test)]
 mod scripts;
 #[cfg(test)]
 mod worlds;

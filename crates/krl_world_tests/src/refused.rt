@@ -4,7 +4,9 @@ use crate::again::{CALLS, index_len, takes};
 use crate::scripts::writer;
 use krl_messages::{Value, WriteOp};
 use krl_modes::Mode;
-use krl_script::{AnyWriter, ScriptFault, Untold, busy_run, random_run, run_script};
+use krl_script::{
+    AnyWriter, Rest, ScriptFault, Untold, bring_to_rest, busy_run, random_run, run_script,
+};
 use krl_world::{Answer, Command, Refused, Step, World};
 use std::alloc::{AllocError, Global};
 
@@ -163,12 +165,39 @@ fn drives(alloc: Global, is_busy: bool) -> Result<bool, bool> {
     }
 }
 
-// A run of all steps, one of the script, and random ones.
+// A world in which client 0 has asked for a lock.
+fn asked(alloc: Global) -> Option<World> {
+    let mut world = made_at_last(alloc)?;
+    for step in steps().iter().take(5) {
+        if !takes(&mut world, *step) {
+            return None;
+        }
+    }
+    Some(world)
+}
+
+// Whether it is answered: in three rounds the client asks again, the server grants, and the grant
+// arrives. An `Err` where the rounds ended for want of memory, with nothing written.
+fn rests(alloc: Global) -> Result<bool, bool> {
+    let Some(mut world) = asked(alloc) else {
+        return Ok(false);
+    };
+    let line = "rest after 3 rounds\n";
+    let mut taken = AnyWriter(writer(line, 1000, 1000));
+    match bring_to_rest(alloc, &mut taken, &mut world) {
+        Ok(rest) => { Ok(rest == Rest::Reached(3) && taken.0.is_right && taken.0.rest.is_empty()) }
+        Err(ScriptFault::OutOfMemory) => Err(taken.0.rest.len() == line.len()),
+        Err(_) => Ok(false),
+    }
+}
+
+// A run of all steps, one of the script, random ones, and rounds that bring a world to rest.
 enum Run {
     Steps,
     Script,
     Random,
     Busy,
+    Rest,
 }
 
 // Makes the run once.
@@ -178,6 +207,7 @@ fn run_once(alloc: Global, run: &Run) -> Result<bool, bool> {
         Run::Script => scripted(alloc),
         Run::Random => drives(alloc, false),
         Run::Busy => drives(alloc, true),
+        Run::Rest => rests(alloc),
     }
 }
 
@@ -208,4 +238,9 @@ fn a_script_is_run_again(rt: HostRuntime) {
 fn a_random_run_is_made_again(rt: HostRuntime) {
     assert!(rt; is_right_at_last(rt.alloc(), &Run::Random));
     assert!(rt; is_right_at_last(rt.alloc(), &Run::Busy));
+}
+
+#[test]
+fn a_world_is_brought_to_rest_again(rt: HostRuntime) {
+    assert!(rt; is_right_at_last(rt.alloc(), &Run::Rest));
 }
