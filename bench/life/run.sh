@@ -16,7 +16,7 @@ set -eu
 
 [ $# -gt 0 ] || set -- 100000 900000
 name=life
-crates='krl_modes krl_messages krl_queue krl_blocks krl_store krl_durable krl_table krl_cache krl_client krl_server'
+crates='krl_modes krl_messages krl_blocks krl_queue krl_durable krl_table krl_cache krl_client krl_server'
 
 . "$(dirname "$0")/../built.sh"
 

@@ -18,4 +18,4 @@
 #   report-ascending, report-descending, report-shuffled    a report of as many ranges as there are entries, side by
 #                      side, in this order; the twin does not tell these
 #   report-nested      the same with ranges of which each goes on to the end
-exec "$(dirname -- "$0")/../both_sizes" server krl_modes krl_messages krl_queue krl_blocks krl_store krl_durable krl_table krl_server
+exec "$(dirname -- "$0")/../both_sizes" server krl_modes krl_messages krl_blocks krl_queue krl_durable krl_table krl_server

@@ -13,3 +13,6 @@ pub mod Storing
 pub mod Changing
 mod Guesses
 pub mod Crosses
+pub mod Reserved
+pub mod DetachedBoxes
+pub mod Words

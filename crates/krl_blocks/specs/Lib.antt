@@ -1,5 +1,6 @@
 pub mod Entries
 pub mod Laid
 pub mod Near
+pub mod ReservedMaps
 pub mod Runs
 pub mod Shelves

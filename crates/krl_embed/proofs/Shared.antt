@@ -4,7 +4,7 @@ pub mod Messages
 pub mod Blocks
 pub mod Durable
 pub mod Queue
-pub mod Store
+pub mod ReservedMap
 pub mod Table
 pub mod Server
 pub mod Cache

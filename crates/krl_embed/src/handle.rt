@@ -3,7 +3,7 @@ ghost use Rattle.std.specs.Prelude.{◌≡◌, is_some, Some, None, IsNone, Matc
 
 use crate::endpoint::Endpoint;
 use crate::owned::Owned;
-use krl_queue::DetachedBox;
+use krl_blocks::DetachedBox;
 use std::alloc::Global;
 use std::mem::replace;
 

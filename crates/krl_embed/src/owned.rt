@@ -6,7 +6,7 @@ ghost use Rattle.std.specs.Coded.{coded_option};
 ghost use Rattle.krl_embed.specs.contracts.endpoint.Endpoint.{the_row};
 
 use crate::endpoint::Endpoint;
-use krl_queue::DetachedBox;
+use krl_blocks::DetachedBox;
 use std::alloc::Global;
 use std::marker::Model;
 use std::ptr::null_mut;

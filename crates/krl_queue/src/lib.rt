@@ -4,14 +4,12 @@
 //! first. No other call takes memory, and none can be refused.
 #![tactic(auto)]
 
-mod detached_box;
 mod list;
 mod node;
 mod node_chain;
 mod node_ptr;
 mod waiter;
 
-pub use detached_box::DetachedBox;
 pub use list::WaitList;
 pub use node::WaitNode;
 pub use waiter::Waiter;

@@ -3,11 +3,11 @@ ghost use Rattle.std.specs.Prelude.{◌≡◌, ◌↔◌, [], ◌∷◌, ◌++�
 ghost use Rattle.std.specs.Prelude.{MatchOption};
 ghost use Rattle.krl_queue.specs.Waiting.{first_of, without_first, up_to, beyond, goes_before};
 
-use crate::detached_box::DetachedBox;
 use crate::node::WaitNode;
 use crate::node_chain::NodeChain;
 use crate::node_ptr::{Index, NodePtr};
 use crate::waiter::Waiter;
+use krl_blocks::DetachedBox;
 use krl_modes::Point;
 use std::fmt;
 use std::marker::Model;

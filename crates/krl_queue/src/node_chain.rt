@@ -7,10 +7,10 @@ ghost use Rattle.krl_queue.specs.Waiting.{first_of, without_first};
 ghost use Rattle.krl_queue.specs.Segment.{Spot, spot, waiters, first_or, last_or, segment};
 ghost use Rattle.krl_queue.specs.Segment.{segment_lent};
 
-use crate::detached_box::DetachedBox;
 use crate::node::Node;
 use crate::node_ptr::{Index, NodePtr};
 use crate::waiter::Waiter;
+use krl_blocks::DetachedBox;
 use std::alloc::Global;
 use std::marker::{Model, PhantomData, Send, Sync};
 use std::ptr::null_mut;

@@ -3,7 +3,7 @@ use denote.Struct.Declared.{shape}
 use denote.Param.Send.{IsSend, struct_send, recorded_send, view_send, array_send, sendable}
 use Rattle.krl_modes.proofs.Crosses.{mode_row_sent}
 use Rattle.krl_queue.proofs.Crosses.{waiter_sent, wait_list_sent}
-use Rattle.krl_store.proofs.Crosses.{store_sent}
+use Rattle.krl_blocks.proofs.Reserved.Crosses.{reserved_map_sent}
 use Rattle.krl_table.specs.contracts.row.SlotRow as slot_row
 use Rattle.krl_table.specs.contracts.waiting.Waiting as waiting
 use Rattle.krl_table.specs.contracts.extent.Extent as extent
@@ -25,7 +25,7 @@ extents_sent = struct_send (shape extents.the_type) (array_send _ 64 extent_sent
 
 table_inside : IsSend table.TheInside.the_row
 table_inside = recorded_send _ _ (table.TheInside.the_type).to (table.TheInside.the_type).to_one
-    (struct_send (shape table.TheInside.the_type) (store_sent _ row_kept_sent, (waiting_sent, (extents_sent, tt))))
+    (struct_send (shape table.TheInside.the_type) (reserved_map_sent _ row_kept_sent, (waiting_sent, (extents_sent, tt))))
 
 pub table_sent : IsSend (table.the_field).row
 table_sent = view_send _ _ _ _ _ table_inside

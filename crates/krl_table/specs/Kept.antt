@@ -9,7 +9,7 @@ use Rattle.krl_modes.specs.Modes.{compatible, meet, needs_entry}
 use Rattle.krl_messages.specs.Members.{In}
 use Rattle.krl_queue.specs.declared.waiter.Waiter.{Waiter}
 use Rattle.krl_queue.specs.Waiting.{without_first}
-use Rattle.krl_store.specs.Stores.{Stored}
+use Rattle.krl_blocks.specs.ReservedMaps.{MapWithRoom}
 use Rattle.krl_durable.specs.Index.{Index, slot_of, is_slot}
 use Rattle.krl_table.specs.declared.row.SlotRow.{SlotRow}
 use Rattle.krl_table.specs.Rows.{Row, Rows, blank_row, mode_at, set_mode, is_compatible_in_row}
@@ -23,7 +23,7 @@ Kept = map.FinMap nat_cmp SlotRow
 
 -- a table: the kept rows, and how many there may be
 abbrev pub KeptTable : Type 0
-KeptTable = Stored SlotRow
+KeptTable = MapWithRoom SlotRow
 
 -- the mode of a client, in a row of modes
 abbrev pub mode_of : List Mode → ℕ → Mode
@@ -78,7 +78,7 @@ abbrev pub cleared_row : ℕ → Row → Row
 cleared_row c row = record { modes = set_mode row.modes c mode.N; queue = without_first c row.queue }
 
 -- a row can be kept there with no more memory
-abbrev pub HasRoom : Stored SlotRow → ℕ → Type 0
+abbrev pub HasRoom : MapWithRoom SlotRow → ℕ → Type 0
 HasRoom s n = map.get s.map n ≡ None → length (map.entries s.map) < s.room
 
 -- beside its own slot the waiter may take slot n, by the row there

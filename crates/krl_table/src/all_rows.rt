@@ -10,12 +10,12 @@ ghost use Rattle.krl_table.specs.Extents.{cleared_within};
 use crate::extent::Extent;
 use crate::row::SlotRow;
 use crate::row_ops;
+use krl_blocks::ReservedMap;
 use krl_modes::Mode;
-use krl_store::Store;
 
 /// Lowers the client's mode on each slot from `from` on below `hi`. It looks at the rows that are
 /// kept there, and at the one after them.
-pub(crate) fn lower(rows: &mut Store<SlotRow>, client: u64, from: u64, hi: u64, keep: Mode)
+pub(crate) fn lower(rows: &mut ReservedMap<SlotRow>, client: u64, from: u64, hi: u64, keep: Mode)
     requires used { (n : ℕ) (r : Kept) → map.get rows.old.map n ≡ Some r → row_of r ≢ blank_row }
     requires client { client < 64 }
     ensures all { IsAll (lowered_between from hi client keep) rows.old.map rows.new.map }
@@ -33,7 +33,7 @@ pub(crate) fn lower(rows: &mut Store<SlotRow>, client: u64, from: u64, hi: u64, 
 
 /// The client holds nothing on the slots of the extent, and its first waiter on each goes. It looks
 /// at the rows that are kept there, and at the one after them.
-pub(crate) fn clear(rows: &mut Store<SlotRow>, client: u64, extent: Extent)
+pub(crate) fn clear(rows: &mut ReservedMap<SlotRow>, client: u64, extent: Extent)
     requires used { (n : ℕ) (r : Kept) → map.get rows.old.map n ≡ Some r → row_of r ≢ blank_row }
     requires near { (n : ℕ) → END < n → map.get rows.old.map n ≡ None }
     requires client { client < 64 }

@@ -14,13 +14,13 @@ use crate::extents::Extents;
 use crate::row::SlotRow;
 use crate::row_ops;
 use crate::sweep::Sweep;
+use krl_blocks::ReservedMap;
 use krl_durable::Durable;
 use krl_messages::Pieces;
 use krl_modes::Mode;
-use krl_store::Store;
 
 /// Whether the mode is compatible with what all others hold on the slot.
-fn is_compatible_there(rows: &Store<SlotRow>, slot: u64, client: u64, mode: Mode) -> bool
+fn is_compatible_there(rows: &ReservedMap<SlotRow>, slot: u64, client: u64, mode: Mode) -> bool
     ensures { result ≡ is_compatible_there (rows_of rows.now.map) slot client mode }
 {
     match rows.get(slot) {
@@ -31,7 +31,7 @@ fn is_compatible_there(rows: &Store<SlotRow>, slot: u64, client: u64, mode: Mode
 
 /// Whether on each slot what is reported of it is compatible with what all others hold.
 pub(crate) fn all_compatible(
-    rows: &Store<SlotRow>,
+    rows: &ReservedMap<SlotRow>,
     durable: &Durable,
     client: u64,
     pieces: &Pieces,
@@ -55,7 +55,7 @@ pub(crate) fn all_compatible(
 
 /// Gives the client, which holds nothing, on each slot what is reported of it.
 pub(crate) fn settle(
-    rows: &mut Store<SlotRow>,
+    rows: &mut ReservedMap<SlotRow>,
     extents: &mut Extents,
     durable: &Durable,
     client: u64,

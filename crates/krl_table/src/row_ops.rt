@@ -11,12 +11,12 @@ ghost use Rattle.krl_table.specs.Calls.{grant_first, behind_first};
 ghost use Rattle.krl_table.specs.Rows.{blank_row, front_of, mode_at, set_mode};
 
 use crate::row::SlotRow;
+use krl_blocks::ReservedMap;
 use krl_modes::{Mode, Point};
 use krl_queue::{WaitNode, Waiter};
-use krl_store::Store;
 
 /// Takes the row of the slot out for a change; where there is none, a blank one.
-fn take(rows: &mut Store<SlotRow>, slot: u64) -> SlotRow
+fn take(rows: &mut ReservedMap<SlotRow>, slot: u64) -> SlotRow
     ensures row { row_of result ≡ rows_of rows.old.map slot }
     ensures others { (n : ℕ) → n ≢ slot → map.get rows.new.map n ≡ map.get rows.old.map n }
     ensures room { HasRoom rows.old slot → HasRoom rows.new slot }
@@ -32,7 +32,7 @@ fn take(rows: &mut Store<SlotRow>, slot: u64) -> SlotRow
 }
 
 /// Puts the row back, or none where it is blank now.
-fn put(rows: &mut Store<SlotRow>, slot: u64, row: SlotRow)
+fn put(rows: &mut ReservedMap<SlotRow>, slot: u64, row: SlotRow)
     requires { HasRoom rows.old slot }
     ensures set { IsSet rows.old.map rows.new.map slot (row_of row) }
     ensures room { rows.new.room ≡ rows.old.room }
@@ -45,7 +45,7 @@ fn put(rows: &mut Store<SlotRow>, slot: u64, row: SlotRow)
 }
 
 /// Whether the row there is blank, once the client's mode is lowered to this one.
-fn goes_blank(rows: &Store<SlotRow>, slot: u64, client: u64, keep: Mode) -> bool
+fn goes_blank(rows: &ReservedMap<SlotRow>, slot: u64, client: u64, keep: Mode) -> bool
     requires client { client < 64 }
     ensures { result ≡ true → with_mode (rows_of rows.now.map slot) client
         (meet (mode_at (rows_of rows.now.map) slot client) keep) ≡ blank_row }
@@ -58,7 +58,7 @@ fn goes_blank(rows: &Store<SlotRow>, slot: u64, client: u64, keep: Mode) -> bool
 
 /// Lowers the client's mode there to this one. A row that goes blank goes as it stands: no other
 /// row is put in its place meanwhile.
-pub(crate) fn lower(rows: &mut Store<SlotRow>, slot: u64, client: u64, keep: Mode)
+pub(crate) fn lower(rows: &mut ReservedMap<SlotRow>, slot: u64, client: u64, keep: Mode)
     requires there { IsSome (map.get rows.old.map slot) }
     requires client { client < 64 }
     ensures set { IsSet rows.old.map rows.new.map slot (with_mode (rows_of rows.old.map slot) client
@@ -75,7 +75,7 @@ pub(crate) fn lower(rows: &mut Store<SlotRow>, slot: u64, client: u64, keep: Mod
 }
 
 /// The client holds nothing there, and its first waiter goes.
-pub(crate) fn clear(rows: &mut Store<SlotRow>, slot: u64, client: u64)
+pub(crate) fn clear(rows: &mut ReservedMap<SlotRow>, slot: u64, client: u64)
     requires there { IsSome (map.get rows.old.map slot) }
     requires client { client < 64 }
     ensures set { IsSet rows.old.map rows.new.map slot (record {
@@ -90,7 +90,7 @@ pub(crate) fn clear(rows: &mut Store<SlotRow>, slot: u64, client: u64)
 }
 
 /// The client has this mode there from now on.
-pub(crate) fn set(rows: &mut Store<SlotRow>, slot: u64, client: u64, mode: Mode)
+pub(crate) fn set(rows: &mut ReservedMap<SlotRow>, slot: u64, client: u64, mode: Mode)
     requires room { HasRoom rows.old slot }
     requires client { client < 64 }
     ensures set { IsSet rows.old.map rows.new.map slot
@@ -103,7 +103,7 @@ pub(crate) fn set(rows: &mut Store<SlotRow>, slot: u64, client: u64, mode: Mode)
 }
 
 /// Puts the waiter behind all others there, or before them where its client holds a mode there.
-pub(crate) fn enqueue(rows: &mut Store<SlotRow>, slot: u64, node: WaitNode)
+pub(crate) fn enqueue(rows: &mut ReservedMap<SlotRow>, slot: u64, node: WaitNode)
     requires room { HasRoom rows.old slot }
     requires client { node.client < 64 }
     ensures set { IsSet rows.old.map rows.new.map slot (with_queue (rows_of rows.old.map slot)
@@ -116,7 +116,7 @@ pub(crate) fn enqueue(rows: &mut Store<SlotRow>, slot: u64, node: WaitNode)
 }
 
 /// The first waiter there gets what it wants, and waits no more.
-pub(crate) fn grant(rows: &mut Store<SlotRow>, slot: u64) -> Option<Waiter>
+pub(crate) fn grant(rows: &mut ReservedMap<SlotRow>, slot: u64) -> Option<Waiter>
     requires there { IsSome (map.get rows.old.map slot) }
     requires client { IfSome (front_of (rows_of rows.old.map slot).queue) (λ u. u.client < 64) }
     ensures set { IsSet rows.old.map rows.new.map slot
@@ -131,7 +131,7 @@ pub(crate) fn grant(rows: &mut Store<SlotRow>, slot: u64) -> Option<Waiter>
 }
 
 /// The waiter's client gets what it wants there.
-pub(crate) fn raise(rows: &mut Store<SlotRow>, slot: u64, waiter: &Waiter)
+pub(crate) fn raise(rows: &mut ReservedMap<SlotRow>, slot: u64, waiter: &Waiter)
     requires room { HasRoom rows.old slot }
     requires client { waiter.now.client < 64 }
     ensures set { IsSet rows.old.map rows.new.map slot (with_mode (rows_of rows.old.map slot)
@@ -144,7 +144,7 @@ pub(crate) fn raise(rows: &mut Store<SlotRow>, slot: u64, waiter: &Waiter)
 }
 
 /// Takes the first waiter out.
-pub(crate) fn drop_front(rows: &mut Store<SlotRow>, slot: u64) -> Option<Waiter>
+pub(crate) fn drop_front(rows: &mut ReservedMap<SlotRow>, slot: u64) -> Option<Waiter>
     requires there { IsSome (map.get rows.old.map slot) }
     ensures set { IsSet rows.old.map rows.new.map slot (with_queue (rows_of rows.old.map slot)
         (behind_first (rows_of rows.old.map slot).queue)) }
@@ -159,7 +159,7 @@ pub(crate) fn drop_front(rows: &mut Store<SlotRow>, slot: u64) -> Option<Waiter>
 
 /// Parts the row of the slot: the new row at the key, which its writer has alone, gets the waiters
 /// up to there.
-pub(crate) fn part(rows: &mut Store<SlotRow>, slot: u64, key: Point, client: u64)
+pub(crate) fn part(rows: &mut ReservedMap<SlotRow>, slot: u64, key: Point, client: u64)
     requires there { IsSome (map.get rows.old.map slot) }
     requires apart { key ≢ slot }
     requires room { HasRoom rows.old key }
@@ -181,7 +181,7 @@ pub(crate) fn part(rows: &mut Store<SlotRow>, slot: u64, key: Point, client: u64
 }
 
 /// Takes the row at the key out, and puts its waiters before those of the slot.
-pub(crate) fn join(rows: &mut Store<SlotRow>, key: u64, slot: u64)
+pub(crate) fn join(rows: &mut ReservedMap<SlotRow>, key: u64, slot: u64)
     requires gone { IsSome (map.get rows.old.map key) }
     requires kept { IsSome (map.get rows.old.map slot) }
     requires apart { key ≢ slot }

@@ -28,11 +28,11 @@ use crate::row::SlotRow;
 use crate::waiting::Waiting;
 use crate::{all_rows, reports, row_ops};
 use arrayvec::ArrayVec;
+use krl_blocks::ReservedMap;
 use krl_durable::{Durable, Room};
 use krl_messages::Pieces;
 use krl_modes::{Mode, Point, Span, TOP};
 use krl_queue::{WaitNode, Waiter};
-use krl_store::Store;
 use std::alloc::{AllocError, Global};
 use std::marker::Model;
 
@@ -48,21 +48,21 @@ use std::marker::Model;
 /// are compatible; each client has at most one waiter.
 #[derive(Drop)]
 pub struct Table {
-    rows: Store<SlotRow>,
+    rows: ReservedMap<SlotRow>,
     waiting: Waiting,
     extents: Extents,
 }
 
 impl Model for Table {
-    ghost use Rattle.krl_store.specs.Stores.{Stored, stored_code};
+    ghost use Rattle.krl_blocks.specs.ReservedMaps.{MapWithRoom, map_with_room_code};
     ghost use Rattle.krl_table.specs.declared.row.SlotRow.{SlotRow};
     ghost use Rattle.krl_table.specs.contracts.row.SlotRow as slot_row;
     ghost use Rattle.krl_table.specs.Kept.{IsSound, AreListed};
     ghost use Rattle.krl_table.specs.Extents.{AreWithin};
 
-    ghost Value = { Stored SlotRow };
+    ghost Value = { MapWithRoom SlotRow };
 
-    ghost coded = { stored_code slot_row.the_row.coded };
+    ghost coded = { map_with_room_code slot_row.the_row.coded };
 
     ghost view = { λ t. t.rows };
 
@@ -83,7 +83,7 @@ impl Table {
             → ((n : ℕ) → END ≤ n → map.get m n ≡ None) → IsOver m t.map) }
         ensures room { IfOk result (λ t. t.room ≡ suc room) }
     {
-        let rows = Store::with_room(alloc, room.get() + 1)?;
+        let rows = ReservedMap::with_room(alloc, room.get() + 1)?;
         Ok(Table {
             rows,
             waiting: Waiting::nobody(),

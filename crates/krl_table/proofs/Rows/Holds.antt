@@ -2,7 +2,7 @@
 use Rattle.krl_table.proofs.Names.{◌≡◌, ◌≢◌, ℕ, ◌+◌, ◌≤◌, ◌<◌, List, [], ◌∷◌, ◌++◌, length, None, refl, sym, ap, subst, ⊎_elim, append_assoc, length-append, arith, append-nil, cases_lt, get, mode_at}
 use Rattle.krl_table.proofs.Names.{Kept, rows_of, row_there}
 use Rattle.krl_modes.specs.declared.mode.Mode.TheVariants as mode
-use Rattle.krl_store.specs.Stores.{IsNextKey}
+use Rattle.krl_blocks.specs.ReservedMaps.{IsNextKey}
 use Rattle.krl_table.specs.Holds.{AreHeld, HoldsAt, IsNextHeld}
 
 -- no more slots than points were counted below this one

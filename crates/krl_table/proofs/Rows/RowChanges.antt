@@ -5,7 +5,7 @@ use Rattle.krl_table.proofs.Names.{get-remove, Mode, In, Waiter, SlotRow, Row, R
 use Rattle.std.proofs.Math.ListN.{replicate}
 use Rattle.std.specs.Cmp.{nat_cmp_total, unsigned_tied}
 use Rattle.krl_modes.specs.declared.mode.Mode.TheVariants as mode
-pub use Rattle.krl_store.proofs.Finding.{eq_cases}
+pub use Rattle.krl_blocks.proofs.Reserved.Finding.{eq_cases}
 
 -- Look-ups
 

@@ -3,7 +3,7 @@ use Rattle.krl_table.proofs.Names.{◌≡◌, ◌≢◌, ℕ, ◌≤◌, ◌<◌
 use Rattle.krl_table.proofs.Names.{Mode, meet, SlotRow, Row, blank_row, set_mode, Extent, Kept, row_of, row_there, rows_of, IsSet, IsAll, lowered_between, cleared_row, cleared_within, with_mode}
 use Rattle.std.specs.Prelude.{nat_lt, nat_le, nat_eq, if◌then◌else◌}
 use Rattle.krl_modes.specs.declared.mode.Mode.TheVariants as mode
-use Rattle.krl_store.specs.Stores.{IsNextKey}
+use Rattle.krl_blocks.specs.ReservedMaps.{IsNextKey}
 use Rattle.krl_table.proofs.Rows.RowChanges.{eq_cases}
 
 -- the rows below the point are changed, and the others are as they were

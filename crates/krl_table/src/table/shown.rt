@@ -10,8 +10,8 @@ ghost use Rattle.krl_table.specs.Rows.{mode_at};
 
 use super::Table;
 use crate::row::SlotRow;
+use krl_blocks::ReservedMap;
 use krl_modes::Mode;
-use krl_store::Store;
 
 impl Table {
     /// Whether the other client waits on the slot, and the client does not wait there before it.
@@ -45,7 +45,7 @@ impl Table {
 }
 
 // Whether the client holds a mode other than N on the slot.
-fn holds(rows: &Store<SlotRow>, slot: u64, client: u64) -> bool
+fn holds(rows: &ReservedMap<SlotRow>, slot: u64, client: u64) -> bool
     requires { client < 64 }
     ensures held { result ≡ true → mode_at (rows_of rows.now.map) slot client ≢ mode.N }
     ensures free { result ≡ false → mode_at (rows_of rows.now.map) slot client ≡ mode.N }
@@ -57,7 +57,7 @@ fn holds(rows: &Store<SlotRow>, slot: u64, client: u64) -> bool
 }
 
 // The first slot from this point on at which it does.
-fn next_held(rows: &Store<SlotRow>, client: u64, from: u64) -> Option<u64>
+fn next_held(rows: &ReservedMap<SlotRow>, client: u64, from: u64) -> Option<u64>
     requires near { (n : ℕ) → END < n → map.get rows.now.map n ≡ None }
     requires client { client < 64 }
     ensures { MatchOption result (AreHeld (rows_of rows.now.map) client from [])
@@ -74,7 +74,7 @@ fn next_held(rows: &Store<SlotRow>, client: u64, from: u64) -> Option<u64>
 }
 
 // At how many slots it does.
-fn count_held(rows: &Store<SlotRow>, client: u64) -> u64
+fn count_held(rows: &ReservedMap<SlotRow>, client: u64) -> u64
     requires near { (n : ℕ) → END < n → map.get rows.now.map n ≡ None }
     requires client { client < 64 }
     ensures { HoldsAt (rows_of rows.now.map) client result }

@@ -28,7 +28,7 @@ use Rattle.std.specs.Prelude.{Option, Some, IsSome, ⊤}
 use Rattle.std.proofs.raw_atomic.Walks.{proved_at, leaves}
 use Rattle.std_alloc.proofs.VecSteps.Shapes.{after}
 use Rattle.std_alloc.proofs.RcSteps.{word}
-use Rattle.krl_queue.proofs.Cells.{word_had, word_made}
+use Rattle.krl_blocks.proofs.Words.{word_had, word_made}
 use Rattle.krl_embed.proofs.Held.{some_is}
 use Rattle.krl_embed.proofs.Loans.{shows_lent}
 use Rattle.krl_embed.specs.Owning.{may_read}

@@ -29,8 +29,8 @@ use Rattle.std_alloc.specs.Box.Ownership.{box_owns}
 use Rattle.std_alloc.proofs.RcSteps.{word, word-Good}
 use Rattle.krl_embed.specs.declared.endpoint.Endpoint.{Endpoint}
 use Rattle.krl_embed.specs.Owning.{may_own}
-use Rattle.krl_queue.proofs.Values.{both, DetachedBox, detached_box_good, detached_box_in}
-use Rattle.krl_queue.proofs.Cells.{word_had}
+use Rattle.krl_blocks.proofs.DetachedBoxes.{both, DetachedBox, detached_box_good, detached_box_in}
+use Rattle.krl_blocks.proofs.Words.{word_had}
 use Rattle.krl_embed.proofs.Held.{Z, al, some_is}
 use Rattle.krl_embed.specs.contracts.endpoint.Endpoint as S
 use Rattle.krl_embed.specs.contracts.owned.Owned as O

@@ -19,8 +19,8 @@ use denote.Triple.Walked.{Stays, stay_dropped, walk_of, Goes-dropped}
 use Rattle.std.proofs.raw_atomic.Walks.{proved_at, leaves}
 use Rattle.std.proofs.alloc.Global.TheLaws as heap_laws
 use Rattle.std.specs.contracts.impls.GlobalAllocator.TheImpl.{ghosts}
-use Rattle.krl_queue.proofs.Values.{both, DetachedBox, detached_box_good, detached_box_out}
-use Rattle.krl_queue.proofs.Cells.{word_made}
+use Rattle.krl_blocks.proofs.DetachedBoxes.{both, DetachedBox, detached_box_good, detached_box_out}
+use Rattle.krl_blocks.proofs.Words.{word_made}
 use Rattle.krl_embed.proofs.Held.{Z}
 use Rattle.std_alloc.proofs.RcSteps.{word, word-Good}
 use Rattle.krl_embed.specs.contracts.endpoint.Endpoint as S

@@ -29,7 +29,8 @@ use Rattle.krl_queue.specs.Segment.{Spot, first_or, last_or, node_of, spot_owns,
 use Rattle.krl_queue.specs.contracts.node_ptr.NodePtr as P
 use Rattle.krl_queue.specs.contracts.node_ptr.Index as I
 use Rattle.krl_queue.specs.contracts.node_chain.NodeChain as C
-use Rattle.krl_queue.proofs.Cells.{moved, spot_out, spot_in, Mark, mark, mark_made, word_had}
+use Rattle.krl_blocks.proofs.Words.{word_had}
+use Rattle.krl_queue.proofs.Cells.{moved, spot_out, spot_in, Mark, mark, mark_made}
 use Rattle.krl_queue.specs.contracts.node_chain.NodeChain.cut.{ended, clauses}
 use Rattle.krl_queue.specs.contracts.node_chain.NodeChain.cut.Key.{name as #self}
 use Rattle.krl_queue.proofs.node_chain.NodeChain.cut.Statement.{statement}

@@ -24,13 +24,14 @@ use Rattle.std.proofs.alloc.Global.TheLaws as heap_laws
 use Rattle.std.specs.contracts.impls.GlobalAllocator.TheImpl.{ghosts}
 use Rattle.std_alloc.proofs.VecSteps.Shapes.{after}
 use Rattle.std_alloc.proofs.RcSteps.{word, word-Good}
-use Rattle.krl_queue.proofs.Values.{both, DetachedBox, detached_box_good, detached_box_in}
+use Rattle.krl_blocks.proofs.DetachedBoxes.{both, DetachedBox, detached_box_good, detached_box_in}
 use Rattle.krl_queue.proofs.Nodes.{single}
 use Rattle.krl_queue.specs.Segment.{Spot, waiters, first_or, node_of, segment}
 use Rattle.krl_queue.specs.contracts.node.Node as N
 use Rattle.krl_queue.specs.contracts.node_ptr.NodePtr as P
 use Rattle.krl_queue.specs.contracts.node_chain.NodeChain as C
-use Rattle.krl_queue.proofs.Cells.{spot_out, box_in, handle_made, mark, mark_had, word_had}
+use Rattle.krl_blocks.proofs.Words.{word_had}
+use Rattle.krl_queue.proofs.Cells.{spot_out, box_in, handle_made, mark, mark_had}
 use Rattle.krl_queue.specs.contracts.node_chain.NodeChain.into_one.{ended, clauses}
 use Rattle.krl_queue.specs.contracts.node_chain.NodeChain.into_one.Key.{name as #self}
 use Rattle.krl_queue.proofs.node_chain.NodeChain.into_one.Statement.{statement}

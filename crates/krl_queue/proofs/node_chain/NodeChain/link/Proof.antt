@@ -27,7 +27,8 @@ use Rattle.krl_queue.proofs.Segments.{last_or-append, snoc_out, snoc_in, join_in
 use Rattle.krl_queue.specs.Segment.{Spot, first_or, last_or, node_of, spot_owns, segment}
 use Rattle.krl_queue.specs.contracts.node_ptr.NodePtr as P
 use Rattle.krl_queue.specs.contracts.node_chain.NodeChain as C
-use Rattle.krl_queue.proofs.Cells.{moved, spot_out, spot_in, mark, mark_had, word_had}
+use Rattle.krl_blocks.proofs.Words.{word_had}
+use Rattle.krl_queue.proofs.Cells.{moved, spot_out, spot_in, mark, mark_had}
 use Rattle.krl_queue.specs.contracts.node_chain.NodeChain.link.{ended, clauses}
 use Rattle.krl_queue.specs.contracts.node_chain.NodeChain.link.Key.{name as #self}
 use Rattle.krl_queue.proofs.node_chain.NodeChain.link.Statement.{statement}

@@ -37,7 +37,8 @@ use Rattle.krl_queue.specs.contracts.node.Node as N
 use Rattle.krl_queue.specs.contracts.node_ptr.NodePtr as P
 use Rattle.krl_queue.specs.contracts.node_ptr.Index as I
 use Rattle.krl_queue.specs.contracts.node_chain.NodeChain as C
-use Rattle.krl_queue.proofs.Cells.{word_had, word_made, peer_in, peer_out}
+use Rattle.krl_blocks.proofs.Words.{word_had, word_made}
+use Rattle.krl_queue.proofs.Cells.{peer_in, peer_out}
 use Rattle.krl_queue.specs.contracts.node_chain.NodeChain.next.{ended, clauses}
 use Rattle.krl_queue.specs.contracts.node_chain.NodeChain.next.Key.{name as #self}
 use Rattle.krl_queue.proofs.node_chain.NodeChain.next.Statement.{statement}

@@ -25,13 +25,15 @@ use Rattle.std.proofs.alloc.Global.TheLaws as heap_laws
 use Rattle.std.specs.contracts.impls.GlobalAllocator.TheImpl.{ghosts}
 use Rattle.std_alloc.proofs.VecSteps.Shapes.{after}
 use Rattle.std_alloc.proofs.RcSteps.{Ptr-Good, word}
-use Rattle.krl_queue.proofs.Values.{both, DetachedBox, detached_box_good, detached_box_out, pair_in}
+use Rattle.krl_blocks.proofs.DetachedBoxes.{both, DetachedBox, detached_box_good, detached_box_out}
+use Rattle.krl_queue.proofs.Values.{pair_in}
 use Rattle.krl_queue.specs.Ends.{IsPlace}
 use Rattle.krl_queue.specs.Segment.{spot}
 use Rattle.krl_queue.specs.contracts.node.Node as N
 use Rattle.krl_queue.specs.contracts.node_ptr.NodePtr as P
 use Rattle.krl_queue.specs.contracts.node_chain.NodeChain as C
-use Rattle.krl_queue.proofs.Cells.{moved, node_out, spot_in, learns, τ, mark, Mark, mark_made, word_made}
+use Rattle.krl_blocks.proofs.Words.{word_made}
+use Rattle.krl_queue.proofs.Cells.{moved, node_out, spot_in, learns, τ, mark, Mark, mark_made}
 use Rattle.krl_queue.specs.contracts.node_chain.NodeChain.one.{ended, clauses}
 use Rattle.krl_queue.specs.contracts.node_chain.NodeChain.one.Key.{name as #self}
 use Rattle.krl_queue.proofs.node_chain.NodeChain.one.Statement.{statement}

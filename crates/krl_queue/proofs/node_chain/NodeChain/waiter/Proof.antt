@@ -39,7 +39,7 @@ use Rattle.krl_queue.specs.contracts.node.Node as N
 use Rattle.krl_queue.specs.contracts.node_ptr.NodePtr as P
 use Rattle.krl_queue.specs.contracts.node_ptr.Index as I
 use Rattle.krl_queue.specs.contracts.node_chain.NodeChain as C
-use Rattle.krl_queue.proofs.Cells.{word_had}
+use Rattle.krl_blocks.proofs.Words.{word_had}
 use Rattle.krl_queue.specs.contracts.node_chain.NodeChain.waiter.{ended, clauses}
 use Rattle.krl_queue.specs.contracts.node_chain.NodeChain.waiter.Key.{name as #self}
 use Rattle.krl_queue.proofs.node_chain.NodeChain.waiter.Statement.{statement}

@@ -22,7 +22,7 @@ use Rattle.std.proofs.raw_atomic.Walks.{proved_at, leaves}
 use Rattle.std_alloc.proofs.RcSteps.{word, word-Good}
 use Rattle.krl_queue.specs.Null.{is_null_ptr}
 use Rattle.krl_queue.specs.contracts.node_ptr.NodePtr as P
-use Rattle.krl_queue.proofs.Cells.{word_had}
+use Rattle.krl_blocks.proofs.Words.{word_had}
 use Rattle.krl_queue.specs.contracts.node_ptr.NodePtr.is_null.{ended, clauses}
 use Rattle.krl_queue.specs.contracts.node_ptr.NodePtr.is_null.Key.{name as #self}
 use Rattle.krl_queue.proofs.node_ptr.NodePtr.is_null.Statement.{statement}

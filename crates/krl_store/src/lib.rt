@@ -1,6 +1,0 @@
-//! Values by key, in key order, with room taken once.
-#![tactic(auto)]
-
-mod store;
-
-pub use store::Store;
