@@ -15,7 +15,6 @@ pub mod laws;
 mod lock_request;
 mod pins;
 mod receive;
-mod refusals;
 mod refused;
 mod requests;
 mod scan_answer;

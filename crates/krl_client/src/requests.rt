@@ -17,8 +17,9 @@ use krl_modes::{END, KeyPart, Mode, RangePart, Span, TOP};
 use std::alloc::AllocError;
 
 impl Client {
-    // Why it refuses to ask for a lock of the points from this one on below `hi`.
-    pub(crate) fn lock_refusal(&self, point: u64, hi: u64) -> Option<CommandRefused>
+    /// Why it refuses to ask for a lock of the points from `point` on below `hi`, memory aside: the
+    /// first of `BadPoint`, `BadSpan`, `NotJoined`, `Busy`, `Spent`. `lock` judges by it.
+    pub fn lock_refusal(&self, point: u64, hi: u64) -> Option<CommandRefused>
         ensures { result ≡ commands.lock_refusal (meaning self.now) point hi }
     {
         if point > END {
@@ -94,8 +95,9 @@ impl Client {
         }
     }
 
-    // Why it refuses to write.
-    pub(crate) fn write_refusal(&self, change: WriteOp) -> Option<CommandRefused>
+    /// Why it refuses to write, memory aside: the first of `BadPoint`, `NotJoined`, `Writing`,
+    /// `NotHeld`, `Spent`. `write` judges by it.
+    pub fn write_refusal(&self, change: WriteOp) -> Option<CommandRefused>
         ensures { result ≡ commands.write_refusal (meaning self.now) change }
     {
         let asked = change;
@@ -151,8 +153,8 @@ impl Client {
         Ok(list)
     }
 
-    // Why it refuses to forget the span.
-    pub(crate) fn forget_refusal(&self, span: Span) -> Option<CommandRefused>
+    // Why it refuses to forget the points of the span.
+    fn span_refusal(&self, span: Span) -> Option<CommandRefused>
         ensures { result ≡ commands.forget_refusal (meaning self.now) span }
     {
         if !self.has_joined() {
@@ -165,6 +167,18 @@ impl Client {
             return Some(CommandRefused::Pinned);
         }
         None
+    }
+
+    /// Why it refuses to forget the points from `lo` on below `hi`, memory aside: the first of
+    /// `BadSpan`, `NotJoined`, `Writing`, `Pinned`. `forget` judges by the same tests.
+    pub fn forget_refusal(&self, lo: u64, hi: u64) -> Option<CommandRefused>
+        ensures { result ≡ commands.forget_refusal (meaning self.now)
+            (record { lo = lo; hi = hi }) }
+    {
+        match Span::new(lo, hi) {
+            Ok(span) => self.span_refusal(span),
+            Err(_) => Some(CommandRefused::BadSpan),
+        }
     }
 
     /// Gives back what it holds of the points from `lo` on below `hi`.
@@ -190,7 +204,7 @@ impl Client {
         let Ok(span) = Span::new(lo, hi) else {
             return Err(CommandRefused::BadSpan);
         };
-        if let Some(refusal) = self.forget_refusal(span) {
+        if let Some(refusal) = self.span_refusal(span) {
             return Err(refusal);
         }
         let list = self.lower(span, Mode::N)?;

@@ -1,4 +1,5 @@
 -- What the contracts of the code's functions cite: each does a step of a world.
+pub mod Due
 pub mod Fresh
 pub mod Places
 pub mod Lifts

@@ -3,18 +3,35 @@ ghost use Rattle.std.specs.Prelude.{◌≡◌, List, Some, OnOk, OnErr, IfErr};
 ghost use Rattle.krl_client.specs.Fields.{meaning};
 ghost use Rattle.krl_world.specs.declared.message.Message.{Message};
 ghost use Rattle.krl_steps.specs.declared.step.Command.TheVariants as command;
+ghost use Rattle.krl_steps.specs.Refusals.{refused_by_client};
 ghost use Rattle.krl_world.specs.Fields.{seat_of, client_there};
 ghost use Rattle.krl_world.specs.SeatSteps.{IsRefused, Commanded, CommandedAt, Started, Ticked};
 ghost use Rattle.krl_world.specs.SeatSteps.{HasRead, starting_refusal};
+ghost use Rattle.krl_world.specs.Steps.{named};
 
 use crate::message::Message;
 use crate::network::{MOST_OF_A_CLIENT, send_to_server};
 use crate::node::Seat;
-use krl_client::{Client, ScanAnswer};
+use krl_client::{Client, CommandRefused, ScanAnswer};
 use krl_messages::{ToClient, WriteOp};
 use krl_modes::Mode;
 use krl_steps::{Answer, Command, Refused};
 use std::alloc::{AllocError, Global};
+
+/// Why a command is refused if there is no room for what it would send: a refusal that is due comes
+/// before want of memory.
+fn refused_without_room(due: Option<CommandRefused>) -> Refused
+    ensures { IsRefused (named refused_by_client due) (Unit {0}) result }
+{
+    match due {
+        Some(refusal) => Refused::from(refusal),
+        None => Refused::OutOfMemory,
+    }
+}
+
+// A command is judged once, by the client's call. The room for what it sends is taken before that
+// call, since nothing may fail once the client has changed. If that memory is refused, the call is
+// not made, and the client is only asked why it refuses the command.
 
 /// The client asks for a lock.
 fn lock(
@@ -27,10 +44,9 @@ fn lock(
     ensures { Commanded (meaning client.old) (command.Lock point hi mode)
         (Some (meaning client.new)) sent.old.items sent.new.items result }
 {
-    if let Some(refusal) = client.refuses_lock(point, hi) {
-        return Err(Refused::from(refusal));
+    if sent.reserve(MOST_OF_A_CLIENT).is_err() {
+        return Err(refused_without_room(client.lock_refusal(point, hi)));
     }
-    sent.reserve(MOST_OF_A_CLIENT)?;
     let messages = client.lock(point, hi, mode)?;
     send_to_server(sent, messages);
     Ok(Answer::Done)
@@ -41,11 +57,9 @@ fn write(client: &mut Client, sent: &mut Vec<Message>, op: WriteOp) -> Result<An
     ensures { Commanded (meaning client.old) (command.Write op) (Some (meaning client.new))
         sent.old.items sent.new.items result }
 {
-    let asked = op;
-    if let Some(refusal) = client.refuses_write(asked) {
-        return Err(Refused::from(refusal));
+    if sent.reserve(MOST_OF_A_CLIENT).is_err() {
+        return Err(refused_without_room(client.write_refusal(op)));
     }
-    sent.reserve(MOST_OF_A_CLIENT)?;
     let messages = client.write(op)?;
     send_to_server(sent, messages);
     Ok(Answer::Done)
@@ -56,10 +70,9 @@ fn forget(client: &mut Client, sent: &mut Vec<Message>, lo: u64, hi: u64) -> Res
     ensures { Commanded (meaning client.old) (command.Forget lo hi) (Some (meaning client.new))
         sent.old.items sent.new.items result }
 {
-    if let Some(refusal) = client.refuses_forget(lo, hi) {
-        return Err(Refused::from(refusal));
+    if sent.reserve(MOST_OF_A_CLIENT).is_err() {
+        return Err(refused_without_room(client.forget_refusal(lo, hi)));
     }
-    sent.reserve(MOST_OF_A_CLIENT)?;
     let messages = client.forget(lo, hi)?;
     send_to_server(sent, messages);
     Ok(Answer::Done)
