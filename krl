@@ -81,7 +81,7 @@ Examples:
 text
 }
 
-# Answers as the program itself does where its words ask for no run.
+# Answers as the program itself does if its words ask for no run.
 answer() {
     case "$#:${1-}:${2-}" in
     *:--version:* | *:-V:*) text=version ;;
@@ -158,7 +158,7 @@ by_chain() {
         }' | sort -rn | cut -d ' ' -f 2
 }
 
-# Calls rt in the folder $1 with the words behind $2, and keeps what it says as $2.log. Where it fails, the end of that
+# Calls rt in the folder $1 with the words behind $2, and keeps what it says as $2.log. If it fails, the end of that
 # is shown. All processors work for the crate for which the others wait; another takes what they leave.
 call_rt() {
     folder=$1 log=$work/$2.log lower=10
@@ -195,8 +195,8 @@ is_ready() {
     done <"$work/below/$1"
 }
 
-# Takes the first library of the longest chain that nobody has taken and that can be proved by now. Prints its name, or 'none' where all are
-# taken, or 'later' where those that are left wait for another.
+# Takes the first library of the longest chain that nobody has taken and that can be proved by now. Prints its name, or 'none' if all are
+# taken, or 'later' if those that are left wait for another.
 take() {
     found=none
     for name in $libraries; do
@@ -314,7 +314,7 @@ if [ "${1-}" = --prove ]; then
     asked=--prove
     shift
 fi
-# Where the help of a program is asked for, that program gives it.
+# If the help of a program is asked for, that program gives it.
 case "$#:${1-}" in
 0:) [ -n "$asked" ] || { help >&2; exit 2; } ;;
 *:--help | *:-h | 1:help) help; exit 0 ;;

@@ -14,7 +14,7 @@ Round = namedtuple("Round", "crate edits")
 
 
 def changed_by(crate, path, at):
-    """The functions that a change of the file changes at this place: the one around it; or, where a constant or
+    """The functions that a change of the file changes at this place: the one around it; or, if a constant or
     a table stands there, those that name it."""
     text = crate.source[path]
     around = [it for begin, end, it in functions_in(path, text) if begin <= at < end]
@@ -56,7 +56,7 @@ def read_edit(crate, file):
 
 
 def edited(source, edit):
-    """The files with this edit made too, or None where one before it took its old text away."""
+    """The files with this edit made too, or None if one before it took its old text away."""
     texts = dict(source)
     for path, old, new in edit.changes:
         if texts[path].count(old) != 1:

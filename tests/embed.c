@@ -1,10 +1,10 @@
 /* Runs a server and a client through the exports of krl_embed in one process, and refuses each allocation in turn.
  *
- *     embed N      the Nth allocation is refused (none where N is 0)
+ *     embed N      the Nth allocation is refused (none if N is 0)
  *
  * A call that is refused for want of memory is made again, and must then be done; what is lost is said again by a tick. In
- * the end the client must have read and written what it has without a refusal. The status is 0 where it has, 1 where it
- * has not, and 2 where fewer than N allocations were made.
+ * the end the client must have read and written what it has without a refusal. The status is 0 if it has, 1 if it
+ * has not, and 2 if fewer than N allocations were made.
  * What the calls on leases answer is compared too: they take no memory.
  */
 #include "krl.h"
@@ -186,7 +186,7 @@ static void refuse_rooms(void) {
     krl_handle server = {0};
     krl_reply reply;
     want(krl_server_open(&server, 0, 0, NULL, 0, NULL, 0).code == KRL_BAD_ROOM, "room for no entry");
-    want(krl_server_open(&server, KRL_MOST_ROOM + 1, 0, NULL, 0, NULL, 0).code == KRL_BAD_ROOM, "too great a room");
+    want(krl_server_open(&server, KRL_MAX_ROOM + 1, 0, NULL, 0, NULL, 0).code == KRL_BAD_ROOM, "too great a room");
     want(seen == 0 && !server.is_open, "a room that is refused");
     reply = krl_server_open(&server, 2, 0, entries, 3, NULL, 0);
     if (reply.code == KRL_OUT_OF_MEMORY) reply = krl_server_open(&server, 2, 0, entries, 3, NULL, 0);

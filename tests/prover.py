@@ -11,13 +11,13 @@ from edits import edited
 # A line of a contract, whose braces are not those of a body.
 CLAUSE = re.compile(r" *(requires|ensures|ghost)\b")
 
-# What a proof says where it cites a name that is not there, or another proof that cites one.
+# What a proof says if it cites a name that is not there, or another proof that cites one.
 NAME_GONE = re.compile(r"has no field|is not in scope|has no `|was not admitted")
 
 
 def write_copy(crate, edits, changed, room):
     """Writes a copy of the crate with the edits, in which the proof of each function not changed is a hole, and its
-    body is empty, where it can be."""
+    body is empty, if it can be."""
     for part in ("src", "specs", "proofs"):
         if (crate.folder / part).is_dir():
             shutil.copytree(crate.folder / part, room / part)
@@ -32,7 +32,7 @@ def write_copy(crate, edits, changed, room):
 
 
 def body_at(text, begin, end):
-    """Where the braces of the body there open and close. None where it is empty, or there is none."""
+    """Where the braces of the body there open and close. None if it is empty, or there is none."""
     depth = 0
     for at in range(begin, end):
         if depth == 0 and text[at] == "{" and not CLAUSE.match(text, text.rfind("\n", 0, at) + 1):
@@ -119,7 +119,7 @@ def first_error(said):
 
 
 def verdict(function, said):
-    """What was said of the function: 'proved', 'open' where a goal of it is open, 'gone' where only names are
+    """What was said of the function: 'proved', 'open' if a goal of it is open, 'gone' if only names are
     gone that its proof cites, or else the prover's own words."""
     found = re.search(rf"(?m)^fn {re.escape(function)}: (.*)$", said)
     line = found[1] if found else "nothing was said of it"
@@ -150,7 +150,7 @@ def judge(edit, said, is_control):
 
 def tried(crate, edits, kit, is_control, log, kept):
     """Tries these edits, and returns each with its judgement: in one check, if the prover can read them together.
-    Edits that are read alone may not be read together, as where they make two functions call each other."""
+    Edits that are read alone may not be read together, as when they make two functions call each other."""
     changed = {it for edit in edits for it in edit.functions}
     said = check(crate, [] if is_control else edits, changed, kit, log, kept)
     if is_read(said):

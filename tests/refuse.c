@@ -1,5 +1,5 @@
 /* A stand-in for malloc and realloc that refuses some requests for memory in a row: REFUSED_AT gives
- * the number of the first, counted from 1, and REFUSED_COUNT how many, one where it is not set.
+ * the number of the first, counted from 1, and REFUSED_COUNT how many, one if it is not set.
  * Descriptor 9 gets a byte for each. */
 #define _GNU_SOURCE
 #include <dlfcn.h>

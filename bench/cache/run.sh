@@ -9,7 +9,7 @@
 # makes the same calls over two maps of Rust's std. Both run five times in turn, and the least
 # processor time of each kind of call counts. A line gives the call, the form, the entries, the nanoseconds of
 # a call, for a scan those of a row, and the ratio to the ordered maps at the same number of entries. It stops
-# where two runs answer differently. A scan of one piece is of slots whose gaps are read alike; of 100 pieces, of
+# if two runs answer differently. A scan of one piece is of slots whose gaps are read alike; of 100 pieces, of
 # slots whose gaps are held with S and X by turns.
 #
 # The program is no crate of crates.txt, so that the gate proves no benchmark, and its name does not end in

@@ -1,7 +1,7 @@
 #!/bin/sh
 # What a long life costs: one server and 64 clients over 65,536 entries, through 1,000,000 steps.
 #
-#   bench/life/run.sh [STEPS..]   needs rt on the path; some minutes where krl_client and krl_server are proved
+#   bench/life/run.sh [STEPS..]   needs rt on the path; some minutes if krl_client and krl_server are proved
 #
 # main.rt.txt, proved and built by rt, hands each message over in memory. A step is a lock, a write, a forget, a pin, an
 # unpin or a tick of one of the clients, with all messages that follow; one in 1,000 restarts a client, and one in

@@ -1,6 +1,6 @@
 /* What single messages cost a server that is full, at 1,024, 65,536 and 1,048,576 entries, with room for just as many.
  * A line gives the kind, the entries, the nanoseconds of processor time, and for how many messages. `run.sh` says what
- * the kinds are. twin.rs does the same with a server over maps of Rust's library. It stops where an answer is not as it
+ * the kinds are. twin.rs does the same with a server over maps of Rust's library. It stops if an answer is not as it
  * should be.
  */
 #define _POSIX_C_SOURCE 199309L
@@ -11,7 +11,7 @@
 
 enum { BATCH = 1000, BATCHES = 20, STEP = 10, FIRST_SLOTS = 100 };
 enum { VERSION = 1, HELLO = 0, REPORT = 2, LOCK = 3, INSERT = 4, DELETE = 6, RELEASE = 7 };
-enum { LOCK_BYTES = 59, MOST_MESSAGE = 64, ANSWERS = 1 << 20 };
+enum { LOCK_BYTES = 59, MAX_MESSAGE = 64, ANSWERS = 1 << 20 };
 
 /* A client as far as its messages go. */
 struct sender {
@@ -24,14 +24,14 @@ struct sender {
 
 struct message {
     size_t length;
-    uint8_t bytes[MOST_MESSAGE];
+    uint8_t bytes[MAX_MESSAGE];
 };
 
 static krl_handle server;
 static uint64_t entries;
 static uint64_t epoch;
-static krl_row rows[KRL_MOST_ROOM];
-static uint8_t report[64 + 9 * (KRL_MOST_ROOM + 1)];
+static krl_row rows[KRL_MAX_ROOM];
+static uint8_t report[64 + 9 * (KRL_MAX_ROOM + 1)];
 static struct message batch[2 * BATCH];
 static uint8_t answers[ANSWERS];
 static uint64_t word = 1;
@@ -234,7 +234,7 @@ static size_t spell_report(const struct sender *sender)
 static void time_report(const struct sender *sender)
 {
     size_t length = spell_report(sender);
-    expect(krl_server_status(&server).phase == KRL_GATHERING, "the server waits for a report");
+    expect(krl_server_status(&server).phase == KRL_RECOVERING, "the server waits for a report");
     uint64_t begun = nanos_of(CLOCK_PROCESS_CPUTIME_ID);
     krl_stepped stepped = krl_server_step(&server, report, length);
     print("report", begun, 1);
@@ -269,6 +269,6 @@ int main(void)
 {
     time_all(1024);
     time_all(65536);
-    time_all(KRL_MOST_ROOM);
+    time_all(KRL_MAX_ROOM);
     return 0;
 }

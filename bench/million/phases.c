@@ -1,7 +1,7 @@
 /* A server with room for 1,048,576 entries, and 64 clients in the same process: they insert 1,000,000 rows, each reads
  * its part of them, the server is dropped and started again on what was kept, all clients report, and it serves again.
  * For each phase a line: the phase, the seconds of processor time and on the wall, and VmRSS and VmSize at its end, in
- * kilobytes. The last lines are the bytes of the longest report and VmHWM. It stops where a row is not as it should be.
+ * kilobytes. The last lines are the bytes of the longest report and VmHWM. It stops if a row is not as it should be.
  */
 #define _POSIX_C_SOURCE 199309L
 #include <inttypes.h>
@@ -137,7 +137,7 @@ static void expect_applied(uint64_t number)
 
 static void insert(uint64_t number, uint64_t key)
 {
-    uint8_t value[KRL_MOST_BYTES];
+    uint8_t value[KRL_MAX_VALUE_BYTES];
     value_of(key, 0, value);
     expect(krl_client_insert(&clients[number], key, value, sizeof value).code == KRL_DONE, "an insert is asked for");
     expect_applied(number);
@@ -145,7 +145,7 @@ static void insert(uint64_t number, uint64_t key)
 
 static void open_all(void)
 {
-    krl_reply reply = krl_server_open(&server, KRL_MOST_ROOM, 0, NULL, 0, NULL, 0);
+    krl_reply reply = krl_server_open(&server, KRL_MAX_ROOM, 0, NULL, 0, NULL, 0);
     expect(reply.code == KRL_DONE, "the server starts");
     epoch = reply.detail;
     for (uint64_t number = 0; number < CLIENTS; number++) {
@@ -209,7 +209,7 @@ static bool is_same(const krl_row *one, const krl_row *other)
 
 static bool has_value(const krl_row *row, uint64_t puts)
 {
-    uint8_t value[KRL_MOST_BYTES];
+    uint8_t value[KRL_MAX_VALUE_BYTES];
     value_of(row->key, puts, value);
     return row->length == sizeof value && memcmp(row->bytes, value, sizeof value) == 0;
 }
@@ -252,10 +252,10 @@ static void drop(void)
 
 static void start_again(void)
 {
-    krl_reply reply = krl_server_open(&server, KRL_MOST_ROOM, epoch, kept, ROWS, records, CLIENTS);
+    krl_reply reply = krl_server_open(&server, KRL_MAX_ROOM, epoch, kept, ROWS, records, CLIENTS);
     expect(reply.code == KRL_DONE && reply.detail == epoch + 1, "the server starts again");
     epoch = reply.detail;
-    expect(krl_server_status(&server).phase == KRL_GATHERING, "it waits for reports");
+    expect(krl_server_status(&server).phase == KRL_RECOVERING, "it waits for reports");
 }
 
 static void report_all(void)
@@ -274,7 +274,7 @@ static void report_all(void)
 static void write_beside(uint64_t number)
 {
     uint64_t key = key_of((number + 1) % CLIENTS * PART);
-    uint8_t value[KRL_MOST_BYTES];
+    uint8_t value[KRL_MAX_VALUE_BYTES];
     lock(number, key, key + 1, KRL_RANGE_X_X);
     value_of(key, 1, value);
     expect(krl_client_put(&clients[number], key, value, sizeof value).code == KRL_DONE, "a put is asked for");

@@ -6,7 +6,7 @@
 # main.rt.txt, proved and built by rt, and its twin table.rs, built by rustc -O, make the same 40,960,000 calls
 # of each function on the same modes and sum what they answer. Both run five times in turn, and the least
 # processor time of each counts. A line gives the function, the nanoseconds of a call in Rattle and in
-# Rust, with the loop round it, and their ratio. It stops where the two programs' sums differ.
+# Rust, with the loop round it, and their ratio. It stops if the two programs' sums differ.
 #
 # The program is no crate of crates.txt, so that the gate proves no benchmark, and its name does not end in
 # .rt, since the gate stops at such a file outside the crates: this script makes a repository of the two

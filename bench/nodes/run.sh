@@ -1,16 +1,16 @@
 #!/bin/sh
-# What a node's scan costs beside the server's turns, how many turns nodes take at once, and what a turn costs where
+# What a node's scan costs beside the server's turns, how many turns nodes take at once, and what a turn costs if
 # many letters wait for another node.
 #
-#   bench/nodes/run.sh        needs rt on the path; some minutes where krl_nodes is proved
+#   bench/nodes/run.sh        needs rt on the path; some minutes if krl_nodes is proved
 #
 # main.rt.txt, proved and built by rt, runs ten times. A line gives the least and the middle one of the ten, in
-# nanoseconds: where threads wait for each other the least is luck.
+# nanoseconds: if threads wait for each other the least is luck.
 #
 #   scan-bare      a cached scan of 100 rows by a client with no node around it
 #   scan-node      the same by a node, with no other node at work
 #   scan-beside    the same while the server's node takes turns on another thread
-#   turns          a turn, where one node, two or four take 100,000 each: by the clock on the wall, over all turns
+#   turns          a turn, while one node, two or four take 100,000 each: by the clock on the wall, over all turns
 #   letters        a turn of a client or its server, while 10 or 10,000 letters wait for another client
 set -eu
 

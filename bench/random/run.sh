@@ -4,7 +4,7 @@
 #   bench/random/run.sh [PROGRAM]   the program that ./krl builds, or another; needs bash; about a minute
 #
 # Each is run five times in turn; the least processor time, user and system, counts. A line gives the seed, the
-# milliseconds of both, the longer over the shorter (near 2 where a step costs the same wherever it stands), and how many
+# milliseconds of both, the longer over the shorter (near 2 if a step costs the same wherever it stands), and how many
 # steps a second the longer one takes.
 set -eu
 

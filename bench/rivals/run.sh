@@ -1,6 +1,6 @@
 #!/bin/sh
 # krl beside Redis, etcd and PostgreSQL: the same work for each, over TCP on this machine and on the same disk. It
-# prints the first table of docs/BENCH.md, which says what each figure is.
+# prints the first table of docs/BENCH_HOSTS.md, which says what each figure is.
 #
 #     bench/rivals/run.sh [ROUNDS]     7 rounds if nothing is said: two to three minutes, besides the build
 #

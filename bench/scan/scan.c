@@ -18,7 +18,7 @@ static krl_handle server;
 static krl_handle client;
 static uint8_t letters[1 << 16];
 
-/* Ends the program where something is not as it should be. */
+/* Ends the program if something is not as it should be. */
 static void expect(bool is_so, const char *what)
 {
     if (!is_so) {
@@ -124,7 +124,7 @@ static void measure(uint64_t count)
 int main(int count, char **words)
 {
     uint64_t length = count > 1 ? strtoull(words[1], NULL, 10) : 8;
-    expect(length <= KRL_MOST_BYTES, "a value has at most 32 bytes");
+    expect(length <= KRL_MAX_VALUE_BYTES, "a value has at most 32 bytes");
     start(length);
     measure(SCAN);
     measure(1);

@@ -10,11 +10,11 @@
 #define END 9223372036854775807ULL
 #define TOP 9223372036854775808ULL
 #define CLIENTS 64
-#define MOST_ENTRIES 64
-#define MOST_TEXT 1048576
-#define MOST_LINE 256
-#define MOST_LINES 10000
-#define MOST_DELIVERIES 100000
+#define MAX_ENTRIES 64
+#define MAX_TEXT 1048576
+#define MAX_LINE 256
+#define MAX_LINES 10000
+#define MAX_DELIVERIES 100000
 
 enum range { RANGE_N, RANGE_S, RANGE_I, RANGE_X };
 enum key { KEY_N, KEY_S, KEY_U, KEY_X };
@@ -41,13 +41,13 @@ static struct mode join(struct mode a, struct mode b) {
 }
 
 /* The index: its entries in key order. Slot i is entry i, and slot `entries` is END. */
-static struct { uint64_t key, value; } entry[MOST_ENTRIES];
+static struct { uint64_t key, value; } entry[MAX_ENTRIES];
 static int entries;
 
 /* What each client was told (`held`) and what the server granted it, by slot. */
 static struct client {
     int runs, joined, waits;
-    struct mode held[MOST_ENTRIES + 1], granted[MOST_ENTRIES + 1];
+    struct mode held[MAX_ENTRIES + 1], granted[MAX_ENTRIES + 1];
 } client[CLIENTS];
 
 struct message {
@@ -136,7 +136,7 @@ static void fault(unsigned long number, const char *text) {
 }
 
 /* The words of a line. */
-static struct { const char *at; size_t length; } word[MOST_LINE];
+static struct { const char *at; size_t length; } word[MAX_LINE];
 static int words;
 
 static int is(int i, const char *text) { return strlen(text) == word[i].length && !memcmp(word[i].at, text, word[i].length); }
@@ -169,7 +169,7 @@ static uint64_t number_at(int i) {
 }
 
 static void seed(void) {
-    static uint64_t keys[MOST_ENTRIES], values[MOST_ENTRIES];
+    static uint64_t keys[MAX_ENTRIES], values[MAX_ENTRIES];
     if (words < 2) fault(number, "missing argument");
     for (int i = 1; i < words; i++) {
         const char *equals = memchr(word[i].at, '=', word[i].length);
@@ -210,7 +210,7 @@ static void lock(uint64_t c, uint64_t point, struct mode mode) {
 }
 
 static void settle(void) {
-    for (int i = 0; i < MOST_DELIVERIES; i++) {
+    for (int i = 0; i < MAX_DELIVERIES; i++) {
         if (delivered == sent) return;
         deliver(messages[delivered]);
         delivered++;
@@ -274,8 +274,8 @@ static void obey(void) {
 }
 
 static void run_line(const char *at, size_t length) {
-    if (number > MOST_LINES) fault(number, "too many lines");
-    if (length > MOST_LINE) fault(number, "line too long");
+    if (number > MAX_LINES) fault(number, "too many lines");
+    if (length > MAX_LINE) fault(number, "line too long");
     if (length && at[0] == '#') return;
     words = 0;
     for (size_t i = 0; i < length;) {
@@ -289,10 +289,10 @@ static void run_line(const char *at, size_t length) {
 }
 
 int main(void) {
-    static char text[MOST_TEXT + 4096];
+    static char text[MAX_TEXT + 4096];
     size_t size = 0;
     for (ssize_t n; (n = read(0, text + size, 4096)) > 0;)
-        if ((size += n) > MOST_TEXT) fault(0, "text too long");
+        if ((size += n) > MAX_TEXT) fault(0, "text too long");
     for (size_t at = 0; at < size;) {
         const char *end = memchr(text + at, '\n', size - at);
         size_t length = end ? (size_t)(end - text) - at : size - at;

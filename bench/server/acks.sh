@@ -4,7 +4,7 @@
 #   bench/server/acks.sh [PROGRAM]   the program that ./krl builds, or another; needs bash; a minute
 #
 # Client 63 locks 63 slots, or one, with RangeX-X, and pins them; each other client asks for X at one of them and waits.
-# One Ack of client 63 is then delivered 2,500 times, or 9,000 times where they wait at one slot: each time the server
+# One Ack of client 63 is then delivered 2,500 times, or 9,000 times if they wait at one slot: each time the server
 # finds that nobody can be answered, and calls client 63 back for each slot. The script runs five times with these
 # deliveries and five times without; the least processor time of each counts, user and system. A line gives the slots at
 # which the clients wait, the entries, and the microseconds of one delivery, with the world's own work: it keeps each
@@ -13,7 +13,7 @@ set -eu
 
 . "$(dirname -- "$0")/../program.sh"
 
-# Writes the script where the clients wait at $1 slots over $2 entries, with $3 deliveries of the Ack. Its number counts
+# Writes the script in which the clients wait at $1 slots over $2 entries, with $3 deliveries of the Ack. Its number counts
 # 192 messages of the greetings, three for each lock of client 63, 63 locks that wait, and their callbacks: as many for
 # each as there are slots at which somebody waits by then.
 text() {

@@ -1,7 +1,7 @@
 #!/bin/sh
 # What the server's steps cost at 1,024 and at 65,536 entries, beside a twin in Rust.
 #
-#   bench/server/run.sh         needs rt and rustc on the path; some minutes where krl_server is proved, else half an hour
+#   bench/server/run.sh         needs rt and rustc on the path; some minutes if krl_server is proved, else half an hour
 #
 # main.rt.txt, proved and built by rt, tells a server the same messages at places that no processor could guess:
 #

@@ -1,7 +1,7 @@
 #!/bin/sh
 # What a scan of 100 rows costs through a client and a server, at 1,024 and at 65,536 entries, beside a twin in Rust.
 #
-#   bench/session/run.sh        needs rt and rustc on the path; some minutes where krl_client and krl_server are proved
+#   bench/session/run.sh        needs rt and rustc on the path; some minutes if krl_client and krl_server are proved
 #
 # main.rt.txt, proved and built by rt, has a client and a server in one process, and hands each message over in memory:
 #

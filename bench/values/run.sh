@@ -12,7 +12,7 @@
 #   write    a delete or an insert that is applied, by turns, at such places of an index of so many entries
 #   copy     the copy of a holding, of a list of so many
 #
-# It stops where two runs do a different number of them.
+# It stops if two runs do a different number of them.
 set -eu
 
 [ $# -gt 0 ] || set -- 875b948 7e1ca9a

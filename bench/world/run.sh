@@ -13,7 +13,7 @@
 #
 # Each is run 20 times in a row, five times over; the least processor time, user and system, counts, less that of the
 # lines that make the world. A line gives the text, the milliseconds of the whole and of the half, and their ratio: near
-# 2 where a line costs the same wherever it stands. It stops where the half's transcript does not begin the whole's.
+# 2 if a line costs the same wherever it stands. It stops if the half's transcript does not begin the whole's.
 set -eu
 
 . "$(dirname -- "$0")/../program.sh"

@@ -3,7 +3,7 @@
  * The host owns the sockets, the disk and the threads. It hands each message to `krl_client_step` or
  * `krl_server_step`, keeps what a server's step says on its disk, and then takes what is to be sent with `krl_take`.
  *
- * A handle serves one call at a time, on any thread. Where several threads use it, each call sees what the one before
+ * A handle serves one call at a time, on any thread. If several threads use it, each call sees what the one before
  * did: a mutex does that, or the start or the end of a thread. Two threads may use two handles at once. No call waits.
  * Many threads may read one client at once: see `krl_reader_of`.
  *
@@ -27,8 +27,8 @@ uint32_t krl_version(void);
 
 /* Clients.
  *
- * Each of these calls, but for open, answers KRL_CLOSED where the handle is closed, KRL_NO_CLIENT where it keeps a
- * server, and KRL_GONE where its client has left; before it looks at anything else. What it says waits for
+ * Each of these calls, but for open, answers KRL_CLOSED if the handle is closed, KRL_NO_CLIENT if it keeps a
+ * server, and KRL_GONE if its client has left; before it looks at anything else. What it says waits for
  * `krl_take`.
  */
 
@@ -61,7 +61,7 @@ krl_reply krl_client_delete(krl_handle *handle, uint64_t key);
 
 /* Answers from the client's own cache, with no message, the entries with keys from `lo` on below `hi`, in key order:
  * that range of the server's index at this moment. They go into `rows`, and the detail is their count. Else
- * KRL_MISS, KRL_PENDING, or KRL_TOO_SHORT where there are more than `room`. Refused by KRL_BAD_SPAN. It takes no
+ * KRL_MISS, KRL_PENDING, or KRL_TOO_SHORT if there are more than `room`. Refused by KRL_BAD_SPAN. It takes no
  * memory. */
 krl_reply krl_client_scan(krl_handle *handle, uint64_t lo, uint64_t hi, krl_row *rows, size_t room);
 
@@ -116,11 +116,11 @@ krl_client_state krl_reader_status(krl_reader *reader);
 
 /* Servers.
  *
- * Each of these calls, but for open, answers KRL_CLOSED where the handle is closed, and KRL_NO_SERVER where it keeps
+ * Each of these calls, but for open, answers KRL_CLOSED if the handle is closed, and KRL_NO_SERVER if it keeps
  * a client; before it looks at anything else.
  */
 
-/* Starts a server in a closed handle with room for so many entries, from 1 to KRL_MOST_ROOM (KRL_DEFAULT_ROOM suits
+/* Starts a server in a closed handle with room for so many entries, from 1 to KRL_MAX_ROOM (KRL_DEFAULT_ROOM suits
  * most), on what was kept: the epoch (0 at first), the entries in any order, and the records in order of first
  * registration. All memory for entries is taken here; what none has used is not touched. The detail is the new epoch,
  * one more, which has to be kept before anything is sent. Refused, in this order, by KRL_OPEN_ALREADY, KRL_BAD_ROOM,
@@ -141,22 +141,22 @@ krl_reply krl_server_nudge(krl_handle *handle, uint64_t client);
 /* The server's epoch and phase. */
 krl_server_state krl_server_status(krl_handle *handle);
 
-/* The clients that the server waits for while it gathers, in order of first registration. They go into `clients`,
+/* The clients that the server waits for while it recovers, in order of first registration. They go into `clients`,
  * and the detail is their count: at most 64. Refused by KRL_TOO_SHORT, KRL_OUT_OF_MEMORY. */
 krl_reply krl_server_missing(krl_handle *handle, uint64_t *clients, size_t room);
 
-/* What is kept of a client. Refused by KRL_BAD_CLIENT where it never registered. */
+/* What is kept of a client. Refused by KRL_BAD_CLIENT if it never registered. */
 krl_recorded krl_server_record(krl_handle *handle, uint64_t client);
 
 /* What an operator sees: who waits, for whom, and how much each client holds. These calls take no memory and change
- * nothing. Each is refused by KRL_BAD_CLIENT where the number is 64 or more. */
+ * nothing. Each is refused by KRL_BAD_CLIENT if the number is 64 or more. */
 
 /* How a client waits for a lock. */
 krl_waiting krl_server_waiter(krl_handle *handle, uint64_t client);
 
 /* The clients that a client waits for, in ascending order: at the slot at which it waits, those that wait before it,
  * and those that hold there what does not go beside what it wants. They go into `clients`, and the detail is their
- * count: at most 64. None where it does not wait, or waits for nobody but itself to acknowledge a push. Refused by
+ * count: at most 64. None if it does not wait, or waits for nobody but itself to acknowledge a push. Refused by
  * KRL_TOO_SHORT. */
 krl_reply krl_server_waited_for(krl_handle *handle, uint64_t client, uint64_t *clients, size_t room);
 
@@ -210,20 +210,21 @@ bool krl_lease_holds(const krl_lease *lease, uint64_t now);
 /* That of a client which registers. */
 uint64_t krl_until_register(const krl_terms *terms, uint64_t now);
 
-/* That of a client whose sign has come, where `until` is the client's before. The sign says that the client lives by
- * a lease of the length `said`. `now` has to be read behind the sign, and the result has to stand before the server
- * answers by its terms. */
+/* That of a client whose sign has come. `until` is the client's before. The sign says that the client lives by a lease
+ * of the length `said`. `now` has to be read behind the sign, and the result has to stand before the server answers by
+ * its terms. */
 uint64_t krl_until_sign(uint64_t until, const krl_terms *terms, uint64_t said, uint64_t now);
 
 /* Whether the moment has come: the server may evict the client. */
 bool krl_until_has_come(uint64_t until, uint64_t now);
 
-/* Whether the Hello of another incarnation may be handed to the server, where `until` is that of the registered one:
- * it is no greater one; or the registered one is known to be over; or its moment has come; or it may answer for ever,
- * and an operator vouches that it is over. A host drops the Hello otherwise, and hears it when it is said again. */
+/* Whether the Hello of another incarnation may be handed to the server. `until` is that of the registered one. It may:
+ * if it is no greater one; if the registered one is known to be over; if its moment has come; or if it may answer for
+ * ever, and an operator vouches that it is over. A host drops the Hello otherwise, and hears it when it is said again.
+ */
 bool krl_until_hears(uint64_t until, const krl_take_over *asks, uint64_t now);
 
-/* What a server has to store before it says anything, where `kept` was stored before. */
+/* What a server has to store before it says anything. `kept` was stored before. */
 krl_kept_lease krl_kept_start(const krl_kept_lease *kept, const krl_terms *terms);
 
 /* What it has to store before it answers a client that registers. */
@@ -236,7 +237,7 @@ uint64_t krl_kept_old_end(const krl_kept_lease *kept, const krl_terms *terms, ui
 /* Until when a client may answer that is registered as a server starts. `now` is read after the start. */
 uint64_t krl_kept_until(const krl_kept_lease *kept, const krl_terms *terms, uint64_t now);
 
-/* What may be stored from now on, where `old_end` is what `krl_kept_old_end` answered and `until` the client's. */
+/* What may be stored from now on. `old_end` is what `krl_kept_old_end` answered, and `until` is the client's. */
 krl_kept_lease krl_kept_revise(const krl_kept_lease *kept, const krl_terms *terms, uint64_t old_end, uint64_t until,
                                uint64_t now);
 

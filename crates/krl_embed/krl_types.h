@@ -21,14 +21,14 @@
 /* Clients are numbered from 0. */
 #define KRL_CLIENTS 64
 
-/* For how many entries a server has room where nothing asks for another number. */
+/* For how many entries a server has room if nothing asks for another number. */
 #define KRL_DEFAULT_ROOM 65536
 
 /* For how many entries a server can have room, at most. */
-#define KRL_MOST_ROOM 1048576
+#define KRL_MAX_ROOM 1048576
 
 /* The most bytes of a value. */
-#define KRL_MOST_BYTES 32
+#define KRL_MAX_VALUE_BYTES 32
 
 /* The moment that never comes, and the length of a lease that does not end. */
 #define KRL_FOR_EVER UINT64_MAX
@@ -109,7 +109,7 @@ enum krl_code {
     /* Bounds that make no shards: there are more than 63, or one is not above the one before it, or is 0 or above
      * KRL_END. */
     KRL_BAD_SHARDS = 30,
-    /* Room for no entry, or for more than KRL_MOST_ROOM. */
+    /* Room for no entry, or for more than KRL_MAX_ROOM. */
     KRL_BAD_ROOM = 31
 };
 
@@ -192,7 +192,7 @@ enum krl_change_kind {
     KRL_REGISTERED = 1,
     /* The client left: in its record `left` is 1. */
     KRL_LEFT = 2,
-    /* A write of the client was judged: in its record `last` is the write's number and `outcome` its outcome. Where
+    /* A write of the client was judged: in its record `last` is the write's number and `outcome` its outcome. If
      * that is KRL_APPLIED, the write changed the index too. */
     KRL_JUDGED = 3
 };
@@ -221,7 +221,7 @@ enum krl_write_status {
 /* The phase of a server. */
 enum krl_phase {
     /* It waits for reports of clients that were registered when it started. It answers no request. */
-    KRL_GATHERING = 0,
+    KRL_RECOVERING = 0,
     KRL_SERVING = 1
 };
 
@@ -238,18 +238,18 @@ typedef struct krl_reader {
     const void *at;
 } krl_reader;
 
-/* A code, and its detail: 0 where nothing is said of it. */
+/* A code, and its detail: 0 if nothing is said of it. */
 typedef struct krl_reply {
     uint32_t code;
     uint64_t detail;
 } krl_reply;
 
-/* An entry of the index: its key, and a value of `length` bytes. The bytes behind them are zeros where the library
- * writes a row, and are not read where it is given one. */
+/* An entry of the index: its key, and a value of `length` bytes. The bytes behind them are zeros if the library
+ * writes a row, and are not read if it is given one. */
 typedef struct krl_row {
     uint64_t key;
     uint64_t length;
-    uint8_t bytes[KRL_MOST_BYTES];
+    uint8_t bytes[KRL_MAX_VALUE_BYTES];
 } krl_row;
 
 /* What is kept of a client that ever registered. */
@@ -260,9 +260,9 @@ typedef struct krl_record {
     uint64_t incarnation;
     /* The number of its last judged write, at most KRL_END, or 0. */
     uint64_t last;
-    /* How that write was judged, by a `krl_outcome`: KRL_NO_OUTCOME exactly where `last` is 0. */
+    /* How that write was judged, by a `krl_outcome`: KRL_NO_OUTCOME exactly if `last` is 0. */
     uint32_t outcome;
-    /* 1 where that incarnation has left, else 0. */
+    /* 1 if that incarnation has left, else 0. */
     uint32_t left;
 } krl_record;
 
@@ -282,13 +282,13 @@ typedef struct krl_change {
     krl_row row;
 } krl_change;
 
-/* What a server's step answers. `change` is KRL_UNCHANGED but where the code is KRL_DONE or KRL_UNSAID. */
+/* What a server's step answers. `change` is KRL_UNCHANGED unless the code is KRL_DONE or KRL_UNSAID. */
 typedef struct krl_stepped {
     krl_reply reply;
     krl_change change;
 } krl_stepped;
 
-/* What a client shows of itself. But where the code is KRL_DONE all else is 0. */
+/* What a client shows of itself. All else is 0 unless the code is KRL_DONE. */
 typedef struct krl_client_state {
     krl_reply reply;
     /* The epoch that it has joined; 0 before it has joined one. */
@@ -305,7 +305,7 @@ typedef struct krl_client_state {
     uint64_t outcome;
 } krl_client_state;
 
-/* What a client believes that it holds at a point. But where the code is KRL_DONE both parts are N. */
+/* What a client believes that it holds at a point. Both parts are N unless the code is KRL_DONE. */
 typedef struct krl_held {
     krl_reply reply;
     /* A `krl_range_part`. */
@@ -314,7 +314,7 @@ typedef struct krl_held {
     uint32_t key;
 } krl_held;
 
-/* What a server shows of itself. But where the code is KRL_DONE all else is 0. */
+/* What a server shows of itself. All else is 0 unless the code is KRL_DONE. */
 typedef struct krl_server_state {
     krl_reply reply;
     /* Its epoch: one more for each start. */
@@ -323,13 +323,13 @@ typedef struct krl_server_state {
     uint64_t phase;
 } krl_server_state;
 
-/* A client's record at a server. But where the code is KRL_DONE all else is 0. */
+/* A client's record at a server. All else is 0 unless the code is KRL_DONE. */
 typedef struct krl_recorded {
     krl_reply reply;
     krl_record record;
 } krl_recorded;
 
-/* How a client waits at a server. But where the code is KRL_DONE and it waits all else is 0. */
+/* How a client waits at a server. All else is 0 unless the code is KRL_DONE and it waits. */
 typedef struct krl_waiting {
     krl_reply reply;
     /* The number of its lock request. */
@@ -339,11 +339,11 @@ typedef struct krl_waiting {
     uint64_t hi;
     /* A `krl_mode`. */
     uint32_t mode;
-    /* 1 where it waits. */
+    /* 1 if it waits. */
     uint32_t waits;
 } krl_waiting;
 
-/* What a client holds at a slot of a server. But where the code is KRL_DONE and it holds something all else is 0. */
+/* What a client holds at a slot of a server. All else is 0 unless the code is KRL_DONE and it holds something. */
 typedef struct krl_held_slot {
     krl_reply reply;
     /* The slot's points, from `lo` on below `hi`. The last one, `hi` - 1, is its entry, or KRL_END. */
@@ -351,7 +351,7 @@ typedef struct krl_held_slot {
     uint64_t hi;
     /* A `krl_mode` other than KRL_N. */
     uint32_t mode;
-    /* 1 where it holds something. */
+    /* 1 if it holds something. */
     uint32_t holds;
 } krl_held_slot;
 

@@ -16,7 +16,7 @@
 
 #include "krl.h"
 
-enum { CLIENTS = 2, ROOM = 1 << 16, ROWS = 16, PREFIX = 8, MOST_ROUNDS = 1000 };
+enum { CLIENTS = 2, ROOM = 1 << 16, ROWS = 16, PREFIX = 8, MAX_ROUNDS = 1000 };
 
 /* What the host of the server reads and writes itself of messages: `docs/WIRE.md` has them. */
 enum { VERSION = 1, KIND_AT = 1, HELLO = 0, BYE = 1, SHORTEST = 18 };
@@ -56,7 +56,7 @@ static client clients[CLIENTS];
 static unsigned long delivered;
 static uint64_t elapsed;
 
-/* Ends the program where a call did not do what it should. */
+/* Ends the program if a call did not do what it should. */
 static void expect(const char *what, krl_reply reply)
 {
     if (reply.code != KRL_DONE) {
@@ -227,7 +227,7 @@ static int hand_over(krl_handle *from, void (*deliver)(const uint8_t *, size_t))
 /* Hands messages over until nobody has anything to say. */
 static void settle(void)
 {
-    for (int round = 0; round < MOST_ROUNDS; round++) {
+    for (int round = 0; round < MAX_ROUNDS; round++) {
         int count = 0;
         for (int number = 0; number < CLIENTS; number++) {
             bool arrives = !clients[number].is_cut_off && holds_lease(number);
@@ -362,7 +362,7 @@ static void start(void)
     krl_reply opened = krl_server_open(&server, KRL_DEFAULT_ROOM, 0, entries, 2, NULL, 0);
     expect("server_open", opened);
     for (uint64_t number = 0; number < CLIENTS; number++) {
-        /* Where nothing was kept of leases, a client may have one without end. */
+        /* If nothing was kept of leases, a client may have one without end. */
         known_clients[number].kept.is_unleased = true;
         keep_lease(number, krl_kept_start(&known_clients[number].kept, &terms));
     }

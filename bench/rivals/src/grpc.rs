@@ -107,7 +107,7 @@ impl Grpc {
         }
     }
 
-    /// Takes a frame, and answers it where HTTP/2 wants that.
+    /// Takes a frame, and answers it if HTTP/2 wants that.
     fn frame(&mut self) -> Found<()> {
         let mut head = [0; 9];
         self.stream.read_exact(&mut head)?;

@@ -54,7 +54,7 @@ pub struct Figures {
     pub writes: Option<f64>,
     /// Calls a second of the mix.
     pub calls: Option<f64>,
-    /// The same where no row may be stale.
+    /// The same if no row may be stale.
     pub fresh_calls: Option<f64>,
     /// The mixes of all rounds together.
     pub mix: Mix,

@@ -115,7 +115,7 @@ impl Connection for Tracking {
         self.local.scan(keys, rows)
     }
 
-    /// Asks again where a notice came between the answer and the scan.
+    /// Asks again if a notice came between the answer and the scan.
     fn read(&mut self, keys: Range<u64>, rows: &mut Vec<Row>) -> Done {
         while !self.local.scan(keys.clone(), rows) {
             let missing = self.local.lock().begin_read(keys.clone());

@@ -47,13 +47,13 @@ pub trait Connection: Send {
     /// The rows of a range from the cache, with no message; `false` if they are not there.
     fn cached(&mut self, keys: Range<u64>, rows: &mut Vec<Row>) -> bool;
 
-    /// The rows of a range, asked of the server where the cache lacks one.
+    /// The rows of a range, asked of the server if the cache lacks one.
     fn read(&mut self, keys: Range<u64>, rows: &mut Vec<Row>) -> Done;
 
     /// Gives a row another value, which is on the disk when this returns.
     fn write(&mut self, key: u64, value: u64) -> Done;
 
-    /// Ends the client in an orderly way, where there is one.
+    /// Ends the client in an orderly way, if there is one.
     fn close(self: Box<Self>) -> Done {
         Ok(())
     }

@@ -8,13 +8,13 @@ use Rattle.krl_text.specs.Printing.{rows_line}
 use Rattle.krl_text.specs.Transfers.{Known}
 use Rattle.krl_script.specs.RandomRuns.{WroteFrontOf}
 
--- the line: the rows that were read, or that a client gave up; none where they found no memory
+-- the line: the rows that were read, or that a client gave up; none if they found no memory
 abbrev pub nodes_line : Result NodesReport NotRun → List ℕ
 nodes_line (Ok report) = rows_line report.rows
 nodes_line (Err not_run.GaveUp) = codes "nodes gave up\n"
 nodes_line (Err not_run.OutOfMemory) = []
 
--- 0 where the rows were read, else 1
+-- 0 if the rows were read, else 1
 abbrev pub nodes_status : Result NodesReport NotRun → ℕ
 nodes_status (Ok report) = 0
 nodes_status (Err why) = 1

@@ -10,12 +10,12 @@ use Rattle.krl_script.specs.declared.rest.Rest.{Rest}
 use Rattle.krl_script.specs.declared.rest.Rest.TheVariants as rest
 use Rattle.krl_world.specs.States.{State}
 
--- of a script: 0 where its last line was run, else 1
+-- of a script: 0 if its last line was run, else 1
 abbrev pub script_status : Result (Unit {0}) ScriptFault → ℕ
 script_status (Ok done) = 0
 script_status (Err fault) = 1
 
--- of a random run: 0 where all was sound, else 1
+-- of a random run: 0 if all was sound, else 1
 abbrev pub random_status : {A : Type 0} → Result (A × Bool) ScriptFault → ℕ
 random_status (Ok (w, true)) = 0
 random_status (Ok (w, false)) = 1

@@ -11,15 +11,12 @@ mod progress;
 mod status;
 
 use krl_command_line::{
-    NO_RUN, NodesOptions, RandomOptions, Request, read, say_of_run, say_of_script,
+    Form, NO_RUN, NodesOptions, RandomOptions, Request, read, say_of_run, say_of_script,
 };
-use krl_drawing::Form;
 use krl_nodes::{Gate, NodesReport, NotRun, run_nodes, run_nodes_by};
-use krl_picture::write_picture;
-use krl_script::{
-    AnyReader, AnyWriter, Progress, Rest, ScriptFault, Sink, Source, bring_to_rest, busy_run,
-    random_run, read_text, run_script,
-};
+use krl_picture::{write_drawing, write_picture};
+use krl_script::{Progress, Rest, bring_to_rest, busy_run, random_run, run_script};
+use krl_text::{AnyReader, AnyWriter, ScriptFault, Sink, Source, read_text};
 use krl_world::World;
 use nodes::{Telling, tell};
 use progress::Told;
@@ -32,7 +29,7 @@ use std::thread::Threads;
 use std::time::Clock;
 
 // What the command line asks for, or the exit status of words that ask for no run. Words that are
-// refused are status 2, also where standard error can't be written to say so.
+// refused are status 2, even if standard error can't be written to say so.
 fn asked(rt: &HostRuntime) -> io::Result<Result<Request, u8>> {
     let words = match std::env::args(rt) {
         Err(error) if error.kind() == io::ErrorKind::InvalidData => {
@@ -55,7 +52,7 @@ fn obey(rt: &HostRuntime, request: Request) -> u8 {
     }
 }
 
-// Reads a script from standard input. Where that fails it says why, and gives the exit status.
+// Reads a script from standard input. If that fails it says why, and gives the exit status.
 fn text_of<R: Eprint + Input + AllocGlobal>(rt: &R) -> Result<Vec<u8>, u8> {
     let mut reader = AnyReader(rt.reader());
     match read_text(rt.alloc(), &mut reader) {
@@ -83,7 +80,10 @@ fn script<R: Print + Eprint + Input + AllocGlobal>(rt: &R) -> u8 {
 fn draw(rt: &HostRuntime, text: &[u8], form: Form) -> u8 {
     let mut unread = text;
     let mut writer = AnyWriter(io::writer(rt));
-    let ended = write_picture(rt.alloc(), &mut unread, &mut writer, form);
+    let ended = match form {
+        Form::Text => write_picture(rt.alloc(), &mut unread, &mut writer),
+        Form::Svg => write_drawing(rt.alloc(), &mut unread, &mut writer),
+    };
     if let Err(fault) = &ended {
         say_of_script(rt, *fault, text);
     }
@@ -128,7 +128,7 @@ fn random(rt: &HostRuntime, options: &RandomOptions) -> u8 {
     }
 }
 
-// The exit status of a random run. Where its line can't be written, that is said on standard error.
+// The exit status of a random run. If its line can't be written, that is said on standard error.
 fn status_of<H: Eprint + AllocGlobal, T>(rt: &H, ended: &Result<(T, bool), ScriptFault>) -> u8
     ensures { result ≡ random_status ended.now }
 {
@@ -200,7 +200,7 @@ fn rest_over<H: Eprint + AllocGlobal, W: Sink, P: Progress>(
     }
 }
 
-// Runs a server and two clients on threads, by policies where the options have a number for them.
+// Runs a server and two clients on threads, by policies if the options have a number for them.
 fn nodes_by<
     R: Threads + Wait + Sync + AllocGlobal,
     F: Gate + Send + Drop,

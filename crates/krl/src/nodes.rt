@@ -10,14 +10,14 @@ use std::alloc::{AllocError, Global};
 use std::thread;
 use std::time::{Clock, Duration};
 
-// How long a client waits where no letter is there for it, in milliseconds.
+// How long a client waits if no letter is there for it, in milliseconds.
 const PAUSE: u64 = 1;
 
 // How long it says nothing, in seconds.
 const SILENCE: u64 = 1;
 
 /// Passed at once; tells on standard error at which turn the client is, once a second at most,
-/// where anybody is to be told.
+/// if anybody is to be told.
 #[derive(Drop)]
 pub struct Telling<'a, R> {
     rt: &'a R,
@@ -67,7 +67,7 @@ impl<R: Clock + Eprint> Gate for Telling<'_, R> {
     }
 }
 
-// The line of what came of nodes; none where they found no memory.
+// The line of what came of nodes; none if they found no memory.
 fn line(alloc: Global, ended: &Result<NodesReport, NotRun>) -> Result<String, AllocError>
     ensures { IfOk result (λ line. line.bytes.items ≡ nodes_line ended.now) }
 {
@@ -78,7 +78,7 @@ fn line(alloc: Global, ended: &Result<NodesReport, NotRun>) -> Result<String, Al
     }
 }
 
-/// Writes what came of nodes, and gives the exit status: 0 where the second client read its rows
+/// Writes what came of nodes, and gives the exit status: 0 if the second client read its rows
 /// and they were written, else 1. What went wrong is said on standard error.
 pub fn tell<R: Eprint + AllocGlobal, W: Sink>(
     rt: &R,

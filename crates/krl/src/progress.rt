@@ -1,7 +1,7 @@
 //! How far a random run is, on standard error.
 use krl_script::Progress;
 
-/// Tells on standard error, where anybody is to be told.
+/// Tells on standard error, if anybody is to be told.
 #[derive(Drop)]
 pub struct Told<'a, R> {
     rt: &'a R,

@@ -1,4 +1,4 @@
--- What a change of one block makes of all, where only its entries matter.
+-- What a change of one block makes of all, if only its entries matter.
 use Rattle.std.proofs.Common.{◌≡◌, ℕ, zero, suc, List, [], ◌∷◌, ◌++◌, take, drop, Some, None, refl, sym, ap, subst, ◌∙◌, slice_set}
 use Rattle.std.proofs.lemmas.List.{append_assoc}
 use Rattle.std.specs.List.{AllByRecursion, slice_get, insert, remove}

@@ -1,4 +1,4 @@
--- Blocks may go to another thread where their values may.
+-- Blocks may go to another thread if their values may.
 use denote.RattleType.{RattleType}
 use denote.Struct.Declared.{shape}
 use denote.Struct.Tuple.{Tuple, tuple_type}

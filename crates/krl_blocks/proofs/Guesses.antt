@@ -32,7 +32,7 @@ up_to_last k (n ∷ ns) l p h e lt =
     let r = up_to_last n ns l p h.1 e lt in let up = h.0.0 in let le = r.1 in
     ((lt-ltb k p (omega (arith, up, le, lt)), r.0), omega (arith, up, le))
 
--- where the last lies below the point, all do
+-- if the last lies below the point, all do
 pub below_by_last : (ns : List ℕ) (l p : ℕ) → Rises ns → Some l ≡ slice_get ns (length ns - 1) → nat_lt l p ≡ true → AllByRecursion (λ t. nat_lt t p ≡ true) ns
 below_by_last [] l p h e t = tt
 below_by_last (n ∷ ns) l p h e t = (up_to_last n ns l p h (e ∙ ap (slice_get (n ∷ ns)) (let less : length (n ∷ ns) - 1 ≡ length ns = omega arith in less)) (ltb-true l p t)).0
@@ -49,7 +49,7 @@ above_from : (k : ℕ) (ns : List ℕ) (p : ℕ) → Above k ns → p ≤ k → 
 above_from k [] p h le = tt
 above_from k (n ∷ ns) p h le = let up = h.0 in (le-ltb n p (omega (arith, up, le)), above_from k ns p h.1 le)
 
--- where the first does not lie below the point, none does
+-- if the first does not lie below the point, none does
 pub from_by_first : (ns : List ℕ) (f p : ℕ) → Rises ns → Some f ≡ slice_get ns 0 → nat_le p f ≡ true → AllByRecursion (λ t. nat_lt t p ≡ false) ns
 from_by_first [] f p h e t = tt
 from_by_first (n ∷ ns) f p h e t = let same : f ≡ n = cc in let le = leb-true p f t in (le-ltb n p (omega (arith, same, le)), above_from n ns p h.0 (omega (arith, same, le)))

@@ -350,7 +350,7 @@ module _ {V : Type 0} where
 pub last_index : (n m : ℕ) → n ≡ m → 0 < m → suc (n - 1) ≡ m
 last_index n m e some = omega (arith, e, some)
 
--- few blocks, where neighbours are not thin
+-- few blocks, if neighbours are not thin
 pub few_blocks : {V : Type 0} (n : ℕ) (xs : List (List (ℕ × V))) → AllByRecursion IsFilled xs → AreThick n xs → 16 * length xs ≤ length (flat xs) + 15
 few_blocks n [] each h = omega arith
 few_blocks n (x ∷ []) each h = let some = each.0 in let a = length_join x [] in omega (arith, some, a)
@@ -361,7 +361,7 @@ few_blocks n (x ∷ y ∷ xs) each h =
     let both = h.1.0 in
     omega (arith, ih, a, b, both)
 
--- so where there is room for an entry there is room for a block
+-- so if there is room for an entry there is room for a block
 pub some_room : {V : Type 0} (ts : Vec ℕ) (s : Shelved V) (len room : ℕ) → IsHeld ts s len room → length (flat s.blocks) < room → length s.blocks < s.most
 some_room ts s len room h lt =
     let k = h.kept in

@@ -54,7 +54,7 @@ module _ {V : Type 0} where
   last_key_at (x ∷ es) zero e h = let same : e ≡ x = cc in ap (λ (y : ℕ × V). Some y.0) same
   last_key_at (x ∷ es) (suc i) e h = last_key_at es i e h
 
-  -- where the last key is near, all are
+  -- if the last key is near, all are
   pub keys_near_all : (es : List (ℕ × V)) (e : ℕ × V) → KeysRise es → Some e ≡ slice_get es (length es - 1) → e.0 < 9223372036854775808 → AreKeysNear es
   keys_near_all es e h last lt =
       near_keys es (near_all (keys es) e.0 (keys_rise es h) (last_key_at es (length es - 1) e last ∙ ap (λ n. slice_get (keys es) (n - 1)) (sym (keys_length es))) lt)

@@ -136,7 +136,7 @@ laid_from p low (t ∷ ts) [] h le = absurd h
 laid_from p low (t ∷ ts) (x ∷ xs) h le =
     every_append (λ e. nat_lt e.0 p ≡ false) x (flat xs) (ends_from p low x t h.0 le) (laid_from p (suc t) ts xs h.1 (omega (arith, le, ends_top low x t h.0)))
 
--- the last number, or this where there is none
+-- the last number, or this if there is none
 abbrev pub last_of : Option ℕ → List ℕ → Option ℕ
 last_of o [] = o
 last_of o (n ∷ ns) = last_of (Some n) ns

@@ -26,7 +26,7 @@ module _ (p : ℕ) (ns : List ℕ) (part : IsPartitionedBy (λ t. nat_lt t p) ns
   abbrev High : ℕ → Type 0
   High i = AllWithin (λ t. nat_lt t p ≡ false) ns i (length ns)
 
-  -- where the number at j is below the point, so are those before it
+  -- if the number at j is below the point, so are those before it
   low_to : (j : ℕ) → j < length ns → nat_lt (slice_index_or ns j 0) p ≡ true → Low (j + 1)
   low_to j l up k d a b = part k j d (omega (arith, b)) l (ap (λ x. nat_lt x p) (same_read ns j d 0 l) ∙ up)
 

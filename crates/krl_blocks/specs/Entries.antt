@@ -29,7 +29,7 @@ AreFrom p es = AllByRecursion (λ e. nat_lt e.0 p ≡ false) es
 abbrev pub NoKey : {V : Type 0} → ℕ → List (ℕ × V) → Type 0
 NoKey k es = AllByRecursion (λ e. e.0 ≢ k) es
 
--- the last key, or o where there is none
+-- the last key, or o if there is none
 abbrev pub last_key : {V : Type 0} → Option ℕ → List (ℕ × V) → Option ℕ
 last_key o [] = o
 last_key o (e ∷ es) = last_key (Some e.0) es
@@ -41,7 +41,7 @@ pub record HasEntry {V : Type 0} (es : List (ℕ × V)) (k : ℕ) (v : V) : Type
   pub whole : es ≡ front ++ (k, v) ∷ back
 
 -- the entries below p stand in front, and the others behind; the last key in front is before, and
--- the list run begins what stands behind, with at least one entry where there is any
+-- the list run begins what stands behind, with at least one entry if there is any
 pub record IsFound {V : Type 0} (es : List (ℕ × V)) (p : ℕ) (before : Option ℕ) (run : List (ℕ × V)) : Type 0 where
   pub front : List (ℕ × V)
   pub rest : List (ℕ × V)
@@ -51,7 +51,7 @@ pub record IsFound {V : Type 0} (es : List (ℕ × V)) (p : ℕ) (before : Optio
   pub last : before ≡ last_key None front
   pub some : run ≡ [] → rest ≡ []
 
--- the list run begins what stands from p on, with at least one entry where there is any
+-- the list run begins what stands from p on, with at least one entry if there is any
 pub record IsRun {V : Type 0} (es : List (ℕ × V)) (p : ℕ) (run : List (ℕ × V)) : Type 0 where
   pub front : List (ℕ × V)
   pub rest : List (ℕ × V)

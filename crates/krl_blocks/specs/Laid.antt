@@ -19,7 +19,7 @@ abbrev pub Rises : List ℕ → Type 0
 Rises [] = Unit {0}
 Rises (n ∷ ns) = Above n ns × Rises ns
 
--- the keys rise from above k on, and the last of them is top, or k is where there is none
+-- the keys rise from above k on, and the last of them is top, or k is if there is none
 abbrev pub EndsAfter : {V : Type 0} → ℕ → List (ℕ × V) → ℕ → Type 0
 EndsAfter k [] top = k ≡ top
 EndsAfter k (e ∷ es) top = (k < e.0) × EndsAfter e.0 es top
@@ -43,7 +43,7 @@ LaidTo low [] (x ∷ xs) top = ⊥
 LaidTo low (t ∷ ts) [] top = ⊥
 LaidTo low (t ∷ ts) (x ∷ xs) top = EndsAt low x t × LaidTo (suc t) ts xs top
 
--- each two neighbours have more than 32 entries together, where n entries stand before the first
+-- each two neighbours have more than 32 entries together, if n entries stand before the first
 abbrev pub AreThick : {V : Type 0} → ℕ → List (List (ℕ × V)) → Type 0
 AreThick n [] = Unit {0}
 AreThick n (x ∷ xs) = (32 < n + length x) × AreThick (length x) xs
@@ -52,7 +52,7 @@ AreThick n (x ∷ xs) = (32 < n + length x) × AreThick (length x) xs
 abbrev pub IsSmall : {V : Type 0} → List (ℕ × V) → Type 0
 IsSmall x = length x ≤ 64
 
--- how many entries the last block has, or n where there is none
+-- how many entries the last block has, or n if there is none
 abbrev pub last_length : {V : Type 0} → ℕ → List (List (ℕ × V)) → ℕ
 last_length n [] = n
 last_length n (x ∷ xs) = last_length (length x) xs

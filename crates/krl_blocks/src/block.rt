@@ -1,4 +1,4 @@
-//! One block of a shelf: entries whose keys rise. Where an entry is looked for, the guess of its
+//! One block of a shelf: entries whose keys rise. When an entry is looked for, the guess of its
 //! place is looked at first.
 ghost use Rattle.std.specs.Prelude.{◌≡◌, ◌<◌, length, IfSome, MatchOption, slice_get, ◌++◌, ◌∷◌};
 ghost use Rattle.std.specs.Prelude.{[]};
@@ -7,7 +7,7 @@ ghost use Rattle.krl_blocks.specs.Shelves.{IsOneOther};
 ghost use Rattle.krl_blocks.specs.Laid.{AreHalved};
 
 use crate::search::count_keys;
-use crate::shelf::{MOST, Shelf};
+use crate::shelf::{MAX_IN_BLOCK, Shelf};
 
 /// Puts an entry of a key that no entry has into the block there, which has room for it.
 pub fn put_in<V: Copy + Drop>(shelf: &mut Shelf<V>, b: usize, key: u64, value: V, guess: usize)
@@ -93,7 +93,7 @@ pub fn halve<V: Copy + Drop>(shelf: &mut Shelf<V>, b: usize) -> u64
     ensures halves { AreHalved shelf.old.blocks shelf.new.blocks b result }
     ensures most { shelf.new.most ≡ shelf.old.most }
 {
-    let half = MOST / 2;
+    let half = MAX_IN_BLOCK / 2;
     let (top, _) = shelf.get(b)[half - 1];
     shelf.split(b, half);
     top

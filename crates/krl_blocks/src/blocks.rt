@@ -48,7 +48,7 @@ impl<V: Copy + Drop> Blocks<V> {
     ///
     /// # Errors
     ///
-    /// `AllocError` where memory is refused.
+    /// `AllocError` if memory is refused.
     pub fn from_sorted(
         alloc: Global,
         entries: &[(u64, V)],
@@ -71,7 +71,7 @@ impl<V: Copy + Drop> Blocks<V> {
     ///
     /// # Errors
     ///
-    /// `AllocError` where memory is refused. Nothing has changed then.
+    /// `AllocError` if memory is refused. Nothing has changed then.
     pub fn reserve(&mut self, entries: usize) -> Result<(), AllocError>
         ensures list { self.new.list ≡ self.old.list }
         ensures room { OnOk result (entries ≤ self.new.room) }
@@ -111,7 +111,7 @@ impl<V: Copy + Drop> Blocks<V> {
     }
 
     /// The entries from the first at or above the point, as far as its block goes: there is at
-    /// least one, where there is any. A walk asks again behind the last of them.
+    /// least one, if there is any. A walk asks again behind the last of them.
     pub fn run(&self, point: u64) -> &[(u64, V)]
         ensures { IsRun self.now.list point result.now }
     {
@@ -150,7 +150,7 @@ impl<V: Copy + Drop> Blocks<V> {
         self.len += 1;
     }
 
-    /// Gives the entry of the key another value, and answers the one before; None where no entry
+    /// Gives the entry of the key another value, and answers the one before; None if no entry
     /// has the key, and then nothing changes.
     pub fn set(&mut self, key: u64, value: V) -> Option<V>
         ensures changed { MatchOption result (NoKey key self.old.list × (self.new ≡ self.old))
@@ -160,7 +160,7 @@ impl<V: Copy + Drop> Blocks<V> {
         self.layout.set(key, value)
     }
 
-    /// Takes out the entry of the key, and answers its value; None where no entry has the key, and
+    /// Takes out the entry of the key, and answers its value; None if no entry has the key, and
     /// then nothing changes. It takes no memory, and gives none back.
     pub fn remove(&mut self, key: u64) -> Option<V>
         ensures removed { MatchOption result (NoKey key self.old.list × (self.new ≡ self.old))

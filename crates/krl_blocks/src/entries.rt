@@ -7,7 +7,7 @@ use crate::shelf::Shelf;
 /// All entries of a map in key order, as runs of entries that lie side by side.
 #[derive(Clone, Copy)]
 pub struct Entries<'a, V> {
-    // None where there is no map, and so no entry.
+    // None if there is no map, and so no entry.
     pub(crate) shelf: Option<&'a Shelf<V>>,
 }
 

@@ -11,7 +11,7 @@ use crate::block::{halve, push_in, put_in, set_in, take_from};
 use crate::finger::Finger;
 use crate::found::Found;
 use crate::search::{count_keys, count_tops};
-use crate::shelf::{MOST, Shelf};
+use crate::shelf::{MAX_IN_BLOCK, Shelf};
 use std::alloc::{AllocError, Global};
 
 /// Two neighbours with this many entries together, or fewer, are merged.
@@ -46,7 +46,7 @@ impl<V: Copy + Drop> Layout<V> {
     ///
     /// # Errors
     ///
-    /// `AllocError` where memory is refused. The blocks are as before then, and so is the room.
+    /// `AllocError` if memory is refused. The blocks are as before then, and so is the room.
     pub fn reserve(&mut self, blocks: usize) -> Result<(), AllocError>
         requires kept { IsKept self.old.tops self.old.shelf }
         ensures kept { IsKept self.new.tops self.new.shelf }
@@ -152,7 +152,7 @@ impl<V: Copy + Drop> Layout<V> {
             → length self.new.shelf.blocks < self.new.shelf.most }
     {
         let b = count_tops(&self.tops, key, self.finger.block);
-        if b >= self.shelf.len() || self.shelf.get(b).len() < MOST {
+        if b >= self.shelf.len() || self.shelf.get(b).len() < MAX_IN_BLOCK {
             return b;
         }
         self.part(b);
@@ -203,7 +203,7 @@ impl<V: Copy + Drop> Layout<V> {
         ensures { result ≡ nat_le 64 (last_length 64 self.now.shelf.blocks) }
     {
         let blocks = self.shelf.len();
-        blocks == 0 || self.shelf.get(blocks - 1).len() >= MOST
+        blocks == 0 || self.shelf.get(blocks - 1).len() >= MAX_IN_BLOCK
     }
 
     // Puts the entry behind all others, into the last block, which has room.
@@ -283,7 +283,7 @@ impl<V: Copy + Drop> Layout<V> {
         self.shelf.remove(b);
     }
 
-    // Merges the block there with a neighbour, where they have few entries together.
+    // Merges the block there with a neighbour, if they have few entries together.
     fn mend(&mut self, b: usize)
         requires nearly { IsNearly self.old.tops self.old.shelf b }
         requires within { b < length self.old.shelf.blocks }

@@ -21,7 +21,8 @@ pub struct ReservedMap<V> {
 }
 
 impl<V> Model for ReservedMap<V> {
-    ghost use Rattle.krl_blocks.specs.ReservedMaps.{MapWithRoom, map_with_room_code, kept, IsReservedMap};
+    ghost use Rattle.krl_blocks.specs.ReservedMaps.{MapWithRoom, map_with_room_code, kept};
+    ghost use Rattle.krl_blocks.specs.ReservedMaps.{IsReservedMap};
 
     ghost Value = { MapWithRoom V };
 
@@ -52,7 +53,7 @@ impl<V: Drop> ReservedMap<V> {
     ///
     /// # Errors
     ///
-    /// `AllocError` where memory is refused.
+    /// `AllocError` if memory is refused.
     pub fn with_room(alloc: Global, room: usize) -> Result<ReservedMap<V>, AllocError>
         ensures { IfOk result (λ s. s ≡ record { map = map.empty; room = room }) }
     {
@@ -102,7 +103,7 @@ impl<V: Drop> ReservedMap<V> {
         }
     }
 
-    /// Gives the key another value, and answers the one before; None where it had none, and then
+    /// Gives the key another value, and answers the one before; None if it had none, and then
     /// nothing changes.
     pub fn replace(&mut self, key: u64, value: V) -> Option<V>
         ensures before { result ≡ map.get self.old.map key }

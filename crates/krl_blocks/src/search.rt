@@ -1,4 +1,4 @@
-//! Searches in one list. A guess is looked at first: where it is right, no search is needed.
+//! Searches in one list. A guess is looked at first: if it is right, no search is needed.
 ghost use Rattle.std.specs.Prelude.{◌≡◌, ◌≤◌, nat_lt, true, false, length, take, drop};
 ghost use Rattle.std.specs.List.{AllByRecursion};
 ghost use Rattle.krl_blocks.specs.Entries.{KeysRise, AreBelow, AreFrom};

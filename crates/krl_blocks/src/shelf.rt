@@ -9,7 +9,7 @@ use std::alloc::{AllocError, Global};
 use std::marker::Model;
 
 /// The most entries of a block.
-pub const MOST: usize = 64;
+pub const MAX_IN_BLOCK: usize = 64;
 
 /// Blocks in an order of their own, seen as their list and as how many there may be with no more
 /// memory. Each lies in 64 cells of one list, and stays there when blocks come or go before it. The
@@ -53,7 +53,7 @@ fn free_place<V: Copy + Drop>(
     match spare.pop() {
         Some(place) => place,
         None => {
-            cells.resize(cells.len() + MOST, entry).unwrap();
+            cells.resize(cells.len() + MAX_IN_BLOCK, entry).unwrap();
             next
         }
     }
@@ -77,7 +77,7 @@ impl<V: Copy + Drop> Shelf<V> {
     ///
     /// # Errors
     ///
-    /// `AllocError` where memory is refused. Nothing has changed then.
+    /// `AllocError` if memory is refused. Nothing has changed then.
     pub fn reserve(&mut self, most: usize) -> Result<(), AllocError>
         ensures blocks { self.new.blocks ≡ self.old.blocks }
         ensures most { OnOk result (self.new.most ≡ max self.old.most most) }
@@ -86,7 +86,7 @@ impl<V: Copy + Drop> Shelf<V> {
         if most <= self.most {
             return Ok(());
         }
-        let cells = most.checked_mul(MOST).ok_or(AllocError)?;
+        let cells = most.checked_mul(MAX_IN_BLOCK).ok_or(AllocError)?;
         self.order.reserve_exact(most - self.order.len())?;
         self.spare.reserve_exact(most - self.spare.len())?;
         self.cells.reserve_exact(cells - self.cells.len())?;
@@ -107,7 +107,7 @@ impl<V: Copy + Drop> Shelf<V> {
         ensures { Some result.now ≡ slice_get self.now.blocks b }
     {
         let spot = self.order[b];
-        let (_, cells) = self.cells.split_at(MOST * spot.place);
+        let (_, cells) = self.cells.split_at(MAX_IN_BLOCK * spot.place);
         let (block, _) = cells.split_at(spot.len);
         block
     }
@@ -121,7 +121,7 @@ impl<V: Copy + Drop> Shelf<V> {
         ensures most { self.new.most ≡ self.old.most }
     {
         let spot = self.order[b];
-        let from = MOST * spot.place;
+        let from = MAX_IN_BLOCK * spot.place;
         let at = from + i;
         self.cells.copy_within(at..from + spot.len, at + 1);
         self.cells[at] = entry;
@@ -137,7 +137,7 @@ impl<V: Copy + Drop> Shelf<V> {
         ensures most { self.new.most ≡ self.old.most }
     {
         let spot = self.order[b];
-        let from = MOST * spot.place;
+        let from = MAX_IN_BLOCK * spot.place;
         let at = from + i;
         self.cells.copy_within(at + 1..from + spot.len, at);
         let len = spot.len - 1;
@@ -153,7 +153,7 @@ impl<V: Copy + Drop> Shelf<V> {
         ensures most { self.new.most ≡ self.old.most }
     {
         let spot = self.order[b];
-        let at = MOST * spot.place + i;
+        let at = MAX_IN_BLOCK * spot.place + i;
         self.cells[at] = entry;
     }
 
@@ -165,7 +165,7 @@ impl<V: Copy + Drop> Shelf<V> {
     {
         let next = self.order.len();
         let place = free_place(&mut self.spare, &mut self.cells, next, entry);
-        let at = MOST * place;
+        let at = MAX_IN_BLOCK * place;
         self.cells[at] = entry;
         self.order.push(Spot { place, len: 1 }).unwrap();
     }
@@ -180,12 +180,12 @@ impl<V: Copy + Drop> Shelf<V> {
         ensures most { self.new.most ≡ self.old.most }
     {
         let spot = self.order[b];
-        let from = MOST * spot.place;
+        let from = MAX_IN_BLOCK * spot.place;
         let entry = self.cells[from];
         let next = self.order.len();
         let place = free_place(&mut self.spare, &mut self.cells, next, entry);
         self.cells
-            .copy_within(from + i..from + spot.len, MOST * place);
+            .copy_within(from + i..from + spot.len, MAX_IN_BLOCK * place);
         self.order[b] = Spot { len: i, ..spot };
         let len = spot.len - i;
         self.order.insert(b + 1, Spot { place, len }).unwrap();
@@ -201,8 +201,8 @@ impl<V: Copy + Drop> Shelf<V> {
     {
         let upper = self.order.remove(b + 1);
         let lower = self.order[b];
-        let from = MOST * upper.place;
-        let end = MOST * lower.place + lower.len;
+        let from = MAX_IN_BLOCK * upper.place;
+        let end = MAX_IN_BLOCK * lower.place + lower.len;
         self.cells.copy_within(from..from + upper.len, end);
         let len = lower.len + upper.len;
         self.order[b] = Spot { len, ..lower };

@@ -130,7 +130,7 @@ starts_off {F} {V} T f₀ lo hi es i t l sorted between_is = record {
     out : es ≡ take i es ++ (until t (drop i es) ++ past t (drop i es)) → until t (drop i es) ≡ filter (λ (e : ℕ × V). lies_in lo hi e.0) es → AreOut lo hi (take i es) × AreOut lo hi (past t (drop i es))
     out is all = outs lo hi (take i es) (until t (drop i es)) (past t (drop i es)) (all_in all) (ap (few lo hi) (sym is) ∙ counted lo hi es (until t (drop i es)) all)
 
--- where nothing of the map lies in the span
+-- if nothing of the map lies in the span
 pub empty_span : {F V : Type 0} (T : F → ℕ → V → Bool → V → F → Type 0) (f₀ : F) (lo hi : ℕ) (es : List (ℕ × V)) → lo ≤ hi → IsStrictlySortedBy nat_cmp (keys_of es) → [] ≡ entries_between nat_cmp (Included lo) (Excluded hi) es → Stands T f₀ lo hi es f₀ [] es
 empty_span {F} {V} T f₀ lo hi es l sorted none = record {
   front = es;

@@ -17,7 +17,7 @@ same_of false false e = refl
 pub past_end : TOP ≡ suc END
 past_end = refl
 
--- a span whose last point is p ends at END exactly where p is END
+-- a span whose last point is p ends at END exactly if p is END
 pub last_not_end : (s : Bounds) (p : ℕ) → is_last s p ≡ true → p ≢ END → ends_at_end s ≡ false
 last_not_end s p e n = by_test (ends_at_end s) refl
   where

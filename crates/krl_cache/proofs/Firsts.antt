@@ -26,7 +26,7 @@ first_by {V} f r t e lo hi steps here least =
           omega arith);
     }
 
--- where a range has no end
+-- if a range has no end
 pub first_after : {V : Type 0} (f : ℕ → Option V) (r t : List (ℕ × V)) (e : ℕ × V) (lo : ℕ) (E : ℕ → Type 0) → ((q : ℕ) → E q) → r ≡ e ∷ t → IfSome (slice_get r 0) (λ x. ((is_gt (nat_cmp lo x.0) ≡ false) × E x.0) × (f x.0 ≡ Some x.1)) → ((q : ℕ) → (is_gt (nat_cmp lo q) ≡ false) × E q → IsSome (f q) → IfSome (slice_get r 0) (λ x. is_gt (nat_cmp x.0 q) ≡ false)) → IsFirst f lo (suc e.0) e
 first_after {V} f r t e lo E all steps here least =
     let at = subst (λ (xs : List (ℕ × V)). IfSome (slice_get xs 0) (λ x. ((is_gt (nat_cmp lo x.0) ≡ false) × E x.0) × (f x.0 ≡ Some x.1))) steps here in

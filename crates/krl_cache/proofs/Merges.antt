@@ -10,7 +10,7 @@ before_one f (suc p) a b h k = sym (h.later (omega arith)) ∙ k.later (omega ar
 before_as : (f g : ℕ → Option RangePart) (p : ℕ) (v : RangePart) → (0 < p → part_at g (p - 1) ≡ part_at f (p - 1)) → HoldsBefore g p v → HoldsBefore f p v
 before_as f g p v same h = record { first = h.first; later = λ up. sym (same up) ∙ h.later up }
 
--- where the same begins, or nothing, and the same held before
+-- if the same begins, or nothing, and the same held before
 pub anew_still : (f g : ℕ → Option RangePart) (q : ℕ) → ((v : RangePart) → g q ≡ Some v → f q ≡ Some v) → (0 < q → part_at g (q - 1) ≡ part_at f (q - 1)) → BeginsAnew f q → BeginsAnew g q
 anew_still f g q stay same anew v here before = anew v (stay v here) (before_as f g q v same before)
 
@@ -100,7 +100,7 @@ anew_lowered f g n k lo hi keep m l ends new kept parts within merged =
     outside : (q : ℕ) → (q < lo) ⊎ (hi < q) → n q ≡ f q
     outside q out = new.each q ∙ elsewhere q _ (g q) out ∙ as_before q out
 
--- one part is put on its span, where both ends begin: between the ends of other spans, starts begin anew still
+-- one part is put on its span, if both ends begin: between the ends of other spans, starts begin anew still
 pub anew_filled : (f g : ℕ → Option RangePart) (lo hi q : ℕ) (part : RangePart) → lo < hi → ((p : ℕ) → g p ≡ cond (nat_eq p lo) (Some part) (cond (lies_in lo hi p) None (f p))) → ((p : ℕ) → part_at g p ≡ cond (lies_in lo hi p) part (part_at f p)) → q ≢ lo → q ≢ hi → BeginsAnew f q → BeginsAnew g q
 anew_filled f g lo hi q part l new parts a b anew =
     elim (leb_tells lo q) [

@@ -16,18 +16,21 @@ pub use Rattle.std.specs.Prelude.{nat_lt, slice_get, nat_eq}
 pub use Rattle.std.specs.declared.cmp.Ordering.TheVariants.{Equal, Less, Greater}
 pub use Rattle.std.specs.declared.ops.Bound.TheVariants.{Excluded, Unbounded, Included}
 pub use Rattle.krl_cache.specs.Backs.{AreBefore, IsBelow, Skips, back_of, part_last, list_to, TakesFrom}
-pub use Rattle.krl_cache.specs.Beliefs.{is_covered, is_last, IsLeastUncovered, CallsKeepBelief, IsBelief, AreRows, lower, adopt, Belief, RowsAreDetermined, adopt_all, CoversAll, no_belief, is_span}
-pub use Rattle.krl_cache.specs.Kept.{range_said, Describes, BeliefsAreDescribed, DiffersFromNext, AreInOrder, key_said, AreMerged, AreAscending}
-pub use Rattle.krl_cache.specs.Lists.{belief_by, row_value, entry_of, pick, lies_in, own_entry, key_piece, AreRead, tagged, StandWithin, RiseWithin, value_of, entry_lowered, part_of}
-pub use Rattle.krl_cache.specs.Maps.{AreNext, piece_of, at, AreMapsKept, KeepsParts, EndsAlike, IsUndone, IsPlaced, HoldsBefore, AreStartsMerged, Maps, BeginsAnew, HasEnds, lowered_part, CanUndo}
-pub use Rattle.krl_cache.specs.Maps.{IsChanged, IsPast, gone, IsFree, row_of, IsFirst, maps_believe}
+pub use Rattle.krl_cache.specs.Beliefs.{is_covered, is_last, IsLeastUncovered, AreRows, lower, adopt, Belief, adopt_all, CoversAll, no_belief, is_span}
+pub use Rattle.krl_cache.specs.Laws.{CallsKeepBelief, IsBelief, RowsAreDetermined, BeliefsAreDescribed}
+pub use Rattle.krl_cache.specs.Kept.{range_reported_at, Describes, DiffersFromNext, AreInOrder, key_said, AreMerged, AreAscending}
+pub use Rattle.krl_cache.specs.Lists.{belief_by, value_of, part_of}
+pub use Rattle.krl_cache.specs.Entries.{row_value, entry_of, pick, lies_in, own_entry, key_piece, AreRead, tagged, StandWithin, RiseWithin, entry_lowered}
+pub use Rattle.krl_cache.specs.MapSteps.{AreNext, piece_of, AreMapsKept, KeepsParts, EndsAlike, IsUndone, IsPlaced, HoldsBefore, AreStartsMerged, BeginsAnew, HasEnds, lowered_part, CanUndo, IsChanged, IsPast, gone, IsFree, row_of, IsFirst}
+pub use Rattle.krl_cache.specs.Maps.{at, Maps, maps_believe}
 unfoldable pub use Rattle.krl_cache.specs.Maps.{part_at}
 pub use Rattle.krl_cache.specs.Several.{parts_after, is_slot_of, CanUndoBoth, entries_after, AreReady, HasRoom, is_end_of, AreMergedBetween}
 pub use Rattle.krl_cache.specs.Sifts.{Stands, StandsAt, Rise, AreOut, Sifts, IsSifted}
 pub use Rattle.krl_cache.specs.Walks.{left_of, is_known, IsGap, AreKnown, StandsFrom, TakesBelow, Walks}
 pub use Rattle.krl_cache.specs.declared.entry.Entry.{Entry}
 pub use Rattle.krl_messages.specs.Holdings.{ends_at_end, same, has_its_value}
-pub use Rattle.krl_messages.specs.Several.{have_values, IsBefore, Ascend}
+pub use Rattle.krl_messages.specs.Several.{have_values}
+pub use Rattle.krl_messages.specs.Ascending.{IsBefore, Ascend}
 pub use Rattle.krl_messages.specs.Values.{Value}
 pub use Rattle.krl_messages.specs.declared.holding.Holding.{Holding}
 pub use Rattle.krl_messages.specs.declared.range_pieces.RangePiece.{RangePiece}

@@ -234,7 +234,7 @@ pub record IsAt (f : ℕ → Option RangePart) (p : ℕ) (r : Option (ℕ × Ran
   pub here : f p ≡ part_taken r
   pub before : AreBefore f p xs
 
--- what is taken at p, where nothing above it is left
+-- what is taken at p, if nothing above it is left
 pub taken_at : (f : ℕ → Option RangePart) (p : ℕ) (old : Back) (r : Option (ℕ × RangePart)) (new : Back) → AreBefore f (p + 1) (back_of old) → TakesFrom p old r new → IsAt f p r (back_of new)
 taken_at f p old None new h t =
     let o = out f p (p + 1) old.rest old.last (omega arith) t.0 h in

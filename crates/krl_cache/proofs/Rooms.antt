@@ -110,7 +110,7 @@ ready_from low (h ∷ hs) f g d e x a b r =
       ready_from low hs f g d e x.2 a b r.1,
     )
 
--- one part is put on its span, where both ends begin
+-- one part is put on its span, if both ends begin
 pub part_filled : (f g : ℕ → Option RangePart) (lo hi : ℕ) (part : RangePart) → lo < hi → IsSome (f lo) → IsSome (f hi) → ((q : ℕ) → g q ≡ cond (nat_eq q lo) (Some part) (cond (lies_in lo hi q) None (f q))) → (p : ℕ) → part_at g p ≡ cond (lies_in lo hi p) part (part_at f p)
 part_filled f g lo hi part l a b new p =
     part_made f f g lo hi (λ q. part) p (filled f f g lo hi part l (record { low = some_of f lo (f lo) refl a; high = some_of f hi (f hi) refl b; others = λ q x y. refl }) new)

@@ -129,7 +129,7 @@ keeps_same f g same = record {
   stay = λ q v h. sym (same q) ∙ h;
 }
 
--- what is asked of each start: it goes where its part held before, and its part holds before the next
+-- what is asked of each start: it goes if its part held before, and its part holds before the next
 pub record Merges {F : Type 0} (T : F → ℕ → RangePart → Bool → RangePart → F → Type 0) (before : F → RangePart) : Type 0 where
   pub stays : (f : F) (k : ℕ) (v : RangePart) (b : Bool) (w : RangePart) (g : F) → T f k v b w g → w ≡ v
   pub next : (f : F) (k : ℕ) (v : RangePart) (b : Bool) (w : RangePart) (g : F) → T f k v b w g → before g ≡ v

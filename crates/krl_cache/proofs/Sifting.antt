@@ -119,7 +119,7 @@ module _ {F V : Type 0} (T : F → ℕ → V → Bool → V → F → Type 0) wh
     sifts = sifts_on f₀ s.asked [] f f s.kept [] s.ran (refl, refl);
   }
 
-  -- where nothing is left to ask, a step changes nothing
+  -- if nothing is left to ask, a step changes nothing
   still : (j : ℕ) (now fs kept ys : List (ℕ × V)) (r : Option (ℕ × V)) → r ≡ None → kept ≡ [] → fs ≡ take j now ++ (kept ++ drop (j + length kept + length (option_to_list r)) now) → fs ≡ now
   still j now fs kept ys r quiet none is =
       is ∙ ap (λ (k : List (ℕ × V)). take j now ++ (k ++ drop (j + length k + length (option_to_list r)) now)) none

@@ -78,7 +78,7 @@ part_marked f g p m = part_is g (part_at f) (marked_first f g (m.each 0)) (λ q.
 
 -- The same part begins anew
 
--- g is f without the key k, where the part that begins there held before
+-- g is f without the key k, if the part that begins there held before
 pub record IsMerged (f g : ℕ → Option RangePart) (k : ℕ) : Type 0 where
   pub part : RangePart
   pub here : f k ≡ Some part
@@ -137,7 +137,7 @@ merged f g k part here before out =
       stay = λ q v h. some_either (nat_eq q k) (f q) v (sym (out q) ∙ h);
     }
 
--- where nothing begins from p on below q, what held before p holds before q
+-- if nothing begins from p on below q, what held before p holds before q
 pub holds_later : (f : ℕ → Option RangePart) (p q : ℕ) (before : RangePart) → p ≤ q → IsFree f p q → HoldsBefore f p before → HoldsBefore f q before
 holds_later f p q before l free h = record {
   first = λ e. h.first (omega (arith, l, e));

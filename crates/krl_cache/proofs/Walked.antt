@@ -25,7 +25,7 @@ stands_free f p hi end (e ∷ es) l h s = λ q a b. h.0.free q a (omega (arith, 
 pub gap_read : (part : RangePart) (f : ℕ → Option Entry) (lo hi : ℕ) → reads_gap part ≡ true → AreKnown part f lo hi
 gap_read part f lo hi r = λ q a b. or_right (reads_key (part_of (f q))) (reads_gap part) r
 
--- an entry at p that is read, where each point before is known
+-- an entry at p that is read, if each point before is known
 one_more : (part : RangePart) (f : ℕ → Option Entry) (lo p : ℕ) (e : ℕ × Entry) → AreKnown part f lo p → f e.0 ≡ Some e.1 → p ≡ e.0 → reads_key e.1.part ≡ true → AreKnown part f lo (e.0 + 1)
 one_more part f lo p e known here same reads q a b =
     elim (leb_tells e.0 q) [

@@ -3,7 +3,8 @@ use Rattle.std.specs.Prelude.{◌≡◌, ℕ, ◌≤◌, ◌<◌, Bool, false, L
 use Rattle.krl_modes.specs.declared.part.RangePart.{RangePart}
 use Rattle.krl_modes.specs.declared.part.RangePart.TheVariants as range
 use Rattle.krl_cache.specs.declared.back.Back.{Back}
-use Rattle.krl_cache.specs.Maps.{at, IsFree}
+use Rattle.krl_cache.specs.Maps.{at}
+use Rattle.krl_cache.specs.MapSteps.{IsFree}
 use Rattle.krl_cache.specs.Sifts.{Rise}
 
 -- those before the last of a list, and the last, if any
@@ -15,7 +16,7 @@ list_to rest (Some e) = rest ++ e ∷ []
 abbrev pub back_of : Back → List (ℕ × RangePart)
 back_of w = list_to w.rest w.last
 
--- the part of the last start, or N where there is none
+-- the part of the last start, or N if there is none
 abbrev pub part_last : Option (ℕ × RangePart) → RangePart
 part_last None = range.N
 part_last (Some e) = e.1
@@ -31,7 +32,7 @@ pub record AreBefore (f : ℕ → Option RangePart) (p : ℕ) (xs : List (ℕ ×
   pub each : (q : ℕ) → q < p → at xs q ≡ f q
   pub past : (q : ℕ) → p ≤ q → at xs q ≡ None
 
--- the last start is taken, where it is at p or after it
+-- the last start is taken, if it is at p or after it
 abbrev pub TakesFrom : ℕ → Back → Option (ℕ × RangePart) → Back → Type 0
 TakesFrom p old None new = IsBelow p old.last × (new ≡ old)
 TakesFrom p old (Some e) new = (p ≤ e.0) × (back_of old ≡ back_of new ++ e ∷ [])

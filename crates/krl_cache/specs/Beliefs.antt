@@ -1,9 +1,9 @@
 -- What a client believes: a range part, a key part and a value at each point; what each call of a
 -- cache makes of it.
-use Rattle.std.specs.Prelude.{◌≡◌, ◌≢◌, ℕ, suc, ◌≤◌, ◌<◌, Bool, true, false, ◌&&◌, ◌||◌, Option, Some, None, List, [], ◌∷◌, if◌then◌else◌, nat_eq, nat_lt, nat_le}
+use Rattle.std.specs.Prelude.{◌≡◌, ℕ, suc, ◌≤◌, ◌<◌, Bool, true, false, ◌&&◌, ◌||◌, Option, None, List, [], ◌∷◌, if◌then◌else◌, nat_eq, nat_lt, nat_le}
 use Rattle.std.specs.Ordering.{nat_cmp}
 use Rattle.std.specs.FinMap.{find, is_sorted}
-use Rattle.krl_modes.specs.declared.point.TheConstants.{END, TOP}
+use Rattle.krl_modes.specs.declared.point.TheConstants.{TOP}
 use Rattle.krl_modes.specs.declared.part.RangePart.{RangePart}
 use Rattle.krl_modes.specs.declared.part.RangePart.TheVariants as range
 use Rattle.krl_modes.specs.declared.part.KeyPart.{KeyPart}
@@ -13,7 +13,6 @@ use Rattle.krl_modes.specs.Parts.{range_meet, key_meet, reads_key, reads_gap}
 use Rattle.krl_modes.specs.Modes.{range_of, key_of}
 use Rattle.krl_modes.specs.Spans.{Bounds, contains, IsPointOf}
 use Rattle.krl_messages.specs.declared.holding.Holding.{Holding}
-use Rattle.krl_messages.specs.Holdings.{has_its_value}
 use Rattle.krl_messages.specs.Values.{Value}
 use Rattle.krl_cache.specs.declared.scanned.Scanned.{Scanned}
 use Rattle.krl_cache.specs.declared.scanned.Scanned.TheVariants as scanned
@@ -95,31 +94,3 @@ pub record AreRows (b : Belief) (s : Bounds) (rows : List (ℕ × Value)) : Type
 abbrev pub Scans : Belief → Bounds → Scanned → Type 0
 Scans b s (scanned.Rows rows) = CoversAll b s × AreRows b s rows
 Scans b s (scanned.Miss p) = IsLeastUncovered b s p
-
-abbrev pub RowsAreDetermined : Type 0
-RowsAreDetermined =
-    (b : Belief) (s : Bounds) (rows others : List (ℕ × Value))
-    → AreRows b s rows → AreRows b s others → rows ≡ others
-
--- What holds of each belief
-
--- a value stands exactly where the entry is read below END; nothing stands past END
-pub record IsBelief (b : Belief) : Type 0 where
-  pub valued :
-      (p : ℕ) → p ≢ END → reads_key (b.key_at p) ≡ true → (v : Value) × (b.value_at p ≡ Some v)
-  pub no_entry : (p : ℕ) → b.key_at p ≡ key.N → b.value_at p ≡ None
-  pub at_end : b.value_at END ≡ None
-  pub past : (p : ℕ) → END < p → (b.range_at p ≡ range.N) × (b.key_at p ≡ key.N)
-
--- each call leaves a belief
-pub record CallsKeepBelief : Type 0 where
-  pub new : IsBelief no_belief
-  pub adopt :
-      (h : Holding) (b : Belief)
-      → is_span h.span ≡ true → has_its_value h ≡ true → IsBelief b → IsBelief (adopt h b)
-  pub lower : (s : Bounds) (keep : Mode) (b : Belief) → IsBelief b → IsBelief (lower s keep b)
-
--- a scan finds one thing
-abbrev pub ScansAreDetermined : Type 0
-ScansAreDetermined =
-    (b : Belief) (s : Bounds) (x y : Scanned) → Scans b s x → Scans b s y → x ≡ y

@@ -1,5 +1,5 @@
--- Lists that stand for a belief, as a Report tells them. Two lists that stand for one belief are as
--- good.
+-- Lists that stand for a belief, as a Report tells them. Any two lists that stand for one belief are
+-- interchangeable.
 use Rattle.std.specs.Prelude.{◌≡◌, ◌≢◌, ℕ, suc, ◌≤◌, ◌<◌, true, List, [], ◌∷◌, if◌then◌else◌, nat_eq}
 use Rattle.krl_modes.specs.declared.point.TheConstants.{END, TOP}
 use Rattle.krl_modes.specs.declared.part.RangePart.{RangePart}
@@ -11,13 +11,13 @@ use Rattle.krl_modes.specs.Spans.{contains}
 use Rattle.krl_messages.specs.declared.range_pieces.RangePiece.{RangePiece}
 use Rattle.krl_messages.specs.declared.key_pieces.KeyPiece.{KeyPiece}
 use Rattle.krl_messages.specs.declared.pieces.Pieces.{Pieces}
-use Rattle.krl_cache.specs.Beliefs.{Belief, IsBelief}
+use Rattle.krl_cache.specs.Beliefs.{Belief}
 
 -- What lists say of a point: the first that speaks of it, else N
 
-abbrev pub range_said : List RangePiece → ℕ → RangePart
-range_said [] p = range.N
-range_said (x ∷ xs) p = if contains x.span p then x.part else range_said xs p
+abbrev pub range_reported_at : List RangePiece → ℕ → RangePart
+range_reported_at [] p = range.N
+range_reported_at (x ∷ xs) p = if contains x.span p then x.part else range_reported_at xs p
 
 abbrev pub key_said : List KeyPiece → ℕ → KeyPart
 key_said [] p = key.N
@@ -29,7 +29,7 @@ AreInOrder lo [] = Unit {0}
 AreInOrder lo (x ∷ xs) =
     (lo ≤ x.span.lo) × (x.span.lo < x.span.hi) × (x.span.hi ≤ TOP) × AreInOrder x.span.hi xs
 
--- the next piece, where it begins as this one ends, says another part
+-- the next piece, if it begins as this one ends, says another part
 abbrev pub DiffersFromNext : RangePiece → List RangePiece → Type 0
 DiffersFromNext x [] = Unit {0}
 DiffersFromNext x (y ∷ ys) = y.span.lo ≡ x.span.hi → y.part ≢ x.part
@@ -50,9 +50,5 @@ pub record Describes (ps : Pieces) (b : Belief) : Type 0 where
   pub ranges_in_order : AreInOrder 0 ps.ranges
   pub merged : AreMerged ps.ranges
   pub keys_in_order : AreAscending 0 ps.keys
-  pub ranges : (p : ℕ) → range_said ps.ranges p ≡ b.range_at p
+  pub ranges : (p : ℕ) → range_reported_at ps.ranges p ≡ b.range_at p
   pub keys : (p : ℕ) → key_said ps.keys p ≡ b.key_at p
-
--- some pieces describe each belief
-abbrev pub BeliefsAreDescribed : Type 0
-BeliefsAreDescribed = (b : Belief) → IsBelief b → (ps : Pieces) × Describes ps b

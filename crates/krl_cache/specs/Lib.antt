@@ -1,9 +1,12 @@
+pub mod Entries
 pub mod Backs
 pub mod Beliefs
 pub mod Joined
 pub mod Kept
+pub mod Laws
 pub mod Lists
 pub mod Maps
+pub mod MapSteps
 pub mod Plans
 pub mod Several
 pub mod Sifts

@@ -1,11 +1,12 @@
--- What is to become of the starts of a map where a part is put on a span.
+-- What is to become of the starts of a map when a part is put on a span.
 use Rattle.std.specs.Prelude.{◌≡◌, ◌≢◌, ℕ, suc, Bool, false, Option, None, Some, nat_eq, if◌then◌else◌}
 use Rattle.std.specs.BTreeMap.{BTreeMap}
 use Rattle.krl_modes.specs.declared.part.RangePart.{RangePart}
-use Rattle.krl_cache.specs.declared.adopt.Change.{Change}
+use Rattle.krl_cache.specs.declared.adopt.StartChange.{StartChange}
 use Rattle.krl_cache.specs.declared.adopt.Plan.{Plan}
-use Rattle.krl_cache.specs.Lists.{lies_in}
-use Rattle.krl_cache.specs.Maps.{part_at, IsFree, HoldsBefore, CanUndo}
+use Rattle.krl_cache.specs.Entries.{lies_in}
+use Rattle.krl_cache.specs.Maps.{part_at}
+use Rattle.krl_cache.specs.MapSteps.{IsFree, HoldsBefore, CanUndo}
 
 -- the part begins, unless it held before
 abbrev pub IsBegun : RangePart → RangePart → Option RangePart → Type 0
@@ -22,7 +23,7 @@ abbrev pub opened : Option RangePart → Option RangePart → Option RangePart
 opened None becomes = becomes
 opened (Some v) becomes = Some v
 
-abbrev pub open_at : Change → Option RangePart
+abbrev pub open_at : StartChange → Option RangePart
 open_at c = opened c.was c.becomes
 
 -- at both ends of a span, within it, and elsewhere
@@ -38,7 +39,7 @@ opens f lo hi x q =
 abbrev pub closes : (ℕ → Option RangePart) → ℕ → ℕ → Plan → ℕ → Option RangePart
 closes f lo hi x q = placed lo hi q x.low.becomes x.high.becomes (f q)
 
--- what stands at the ends and between, and what is to stand there where the part is put on the span
+-- what stands at the ends and between, and what is to stand there when the part is put on the span
 pub record IsPlan (f : ℕ → Option RangePart) (lo hi : ℕ) (part : RangePart) (x : Plan) : Type 0 where
   pub before : RangePart
   pub holds : HoldsBefore f lo before
@@ -48,7 +49,7 @@ pub record IsPlan (f : ℕ → Option RangePart) (lo hi : ℕ) (part : RangePart
   pub high : IsBegun part (part_at f hi) x.high.becomes
   pub free : x.within ≡ false → IsFree f (suc lo) hi
 
--- to take out both points, where they are fresh, leads back
+-- to take out both points, if they are fresh, leads back
 abbrev pub CanShut : BTreeMap ℕ RangePart → BTreeMap ℕ RangePart → ℕ → ℕ → Bool → Bool → Type 0
 CanShut old new lo hi low high =
     (mid : BTreeMap ℕ RangePart) × CanUndo old mid lo low × CanUndo mid new hi high

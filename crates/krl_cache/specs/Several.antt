@@ -8,8 +8,9 @@ use Rattle.krl_modes.specs.Spans.{contains}
 use Rattle.krl_messages.specs.declared.holding.Holding.{Holding}
 use Rattle.krl_cache.specs.declared.entry.Entry.{Entry}
 use Rattle.krl_cache.specs.Beliefs.{is_last}
-use Rattle.krl_cache.specs.Lists.{own_entry}
-use Rattle.krl_cache.specs.Maps.{part_at, IsPlaced, EndsAlike, BeginsAnew}
+use Rattle.krl_cache.specs.Entries.{own_entry}
+use Rattle.krl_cache.specs.Maps.{part_at}
+use Rattle.krl_cache.specs.MapSteps.{IsPlaced, EndsAlike, BeginsAnew}
 
 -- what the holdings make of the part at a point, and of the entry there
 abbrev pub parts_after : List Holding → ℕ → RangePart → RangePart
@@ -36,7 +37,7 @@ is_end_of (h ∷ hs) q = (nat_eq q h.span.lo || nat_eq q h.span.hi) || is_end_of
 abbrev pub AreMergedBetween : List Holding → (ℕ → Option RangePart) → Type 0
 AreMergedBetween hs f = (q : ℕ) → is_end_of hs q ≡ false → BeginsAnew f q
 
--- to take out both points, where they are fresh, leads back
+-- to take out both points, if they are fresh, leads back
 abbrev pub CanUndoBoth :
     BTreeMap ℕ RangePart → BTreeMap ℕ RangePart → ℕ → ℕ → Bool → Bool → Type 0
 CanUndoBoth old new lo hi low high =

@@ -4,7 +4,7 @@ use Rattle.std.specs.declared.cmp.Ordering.{Ordering}
 use Rattle.std.specs.BTreeMap.{BTreeMap}
 use Rattle.std_collections.specs.declared.btree_map.extract.Cursor.{Cursor}
 use Rattle.std_collections.specs.Layout.BTreeMapExtract.{extract_rest}
-use Rattle.krl_cache.specs.Lists.{lies_in, RiseWithin}
+use Rattle.krl_cache.specs.Entries.{lies_in, RiseWithin}
 
 -- no key of the list lies from lo on below hi
 abbrev pub AreOut : {V : Type 0} → ℕ → ℕ → List (ℕ × V) → Type 0

@@ -5,7 +5,7 @@ use Rattle.krl_modes.specs.Parts.{reads_key, reads_gap}
 use Rattle.krl_cache.specs.declared.entry.Entry.{Entry}
 use Rattle.krl_cache.specs.declared.walk.Left.{Left}
 use Rattle.krl_cache.specs.Lists.{part_of}
-use Rattle.krl_cache.specs.Maps.{AreNext}
+use Rattle.krl_cache.specs.MapSteps.{AreNext}
 
 -- the first of a list, if any, and those after it
 abbrev pub list_of : Option (ℕ × Entry) → List (ℕ × Entry) → List (ℕ × Entry)
@@ -21,12 +21,12 @@ abbrev pub StandsFrom : ℕ → List (ℕ × Entry) → Type 0
 StandsFrom hi [] = Unit {0}
 StandsFrom hi (e ∷ es) = hi ≤ e.0
 
--- the first entry is taken, where it stands below hi
+-- the first entry is taken, if it stands below hi
 abbrev pub TakesBelow : ℕ → List (ℕ × Entry) → Option (ℕ × Entry) → List (ℕ × Entry) → Type 0
 TakesBelow hi old None new = StandsFrom hi old × (new ≡ old)
 TakesBelow hi old (Some e) new = (e.0 < hi) × (old ≡ e ∷ new)
 
--- the point is known, where this part holds and this entry stands
+-- the point is known, if this part holds and this entry stands
 abbrev pub is_known : RangePart → Option Entry → Bool
 is_known part entry = reads_key (part_of entry) || reads_gap part
 
@@ -40,7 +40,7 @@ pub record IsGap (part : RangePart) (f : ℕ → Option Entry) (lo hi p : ℕ) :
   pub unknown : is_known part (f p) ≡ false
   pub least : AreKnown part f lo p
 
--- from lo on below hi, where this part holds: each point is known, and the entries from hi on are
+-- from lo on below hi, if this part holds: each point is known, and the entries from hi on are
 -- left; or the answer is the least that is not
 abbrev pub Walks :
     RangePart → ℕ → ℕ → List (ℕ × Entry) → Option ℕ → List (ℕ × Entry) → Type 0

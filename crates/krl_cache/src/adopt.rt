@@ -5,9 +5,10 @@ ghost use Rattle.krl_modes.specs.declared.point.TheConstants.{TOP};
 ghost use Rattle.krl_modes.specs.Modes.{range_of};
 ghost use Rattle.krl_modes.specs.Spans.{contains};
 ghost use Rattle.krl_cache.specs.Beliefs as beliefs;
-ghost use Rattle.krl_cache.specs.Lists.{lies_in, entry_of, own_entry};
-ghost use Rattle.krl_cache.specs.Maps.{at, part_at, IsFree, IsChanged, CanUndo, EndsAlike};
-ghost use Rattle.krl_cache.specs.Maps.{AreStartsMerged, gone};
+ghost use Rattle.krl_cache.specs.Entries.{lies_in, entry_of, own_entry};
+ghost use Rattle.krl_cache.specs.Maps.{at, part_at};
+ghost use Rattle.krl_cache.specs.MapSteps.{IsFree, IsChanged, CanUndo, EndsAlike, AreStartsMerged};
+ghost use Rattle.krl_cache.specs.MapSteps.{gone};
 ghost use Rattle.krl_cache.specs.Plans.{IsBegun, IsPlan, part_taken, open_at, opens, closes};
 ghost use Rattle.krl_cache.specs.Plans.{CanShut, Shuts};
 
@@ -22,18 +23,18 @@ use std::collections::BTreeMap;
 
 /// What begins at a point: what did, and what is to begin from now on.
 #[derive(Clone, Copy)]
-pub struct Change {
+pub struct StartChange {
     was: Option<RangePart>,
     becomes: Option<RangePart>,
 }
 
-/// What is to become of the starts where a part is put on a span.
+/// What is to become of the starts when a part is put on a span.
 #[derive(Clone, Copy)]
 pub struct Plan {
     // at its first point
-    low: Change,
+    low: StartChange,
     // at its end
-    high: Change,
+    high: StartChange,
     // whether any stands between
     within: bool,
 }
@@ -49,7 +50,7 @@ fn begun(before: RangePart, part: RangePart) -> Option<RangePart>
     }
 }
 
-// What is to change where a part is put on a span. The starts are searched once.
+// What is to change when a part is put on a span. The starts are searched once.
 pub fn plan_of(starts: &BTreeMap<u64, RangePart>, lo: u64, hi: u64, part: RangePart) -> Plan
     requires { lo < hi }
     ensures { IsPlan (at starts.now.entries) lo hi part result }
@@ -61,11 +62,11 @@ pub fn plan_of(starts: &BTreeMap<u64, RangePart>, lo: u64, hi: u64, part: RangeP
     let low = take_from(&mut back, lo);
     let before = part_last(&back);
     Plan {
-        low: Change {
+        low: StartChange {
             was: part_taken(low),
             becomes: begun(before, part),
         },
-        high: Change {
+        high: StartChange {
             was: part_taken(high),
             becomes: begun(part, after),
         },
@@ -83,8 +84,12 @@ fn part_taken(start: Option<(u64, RangePart)>) -> Option<RangePart>
     }
 }
 
-// Puts in what is to begin at the point, where nothing did. Answers whether it was put in.
-fn add(starts: &mut BTreeMap<u64, RangePart>, p: u64, change: Change) -> Result<bool, AllocError>
+// Puts in what is to begin at the point, if nothing did. Answers whether it was put in.
+fn add(
+    starts: &mut BTreeMap<u64, RangePart>,
+    p: u64,
+    change: StartChange,
+) -> Result<bool, AllocError>
     requires { at starts.old.entries p ≡ change.was }
     ensures undo { IfOk result (CanUndo starts.old starts.new p) }
     ensures added { OnOk result ((q : ℕ) → at starts.new.entries q
@@ -136,8 +141,8 @@ pub fn shut(starts: &mut BTreeMap<u64, RangePart>, lo: u64, hi: u64, low: bool, 
     undo(starts, lo, low);
 }
 
-// Has what is to begin at the point begin there, where what is new was put in.
-fn settle(starts: &mut BTreeMap<u64, RangePart>, p: u64, change: Change)
+// Has what is to begin at the point begin there, if what is new was put in.
+fn settle(starts: &mut BTreeMap<u64, RangePart>, p: u64, change: StartChange)
     requires { at starts.old.entries p ≡ open_at change }
     ensures { (q : ℕ) → at starts.new.entries q
         ≡ (if nat_eq q p then change.becomes else at starts.old.entries q) }
@@ -151,7 +156,7 @@ fn settle(starts: &mut BTreeMap<u64, RangePart>, p: u64, change: Change)
     }
 }
 
-// Has another part begin at the point, where it differs from the one that does.
+// Has another part begin at the point, if it differs from the one that does.
 fn replace(starts: &mut BTreeMap<u64, RangePart>, p: u64, held: RangePart, part: RangePart)
     requires { at starts.old.entries p ≡ Some held }
     ensures { (q : ℕ) → at starts.new.entries q
@@ -187,7 +192,7 @@ pub fn close(starts: &mut BTreeMap<u64, RangePart>, lo: u64, hi: u64, plan: Plan
     settle(starts, hi, plan.high);
 }
 
-// Puts an entry at a point, where it is read; takes out the one that stands there otherwise, if any
+// Puts an entry at a point, if it is read; takes out the one that stands there otherwise, if any
 // does.
 fn put_last(
     entries: &mut BTreeMap<u64, Entry>,
@@ -208,7 +213,7 @@ fn put_last(
     Ok(())
 }
 
-// Puts an entry at the last point of a span, where it is read, in place of those of the span. One
+// Puts an entry at the last point of a span, if it is read, in place of those of the span. One
 // search finds whether any stands there.
 fn put_entry(
     entries: &mut BTreeMap<u64, Entry>,

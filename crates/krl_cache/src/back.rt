@@ -33,7 +33,7 @@ pub fn back_from(starts: &BTreeMap<u64, RangePart>, p: u64) -> Back<'_>
     Back { last, rest }
 }
 
-// Takes the last start, where it is at the point or after it.
+// Takes the last start, if it is at the point or after it.
 pub fn take_from(back: &mut Back<'_>, p: u64) -> Option<(u64, RangePart)>
     ensures { TakesFrom p back.old result back.new }
 {
@@ -57,7 +57,7 @@ pub fn skip_to(back: &mut Back<'_>, p: u64) -> bool
     any
 }
 
-// The part of the last start, or N where none is left.
+// The part of the last start, or N if none is left.
 pub fn part_last(back: &Back<'_>) -> RangePart
     ensures { result ≡ part_last back.now.last }
 {

@@ -3,6 +3,7 @@ ghost use Rattle.std.specs.Prelude.{◌≡◌, true, IfOk, OnOk, OnErr, MatchRes
 ghost use Rattle.krl_messages.specs.Holdings.{has_its_value};
 ghost use Rattle.krl_messages.specs.Several.{have_values};
 ghost use Rattle.krl_cache.specs.Beliefs as beliefs;
+ghost use Rattle.krl_cache.specs.Laws as laws;
 ghost use Rattle.krl_cache.specs.Kept.{Describes};
 
 use crate::scanned::Scanned;
@@ -29,29 +30,29 @@ pub trait Belief {
         ensures { result ≡ (believed self.now).value_at p };
 
     /// Takes a holding over: its range part on its span, and in place of the entries of the span
-    /// its own, where its key part is at least S.
+    /// its own, if its key part is at least S.
     ///
     /// # Errors
     ///
-    /// `AllocError` where memory is refused. Nothing has changed then.
+    /// `AllocError` if memory is refused. Nothing has changed then.
     fn adopt(&mut self, holding: Holding) -> Result<(), AllocError>
         requires { has_its_value holding ≡ true }
         ensures ok { OnOk result (believed self.new ≡ beliefs.adopt holding (believed self.old)) }
         ensures belief { OnOk result
-            (beliefs.IsBelief (believed self.old) → beliefs.IsBelief (believed self.new)) }
+            (laws.IsBelief (believed self.old) → laws.IsBelief (believed self.new)) }
         ensures err { OnErr result (self.new ≡ self.old) };
 
     /// Takes several holdings over, one after another, or none of them.
     ///
     /// # Errors
     ///
-    /// `AllocError` where memory is refused. Nothing has changed then.
+    /// `AllocError` if memory is refused. Nothing has changed then.
     fn adopt_all(&mut self, holdings: &Holdings) -> Result<(), AllocError>
         requires { have_values holdings.now ≡ true }
         ensures ok { OnOk result
             (believed self.new ≡ beliefs.adopt_all holdings.now (believed self.old)) }
         ensures belief { OnOk result
-            (beliefs.IsBelief (believed self.old) → beliefs.IsBelief (believed self.new)) }
+            (laws.IsBelief (believed self.old) → laws.IsBelief (believed self.new)) }
         ensures err { OnErr result (self.new ≡ self.old) };
 
     /// Takes the meet of both parts at each point of the span. An entry whose key part becomes N
@@ -59,19 +60,19 @@ pub trait Belief {
     ///
     /// # Errors
     ///
-    /// `AllocError` where memory is refused. Nothing has changed then.
+    /// `AllocError` if memory is refused. Nothing has changed then.
     fn lower(&mut self, span: Span, keep: Mode) -> Result<(), AllocError>
         ensures ok { OnOk result (believed self.new ≡ beliefs.lower span keep (believed self.old)) }
         ensures belief { OnOk result
-            (beliefs.IsBelief (believed self.old) → beliefs.IsBelief (believed self.new)) }
+            (laws.IsBelief (believed self.old) → laws.IsBelief (believed self.new)) }
         ensures err { OnErr result (self.new ≡ self.old) };
 
-    /// The entries of the span, where each of its points is known; else the least point that is
+    /// The entries of the span, if each of its points is known; else the least point that is
     /// not.
     ///
     /// # Errors
     ///
-    /// `AllocError` where the memory for the rows is refused. Each point of the span is known then.
+    /// `AllocError` if the memory for the rows is refused. Each point of the span is known then.
     fn scan(&self, alloc: Global, span: Span) -> Result<Scanned, AllocError>
         ensures { MatchResult result (beliefs.Scans (believed self.now) span)
             (λ _. beliefs.CoversAll (believed self.now) span) };
@@ -80,7 +81,7 @@ pub trait Belief {
     ///
     /// # Errors
     ///
-    /// `AllocError` where the memory for a list is refused.
+    /// `AllocError` if the memory for a list is refused.
     fn pieces(&self, alloc: Global) -> Result<Pieces, AllocError>
         ensures { IfOk result (λ ps. Describes ps (believed self.now)) };
 }

@@ -8,10 +8,10 @@ ghost use Rattle.std.specs.declared.ops.Bound.TheVariants.{Included, Excluded};
 ghost use Rattle.krl_modes.specs.declared.point.TheConstants.{TOP};
 ghost use Rattle.krl_cache.specs.Beliefs as beliefs;
 ghost use Rattle.krl_cache.specs.Founds.{scanned_of};
-ghost use Rattle.krl_cache.specs.Kept.{range_said, AreMerged};
-ghost use Rattle.krl_cache.specs.Lists.{key_piece, StandWithin};
-ghost use Rattle.krl_cache.specs.Maps.{Maps, maps_believe, at, part_at, IsPast, AreStartsMerged};
-ghost use Rattle.krl_cache.specs.Maps.{row_of, piece_of, is_held};
+ghost use Rattle.krl_cache.specs.Kept.{range_reported_at, AreMerged};
+ghost use Rattle.krl_cache.specs.Entries.{key_piece, StandWithin};
+ghost use Rattle.krl_cache.specs.Maps.{Maps, maps_believe, at, part_at};
+ghost use Rattle.krl_cache.specs.MapSteps.{IsPast, AreStartsMerged, row_of, piece_of, is_held};
 
 use crate::belief::Belief;
 use crate::entry::Entry;
@@ -46,7 +46,8 @@ pub struct Cache {
 }
 
 impl Model for Cache {
-    ghost use Rattle.krl_cache.specs.Maps.{Maps, AreMapsKept};
+    ghost use Rattle.krl_cache.specs.Maps.{Maps};
+    ghost use Rattle.krl_cache.specs.MapSteps.{AreMapsKept};
 
     ghost Value = { Maps };
 
@@ -56,7 +57,7 @@ impl Model for Cache {
         (record { starts = c.starts.entries; entries = c.entries.entries }) };
 }
 
-// Adds a piece, where its part is held.
+// Adds a piece, if its part is held.
 fn add_piece(
     list: &mut Vec<RangePiece>,
     lo: u64,
@@ -93,7 +94,7 @@ fn ranges_of(
     requires merged { AreStartsMerged (at starts.now.entries) }
     ensures stand { IfOk result (λ list. StandWithin 0 TOP list.items) }
     ensures said { IfOk result
-        (λ list. (p : ℕ) → range_said list.items p ≡ part_at (at starts.now.entries) p) }
+        (λ list. (p : ℕ) → range_reported_at list.items p ≡ part_at (at starts.now.entries) p) }
     ensures merged { IfOk result (λ list. AreMerged list.items) }
 {
     let mut list = Vec::new(alloc);
@@ -107,7 +108,7 @@ fn ranges_of(
     Ok(list)
 }
 
-// The row of an entry, where it has a value.
+// The row of an entry, if it has a value.
 fn row_of(point: u64, entry: &Entry) -> Option<(u64, Value)>
     ensures { result ≡ row_of (point, entry.now) }
 {
@@ -161,7 +162,7 @@ impl Cache {
         }
     }
 
-    /// The entries of the span, where each of its points is known; else the least point that is
+    /// The entries of the span, if each of its points is known; else the least point that is
     /// not. They are read where they stand, so that it takes no memory.
     pub fn find(&self, span: Span) -> Found<'_>
         ensures { beliefs.Scans (maps_believe self.now) span (scanned_of result) }

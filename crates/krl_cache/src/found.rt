@@ -1,7 +1,7 @@
 //! What a look into a cache finds, read where it stands.
 ghost use Rattle.std.specs.Prelude.{◌≡◌, ◌<◌, ◌^◌, [], ◌∷◌, length, MatchOption};
 ghost use Rattle.std.specs.List.{filter_map};
-ghost use Rattle.krl_cache.specs.Maps.{row_of};
+ghost use Rattle.krl_cache.specs.MapSteps.{row_of};
 
 use crate::entry::Entry;
 use krl_messages::Value;
@@ -19,7 +19,7 @@ impl<'a> Model for RowsInPlace<'a> {
     ghost use Rattle.std.specs.Prelude.{ℕ, List, ◌<◌, ◌^◌, length};
     ghost use Rattle.std.specs.List.{filter_map};
     ghost use Rattle.krl_messages.specs.Values as values;
-    ghost use Rattle.krl_cache.specs.Maps.{row_of};
+    ghost use Rattle.krl_cache.specs.MapSteps.{row_of};
 
     ghost Value = { List (ℕ × values.Value) };
 

@@ -1,9 +1,10 @@
 //! Several holdings side by side whose range parts agree: one piece of the range parts.
 ghost use Rattle.std.specs.Prelude.{◌≡◌, ◌<◌, ℕ, MatchOption, OnOk, OnErr, true};
 ghost use Rattle.std.specs.List.{AllByRecursion};
-ghost use Rattle.krl_messages.specs.Several.{Ascend};
+ghost use Rattle.krl_messages.specs.Ascending.{Ascend};
 ghost use Rattle.krl_cache.specs.Beliefs as beliefs;
-ghost use Rattle.krl_cache.specs.Maps.{at, part_at, EndsAlike, AreStartsMerged};
+ghost use Rattle.krl_cache.specs.Maps.{at, part_at};
+ghost use Rattle.krl_cache.specs.MapSteps.{EndsAlike, AreStartsMerged};
 ghost use Rattle.krl_cache.specs.Several.{parts_after, entries_after};
 ghost use Rattle.krl_cache.specs.Joined.{AreJoined, AreHeld, HoldsAll, NotJoined};
 
@@ -16,7 +17,7 @@ use std::alloc::AllocError;
 use std::collections::BTreeMap;
 
 // Where holdings end that follow one another from the point on, each with this range part. None
-// where they don't.
+// if they don't.
 pub fn joined_to(holdings: &[Holding], lo: u64, part: RangePart) -> Option<u64>
     ensures { MatchOption result (NotJoined holdings.now lo part)
         (λ hi. AreJoined holdings.now lo hi part) }
@@ -31,7 +32,7 @@ pub fn joined_to(holdings: &[Holding], lo: u64, part: RangePart) -> Option<u64>
     joined_to(rest, holding.span.hi(), part)
 }
 
-// Has an entry stand at each slot where one will be read: no answer changes. Where memory is
+// Has an entry stand at each slot where one will be read: no answer changes. If memory is
 // refused, what was put is taken out again.
 fn hold_all(entries: &mut BTreeMap<u64, Entry>, holdings: &[Holding]) -> Result<(), AllocError>
     ensures held { OnOk result (HoldsAll holdings.now (at entries.old.entries)

@@ -1,9 +1,8 @@
 //! What a client believes of the index and of its locks: a range part at each point, and key parts
 //! with values at some points.
 //!
-//! From it a client answers a scan with no message: a point is known where its entry or its gap is
-//! read. The parts are those of key-range locking (the SQL Server guide; Lomet, VLDB 1993); that a
-//! client keeps them, and answers by them, is this project's own.
+//! From it a client answers a scan with no message: a point is known if its entry or its gap is
+//! read. The parts are those of key-range locking (the SQL Server guide; Lomet, VLDB 1993).
 #![tactic(auto)]
 
 mod adopt;

@@ -7,11 +7,12 @@ ghost use Rattle.krl_modes.specs.Parts.{range_meet, reads_key};
 ghost use Rattle.krl_modes.specs.Modes.{range_of, key_of};
 ghost use Rattle.krl_modes.specs.Spans.{contains};
 ghost use Rattle.krl_cache.specs.Beliefs as beliefs;
-ghost use Rattle.krl_cache.specs.Lists.{lies_in, entry_lowered, entry_of};
-ghost use Rattle.krl_cache.specs.Maps.{at, part_at, IsFree, IsFreeFrom, IsFirst, IsPlaced};
-ghost use Rattle.krl_cache.specs.Maps.{IsUndone, CanUndo, HasEnds, KeepsParts, EndsAlike};
-ghost use Rattle.krl_cache.specs.Maps.{IsChanged, HoldsBefore, BeginsAnew, AreStartsMerged, gone};
-ghost use Rattle.krl_cache.specs.Maps.{lowered_part};
+ghost use Rattle.krl_cache.specs.Entries.{lies_in, entry_lowered, entry_of};
+ghost use Rattle.krl_cache.specs.Maps.{at, part_at};
+ghost use Rattle.krl_cache.specs.MapSteps.{IsFree, IsFreeFrom, IsFirst, IsPlaced, IsUndone};
+ghost use Rattle.krl_cache.specs.MapSteps.{CanUndo, HasEnds, KeepsParts, EndsAlike, IsChanged};
+ghost use Rattle.krl_cache.specs.MapSteps.{HoldsBefore, BeginsAnew, AreStartsMerged, gone};
+ghost use Rattle.krl_cache.specs.MapSteps.{lowered_part};
 
 use crate::entry::Entry;
 use crate::parts::reads_key;
@@ -210,7 +211,7 @@ pub fn part_before(starts: &BTreeMap<u64, RangePart>, p: u64) -> RangePart
     }
 }
 
-// Takes a start out where the part that begins there held before.
+// Takes a start out if the part that begins there held before.
 pub fn merge_at(starts: &mut BTreeMap<u64, RangePart>, p: u64, before: RangePart)
     requires { HoldsBefore (at starts.old.entries) p before }
     ensures kept { KeepsParts (at starts.old.entries) (at starts.new.entries) }
@@ -270,8 +271,8 @@ fn lower_part(
     Ok(())
 }
 
-// Has an entry stand at the point, where the part is read: one with key part N that changes no
-// answer, where none stood. Answers whether it was put.
+// Has an entry stand at the point, if the part is read: one with key part N that changes no
+// answer, if none stood. Answers whether it was put.
 pub fn hold(
     entries: &mut BTreeMap<u64, Entry>,
     point: u64,
@@ -294,7 +295,7 @@ pub fn hold(
     }
 }
 
-// Puts an entry at the span's last point, where it is read, in place of those of the span.
+// Puts an entry at the span's last point, if it is read, in place of those of the span.
 pub fn adopt_entry(entries: &mut BTreeMap<u64, Entry>, span: Span, own: Entry)
     requires { reads_key own.part ≡ true → IsSome (at entries.old.entries (span.hi - 1)) }
     ensures { (p : ℕ) → at entries.new.entries p

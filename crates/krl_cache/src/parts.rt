@@ -21,7 +21,7 @@ pub fn reads_gap(part: RangePart) -> bool
     RangePart::S.at_most(part)
 }
 
-/// What an entry says of its key, where there is one.
+/// What an entry says of its key, if there is one.
 pub fn part_of(entry: Option<Entry>) -> KeyPart
     ensures { result ≡ part_of entry }
 {
@@ -31,7 +31,7 @@ pub fn part_of(entry: Option<Entry>) -> KeyPart
     }
 }
 
-/// The value of an entry, where there is one.
+/// The value of an entry, if there is one.
 pub fn value_of(entry: Option<Entry>) -> Option<Value>
     ensures { result ≡ value_of entry }
 {

@@ -1,11 +1,12 @@
-//! Several holdings, taken over at once. Where they are no one piece, room is made for all of them
+//! Several holdings, taken over at once. If they are no one piece, room is made for all of them
 //! first.
 ghost use Rattle.std.specs.Prelude.{◌≡◌, ◌≤◌, ℕ, true, IfOk, OnOk, OnErr};
 ghost use Rattle.std.specs.List.{AllByRecursion};
-ghost use Rattle.krl_messages.specs.Several.{Ascend};
+ghost use Rattle.krl_messages.specs.Ascending.{Ascend};
 ghost use Rattle.krl_cache.specs.Beliefs as beliefs;
-ghost use Rattle.krl_cache.specs.Maps.{at, part_at, HasEnds, KeepsParts, EndsAlike, BeginsAnew};
-ghost use Rattle.krl_cache.specs.Maps.{AreStartsMerged};
+ghost use Rattle.krl_cache.specs.Maps.{at, part_at};
+ghost use Rattle.krl_cache.specs.MapSteps.{HasEnds, KeepsParts, EndsAlike, BeginsAnew};
+ghost use Rattle.krl_cache.specs.MapSteps.{AreStartsMerged};
 ghost use Rattle.krl_cache.specs.Several.{CanUndoBoth, UndoesBoth, HasRoom, AreReady};
 ghost use Rattle.krl_cache.specs.Several.{AreMergedBetween, is_end_of, parts_after, entries_after};
 
@@ -35,7 +36,7 @@ fn mark(starts: &mut BTreeMap<u64, RangePart>, lo: u64, hi: u64) -> Result<(bool
     }
 }
 
-// Takes both points out again where none began there.
+// Takes both points out again if none began there.
 fn unmark(starts: &mut BTreeMap<u64, RangePart>, lo: u64, hi: u64, low: bool, high: bool)
     ensures { UndoesBoth starts.old starts.new lo hi low high }
 {
@@ -44,7 +45,7 @@ fn unmark(starts: &mut BTreeMap<u64, RangePart>, lo: u64, hi: u64, low: bool, hi
 }
 
 // Has parts begin at both ends of each span, as they hold there, and an entry stand where one will
-// be read: no answer changes. Where memory is refused, what was put is taken out again.
+// be read: no answer changes. If memory is refused, what was put is taken out again.
 fn make_room(
     starts: &mut BTreeMap<u64, RangePart>,
     entries: &mut BTreeMap<u64, Entry>,
@@ -106,7 +107,7 @@ fn fill_all(
     }
 }
 
-// Takes each start at an end of a span out where the part that begins there held before.
+// Takes each start at an end of a span out if the part that begins there held before.
 fn merge_all(starts: &mut BTreeMap<u64, RangePart>, holdings: &[Holding])
     ensures kept { KeepsParts (at starts.old.entries) (at starts.new.entries) }
     ensures anew { (q : ℕ) → is_end_of holdings.now q ≡ true

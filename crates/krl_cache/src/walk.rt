@@ -5,7 +5,8 @@ ghost use Rattle.krl_modes.specs.Parts.{reads_gap, reads_key};
 ghost use Rattle.krl_cache.specs.Beliefs as beliefs;
 ghost use Rattle.krl_cache.specs.declared.entry.Entry.{Entry};
 ghost use Rattle.krl_cache.specs.Lists.{belief_by};
-ghost use Rattle.krl_cache.specs.Maps.{Maps, maps_believe, at, part_at, AreNext};
+ghost use Rattle.krl_cache.specs.Maps.{Maps, maps_believe, at, part_at};
+ghost use Rattle.krl_cache.specs.MapSteps.{AreNext};
 ghost use Rattle.krl_cache.specs.Walks.{list_of, left_of, TakesBelow, Walks};
 
 use crate::entry::Entry;
@@ -42,7 +43,7 @@ fn left_between(entries: &BTreeMap<u64, Entry>, lo: u64, hi: u64) -> Left<'_>
     Left { first, rest }
 }
 
-// Takes the first entry, where it stands below `hi`.
+// Takes the first entry, if it stands below `hi`.
 fn take_below(left: &mut Left<'_>, hi: u64) -> Option<(u64, Entry)>
     ensures { TakesBelow hi (left_of left.old) result (left_of left.new) }
 {
@@ -55,7 +56,7 @@ fn take_below(left: &mut Left<'_>, hi: u64) -> Option<(u64, Entry)>
     }
 }
 
-// Whether each point from `p` to an entry is known, where this part holds and no entry stands
+// Whether each point from `p` to an entry is known, if this part holds and no entry stands
 // between.
 fn knows_to(part: RangePart, p: u64, point: u64, key: KeyPart) -> bool
     ensures { result ≡ (reads_gap part || (nat_eq p point && reads_key key)) }
@@ -63,7 +64,7 @@ fn knows_to(part: RangePart, p: u64, point: u64, key: KeyPart) -> bool
     reads_gap(part) || (p == point && reads_key(key))
 }
 
-// The least point from `lo` on below `hi` that is not known, where this part holds. The entries
+// The least point from `lo` on below `hi` that is not known, if this part holds. The entries
 // below `hi` are taken.
 fn first_gap(left: &mut Left<'_>, part: RangePart, lo: u64, hi: u64) -> Option<u64>
     requires { lo ≤ hi }
@@ -101,7 +102,7 @@ fn reads_gaps(starts: &BTreeMap<u64, RangePart>, lo: u64, hi: u64) -> bool
 }
 
 // The least point from `lo` on below `hi` that is not known. The maps are searched where the span
-// begins alone. Where each part reads the gap, the parts are walked over once, and no entry is;
+// begins alone. If each part reads the gap, the parts are walked over once, and no entry is;
 // else the entries once, and the parts twice.
 pub fn first_unknown(
     starts: &BTreeMap<u64, RangePart>,

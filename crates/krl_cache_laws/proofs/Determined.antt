@@ -9,20 +9,20 @@ use Rattle.krl_modes.specs.Parts.{reads_key}
 use Rattle.krl_modes.specs.Spans.{contains}
 use Rattle.krl_messages.specs.declared.range_pieces.RangePiece.{RangePiece}
 use Rattle.krl_messages.specs.declared.key_pieces.KeyPiece.{KeyPiece}
-use Rattle.krl_cache.specs.Kept.{range_said, key_said, AreInOrder, DiffersFromNext, AreMerged, AreAscending}
+use Rattle.krl_cache.specs.Kept.{range_reported_at, key_said, AreInOrder, DiffersFromNext, AreMerged, AreAscending}
 use Rattle.krl_cache.proofs.Described.{in_order_before}
 use Rattle.krl_cache_laws.specs.Runs.{PiecesAreDetermined}
 
 -- Range parts
 
-inside : (x : RangePiece) (xs : List RangePiece) (q : ℕ) → x.span.lo ≤ q → q < x.span.hi → range_said (x ∷ xs) q ≡ x.part
+inside : (x : RangePiece) (xs : List RangePiece) (q : ℕ) → x.span.lo ≤ q → q < x.span.hi → range_reported_at (x ∷ xs) q ≡ x.part
 inside x xs q a b = let here : contains x.span q ≡ true = grind (arith, nat_tests) in rw here refl
 
-behind : (x : RangePiece) (xs : List RangePiece) (q : ℕ) → x.span.hi ≤ q → range_said (x ∷ xs) q ≡ range_said xs q
+behind : (x : RangePiece) (xs : List RangePiece) (q : ℕ) → x.span.hi ≤ q → range_reported_at (x ∷ xs) q ≡ range_reported_at xs q
 behind x xs q a = let out : contains x.span q ≡ false = grind (arith, nat_tests) in rw out refl
 
 -- past the first piece another part holds
-changes : (x : RangePiece) (xs : List RangePiece) → x.part ≢ range.N → DiffersFromNext x xs → AreInOrder x.span.hi xs → range_said xs x.span.hi ≢ x.part
+changes : (x : RangePiece) (xs : List RangePiece) → x.part ≢ range.N → DiffersFromNext x xs → AreInOrder x.span.hi xs → range_reported_at xs x.span.hi ≢ x.part
 changes x [] held d h same = held (sym same)
 changes x (y ∷ ys) held d h same =
     elim (leb_tells y.span.lo x.span.hi) [
@@ -30,14 +30,14 @@ changes x (y ∷ ys) held d h same =
       | inr a ↦ held (sym same ∙ in_order_before y.span.lo x.span.hi (y ∷ ys) (omega arith, h.1, h.2, h.3) a.1)
     ]
 
-none_behind : (lo : ℕ) (y : RangePiece) (ys : List RangePiece) → AreInOrder lo (y ∷ ys) → AreMerged (y ∷ ys) → ((q : ℕ) → range.N ≡ range_said (y ∷ ys) q) → ⊥
+none_behind : (lo : ℕ) (y : RangePiece) (ys : List RangePiece) → AreInOrder lo (y ∷ ys) → AreMerged (y ∷ ys) → ((q : ℕ) → range.N ≡ range_reported_at (y ∷ ys) q) → ⊥
 none_behind lo y ys h m same = m.0 (sym (inside y ys y.span.lo (omega arith) h.1) ∙ sym (same y.span.lo))
 
-no_less : (lo : ℕ) (x : RangePiece) (xs : List RangePiece) (y : RangePiece) (ys : List RangePiece) → AreInOrder lo (x ∷ xs) → AreMerged (x ∷ xs) → AreInOrder lo (y ∷ ys) → ((q : ℕ) → range_said (x ∷ xs) q ≡ range_said (y ∷ ys) q) → x.span.lo < y.span.lo → ⊥
+no_less : (lo : ℕ) (x : RangePiece) (xs : List RangePiece) (y : RangePiece) (ys : List RangePiece) → AreInOrder lo (x ∷ xs) → AreMerged (x ∷ xs) → AreInOrder lo (y ∷ ys) → ((q : ℕ) → range_reported_at (x ∷ xs) q ≡ range_reported_at (y ∷ ys) q) → x.span.lo < y.span.lo → ⊥
 no_less lo x xs y ys h m k same l =
     m.0 (sym (inside x xs x.span.lo (omega arith) h.1) ∙ same x.span.lo ∙ in_order_before y.span.lo x.span.lo (y ∷ ys) (omega arith, k.1, k.2, k.3) l)
 
-no_shorter : (lo : ℕ) (x : RangePiece) (xs : List RangePiece) (y : RangePiece) (ys : List RangePiece) → AreInOrder lo (x ∷ xs) → AreMerged (x ∷ xs) → ((q : ℕ) → range_said (x ∷ xs) q ≡ range_said (y ∷ ys) q) → x.span.lo ≡ y.span.lo → x.part ≡ y.part → x.span.hi < y.span.hi → ⊥
+no_shorter : (lo : ℕ) (x : RangePiece) (xs : List RangePiece) (y : RangePiece) (ys : List RangePiece) → AreInOrder lo (x ∷ xs) → AreMerged (x ∷ xs) → ((q : ℕ) → range_reported_at (x ∷ xs) q ≡ range_reported_at (y ∷ ys) q) → x.span.lo ≡ y.span.lo → x.part ≡ y.part → x.span.hi < y.span.hi → ⊥
 no_shorter lo x xs y ys h m same e part l =
     changes x xs m.0 m.1 h.3
     (sym (behind x xs x.span.hi (omega arith)) ∙ same x.span.hi ∙ inside y ys x.span.hi (omega (arith, e, h.1)) l ∙ sym part)
@@ -53,7 +53,7 @@ same_number a b x y =
       | inr h ↦ absurd (y h.1)
     ]
 
-same_rest : (lo : ℕ) (x : RangePiece) (xs : List RangePiece) (y : RangePiece) (ys : List RangePiece) → AreInOrder lo (x ∷ xs) → AreInOrder lo (y ∷ ys) → x.span.hi ≡ y.span.hi → ((q : ℕ) → range_said (x ∷ xs) q ≡ range_said (y ∷ ys) q) → (q : ℕ) → range_said xs q ≡ range_said ys q
+same_rest : (lo : ℕ) (x : RangePiece) (xs : List RangePiece) (y : RangePiece) (ys : List RangePiece) → AreInOrder lo (x ∷ xs) → AreInOrder lo (y ∷ ys) → x.span.hi ≡ y.span.hi → ((q : ℕ) → range_reported_at (x ∷ xs) q ≡ range_reported_at (y ∷ ys) q) → (q : ℕ) → range_reported_at xs q ≡ range_reported_at ys q
 same_rest lo x xs y ys h k e same q =
     elim (leb_tells x.span.hi q) [
       | inl a ↦ sym (behind x xs q a.1) ∙ same q ∙ behind y ys q (omega (arith, a.1, e))
@@ -63,12 +63,12 @@ same_rest lo x xs y ys h k e same q =
 same_pieces : (x y : RangePiece) (xs ys : List RangePiece) → x.span.lo ≡ y.span.lo → x.span.hi ≡ y.span.hi → x.part ≡ y.part → xs ≡ ys → ◌≡◌ {A = List RangePiece} (x ∷ xs) (y ∷ ys)
 same_pieces x y xs ys lo hi part rest = λ i. record { span = record { lo = lo i; hi = hi i }; part = part i } ∷ rest i
 
-one_ranges : (lo : ℕ) (xs ys : List RangePiece) → AreInOrder lo xs → AreMerged xs → AreInOrder lo ys → AreMerged ys → ((q : ℕ) → range_said xs q ≡ range_said ys q) → xs ≡ ys
+one_ranges : (lo : ℕ) (xs ys : List RangePiece) → AreInOrder lo xs → AreMerged xs → AreInOrder lo ys → AreMerged ys → ((q : ℕ) → range_reported_at xs q ≡ range_reported_at ys q) → xs ≡ ys
 one_ranges lo [] [] h m k n same = refl
 one_ranges lo [] (y ∷ ys) h m k n same = absurd (none_behind lo y ys k n same)
 one_ranges lo (x ∷ xs) [] h m k n same = absurd (none_behind lo x xs h m (λ q. sym (same q)))
 one_ranges lo (x ∷ xs) (y ∷ ys) h m k n same =
-    let back : (q : ℕ) → range_said (y ∷ ys) q ≡ range_said (x ∷ xs) q = λ q. sym (same q) in
+    let back : (q : ℕ) → range_reported_at (y ∷ ys) q ≡ range_reported_at (x ∷ xs) q = λ q. sym (same q) in
     let begin : x.span.lo ≡ y.span.lo = same_number x.span.lo y.span.lo (no_less lo x xs y ys h m k same) (no_less lo y ys x xs k n h back) in
     let part : x.part ≡ y.part = sym (inside x xs x.span.lo (omega arith) h.1) ∙ same x.span.lo ∙ inside y ys x.span.lo (omega (arith, begin)) (omega (arith, begin, k.1)) in
     let end : x.span.hi ≡ y.span.hi = same_number x.span.hi y.span.hi (no_shorter lo x xs y ys h m same begin part) (no_shorter lo y ys x xs k n back (sym begin) (sym part)) in

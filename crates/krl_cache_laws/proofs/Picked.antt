@@ -14,7 +14,7 @@ use Rattle.krl_cache.specs.declared.entry.Entry.{Entry}
 use Rattle.krl_modes.specs.Spans.{Bounds, contains}
 use Rattle.krl_cache.specs.Beliefs.{is_last}
 use Rattle.krl_cache_laws.proofs.Clipped.{twice}
-use Rattle.krl_cache.specs.Lists.{lies_in, pick, tagged, entry_of, entry_lowered, RiseWithin, AreRead}
+use Rattle.krl_cache.specs.Entries.{lies_in, pick, tagged, entry_of, entry_lowered, RiseWithin, AreRead}
 use Rattle.krl_cache.proofs.Entries.{find-pick, find_before, nothing_in, rise-pick, rise_le}
 use Rattle.krl_cache.proofs.Sifted.{within_less}
 

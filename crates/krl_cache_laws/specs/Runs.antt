@@ -3,7 +3,7 @@ use Rattle.std.specs.Prelude.{◌≡◌, ◌≢◌, true, List, [], ◌∷◌, �
 use Rattle.krl_cache_laws.specs.declared.run.CacheCall.{CacheCall}
 use Rattle.krl_cache_laws.specs.declared.run.CacheCall.TheVariants as call
 use Rattle.krl_cache_laws.specs.declared.run.CacheReply.{CacheReply}
-use Rattle.krl_cache_laws.specs.declared.run.CacheReply.TheVariants as reply
+use Rattle.krl_cache_laws.specs.declared.run.CacheReply.TheVariants as cache_reply
 use Rattle.krl_messages.specs.declared.pieces.Pieces.{Pieces}
 use Rattle.krl_messages.specs.Holdings.{has_its_value}
 use Rattle.krl_messages.specs.Several.{have_values}
@@ -33,22 +33,22 @@ after (call.Scan s) b = b
 after call.Pieces b = b
 
 abbrev pub FoundIs : Belief → CacheCall → CacheReply → Type 0
-FoundIs b (call.Scan s) (reply.Found x) = Scans b s x
-FoundIs b call.Pieces (reply.Told ps) = Describes ps b
+FoundIs b (call.Scan s) (cache_reply.Found x) = Scans b s x
+FoundIs b call.Pieces (cache_reply.Told ps) = Describes ps b
 FoundIs b c r = ⊥
 
 -- what a call answers
 abbrev pub IsReply : Belief → CacheCall → CacheReply → Type 0
-IsReply b (call.RangeAt p) r = r ≡ reply.Range (b.range_at p)
-IsReply b (call.KeyAt p) r = r ≡ reply.Key (b.key_at p)
-IsReply b (call.ValueAt p) r = r ≡ reply.Value (b.value_at p)
-IsReply b (call.Adopt h) r = r ≡ reply.Done
-IsReply b (call.AdoptAll hs) r = r ≡ reply.Done
-IsReply b (call.Lower s keep) r = r ≡ reply.Done
+IsReply b (call.RangeAt p) r = r ≡ cache_reply.Range (b.range_at p)
+IsReply b (call.KeyAt p) r = r ≡ cache_reply.Key (b.key_at p)
+IsReply b (call.ValueAt p) r = r ≡ cache_reply.Value (b.value_at p)
+IsReply b (call.Adopt h) r = r ≡ cache_reply.Done
+IsReply b (call.AdoptAll hs) r = r ≡ cache_reply.Done
+IsReply b (call.Lower s keep) r = r ≡ cache_reply.Done
 IsReply b (call.Scan s) r = FoundIs b (call.Scan s) r
 IsReply b call.Pieces r = FoundIs b call.Pieces r
 
--- a call takes memory: a scan does where each point is known
+-- a call takes memory: a scan does if each point is known
 abbrev pub TakesMemory : Belief → CacheCall → Type 0
 TakesMemory b (call.RangeAt p) = ⊥
 TakesMemory b (call.KeyAt p) = ⊥
@@ -62,7 +62,7 @@ TakesMemory b call.Pieces = Unit {0}
 -- the call is answered and has its effect, or its memory is refused and nothing changes
 abbrev pub IsStep : Belief → CacheCall → CacheReply → Belief → Type 0
 IsStep b c r n = (IsReply b c r × (n ≡ after c b))
-    ⊎ (TakesMemory b c × (r ≡ reply.OutOfMemory) × (n ≡ b))
+    ⊎ (TakesMemory b c × (r ≡ cache_reply.OutOfMemory) × (n ≡ b))
 
 -- each call in turn
 abbrev pub Runs : Belief → List CacheCall → List CacheReply → Belief → Type 0
@@ -74,13 +74,13 @@ Runs b (c ∷ cs) (r ∷ rs) n = (m : Belief) × (IsStep b c r m) × (Runs m cs 
 -- no memory was refused
 abbrev pub AllAnswered : List CacheReply → Type 0
 AllAnswered [] = Unit {0}
-AllAnswered (r ∷ rs) = (r ≢ reply.OutOfMemory) × AllAnswered rs
+AllAnswered (r ∷ rs) = (r ≢ cache_reply.OutOfMemory) × AllAnswered rs
 
 -- one pair of lists describes a belief
 abbrev pub PiecesAreDetermined : Type 0
 PiecesAreDetermined = (b : Belief) (ps qs : Pieces) → Describes ps b → Describes qs b → ps ≡ qs
 
--- two runs of the same calls from one belief, where no memory is refused, give the same answers
+-- two runs of the same calls from one belief, if no memory is refused, give the same answers
 -- and leave one belief
 abbrev pub RunsAgree : Type 0
 RunsAgree =

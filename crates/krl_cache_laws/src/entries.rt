@@ -6,8 +6,8 @@ ghost use Rattle.std.specs.Ordering.{nat_cmp};
 ghost use Rattle.std.specs.FinMap.{find};
 ghost use Rattle.krl_modes.specs.Spans.{contains};
 ghost use Rattle.krl_cache.specs.Beliefs as beliefs;
-ghost use Rattle.krl_cache.specs.Lists.{pick, entry_lowered, entry_of, tagged, row_value};
-ghost use Rattle.krl_cache.specs.Lists.{key_piece};
+ghost use Rattle.krl_cache.specs.Entries.{pick, entry_lowered, entry_of, tagged, row_value};
+ghost use Rattle.krl_cache.specs.Entries.{key_piece};
 ghost use Rattle.krl_cache_laws.specs.Lists.{ArePlaced};
 
 use krl_cache::{Entry, reads_key};
@@ -15,7 +15,7 @@ use krl_messages::{KeyPiece, Value};
 use krl_modes::{KeyPart, Span, TOP};
 use std::alloc::{AllocError, Global};
 
-// What is left of an entry that is lowered, where it lies from `lo` on below `hi`.
+// What is left of an entry that is lowered, if it lies from `lo` on below `hi`.
 fn pick(entry: &(u64, Entry), lo: u64, hi: u64, keep: KeyPart) -> Option<(u64, Entry)>
     ensures { result ≡ pick lo hi (entry_lowered keep) entry.now }
 {
@@ -48,7 +48,7 @@ fn add_entries(
     Ok(())
 }
 
-// Adds an entry, where it is read.
+// Adds an entry, if it is read.
 fn add_own(list: &mut Vec<(u64, Entry)>, point: u64, own: Entry) -> Result<(), AllocError>
     ensures { OnOk result
         (list.new.items ≡ list.old.items
@@ -61,7 +61,7 @@ fn add_own(list: &mut Vec<(u64, Entry)>, point: u64, own: Entry) -> Result<(), A
     Ok(())
 }
 
-// The entries, with one at the span's last point, where it is read, in place of those of the span.
+// The entries, with one at the span's last point, if it is read, in place of those of the span.
 pub fn entries_with(
     alloc: Global,
     entries: &[(u64, Entry)],

@@ -2,8 +2,8 @@
 //! both answer alike.
 #![tactic(auto)]
 
-ghost use Rattle.krl_cache.specs.Beliefs.{CallsKeepBelief, RowsAreDetermined, ScansAreDetermined};
-ghost use Rattle.krl_cache.specs.Kept.{BeliefsAreDescribed};
+ghost use Rattle.krl_cache.specs.Laws.{CallsKeepBelief, RowsAreDetermined, ScansAreDetermined};
+ghost use Rattle.krl_cache.specs.Laws.{BeliefsAreDescribed};
 ghost use Rattle.krl_cache_laws.specs.Runs.{PiecesAreDetermined, RunsAgree};
 
 mod entries;
@@ -43,7 +43,7 @@ pub fn scans_are_determined()
 {}
 
 /// Two runs of the same calls from one belief, on whatever forms of a cache, give the same answers
-/// and leave one belief, where no memory is refused.
+/// and leave one belief, if no memory is refused.
 pub fn runs_agree()
     ensures { RunsAgree }
 {}

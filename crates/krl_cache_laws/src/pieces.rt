@@ -7,8 +7,8 @@ ghost use Rattle.krl_modes.specs.declared.part.RangePart.TheVariants as range;
 ghost use Rattle.krl_modes.specs.Parts.{range_meet};
 ghost use Rattle.krl_modes.specs.Spans.{contains};
 ghost use Rattle.krl_cache.specs.Beliefs as beliefs;
-ghost use Rattle.krl_cache.specs.Kept.{range_said, AreMerged};
-ghost use Rattle.krl_cache.specs.Lists.{StandWithin};
+ghost use Rattle.krl_cache.specs.Kept.{range_reported_at, AreMerged};
+ghost use Rattle.krl_cache.specs.Entries.{StandWithin};
 ghost use Rattle.krl_messages.specs.declared.range_pieces.RangePiece.{RangePiece};
 ghost use Rattle.krl_cache_laws.specs.Lists.{clip, Holds, GoesOn, IsBoth, AddsBehind};
 
@@ -59,7 +59,7 @@ fn goes_on(first: &RangePiece, second: &RangePiece) -> bool
     first.span.hi() == second.span.lo() && first.part == second.part
 }
 
-// The piece that covers both, where the second goes on with the first.
+// The piece that covers both, if the second goes on with the first.
 fn both(first: &RangePiece, second: &RangePiece) -> Option<RangePiece>
     requires { first.now.span.lo ≤ second.now.span.lo }
     ensures { MatchOption result (¬ GoesOn first.now second.now) (IsBoth first.now second.now) }
@@ -79,8 +79,8 @@ fn says_none(piece: &RangePiece) -> bool
     matches!(piece.part, RangePart::N)
 }
 
-// Adds a piece behind the others. It is one with the last, where it goes on with it, and is left
-// out where it says N.
+// Adds a piece behind the others. It is one with the last, if it goes on with it, and is left
+// out if it says N.
 fn add_behind(list: &mut Vec<RangePiece>, piece: RangePiece) -> Result<(), AllocError>
     requires { (rest : List RangePiece) × StandWithin 0 TOP (list.old.items ++ piece ∷ rest) }
     ensures { OnOk result (AddsBehind list.old.items piece list.new.items) }
@@ -101,12 +101,12 @@ fn add_behind(list: &mut Vec<RangePiece>, piece: RangePiece) -> Result<(), Alloc
     Ok(())
 }
 
-// The pieces, where neighbours that say the same are one, and none says N.
+// The pieces, in which neighbours that say the same are one, and none says N.
 fn merged(alloc: Global, pieces: &[RangePiece]) -> Result<Vec<RangePiece>, AllocError>
     requires { StandWithin 0 TOP pieces.now }
     ensures stand { IfOk result (λ list. StandWithin 0 TOP list.items) }
     ensures said { IfOk result
-        (λ list. (p : ℕ) → range_said list.items p ≡ range_said pieces.now p) }
+        (λ list. (p : ℕ) → range_reported_at list.items p ≡ range_reported_at pieces.now p) }
     ensures merged { IfOk result (λ list. AreMerged list.items) }
 {
     let mut list = Vec::new(alloc);
@@ -127,8 +127,8 @@ fn cut_with(
     ensures span { beliefs.is_span span ≡ true }
     ensures stand { IfOk result (λ list. StandWithin 0 TOP list.items) }
     ensures said { IfOk result
-        (λ list. (p : ℕ) → range_said list.items p
-        ≡ (if contains span p then part else range_said pieces.now p)) }
+        (λ list. (p : ℕ) → range_reported_at list.items p
+        ≡ (if contains span p then part else range_reported_at pieces.now p)) }
 {
     let lo = span.lo();
     let hi = span.hi();
@@ -150,8 +150,8 @@ pub fn pieces_with(
     ensures span { beliefs.is_span span ≡ true }
     ensures stand { IfOk result (λ list. StandWithin 0 TOP list.items) }
     ensures said { IfOk result
-        (λ list. (p : ℕ) → range_said list.items p
-        ≡ (if contains span p then part else range_said pieces.now p)) }
+        (λ list. (p : ℕ) → range_reported_at list.items p
+        ≡ (if contains span p then part else range_reported_at pieces.now p)) }
     ensures merged { IfOk result (λ list. AreMerged list.items) }
 {
     let list = cut_with(alloc, pieces, span, part)?;
@@ -168,9 +168,9 @@ fn cut_lowered(
     requires { StandWithin 0 TOP pieces.now }
     ensures stand { IfOk result (λ list. StandWithin 0 TOP list.items) }
     ensures said { IfOk result
-        (λ list. (p : ℕ) → range_said list.items p
+        (λ list. (p : ℕ) → range_reported_at list.items p
         ≡ (if contains span p
-        then range_meet (range_said pieces.now p) keep else range_said pieces.now p)) }
+        then range_meet (range_reported_at pieces.now p) keep else range_reported_at pieces.now p)) }
 {
     let lo = span.lo();
     let hi = span.hi();
@@ -191,9 +191,9 @@ pub fn pieces_lowered(
     requires { StandWithin 0 TOP pieces.now }
     ensures stand { IfOk result (λ list. StandWithin 0 TOP list.items) }
     ensures said { IfOk result
-        (λ list. (p : ℕ) → range_said list.items p
+        (λ list. (p : ℕ) → range_reported_at list.items p
         ≡ (if contains span p
-        then range_meet (range_said pieces.now p) keep else range_said pieces.now p)) }
+        then range_meet (range_reported_at pieces.now p) keep else range_reported_at pieces.now p)) }
     ensures merged { IfOk result (λ list. AreMerged list.items) }
 {
     let list = cut_lowered(alloc, pieces, span, keep)?;
@@ -214,7 +214,7 @@ fn piece_at(pieces: &[RangePiece], p: u64) -> Option<RangePiece>
 pub fn part_from(pieces: &[RangePiece], p: u64) -> (RangePart, u64)
     requires stand { StandWithin 0 TOP pieces.now }
     requires point { p < TOP }
-    ensures { Holds (range_said pieces.now) p result.0 result.1 }
+    ensures { Holds (range_reported_at pieces.now) p result.0 result.1 }
 {
     match piece_at(pieces, p) {
         Some(piece) => (piece.part, piece.span.hi()),
@@ -224,7 +224,7 @@ pub fn part_from(pieces: &[RangePiece], p: u64) -> (RangePart, u64)
 
 // The range part at the point.
 pub fn part_at(pieces: &[RangePiece], p: u64) -> RangePart
-    ensures { result ≡ range_said pieces.now p }
+    ensures { result ≡ range_reported_at pieces.now p }
 {
     match piece_at(pieces, p) {
         Some(piece) => piece.part,

@@ -3,6 +3,7 @@ ghost use Rattle.std.specs.Prelude.{true, ◌≡◌, ◌≤◌, ◌<◌, ℕ, If
 ghost use Rattle.krl_modes.specs.declared.point.TheConstants.{TOP};
 ghost use Rattle.krl_messages.specs.Several.{have_values};
 ghost use Rattle.krl_cache.specs.Beliefs as beliefs;
+ghost use Rattle.krl_cache.specs.Laws as laws;
 ghost use Rattle.krl_cache_laws.specs.Lists.{lists_believe, KnowsFrom};
 
 use crate::entries::{entries_lowered, entries_with, entry_at, keys_of, rows_of};
@@ -44,7 +45,7 @@ impl PlainCache {
         }
     }
 
-    // The end of points from `p` on that are known; None where `p` is not.
+    // The end of points from `p` on that are known; None if `p` is not.
     fn known_until(&self, p: u64) -> Option<u64>
         requires { p < TOP }
         ensures { MatchOption result (beliefs.is_covered (lists_believe self.now) p ≡ false)
@@ -67,8 +68,8 @@ impl PlainCache {
         ensures ok { OnOk result
             (lists_believe self.new ≡ beliefs.adopt_all holdings.now (lists_believe self.old)) }
         ensures belief { OnOk result
-            (beliefs.IsBelief (lists_believe self.old)
-            → beliefs.IsBelief (lists_believe self.new)) }
+            (laws.IsBelief (lists_believe self.old)
+            → laws.IsBelief (lists_believe self.new)) }
     {
         for holding in holdings {
             self.adopt(*holding)?;

@@ -71,7 +71,7 @@ fn answer<B: Belief>(alloc: Global, cache: &mut B, call: CacheCall) -> CacheRepl
 ///
 /// # Errors
 ///
-/// `AllocError` where the memory for the list of answers is refused, before the first call. Nothing
+/// `AllocError` if the memory for the list of answers is refused, before the first call. Nothing
 /// has changed then.
 pub fn run_cache<B: Belief>(
     alloc: Global,

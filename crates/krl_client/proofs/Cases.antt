@@ -10,14 +10,14 @@ use Rattle.krl_messages.specs.declared.to_server.ToServer.{ToServer}
 use Rattle.krl_messages.specs.declared.to_client.ToClient.{ToClient}
 use Rattle.krl_messages.specs.declared.to_client.ToClientBody.TheVariants as told
 use Rattle.krl_messages.specs.declared.to_client.PushBody.{PushBody}
-use Rattle.krl_cache.specs.Beliefs.{IsBelief}
+use Rattle.krl_cache.specs.Laws.{IsBelief}
 use Rattle.krl_cache.proofs.Described.{beliefs_are_described}
 use Rattle.krl_client.specs.Clients.{Client, LastWrite, Unwritten, Outstanding, Judged, is_writing_in, meets_pin, has_joined, outstanding}
 use Rattle.krl_client.specs.Messages.{Case, Ignores, AcksAgain, Adopts, Accepts, Lowers, case_of, case_of_body, after, sends, fits, judged_as, says_ack}
 use Rattle.krl_client.specs.Ticks.{says_hello, lock_again, write_again}
-use Rattle.krl_client.specs.Fields.{judged_where, Follows, IsTick, IsOpening}
+use Rattle.krl_client.specs.FieldSteps.{judged_where, Follows, IsTick, IsOpening}
 
--- Follows, where no pieces are told: some describe the belief
+-- Follows, if no pieces are told: some describe the belief
 
 pub ignores : (k : Client) (x : Case) (list : List ToServer) → IsBelief k.belief → x ≡ Ignores → list ≡ [] → Follows k x k list
 ignores k x list i e l = let some = beliefs_are_described k.belief i in rw (e, l) (record { client = refl; pieces = some.0; described = some.1; says = refl })

@@ -14,11 +14,12 @@ use Rattle.krl_messages.specs.declared.to_client.ToClientBody.TheVariants as tol
 use Rattle.krl_messages.specs.declared.to_client.PushBody.{PushBody}
 use Rattle.krl_messages.specs.declared.to_client.PushBody.TheVariants as push
 use Rattle.krl_messages.specs.Writes.{op_key}
-use Rattle.krl_cache.specs.Beliefs.{IsBelief, is_span}
+use Rattle.krl_cache.specs.Laws.{IsBelief}
+use Rattle.krl_cache.specs.Beliefs.{is_span}
 use Rattle.krl_cache.proofs.Calls.{calls_keep_belief, adopted_all}
 use Rattle.krl_client.specs.declared.refused.CommandRefused.TheVariants as refused
 use Rattle.krl_client.specs.declared.refused.StartRefused.TheVariants as start
-use Rattle.krl_client.specs.Clients.{Client, LockRequest, NotAsked, Granted, NoEntry, Dropped, Waiting, LastWrite, Unwritten, Outstanding, Judged, outstanding, has_joined, is_waiting, is_writing_in, meets_pin, if_taken, free_from, free_pin, with_pin, begun}
+use Rattle.krl_client.specs.Clients.{Client, LockRequest, NotAsked, Granted, Absent, Dropped, Waiting, LastWrite, Unwritten, Outstanding, Judged, outstanding, has_joined, is_waiting, is_writing_in, meets_pin, if_taken, free_from, free_pin, with_pin, begun}
 use Rattle.krl_client.specs.Commands.{start_refusal, lock_refusal, locked, write_refusal, wrote, holds_for, lowered, pin_refusal, pinned, unpinned}
 use Rattle.krl_client.specs.Messages.{Case, Ignores, AcksAgain, Adopts, Accepts, Lowers, case_of, case_of_body, after, fits, dropped, joined, judged_as, accepted}
 use Rattle.krl_client.specs.Keeps.{IsPin, IsClient, LiesOnSpan, BringsSpan, ClientKeeps}
@@ -30,7 +31,7 @@ start_keeps c incarnation e =
     let one = passed (nat_lt 63 c) start.BadClient _ e in
     let two = passed (nat_lt END incarnation) start.Spent None one.1 in
     record {
-      number = ltb-false 63 c one.0;
+      number = let low = ltb-false 63 c one.0 in omega (arith, low);
       incarnation = ltb-false END incarnation two.0;
       seen = omega arith;
       req = omega arith;
@@ -169,7 +170,7 @@ none_waits : (a : LockRequest) (point hi : ℕ) (mode : Mode) → dropped a ≡ 
 none_waits NotAsked point hi mode e = cc
 none_waits (Waiting p j m) point hi mode e = cc
 none_waits Granted point hi mode e = cc
-none_waits NoEntry point hi mode e = cc
+none_waits Absent point hi mode e = cc
 none_waits Dropped point hi mode e = cc
 
 pub join_keeps : (k : Client) (epoch : ℕ) → IsClient k → IsClient (joined k epoch)
@@ -218,7 +219,7 @@ accept_keeps k (push.Absent req point) l b i = record {
   seen = l;
   req = i.req;
   writes = i.writes;
-  asked = λ p hi mode w. i.asked p hi mode (still_waits (is_waiting k.asked && nat_eq req k.req) k.asked NoEntry p hi mode (λ e. cc) w);
+  asked = λ p hi mode w. i.asked p hi mode (still_waits (is_waiting k.asked && nat_eq req k.req) k.asked Absent p hi mode (λ e. cc) w);
   written = i.written;
   pins = i.pins;
   belief = b;

@@ -1,26 +1,20 @@
 -- What a client is, and what it shows of itself.
 use Rattle.std.specs.Prelude.{ℕ, zero, suc, Bool, true, false, ◌||◌, Option, Some, None, if◌then◌else◌, nat_eq, nat_lt}
 use Rattle.krl_modes.specs.declared.mode.Mode.{Mode}
-use Rattle.krl_modes.specs.declared.part.RangePart.{RangePart}
-use Rattle.krl_modes.specs.declared.part.KeyPart.{KeyPart}
 use Rattle.krl_modes.specs.Spans.{Bounds, contains, meets}
+use Rattle.krl_modes.specs.Limits.{max_pins}
 use Rattle.krl_messages.specs.declared.write_op.WriteOp.{WriteOp}
 use Rattle.krl_messages.specs.declared.outcome.Outcome.{Outcome}
 use Rattle.krl_messages.specs.declared.to_server.ToServer.{ToServer}
 use Rattle.krl_messages.specs.declared.to_server.ToServerBody.{ToServerBody}
-use Rattle.krl_messages.specs.declared.to_server.ToServerBody.TheVariants as body
+use Rattle.krl_messages.specs.declared.to_server.ToServerBody.TheVariants as said
 use Rattle.krl_messages.specs.declared.to_server.RequestBody.{RequestBody}
 use Rattle.krl_messages.specs.Writes.{op_key}
 use Rattle.krl_cache.specs.Beliefs.{Belief, no_belief}
-use Rattle.krl_client.specs.declared.status.Status.{Status}
-use Rattle.krl_client.specs.declared.status.LockStatus.{LockStatus}
-use Rattle.krl_client.specs.declared.status.LockStatus.TheVariants as lock
-use Rattle.krl_client.specs.declared.status.WriteStatus.{WriteStatus}
-use Rattle.krl_client.specs.declared.status.WriteStatus.TheVariants as write
 
 -- the last lock request of this incarnation
 pub data LockRequest : Type 0 where
-  NotAsked Granted NoEntry Dropped : LockRequest
+  NotAsked Granted Absent Dropped : LockRequest
   Waiting : (point hi : ℕ) (mode : Mode) → LockRequest
 
 -- its last write
@@ -68,7 +62,7 @@ has_joined k = nat_lt 0 k.epoch
 abbrev pub is_waiting : LockRequest → Bool
 is_waiting NotAsked = false
 is_waiting Granted = false
-is_waiting NoEntry = false
+is_waiting Absent = false
 is_waiting Dropped = false
 is_waiting (Waiting point hi mode) = true
 
@@ -87,10 +81,6 @@ is_writing_in k s = is_in s (outstanding k.written)
 
 -- Its pins
 
--- how many pins there may be
-abbrev pub most_pins : ℕ
-most_pins = 8
-
 abbrev pub pin_meets : Bounds → Option Bounds → Bool
 pin_meets s None = false
 pin_meets s (Some t) = meets s t
@@ -102,7 +92,7 @@ meets_one pins (suc n) s = pin_meets s (pins n) || meets_one pins n s
 
 -- the span meets a pin
 abbrev pub meets_pin : Client → Bounds → Bool
-meets_pin k s = meets_one k.pins most_pins s
+meets_pin k s = meets_one k.pins max_pins s
 
 abbrev pub if_taken : Option Bounds → ℕ → Option ℕ → Option ℕ
 if_taken None i later = Some i
@@ -114,36 +104,10 @@ free_from pins i zero = None
 free_from pins i (suc n) = if_taken (pins i) i (free_from pins (suc i) n)
 
 abbrev pub free_pin : Client → Option ℕ
-free_pin k = free_from k.pins 0 most_pins
+free_pin k = free_from k.pins 0 max_pins
 
 abbrev pub with_pin : (ℕ → Option Bounds) → ℕ → Option Bounds → ℕ → Option Bounds
 with_pin pins i s j = if nat_eq j i then s else pins j
-
--- What it shows
-
--- what it believes that it holds at a point
-abbrev pub held : Client → ℕ → RangePart × KeyPart
-held k p = (k.belief.range_at p, k.belief.key_at p)
-
-abbrev pub lock_status : LockRequest → LockStatus
-lock_status NotAsked = lock.NotAsked
-lock_status (Waiting point hi mode) = lock.Waiting
-lock_status Granted = lock.Granted
-lock_status NoEntry = lock.Absent
-lock_status Dropped = lock.Dropped
-
-abbrev pub write_status : ℕ → LastWrite → WriteStatus
-write_status n Unwritten = write.NotWritten
-write_status n (Outstanding change) = write.Waiting n
-write_status n (Judged outcome) = write.Judged n outcome
-
-abbrev pub status_of : Client → Status
-status_of k = record {
-  epoch = k.epoch;
-  seen = k.seen;
-  lock = lock_status k.asked;
-  write = write_status k.writes k.written;
-}
 
 -- What it says
 
@@ -153,4 +117,4 @@ from k what = record { client = k.number; incarnation = k.incarnation; body = wh
 -- a request, with its epoch and the last push that it accepted
 abbrev pub requests : Client → RequestBody → ToServer
 requests k what =
-    from k (body.Request (record { epoch = k.epoch; seen = k.seen; body = what }))
+    from k (said.Request (record { epoch = k.epoch; seen = k.seen; body = what }))

@@ -5,33 +5,35 @@ use Rattle.krl_modes.specs.declared.mode.Mode.{Mode}
 use Rattle.krl_modes.specs.declared.mode.Mode.TheVariants as mode
 use Rattle.krl_modes.specs.Parts.{lets_insert, is_range_X, is_key_X}
 use Rattle.krl_modes.specs.Spans.{Bounds, contains}
+use Rattle.krl_modes.specs.declared.limits.TheConstants.{MAX_CLIENTS}
+use Rattle.krl_modes.specs.Limits.{max_pins}
 use Rattle.krl_messages.specs.declared.write_op.WriteOp.{WriteOp}
-use Rattle.krl_messages.specs.declared.write_op.WriteOp.TheVariants as op
+use Rattle.krl_messages.specs.declared.write_op.WriteOp.TheVariants as write
 use Rattle.krl_messages.specs.declared.to_server.ToServer.{ToServer}
-use Rattle.krl_messages.specs.declared.to_server.RequestBody.TheVariants as request
-use Rattle.krl_messages.specs.declared.to_server.ToServerBody.TheVariants as body
+use Rattle.krl_messages.specs.declared.to_server.RequestBody.TheVariants as asked
+use Rattle.krl_messages.specs.declared.to_server.ToServerBody.TheVariants as said
 use Rattle.krl_messages.specs.Values.{Value}
 use Rattle.krl_messages.specs.Writes.{op_key}
 use Rattle.krl_cache.specs.declared.scanned.Scanned.TheVariants as scanned
 use Rattle.krl_cache.specs.Beliefs.{Belief, is_span, lower, Scans}
 use Rattle.krl_client.specs.declared.refused.CommandRefused.{CommandRefused}
-use Rattle.krl_client.specs.declared.refused.CommandRefused.TheVariants as refused
+use Rattle.krl_client.specs.declared.refused.CommandRefused.TheVariants as command_refused
 use Rattle.krl_client.specs.declared.refused.StartRefused.{StartRefused}
-use Rattle.krl_client.specs.declared.refused.StartRefused.TheVariants as start
+use Rattle.krl_client.specs.declared.refused.StartRefused.TheVariants as start_refused
 use Rattle.krl_client.specs.declared.scan_answer.ScanAnswer.{ScanAnswer}
-use Rattle.krl_client.specs.declared.scan_answer.ScanAnswer.TheVariants as answer
-use Rattle.krl_client.specs.Clients.{Client, Waiting, Outstanding, outstanding, has_joined, is_waiting, is_writing_in, most_pins, meets_pin, free_pin, with_pin, from, requests}
+use Rattle.krl_client.specs.declared.scan_answer.ScanAnswer.TheVariants as scan_answer
+use Rattle.krl_client.specs.Clients.{Client, Waiting, Outstanding, outstanding, has_joined, is_waiting, is_writing_in, meets_pin, free_pin, with_pin, from, requests}
 
 -- what a write needs of what the client believes
 abbrev pub holds_for : Belief → WriteOp → Bool
-holds_for b (op.Insert k v) = lets_insert (b.range_at k)
-holds_for b (op.Put k v) = is_key_X (b.key_at k)
-holds_for b (op.Delete k) =
+holds_for b (write.Insert k v) = lets_insert (b.range_at k)
+holds_for b (write.Put k v) = is_key_X (b.key_at k)
+holds_for b (write.Delete k) =
     is_key_X (b.key_at k) && is_range_X (b.range_at k) && is_range_X (b.range_at (suc k))
 
 -- Refusals
 
--- a test, and the refusal that is due where it holds
+-- a test, and the refusal that is due if it holds
 pub record Reason : Type 0 where
   pub holds : Bool
   pub refusal : CommandRefused
@@ -49,59 +51,59 @@ first_reason (r ∷ rs) = if r.holds then Some r.refusal else first_reason rs
 abbrev pub lock_refusal : Client → ℕ → ℕ → Option CommandRefused
 lock_refusal k point hi =
     first_reason (
-    due refused.BadPoint (nat_lt END point)
-    ∷ due refused.BadSpan (not (is_span (record { lo = point; hi = hi })))
-    ∷ due refused.NotJoined (not (has_joined k))
-    ∷ due refused.Busy (is_waiting k.asked)
-    ∷ due refused.Spent (nat_le END k.req)
+    due command_refused.BadPoint (nat_lt END point)
+    ∷ due command_refused.BadSpan (not (is_span (record { lo = point; hi = hi })))
+    ∷ due command_refused.NotJoined (not (has_joined k))
+    ∷ due command_refused.Busy (is_waiting k.asked)
+    ∷ due command_refused.Spent (nat_le END k.req)
     ∷ []
     )
 
 abbrev pub write_refusal : Client → WriteOp → Option CommandRefused
 write_refusal k change =
     first_reason (
-    due refused.BadPoint (nat_le END (op_key change))
-    ∷ due refused.NotJoined (not (has_joined k))
-    ∷ due refused.Writing (is_some (outstanding k.written))
-    ∷ due refused.NotHeld (not (holds_for k.belief change))
-    ∷ due refused.Spent (nat_le END k.writes)
+    due command_refused.BadPoint (nat_le END (op_key change))
+    ∷ due command_refused.NotJoined (not (has_joined k))
+    ∷ due command_refused.Writing (is_some (outstanding k.written))
+    ∷ due command_refused.NotHeld (not (holds_for k.belief change))
+    ∷ due command_refused.Spent (nat_le END k.writes)
     ∷ []
     )
 
 abbrev pub scan_refusal : Bounds → Option CommandRefused
-scan_refusal s = first_reason (due refused.BadSpan (not (is_span s)) ∷ [])
+scan_refusal s = first_reason (due command_refused.BadSpan (not (is_span s)) ∷ [])
 
 abbrev pub forget_refusal : Client → Bounds → Option CommandRefused
 forget_refusal k s =
     first_reason (
-    due refused.BadSpan (not (is_span s))
-    ∷ due refused.NotJoined (not (has_joined k))
-    ∷ due refused.Writing (is_writing_in k s)
-    ∷ due refused.Pinned (meets_pin k s)
+    due command_refused.BadSpan (not (is_span s))
+    ∷ due command_refused.NotJoined (not (has_joined k))
+    ∷ due command_refused.Writing (is_writing_in k s)
+    ∷ due command_refused.Pinned (meets_pin k s)
     ∷ []
     )
 
 abbrev pub pin_refusal : Client → Bounds → Option CommandRefused
 pin_refusal k s =
     first_reason (
-    due refused.BadSpan (not (is_span s))
-    ∷ due refused.TooManyPins (not (is_some (free_pin k)))
+    due command_refused.BadSpan (not (is_span s))
+    ∷ due command_refused.TooManyPins (not (is_some (free_pin k)))
     ∷ []
     )
 
 abbrev pub unpin_refusal : Client → ℕ → Option CommandRefused
 unpin_refusal k id =
     first_reason (
-    due refused.NotHeld (nat_le most_pins id || not (is_some (k.pins id)))
+    due command_refused.NotHeld (nat_le max_pins id || not (is_some (k.pins id)))
     ∷ []
     )
 
 -- why no client starts
 abbrev pub start_refusal : ℕ → ℕ → Option StartRefused
 start_refusal c incarnation =
-    if nat_lt 63 c
-    then Some start.BadClient
-    else (if nat_lt END incarnation then Some start.Spent else None)
+    if nat_le MAX_CLIENTS c
+    then Some start_refused.BadClient
+    else (if nat_lt END incarnation then Some start_refused.Spent else None)
 
 -- Effects of a command that is not refused, and what it sends
 
@@ -109,19 +111,19 @@ abbrev pub locked : Client → ℕ → ℕ → Mode → Client
 locked k point hi mode = record k { req = suc k.req; asked = Waiting point hi mode }
 
 abbrev pub says_lock : Client → ℕ → ℕ → Mode → ToServer
-says_lock k point hi mode = requests k (request.Lock k.req point hi mode)
+says_lock k point hi mode = requests k (asked.Lock k.req point hi mode)
 
 abbrev pub wrote : Client → WriteOp → Client
 wrote k change = record k { writes = suc k.writes; written = Outstanding change }
 
 abbrev pub says_write : Client → WriteOp → ToServer
-says_write k change = requests k (request.Write k.writes change)
+says_write k change = requests k (asked.Write k.writes change)
 
 abbrev pub lowered : Client → Bounds → Mode → Client
 lowered k s keep = record k { belief = lower s keep k.belief }
 
 abbrev pub says_release : Client → Bounds → Mode → ToServer
-says_release k s keep = requests k (request.Release s keep)
+says_release k s keep = requests k (asked.Release s keep)
 
 abbrev pub forgot : Client → Bounds → Client
 forgot k s = lowered k s mode.N
@@ -133,20 +135,20 @@ abbrev pub unpinned : Client → ℕ → Client
 unpinned k id = record k { pins = with_pin k.pins id None }
 
 abbrev pub says_bye : Client → ToServer
-says_bye k = from k body.Bye
+says_bye k = from k said.Bye
 
 -- Scans
 
--- Pending exactly where the outstanding write's key lies in the span; else what the cache finds
+-- Pending exactly if the outstanding write's key lies in the span; else what the cache finds
 pub data Answers (k : Client) (s : Bounds) : ScanAnswer → Type 0 where
   is_pending :
       (change : WriteOp)
       → outstanding k.written ≡ Some change → contains s (op_key change) ≡ true
-      → Answers k s (answer.Pending (op_key change))
+      → Answers k s (scan_answer.Pending (op_key change))
   finds_rows :
       (rows : List (ℕ × Value))
       → is_writing_in k s ≡ false → Scans k.belief s (scanned.Rows rows)
-      → Answers k s (answer.Rows rows)
+      → Answers k s (scan_answer.Rows rows)
   misses :
       (p : ℕ)
-      → is_writing_in k s ≡ false → Scans k.belief s (scanned.Miss p) → Answers k s (answer.Miss p)
+      → is_writing_in k s ≡ false → Scans k.belief s (scanned.Miss p) → Answers k s (scan_answer.Miss p)

@@ -5,6 +5,8 @@ use Rattle.std.specs.List.{AllByRecursion}
 use Rattle.krl_modes.specs.declared.point.TheConstants.{END}
 use Rattle.krl_modes.specs.declared.mode.Mode.{Mode}
 use Rattle.krl_modes.specs.Spans.{Bounds}
+use Rattle.krl_modes.specs.declared.limits.TheConstants.{MAX_CLIENTS}
+use Rattle.krl_modes.specs.Limits.{max_pins}
 use Rattle.krl_messages.specs.declared.write_op.WriteOp.{WriteOp}
 use Rattle.krl_messages.specs.declared.to_client.ToClient.{ToClient}
 use Rattle.krl_messages.specs.declared.to_client.ToClientBody.{ToClientBody}
@@ -12,8 +14,9 @@ use Rattle.krl_messages.specs.declared.to_client.ToClientBody.TheVariants as tol
 use Rattle.krl_messages.specs.declared.to_client.PushBody.{PushBody}
 use Rattle.krl_messages.specs.declared.to_client.PushBody.TheVariants as push
 use Rattle.krl_messages.specs.Writes.{op_key}
-use Rattle.krl_cache.specs.Beliefs.{IsBelief, is_span}
-use Rattle.krl_client.specs.Clients.{Client, Waiting, outstanding, most_pins, free_pin, begun}
+use Rattle.krl_cache.specs.Laws.{IsBelief}
+use Rattle.krl_cache.specs.Beliefs.{is_span}
+use Rattle.krl_client.specs.Clients.{Client, Waiting, outstanding, free_pin, begun}
 use Rattle.krl_client.specs.Commands.{start_refusal, lock_refusal, locked, write_refusal, wrote, forgot, pin_refusal, pinned, unpinned}
 use Rattle.krl_client.specs.Messages.{case_of, after}
 
@@ -30,11 +33,11 @@ pub record IsRequest (number point hi : ℕ) : Type 0 where
 
 -- the id is one, and the pin is a span
 pub record IsPin (id : ℕ) (s : Bounds) : Type 0 where
-  pub below : id < most_pins
+  pub below : id < max_pins
   pub span : is_span s ≡ true
 
 pub record IsClient (k : Client) : Type 0 where
-  pub number : k.number ≤ 63
+  pub number : k.number < MAX_CLIENTS
   pub incarnation : k.incarnation ≤ END
   pub seen : k.seen ≤ END
   pub req : k.req ≤ END

@@ -1,7 +1,9 @@
 pub mod Clients
+pub mod Shown
 pub mod Commands
 pub mod Messages
 pub mod Ticks
+pub mod FieldSteps
 pub mod Laws
 pub mod Keeps
 pub mod Fields

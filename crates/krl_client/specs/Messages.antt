@@ -6,8 +6,8 @@ use Rattle.krl_modes.specs.Spans.{Bounds}
 use Rattle.krl_messages.specs.declared.outcome.Outcome.{Outcome}
 use Rattle.krl_messages.specs.declared.pieces.Pieces.{Pieces}
 use Rattle.krl_messages.specs.declared.to_server.ToServer.{ToServer}
-use Rattle.krl_messages.specs.declared.to_server.RequestBody.TheVariants as request
-use Rattle.krl_messages.specs.declared.to_server.ToServerBody.TheVariants as body
+use Rattle.krl_messages.specs.declared.to_server.RequestBody.TheVariants as asked
+use Rattle.krl_messages.specs.declared.to_server.ToServerBody.TheVariants as said
 use Rattle.krl_messages.specs.declared.to_client.ToClient.{ToClient}
 use Rattle.krl_messages.specs.declared.to_client.ToClientBody.{ToClientBody}
 use Rattle.krl_messages.specs.declared.to_client.ToClientBody.TheVariants as told
@@ -16,7 +16,7 @@ use Rattle.krl_messages.specs.declared.to_client.PushBody.TheVariants as push
 use Rattle.krl_messages.specs.Holdings.{has_its_value}
 use Rattle.krl_messages.specs.Several.{have_values}
 use Rattle.krl_cache.specs.Beliefs.{adopt, adopt_all}
-use Rattle.krl_client.specs.Clients.{Client, LockRequest, NotAsked, Granted, NoEntry, Dropped, Waiting, LastWrite, Unwritten, Outstanding, Judged, is_waiting, is_writing_in, meets_pin, from, requests}
+use Rattle.krl_client.specs.Clients.{Client, LockRequest, NotAsked, Granted, Absent, Dropped, Waiting, LastWrite, Unwritten, Outstanding, Judged, is_waiting, is_writing_in, meets_pin, from, requests}
 use Rattle.krl_client.specs.Commands.{lowered, says_release}
 
 pub data Case : Type 0 where
@@ -74,7 +74,7 @@ accepted k (push.Grant req hs) = record k {
 }
 accepted k (push.Absent req point) = record k {
   seen = suc k.seen;
-  asked = asked_after k req k.asked NoEntry;
+  asked = asked_after k req k.asked Absent;
 }
 accepted k (push.Answer number outcome h) = record k {
   seen = suc k.seen;
@@ -88,7 +88,7 @@ accepted k (push.Answer number outcome h) = record k {
 abbrev pub dropped : LockRequest → LockRequest
 dropped NotAsked = NotAsked
 dropped Granted = Granted
-dropped NoEntry = NoEntry
+dropped Absent = Absent
 dropped Dropped = Dropped
 dropped (Waiting point hi mode) = Dropped
 
@@ -99,10 +99,10 @@ joined k epoch = record k { epoch = epoch; seen = 0; req = 0; asked = dropped k.
 -- Each case
 
 abbrev pub says_report : Pieces → Client → ToServer
-says_report ps k = from k (body.Report k.epoch ps)
+says_report ps k = from k (said.Report k.epoch ps)
 
 abbrev pub says_ack : Client → ToServer
-says_ack k = requests k request.Ack
+says_ack k = requests k asked.Ack
 
 -- the client after a message of this case
 abbrev pub after : Client → Case → Client
@@ -112,7 +112,7 @@ after k (Adopts epoch) = joined k epoch
 after k (Accepts what) = accepted k what
 after k (Lowers s keep) = lowered k s keep
 
--- and what it sends, where ps are its pieces
+-- and what it sends, if ps are its pieces
 abbrev pub sends : Pieces → Client → Case → List ToServer
 sends ps k Ignores = []
 sends ps k AcksAgain = says_ack k ∷ []

@@ -3,8 +3,8 @@ use Rattle.std.specs.Prelude.{Option, Some, None, List, [], ◌∷◌, ◌++◌,
 use Rattle.krl_messages.specs.declared.write_op.WriteOp.{WriteOp}
 use Rattle.krl_messages.specs.declared.pieces.Pieces.{Pieces}
 use Rattle.krl_messages.specs.declared.to_server.ToServer.{ToServer}
-use Rattle.krl_messages.specs.declared.to_server.ToServerBody.TheVariants as body
-use Rattle.krl_client.specs.Clients.{Client, LockRequest, NotAsked, Granted, NoEntry, Dropped, Waiting, outstanding, has_joined, from}
+use Rattle.krl_messages.specs.declared.to_server.ToServerBody.TheVariants as said
+use Rattle.krl_client.specs.Clients.{Client, LockRequest, NotAsked, Granted, Absent, Dropped, Waiting, outstanding, has_joined, from}
 use Rattle.krl_client.specs.Commands.{says_lock, says_write}
 use Rattle.krl_client.specs.Messages.{says_report, says_ack}
 
@@ -12,7 +12,7 @@ use Rattle.krl_client.specs.Messages.{says_report, says_ack}
 abbrev pub lock_again : Client → LockRequest → List ToServer
 lock_again k NotAsked = []
 lock_again k Granted = []
-lock_again k NoEntry = []
+lock_again k Absent = []
 lock_again k Dropped = []
 lock_again k (Waiting point hi mode) = says_lock k point hi mode ∷ []
 
@@ -22,9 +22,9 @@ write_again k None = []
 write_again k (Some change) = says_write k change ∷ []
 
 abbrev pub says_hello : Client → ToServer
-says_hello k = from k body.Hello
+says_hello k = from k said.Hello
 
--- where ps are its pieces
+-- if ps are its pieces
 abbrev pub tick : Pieces → Client → List ToServer
 tick ps k =
     if has_joined k

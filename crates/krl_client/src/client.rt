@@ -11,7 +11,7 @@ use crate::pins::Pins;
 use crate::refused::StartRefused;
 use krl_cache::Cache;
 use krl_messages::{ToServer, ToServerBody};
-use krl_modes::END;
+use krl_modes::{END, MAX_CLIENTS};
 use std::alloc::Global;
 use std::marker::Model;
 
@@ -75,7 +75,7 @@ impl Client {
     ///
     /// # Errors
     ///
-    /// `BadClient` where the number is above 63; else `Spent` where the incarnation is above END.
+    /// `BadClient` if the number is above 63; else `Spent` if the incarnation is above END.
     pub fn start(
         alloc: Global,
         number: u64,
@@ -87,7 +87,7 @@ impl Client {
         ensures hello { IfOk result
             (λ x. x.1 ≡ ticks.says_hello (clients.begun number incarnation)) }
     {
-        if number > 63 {
+        if number >= MAX_CLIENTS as u64 {
             return Err(StartRefused::BadClient);
         }
         if incarnation > END {

@@ -5,16 +5,16 @@ ghost use Rattle.krl_client.specs.declared.refused.CommandRefused.TheVariants.{O
 ghost use Rattle.krl_client.specs.declared.scan_answer.ScanAnswer.TheVariants.{Pending};
 ghost use Rattle.krl_client.specs.Clients as clients;
 ghost use Rattle.krl_client.specs.Commands as commands;
-ghost use Rattle.krl_client.specs.Fields.{meaning, IsDue};
+ghost use Rattle.krl_client.specs.Fields.{meaning};
+ghost use Rattle.krl_client.specs.FieldSteps.{IsDue};
 ghost use Rattle.krl_client.specs.Finds.{answer_of};
 
 use crate::client::Client;
 use crate::find_answer::FindAnswer;
-use crate::pins::MOST_PINS;
 use crate::refused::CommandRefused;
 use crate::scan_answer::ScanAnswer;
 use krl_cache::{Belief, Found, Scanned};
-use krl_modes::Span;
+use krl_modes::{MAX_PINS, Span};
 
 impl Client {
     /// Pins the points from `lo` on below `hi`, and gives the pin's id: the least that is free,
@@ -23,8 +23,8 @@ impl Client {
     ///
     /// # Errors
     ///
-    /// In this order: `BadSpan` where `lo` is not below `hi`, or `hi` is above TOP; `TooManyPins`
-    /// where no id is free. The client is as it was.
+    /// In this order: `BadSpan` if `lo` is not below `hi`, or `hi` is above TOP; `TooManyPins`
+    /// if no id is free. The client is as it was.
     pub fn pin(&mut self, lo: u64, hi: u64) -> Result<u64, CommandRefused>
         ensures due { IfErr result
             (λ r. commands.pin_refusal (meaning self.old) (record { lo = lo; hi = hi }) ≡ Some r) }
@@ -50,7 +50,7 @@ impl Client {
     ///
     /// # Errors
     ///
-    /// `NotHeld` where there is no such pin. The client is as it was.
+    /// `NotHeld` if there is no such pin. The client is as it was.
     pub fn unpin(&mut self, id: u64) -> Result<(), CommandRefused>
         ensures due { IfErr result (λ r. commands.unpin_refusal (meaning self.old) id ≡ Some r) }
         ensures unchanged { OnErr result (self.new ≡ self.old) }
@@ -58,7 +58,7 @@ impl Client {
         ensures unpinned { OnOk result
             (meaning self.new ≡ commands.unpinned (meaning self.old) id) }
     {
-        if id >= MOST_PINS || self.pins.get(id).is_none() {
+        if id >= MAX_PINS as u64 || self.pins.get(id).is_none() {
             return Err(CommandRefused::NotHeld);
         }
         self.pins.unpin(id);
@@ -78,14 +78,14 @@ impl Client {
         }
     }
 
-    /// What its own cache says of the points from `lo` on below `hi`: their entries, where it knows
-    /// each of these points; else the least that it does not know. Where the key of its outstanding
+    /// What its own cache says of the points from `lo` on below `hi`: their entries, if it knows
+    /// each of these points; else the least that it does not know. If the key of its outstanding
     /// write is one of them, that key. Only entries take memory.
     ///
     /// # Errors
     ///
-    /// In this order: `BadSpan` where `lo` is not below `hi`, or `hi` is above TOP; `OutOfMemory`
-    /// where the memory for the entries is refused.
+    /// In this order: `BadSpan` if `lo` is not below `hi`, or `hi` is above TOP; `OutOfMemory`
+    /// if the memory for the entries is refused.
     pub fn scan(&self, lo: u64, hi: u64) -> Result<ScanAnswer, CommandRefused>
         ensures due { IfErr result
             (λ r. IsDue (commands.scan_refusal (record { lo = lo; hi = hi })) r) }
@@ -115,7 +115,7 @@ impl Client {
     ///
     /// # Errors
     ///
-    /// `BadSpan` where `lo` is not below `hi`, or `hi` is above TOP.
+    /// `BadSpan` if `lo` is not below `hi`, or `hi` is above TOP.
     pub fn find(&self, lo: u64, hi: u64) -> Result<FindAnswer<'_>, CommandRefused>
         ensures due { IfErr result
             (λ r. commands.scan_refusal (record { lo = lo; hi = hi }) ≡ Some r) }

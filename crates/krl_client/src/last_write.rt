@@ -2,7 +2,9 @@
 ghost use Rattle.std.specs.Prelude.{◌≡◌, IfOk};
 ghost use Rattle.krl_modes.specs.Spans.{contains};
 ghost use Rattle.krl_client.specs.Clients as clients;
-ghost use Rattle.krl_client.specs.Fields.{written_of, judged_where};
+ghost use Rattle.krl_client.specs.Shown as shown;
+ghost use Rattle.krl_client.specs.Fields.{written_of};
+ghost use Rattle.krl_client.specs.FieldSteps.{judged_where};
 
 use crate::status::WriteStatus;
 use krl_messages::{Outcome, WriteOp};
@@ -29,9 +31,9 @@ impl LastWrite {
         }
     }
 
-    /// What a client shows of it, where it has this number.
+    /// What a client shows of it, if it has this number.
     pub fn status(self, number: u64) -> WriteStatus
-        ensures { result ≡ clients.write_status number (written_of self) }
+        ensures { result ≡ shown.write_status number (written_of self) }
     {
         match self {
             LastWrite::Unwritten => WriteStatus::NotWritten,

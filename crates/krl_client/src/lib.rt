@@ -2,9 +2,8 @@
 //!
 //! Whoever embeds a client drives one value by commands, messages and ticks, and sends on what each
 //! call gives. A scan is answered from memory, with no message, by what the client was granted. The
-//! modes are those of key-range locking (the SQL Server guide; Lomet, VLDB 1993); that a client
-//! keeps what it reads, gives it back when it is called, and reports it in each epoch is this
-//! project's own.
+//! modes are those of key-range locking (the SQL Server guide; Lomet, VLDB 1993). A client keeps
+//! what it reads, gives it back when it is called, and reports it in each epoch.
 #![tactic(auto)]
 
 mod client;

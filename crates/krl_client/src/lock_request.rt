@@ -1,6 +1,7 @@
 //! The last lock request of an incarnation.
 ghost use Rattle.std.specs.Prelude.{◌≡◌, ◌&&◌, if◌then◌else◌};
 ghost use Rattle.krl_client.specs.Clients as clients;
+ghost use Rattle.krl_client.specs.Shown as shown;
 ghost use Rattle.krl_client.specs.Messages as messages;
 ghost use Rattle.krl_client.specs.Fields.{asked_of};
 
@@ -45,7 +46,7 @@ impl LockRequest {
 
     /// What a client shows of it.
     pub fn status(self) -> LockStatus
-        ensures { result ≡ clients.lock_status (asked_of self) }
+        ensures { result ≡ shown.lock_status (asked_of self) }
     {
         match self {
             LockRequest::NotAsked => LockStatus::NotAsked,

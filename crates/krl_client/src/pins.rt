@@ -1,19 +1,17 @@
 //! Pins.
 ghost use Rattle.std.specs.Prelude.{◌≡◌, [], None, Some, MatchOption, MatchBool, is_some, ◌<◌};
+ghost use Rattle.krl_modes.specs.Limits.{max_pins};
 ghost use Rattle.krl_client.specs.Clients as clients;
 ghost use Rattle.krl_client.specs.Fields.{pins_of};
 
 use arrayvec::ArrayVec;
-use krl_modes::Span;
+use krl_modes::{MAX_PINS, Span};
 use std::marker::Model;
-
-/// How many pins there may be.
-pub const MOST_PINS: u64 = 8;
 
 /// The spans that a client pins, by their ids, from 0 to 7.
 #[derive(Drop)]
 pub struct Pins {
-    spans: ArrayVec<Option<Span>, 8>,
+    spans: ArrayVec<Option<Span>, MAX_PINS>,
 }
 
 impl Model for Pins {
@@ -25,7 +23,7 @@ impl Model for Pins {
     ghost view = { λ p. p.spans.items };
 }
 
-// Whether the span meets the other one, where there is one.
+// Whether the span meets the other one, if there is one.
 fn meets(span: Span, pin: Option<Span>) -> bool
     ensures { result ≡ clients.pin_meets span pin }
 {
@@ -59,9 +57,9 @@ impl Pins {
 
     /// The least id that is free.
     pub fn free(&self) -> Option<u64>
-        ensures { result ≡ clients.free_from (pins_of self.now) 0 clients.most_pins }
+        ensures { result ≡ clients.free_from (pins_of self.now) 0 max_pins }
     {
-        for id in 0..MOST_PINS {
+        for id in 0..MAX_PINS as u64 {
             if self.get(id).is_none() {
                 return Some(id);
             }
@@ -71,9 +69,9 @@ impl Pins {
 
     /// Whether the span meets a pin.
     pub fn meet(&self, span: Span) -> bool
-        ensures { result ≡ clients.meets_one (pins_of self.now) clients.most_pins span }
+        ensures { result ≡ clients.meets_one (pins_of self.now) max_pins span }
     {
-        for id in 0..MOST_PINS {
+        for id in 0..MAX_PINS as u64 {
             if meets(span, self.get(id)) {
                 return true;
             }
@@ -83,7 +81,7 @@ impl Pins {
 
     /// Pins a span under the least id that is free.
     pub fn pin(&mut self, id: u64, span: Span)
-        requires { clients.free_from (pins_of self.old) 0 clients.most_pins ≡ Some id }
+        requires { clients.free_from (pins_of self.old) 0 max_pins ≡ Some id }
         ensures { pins_of self.new ≡ clients.with_pin (pins_of self.old) id (Some span) }
     {
         let id = id as usize;
@@ -96,7 +94,7 @@ impl Pins {
 
     /// Frees an id.
     pub fn unpin(&mut self, id: u64)
-        requires { id < clients.most_pins }
+        requires { id < max_pins }
         ensures { pins_of self.new ≡ clients.with_pin (pins_of self.old) id None }
     {
         let id = id as usize;

@@ -6,10 +6,10 @@ ghost use Rattle.krl_messages.specs.declared.to_client.ToClientBody.TheVariants 
 ghost use Rattle.krl_messages.specs.declared.to_client.PushBody.TheVariants as push;
 ghost use Rattle.krl_messages.specs.Holdings.{has_its_value};
 ghost use Rattle.krl_messages.specs.Several.{have_values};
-ghost use Rattle.krl_client.specs.Clients as clients;
 ghost use Rattle.krl_client.specs.Messages as messages;
 ghost use Rattle.krl_client.specs.Messages.{Adopts, Accepts, Lowers, AcksAgain, Ignores};
-ghost use Rattle.krl_client.specs.Fields.{meaning, Follows};
+ghost use Rattle.krl_client.specs.Fields.{meaning};
+ghost use Rattle.krl_client.specs.FieldSteps.{Follows};
 
 use crate::client::Client;
 use crate::lock_request::LockRequest;
@@ -66,6 +66,7 @@ impl Client {
         ensures { IfOk result
             (λ list. Follows (meaning self.now) AcksAgain (meaning self.now) list.items) }
     {
+        // By `?` the prover has two cases, refused and done.
         let list = one(self.alloc, self.requests(RequestBody::Ack))?;
         Ok(list)
     }
@@ -102,7 +103,7 @@ impl Client {
         Ok(list)
     }
 
-    // Hears that there is no entry to lock.
+    // Hears that there is no entry to lock. The point is named in the contract alone.
     fn accept_absent(&mut self, req: u64, _point: u64) -> Result<Vec<ToServer>, AllocError>
         requires last { suc (self.old).seen ≤ END }
         ensures unchanged { OnErr result (self.new ≡ self.old) }
@@ -146,22 +147,13 @@ impl Client {
             (λ list. Follows (meaning self.old) (Accepts body.now) (meaning self.new) list.items) }
     {
         match body {
-            PushBody::Grant { req, holdings } => {
-                let grant = self.accept_grant(*req, holdings)?;
-                Ok(grant)
-            }
-            PushBody::Absent { req, point } => {
-                let absent = self.accept_absent(*req, *point)?;
-                Ok(absent)
-            }
+            PushBody::Grant { req, holdings } => self.accept_grant(*req, holdings),
+            PushBody::Absent { req, point } => self.accept_absent(*req, *point),
             PushBody::Answer {
                 number,
                 outcome,
                 holding,
-            } => {
-                let answer = self.accept_answer(*number, *outcome, *holding)?;
-                Ok(answer)
-            }
+            } => self.accept_answer(*number, *outcome, *holding),
         }
     }
 
@@ -183,8 +175,7 @@ impl Client {
         if epoch <= self.epoch {
             return Ok(Vec::new(self.alloc));
         }
-        let list = self.join(epoch)?;
-        Ok(list)
+        self.join(epoch)
     }
 
     // Accepts the next push of its epoch, and acknowledges the last one again.
@@ -207,12 +198,10 @@ impl Client {
             return Ok(Vec::new(self.alloc));
         }
         if self.is_next(number) {
-            let list = self.accept(body)?;
-            return Ok(list);
+            return self.accept(body);
         }
         if number == self.seen {
-            let acks = self.ack_again()?;
-            return Ok(acks);
+            return self.ack_again();
         }
         Ok(Vec::new(self.alloc))
     }
@@ -239,8 +228,7 @@ impl Client {
         if self.meets_pin(span) {
             return Ok(Vec::new(self.alloc));
         }
-        let list = self.lower(span, keep)?;
-        Ok(list)
+        self.lower(span, keep)
     }
 
     /// Does what the message asks for, and gives what it says to that: at most one message. A
@@ -249,7 +237,7 @@ impl Client {
     ///
     /// # Errors
     ///
-    /// `AllocError` where memory is refused. Nothing has changed then.
+    /// `AllocError` if memory is refused. Nothing has changed then.
     pub fn step(&mut self, message: &ToClient) -> Result<Vec<ToServer>, AllocError>
         ensures unchanged { OnErr result (self.new ≡ self.old) }
         ensures follows { IfOk result

@@ -4,7 +4,8 @@ ghost use Rattle.krl_modes.specs.declared.point.TheConstants.{END};
 ghost use Rattle.krl_modes.specs.declared.mode.Mode.TheVariants.{N};
 ghost use Rattle.krl_messages.specs.Writes.{op_key};
 ghost use Rattle.krl_client.specs.Commands as commands;
-ghost use Rattle.krl_client.specs.Fields.{meaning, IsDue};
+ghost use Rattle.krl_client.specs.Fields.{meaning};
+ghost use Rattle.krl_client.specs.FieldSteps.{IsDue};
 
 use crate::client::Client;
 use crate::last_write::LastWrite;
@@ -46,9 +47,9 @@ impl Client {
     ///
     /// # Errors
     ///
-    /// In this order: `BadPoint` where the point is above END; `BadSpan` where `hi` is not above
+    /// In this order: `BadPoint` if the point is above END; `BadSpan` if `hi` is not above
     /// the point, or is above TOP; `NotJoined` before the client was told an epoch; `Busy` while a
-    /// request waits; `Spent` where no number is left for it; `OutOfMemory`. The client is as it
+    /// request waits; `Spent` if no number is left for it; `OutOfMemory`. The client is as it
     /// was.
     pub fn lock(&mut self, point: u64, hi: u64, mode: Mode) -> Result<Vec<ToServer>, CommandRefused>
         ensures due { IfErr result
@@ -122,14 +123,13 @@ impl Client {
     /// Asks for a change of the index. The write is outstanding until it is answered, across epochs
     /// too, and each tick says it again. It needs what lets its holder make the change alone: for
     /// an insert a range part of I or X at the key; for a put the key part X there; for a delete
-    /// the key part X, and the range part X both at the key and one past it. This rule is the
-    /// project's own.
+    /// the key part X, and the range part X both at the key and one past it.
     ///
     /// # Errors
     ///
-    /// In this order: `BadPoint` where the key is END or more; `NotJoined` before the client was
-    /// told an epoch; `Writing` while a write is outstanding; `NotHeld` where the client does not
-    /// hold what the write needs; `Spent` where no number is left for it; `OutOfMemory`. The client
+    /// In this order: `BadPoint` if the key is END or more; `NotJoined` before the client was
+    /// told an epoch; `Writing` while a write is outstanding; `NotHeld` if the client does not
+    /// hold what the write needs; `Spent` if no number is left for it; `OutOfMemory`. The client
     /// is as it was.
     pub fn write(&mut self, change: WriteOp) -> Result<Vec<ToServer>, CommandRefused>
         ensures due { IfErr result
@@ -185,9 +185,9 @@ impl Client {
     ///
     /// # Errors
     ///
-    /// In this order: `BadSpan` where `lo` is not below `hi`, or `hi` is above TOP; `NotJoined`
-    /// before the client was told an epoch; `Writing` where the outstanding write's key is one of
-    /// the points; `Pinned` where a pin has one of them; `OutOfMemory`. The client is as it was.
+    /// In this order: `BadSpan` if `lo` is not below `hi`, or `hi` is above TOP; `NotJoined`
+    /// before the client was told an epoch; `Writing` if the outstanding write's key is one of
+    /// the points; `Pinned` if a pin has one of them; `OutOfMemory`. The client is as it was.
     pub fn forget(&mut self, lo: u64, hi: u64) -> Result<Vec<ToServer>, CommandRefused>
         ensures due { IfErr result
             (λ r. IsDue (commands.forget_refusal (meaning self.old)
@@ -215,7 +215,7 @@ impl Client {
     ///
     /// # Errors
     ///
-    /// The client, unchanged, where memory is refused.
+    /// The client, unchanged, if memory is refused.
     pub fn leave(self) -> Result<Vec<ToServer>, Client>
         ensures unchanged { IfErr result (λ client. client ≡ self) }
         ensures says { IfOk result (λ list. list.items ≡ commands.says_bye (meaning self) ∷ []) }

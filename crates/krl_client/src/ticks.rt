@@ -4,7 +4,8 @@ ghost use Rattle.krl_client.specs.Clients as clients;
 ghost use Rattle.krl_client.specs.Commands as commands;
 ghost use Rattle.krl_client.specs.Messages as messages;
 ghost use Rattle.krl_client.specs.Ticks as ticks;
-ghost use Rattle.krl_client.specs.Fields.{meaning, IsReport, IsOpening, IsTick, as_list};
+ghost use Rattle.krl_client.specs.Fields.{meaning};
+ghost use Rattle.krl_client.specs.FieldSteps.{IsReport, IsOpening, IsTick, as_list};
 
 use crate::client::Client;
 use crate::lock_request::LockRequest;
@@ -13,7 +14,7 @@ use krl_cache::Belief;
 use krl_messages::{RequestBody, ToServer, ToServerBody};
 use std::alloc::AllocError;
 
-// Adds the message, where there is one.
+// Adds the message, if there is one.
 fn push_if(list: &mut Vec<ToServer>, message: Option<ToServer>) -> Result<(), AllocError>
     ensures { OnOk result (list.new.items ≡ list.old.items ++ as_list message) }
 {
@@ -64,29 +65,29 @@ impl Client {
         Some(self.requests(RequestBody::Write { number, op }))
     }
 
-    // What it says first in an epoch that it has joined: its Report where it has accepted no push
+    // What it says first in an epoch that it has joined: its Report if it has accepted no push
     // of it, else an Ack.
     fn opening(&self) -> Result<ToServer, AllocError>
         ensures { IfOk result (IsOpening (meaning self.now)) }
     {
         if self.seen == 0 {
-            let report = self.report(self.epoch)?;
-            return Ok(report);
+            return self.report(self.epoch);
         }
         Ok(self.requests(RequestBody::Ack))
     }
 
     /// What it says again and again: before it has joined an epoch, Hello; after that its Report
-    /// where it has accepted no push of the epoch, and otherwise an Ack, then its waiting lock
+    /// if it has accepted no push of the epoch, and otherwise an Ack, then its waiting lock
     /// request and its outstanding write.
     ///
     /// # Errors
     ///
-    /// `AllocError` where memory is refused.
+    /// `AllocError` if memory is refused.
     pub fn tick(&self) -> Result<Vec<ToServer>, AllocError>
         ensures { IfOk result (λ list. IsTick (meaning self.now) list.items) }
     {
         if !self.has_joined() {
+            // By `?` the prover has two cases, refused and done.
             let hellos = one(self.alloc, self.says(ToServerBody::Hello))?;
             return Ok(hellos);
         }

@@ -1,6 +1,7 @@
 //! What a client shows of itself, and what it says under its name.
 ghost use Rattle.std.specs.Prelude.{◌≡◌, false, IfOk, [], ◌∷◌};
 ghost use Rattle.krl_client.specs.Clients as clients;
+ghost use Rattle.krl_client.specs.Shown as shown;
 ghost use Rattle.krl_client.specs.Fields.{meaning};
 ghost use Rattle.krl_client.specs.Keeps.{IsClient};
 
@@ -24,14 +25,14 @@ impl Client {
     /// What it believes that it holds at the point: a range part and a key part, both N past END.
     /// It takes no memory.
     pub fn held(&self, p: u64) -> (RangePart, KeyPart)
-        ensures { result ≡ clients.held (meaning self.now) p }
+        ensures { result ≡ shown.held (meaning self.now) p }
     {
         (self.cache.range_at(p), self.cache.key_at(p))
     }
 
     /// What it shows of itself. It takes no memory.
     pub fn status(&self) -> Status
-        ensures status { result ≡ clients.status_of (meaning self.now) }
+        ensures status { result ≡ shown.status_of (meaning self.now) }
         ensures client { IsClient (meaning self.now) }
     {
         Status {

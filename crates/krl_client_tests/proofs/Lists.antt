@@ -3,7 +3,7 @@ use Rattle.std.proofs.Common.{◌≡◌, ◌-◌, ◌≤◌, ℕ, zero, suc, Lis
 use Rattle.std.proofs.lemmas.Option.{none-some, same_Some}
 use Rattle.std.specs.Prelude.{slice_get}
 use Rattle.krl_messages.specs.declared.holding.Holding.{Holding}
-use Rattle.krl_messages.specs.Several.{Ascend}
+use Rattle.krl_messages.specs.Ascending.{Ascend}
 
 ascends_at : (hs : List Holding) (k l : Holding) (n : ℕ) → suc n ≡ length hs → Ascend hs → slice_get hs n ≡ Some l → l.span.hi ≤ k.span.lo → Ascend (hs ++ k ∷ [])
 ascends_at [] k l n m a e le = (tt {0}, tt {0})

@@ -1,4 +1,4 @@
-//! What a client is told and asked to do, one act after another, and what comes of it. Where an
+//! What a client is told and asked to do, one act after another, and what comes of it. If an
 //! allocation is refused, a client shows what it showed, and the refused call is made again.
 use crate::again::CALLS;
 use crate::shown::{are_numbers, are_told};
@@ -178,7 +178,7 @@ fn push(epoch: u64, number: u64, body: PushBody) -> ToClientBody {
     }
 }
 
-// What the client is told, where the act is a message.
+// What the client is told, if the act is a message.
 fn told(act: Act) -> Option<ToClientBody> {
     match act {
         Act::Epoch(epoch) | Act::ForAnother(epoch) | Act::ForAnEarlier(epoch) => {

@@ -1,4 +1,4 @@
-//! Calls of a cache, one after another, and what each gives. Where an allocation is refused, a
+//! Calls of a cache, one after another, and what each gives. If an allocation is refused, a
 //! cache believes what it believed, and the refused call is made again.
 use crate::again::CALLS;
 use crate::shown::{are_rows, are_told};
@@ -56,7 +56,7 @@ enum Change<'a> {
     Lower(Span, Mode),
 }
 
-// Asks the cache for the change; None where a holding has not the value that it has to have.
+// Asks the cache for the change; None if a holding has not the value that it has to have.
 fn asked<B: Belief>(cache: &mut B, change: &Change<'_>) -> Option<Result<(), AllocError>> {
     match change {
         Change::Adopt(holding) => {
@@ -98,7 +98,7 @@ fn holding(held: Held) -> Option<Holding> {
     }
 }
 
-// Puts the holding behind the others, where there is room and its span begins behind theirs.
+// Puts the holding behind the others, if there is room and its span begins behind theirs.
 fn puts(holdings: &mut Holdings, holding: Holding) -> bool {
     let before = holdings.as_slice();
     let Some(last) = before.last() else {
@@ -111,7 +111,7 @@ fn puts(holdings: &mut Holdings, holding: Holding) -> bool {
     true
 }
 
-// These holdings, where they are 1 to 8 in ascending order.
+// These holdings, if they are 1 to 8 in ascending order.
 fn listed(all: &[Held]) -> Option<Holdings> {
     let (first, rest) = all.split_first()?;
     let mut holdings = Holdings::one(holding(*first)?);

@@ -1,4 +1,4 @@
-//! Both forms of a cache. Where an allocation is refused, a cache believes what it believed, and
+//! Both forms of a cache. If an allocation is refused, a cache believes what it believed, and
 //! the refused call is made again; so each run ends alike, whichever one or two allocations in a
 //! row fail.
 use crate::asks::{Ask, Bytes, Gives, all_give};

@@ -74,7 +74,7 @@ static STARTS: [(u64, u64, Option<StartRefused>); 5] = [
     (0, 0, None),
 ];
 
-// Why no client of this number and incarnation starts. None where one starts.
+// Why no client of this number and incarnation starts. None if one starts.
 fn refusal(alloc: Global, number: u64, incarnation: u64) -> Option<StartRefused> {
     Client::start(alloc, number, incarnation).err()
 }
@@ -105,7 +105,7 @@ fn reads(alloc: Global, refusal: CommandRefused, name: &str) -> Result<bool, All
     Ok(text.as_str() == name && refusal.name() == name)
 }
 
-// The same, asked for again where memory was refused.
+// The same, asked for again if memory was refused.
 fn is_named(alloc: Global, refusal: CommandRefused, name: &str) -> bool {
     for _ in 0..CALLS {
         if let Ok(is_right) = reads(alloc, refusal, name) {

@@ -1,4 +1,4 @@
-//! Calls of both forms of a cache as data, and what each replies. Where an allocation is refused,
+//! Calls of both forms of a cache as data, and what each replies. If an allocation is refused,
 //! the call is made again.
 use crate::asks::Bytes;
 use crate::shown::{Range, are_rows, are_told};
@@ -69,7 +69,7 @@ fn are_replies(replies: &[CacheReply]) -> bool {
     true
 }
 
-// The calls of two holdings, in one run. None where it is refused memory.
+// The calls of two holdings, in one run. None if it is refused memory.
 fn run<B: Belief>(alloc: Global, cache: &mut B) -> Option<Vec<CacheReply>> {
     let first = Span::new(0, 11).ok()?;
     let second = Span::new(11, 21).ok()?;
@@ -99,7 +99,7 @@ fn run<B: Belief>(alloc: Global, cache: &mut B) -> Option<Vec<CacheReply>> {
     run_cache(alloc, cache, calls.as_slice()).ok()
 }
 
-// Whether a cache that believes nothing gives the replies; None where the run is refused memory.
+// Whether a cache that believes nothing gives the replies; None if the run is refused memory.
 fn runs<B: Belief>(alloc: Global, cache: &mut B) -> Option<bool> {
     let replies = run(alloc, cache)?;
     if has_refusal(replies.as_slice()) {

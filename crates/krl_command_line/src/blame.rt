@@ -3,7 +3,7 @@ use krl_modes::Mode;
 use krl_text::{SyntaxFault, first_line};
 
 // The most bytes of a word that a sentence repeats.
-const MOST_SHOWN: usize = 64;
+const MAX_SHOWN: usize = 64;
 
 // The line of this number, counted from 1.
 fn line_of(text: &[u8], number: u64) -> Option<&[u8]> {
@@ -79,11 +79,11 @@ fn wrong_word(line: &[u8], what: SyntaxFault) -> Option<&[u8]> {
     None
 }
 
-/// The word of the script that the fault in this line is about, where there is one that a sentence
+/// The word of the script that the fault in this line is about, if there is one that a sentence
 /// can repeat.
 pub fn word_of(text: &[u8], line: u64, what: SyntaxFault) -> Option<&str> {
     let word = wrong_word(line_of(text, line)?, what)?;
-    let is_plain = word.len() <= MOST_SHOWN && word.iter().all(|byte| byte.is_ascii_graphic());
+    let is_plain = word.len() <= MAX_SHOWN && word.iter().all(|byte| byte.is_ascii_graphic());
     if is_plain {
         str::from_utf8(word).ok()
     } else {

@@ -2,11 +2,10 @@
 ghost use Rattle.std.specs.Prelude.{◌≤◌, IfSome};
 ghost use Rattle.std.proofs.Props.{props};
 ghost use Rattle.krl_modes.specs.declared.point.TheConstants.{END};
-ghost use Rattle.krl_text.specs.Limits.{most_steps};
+ghost use Rattle.krl_text.specs.Limits.{max_steps};
 
 use clap::builder::ValueParser;
 use clap::{Arg, ArgAction, ArgMatches, Command, Error};
-use krl_drawing::Form;
 use krl_modes::END;
 use krl_text::MAX_STEPS;
 use std::alloc::{AllocError, Global};
@@ -24,16 +23,25 @@ pub struct RandomOptions {
     pub rest: bool,
     /// Whether it tells how far it is, wherever standard error goes.
     pub progress: bool,
-    pub ghost in_range: { (seed ≤ END) × (1 ≤ steps) × (steps ≤ most_steps) },
+    pub ghost in_range: { (seed ≤ END) × (1 ≤ steps) × (steps ≤ max_steps) },
 }
 
 /// How the nodes of a run on threads come by their letters.
 #[derive(Clone, Copy)]
 pub struct NodesOptions {
-    /// What it is drawn from which letters are lost, repeated and reordered; None where each is
+    /// What it is drawn from which letters are lost, repeated and reordered; None if each is
     /// read once, the oldest first.
     pub policy: Option<u64>,
     pub ghost in_range: { IfSome policy (λ seed. seed ≤ END) } by { Prim.hlevel props },
+}
+
+/// The form of a picture.
+#[derive(Clone, Copy, PartialEq, Eq)]
+pub enum Form {
+    /// Plain text of at most 120 columns.
+    Text,
+    /// A drawing in SVG.
+    Svg,
 }
 
 /// What a command line asks for.
@@ -43,9 +51,9 @@ pub enum Request {
     Script,
     /// A script from standard input, and a picture of its run.
     Picture(Form),
-    /// A random run; None where its options are out of range, which clap refuses.
+    /// A random run; None if its options are out of range, which clap refuses.
     Random(Option<RandomOptions>),
-    /// A server and two clients on threads; None where the number of the policy is out of range,
+    /// A server and two clients on threads; None if the number of the policy is out of range,
     /// which clap refuses.
     Nodes(Option<NodesOptions>),
 }
@@ -206,7 +214,7 @@ fn random_command<'a>(alloc: Global) -> Result<Command<'a>, AllocError> {
         .arg(flag(
             alloc,
             "progress",
-            "Tell of every 10,000th step on standard error, also where it is no terminal",
+            "Tell of every 10,000th step on standard error, even if it is no terminal",
         ))
 }
 
@@ -279,7 +287,7 @@ fn request_of(matches: &ArgMatches) -> Request {
 /// # Errors
 ///
 /// What clap says of words that it refuses, of `--help` and of `--version`; its kind is
-/// `OutOfMemory` where memory ran out.
+/// `OutOfMemory` if memory ran out.
 pub fn read(alloc: Global, words: &[String]) -> Result<Request, Error> {
     let command = commands(alloc)?;
     let matches = command.try_get_matches_from(words)?;

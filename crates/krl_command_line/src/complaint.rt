@@ -12,7 +12,7 @@ use std::io;
 /// The exit status of a command line that asks for no run.
 pub const NO_RUN: u8 = 2;
 
-// The exit status of words that ask for no run: 1 where memory ran out, else 2, for help and the
+// The exit status of words that ask for no run: 1 if memory ran out, else 2, for help and the
 // version too.
 fn status_of(error: &Error) -> u8
     ensures { result ≡ words_status (kind_of error.now) }
@@ -33,13 +33,13 @@ fn complain<R: Eprint>(rt: &R, error: &Error) {
     }
 }
 
-/// Reads the words of a command line, the first of which is the program's name. Where they ask for
+/// Reads the words of a command line, the first of which is the program's name. If they ask for
 /// no run it says why on standard error, or what `--help` and `--version` ask for.
 ///
 /// # Errors
 ///
-/// The exit status of words that ask for no run, also where standard error can't be written to: 1
-/// where memory ran out, else 2.
+/// The exit status of words that ask for no run, even if standard error can't be written to: 1
+/// if memory ran out, else 2.
 pub fn read<R: Eprint + AllocGlobal>(rt: &R, words: &[String]) -> Result<Request, u8>
     ensures { IfErr result (λ status. (kind : ErrorKind) × (status ≡ words_status kind)) }
 {

@@ -8,6 +8,6 @@ mod command;
 mod complaint;
 mod sentence;
 
-pub use command::{NodesOptions, RandomOptions, Request};
+pub use command::{Form, NodesOptions, RandomOptions, Request};
 pub use complaint::{NO_RUN, read};
 pub use sentence::{say_of_run, say_of_script};

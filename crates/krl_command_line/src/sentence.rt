@@ -2,7 +2,7 @@
 use crate::{advice, blame};
 use krl_text::ScriptFault;
 
-// Says why a run ended, which word it is about, and what can be done. Where that can't be written,
+// Says why a run ended, which word it is about, and what can be done. If that can't be written,
 // the exit status alone is left to say it.
 fn say<R: Eprint>(rt: &R, fault: ScriptFault, word: Option<&str>, advice: &str) {
     let _ = match word {
@@ -12,7 +12,7 @@ fn say<R: Eprint>(rt: &R, fault: ScriptFault, word: Option<&str>, advice: &str) 
 }
 
 /// Says on standard error why the script of this text ended before its last line, which of its
-/// words that is about, and what can be done. The text is empty where it could not be read.
+/// words that is about, and what can be done. The text is empty if it could not be read.
 pub fn say_of_script<R: Eprint>(rt: &R, fault: ScriptFault, text: &[u8]) {
     let word = match fault {
         ScriptFault::Syntax { line, what } => blame::word_of(text, line, what),

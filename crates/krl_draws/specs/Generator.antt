@@ -3,7 +3,7 @@ use Rattle.std.specs.Prelude.{ℕ, zero, suc, List, [], ◌∷◌, ◌+◌, ◌%
 use Rattle.rand_core.specs.Pcg32Seed.{pcg32_seed}
 use Rattle.rand_pcg.specs.Lcg.{Lcg}
 use Rattle.rand_pcg.specs.Pcg.{pcg32, pcg32_of_seed}
-use Rattle.krl_modes.specs.Modes.{all_modes}
+use Rattle.krl_modes.specs.Names.{all_modes}
 use Rattle.krl_modes.specs.declared.mode.Mode.{Mode}
 use Rattle.krl_modes.specs.declared.mode.Mode.TheVariants as mode
 use Rattle.krl_messages.specs.Values.{Value}
@@ -81,12 +81,12 @@ scan = of_client (span >>= λ s. always (command.Scan s.0 s.1))
 abbrev pub forget : Draw Step
 forget = of_client (span >>= λ s. always (command.Forget s.0 s.1))
 
--- the oldest message that was never delivered; where there is none, a client ticks
+-- the oldest message that was never delivered; if there is none, a client ticks
 abbrev pub oldest : Option ℕ → Draw Step
 oldest None = client >>= λ c. always (step.Tick c)
 oldest (Some number) = always (step.Deliver number)
 
--- any message, where any was sent
+-- any message, if any was sent
 abbrev pub any : ℕ → Draw (Option Step)
 any sent = if nat_eq sent 0 then always None else (below sent >>= λ n. always (Some (step.Deliver (1 + n))))
 

@@ -96,7 +96,7 @@ impl Generator {
         Mode::ALL[number as usize]
     }
 
-    // The oldest message is delivered; where none waits, a client ticks.
+    // The oldest message is delivered; if none waits, a client ticks.
     fn oldest(&mut self, waiting: Option<u64>) -> Step
         ensures { (result, self.new) ≡ draw.oldest waiting self.old }
     {
@@ -106,7 +106,7 @@ impl Generator {
         }
     }
 
-    // Any message is delivered, where any was sent.
+    // Any message is delivered, if any was sent.
     fn any(&mut self, sent: u64) -> Option<Step>
         ensures { (result, self.new) ≡ draw.any sent self.old }
     {

@@ -3,8 +3,8 @@ use Rattle.krl_durable.proofs.Names.{◌≡◌, ℕ, zero, suc, ◌≤◌, ◌<�
 use Rattle.krl_durable.proofs.Names.{Register, Durable, AreBelowEnd, key_of_entry, stands_before, Refuses, MakesAgain}
 use Rattle.std.specs.Prelude.{nat_eq}
 use Rattle.std.specs.FinMap as map
-use Rattle.krl_durable.specs.declared.refused.Refused.{Refused}
-use Rattle.krl_durable.specs.declared.refused.Refused.TheVariants as refused
+use Rattle.krl_durable.specs.declared.refused.EntriesRefused.{EntriesRefused}
+use Rattle.krl_durable.specs.declared.refused.EntriesRefused.TheVariants as refused
 use Rattle.krl_durable.proofs.Kept.{sorted_entries}
 use Rattle.krl_durable.proofs.Slots.{Above, Rises, rises}
 
@@ -31,7 +31,7 @@ module _ {V : Type 0} where
       ∙ not_before es i h.1 (omega (arith, lt))
 
 -- entries in order, below END and not too many, are refused for want of memory alone
-for_memory : (room : ℕ) (es : List (ℕ × Value)) → Rises es → AreBelowEnd es → length es ≤ room → (e : Refused) → Refuses room es e → e ≡ refused.OutOfMemory
+for_memory : (room : ℕ) (es : List (ℕ × Value)) → Rises es → AreBelowEnd es → length es ≤ room → (e : EntriesRefused) → Refuses room es e → e ≡ refused.OutOfMemory
 for_memory room es rise below few refused.OutOfMemory h = refl
 for_memory room es rise below few refused.Full h = absurd (omega (arith, few, h))
 for_memory room es rise below few refused.BadKey h = absurd (omega (arith, h.4, key_below es h.1 below h.2))

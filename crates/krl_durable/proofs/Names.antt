@@ -13,12 +13,15 @@ pub use Rattle.std.specs.Prelude.{nat_le, nat_lt, IfOk, IfSome, IsSome, slice_se
 pub use Rattle.std.specs.declared.cmp.Ordering.TheVariants.{Greater, Equal, Less}
 pub use Rattle.krl_blocks.proofs.Around.{head_none}
 pub use Rattle.krl_blocks.specs.Entries.{AreBelow, NoKey, last_key, KeysRise, AreFrom, IsFound, IsChanged, KeysAbove, IsRun, IsRemoved, HasEntry, IsInserted}
-pub use Rattle.krl_durable.specs.Index.{first_or_end, low_of, Index, is_slot, slot_of, behind, after_keys, IsSlotOf, has_key, IsSpanOf}
-pub use Rattle.krl_durable.specs.Kept.{IsRow, IsKept, IsEntries, missing_of, IsRecord, AreBelowEnd}
-pub use Rattle.krl_durable.specs.InitialEntries.{MakesAgain, stands_before, IsGood, Refuses, AreGood, key_of_entry}
+pub use Rattle.krl_durable.specs.Index.{first_or_end, low_of, Index, is_slot, slot_of, after_keys, has_key}
+pub use Rattle.krl_durable.specs.Slots.{behind, IsSlotOf, IsSpanOf}
+pub use Rattle.krl_durable.specs.Invariants.{IsRow, IsEntries, missing_of, IsRecord}
+pub use Rattle.krl_durable.specs.Kept.{IsKept, AreBelowEnd}
+pub use Rattle.krl_durable.specs.Remade.{MakesAgain}
+pub use Rattle.krl_durable.specs.InitialEntries.{stands_before, IsGood, Refuses, AreGood, key_of_entry}
 pub use Rattle.krl_durable.specs.Registers.{Register, HasIncarnations, Durable, missing_order, HasLasts, with_record, HasOutcomes, record_of}
 pub use Rattle.krl_durable.specs.Writes.{judge}
-unfoldable pub use Rattle.krl_durable.specs.Writes.{most_entries, most_room}
 pub use Rattle.krl_durable.specs.declared.record.Record.{Record}
 pub use Rattle.krl_messages.specs.Values.{Value}
 pub use Rattle.krl_modes.specs.declared.point.TheConstants.{END}
+unfoldable pub use Rattle.krl_modes.specs.Limits.{max_entries, max_room}

@@ -104,7 +104,7 @@ module _ (p : ℕ) (es : List (ℕ × Value)) (m : map.FinMap nat_cmp Value) (be
   pub low_within : behind before ≤ p
   low_within = let at = behind_found in let le = after_below 0 p (take (length f.front) es) (omega arith) cut_found.cut.below in omega (arith, at, le)
 
-  -- the slot, where the run has a first entry
+  -- the slot, if the run has a first entry
   module _ (e : ℕ × Value) (h : Some e ≡ slice_get run 0) where
     here : drop (length f.front) es ≡ e ∷ drop 1 (drop (length f.front) es)
     here = head_some (drop (length f.front) es) e (first_found e h)
@@ -132,7 +132,7 @@ module _ (p : ℕ) (es : List (ℕ × Value)) (m : map.FinMap nat_cmp Value) (be
     pub value_found : Some e.1 ≡ map.get m e.0
     value_found = sym (map.get-entries m e.0 ∙ ap (find nat_cmp e.0) its_list ∙ slot_value p (take (length f.front) es) e (drop 1 (drop (length f.front) es)) its_cut)
 
-  -- and where it has none
+  -- and if it has none
   module _ (h : None ≡ slice_get run 0) where
     past : drop (length f.front) es ≡ []
     past = head_none (drop (length f.front) es) (none_found h)

@@ -68,7 +68,7 @@ first_is (e ∷ es) p h near le = by_test (nat_le p e.0) refl (first_is es p h.1
       gap = λ k a b. find_past k e es (λ f. omega (arith, f, a, past)) ∙ ih.gap k a b;
     }
 
--- where low is below all keys: q lies from the span's first point on where no key from q on is below n
+-- if low is below all keys: q lies from the span's first point on where no key from q on is below n
 pub low_is : (es : List (ℕ × Value)) (n low q : ℕ) → Rises es → From low es → (after_keys low (filter (λ e. nat_lt e.0 n) es) ≤ q) ↔ ((low ≤ q) × ((k : ℕ) → q ≤ k → k < n → find nat_cmp k es ≡ None))
 low_is [] n low q h from = (λ le. (le, λ k a b. refl), λ x. x.0)
 low_is (e ∷ es) n low q h from = by_test (nat_lt e.0 n) refl (low_is es n (suc e.0) q h.1 (from_above e.0 es h.0)) (low_is es n low q h.1 (from_less low (suc e.0) es (omega (arith, from.0)) (from_above e.0 es h.0)))

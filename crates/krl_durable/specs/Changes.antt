@@ -17,7 +17,7 @@ judged_of d c number op o None = d
 judged_of d c number op o (Some r) =
     record d { index = index_after d.index op o; register = with_record d.register c (judged_in r number o) }
 
--- the registered client's write of this number was judged: done where it is Applied, and noted
+-- the registered client's write of this number was judged: done if it is Applied, and noted
 abbrev pub judged : Durable → ℕ → ℕ → WriteOp → Outcome → Durable
 judged d c number op o = judged_of d c number op o (record_of d.register c)
 
@@ -32,7 +32,7 @@ abbrev pub changed_by : Option Change → Durable → Durable
 changed_by None d = d
 changed_by (Some x) d = changed x d
 
--- the change makes the new of the old, and there is none exactly where nothing has changed
+-- the change makes the new of the old, and there is none exactly if nothing has changed
 pub record IsChange (old new : Durable) (o : Option Change) : Type 0 where
   pub makes : new ≡ changed_by o old
   pub none : (o ≡ None) ↔ (new ≡ old)

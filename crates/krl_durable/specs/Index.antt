@@ -1,5 +1,5 @@
 -- The index, and the slots of its keys.
-use Rattle.std.specs.Prelude.{◌≡◌, ◌≤◌, ◌<◌, ℕ, suc, ◌&&◌, ◌||◌, Bool, true, false, nat_eq, nat_lt, nat_le, List, [], ◌∷◌, ◌++◌, Option, None, Some, is_some}
+use Rattle.std.specs.Prelude.{ℕ, suc, ◌&&◌, ◌||◌, Bool, nat_eq, nat_lt, nat_le, List, [], ◌∷◌, ◌++◌, is_some}
 use Rattle.std.specs.List.{list_any, filter}
 use Rattle.std.specs.Ordering.{nat_cmp}
 use Rattle.std.specs.FinMap as map
@@ -20,15 +20,10 @@ abbrev pub first_or_end : List (ℕ × Value) → ℕ
 first_or_end [] = END
 first_or_end (e ∷ es) = e.0
 
--- the point after the last key, or this one where there is no key
+-- the point after the last key, or this one if there is no key
 abbrev pub after_keys : ℕ → List (ℕ × Value) → ℕ
 after_keys low [] = low
 after_keys low (e ∷ es) = after_keys (suc e.0) es
-
--- the point behind a key, or 0
-abbrev pub behind : Option ℕ → ℕ
-behind None = 0
-behind (Some k) = suc k
 
 -- the slot of a point: the least key at or above it, or END
 abbrev pub slot_of : Index → ℕ → ℕ
@@ -49,18 +44,6 @@ slots m = map.keys m ++ END ∷ []
 -- the point is a key, or END
 abbrev pub is_slot : Index → ℕ → Bool
 is_slot m n = nat_eq n END || is_some (map.get m n)
-
--- n is the least slot at or above the point
-pub record IsSlotOf (m : Index) (p n : ℕ) : Type 0 where
-  pub slot : is_slot m n ≡ true
-  pub above : p ≤ n
-  pub least : (k : ℕ) → p ≤ k → k < n → is_slot m k ≡ false
-
--- the points from low on up to the slot n hold no slot before it, and low is 0 or comes behind a slot
-pub record IsSpanOf (m : Index) (n low : ℕ) : Type 0 where
-  pub up_to : low ≤ n
-  pub alone : (k : ℕ) → low ≤ k → k < n → is_slot m k ≡ false
-  pub behind : (k : ℕ) → low ≡ suc k → is_slot m k ≡ true
 
 -- some entry has this key
 abbrev pub has_key : {V : Type 0} → List (ℕ × V) → ℕ → Bool

@@ -16,7 +16,7 @@ pub record Durable : Type 0 where
   pub epoch : ℕ
   pub register : Register
 
--- the record of a client, where it is registered
+-- the record of a client, if it is registered
 abbrev pub record_of : Register → ℕ → Option Record
 record_of [] c = None
 record_of (e ∷ es) c = if nat_eq c e.0 then Some e.1 else record_of es c
@@ -60,7 +60,7 @@ abbrev pub HasIncarnations : Register → Type 0
 HasIncarnations register =
     (c : ℕ) (r : Record) → record_of register c ≡ Some r → IsIncarnation r.incarnation
 
--- there is an outcome exactly where a write was judged
+-- there is an outcome exactly if a write was judged
 abbrev pub HasOutcomes : Register → Type 0
 HasOutcomes register =
     (c : ℕ) (r : Record) → record_of register c ≡ Some r → is_some r.outcome ≡ not (nat_eq r.last 0)

@@ -4,6 +4,7 @@ use Rattle.std.specs.FinMap as map
 use Rattle.krl_modes.specs.declared.mode.Mode.{Mode}
 use Rattle.krl_modes.specs.Modes.{range_of, key_of}
 use Rattle.krl_modes.specs.Parts.{lets_insert, is_range_X, is_key_X}
+use Rattle.krl_modes.specs.Limits.{max_room}
 use Rattle.krl_messages.specs.declared.write_op.WriteOp.{WriteOp}
 use Rattle.krl_messages.specs.declared.write_op.WriteOp.TheVariants as write
 use Rattle.krl_messages.specs.declared.outcome.Outcome.{Outcome}
@@ -12,17 +13,9 @@ use Rattle.krl_durable.specs.declared.record.Record.{Record}
 use Rattle.krl_durable.specs.Index.{Index, slot_of}
 use Rattle.krl_durable.specs.Registers.{Durable, record_of, with_record}
 
--- how many entries an index has room for, where nothing else is said
-unfoldable pub most_entries : ℕ
-most_entries = 65536
-
--- the most entries that an index can have room for
-unfoldable pub most_room : ℕ
-most_room = 1048576
-
 -- an index can have room for so many entries
 abbrev pub IsRoom : ℕ → Type 0
-IsRoom n = (1 ≤ n) × (n ≤ most_room)
+IsRoom n = (1 ≤ n) × (n ≤ max_room)
 
 -- the writer's modes, by slot, are what the write needs
 abbrev pub held : Index → (ℕ → Mode) → WriteOp → Bool
@@ -32,18 +25,18 @@ held m modes (write.Delete k) =
     is_key_X (key_of (modes k)) && is_range_X (range_of (modes k))
     && is_range_X (range_of (modes (slot_of m (suc k))))
 
--- an insert, where its key is an entry, the writer may, the index has no room
+-- an insert, if its key is an entry, the writer may, the index has no room
 abbrev pub judged_insert : Bool → Bool → Bool → Outcome
 judged_insert present may full =
     if present then outcome.Exists
     else (if may then (if full then outcome.Full else outcome.Applied) else outcome.NotHeld)
 
--- a put or delete, where its key is an entry, the writer may
+-- a put or delete, if its key is an entry, the writer may
 abbrev pub judged_change : Bool → Bool → Outcome
 judged_change present may =
     if present then (if may then outcome.Applied else outcome.NotHeld) else outcome.Absent
 
--- how a write is judged in an index with room for so many entries, where the writer has what it needs or not
+-- how a write is judged in an index with room for so many entries, by whether the writer has what it needs
 abbrev pub judge : ℕ → Index → WriteOp → Bool → Outcome
 judge room m (write.Insert k v) may =
     judged_insert (is_some (map.get m k)) may (not (nat_lt (length (map.entries m)) room))
@@ -56,7 +49,7 @@ written m (write.Insert k v) = map.insert m k v
 written m (write.Put k v) = map.insert m k v
 written m (write.Delete k) = map.remove m k
 
--- it does so only where it is Applied
+-- it does so only if it is Applied
 abbrev pub index_after : Index → WriteOp → Outcome → Index
 index_after m op outcome.Applied = written m op
 index_after m op outcome.Exists = m

@@ -17,7 +17,7 @@ pub enum Change {
         /// The client's number.
         client: u64,
     },
-    /// The next write of a registered client is judged. It changes the index where it is Applied,
+    /// The next write of a registered client is judged. It changes the index if it is Applied,
     /// and else the client's record alone.
     Judged {
         /// The client's number.

@@ -9,20 +9,25 @@ ghost use Rattle.krl_blocks.specs.Entries.{IsRun};
 ghost use Rattle.krl_blocks.specs.Laid.{flat};
 ghost use Rattle.krl_blocks.specs.Runs.{runs_of};
 ghost use Rattle.krl_modes.specs.declared.point.TheConstants.{END};
-ghost use Rattle.krl_durable.specs.Index.{slot_of, low_of, span_of, IsSlotOf, IsSpanOf};
+ghost use Rattle.krl_durable.specs.Index.{slot_of, low_of, span_of};
+ghost use Rattle.krl_durable.specs.Slots.{IsSlotOf, IsSpanOf};
 ghost use Rattle.krl_durable.specs.Registers.{record_of, missing_order, registered, departed};
 ghost use Rattle.krl_durable.specs.Registers.{IsIncarnation};
-ghost use Rattle.krl_durable.specs.Kept.{IsKept, IsRow};
-ghost use Rattle.krl_durable.specs.InitialEntries.{AreGood, Refuses, MakesAgain, of_parts, fresh};
+ghost use Rattle.krl_durable.specs.Kept.{IsKept};
+ghost use Rattle.krl_durable.specs.Invariants.{IsRow};
+ghost use Rattle.krl_durable.specs.InitialEntries.{AreGood, Refuses};
+ghost use Rattle.krl_durable.specs.Remade.{MakesAgain, of_parts, fresh};
 ghost use Rattle.krl_durable.specs.Migrations.{migrated_entries, migrated, CannotMigrate};
 ghost use Rattle.krl_messages.specs.Writes.{op_key};
-ghost use Rattle.krl_durable.specs.Writes.{most_entries, IsRoom, judge, applied};
+ghost use Rattle.krl_durable.specs.Writes.{IsRoom, judge, applied};
+ghost use Rattle.krl_modes.specs.declared.limits.TheConstants.{MAX_CLIENTS};
+ghost use Rattle.krl_modes.specs.Limits.{max_entries};
 
 use crate::durable_v1::DurableV1;
 use crate::index::Index;
 use crate::not_migrated::NotMigrated;
 use crate::record::Record;
-use crate::refused::Refused;
+use crate::refused::EntriesRefused;
 use crate::register::Register;
 use crate::room::Room;
 use crate::slot::Slot;
@@ -83,13 +88,13 @@ impl Durable {
     ///
     /// # Errors
     ///
-    /// `Full` above 65,536 entries; else the first bad entry in order, by `BadKey` where its key is
-    /// END or more, or by `Twice` where its key stands before; and `OutOfMemory` at any point.
-    pub fn new(alloc: Global, entries: &[(u64, Value)]) -> Result<Durable, Refused>
+    /// `Full` above 65,536 entries; else the first bad entry in order, by `BadKey` if its key is
+    /// END or more, or by `Twice` if its key stands before; and `OutOfMemory` at any point.
+    pub fn new(alloc: Global, entries: &[(u64, Value)]) -> Result<Durable, EntriesRefused>
         ensures { MatchResult result
-            (λ d. (length entries.now ≤ most_entries) × AreGood entries.now (length entries.now)
+            (λ d. (length entries.now ≤ max_entries) × AreGood entries.now (length entries.now)
             × (d ≡ fresh entries.now))
-            (Refuses most_entries entries.now) }
+            (Refuses max_entries entries.now) }
     {
         let index = Index::new(alloc, Room::standard(), entries)?;
         Ok(Durable {
@@ -104,12 +109,12 @@ impl Durable {
     /// so that no later write takes memory.
     ///
     /// Clients are below 64, with one record each; an incarnation is from 1 to END, `last` at most
-    /// END, and the outcome None exactly where `last` is 0.
+    /// END, and the outcome None exactly if `last` is 0.
     ///
     /// # Errors
     ///
-    /// As of `new`: `Full` where there are more than the room; else the first bad entry in order,
-    /// by `BadKey` where its key is END or more, or by `Twice` where its key stands before; and
+    /// As of `new`: `Full` if there are more than the room; else the first bad entry in order,
+    /// by `BadKey` if its key is END or more, or by `Twice` if its key stands before; and
     /// `OutOfMemory` at any point.
     pub fn from_parts(
         alloc: Global,
@@ -117,7 +122,7 @@ impl Durable {
         entries: &[(u64, Value)],
         epoch: u64,
         records: &[(u64, Record)],
-    ) -> Result<Durable, Refused>
+    ) -> Result<Durable, EntriesRefused>
         requires epoch { epoch ≤ END }
         requires each { AllByRecursion IsRow records.now }
         requires once { IsDistinct nat_eq (keys_of records.now) }
@@ -141,7 +146,7 @@ impl Durable {
     ///
     /// # Errors
     ///
-    /// `StillRegistered`, with the first of `missing_order`, where some registered client has not
+    /// `StillRegistered`, with the first of `missing_order`, if some registered client has not
     /// left; and `OutOfMemory` at any point.
     pub fn migrate(alloc: Global, old: &DurableV1) -> Result<Durable, NotMigrated>
         ensures { MatchResult result
@@ -165,6 +170,7 @@ impl Durable {
         ensures epoch { result ≡ self.now.epoch }
         ensures kept { IsKept self.now }
     {
+        // By the clauses of these three the prover knows what `kept` says.
         self.index.entries();
         self.index.room();
         self.register.rows();
@@ -195,7 +201,7 @@ impl Durable {
     }
 
     /// The entries from the first at or above the point, as far as their block goes: there is at
-    /// least one, where there is any. A walk asks again behind the last of them.
+    /// least one, if there is any. A walk asks again behind the last of them.
     pub fn run(&self, point: u64) -> &[(u64, Value)]
         ensures { IsRun (map.entries self.now.index) point result.now }
     {
@@ -238,7 +244,7 @@ impl Durable {
         self.index.span_of(slot)
     }
 
-    /// The client's record, where it ever registered.
+    /// The client's record, if it ever registered.
     pub fn record(&self, c: u64) -> Option<Record>
         ensures { result ≡ record_of self.now.register c }
     {
@@ -250,12 +256,13 @@ impl Durable {
     ///
     /// # Errors
     ///
-    /// `AllocError` where the list's memory is refused: there are at most 64 records.
+    /// `AllocError` if the list's memory is refused: there are at most 64 records.
     pub fn records(&self, alloc: Global) -> Result<Vec<(u64, Record)>, AllocError>
         ensures records { IfOk result (λ records. (records.items ≡ self.now.register)
             × AllByRecursion IsRow records.items × IsDistinct nat_eq (keys_of records.items)) }
         ensures again { IfOk result (λ records. MakesAgain self.now records.items) }
     {
+        // By its clauses the prover knows what holds of the entries.
         self.index.entries();
         self.register.records(alloc)
     }
@@ -266,9 +273,9 @@ impl Durable {
     ///
     /// # Errors
     ///
-    /// `AllocError` where memory for a new client is refused. Nothing has changed then.
+    /// `AllocError` if memory for a new client is refused. Nothing has changed then.
     pub fn register(&mut self, c: u64, incarnation: u64) -> Result<(), AllocError>
-        requires client { c < 64 }
+        requires client { c < MAX_CLIENTS }
         requires incarnation { IsIncarnation incarnation }
         ensures ok { OnOk result (self.new ≡ registered self.old c incarnation) }
         ensures err { OnErr result (self.new ≡ self.old) }
@@ -307,14 +314,14 @@ impl Durable {
         self.register.missing_order(alloc)
     }
 
-    /// How a write is judged, where the table grants what it needs or not.
+    /// How a write is judged, by whether the table grants what it needs.
     pub fn judge(&self, op: WriteOp, held: bool) -> Outcome
         ensures { result ≡ judge self.now.room self.now.index op held }
     {
         self.index.judge(op, held)
     }
 
-    /// Judges the next write of a registered client, performs it exactly where it is `Applied`, and
+    /// Judges the next write of a registered client, performs it exactly if it is `Applied`, and
     /// notes its number and outcome, all at once. It takes no memory. The rule is this project's
     /// own.
     pub fn apply(&mut self, c: u64, op: WriteOp, held: bool) -> Outcome

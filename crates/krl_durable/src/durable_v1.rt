@@ -4,15 +4,15 @@ ghost use Rattle.std.specs.List.{AllByRecursion, IsDistinct};
 ghost use Rattle.std.specs.Map.{keys_of};
 ghost use Rattle.std.specs.FinMap as map;
 ghost use Rattle.krl_modes.specs.declared.point.TheConstants.{END};
+ghost use Rattle.krl_modes.specs.Limits.{max_entries};
 ghost use Rattle.krl_durable.specs.Registers.{record_of, missing_order};
-ghost use Rattle.krl_durable.specs.Kept.{IsRow, AreOrdered};
+ghost use Rattle.krl_durable.specs.Invariants.{IsRow, AreOrdered};
 ghost use Rattle.krl_durable.specs.InitialEntries.{AreGood, Refuses};
-ghost use Rattle.krl_durable.specs.Migrations.{of_numbers};
-ghost use Rattle.krl_durable.specs.Writes.{most_entries};
+ghost use Rattle.krl_durable.specs.Remade.{of_numbers};
 
 use crate::entry_map::ordered;
 use crate::record::Record;
-use crate::refused::Refused;
+use crate::refused::EntriesRefused;
 use crate::register::Register;
 use crate::room::Room;
 use std::alloc::{AllocError, Global};
@@ -31,7 +31,8 @@ impl Model for DurableV1 {
     ghost use Rattle.std.specs.Coded.{codes, coded_ℕ};
     ghost use Rattle.std.specs.Ordering.{nat_cmp};
     ghost use Rattle.std.specs.FinMap as map;
-    ghost use Rattle.krl_durable.specs.Migrations.{DurableV1 as Kept, IsKeptV1};
+    ghost use Rattle.krl_durable.specs.Migrations.{DurableV1 as Kept};
+    ghost use Rattle.krl_durable.specs.Invariants.{IsKeptV1};
     ghost use Rattle.krl_durable.specs.contracts.record.Record as record_contract;
 
     ghost Value = { Kept };
@@ -53,13 +54,13 @@ impl DurableV1 {
     ///
     /// # Errors
     ///
-    /// `Full` above 65,536 entries; else the first bad entry in order, by `BadKey` where its key is
-    /// END or more, or by `Twice` where its key stands before; and `OutOfMemory` at any point.
-    pub fn new(alloc: Global, entries: &[(u64, u64)]) -> Result<DurableV1, Refused>
+    /// `Full` above 65,536 entries; else the first bad entry in order, by `BadKey` if its key is
+    /// END or more, or by `Twice` if its key stands before; and `OutOfMemory` at any point.
+    pub fn new(alloc: Global, entries: &[(u64, u64)]) -> Result<DurableV1, EntriesRefused>
         ensures { MatchResult result
-            (λ d. (length entries.now ≤ most_entries) × AreGood entries.now (length entries.now)
+            (λ d. (length entries.now ≤ max_entries) × AreGood entries.now (length entries.now)
             × (d ≡ of_numbers entries.now 0 []))
-            (Refuses most_entries entries.now) }
+            (Refuses max_entries entries.now) }
     {
         let entries = ordered(alloc, Room::standard(), entries)?;
         Ok(DurableV1 {
@@ -73,7 +74,7 @@ impl DurableV1 {
     /// clients, in order of first registration.
     ///
     /// Clients are below 64, with one record each; an incarnation is from 1 to END, `last` at most
-    /// END, and the outcome None exactly where `last` is 0.
+    /// END, and the outcome None exactly if `last` is 0.
     ///
     /// # Errors
     ///
@@ -83,14 +84,14 @@ impl DurableV1 {
         entries: &[(u64, u64)],
         epoch: u64,
         records: &[(u64, Record)],
-    ) -> Result<DurableV1, Refused>
+    ) -> Result<DurableV1, EntriesRefused>
         requires epoch { epoch ≤ END }
         requires each { AllByRecursion IsRow records.now }
         requires once { IsDistinct nat_eq (keys_of records.now) }
         ensures { MatchResult result
-            (λ d. (length entries.now ≤ most_entries) × AreGood entries.now (length entries.now)
+            (λ d. (length entries.now ≤ max_entries) × AreGood entries.now (length entries.now)
             × (d ≡ of_numbers entries.now epoch records.now))
-            (Refuses most_entries entries.now) }
+            (Refuses max_entries entries.now) }
     {
         let entries = ordered(alloc, Room::standard(), entries)?;
         let register = Register::from_records(alloc, records)?;
@@ -112,12 +113,12 @@ impl DurableV1 {
     /// The entries of the index, in key order.
     pub fn entries(&self) -> &[(u64, u64)]
         ensures entries { result.now ≡ map.entries self.now.index }
-        ensures ordered { AreOrdered most_entries result.now }
+        ensures ordered { AreOrdered max_entries result.now }
     {
         self.entries.as_slice()
     }
 
-    /// The client's record, where it ever registered.
+    /// The client's record, if it ever registered.
     pub fn record(&self, c: u64) -> Option<Record>
         ensures { result ≡ record_of self.now.register c }
     {

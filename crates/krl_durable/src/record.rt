@@ -10,6 +10,6 @@ pub struct Record {
     pub left: bool,
     /// The number of its last judged write, or 0.
     pub last: u64,
-    /// How that write was judged. It is None exactly where `last` is 0.
+    /// How that write was judged. It is None exactly if `last` is 0.
     pub outcome: Option<Outcome>,
 }

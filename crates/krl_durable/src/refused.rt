@@ -1,7 +1,7 @@
 //! Refusals.
 ghost use Rattle.std.specs.Prelude.{◌≡◌};
-ghost use Rattle.krl_durable.specs.declared.refused.Refused.TheVariants.{OutOfMemory};
-ghost use Rattle.krl_durable.specs.InitialEntries.{refused_name};
+ghost use Rattle.krl_durable.specs.declared.refused.EntriesRefused.TheVariants.{OutOfMemory};
+ghost use Rattle.krl_durable.specs.Names.{refused_name};
 
 use std::alloc::AllocError;
 use thiserror::Error;
@@ -9,7 +9,7 @@ use thiserror::Error;
 /// Why no index begins with some entries.
 #[derive(Clone, Copy, Debug, PartialEq, Eq, Error)]
 #[error("{name}", name = self.name())]
-pub enum Refused {
+pub enum EntriesRefused {
     /// Memory that the call needed was not there.
     OutOfMemory,
     /// A key of END or more.
@@ -20,24 +20,24 @@ pub enum Refused {
     Full,
 }
 
-impl Refused {
+impl EntriesRefused {
     /// The refusal's name.
     pub fn name(self) -> &'static str
         ensures { result.now ≡ refused_name self }
     {
         match self {
-            Refused::OutOfMemory => "OutOfMemory",
-            Refused::BadKey => "BadKey",
-            Refused::Twice => "Twice",
-            Refused::Full => "Full",
+            EntriesRefused::OutOfMemory => "OutOfMemory",
+            EntriesRefused::BadKey => "BadKey",
+            EntriesRefused::Twice => "Twice",
+            EntriesRefused::Full => "Full",
         }
     }
 }
 
-impl From<AllocError> for Refused {
+impl From<AllocError> for EntriesRefused {
     ghost from_gives = { λ _ refused. refused ≡ OutOfMemory };
 
-    fn from(_error: AllocError) -> Refused {
-        Refused::OutOfMemory
+    fn from(_error: AllocError) -> EntriesRefused {
+        EntriesRefused::OutOfMemory
     }
 }

@@ -3,7 +3,8 @@ ghost use Rattle.std.specs.Prelude.{◌≡◌, ◌<◌, nat_eq, [], IsSome, IfSo
 ghost use Rattle.std.specs.List.{AllByRecursion, IsDistinct, filter_map};
 ghost use Rattle.std.specs.Map.{keys_of};
 ghost use Rattle.krl_durable.specs.Registers.{record_of, with_record, missing_order};
-ghost use Rattle.krl_durable.specs.Kept.{IsRow, IsRecord, missing_of};
+ghost use Rattle.krl_durable.specs.Invariants.{IsRow, IsRecord, missing_of};
+ghost use Rattle.krl_modes.specs.declared.limits.TheConstants.{MAX_CLIENTS};
 
 use crate::record::Record;
 use indexmap::IndexMap;
@@ -20,7 +21,7 @@ impl Model for Register {
     ghost use Rattle.std.specs.Prelude.{ℕ, List};
     ghost use Rattle.std.specs.List.{AllByRecursion};
     ghost use Rattle.krl_durable.specs.declared.record.Record.{Record};
-    ghost use Rattle.krl_durable.specs.Kept.{IsRow};
+    ghost use Rattle.krl_durable.specs.Invariants.{IsRow};
 
     ghost Value = { List (ℕ × Record) };
 
@@ -29,7 +30,7 @@ impl Model for Register {
     ghost invariant = { λ r. AllByRecursion IsRow r.records.entries };
 }
 
-// The client, where it has not left.
+// The client, if it has not left.
 fn missing_of(c: u64, row: &Record) -> Option<u64>
     ensures { result ≡ missing_of (c, row.now) }
 {
@@ -67,7 +68,7 @@ impl Register {
     ///
     /// # Errors
     ///
-    /// `AllocError` where memory is refused.
+    /// `AllocError` if memory is refused.
     pub fn from_records(alloc: Global, records: &[(u64, Record)]) -> Result<Register, AllocError>
         requires each { AllByRecursion IsRow records.now }
         requires once { IsDistinct nat_eq (keys_of records.now) }
@@ -93,6 +94,7 @@ impl Register {
         ensures rows { AllByRecursion IsRow self.now }
         ensures once { IsDistinct nat_eq (keys_of self.now) }
     {
+        // What holds of the records is known to the prover if their field is named.
         let _ = self.records.len();
     }
 
@@ -100,9 +102,9 @@ impl Register {
     ///
     /// # Errors
     ///
-    /// `AllocError` where memory for a new client is refused. Nothing has changed then.
+    /// `AllocError` if memory for a new client is refused. Nothing has changed then.
     pub fn set(&mut self, c: u64, row: Record) -> Result<(), AllocError>
-        requires client { c < 64 }
+        requires client { c < MAX_CLIENTS }
         requires each { IsRecord row }
         ensures ok { OnOk result (self.new ≡ with_record self.old c row) }
         ensures err { OnErr result (self.new ≡ self.old) }
@@ -127,6 +129,7 @@ impl Register {
         ensures { IfOk result (λ records. (records.items ≡ self.now)
             × AllByRecursion IsRow records.items × IsDistinct nat_eq (keys_of records.items)) }
     {
+        // By its clauses the prover knows what holds of the rows.
         self.rows();
         rows_of(alloc, &self.records)
     }

@@ -1,14 +1,10 @@
 //! How many entries an index has room for.
 ghost use Rattle.std.specs.Prelude.{◌≡◌, ◌↔◌, IsSome, IfSome};
-ghost use Rattle.krl_durable.specs.Writes.{most_entries, IsRoom};
+ghost use Rattle.krl_modes.specs.Limits.{max_entries};
+ghost use Rattle.krl_durable.specs.Writes.{IsRoom};
 
+use krl_modes::{MAX_ROOM, STANDARD_ROOM};
 use std::marker::Model;
-
-/// The most entries that an index can have room for.
-pub const MAX_ROOM: usize = 1_048_576;
-
-/// The room where none is named.
-const STANDARD_ROOM: usize = 65_536;
 
 /// How many entries an index has room for: from 1 to 1,048,576.
 #[derive(Clone, Copy, Debug, PartialEq, Eq)]
@@ -42,9 +38,9 @@ impl Room {
         }
     }
 
-    /// Room for 65,536 entries, where nobody asks for another.
+    /// Room for 65,536 entries, if nobody asks for another.
     pub fn standard() -> Room
-        ensures { result ≡ most_entries }
+        ensures { result ≡ max_entries }
     {
         Room {
             entries: STANDARD_ROOM,

@@ -5,7 +5,8 @@ use Rattle.std.specs.Global.{Vec}
 use Rattle.krl_messages.specs.declared.to_server.ToServer.{ToServer}
 use Rattle.krl_client.specs.declared.refused.CommandRefused.{CommandRefused}
 use Rattle.krl_client.specs.Clients.{Client}
-use Rattle.krl_client.specs.Fields.{Fields, meaning, IsDue}
+use Rattle.krl_client.specs.Fields.{Fields, meaning}
+use Rattle.krl_client.specs.FieldSteps.{IsDue}
 use Rattle.krl_embed.specs.declared.code.Code.{Code}
 use Rattle.krl_embed.specs.declared.code.Code.TheVariants as code
 use Rattle.krl_embed.specs.Frames.{said_frames, WaitsBy}

@@ -36,7 +36,7 @@ popped found i e rest left =
     let same : e ∷ rest ≡ get_or found i e ∷ drop (suc i) found = sym left ∙ drop-cons found i e lt in
     (lt, cc, ap (λ (k : ℕ). drop k found) (add-one i) ∙ (let on : drop (suc i) found ≡ rest = cc in on))
 
--- where none is left, all are copied
+-- if none is left, all are copied
 pub copied_all : (found : List (ℕ × Value)) (was now : List Row) (i : ℕ) → drop i found ≡ [] → i ≤ length found
     → now ≡ map row_of (take i found) ++ drop i was → now ≡ map row_of found ++ drop (length found) was
 copied_all found was now i none within seen =

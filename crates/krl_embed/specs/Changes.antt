@@ -17,7 +17,7 @@ outcome_number outcome.Absent = 3
 outcome_number outcome.NotHeld = 4
 outcome_number outcome.Full = 5
 
--- 0 where there is none
+-- 0 if there is none
 abbrev pub optional_outcome_number : Option Outcome → ℕ
 optional_outcome_number None = 0
 optional_outcome_number (Some o) = outcome_number o

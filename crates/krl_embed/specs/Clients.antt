@@ -2,7 +2,7 @@
 use Rattle.std.specs.Prelude.{◌≡◌, ℕ, List, [], ◌∷◌, ◌++◌, length, nat_le, if◌then◌else◌, slice_get, Option, Some, None}
 use Rattle.std.specs.Prelude.{Result, Ok, Err}
 use Rattle.std.specs.Global.{Vec}
-use Rattle.krl_modes.specs.Modes.{all_modes}
+use Rattle.krl_modes.specs.Names.{all_modes}
 use Rattle.krl_modes.specs.declared.mode.Mode.{Mode}
 use Rattle.krl_modes.specs.declared.mode.Mode.TheVariants.{N}
 use Rattle.krl_modes.specs.Spans.{Bounds}
@@ -15,19 +15,20 @@ use Rattle.krl_wire.specs.declared.fault.Fault.{Fault}
 use Rattle.krl_wire.specs.declared.fault.Fault.TheVariants as fault
 use Rattle.krl_wire.specs.Reading as reading
 use Rattle.krl_client.specs.Clients.{Client, free_pin}
-use Rattle.krl_client.specs.Fields.{Fields, meaning, Follows, IsTick}
+use Rattle.krl_client.specs.Fields.{Fields, meaning}
+use Rattle.krl_client.specs.FieldSteps.{Follows, IsTick}
 use Rattle.krl_client.specs.Messages.{case_of}
 use Rattle.krl_client.specs.Commands as commands
 use Rattle.krl_client.specs.declared.refused.CommandRefused.{CommandRefused}
-use Rattle.krl_client.specs.declared.refused.CommandRefused.TheVariants as refused
-use Rattle.krl_client.specs.declared.scan_answer.ScanAnswer.TheVariants as answer
+use Rattle.krl_client.specs.declared.refused.CommandRefused.TheVariants as command_refused
+use Rattle.krl_client.specs.declared.scan_answer.ScanAnswer.TheVariants as scan_answer
 use Rattle.krl_embed.specs.declared.rows.Row.{Row}
 use Rattle.krl_embed.specs.declared.reply.Reply.{Reply}
 use Rattle.krl_embed.specs.declared.code.Code.{Code}
 use Rattle.krl_embed.specs.declared.code.Code.TheVariants as code
 use Rattle.krl_embed.specs.Replies.{code_of}
 use Rattle.krl_embed.specs.Frames.{said_frames, WaitsBy}
-use Rattle.krl_embed.specs.Rows.{Copies, most_bytes}
+use Rattle.krl_embed.specs.Rows.{Copies, max_value_bytes}
 
 abbrev pub fault_number : Fault → ℕ
 fault_number fault.Short = 0
@@ -44,16 +45,16 @@ fault_number fault.Order = 10
 fault_number fault.Trailing = 11
 
 abbrev pub refusal_code : CommandRefused → Code
-refusal_code refused.OutOfMemory = code.OutOfMemory
-refusal_code refused.BadPoint = code.BadPoint
-refusal_code refused.BadSpan = code.BadSpan
-refusal_code refused.NotJoined = code.NotJoined
-refusal_code refused.Busy = code.Busy
-refusal_code refused.NotHeld = code.NotHeld
-refusal_code refused.Pinned = code.Pinned
-refusal_code refused.Writing = code.Writing
-refusal_code refused.TooManyPins = code.TooManyPins
-refusal_code refused.Spent = code.Spent
+refusal_code command_refused.OutOfMemory = code.OutOfMemory
+refusal_code command_refused.BadPoint = code.BadPoint
+refusal_code command_refused.BadSpan = code.BadSpan
+refusal_code command_refused.NotJoined = code.NotJoined
+refusal_code command_refused.Busy = code.Busy
+refusal_code command_refused.NotHeld = code.NotHeld
+refusal_code command_refused.Pinned = code.Pinned
+refusal_code command_refused.Writing = code.Writing
+refusal_code command_refused.TooManyPins = code.TooManyPins
+refusal_code command_refused.Spent = code.Spent
 
 -- The client becomes such, and says such messages, which wait behind all others, or are lost; or nothing changes, for
 -- want of memory.
@@ -109,7 +110,7 @@ abbrev pub Locks : ℕ → ℕ → ℕ → Fields → List ℕ → Fields → Li
 Locks point hi place k old l new r =
     (r.detail ≡ 0) × LocksIn (slice_get all_modes place) point hi k old l new r
 
--- a write; there is none where its value is too long
+-- a write; there is none if its value is too long
 abbrev pub Writes : Option WriteOp → Fields → List ℕ → Fields → List ℕ → Reply → Type 0
 Writes None k old l new r = (r.detail ≡ 0) × Refused code.BadValue k old l new (code_of r)
 Writes (Some op) k old l new r =
@@ -119,10 +120,10 @@ Writes (Some op) k old l new r =
 
 -- a value has at most 32 bytes
 abbrev pub insert_of : ℕ → List ℕ → Option WriteOp
-insert_of key bytes = if nat_le (length bytes) most_bytes then Some (write.Insert key bytes) else None
+insert_of key bytes = if nat_le (length bytes) max_value_bytes then Some (write.Insert key bytes) else None
 
 abbrev pub put_of : ℕ → List ℕ → Option WriteOp
-put_of key bytes = if nat_le (length bytes) most_bytes then Some (write.Put key bytes) else None
+put_of key bytes = if nat_le (length bytes) max_value_bytes then Some (write.Put key bytes) else None
 
 abbrev pub Forgets : Bounds → Fields → List ℕ → Fields → List ℕ → Reply → Type 0
 Forgets s k old l new r =
@@ -148,19 +149,19 @@ UnpinsAs None id k old l new r =
 abbrev pub Unpins : ℕ → Fields → List ℕ → Fields → List ℕ → Reply → Type 0
 Unpins id k old l new r = (r.detail ≡ 0) × UnpinsAs (commands.unpin_refusal (meaning k) id) id k old l new r
 
--- the client's answer, where it finds rows: they are copied into the room, or it is too short
+-- the client's answer, if it finds rows: they are copied into the room, or it is too short
 abbrev pub FindsRows : Client → Bounds → List Row → List Row → Reply → Type 0
 FindsRows k s was now r =
-    (found : List (ℕ × Value)) × commands.Answers k s (answer.Rows found) × Copies found was now r
+    (found : List (ℕ × Value)) × commands.Answers k s (scan_answer.Rows found) × Copies found was now r
 
--- what a scan answers; but where it finds rows the room stays as it was
+-- what a scan answers; the room stays as it was unless it finds rows
 abbrev pub Finds : Client → Bounds → List Row → List Row → Reply → Option Code → Type 0
 Finds k s was now r (Some code.Done) = FindsRows k s was now r
 Finds k s was now r (Some code.TooShort) = FindsRows k s was now r
-Finds k s was now r (Some code.Miss) = commands.Answers k s (answer.Miss r.detail) × (now ≡ was)
-Finds k s was now r (Some code.Pending) = commands.Answers k s (answer.Pending r.detail) × (now ≡ was)
+Finds k s was now r (Some code.Miss) = commands.Answers k s (scan_answer.Miss r.detail) × (now ≡ was)
+Finds k s was now r (Some code.Pending) = commands.Answers k s (scan_answer.Pending r.detail) × (now ≡ was)
 Finds k s was now r (Some code.BadSpan) =
-    (commands.scan_refusal s ≡ Some refused.BadSpan) × (now ≡ was) × (r.detail ≡ 0)
+    (commands.scan_refusal s ≡ Some command_refused.BadSpan) × (now ≡ was) × (r.detail ≡ 0)
 Finds k s was now r _ = ⊥
 
 abbrev pub Scans : Bounds → List Row → List Row → Fields → Reply → Type 0

@@ -31,7 +31,7 @@ abbrev pub Shows : {R : Type 0} → (Code → R → Type 0) → (Role → R → 
 Shows Is Does None r = Is code.Closed r
 Shows Is Does (Some e) r = Does e.role r
 
--- what stays where the call finds another role than it is for
+-- what stays if the call finds another role than it is for
 abbrev pub Stays : Code → Role → List ℕ → Role → List ℕ → Reply → Type 0
 Stays c was old now new r = (now ≡ was) × (new ≡ old) × IsCode c r
 

@@ -33,7 +33,7 @@ Waits frames old new code.Done = new ≡ old ++ frames
 Waits frames old new code.Unsaid = new ≡ old
 Waits frames old new _ = ⊥
 
--- the same, where the code is one
+-- the same, if the code is one
 abbrev pub WaitsBy : List ℕ → List ℕ → List ℕ → Option Code → Type 0
 WaitsBy frames old new None = ⊥
 WaitsBy frames old new (Some c) = Waits frames old new c

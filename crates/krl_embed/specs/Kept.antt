@@ -61,7 +61,8 @@ pub record ChangesAreKept : Type 0 where
   -- a server that is opened on some parts has them, at the next epoch
   pub opened :
       (room epoch : ℕ) (entries : List Row) (records : List RecordRow) (s : State)
-      → meaning s ≡ start (parts room epoch entries records) → (meaning s).durable ≡ raised (parts room epoch entries records)
+      → meaning s ≡ start (parts room epoch entries records)
+      → (meaning s).durable ≡ raised (parts room epoch entries records)
   -- after any answers, what they make of what survived before them is what survives
   pub kept :
       (s t : State) (rs : List Stepped) → AllAnswered s rs t → (meaning t).durable ≡ all_kept rs (meaning s).durable

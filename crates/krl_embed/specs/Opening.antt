@@ -1,16 +1,18 @@
 -- What opening a client or a server does.
-use Rattle.std.specs.Prelude.{◌≡◌, ◌≤◌, ◌<◌, ◌⊎◌, ℕ, suc, List, [], ◌∷◌, length, map, Option, Some, None, nat_eq, true}
-use Rattle.std.specs.Prelude.{if◌then◌else◌, ◌==◌, nat_lt, unwrap_or}
+use Rattle.std.specs.Prelude.{◌≡◌, ◌≤◌, ◌<◌, ◌⊎◌, ℕ, suc, List, [], ◌∷◌, length, map, Option, Some, None, nat_eq, true, nat_le}
+use Rattle.std.specs.Prelude.{if◌then◌else◌, ◌==◌, nat_lt, unwrap_or, nat_le}
 use Rattle.std.specs.List.{AllByRecursion, IsDistinct}
 use Rattle.std.specs.Map.{keys_of}
 use Rattle.krl_modes.specs.declared.point.TheConstants.{END}
+use Rattle.krl_modes.specs.declared.limits.TheConstants.{MAX_CLIENTS}
 use Rattle.krl_messages.specs.declared.outcome.Outcome.{Outcome}
 use Rattle.krl_messages.specs.declared.outcome.Outcome.TheVariants as outcome
 use Rattle.krl_durable.specs.declared.record.Record.{Record}
-use Rattle.krl_durable.specs.declared.refused.Refused.{Refused}
-use Rattle.krl_durable.specs.declared.refused.Refused.TheVariants as refused
+use Rattle.krl_durable.specs.declared.refused.EntriesRefused.{EntriesRefused}
+use Rattle.krl_durable.specs.declared.refused.EntriesRefused.TheVariants as entries_refused
 use Rattle.krl_durable.specs.Registers.{Durable}
-use Rattle.krl_durable.specs.InitialEntries.{of_parts, Refuses, AreGood}
+use Rattle.krl_durable.specs.Remade.{of_parts}
+use Rattle.krl_durable.specs.InitialEntries.{Refuses, AreGood}
 use Rattle.krl_durable.specs.Writes.{IsRoom}
 use Rattle.krl_client.specs.Clients.{begun}
 use Rattle.krl_client.specs.Ticks.{says_hello}
@@ -47,11 +49,11 @@ IsBegun number incarnation e =
 -- why no client starts, apart from memory: the first of these
 abbrev pub client_refusal : ℕ → ℕ → Option Code
 client_refusal number incarnation =
-    if nat_lt 63 number then Some code.BadClient
+    if nat_le MAX_CLIENTS number then Some code.BadClient
     else (if incarnation == 0 then Some code.BadIncarnation
     else (if nat_lt END incarnation then Some code.Spent else None))
 
--- a closed handle is open afterwards exactly where the code is Done
+-- a closed handle is open afterwards exactly if the code is Done
 abbrev pub BeginsClosed : ℕ → ℕ → Option Endpoint → Reply → Type 0
 BeginsClosed number incarnation None r = IsCode (unwrap_or (client_refusal number incarnation) code.OutOfMemory) r
 BeginsClosed number incarnation (Some e) r =
@@ -71,13 +73,13 @@ IsStartedRole d (role.Server s) = servers.meaning s ≡ start d
 IsStartedRole d (role.Client k) = ⊥
 IsStartedRole d (role.Left bye) = ⊥
 
-abbrev pub refused_code : Refused → Code
-refused_code refused.OutOfMemory = code.OutOfMemory
-refused_code refused.BadKey = code.BadKey
-refused_code refused.Twice = code.Twice
-refused_code refused.Full = code.Full
+abbrev pub refused_code : EntriesRefused → Code
+refused_code entries_refused.OutOfMemory = code.OutOfMemory
+refused_code entries_refused.BadKey = code.BadKey
+refused_code entries_refused.Twice = code.Twice
+refused_code entries_refused.Full = code.Full
 
--- what is said of a record at this place that is refused: its place, where it is bad
+-- what is said of a record at this place that is refused: its place, if it is bad
 abbrev pub place_said : Code → ℕ → ℕ
 place_said code.BadRecord i = i
 place_said _ i = 0
@@ -103,7 +105,7 @@ pub record HasParts (epoch : ℕ) (entries : List Row) (records : List RecordRow
   pub once : IsDistinct nat_eq (keys_of (map record_of records))
 
 -- no index with this room begins with the entries, of which nothing else is wrong
-abbrev pub RefusesEntries : ℕ → ℕ → List Row → List RecordRow → ℕ → Refused → Type 0
+abbrev pub RefusesEntries : ℕ → ℕ → List Row → List RecordRow → ℕ → EntriesRefused → Type 0
 RefusesEntries room epoch entries records i why =
     HasParts epoch entries records × Refuses room (map entry_of entries) why × (i ≡ 0)
 
@@ -112,9 +114,12 @@ abbrev pub RefusesParts : ℕ → ℕ → List Row → List RecordRow → ℕ �
 RefusesParts room epoch entries records i (Some code.Spent) = (END ≤ epoch) × (i ≡ 0)
 RefusesParts room epoch entries records i (Some code.BadValue) = (epoch < END) × IsTooLong entries i
 RefusesParts room epoch entries records i (Some code.BadRecord) = HasValues epoch entries × IsFirstBad records i
-RefusesParts room epoch entries records i (Some code.Full) = RefusesEntries room epoch entries records i refused.Full
-RefusesParts room epoch entries records i (Some code.BadKey) = RefusesEntries room epoch entries records i refused.BadKey
-RefusesParts room epoch entries records i (Some code.Twice) = RefusesEntries room epoch entries records i refused.Twice
+RefusesParts room epoch entries records i (Some code.Full) =
+    RefusesEntries room epoch entries records i entries_refused.Full
+RefusesParts room epoch entries records i (Some code.BadKey) =
+    RefusesEntries room epoch entries records i entries_refused.BadKey
+RefusesParts room epoch entries records i (Some code.Twice) =
+    RefusesEntries room epoch entries records i entries_refused.Twice
 RefusesParts room epoch entries records i (Some code.OutOfMemory) = i ≡ 0
 RefusesParts room epoch entries records i _ = ⊥
 

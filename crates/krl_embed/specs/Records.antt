@@ -4,8 +4,9 @@ use Rattle.std.specs.Prelude.{slice_get, Option, Some, None, ◌==◌, if◌then
 use Rattle.std.specs.List.{AllByRecursion, IsDistinct, list_any}
 use Rattle.std.specs.Map.{keys_of}
 use Rattle.krl_modes.specs.declared.point.TheConstants.{END}
+use Rattle.krl_modes.specs.declared.limits.TheConstants.{MAX_CLIENTS}
 use Rattle.krl_durable.specs.declared.record.Record.{Record}
-use Rattle.krl_durable.specs.Kept.{IsRow}
+use Rattle.krl_durable.specs.Invariants.{IsRow}
 use Rattle.krl_messages.specs.declared.outcome.Outcome.{Outcome}
 use Rattle.krl_messages.specs.declared.outcome.Outcome.TheVariants as outcome
 use Rattle.krl_embed.specs.declared.code.Code.{Code}
@@ -36,14 +37,14 @@ record_of r = (
   },
 )
 
--- there is an outcome exactly where a write was judged
+-- there is an outcome exactly if a write was judged
 abbrev pub has_outcome : RecordRow → Bool
 has_outcome r = if r.last == 0 then r.outcome == 0 else (nat_le 1 r.outcome && nat_le r.outcome 5)
 
 -- the row is one of a record that a client can have
 abbrev pub is_record : RecordRow → Bool
 is_record r =
-    nat_lt r.client 64 && (nat_le 1 r.incarnation && (nat_le r.incarnation END
+    nat_lt r.client MAX_CLIENTS && (nat_le 1 r.incarnation && (nat_le r.incarnation END
     && (nat_le r.last END && (nat_le r.left 1 && has_outcome r))))
 
 -- it is none, or its client has one among these

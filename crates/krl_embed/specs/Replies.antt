@@ -13,7 +13,7 @@ all_codes =
     ∷ code.BadSpan ∷ code.NotJoined ∷ code.Busy ∷ code.NotHeld ∷ code.Pinned ∷ code.Writing ∷ code.TooManyPins
     ∷ code.BadIncarnation ∷ code.BadShards ∷ code.BadRoom ∷ []
 
--- the code of a number, where it is one's
+-- the code of a number, if it is one's
 unfoldable pub code_at : ℕ → Option Code
 code_at n = slice_get all_codes n
 

@@ -14,7 +14,7 @@ IsSpelled (Ok m) spell bytes = bytes ≡ spell m
 IsSpelled (Err f) spell bytes = ⊥
 
 -- The spelling of what is read goes in front of the room's old bytes, or the room is too short: it is the same bytes.
--- Bytes that are no message are refused for their first fault. But where it is done the room stays as it was.
+-- Bytes that are no message are refused for their first fault. But if it is done the room stays as it was.
 abbrev pub RespellsAs : {M : Type 0} → Result M Fault → (M → List ℕ) → List ℕ → List ℕ → List ℕ → Reply
     → Option Code → Type 0
 RespellsAs read spell bytes was now r (Some code.Done) = IsSpelled read spell bytes × Copies bytes was now r

@@ -1,6 +1,7 @@
 -- Entries as C sees them.
 use Rattle.std.specs.Prelude.{◌≡◌, ◌<◌, ℕ, ◌≤◌, List, ◌++◌, length, take, drop, map, Option, Some, slice_get}
 use Rattle.std.specs.List.{AllByRecursion}
+use Rattle.krl_modes.specs.declared.limits.TheConstants.{MAX_VALUE_BYTES}
 use Rattle.krl_messages.specs.Values.{Value}
 use Rattle.krl_messages.specs.Padded.{padded}
 use Rattle.krl_embed.specs.declared.rows.Row.{Row}
@@ -18,18 +19,18 @@ abbrev pub entry_of : Row → ℕ × Value
 entry_of r = (r.key, take r.length r.bytes)
 
 -- the most bytes of a value
-abbrev pub most_bytes : ℕ
-most_bytes = 32
+abbrev pub max_value_bytes : ℕ
+max_value_bytes = MAX_VALUE_BYTES
 
 abbrev pub HasValue : Row → Type 0
-HasValue r = r.length ≤ most_bytes
+HasValue r = r.length ≤ max_value_bytes
 
 -- the value of the row at this place is too long, and the one of each row before is not
 pub record IsTooLong (rows : List Row) (i : ℕ) : Type 0 where
   pub before : AllByRecursion HasValue (take i rows)
   pub row : Row
   pub here : slice_get rows i ≡ Some row
-  pub long : most_bytes < row.length
+  pub long : max_value_bytes < row.length
 
 -- the first value that is too long, or want of memory
 abbrev pub RefusesRowsAs : List Row → ℕ → Option Code → Type 0

@@ -82,7 +82,7 @@ NudgesAs outs old new _ = ⊥
 abbrev pub Nudges : ℕ → State → List ℕ → State → List ℕ → Reply → Type 0
 Nudges c s old t new r = (t ≡ s) × (r.detail ≡ 0) × NudgesAs (nudge (meaning s) c) old new (code_of r)
 
--- a call on a server, which is there before and after; nothing changes where there is none
+-- a call on a server, which is there before and after; nothing changes if there is none
 abbrev pub OnServerRole : {R : Type 0} → (Code → R → Type 0) → (State → List ℕ → State → List ℕ → R → Type 0)
     → Role → List ℕ → Role → List ℕ → R → Type 0
 OnServerRole Is Does (role.Server s) old (role.Server t) new r = Does s old t new r

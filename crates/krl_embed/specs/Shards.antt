@@ -1,8 +1,9 @@
 -- Which shard has a point, and what each shard has of a span, as C sees it.
 use Rattle.std.specs.Prelude.{◌≡◌, ◌<◌, ◌≤◌, ℕ, List, ◌++◌, length, drop, map, Option, Some}
-use Rattle.krl_modes.specs.Spans.{Bounds, last_point, past_points, IsWhole}
+use Rattle.krl_modes.specs.Spans.{Bounds}
+use Rattle.krl_modes.specs.PointSets.{last_point, past_points, IsWhole}
 use Rattle.krl_shards.specs.declared.part.Part.{Part}
-use Rattle.krl_shards.specs.Partition.{most_shards, IsPartition, IsShardOf, IsOnlyShardOf}
+use Rattle.krl_shards.specs.Partition.{max_shards, IsPartition, IsShardOf, IsOnlyShardOf}
 use Rattle.krl_shards.specs.Parts.{Follow, AreWithin, Ascend, AreAllOf}
 use Rattle.krl_embed.specs.declared.code.Code.{Code}
 use Rattle.krl_embed.specs.declared.code.Code.TheVariants as code
@@ -12,7 +13,7 @@ use Rattle.krl_embed.specs.Replies.{code_of}
 
 -- these are bounds of shards: each shard has a point, and there are not too many
 abbrev pub AreBounds : List ℕ → Type 0
-AreBounds bounds = (length bounds < most_shards) × IsPartition bounds
+AreBounds bounds = (length bounds < max_shards) × IsPartition bounds
 
 -- The shard of a point
 

@@ -3,17 +3,18 @@ use Rattle.std.specs.Prelude.{◌≡◌, ◌<◌, ℕ, Bool, true, false, List, 
 use Rattle.krl_wire.specs.Spelling.{range_tag, key_tag}
 use Rattle.krl_durable.specs.declared.record.Record.{Record}
 use Rattle.krl_durable.specs.Registers as registers
-use Rattle.krl_client.specs.Clients.{Client, held, status_of}
+use Rattle.krl_client.specs.Clients.{Client}
+use Rattle.krl_client.specs.Shown.{held, status_of}
 use Rattle.krl_client.specs.Commands.{says_bye}
 use Rattle.krl_client.specs.Fields as clients
 use Rattle.krl_client.specs.declared.status.LockStatus.{LockStatus}
 use Rattle.krl_client.specs.declared.status.LockStatus.TheVariants as lock
 use Rattle.krl_client.specs.declared.status.WriteStatus.{WriteStatus}
-use Rattle.krl_client.specs.declared.status.WriteStatus.TheVariants as write
+use Rattle.krl_client.specs.declared.status.WriteStatus.TheVariants as written
 use Rattle.krl_server.specs.declared.state.State.{State}
 use Rattle.krl_server.specs.declared.phase.Phase.{Phase}
 use Rattle.krl_server.specs.declared.phase.Phase.TheVariants as phase
-use Rattle.krl_server.specs.Servers.{phase_of}
+use Rattle.krl_server.specs.Settled.{phase_of}
 use Rattle.krl_server.specs.StateMeaning as servers
 use Rattle.krl_embed.specs.declared.code.Code.{Code}
 use Rattle.krl_embed.specs.declared.code.Code.TheVariants as code
@@ -40,9 +41,9 @@ lock_number lock.Dropped = 4
 
 -- the three numbers of the last write
 abbrev pub IsWriteState : WriteStatus → ClientState → Type 0
-IsWriteState write.NotWritten r = (r.write ≡ 0) × (r.number ≡ 0) × (r.outcome ≡ 0)
-IsWriteState (write.Waiting n) r = (r.write ≡ 1) × (r.number ≡ n) × (r.outcome ≡ 0)
-IsWriteState (write.Judged n o) r = (r.write ≡ 2) × (r.number ≡ n) × (r.outcome ≡ outcome_number o)
+IsWriteState written.NotWritten r = (r.write ≡ 0) × (r.number ≡ 0) × (r.outcome ≡ 0)
+IsWriteState (written.Waiting n) r = (r.write ≡ 1) × (r.number ≡ n) × (r.outcome ≡ 0)
+IsWriteState (written.Judged n o) r = (r.write ≡ 2) × (r.number ≡ n) × (r.outcome ≡ outcome_number o)
 
 abbrev pub IsState : Client → ClientState → Type 0
 IsState k r =
@@ -119,7 +120,7 @@ IsRecorded c s r = TellsRecord c (registers.record_of (servers.meaning s).durabl
 
 -- Leaving
 
--- the client is gone, and its Bye is kept; where memory is refused it stays
+-- the client is gone, and its Bye is kept; if memory is refused it stays
 abbrev pub GoesTo : Role → Role → Code → Type 0
 GoesTo (role.Client k) (role.Left bye) c = bye ≡ says_bye (clients.meaning k) ∷ []
 GoesTo (role.Client k) (role.Client l) c = (l ≡ k) × (c ≡ code.OutOfMemory)

@@ -1,5 +1,6 @@
 -- Who waits at a server, for whom, and what clients hold, as C sees it.
 use Rattle.std.specs.Prelude.{◌≡◌, ◌⊎◌, ◌≤◌, ◌<◌, ℕ, List, Option, Some, None}
+use Rattle.krl_modes.specs.declared.limits.TheConstants.{MAX_CLIENTS}
 use Rattle.krl_queue.specs.declared.waiter.Waiter.{Waiter}
 use Rattle.krl_messages.specs.declared.holding.Holding.{Holding}
 use Rattle.krl_table.specs.Holds.{HoldsAt}
@@ -19,8 +20,8 @@ use Rattle.krl_embed.specs.Shown.{Copies}
 
 -- what is told of a client; a number that is no client's is refused
 pub record OfNumber {R : Type 0} (Is : Code → R → Type 0) (c : ℕ) (Tells : R → Type 0) (r : R) : Type 0 where
-  pub client : c < 64 → Tells r
-  pub stranger : 64 ≤ c → Is code.BadClient r
+  pub client : c < MAX_CLIENTS → Tells r
+  pub stranger : MAX_CLIENTS ≤ c → Is code.BadClient r
 
 -- it waits so, with what it asked for
 abbrev pub IsWait : Option Waiter → Waiting → Type 0
@@ -56,7 +57,7 @@ ShowsNoHolding r = (r.holds ≡ 0) × (r.lo ≡ 0) × (r.hi ≡ 0) × (r.mode �
 abbrev pub IsNoHolding : Code → HeldSlot → Type 0
 IsNoHolding c r = IsCode c r.reply × ShowsNoHolding r
 
--- what the client holds first from this point on; or none, where it holds no more
+-- what the client holds first from this point on; or none, if it holds no more
 abbrev pub ShowsNext : Server → ℕ → ℕ → HeldSlot → Type 0
 ShowsNext s c from r =
     ((h : Holding) × IsNextHolding s c from h × ShowsHolding h r) ⊎ (HoldsNoMore s c from × ShowsNoHolding r)

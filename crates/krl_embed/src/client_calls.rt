@@ -1,6 +1,6 @@
 //! What the exports do with a client.
 ghost use Rattle.std.specs.Prelude.{◌≡◌, slice_get};
-ghost use Rattle.krl_modes.specs.Modes.{all_modes};
+ghost use Rattle.krl_modes.specs.Names.{all_modes};
 ghost use Rattle.krl_embed.specs.Clients as calls;
 ghost use Rattle.krl_embed.specs.Endpoints.{IsUntold, OnClient, OfClient};
 ghost use Rattle.krl_embed.specs.Frames.{said_frames, WaitsBy};
@@ -157,7 +157,7 @@ fn change(
     said(alloc, outgoing, messages)
 }
 
-/// Asks for a change. There is none where its value is too long.
+/// Asks for a change. There is none if its value is too long.
 pub(crate) fn write(alloc: Global, endpoint: &mut Endpoint, op: Option<WriteOp>) -> Reply
     ensures { OnClient (calls.Writes op) endpoint.old endpoint.new result }
 {

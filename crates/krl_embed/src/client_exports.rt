@@ -19,10 +19,8 @@ use crate::reply::Reply;
 use crate::rows::Row;
 use krl_client::{Client, StartRefused};
 use krl_messages::{Value, WriteOp};
+use krl_modes::MAX_CLIENTS;
 use std::alloc::Global;
-
-/// Clients are numbered below this.
-const CLIENTS: u64 = 64;
 
 // A client that starts, and its Hello. The library's own start takes an incarnation of 0, of which
 // no server hears anything.
@@ -33,7 +31,7 @@ fn start(alloc: Global, number: u64, incarnation: u64) -> Result<Endpoint, Code>
         (λ refused. refused
         ≡ unwrap_or (opening.client_refusal number incarnation) code.OutOfMemory) }
 {
-    if number < CLIENTS && incarnation == 0 {
+    if number < MAX_CLIENTS as u64 && incarnation == 0 {
         return Err(Code::BadIncarnation);
     }
     let (client, hello) = match Client::start(alloc, number, incarnation) {
@@ -139,7 +137,7 @@ fn write(alloc: Global, handle: &mut Handle, change: Option<WriteOp>) -> Reply
     reply
 }
 
-// An insert, where the value has at most 32 bytes.
+// An insert, if the value has at most 32 bytes.
 fn insert_of(key: u64, bytes: &[u8]) -> Option<WriteOp>
     ensures { result ≡ calls.insert_of key bytes.now }
 {
@@ -147,7 +145,7 @@ fn insert_of(key: u64, bytes: &[u8]) -> Option<WriteOp>
     Some(WriteOp::Insert { key, value })
 }
 
-// A put, where the value has at most 32 bytes.
+// A put, if the value has at most 32 bytes.
 fn put_of(key: u64, bytes: &[u8]) -> Option<WriteOp>
     ensures { result ≡ calls.put_of key bytes.now }
 {

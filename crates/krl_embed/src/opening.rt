@@ -12,9 +12,9 @@ use crate::code::Code;
 use crate::records::{RecordRow, push_record};
 use crate::reply::Reply;
 use crate::rows::{Row, entries_of};
-use krl_durable::{Durable, Record, Refused, Room};
+use krl_durable::{Durable, EntriesRefused, Record, Room};
 use krl_modes::END;
-use krl_server::{Server, StartRefused};
+use krl_server::{Server, ServerNotStarted};
 use std::alloc::Global;
 
 // Why the record at this place is refused. A bad one is told by its place.
@@ -45,15 +45,15 @@ fn records_of(alloc: Global, rows: &[RecordRow]) -> Result<Vec<(u64, Record)>, R
 }
 
 // Why no index begins with the entries.
-fn entries_refused(refused: Refused) -> Reply
+fn entries_refused(refused: EntriesRefused) -> Reply
     ensures code { code_of result ≡ Some (refused_code refused) }
     ensures detail { result.detail ≡ 0 }
 {
     match refused {
-        Refused::OutOfMemory => Reply::of(Code::OutOfMemory),
-        Refused::BadKey => Reply::of(Code::BadKey),
-        Refused::Twice => Reply::of(Code::Twice),
-        Refused::Full => Reply::of(Code::Full),
+        EntriesRefused::OutOfMemory => Reply::of(Code::OutOfMemory),
+        EntriesRefused::BadKey => Reply::of(Code::BadKey),
+        EntriesRefused::Twice => Reply::of(Code::Twice),
+        EntriesRefused::Full => Reply::of(Code::Full),
     }
 }
 
@@ -69,10 +69,12 @@ fn durable_of(
     ensures good { OnOk result (MayOpen room epoch entries.now records.now) }
     ensures why { IfErr result (RefusesKept room epoch entries.now records.now) }
 {
+    // By its clause `in_range` the prover knows how great the room may be.
     room.get();
     if epoch >= END {
         return Err(Reply::of(Code::Spent));
     }
+    // No `?`, here and below: the clause `why` names the error as it came.
     let entries = match entries_of(alloc, entries) {
         Ok(entries) => entries,
         Err(reply) => return Err(reply),
@@ -102,6 +104,7 @@ fn start_with(
     ensures good { OnOk result (MayOpen room epoch entries.now records.now) }
     ensures why { IfErr result (RefusesKept room epoch entries.now records.now) }
 {
+    // No `?`: the clause `why` names the error as it came.
     let durable = match durable_of(alloc, room, epoch, entries, records) {
         Ok(durable) => durable,
         Err(reply) => return Err(reply),
@@ -109,8 +112,8 @@ fn start_with(
     match Server::start(alloc, durable) {
         Ok(server) => Ok(server),
         Err(not) => match not.refused {
-            StartRefused::Spent => Err(Reply::of(Code::Spent)),
-            StartRefused::OutOfMemory => Err(Reply::of(Code::OutOfMemory)),
+            ServerNotStarted::Spent => Err(Reply::of(Code::Spent)),
+            ServerNotStarted::OutOfMemory => Err(Reply::of(Code::OutOfMemory)),
         },
     }
 }

@@ -11,7 +11,7 @@ use std::alloc::Global;
 use std::marker::Model;
 use std::ptr::null_mut;
 
-/// A pointer, and what it owns. Where it owns nothing the pointer means nothing.
+/// A pointer, and what it owns. If it owns nothing the pointer means nothing.
 #[repr(C)]
 #[derive(Drop)]
 pub(crate) struct Owned {

@@ -2,7 +2,7 @@
 ghost use Rattle.std.specs.Prelude.{◌≡◌, ◌++◌, ◌∷◌, [], true, false, IfSome, IfNone, IfErr, OnOk};
 ghost use Rattle.std.specs.Prelude.{nat_eq};
 ghost use Rattle.std.specs.List.{list_any};
-ghost use Rattle.krl_durable.specs.Kept.{IsRow};
+ghost use Rattle.krl_durable.specs.Invariants.{IsRow};
 ghost use Rattle.krl_embed.specs.Changes.{optional_outcome_number};
 ghost use Rattle.krl_embed.specs.Shown.{record_row, no_record};
 ghost use Rattle.krl_embed.specs.Records as records;
@@ -11,7 +11,7 @@ ghost use Rattle.krl_embed.specs.Records.{AreRows, RefusesRow};
 use crate::code::Code;
 use krl_durable::Record;
 use krl_messages::Outcome;
-use krl_modes::END;
+use krl_modes::{END, MAX_CLIENTS};
 
 /// What is kept of a client that ever registered.
 #[repr(C)]
@@ -24,7 +24,7 @@ pub struct RecordRow {
     left: u32,
 }
 
-/// The number of an outcome: 0 where there is none.
+/// The number of an outcome: 0 if there is none.
 pub(crate) fn outcome_number(outcome: Option<Outcome>) -> u32
     ensures { result ≡ optional_outcome_number outcome }
 {
@@ -75,7 +75,7 @@ impl RecordRow {
         }
     }
 
-    // Whether it has an outcome exactly where a write was judged.
+    // Whether it has an outcome exactly if a write was judged.
     fn has_outcome(&self) -> bool
         ensures { result ≡ records.has_outcome self.now }
     {
@@ -90,7 +90,7 @@ impl RecordRow {
     fn is_record(&self) -> bool
         ensures { result ≡ records.is_record self.now }
     {
-        self.client < 64
+        self.client < MAX_CLIENTS as u64
             && 1 <= self.incarnation
             && self.incarnation <= END
             && self.last <= END
@@ -98,7 +98,7 @@ impl RecordRow {
             && self.has_outcome()
     }
 
-    // The client and its record, where it is one.
+    // The client and its record, if it is one.
     fn record(&self) -> Option<(u64, Record)>
         ensures row { IfSome result IsRow }
         ensures found { IfSome result (λ e. e ≡ records.record_of self.now) }
@@ -125,11 +125,11 @@ fn is_there(rows: &[(u64, Record)], client: u64) -> bool
     rows.iter().any(|row| client == row.0)
 }
 
-/// Puts the record behind the others, where it is one, and its client has none before.
+/// Puts the record behind the others, if it is one, and its client has none before.
 ///
 /// # Errors
 ///
-/// `BadRecord` where it is none, or its client has one; `OutOfMemory`. The records are as they
+/// `BadRecord` if it is none, or its client has one; `OutOfMemory`. The records are as they
 /// were.
 pub(crate) fn push_record(rows: &mut Vec<(u64, Record)>, row: &RecordRow) -> Result<(), Code>
     requires { AreRows rows.old.items }

@@ -1,16 +1,15 @@
 //! Entries of the index, as C sees them.
 ghost use Rattle.std.specs.Prelude.{◌≡◌, ◌<◌, [], IfNone, IfSome, IfOk, IfErr, OnOk, map};
 ghost use Rattle.std.specs.List.{AllByRecursion};
-ghost use Rattle.krl_embed.specs.Rows.{row_of, entry_of, most_bytes, HasValue, RefusesRows, Copies};
+ghost use Rattle.krl_embed.specs.Rows.{row_of, entry_of, max_value_bytes, HasValue, RefusesRows};
+ghost use Rattle.krl_embed.specs.Rows.{Copies};
 
 use crate::code::Code;
 use crate::reply::Reply;
 use krl_cache::RowsInPlace;
 use krl_messages::Value;
+use krl_modes::MAX_VALUE_BYTES;
 use std::alloc::Global;
-
-/// The most bytes of a value.
-const MOST_BYTES: u64 = 32;
 
 /// An entry of the index: its key, and a value of so many bytes.
 #[repr(C)]
@@ -55,13 +54,13 @@ impl Row {
         }
     }
 
-    /// The entry, where its value has at most 32 bytes.
+    /// The entry, if its value has at most 32 bytes.
     fn entry(&self) -> Option<(u64, Value)>
         ensures entry { IfSome result (λ e. e ≡ entry_of self.now) }
         ensures fits { IfSome result (λ _. HasValue self.now) }
-        ensures long { IfNone result (most_bytes < self.now.length) }
+        ensures long { IfNone result (max_value_bytes < self.now.length) }
     {
-        if self.length > MOST_BYTES {
+        if self.length > MAX_VALUE_BYTES as u64 {
             return None;
         }
         let value = Value::new(&self.bytes[..self.length as usize])?;
@@ -73,7 +72,7 @@ impl Row {
 ///
 /// # Errors
 ///
-/// `BadValue`, with the row's place, where a value is too long; `OutOfMemory`.
+/// `BadValue`, with the row's place, if a value is too long; `OutOfMemory`.
 pub(crate) fn entries_of(alloc: Global, rows: &[Row]) -> Result<Vec<(u64, Value)>, Reply>
     ensures fit { OnOk result (AllByRecursion HasValue rows.now) }
     ensures entries { IfOk result (λ entries. entries.items ≡ map entry_of rows.now) }

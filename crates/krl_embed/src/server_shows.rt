@@ -9,11 +9,9 @@ use crate::endpoint::{Endpoint, Role};
 use crate::reply::Reply;
 use crate::server_calls::copy_clients;
 use krl_messages::Holding;
+use krl_modes::MAX_CLIENTS;
 use krl_queue::Waiter;
 use krl_server::Server;
-
-/// The first number that is no client's.
-const CLIENTS: u64 = 64;
 
 /// How a client waits at a server.
 #[repr(C)]
@@ -104,7 +102,7 @@ pub(crate) fn waiter(endpoint: &Endpoint, client: u64) -> Waiting
     ensures { OfServer IsNoWait (waits.TellsWait client) endpoint.now.role result }
 {
     match &endpoint.role {
-        Role::Server(_) if client >= CLIENTS => Waiting::blank(Code::BadClient),
+        Role::Server(_) if client >= MAX_CLIENTS as u64 => Waiting::blank(Code::BadClient),
         Role::Server(server) => Waiting::of(&server.waiter_of(client)),
         Role::Client(_) | Role::Left(_) => Waiting::blank(Code::NoServer),
     }
@@ -113,7 +111,7 @@ pub(crate) fn waiter(endpoint: &Endpoint, client: u64) -> Waiting
 fn copy_waited_for(server: &Server, client: u64, clients: &mut [u64]) -> Reply
     ensures { waits.TellsWaited client clients.old clients.new server.now result }
 {
-    if client >= CLIENTS {
+    if client >= MAX_CLIENTS as u64 {
         return Reply::of(Code::BadClient);
     }
     copy_clients(server.waited_for(client).as_slice(), clients)
@@ -135,7 +133,7 @@ pub(crate) fn held_slots(endpoint: &Endpoint, client: u64) -> Reply
     ensures { OfServer IsCode (waits.TellsHeld client) endpoint.now.role result }
 {
     match &endpoint.role {
-        Role::Server(_) if client >= CLIENTS => Reply::of(Code::BadClient),
+        Role::Server(_) if client >= MAX_CLIENTS as u64 => Reply::of(Code::BadClient),
         Role::Server(server) => Reply::with(Code::Done, server.held_slots(client)),
         Role::Client(_) | Role::Left(_) => Reply::of(Code::NoServer),
     }
@@ -144,7 +142,7 @@ pub(crate) fn held_slots(endpoint: &Endpoint, client: u64) -> Reply
 fn next_of(server: &Server, client: u64, from: u64) -> HeldSlot
     ensures { waits.TellsNext client from server.now result }
 {
-    if client >= CLIENTS {
+    if client >= MAX_CLIENTS as u64 {
         return HeldSlot::blank(Code::BadClient);
     }
     match server.next_holding(client, from) {

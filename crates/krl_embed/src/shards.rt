@@ -42,7 +42,7 @@ fn copy_parts(found: &[Part], parts: &mut [PartRow]) -> Reply
     Reply::with(Code::Done, count as u64)
 }
 
-/// The shard that has the point, where the shards begin at 0 and at each of these bounds.
+/// The shard that has the point, if the shards begin at 0 and at each of these bounds.
 #[unsafe(no_mangle)]
 pub extern "C" fn krl_shard_of(bounds: &[u64], point: u64) -> Reply
     ensures { TellsShard bounds.now point result }
@@ -56,7 +56,7 @@ pub extern "C" fn krl_shard_of(bounds: &[u64], point: u64) -> Reply
     Reply::with(Code::Done, shards.shard_of(point))
 }
 
-/// What each shard has of a span, where the shards begin at 0 and at each of these bounds.
+/// What each shard has of a span, if the shards begin at 0 and at each of these bounds.
 #[unsafe(no_mangle)]
 pub extern "C" fn krl_parts(bounds: &[u64], lo: u64, hi: u64, parts: &mut [PartRow]) -> Reply
     ensures { TellsParts bounds.now (record { lo = lo; hi = hi }) parts.old parts.new result }

@@ -114,7 +114,7 @@ module _ (index : ℕ → Option Value) (f : Fenced) (missing : ℕ → Bool) (i
   copy_old : (e : ℕ) → e ≢ f.world.shared.epoch → copy' e ≡ f.copy e
   copy_old e ne = ap (λ b. if b then f.world.shared.index else f.copy e) (ne_eqb e f.world.shared.epoch ne)
 
-  -- before this start the server recovered, where an earlier epoch is not yet past
+  -- before this start the server recovered, if an earlier epoch is not yet past
   recovered : ((f.world.shared.phase ≡ Serving) × (f.bound ≡ f.world.shared.epoch)) ⊎ ((f.world.shared.phase ≡ Recovering) × (f.bound < f.world.shared.epoch)) → f.bound < f.world.shared.epoch → f.world.shared.phase ≡ Recovering
   recovered (inl a) lt = absurd (omega (arith, a.1, lt))
   recovered (inr a) lt = a.0

@@ -23,7 +23,7 @@ pub record Kept : Type 0 where
   -- of its session
   pub last : ℕ  -- the number of the last push to it
   pub acked : Bool  -- that push counts as acknowledged
-  -- of its recovery, where it did not serve yet
+  -- of its recovery, if it did not serve yet
   pub missing : Bool  -- its report is waited for
   pub new_range : ℕ → RangePart  -- the row that is rebuilt
   pub new_key : ℕ → KeyPart

@@ -22,7 +22,7 @@ pub fn scans()
         → ScanIsRange f.world }
 {}
 
-/// Each numbered write changed the store's index at most once, and once where its client was told
+/// Each numbered write changed the store's index at most once, and once if its client was told
 /// so, by whatever server.
 pub fn once()
     ensures { (index : ℕ → Option Value) (end : ℕ) (f : Fenced) → FencedReachable index end f

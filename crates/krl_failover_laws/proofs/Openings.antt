@@ -20,7 +20,7 @@ record Shadow (index : ℕ → Option Value) (w : World) : Type 0 where
   pub end_is : fenced.world.shared.end ≡ w.shared.end
   pub phase : w.shared.phase ≢ Down → fenced.world.shared.phase ≡ w.shared.phase
 
--- where it is up, it is this world
+-- if it is up, it is this world
 shown : (index : ℕ → Option Value) (w : World) (x : Shadow index w) → w.shared.phase ≢ Down → x.fenced.world ≡ w
 shown index w x up =
     let epoch = x.epoch in

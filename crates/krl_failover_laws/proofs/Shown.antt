@@ -14,7 +14,7 @@ use Rattle.krl_server.specs.Steps.{ServerStep, nudge, crash, start, can_start}
 use Rattle.krl_server.specs.Soundness.{IsSound}
 use Rattle.krl_steps.specs.declared.applied_write.AppliedWrite.{AppliedWrite}
 use Rattle.krl_refinement.specs.Messages.{Stands, WasSent}
-use Rattle.krl_refinement.specs.Client.Shows.{Grows, ShowsSeat, Leads}
+use Rattle.krl_refinement.specs.Client.Shows.{Grows, ShowsPlace, Leads}
 use Rattle.krl_refinement.specs.Server.AsLinks.{Shows, view, logged}
 use Rattle.krl_refinement.proofs.Messages.{from_stands, stands_stays, sent_stays}
 use Rattle.krl_failover.specs.Fenced.{Fenced}
@@ -24,16 +24,16 @@ use Rattle.krl_failover_world.proofs.Epochs.{step_epoch_same}
 use Rattle.krl_failover_world.proofs.Follows.{store_follows, clients_follow}
 use Rattle.krl_failover_world.proofs.OldServers.{old_follow}
 use Rattle.krl_world.specs.declared.message.Message.TheVariants as message
-use Rattle.krl_world.specs.States.{ServerNode, Up, Down, Seat, State, durable_of, from_clients, from_server, seated, served}
+use Rattle.krl_world.specs.States.{ServerPlace, Up, Down, ClientPlace, State, durable_of, from_clients, from_server, seated, served}
 use Rattle.krl_world.specs.Steps.{applies}
 use Rattle.krl_world.proofs.Refinement.Mirrors as one
 use Rattle.krl_world.proofs.Refinement.Mirrors.{shared_of, ServerShows, oldest_first, in_from_clients, not_from_clients, in_from_server, not_from_server}
-use Rattle.krl_world.proofs.Refinement.Serves.{seat_stays, nil_right, case_log}
+use Rattle.krl_world.proofs.Refinement.Serves.{place_stays, nil_right, case_log}
 use Rattle.krl_world.proofs.Refinement.Calling.{AreCalled, step_called, nudge_called}
 use Rattle.krl_world.proofs.Refinement.Openings.{first_of}
 use Rattle.krl_failover_laws.specs.Worlds.{FencedWorld, set_old}
 
--- the store's server, every message, each seat and each old server show in the machine of many servers
+-- the store's server, every message, each place and each old server show in the machine of many servers
 pub record Shown (w : FencedWorld) : Type 0 where
   pub store : Server
   pub up : w.world.server ≡ Up store
@@ -44,12 +44,12 @@ pub record Shown (w : FencedWorld) : Type 0 where
   pub world : one.Mirrors w.world of log
   pub old : (e : ℕ) (x : Server) → w.old e ≡ Some x → (x.durable.epoch ≡ e) × ShowsOld x fenced × IsSound x
 
--- Messages and seats, where the links grow and the clients stay
+-- Messages and places, if the links grow and the clients stay
 
-module _ (w : State) (n : ServerNode) (of to : ℕ → Link) (log log' : List Logged) (outs : List ToClient) (writes : List AppliedWrite) (h : one.Mirrors w of log) (grows : (c : ℕ) → Grows (of c) (to c)) (clients : (c : ℕ) → (to c).client ≡ (of c).client) (sent : (o : ToClient) → In o outs → WasSent (to o.client) o.incarnation o.body) (shows : ServerShows n to) (wrote : oldest_first log ++ writes ≡ oldest_first log') (later : (durable_of w.server).epoch ≤ (durable_of n).epoch) (called : AreCalled (durable_of n).epoch outs) where
+module _ (w : State) (n : ServerPlace) (of to : ℕ → Link) (log log' : List Logged) (outs : List ToClient) (writes : List AppliedWrite) (h : one.Mirrors w of log) (grows : (c : ℕ) → Grows (of c) (to c)) (clients : (c : ℕ) → (to c).client ≡ (of c).client) (sent : (o : ToClient) → In o outs → WasSent (to o.client) o.incarnation o.body) (shows : ServerShows n to) (wrote : oldest_first log ++ writes ≡ oldest_first log') (later : (durable_of w.server).epoch ≤ (durable_of n).epoch) (called : AreCalled (durable_of n).epoch outs) where
   served_mirrors : one.Mirrors (served w n outs writes) to log'
   served_mirrors = record {
-    seats = λ c. seat_stays c (w.seats c).last_incarnation (w.seats c).client (of c) (to c) (clients c) (h.seats c);
+    places = λ c. place_stays c (w.places c).last_incarnation (w.places c).client (of c) (to c) (clients c) (h.places c);
     from = λ m i. ⊎_elim (λ (x : In (message.ToServer m) w.sent). stands_stays (of m.client) (to m.client) (grows m.client) m.incarnation m.body (h.from m x))
         (λ (y : In (message.ToServer m) (from_server outs)). absurd (not_from_server m outs y)) (in_both w.sent (from_server outs) (message.ToServer m) i);
     to = λ m i. ⊎_elim (λ (x : In (message.ToClient m) w.sent). sent_stays (of m.client) (to m.client) (grows m.client) m.incarnation m.body (h.to m x))
@@ -70,7 +70,7 @@ up_epoch w h = ap (λ n. (durable_of n).epoch) h.up
 pub same_up : (s t : Server) → Up s ≡ Up t → s ≡ t
 same_up s t e = ap (server_of s) e
   where
-    server_of : Server → ServerNode → Server
+    server_of : Server → ServerPlace → Server
     server_of x (Up y) = y
     server_of x (Down d) = x
 
@@ -204,7 +204,7 @@ module _ (w : FencedWorld) (h : Shown w) (epoch : ℕ) (s : Server) (is : w.old 
 
 -- A client
 
-pub client_shown : (w : FencedWorld) (h : Shown w) (c : ℕ) (x : Seat) (ms : List ToServer) → Leads (shared_of w.world.server) (h.of c) c x.last_incarnation x.client ms → Shown (record w { world = seated w.world c x ms })
+pub client_shown : (w : FencedWorld) (h : Shown w) (c : ℕ) (x : ClientPlace) (ms : List ToServer) → Leads (shared_of w.world.server) (h.of c) c x.last_incarnation x.client ms → Shown (record w { world = seated w.world c x ms })
 client_shown w h c x ms leads =
     let g : Leads (view h.store) (h.of c) c x.last_incarnation x.client ms = subst (λ n. Leads (shared_of n) (h.of c) c x.last_incarnation x.client ms) h.up leads in
     let r = clients_follow (first_of w.world.opening) h.fenced h.store h.of h.log c x.last_incarnation x.client ms h.mirrors g in
@@ -216,7 +216,7 @@ client_shown w h c x ms leads =
       log = h.log;
       mirrors = r.mirrors;
       world = record {
-        seats = λ d. seat_by d r.after r.seat r.others (nat_eq d c) refl;
+        places = λ d. place_by d r.after r.place r.others (nat_eq d c) refl;
         from = λ m i. ⊎_elim (λ (a : In (message.ToServer m) w.world.sent). stands_stays (h.of m.client) (r.after m.client) (r.grows m.client) m.incarnation m.body (h.world.from m a))
             (λ (b : In (message.ToServer m) (from_clients ms)). let at = in_from_clients m ms b in subst (λ d. Stands (r.after d) m.incarnation m.body) (sym (g.mine m at)) (from_stands (r.after c) m.incarnation m.body (r.told m at)))
             (in_both w.world.sent (from_clients ms) (message.ToServer m) i);
@@ -229,6 +229,6 @@ client_shown w h c x ms leads =
       old = λ e y is. let k = h.old e y is in (k.0, r.old.2 y k.2 k.1, k.2);
     }
   where
-    seat_by : (d : ℕ) (after : ℕ → Link) → ShowsSeat c x.last_incarnation x.client (after c) → ((d : ℕ) → d ≢ c → after d ≡ h.of d) → (t : Bool) → nat_eq d c ≡ t → ShowsSeat d (if t then x else w.world.seats d).last_incarnation (if t then x else w.world.seats d).client (after d)
-    seat_by d after seat others true e = subst (λ y. ShowsSeat y x.last_incarnation x.client (after y)) (sym (eqb-true d c e)) seat
-    seat_by d after seat others false e = subst (ShowsSeat d (w.world.seats d).last_incarnation (w.world.seats d).client) (sym (others d (eqb-false d c e))) (h.world.seats d)
+    place_by : (d : ℕ) (after : ℕ → Link) → ShowsPlace c x.last_incarnation x.client (after c) → ((d : ℕ) → d ≢ c → after d ≡ h.of d) → (t : Bool) → nat_eq d c ≡ t → ShowsPlace d (if t then x else w.world.places d).last_incarnation (if t then x else w.world.places d).client (after d)
+    place_by d after place others true e = subst (λ y. ShowsPlace y x.last_incarnation x.client (after y)) (sym (eqb-true d c e)) place
+    place_by d after place others false e = subst (ShowsPlace d (w.world.places d).last_incarnation (w.world.places d).client) (sym (others d (eqb-false d c e))) (h.world.places d)

@@ -5,7 +5,7 @@ use Rattle.krl_messages.specs.declared.to_server.ToServer.{ToServer}
 use Rattle.krl_messages.specs.declared.to_client.ToClient.{ToClient}
 use Rattle.krl_messages.specs.Members.{In}
 use Rattle.krl_client.specs.Clients.{Client, begun}
-use Rattle.krl_refinement.specs.Client.Shows.{ShowsSeat, Leads}
+use Rattle.krl_refinement.specs.Client.Shows.{ShowsPlace, Leads}
 use Rattle.krl_refinement.proofs.Messages.{sent_tells}
 use Rattle.krl_refinement.proofs.Client.Simulation.{start_shows, crash_shows, commands_show, ticks_show_all, messages_show}
 use Rattle.krl_world.specs.declared.message.Message.{Message}
@@ -29,26 +29,26 @@ module _ (w : FencedWorld) (h : Shown w) where
   abbrev To : State → Type 0
   To v = Shown (record w { world = v })
 
-  seat_at : (c : ℕ) (k : Option Client) → client_of w.world c ≡ k → ShowsSeat c (w.world.seats c).last_incarnation k (h.of c)
-  seat_at c k e = subst (λ x. ShowsSeat c (w.world.seats c).last_incarnation x (h.of c)) e (h.world.seats c)
+  place_at : (c : ℕ) (k : Option Client) → client_of w.world c ≡ k → ShowsPlace c (w.world.places c).last_incarnation k (h.of c)
+  place_at c k e = subst (λ x. ShowsPlace c (w.world.places c).last_incarnation x (h.of c)) e (h.world.places c)
 
   -- the client of c goes on as k, or no longer, and sends these
-  on_client : (v : State) (c : ℕ) (k : Option Client) (ms : List ToServer) → Leads (shared_of w.world.server) (h.of c) c (w.world.seats c).last_incarnation k ms → v ≡ with_client w.world c k ms → To v
-  on_client v c k ms g e = subst To (sym e) (client_shown w h c (record { last_incarnation = (w.world.seats c).last_incarnation; client = k }) ms g)
+  on_client : (v : State) (c : ℕ) (k : Option Client) (ms : List ToServer) → Leads (shared_of w.world.server) (h.of c) c (w.world.places c).last_incarnation k ms → v ≡ with_client w.world c k ms → To v
+  on_client v c k ms g e = subst To (sym e) (client_shown w h c (record { last_incarnation = (w.world.places c).last_incarnation; client = k }) ms g)
 
   on_command : (v : State) (c : ℕ) (k : Client) (what : Command) (answer : Answer) → client_of w.world c ≡ Some k → command_refusal k what ≡ None → Obeys w.world c k what answer v → To v
-  on_command v c k (command.Lock point hi m) answer i e d = on_client v c _ _ (commands_show.lock k point hi m e (shared_of w.world.server) (h.of c) c (w.world.seats c).last_incarnation (seat_at c (Some k) i)) d.1
-  on_command v c k (command.Write op) answer i e d = on_client v c _ _ (commands_show.write k op e (shared_of w.world.server) (h.of c) c (w.world.seats c).last_incarnation (seat_at c (Some k) i)) d.1
+  on_command v c k (command.Lock point hi m) answer i e d = on_client v c _ _ (commands_show.lock k point hi m e (shared_of w.world.server) (h.of c) c (w.world.places c).last_incarnation (place_at c (Some k) i)) d.1
+  on_command v c k (command.Write op) answer i e d = on_client v c _ _ (commands_show.write k op e (shared_of w.world.server) (h.of c) c (w.world.places c).last_incarnation (place_at c (Some k) i)) d.1
   on_command v c k (command.Scan lo hi) answer i e d = subst To (sym d.1) h
-  on_command v c k (command.Forget lo hi) answer i e d = on_client v c _ _ (commands_show.forget k (span lo hi) e (shared_of w.world.server) (h.of c) c (w.world.seats c).last_incarnation (seat_at c (Some k) i)) d.1
-  on_command v c k (command.Pin lo hi) answer i e d = on_client v c _ _ (commands_show.pin k (span lo hi) d.0 (shared_of w.world.server) (h.of c) c (w.world.seats c).last_incarnation (seat_at c (Some k) i)) d.3
-  on_command v c k (command.Unpin id) answer i e d = on_client v c _ _ (commands_show.unpin k id (shared_of w.world.server) (h.of c) c (w.world.seats c).last_incarnation (seat_at c (Some k) i)) d.1
-  on_command v c k command.Leave answer i e d = on_client v c _ _ (commands_show.leave k (shared_of w.world.server) (h.of c) c (w.world.seats c).last_incarnation (seat_at c (Some k) i)) d.1
+  on_command v c k (command.Forget lo hi) answer i e d = on_client v c _ _ (commands_show.forget k (span lo hi) e (shared_of w.world.server) (h.of c) c (w.world.places c).last_incarnation (place_at c (Some k) i)) d.1
+  on_command v c k (command.Pin lo hi) answer i e d = on_client v c _ _ (commands_show.pin k (span lo hi) d.0 (shared_of w.world.server) (h.of c) c (w.world.places c).last_incarnation (place_at c (Some k) i)) d.3
+  on_command v c k (command.Unpin id) answer i e d = on_client v c _ _ (commands_show.unpin k id (shared_of w.world.server) (h.of c) c (w.world.places c).last_incarnation (place_at c (Some k) i)) d.1
+  on_command v c k command.Leave answer i e d = on_client v c _ _ (commands_show.leave k (shared_of w.world.server) (h.of c) c (w.world.places c).last_incarnation (place_at c (Some k) i)) d.1
 
   -- a message reaches a client, or is lost
   on_message : (v : State) (m : ToClient) (o : Option Client) → In (message.ToClient m) w.world.sent → client_of w.world m.client ≡ o → ClientReads w.world o m v → To v
   on_message v m None at i d = subst To (sym d) h
-  on_message v m (Some k) at i d = on_client v m.client _ _ (messages_show k d.0 m d.1 (shared_of w.world.server) (h.of m.client) m.client (w.world.seats m.client).last_incarnation (seat_at m.client (Some k) i) (λ own. sent_tells (h.of m.client) m.incarnation m.body (h.world.to m at))) d.2
+  on_message v m (Some k) at i d = on_client v m.client _ _ (messages_show k d.0 m d.1 (shared_of w.world.server) (h.of m.client) m.client (w.world.places m.client).last_incarnation (place_at m.client (Some k) i) (λ own. sent_tells (h.of m.client) m.incarnation m.body (h.world.to m at))) d.2
 
   -- a message reaches the store's server
   on_request : (v : State) (m : ToServer) → In (message.ToServer m) w.world.sent → ServerReads w.world w.world.server m v → To v
@@ -67,7 +67,7 @@ module _ (w : FencedWorld) (h : Shown w) where
 
   on_crash : (v : State) (c : ℕ) (o : Option Client) → client_of w.world c ≡ o → if_runs o (λ k. None) ≡ None → v ≡ with_client w.world c None [] → To v
   on_crash v c None i e d = absurd (cc)
-  on_crash v c (Some k) i e d = on_client v c None [] (crash_shows k (shared_of w.world.server) (h.of c) c (w.world.seats c).last_incarnation (seat_at c (Some k) i)) d
+  on_crash v c (Some k) i e d = on_client v c None [] (crash_shows k (shared_of w.world.server) (h.of c) c (w.world.places c).last_incarnation (place_at c (Some k) i)) d
 
   -- a server that runs does not start
   not_started : server_start w.world.server ≡ None → ⊥
@@ -76,11 +76,11 @@ module _ (w : FencedWorld) (h : Shown w) where
   takes_shown : (s : Step) (answer : Answer) (v : State) → s ≢ step.CrashServer → Takes w.world s answer v → To v
   takes_shown (step.Deliver i) answer v ne t = on_delivery v (message_at w.world.sent i) (λ m. at_in w.world.sent i m) t.1.1
   takes_shown (step.Command c what) answer v ne t = let d = t.1 in on_command v c d.0 what answer d.1 (not_named refused_by_client (command_refusal d.0 what) (runs_ok (client_of w.world c) d.0 _ d.1 (client_ok c _ t.0))) d.2
-  takes_shown (step.Tick c) answer v ne t = let d = t.1 in on_client v c _ _ (ticks_show_all d.1.0 d.1.2.0 d.1.2.1 (shared_of w.world.server) (h.of c) c (w.world.seats c).last_incarnation (seat_at c (Some d.1.0) d.1.1)) d.1.2.2
+  takes_shown (step.Tick c) answer v ne t = let d = t.1 in on_client v c _ _ (ticks_show_all d.1.0 d.1.2.0 d.1.2.1 (shared_of w.world.server) (h.of c) c (w.world.places c).last_incarnation (place_at c (Some d.1.0) d.1.1)) d.1.2.2
   takes_shown (step.Nudge c) answer v ne t = subst To (sym (t.1.1 ∙ ap (λ n. nudged w.world n c) h.up)) (nudged_shown w h c)
   takes_shown (step.StartClient c) answer v ne t =
-      subst To (sym t.1.1) (client_shown w h c (record { last_incarnation = suc (w.world.seats c).last_incarnation; client = Some (begun c (suc (w.world.seats c).last_incarnation)) }) _
-      (start_shows (shared_of w.world.server) (h.of c) c (w.world.seats c).last_incarnation (seat_at c None (not_running (client_of w.world c) _ (client_ok c _ t.0)))))
+      subst To (sym t.1.1) (client_shown w h c (record { last_incarnation = suc (w.world.places c).last_incarnation; client = Some (begun c (suc (w.world.places c).last_incarnation)) }) _
+      (start_shows (shared_of w.world.server) (h.of c) c (w.world.places c).last_incarnation (place_at c None (not_running (client_of w.world c) _ (client_ok c _ t.0)))))
   takes_shown (step.CrashClient c) answer v ne t = on_crash v c (client_of w.world c) refl (client_ok c _ t.0) t.1.1
   takes_shown step.StartServer answer v ne t = absurd (not_started t.0)
   takes_shown step.CrashServer answer v ne t = absurd (ne refl)

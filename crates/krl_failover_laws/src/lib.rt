@@ -1,4 +1,4 @@
-//! The headline over one fenced store, where old servers go on for ever: laws of the code of the
+//! The headline over one fenced store, while old servers go on for ever: laws of the code of the
 //! servers and the clients. Each function has an empty body: its contract is a theorem.
 #![tactic(auto)]
 
@@ -14,14 +14,15 @@ ghost use Rattle.krl_failover_laws.specs.Worlds.{FencedWorld, IsReached, OldGran
 
 /// Whatever old servers do: no two clients hold incompatible parts at one point, each scan that a
 /// client answers from its cache is that range of the store's index, and each numbered write
-/// changed that at most once, and once where its client was told Applied.
+/// changed that at most once, and once if its client was told Applied.
 pub fn headline()
     ensures { (w : FencedWorld) → IsReached w → Headline w.world }
 {}
 
 /// And on no message that was sent does the store's server say Alarm.
 pub fn no_alarm()
-    ensures { (w : FencedWorld) → IsReached w → (s : Server) → w.world.server ≡ Up s → (m : ToServer)
+    ensures { (w : FencedWorld) → IsReached w → (s : Server) → w.world.server ≡ Up s
+        → (m : ToServer)
         → In (message.ToServer m) w.world.sent → alarms s m ≡ false }
 {}
 

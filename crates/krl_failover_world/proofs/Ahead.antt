@@ -7,7 +7,7 @@ use Rattle.krl_machine.proofs.Links.{not_both}
 use Rattle.krl_failover.proofs.Reached.{fenced_inv}
 use Rattle.krl_failover_world.proofs.Beside.{SameRow}
 
--- The bound of one client, while nobody serves: it is as before, or blank, where the client is gone
+-- The bound of one client, while nobody serves: it is as before, or blank, if the client is gone
 
 pub record RowAhead (l m : Link) : Type 0 where
   pub reg : l.reg ≤ m.reg

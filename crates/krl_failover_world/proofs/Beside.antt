@@ -11,7 +11,7 @@ store_part l = server_part (record l { top_range = no_range; top_key = no_key })
 abbrev pub SameRow : Link → Link → Type 0
 SameRow l m = (m.top_range ≡ l.top_range) × (m.top_key ≡ l.top_key)
 
--- all but messages to clients, what the old server of the epoch e keeps, and the bound, which changes only where it is its
+-- all but messages to clients, what the old server of the epoch e keeps, and the bound, which changes only if it is its
 -- table, of clients that are here
 pub record Beside (e : ℕ) (f g : Fenced) : Type 0 where
   pub shared : g.world.shared ≡ f.world.shared

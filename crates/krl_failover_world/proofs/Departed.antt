@@ -14,7 +14,7 @@ use Rattle.krl_durable.specs.Registers.{Register, with_record, new_record, left_
 use Rattle.krl_durable.specs.Writes.{noted, applied_by}
 use Rattle.krl_table.specs.Rows.{blank_row, set_mode}
 use Rattle.krl_table.specs.Calls.{with_queue, wanted, behind_first, dropped, lowered, cleared, split, merged, mode_beside}
-use Rattle.krl_table.specs.Grants.{taken, granted, most_more}
+use Rattle.krl_table.specs.Grants.{taken, granted, max_more}
 use Rattle.krl_table.specs.Replies.{asks_absent}
 use Rattle.krl_table.specs.Reports.{adopted}
 use Rattle.krl_table.proofs.Invariant.Compatible.{mode_here, mode_other}
@@ -123,13 +123,13 @@ module _ (s : Server) (i : IsSound s) (n : ℕ) (u : Waiter) (us : List Waiter) 
 
   granted_waits : (k : ℕ) (v : Waiter) → In v (granted s.durable.index s.rows n k).queue → In v (s.rows k).queue
   granted_waits k v = subst (λ (r : Rows). In v (r k).queue → In v (s.rows k).queue) (sym (granted_is s.durable.index s.rows n u us queue))
-      (along s.durable.index u (λ r. In v (r k).queue → In v (s.rows k).queue) n (λ r j far there fits less at. less (subst (In v) (raised_queue r j u k) at)) most_more n (set_row s.rows n grant_row) (omega arith) (stayed_on s i n u us queue grant_row refl k v))
+      (along s.durable.index u (λ r. In v (r k).queue → In v (s.rows k).queue) n (λ r j far there fits less at. less (subst (In v) (raised_queue r j u k) at)) max_more n (set_row s.rows n grant_row) (omega arith) (stayed_on s i n u us queue grant_row refl k v))
 
   granted_others : StayEmpty s.rows (granted s.durable.index s.rows n) u.client
   granted_others = subst (λ r. StayEmpty s.rows r u.client) (sym (granted_is s.durable.index s.rows n u us queue))
       (along s.durable.index u (λ r. StayEmpty s.rows r u.client) n
       (λ r j far there fits stay d ne none k. sym (raised_others r j u d ne k) ∙ stay d ne none k)
-      most_more n (set_row s.rows n grant_row) (omega arith)
+      max_more n (set_row s.rows n grant_row) (omega arith)
       (λ d ne none k. sym (row_modes s.rows n grant_row d (sym (mode_other (s.rows n).modes u.client d (wanted (s.rows n) u) ne)) k) ∙ none k))
 
   dropped_empty : AreEmpty s → EmptyIn s.durable.register (dropped s.rows n)
@@ -171,6 +171,6 @@ ends_empty done kind t outs (at_once e) i here h = h
 ends_empty done kind t outs (recovers e) i here h = h
 ends_empty done kind t outs (serves t' answers a b c) i here h = answered_empty done.server t answers c i here h
 
--- after a message, where whoever waits after its case has not left
+-- after a message, if whoever waits after its case has not left
 pub step_empty : (s t : Server) (m : ToServer) (outs : List ToClient) → IsSound s → AreHere (effect s m (case_of s m)).server → ServerStep s m t outs → AreEmpty s → AreEmpty t
 step_empty s t m outs i here step h = ends_empty (effect s m (case_of s m)) (kind_of (case_of s m)) t outs step (effect_sound s m i) here (effect_empty s m h)

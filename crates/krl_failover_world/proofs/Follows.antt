@@ -14,7 +14,7 @@ use Rattle.krl_server.specs.Servers.{Server}
 use Rattle.krl_server.proofs.Points.{blank_range, blank_key}
 use Rattle.krl_server.specs.Steps.{nudge}
 use Rattle.krl_server.proofs.Invariant.RowsSound.{start_sound}
-use Rattle.krl_refinement.specs.Client.Shows.{Grows, IsFrom, ShowsSeat}
+use Rattle.krl_refinement.specs.Client.Shows.{Grows, IsFrom, ShowsPlace}
 use Rattle.krl_refinement.specs.Server.AsLinks.{IsRecord, Shows, machine_phase, view, world_of}
 use Rattle.krl_refinement.specs.Server.Simulation as krl_refinement
 use Rattle.krl_refinement.proofs.Server.Follows.{up_phase}
@@ -145,7 +145,7 @@ clients_follow first f s of log c greatest k ms h x =
         empty = h.empty;
         blank = λ d left q. let p = h.blank d (sym (ap (λ y. y.left) (part d)) ∙ left) q in (ap (λ y. y.top_range q) (part d) ∙ p.0, ap (λ y. y.top_key q) (part d) ∙ p.1);
       };
-      seat = subst (ShowsSeat c greatest k) (sym ch.here) x.seat;
+      place = subst (ShowsPlace c greatest k) (sym ch.here) x.place;
       told = λ m at. subst (λ l. IsFrom l m.incarnation m.body) (sym ch.here) (x.told m at);
       grows = grows;
       others = ch.rest;

@@ -38,7 +38,7 @@ pub record_stays : (o : Option Record) (y z : Kept) → z.reg ≡ y.reg → z.do
 record_stays None y z a b d h = record { reg = a ∙ h.reg; done = b ∙ h.done }
 record_stays (Some r) y z a b d h = record { reg = a ∙ h.reg; done = λ n. b ∙ h.done n; applied = λ o n e. d ∙ h.applied o n e }
 
--- the others are shown as before, where one session is another
+-- the others are shown as before, if one session is another
 pub rest_stays : (s : Server) (f : Fenced) (c : ℕ) (x : Session) → ShowsOld s f → ShowsRest s (with_session s c x) f c
 rest_stays s f c x h = record {
   count = λ d ne. subst (λ y. CountsAre s.durable.epoch (record_of s.durable.register d) y (f.world.links d) (f.old s.durable.epoch d)) (sym (session_other s.sessions c d x ne)) (h.link d);

@@ -104,7 +104,7 @@ module _ (s : Server) (of after : ℕ → Link) (g : Fenced) (h : Shows s of) (k
     was_rebuilt rec c = let k = h.link c in shown_by (λ l z. RebuiltIs l z (lists s.missing c) (range_at s.durable.index s.rows c) (key_at s.durable.index s.rows c)) c
         (record { missing = k.missing; new = λ q. (k.new_range rec q, k.new_key rec q); gone = gone_blank c })
 
--- where nobody is missing it serves at once
+-- if nobody is missing it serves at once
 begins_with : (bound : ℕ) (old : ℕ → ℕ → Kept) (copy : ℕ → ℕ → Option Value) (s : Server) (of : ℕ → Link) (log : List Logged) (ms : List ℕ) → ((c : ℕ) → IsMissing (of c) (lists ms c)) → Shows s of → (((view s).phase ≡ Serving) × (bound ≡ s.durable.epoch)) ⊎ (((view s).phase ≡ Recovering) × (bound < s.durable.epoch)) → Begins (at_first bound old copy s of log) s (started_with s.durable ms) of log
 begins_with bound old copy s of log [] miss h phase =
     let f = at_first bound old copy s of log in

@@ -67,7 +67,7 @@ module _ (first : ℕ → Option Value) (f : Fenced) (reached : FencedReachable 
   rec_of : f.bound < f.world.shared.epoch → f.world.shared.phase ≡ Recovering
   rec_of lt = phase_recovers f.world.shared f.bound (fenced_inv first END f reached).phase lt
 
-  -- the links change at c, where no message goes
+  -- the links change at c, if no message goes
   links_ahead : (c : ℕ) (l : Link) (links : ℕ → Link) → Changed f.world.links links c l → Grows (f.world.links c) l → (d : ℕ) → Grows (f.world.links d) (links d)
   links_ahead c l links ch g d = link_at ch d (λ m. Grows (f.world.links d) m) (λ e. subst (λ x. Grows (f.world.links x) l) (sym e) g) (λ ne. grows_not (f.world.links d))
 

@@ -19,7 +19,7 @@ use Rattle.krl_server.specs.Cases.{case_of}
 use Rattle.krl_server.specs.Steps.{ServerStep, alarms, nudge, crash, start, can_start}
 use Rattle.krl_server.specs.Soundness.{IsSound}
 use Rattle.krl_refinement.specs.Messages.{Stands, WasSent}
-use Rattle.krl_refinement.specs.Client.Shows.{Grows, IsFrom, Leads, ShowsSeat}
+use Rattle.krl_refinement.specs.Client.Shows.{Grows, IsFrom, Leads, ShowsPlace}
 use Rattle.krl_refinement.specs.Server.AsLinks.{Shows, logged, view, world_of}
 use Rattle.krl_failover.specs.Fenced.{Fenced, kept_of}
 use Rattle.krl_failover.specs.Steps.{FencedReachable, FencedSteps}
@@ -34,7 +34,8 @@ abbrev pub AreEmpty : Server → Type 0
 AreEmpty s = (c : ℕ) (r : Record) → record_of s.durable.register c ≡ Some r → r.left ≡ true → HoldsNothing s.rows c
 
 -- the world can be reached, and the store's server is s, which shows in these links
-pub record Mirrors (first : ℕ → Option Value) (f : Fenced) (s : Server) (of : ℕ → Link) (log : List Logged) : Type 0 where
+pub record Mirrors
+    (first : ℕ → Option Value) (f : Fenced) (s : Server) (of : ℕ → Link) (log : List Logged) : Type 0 where
   pub reached : FencedReachable first END f
   pub world : f.world ≡ world_of s of log
   pub shows : Shows s of
@@ -60,7 +61,7 @@ pub record IsFenced (f g : Fenced) (s : Server) (of : ℕ → Link) : Type 0 whe
 
 -- The store's server
 
--- the machine goes on to a world that shows the server t, where these messages stand
+-- the machine goes on to a world that shows the server t, if these messages stand
 pub record Follows (first : ℕ → Option Value) (f : Fenced) (of : ℕ → Link) (t : Server) (outs : List ToClient)
     (log_after : List Logged) : Type 0 where
   pub fenced : Fenced
@@ -90,14 +91,14 @@ pub record StoreFollows : Type 0 where
 
 -- Clients
 
--- the machine goes on to a world in which the client of c shows this seat, and these messages of it stand
+-- the machine goes on to a world in which the client of c shows this place, and these messages of it stand
 pub record ClientFollows (first : ℕ → Option Value) (f : Fenced) (s : Server) (of : ℕ → Link) (log : List Logged)
     (c greatest : ℕ) (k : Option Client) (ms : List ToServer) : Type 0 where
   pub fenced : Fenced
   pub after : ℕ → Link
   pub steps : FencedSteps f fenced
   pub mirrors : Mirrors first fenced s after log
-  pub seat : ShowsSeat c greatest k (after c)
+  pub place : ShowsPlace c greatest k (after c)
   pub told : (m : ToServer) → In m ms → IsFrom (after c) m.incarnation m.body
   pub grows : (d : ℕ) → Grows (of d) (after d)
   pub others : (d : ℕ) → d ≢ c → after d ≡ of d

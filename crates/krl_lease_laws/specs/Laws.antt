@@ -4,7 +4,7 @@ use Rattle.krl_messages.specs.Values.{Value}
 use Rattle.krl_durable.specs.Index.{range}
 use Rattle.krl_steps.specs.declared.step.Step.TheVariants as step
 use Rattle.krl_steps.specs.declared.step.Command.TheVariants as command
-use Rattle.krl_steps.specs.declared.answer.Answer.TheVariants as told
+use Rattle.krl_steps.specs.declared.answer.Answer.TheVariants as answered
 use Rattle.krl_world.specs.Promises.{Headline}
 use Rattle.krl_world.specs.States.{index_of}
 use Rattle.krl_world.specs.Steps.{Steps, IsReachable}
@@ -17,7 +17,7 @@ use Rattle.krl_lease_laws.specs.Leased.{Machines, AllAgree, clocks_of, Leased, E
 -- it was evicted, they may be any
 abbrev pub Reads : Leased → ℕ → ℕ → ℕ → ℕ → List (ℕ × Value) → Type 0
 Reads w c i lo hi rows =
-    (IsRunning w.world c i × Steps w.world (step.Command c (command.Scan lo hi)) (Ok (told.Rows rows)) w.world)
+    (IsRunning w.world c i × Steps w.world (step.Command c (command.Scan lo hi)) (Ok (answered.Rows rows)) w.world)
     ⊎ ((w.leases c i).standing ≡ Evicted)
 
 -- its check of the clock succeeds

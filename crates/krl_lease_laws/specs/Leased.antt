@@ -22,7 +22,7 @@ abbrev pub AllAgree : Limits → Machines → Type 0
 AllAgree limits m = (c : ℕ) → Agree limits (clocks_of m c)
 
 -- Each incarnation of each client has a lease. Its account of the servers is its own, so more may happen to leases here
--- than where all speak of the same servers
+-- than if all speak of the same servers
 pub record Leased : Type 0 where
   pub world : State
   pub leases : ℕ → ℕ → Lease  -- by client number and incarnation

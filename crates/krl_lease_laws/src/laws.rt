@@ -2,7 +2,7 @@
 ghost use Rattle.krl_lease_laws.specs.Laws.{ScansAreIndex, WorldsAreReached};
 
 /// What a process reads, and hands over behind a check of its lease, is that range of the server's
-/// index at the moment when it was read: also where the process runs on after its eviction, of
+/// index at the moment when it was read: even if the process runs on after its eviction, of
 /// which it knows nothing.
 pub fn scans_are_index()
     ensures { ScansAreIndex }

@@ -33,5 +33,6 @@ one_clock = record { client = λ x. x; server = λ x. x }
 
 abbrev pub EvictsSomewhere : Type 0
 EvictsSomewhere =
-    (es fs : List Event) × (v w : State) × Agree at_most one_clock × Runs at_most one_clock begun es v × Answers one_clock v
+    (es fs : List Event) × (v w : State) × Agree at_most one_clock × Runs at_most one_clock begun es v
+    × Answers one_clock v
     × Runs at_most one_clock v fs w × (w.standing ≡ Evicted)

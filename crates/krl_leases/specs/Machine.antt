@@ -21,7 +21,7 @@ pub record Grant : Type 0 where
 pub record Server : Type 0 where
   pub terms : Terms
   pub old : Until  -- the end of older servers' leases
-  pub until : Until  -- the client's, where the incarnation is registered
+  pub until : Until  -- the client's, if the incarnation is registered
 
 pub data Standing : Type 0 where
   Unknown : Standing
@@ -137,7 +137,7 @@ started clocks w terms =
 abbrev pub kept_anew : Clocks → State → Server → State
 kept_anew clocks w s = record w { kept = revised w.kept s.terms s.old s.until (clocks.server w.now) }
 
--- What may happen, and what it leaves. The client says a Hello only where it took terms on this connection. A server
+-- What may happen, and what it leaves. The client says a Hello only if it took terms on this connection. A server
 -- answers no incarnation that it evicted
 
 abbrev pub Goes : Limits → Clocks → State → Event → State → Type 0

@@ -61,7 +61,7 @@ impl Kept {
         self.old_end(terms, now)
     }
 
-    /// What may be stored from now on, where `old` is the end of older leases and `until` the
+    /// What may be stored from now on. `old` is the end of older leases, and `until` is the
     /// client's.
     pub fn revise(self, terms: Terms, old: Until, until: Until, now: u64) -> Kept
         ensures { result ≡ servers.revised self terms old until now }

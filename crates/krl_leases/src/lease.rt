@@ -38,7 +38,7 @@ impl Lease {
     }
 
     /// Takes a server's terms: the lease runs from the moment `stamp` of the sign that they answer,
-    /// however long they were on their way. Nothing changes where the lease has ended, or where no
+    /// however long they were on their way. Nothing changes if the lease has ended, or if no
     /// later sign than the last one is answered.
     pub fn take_terms(&mut self, stamp: u64, length: u64, now: u64)
         ensures { self.new ≡ with_terms self.old stamp length now }

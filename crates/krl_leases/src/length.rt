@@ -8,13 +8,13 @@ pub const FOR_EVER: u64 = u64::MAX;
 /// What a server grants.
 #[derive(Clone, Copy, Debug, PartialEq, Eq)]
 pub struct Terms {
-    /// The length of each lease, in nanoseconds: `FOR_EVER` where the server has no leases.
+    /// The length of each lease, in nanoseconds: `FOR_EVER` if the server has no leases.
     pub length: u64,
     /// How much further the server's clock may go than a client's meanwhile, in a hundred.
     pub drift: u32,
 }
 
-/// A length with the drift, rounded up; `FOR_EVER` where that is too much for a number.
+/// A length with the drift, rounded up; `FOR_EVER` if that is too much for a number.
 #[tactic(auto, unfolding(crate::specs::Lengths::stretched))]
 fn stretched(length: u64, drift: u32) -> u64
     ensures { result ≡ min (lengths.stretched drift length) FOR_EVER }

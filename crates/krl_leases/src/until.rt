@@ -62,7 +62,7 @@ impl Until {
         }
     }
 
-    /// Whether the Hello of another incarnation may be handed to the server now, where this is the
+    /// Whether the Hello of another incarnation may be handed to the server now. This is the
     /// registered one's.
     pub fn hears(self, asks: TakeOver, now: u64) -> bool
         ensures { result ≡ servers.is_heard self asks now }

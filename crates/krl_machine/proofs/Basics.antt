@@ -74,7 +74,7 @@ LiveAt s l q t = record {
   known : IsTrueOf s q t;
 }
 
--- and where it answers the outstanding write, it speaks of the key
+-- and if it answers the outstanding write, it speaks of the key
 abbrev pub LiveOk : Shared → Link → Push → Type 0
 LiveOk s l p = record {
   says : (q : ℕ) (t : Said) → p.says q ≡ Some t → LiveAt s l q t;

@@ -27,7 +27,7 @@ passing s l a st c at ok same =
 pub live_registered : (s : Shared) (l : Link) (p : Push) → Standing s l → Counting s l → In p l.pushes → IsLive l p → l.inc ≡ l.reg
 live_registered s l p st c at live = let low : p.inc ≤ l.reg = (c.pushes p at).reg in omega (arith, live.inc, st.reg)
 
--- where the server counts all pushes as seen, none is live
+-- if the server counts all pushes as seen, none is live
 pub none_live : (s : Shared) (l : Link) (a : Head) (p : Push) → Standing s l → Counting s l → In a l.heads → Passes s l a → In p l.pushes → IsLive l p → ⊥
 none_live s l a p st c ha ok at live =
     let same = live_registered s l p st c at live in

@@ -41,7 +41,7 @@ insert_applies s l k v index old new near shows lt absent at rest may part x oth
     (split_here s near k v index old new lt absent at rest part others ∙ x)
     (λ q ne. split_key s near k v index old new lt absent at rest part others q ne ∙ sym (shows.key q))
 
--- and the row of each other client stays, where its new slot has its old range part and no key part
+-- and the row of each other client stays, if its new slot has its old range part and no key part
 pub insert_aside : (s : Shared) (l : Link) (k : ℕ) (v : Value) (index : ℕ → Option Value) (old new : ℕ → Mode) → KeysNear s → Shows s l old → k < s.end → s.index k ≡ None → index k ≡ Some v → ((q : ℕ) → q ≢ k → index q ≡ s.index q) → reads (range_at s old k) ≡ 0 → (range_of (new k)) ≡ range_at s old k → (key_of (new k)) ≡ key.N → ((n : ℕ) → n ≢ k → (range_of (new n) ≡ range_of (old n)) × (key_of (new n) ≡ key_of (old n))) → Shows (record s { index = index }) l new
 insert_aside s l k v index old new near shows lt absent at rest quiet part none others = record {
   range = λ q. shows.range q ∙ sym (split_range s near k v index old new lt absent at rest part others q);

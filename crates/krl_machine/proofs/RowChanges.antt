@@ -52,7 +52,7 @@ module _ (s : Shared) (r : Report) (ranges : ℕ → RangePart) (keys : ℕ → 
       (λ (far : s.end < q). let p = built.row.past q far in blank_below (ranges q) (keys q) (tr q) (tk q) p.0 p.1)
       (λ (near : q ≤ s.end). let n = slot_of_point s (s.end - q) q (omega arith) in low_at q n.0 n.1 n.2) (cases_lt s.end q)
 
--- and at least any parts that the report is at least, where these are within a row
+-- and at least any parts that the report is at least, if these are within a row
 
 module _ (s : Shared) (r : Report) (ranges : ℕ → RangePart) (keys : ℕ → KeyPart) (tr : ℕ → RangePart) (tk : ℕ → KeyPart) (built : IsRebuilt s r ranges keys) (top : IsRow s tr tk)
     (br : ℕ → RangePart) (bk : ℕ → KeyPart) (off : (q : ℕ) (g : RangePart) → q ≢ s.end → s.index q ≡ None → RangeAtMost (br q) g → KeyAtMost (bk q) (off_slot g))

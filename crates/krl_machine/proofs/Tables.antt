@@ -233,7 +233,7 @@ release_lowers s near r l old new rt kt n slot (inr low) = cut low.0
 near_changed : (s : Shared) (near : KeysNear s) (k : ℕ) (index : ℕ → Option Value) → k < s.end → ((q : ℕ) → q ≢ k → index q ≡ s.index q) → KeysNear (record s { index = index })
 near_changed s near k index lt rest q le = rest q (λ e. omega (arith, e, lt, le)) ∙ near q le
 
--- a split at k, where the new slot's range part is the old one there: no range part changes, and of the key parts only that at k
+-- a split at k, if the new slot's range part is the old one there: no range part changes, and of the key parts only that at k
 module _ (s : Shared) (near : KeysNear s) (k : ℕ) (v : Value) (index : ℕ → Option Value) (old new : ℕ → Mode) (lt : k < s.end) (absent : s.index k ≡ None) (at : index k ≡ Some v) (rest : (q : ℕ) → q ≢ k → index q ≡ s.index q) (part : (range_of (new k)) ≡ range_at s old k) (others : (n : ℕ) → n ≢ k → (range_of (new n) ≡ range_of (old n)) × (key_of (new n) ≡ key_of (old n))) where
   grown : Shared
   grown = record s { index = index }
@@ -267,7 +267,7 @@ module _ (s : Shared) (near : KeysNear s) (k : ℕ) (v : Value) (index : ℕ →
   pub split_here : key_at (record s { index = index }) new k ≡ key_of (new k)
   split_here = key_slot (record s { index = index }) (near_changed s near k index lt rest) new k (λ far none. none-some v (sym none ∙ at))
 
--- a merge of k into the next slot, where both have the same range part and k's key part is what that part gives: no range part and no key part changes
+-- a merge of k into the next slot, if both have the same range part and k's key part is what that part gives: no range part and no key part changes
 module _ (s : Shared) (near : KeysNear s) (k : ℕ) (u : Value) (index : ℕ → Option Value) (modes : ℕ → Mode) (lt : k < s.end) (present : s.index k ≡ Some u) (at : index k ≡ None) (rest : (q : ℕ) → q ≢ k → index q ≡ s.index q) (same : range_at s modes k ≡ range_at s modes (suc k)) (x : key_at s modes k ≡ off_slot (range_at s modes k)) where
   slot_less : (n : ℕ) → IsSlot (record s { index = index }) n → IsSlot s n
   slot_less n slot far none = eq_cases n k (λ e. none-some u (sym none ∙ ap s.index e ∙ present)) (λ ne. slot far (rest n ne ∙ none))

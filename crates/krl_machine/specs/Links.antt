@@ -41,7 +41,7 @@ pub record Notice : Type 0 where
   pub inc : ℕ
   pub epoch : ℕ
 
--- what is said of one point: a part of the gap around it, a part of the key at it, and the value there, where it is
+-- what is said of one point: a part of the gap around it, a part of the key at it, and the value there, if it is
 -- read
 pub record Said : Type 0 where
   pub range : RangePart
@@ -148,11 +148,11 @@ IsLive l p = record { up : l.up ≡ true; inc : p.inc ≡ l.inc; epoch : p.epoch
 abbrev pub belief : Link → ℕ → Said
 belief l q = record { range = l.range q; key = l.key q; value = l.value q }
 
--- and after it accepted the push: what that says of q, where it speaks of it
+-- and after it accepted the push: what that says of q, if it speaks of it
 abbrev pub adopted : Link → Push → ℕ → Said
 adopted l p q = unwrap_or (p.says q) (belief l q)
 
--- the outstanding write after an accepted push: gone, where the push answers it
+-- the outstanding write after an accepted push: gone, if the push answers it
 abbrev pub OutAfter : Link → Push → Option Op → Type 0
 OutAfter l p out = ((p.answers ≡ l.issued) × (out ≡ None)) ⊎ ((p.answers ≢ l.issued) × (out ≡ l.out))
 
@@ -189,7 +189,7 @@ pub record Passes (s : Shared) (l : Link) (a : Head) : Type 0 where
 abbrev pub IsSlot : Shared → ℕ → Type 0
 IsSlot s n = n ≢ s.end → s.index n ≢ None
 
--- what the server may say of the point q: the row's range part; at a slot also the row's key part, and the entry where
+-- what the server may say of the point q: the row's range part; at a slot also the row's key part, and the entry if
 -- it is read; at any other point no key part
 pub data MaySay (s : Shared) (l : Link) (q : ℕ) (t : Said) : Type 0 where
   at_slot : IsSlot s q → t.range ≡ l.top_range q → t.key ≡ l.top_key q →
@@ -206,7 +206,7 @@ pub record AnswersLast (l : Link) (p : Push) : Type 0 where
   pub applied : p.applied ≡ l.applied
   pub speaks : p.says (op_key write.op) ≢ None
 
--- where n is a slot: q lies in its span, which is n and the points below it down to the slot before
+-- if n is a slot: q lies in its span, which is n and the points below it down to the slot before
 abbrev pub InSpan : Shared → ℕ → ℕ → Type 0
 InSpan s n q = (q ≤ n) × ((k : ℕ) → q ≤ k → k < n → (s.index k ≡ None) × (k ≢ s.end))
 
@@ -221,7 +221,7 @@ IsRow s ranges keys = record {
   off : (q : ℕ) → q ≢ s.end → s.index q ≡ None → keys q ≡ off_slot (ranges q);
 }
 
--- the new row at the slot n is the old one, or that lowered by the release, where the whole span lies in it
+-- the new row at the slot n is the old one, or that lowered by the release, if the whole span lies in it
 pub data SlotLowered (s : Shared) (r : Release) (l : Link) (range : ℕ → RangePart) (key : ℕ → KeyPart)
     (n : ℕ) : Type 0 where
   kept : ((q : ℕ) → InSpan s n q → (range q ≡ l.top_range q) × (key q ≡ l.top_key q)) → SlotLowered s r l range key n
@@ -294,7 +294,7 @@ pub data LinkStep (s : Shared) (l : Link) : Link → Type 0 where
         heads = r.head ∷ l.heads;
         releases = r ∷ l.releases;
       })
-  -- it issues its next write, where none is outstanding
+  -- it issues its next write, if none is outstanding
   issues : (op : Op) → l.up ≡ true → 1 ≤ l.epoch → l.out ≡ None → MayIssue l op →
       LinkStep s l (record l {
         client = record l.client { issued = suc l.issued; out = Some op };

@@ -14,7 +14,7 @@ abbrev pub first_of_two : Option Value → ℕ → ℕ → ℕ
 first_of_two None here later = later
 first_of_two (Some v) here later = here
 
--- the least slot at or above q, where END is d above q
+-- the least slot at or above q, if END is d above q
 abbrev pub slot_from : (ℕ → Option Value) → ℕ → ℕ → ℕ
 slot_from index zero q = q
 slot_from index (suc d) q = first_of_two (index q) q (slot_from index d (suc q))
@@ -31,7 +31,7 @@ abbrev pub key_or_off : Option Value → KeyPart → RangePart → KeyPart
 key_or_off None here gap = off_slot gap
 key_or_off (Some v) here gap = here
 
--- the key part of the mode there, where the point is a slot
+-- the key part of the mode there, if the point is a slot
 unfoldable pub key_at : Shared → (ℕ → Mode) → ℕ → KeyPart
 key_at s modes q =
     if q == s.end then key_of (modes q)

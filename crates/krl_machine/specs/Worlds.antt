@@ -308,7 +308,7 @@ pub record Restarts (w : World) : Type 0 where
       RangeAtMost ((w.links c).range q) ((w.links c).new_range q)
       × KeyAtMost ((w.links c).key q) ((w.links c).new_key q)
 
--- the bound of a client after a step to a moment at which nobody serves: as before, or blank, where it was registered
+-- the bound of a client after a step to a moment at which nobody serves: as before, or blank, if it was registered
 -- anew or left
 pub data BoundAfter (l m : Link) : Type 0 where
   stays : ((q : ℕ) → (m.top_range q ≡ l.top_range q) × (m.top_key q ≡ l.top_key q)) → BoundAfter l m

@@ -10,7 +10,8 @@ ghost use Rattle.krl_modes.specs.declared.mode.Mode.{Mode};
 ghost use Rattle.krl_modes.specs.declared.point.TheConstants.{END};
 ghost use Rattle.krl_modes.specs.Parts.{range_at_most, key_at_most, ranges_compatible};
 ghost use Rattle.krl_modes.specs.Parts.{keys_compatible};
-ghost use Rattle.krl_modes.specs.Modes.{range_of, key_of, at_or_above, mode_of};
+ghost use Rattle.krl_modes.specs.Modes.{range_of, key_of, at_or_above};
+ghost use Rattle.krl_modes.specs.Names.{mode_of};
 ghost use Rattle.krl_messages.specs.Values.{Value};
 ghost use Rattle.krl_machine.specs.Modes.{RangeAtMost, KeyAtMost, RangesAgree, KeysAgree, IsMode};
 ghost use Rattle.krl_machine.specs.Worlds.{World, Step, Reachable, IsCompatible, IsBounded};
@@ -60,7 +61,7 @@ pub fn no_alarm()
     ensures { (index : ℕ → Option Value) (end : ℕ) (w : World) → Reachable index end w → NoAlarm w }
 {}
 
-/// Each numbered write changed the index at most once, and once where its client was told so.
+/// Each numbered write changed the index at most once, and once if its client was told so.
 pub fn once()
     ensures { (index : ℕ → Option Value) (end : ℕ) (w : World) → Reachable index end w
         → WritesOnce index w }

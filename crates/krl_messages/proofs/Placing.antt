@@ -4,10 +4,10 @@ use Rattle.std.proofs.Math.Seq.{set-append_seam}
 use Rattle.std.proofs.lemmas.List.{take_more_set}
 use Rattle.krl_messages.specs.declared.holding.Holding.{Holding}
 use Rattle.krl_messages.specs.declared.holdings.Holdings.TheInside.{Inside}
-use Rattle.krl_messages.specs.Several.{most_holdings, Ascend, places}
+use Rattle.krl_messages.specs.Ascending.{max_holdings, Ascend, places}
 use Rattle.krl_messages.specs.Places.{AreHoldings}
 
-module _ (items : List Holding) (len : ℕ) (h : Holding) (room : len < most_holdings) where
+module _ (items : List Holding) (len : ℕ) (h : Holding) (room : len < max_holdings) where
   abbrev new : List Holding
   new = set items len h
 

@@ -15,6 +15,6 @@ abbrev pub same : Bool → Bool → Bool
 same true b = b
 same false b = not b
 
--- the value is there exactly where the key part reads the entry and the slot is not END
+-- the value is there exactly if the key part reads the entry and the slot is not END
 abbrev pub has_its_value : Holding → Bool
 has_its_value h = same (is_some h.value) (reads_key (key_of h.mode) && not (ends_at_end h.span))

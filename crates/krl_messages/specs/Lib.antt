@@ -1,4 +1,7 @@
+pub mod Outcomes
+pub mod Ascending
 pub mod Values
+pub mod Numbers
 pub mod Padded
 pub mod Holdings
 pub mod Several

@@ -13,8 +13,8 @@ pub struct Holding {
     pub span: Span,
     /// The client's mode there: its range part covers the whole span, its key part the last point.
     pub mode: Mode,
-    /// The entry's value. It is present exactly where the key part is at least S and the slot is
-    /// not END; a client ignores a push that breaks this rule, which is this project's own.
+    /// The entry's value. It is present exactly if the key part is at least S and the slot is
+    /// not END. A client ignores a push that breaks this rule.
     pub value: Option<Value>,
 }
 
@@ -26,7 +26,7 @@ impl Holding {
         self.span.last()
     }
 
-    /// Whether the value is there exactly where it has to be: where the key part is at least S and
+    /// Whether the value is there exactly if it has to be: if the key part is at least S and
     /// the slot is not END.
     pub fn has_its_value(self) -> bool
         ensures { result ≡ has_its_value self }

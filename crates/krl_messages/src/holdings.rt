@@ -1,19 +1,18 @@
 //! What a client holds of several slots.
 ghost use Rattle.std.specs.Prelude.{◌≡◌, ◌<◌, ◌≤◌, [], ◌∷◌, ◌++◌, length};
-ghost use Rattle.krl_messages.specs.Several.{Ascend, have_values, most_holdings};
+ghost use Rattle.krl_messages.specs.Ascending.{Ascend, max_holdings};
+ghost use Rattle.krl_messages.specs.Several.{have_values};
 
 use crate::holding::Holding;
+use krl_modes::MAX_HOLDINGS;
 use std::marker::Model;
-
-/// How many holdings one message can carry.
-pub const MOST_HOLDINGS: usize = 8;
 
 /// What the server's table gives a client of 1 to 8 slots, in ascending order, no point twice. It
 /// takes no memory.
 #[derive(Clone, Copy, PartialEq, Eq)]
 pub struct Holdings {
     // The places behind the last holding hold the first one, so that equal lists are equal values.
-    items: [Holding; 8],
+    items: [Holding; MAX_HOLDINGS],
     len: usize,
 }
 
@@ -27,7 +26,7 @@ impl Model for Holdings {
 
     ghost coded = { coded_list holding.the_row.coded };
 
-    ghost use Rattle.krl_messages.specs.Several.{places};
+    ghost use Rattle.krl_messages.specs.Ascending.{places};
     ghost use Rattle.krl_messages.specs.Places.{AreHoldings, inverse_is};
 
     ghost view = { λ h. take h.len h.items };
@@ -57,14 +56,14 @@ impl Holdings {
         ensures { result ≡ holding ∷ [] }
     {
         Holdings {
-            items: [holding; 8],
+            items: [holding; MAX_HOLDINGS],
             len: 1,
         }
     }
 
     /// Puts the holding of a slot behind all others.
     pub fn push(&mut self, holding: Holding)
-        requires room { length self.old < most_holdings }
+        requires room { length self.old < max_holdings }
         requires order { Ascend (self.old ++ holding ∷ []) }
         ensures { self.new ≡ self.old ++ holding ∷ [] }
     {
@@ -82,7 +81,7 @@ impl Holdings {
     /// The holdings, in order: 1 to 8.
     pub fn as_slice(&self) -> &[Holding]
         ensures holdings { result.now ≡ self.now }
-        ensures few { (1 ≤ length self.now) × (length self.now ≤ most_holdings) }
+        ensures few { (1 ≤ length self.now) × (length self.now ≤ max_holdings) }
         ensures ascend { Ascend self.now }
     {
         &self.items[..self.len]

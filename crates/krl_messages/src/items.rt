@@ -71,7 +71,7 @@ impl<T: Copy> Items<T> {
     ///
     /// # Errors
     ///
-    /// `AllocError` where the list's memory is refused. Nothing has changed then.
+    /// `AllocError` if the list's memory is refused. Nothing has changed then.
     pub fn try_clone(&self, alloc: Global) -> Result<Items<T>, AllocError>
         ensures { IfOk result (λ copy. copy ≡ self.now) }
     {

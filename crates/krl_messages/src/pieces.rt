@@ -8,7 +8,7 @@ use std::alloc::{AllocError, Global};
 /// What a client holds: range parts on spans, and key parts at points.
 #[derive(PartialEq, Eq, Drop)]
 pub struct Pieces {
-    /// The range parts. Where spans overlap, the least part counts that is at least each of theirs.
+    /// The range parts. If spans overlap, the join of their parts counts.
     pub ranges: RangePieces,
     /// The key parts. At a point that stands here twice the greater part counts; one that is no
     /// slot is passed over.
@@ -20,7 +20,7 @@ impl Pieces {
     ///
     /// # Errors
     ///
-    /// `AllocError` where the memory for a list is refused. Nothing has changed then.
+    /// `AllocError` if the memory for a list is refused. Nothing has changed then.
     pub fn try_clone(&self, alloc: Global) -> Result<Pieces, AllocError>
         ensures { IfOk result (λ copy. copy ≡ self.now) }
     {

@@ -27,7 +27,7 @@ pub enum ToClientBody {
         epoch: u64,
     },
     /// Made when something is to be told and the push before it is acknowledged; sent again,
-    /// unchanged, where the client shows that it has not accepted it yet. A client accepts the
+    /// unchanged, if the client shows that it has not accepted it yet. A client accepts the
     /// pushes of its epoch in the order of their numbers, each once.
     Push {
         /// The server's epoch.

@@ -88,7 +88,7 @@ impl ToServer {
     ///
     /// # Errors
     ///
-    /// `AllocError` where the memory for the lists is refused. Nothing has changed then.
+    /// `AllocError` if the memory for the lists is refused. Nothing has changed then.
     pub fn try_clone(&self, alloc: Global) -> Result<ToServer, AllocError>
         ensures { IfOk result (λ copy. copy ≡ self.now) }
     {
@@ -105,7 +105,7 @@ impl ToServerBody {
     ///
     /// # Errors
     ///
-    /// `AllocError` where the memory for the lists is refused. Nothing has changed then.
+    /// `AllocError` if the memory for the lists is refused. Nothing has changed then.
     pub fn try_clone(&self, alloc: Global) -> Result<ToServerBody, AllocError>
         ensures { IfOk result (λ copy. copy ≡ self.now) }
     {

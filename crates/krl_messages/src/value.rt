@@ -1,19 +1,18 @@
 //! The values of entries.
 ghost use Rattle.std.specs.Prelude.{◌≡◌, ◌≤◌, ◌↔◌, length, IsSome, IfSome};
 ghost use Rattle.std.specs.Int.{w64, to_be_bytes};
+ghost use Rattle.krl_modes.specs.declared.limits.TheConstants.{MAX_VALUE_BYTES};
 ghost use Rattle.krl_messages.specs.Padded.{padded};
-ghost use Rattle.krl_messages.specs.Values.{number_of};
+ghost use Rattle.krl_messages.specs.Numbers.{number_of};
 
+use krl_modes::MAX_VALUE_BYTES;
 use std::marker::Model;
 
-/// The most bytes of a value.
-const MAX_BYTES: usize = 32;
-
-/// What an entry of the index is worth: 0 to 32 bytes, seen as a list. Nothing computes with it.
+/// The value of an entry: 0 to 32 bytes, seen as a list.
 #[derive(Clone, Copy, PartialEq, Eq)]
 pub struct Value {
     // The bytes, and zeros behind them.
-    bytes: [u8; 32],
+    bytes: [u8; MAX_VALUE_BYTES],
     len: u8,
 }
 
@@ -36,16 +35,16 @@ impl Model for Value {
 }
 
 impl Value {
-    /// The value of these bytes; None where there are more than 32.
+    /// The value of these bytes; None if there are more than 32.
     pub fn new(bytes: &[u8]) -> Option<Value>
         ensures value { IfSome result (λ v. v ≡ bytes.now) }
-        ensures fits { IsSome result ↔ (length bytes.now ≤ 32) }
+        ensures fits { IsSome result ↔ (length bytes.now ≤ MAX_VALUE_BYTES) }
     {
         let len = bytes.len();
-        if len > MAX_BYTES {
+        if len > MAX_VALUE_BYTES {
             return None;
         }
-        let mut padded = [0; 32];
+        let mut padded = [0; MAX_VALUE_BYTES];
         padded[..len].copy_from_slice(bytes);
         Some(Value {
             bytes: padded,
@@ -57,7 +56,7 @@ impl Value {
     pub fn from_u64(number: u64) -> Value
         ensures { result ≡ to_be_bytes w64 number }
     {
-        let mut padded = [0; 32];
+        let mut padded = [0; MAX_VALUE_BYTES];
         padded[..8].copy_from_slice(&number.to_be_bytes());
         Value {
             bytes: padded,
@@ -65,7 +64,7 @@ impl Value {
         }
     }
 
-    /// The number whose eight bytes these are, the highest first; None where they are not eight.
+    /// The number whose eight bytes these are, the highest first; None if they are not eight.
     pub fn as_u64(self) -> Option<u64>
         ensures { result ≡ number_of self }
     {
@@ -80,13 +79,13 @@ impl Value {
     /// The bytes, at most 32.
     pub fn bytes(&self) -> &[u8]
         ensures bytes { result.now ≡ self.now }
-        ensures few { length result.now ≤ 32 }
+        ensures few { length result.now ≤ MAX_VALUE_BYTES }
     {
         &self.bytes[..self.len as usize]
     }
 
     /// The bytes, and zeros behind them: 32 in all.
-    pub fn padded(&self) -> [u8; 32]
+    pub fn padded(&self) -> [u8; MAX_VALUE_BYTES]
         ensures { result ≡ padded self.now }
     {
         self.bytes

@@ -14,7 +14,8 @@ use Rattle.krl_modes.specs.declared.part.KeyPart.TheVariants as key
 use Rattle.krl_modes.specs.declared.mode.Mode.{Mode}
 use Rattle.krl_modes.specs.Orders.{IsPartialOrder, IsLeastUpperBound, IsGreatestLowerBound, IsCompatibility}
 use Rattle.krl_modes.specs.Parts.{range_at_most, key_at_most, ranges_compatible, keys_compatible, range_join, range_meet, key_join, key_meet}
-use Rattle.krl_modes.specs.Modes.{range_of, key_of, at_most, compatible, at_or_above, mode_of, join, meet, cap, all_modes, mode_name, mode_named}
+use Rattle.krl_modes.specs.Modes.{range_of, key_of, at_most, compatible, at_or_above, join, meet, cap}
+use Rattle.krl_modes.specs.Names.{mode_of, all_modes, mode_name, mode_named}
 use Rattle.krl_modes.specs.Laws.{HasParts, HasPartsCorrected, IsNoMode, IsLeastModeAbove, IsGreatestBeside, ReadsItsKey, IsOnlyNamed}
 use Rattle.krl_modes.proofs.Tables.{implies, implies_use, by_table, by_table_2, by_table_3}
 use Rattle.krl_modes.proofs.PartLaws.{range_order, key_order}

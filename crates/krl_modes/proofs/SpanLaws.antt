@@ -1,8 +1,9 @@
--- The points of a span; spans meet where they have a common point.
+-- The points of a span; spans meet if they have a common point.
 use Rattle.std.proofs.Common.{◌≡◌, ℕ, ◌≤◌, ◌<◌, ◌↔◌, true, nat_lt, nat_le, max, arith}
 use Rattle.std.specs.Prelude.{IsTrue}
 use Rattle.std.proofs.lemmas.Bool.{and_parts, and_from, ltb-true, lt-ltb, leb-true, le-leb}
-use Rattle.krl_modes.specs.Spans.{Bounds, contains, meets, ShareAPoint}
+use Rattle.krl_modes.specs.Spans.{Bounds, contains, meets}
+use Rattle.krl_modes.specs.PointSets.{ShareAPoint}
 
 pub inside_span : (s : Bounds) (p : ℕ) → contains s p ≡ true → (s.lo ≤ p) × (p < s.hi)
 inside_span s p e = let h = and_parts (nat_le s.lo p) (nat_lt p s.hi) e in (leb-true s.lo p h.0, ltb-true p s.hi h.1)

@@ -4,7 +4,7 @@ use Rattle.std.specs.Prelude.{IsTrue}
 use Rattle.std.specs.List.{list_all}
 use Rattle.std.proofs.lemmas.Bool.{and_parts}
 use Rattle.krl_modes.specs.declared.mode.Mode.{Mode}
-use Rattle.krl_modes.specs.Modes.{all_modes}
+use Rattle.krl_modes.specs.Names.{all_modes}
 
 -- the second test is passed wherever the first is
 abbrev pub implies : Bool → Bool → Bool

@@ -7,14 +7,15 @@ use Rattle.krl_modes.specs.declared.part.KeyPart.TheVariants as key
 use Rattle.krl_modes.specs.declared.mode.Mode.{Mode}
 use Rattle.krl_modes.specs.declared.mode.Mode.TheVariants as mode
 use Rattle.krl_modes.specs.Parts.{range_at_most, key_at_most}
-use Rattle.krl_modes.specs.Modes.{range_of, key_of, at_most, compatible, mode_name}
+use Rattle.krl_modes.specs.Modes.{range_of, key_of, at_most, compatible}
+use Rattle.krl_modes.specs.Names.{mode_name}
 
 -- the mode has these parts
 pub record HasParts (m : Mode) (r : RangePart) (k : KeyPart) : Type 0 where
   pub range : range_of m ≡ r
   pub key : key_of m ≡ k
 
--- the mode has these parts, or, where they are S and X, it is RangeX-X
+-- the mode has these parts, or, if they are S and X, it is RangeX-X
 abbrev pub HasPartsCorrected : Mode → RangePart → KeyPart → Type 0
 HasPartsCorrected m r k = HasParts m r k ⊎ ((r ≡ range.S) × (k ≡ key.X) × (m ≡ mode.RangeXX))
 

@@ -1,6 +1,9 @@
+pub mod Limits
 pub mod Parts
 pub mod Modes
+pub mod Names
 pub mod Orders
 pub mod Laws
 pub mod Spans
+pub mod PointSets
 pub mod Weights

@@ -1,6 +1,5 @@
 -- The thirteen modes.
-use Rattle.std.specs.Prelude.{ℕ, Bool, List, [], ◌∷◌, ◌&&◌, find, codes, Option, Some, None}
-use Rattle.std.specs.Str.{bytes_eq}
+use Rattle.std.specs.Prelude.{Bool, ◌&&◌}
 use Rattle.krl_modes.specs.declared.part.RangePart.{RangePart}
 use Rattle.krl_modes.specs.declared.part.RangePart.TheVariants as range
 use Rattle.krl_modes.specs.declared.part.KeyPart.{KeyPart}
@@ -68,13 +67,6 @@ at_or_above range.X key.S = mode.RangeXS
 at_or_above range.X key.U = mode.RangeXU
 at_or_above range.X key.X = mode.RangeXX
 
--- the mode of these parts, where there is one
-abbrev pub mode_of : RangePart → KeyPart → Option Mode
-mode_of range.S key.N = None
-mode_of range.S key.X = None
-mode_of range.X key.N = None
-mode_of r k = Some (at_or_above r k)
-
 -- the least mode above both
 abbrev pub join : Mode → Mode → Mode
 join a b = at_or_above (range_join (range_of a) (range_of b)) (key_join (key_of a) (key_of b))
@@ -102,29 +94,3 @@ cap mode.RangeXX = mode.N
 -- it asks for an entry alone, so there has to be one: S, U or X
 abbrev pub needs_entry : Mode → Bool
 needs_entry m = range_at_most (range_of m) range.N && reads_key (key_of m)
-
-abbrev pub mode_name : Mode → List ℕ
-mode_name mode.N = codes "N"
-mode_name mode.S = codes "S"
-mode_name mode.U = codes "U"
-mode_name mode.X = codes "X"
-mode_name mode.RangeSS = codes "RangeS-S"
-mode_name mode.RangeSU = codes "RangeS-U"
-mode_name mode.RangeIN = codes "RangeI-N"
-mode_name mode.RangeIS = codes "RangeI-S"
-mode_name mode.RangeIU = codes "RangeI-U"
-mode_name mode.RangeIX = codes "RangeI-X"
-mode_name mode.RangeXS = codes "RangeX-S"
-mode_name mode.RangeXU = codes "RangeX-U"
-mode_name mode.RangeXX = codes "RangeX-X"
-
--- every mode, in the order of the tables
-abbrev pub all_modes : List Mode
-all_modes =
-    mode.N ∷ mode.S ∷ mode.U ∷ mode.X ∷ mode.RangeSS ∷ mode.RangeSU ∷ mode.RangeIN ∷ mode.RangeIS ∷ mode.RangeIU ∷
-    mode.RangeIX ∷ mode.RangeXS ∷ mode.RangeXU
-    ∷ mode.RangeXX ∷ []
-
--- the mode of this name
-abbrev pub mode_named : List ℕ → Option Mode
-mode_named text = find (λ m. bytes_eq text (mode_name m)) all_modes

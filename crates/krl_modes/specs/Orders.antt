@@ -1,4 +1,4 @@
--- Orders, their bounds, and what may stand beside each other.
+-- Orders, their bounds, and compatibility.
 use Rattle.std.specs.Prelude.{◌≡◌, Bool, IsTrue}
 
 -- each is at most itself, two that are at most each other are the same, and what is at most b is at most
@@ -20,8 +20,8 @@ pub record IsGreatestLowerBound {A : Type 0} (at_most : A → A → Bool) (a b b
   pub below_second : IsTrue (at_most bound b)
   pub greatest : (c : A) → IsTrue (at_most c a) → IsTrue (at_most c b) → IsTrue (at_most c bound)
 
--- which may stand beside each other: it does not matter which comes first, and what may stand beside c
--- may be lowered
+-- which are compatible: it does not matter which comes first, and what is compatible with c may be
+-- lowered
 pub record IsCompatibility {A : Type 0} (at_most compatible : A → A → Bool) : Type 0 where
   pub symmetric : (a b : A) → compatible a b ≡ compatible b a
   pub downward : (a b c : A) → IsTrue (at_most a b) → IsTrue (compatible b c) → IsTrue (compatible a c)

@@ -1,5 +1,5 @@
--- The two parts of a mode: their order, and which go beside each other.
-use Rattle.std.specs.Prelude.{ℕ, Bool, true, false, List, codes}
+-- The two parts of a mode: their order, and which are compatible.
+use Rattle.std.specs.Prelude.{Bool, true, false}
 use Rattle.krl_modes.specs.declared.part.RangePart.{RangePart}
 use Rattle.krl_modes.specs.declared.part.RangePart.TheVariants as range
 use Rattle.krl_modes.specs.declared.part.KeyPart.{KeyPart}
@@ -69,7 +69,7 @@ keys_compatible key.X key.S = false
 keys_compatible key.X key.U = false
 keys_compatible key.X key.X = false
 
--- the least part above both: X where the two are not ordered
+-- the least part above both: X if the two are not ordered
 abbrev pub range_join : RangePart → RangePart → RangePart
 range_join range.N b = b
 range_join range.S range.N = range.S
@@ -82,7 +82,7 @@ range_join range.I range.I = range.I
 range_join range.I range.X = range.X
 range_join range.X b = range.X
 
--- the greatest part below both: N where the two are not ordered
+-- the greatest part below both: N if the two are not ordered
 abbrev pub range_meet : RangePart → RangePart → RangePart
 range_meet range.N b = range.N
 range_meet range.S range.N = range.N
@@ -140,15 +140,3 @@ reads_key k = key_at_most key.S k
 -- the entry is its holder's alone
 abbrev pub is_key_X : KeyPart → Bool
 is_key_X k = key_at_most key.X k
-
-abbrev pub range_part_name : RangePart → List ℕ
-range_part_name range.N = codes "N"
-range_part_name range.S = codes "S"
-range_part_name range.I = codes "I"
-range_part_name range.X = codes "X"
-
-abbrev pub key_part_name : KeyPart → List ℕ
-key_part_name key.N = codes "N"
-key_part_name key.S = codes "S"
-key_part_name key.U = codes "U"
-key_part_name key.X = codes "X"

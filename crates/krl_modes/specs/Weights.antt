@@ -5,14 +5,14 @@ use Rattle.krl_modes.specs.declared.part.RangePart.TheVariants as range
 use Rattle.krl_modes.specs.declared.part.KeyPart.{KeyPart}
 use Rattle.krl_modes.specs.declared.part.KeyPart.TheVariants as key
 
--- 1 where the holder may rely on what lies in the gap
+-- 1 if the holder may rely on what lies in the gap
 abbrev pub reads : RangePart → ℕ
 reads range.N = 0
 reads range.S = 1
 reads range.I = 0
 reads range.X = 1
 
--- 1 where the holder may insert into the gap
+-- 1 if the holder may insert into the gap
 abbrev pub inserts : RangePart → ℕ
 inserts range.N = 0
 inserts range.S = 0

@@ -1,11 +1,13 @@
 //! What a lock holds and where: the parts of a mode, the thirteen modes, points and spans.
 #![tactic(auto)]
 
+mod limits;
 mod mode;
 mod part;
 mod point;
 mod span;
 
+pub use limits::{MAX_CLIENTS, MAX_HOLDINGS, MAX_PINS, MAX_ROOM, MAX_VALUE_BYTES, STANDARD_ROOM};
 pub use mode::Mode;
 pub use part::{KeyPart, RangePart};
 pub use point::{END, Point, TOP};

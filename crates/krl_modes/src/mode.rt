@@ -1,9 +1,9 @@
 //! The thirteen modes.
 ghost use Rattle.std.specs.Prelude.{◌≡◌, ◌↔◌, IfSome, IsNone};
 ghost use Rattle.krl_modes.specs.Parts.{range_join, key_join, range_meet, key_meet};
-ghost use Rattle.krl_modes.specs.Modes.{range_of, key_of, mode_of, at_or_above, at_most};
-ghost use Rattle.krl_modes.specs.Modes.{compatible, join, meet, cap, needs_entry, mode_name};
-ghost use Rattle.krl_modes.specs.Modes.{mode_named};
+ghost use Rattle.krl_modes.specs.Modes.{range_of, key_of, at_or_above, at_most, compatible, join};
+ghost use Rattle.krl_modes.specs.Modes.{meet, cap, needs_entry};
+ghost use Rattle.krl_modes.specs.Names.{mode_of, mode_name, mode_named};
 ghost use Rattle.krl_modes.specs.Orders.{IsPartialOrder, IsLeastUpperBound, IsGreatestLowerBound};
 ghost use Rattle.krl_modes.specs.Orders.{IsCompatibility};
 ghost use Rattle.krl_modes.specs.Laws.{HasParts, HasPartsCorrected, IsNoMode, IsLeastModeAbove};
@@ -14,11 +14,11 @@ use crate::part::{KeyPart, RangePart};
 
 /// What a client holds of a slot, or asks of it: a range part for the gap below the slot's entry,
 /// and a key part for the entry. A mode is named by both parts, as RangeS-U, or by the key part
-/// alone where it holds nothing of the gap.
+/// alone if it holds nothing of the gap.
 ///
 /// S, U, X, RangeS-S, RangeS-U, RangeI-N and RangeX-X are the published modes of the SQL Server
 /// guide's table, and RangeI-S, RangeI-U, RangeI-X, RangeX-S and RangeX-U its conversion modes. N
-/// is the absence of a lock. What goes with what is this project's own table, after the guide's.
+/// is the absence of a lock.
 #[derive(Clone, Copy, Debug, PartialEq, Eq)]
 pub enum Mode {
     /// No lock.
@@ -87,7 +87,7 @@ impl Mode {
         Mode::RangeXX,
     ];
 
-    /// The mode's two parts. Where the range part is S or X, the key part is at least S.
+    /// The mode's two parts. If the range part is S or X, the key part is at least S.
     pub fn parts(self) -> (RangePart, KeyPart)
         ensures parts { result ≡ (range_of self, key_of self) }
         ensures own { mode_of result.0 result.1 ≡ Some self }
@@ -123,7 +123,7 @@ impl Mode {
         }
     }
 
-    /// The least mode whose parts are at least these: the mode of these parts where there is one,
+    /// The least mode whose parts are at least these: the mode of these parts if there is one,
     /// and otherwise RangeS-S for S and N, RangeX-X for S and X, RangeX-S for X and N.
     pub fn at_or_above(range: RangePart, key: KeyPart) -> Mode
         ensures mode { result ≡ at_or_above range key }
@@ -154,8 +154,8 @@ impl Mode {
         range.compatible(other_range) & key.compatible(other_key)
     }
 
-    /// The least mode above both. Its parts are the least above the parts of both, but where those
-    /// are S and X, as for RangeS-S and X: then it is RangeX-X.
+    /// The least mode above both. Its parts are the least above the parts of both. If those are S
+    /// and X, as for RangeS-S and X, it is RangeX-X.
     pub fn join(self, other: Mode) -> Mode
         ensures join { result ≡ join self other }
         ensures least { IsLeastUpperBound at_most self other result }
@@ -182,7 +182,7 @@ impl Mode {
     }
 
     /// The greatest mode that is compatible with this one: what another client may keep beside it.
-    /// A mode is at most this one exactly where it is compatible with `self`.
+    /// A mode is at most this one exactly if it is compatible with `self`.
     pub fn cap(self) -> Mode
         ensures cap { result ≡ cap self }
         ensures greatest { IsGreatestBeside self result }
@@ -204,8 +204,8 @@ impl Mode {
         }
     }
 
-    /// Whether the mode asks for an entry alone, so that there has to be one: S, U or X. That such
-    /// a lock is answered `Absent` where there is no entry is this project's own rule.
+    /// Whether the mode asks for an entry alone, so that there has to be one: S, U or X. Such a
+    /// lock is answered `Absent` if there is no entry.
     pub fn needs_entry(self) -> bool
         ensures { result ≡ needs_entry self }
     {

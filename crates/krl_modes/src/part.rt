@@ -2,15 +2,16 @@
 ghost use Rattle.std.specs.Prelude.{◌≡◌};
 ghost use Rattle.krl_modes.specs.Parts.{range_at_most, key_at_most, ranges_compatible};
 ghost use Rattle.krl_modes.specs.Parts.{keys_compatible, range_join, range_meet, key_join};
-ghost use Rattle.krl_modes.specs.Parts.{key_meet, range_part_name, key_part_name};
+ghost use Rattle.krl_modes.specs.Parts.{key_meet};
+ghost use Rattle.krl_modes.specs.Names.{range_part_name, key_part_name};
 ghost use Rattle.krl_modes.specs.Orders.{IsPartialOrder, IsLeastUpperBound, IsGreatestLowerBound};
 ghost use Rattle.krl_modes.specs.Orders.{IsCompatibility};
 
 /// What a mode holds of a gap: the points between an entry and the one before it, and the entry's
 /// own point. N lies below S and I, and both lie below X; S and I are not ordered.
 ///
-/// The idea of a part for the gap is Lomet's (VLDB 1993) and the SQL Server guide's; that it covers
-/// the entry's own point too is this project's own.
+/// The idea of a part for the gap is Lomet's (VLDB 1993) and the SQL Server guide's. Here it covers
+/// the entry's own point too.
 #[derive(Clone, Copy, Debug, PartialEq, Eq)]
 pub enum RangePart {
     /// Nothing.
@@ -84,7 +85,6 @@ impl RangePart {
     }
 
     /// Whether two clients may hold these parts of one gap: N beside all, S beside S, I beside I.
-    /// This table is the project's own, after the SQL Server guide's.
     pub fn compatible(self, other: RangePart) -> bool
         ensures compatible { result ≡ ranges_compatible self other }
         ensures relation { IsCompatibility range_at_most ranges_compatible }
@@ -130,8 +130,7 @@ impl KeyPart {
         self as u8 <= other as u8
     }
 
-    /// Whether two clients may hold these parts of one entry: N beside all, S beside S and U. This
-    /// table is the project's own, after the SQL Server guide's.
+    /// Whether two clients may hold these parts of one entry: N beside all, S beside S and U.
     pub fn compatible(self, other: KeyPart) -> bool
         ensures compatible { result ≡ keys_compatible self other }
         ensures relation { IsCompatibility key_at_most keys_compatible }

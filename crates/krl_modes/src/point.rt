@@ -1,5 +1,5 @@
 //! Points.
-ghost use Rattle.krl_modes.specs.Spans.{last_point, past_points};
+ghost use Rattle.krl_modes.specs.PointSets.{last_point, past_points};
 ghost use Rattle.std.specs.Prelude.{◌≡◌, ◌≤◌, IsSome, IfSome, ◌↔◌};
 
 use std::marker::Model;

@@ -1,7 +1,8 @@
 //! Spans.
 ghost use Rattle.std.specs.Prelude.{◌≡◌, ◌+◌, ◌<◌, ◌≤◌, ◌↔◌, IsOk, IfOk, IsTrue};
 ghost use Rattle.krl_modes.specs.declared.point.TheConstants.{TOP};
-ghost use Rattle.krl_modes.specs.Spans.{contains, within, meets, IsPointOf, IsPartOf, ShareAPoint};
+ghost use Rattle.krl_modes.specs.Spans.{contains, within, meets, IsPointOf};
+ghost use Rattle.krl_modes.specs.PointSets.{IsPartOf, ShareAPoint};
 
 use crate::point::{Point, TOP};
 use std::marker::Model;
@@ -38,7 +39,7 @@ impl Span {
     ///
     /// # Errors
     ///
-    /// `BadSpan` where `lo` is not below `hi`, or `hi` is above TOP.
+    /// `BadSpan` if `lo` is not below `hi`, or `hi` is above TOP.
     pub fn new(lo: u64, hi: u64) -> Result<Span, BadSpan>
         ensures span { IfOk result (λ s. s ≡ record { lo = lo; hi = hi }) }
         ensures bounds { IsOk result ↔ ((lo < hi) × (hi ≤ TOP)) }

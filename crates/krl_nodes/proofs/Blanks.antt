@@ -3,7 +3,7 @@ use Rattle.krl_nodes.proofs.Names.{◌≡◌, ◌≢◌, ℕ, zero, suc, List, [
 use Rattle.krl_nodes.proofs.Names.{Splits, Joins, opening, set_again, at_longer, node_of, State, View, Mail, ServerAt, ClientAt, Nobody, shown, Each, AtHome, IsOut, Kept, Sits, IsServer, IsClient}
 use Rattle.krl_nodes.proofs.Names.{Names, Agrees, ReachableFrom, Holds, down_at, first_view, blank_of, spent_view, joined_view, IsLive, IsBlank, IsNewPost}
 use mathlib.Core.Option as opt
-use Rattle.krl_world.specs.declared.node.ServerNode.{ServerNode as KeptNode}
+use Rattle.krl_world.specs.declared.node.ServerPlace.{ServerPlace as KeptNode}
 use Rattle.krl_nodes.proofs.Views.{each_set, each_snoc, has_set_else, seated_set, seated_snoc, stays_set, there_set}
 use Rattle.krl_nodes.proofs.Takes.{running_same}
 use Rattle.krl_nodes.proofs.Gives.{named}
@@ -113,7 +113,7 @@ only P v p zero u e = subst (P 0) (some-injective _ _ e) p
 only P v p (suc i) u e = absurd (some-ne-none u (sym e))
 
 -- the first table: the world is this one, nobody is seated, and no letter waits
-pub opens : (mail : Mail) (d : KeptNode) (w : State) → IsNewPost mail → ReachableFrom mail.opening w → w.server ≡ node_of d → ((c : ℕ) → w.seats c ≡ down_at 0) → Holds (opening (0 ∷ []) (mail ∷ []) (first_view mail.opening d))
+pub opens : (mail : Mail) (d : KeptNode) (w : State) → IsNewPost mail → ReachableFrom mail.opening w → w.server ≡ node_of d → ((c : ℕ) → w.places c ≡ down_at 0) → Holds (opening (0 ∷ []) (mail ∷ []) (first_view mail.opening d))
 opens mail d w new reach is away = record {
   mail = mail;
   at = λ c. 0;

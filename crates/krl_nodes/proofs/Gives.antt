@@ -33,7 +33,7 @@ put_else : (f : ℕ → ℕ) (c d x : ℕ) → (d ≡ c → ⊥) → put f c x d
 unfolding put
 put_else f c d x ne = ap (λ b. if b then x else f d) (ne_eqb d c ne)
 
--- the views and the post stay a running state, where the view v of the seat id becomes v'
+-- the views and the post stay a running state, if the view v of the seat id becomes v'
 pub record Stays (id : ℕ) (v v' : View) (mail' : Mail) (views : List View) : Type 0 where
   pub at : ℕ → ℕ
   pub world : State
@@ -174,7 +174,7 @@ acts_keeps : (id : ℕ) (v v' : View) (mail mail' : Mail) → IsLive (shown v.no
 acts_keeps id v v' mail mail' live same a views at w there se ru =
     let n = shown v.node in
     let n' = shown v'.node in
-    let t = a.event w ru.reach (ru.agree id v there) ru.letters in
+    let t = a.order w ru.reach (ru.agree id v there) ru.letters in
     let w' : State = t.after in
     let mine = se.each id v there in
     let agrees = move_agrees w n n' w' t.move in
@@ -219,7 +219,7 @@ sits_keeps id v v' mail mail' same d views at w there se ru =
     let c = d.0 in
     let i = d.1 in
     let is : v.opening ≡ mail.opening = subst (λ (n : Shown). NamesAs n (v.opening ≡ mail.opening)) d.2 (ru.names id v there) in
-    let here : w.seats c ≡ down_at i = ru.away c i d.3 in
+    let here : w.places c ≡ down_at i = ru.away c i d.3 in
     let agrees : Agrees w (shown v'.node) = subst (Agrees w) (sym d.4) here in
     subst (λ (m : Mail). Stays id v v' m views) (sym d.5) (record {
       at = put at c id;
@@ -250,7 +250,7 @@ leaves_keeps id v v' mail mail' same d views at w there se ru =
     let i = d.1 in
     let mine : Sits at mail.chairs id (ClientAt c (down_at i)) = subst (Sits at mail.chairs id) d.2 (se.each id v there) in
     let is : v.opening ≡ mail.opening = subst (λ (n : Shown). NamesAs n (v.opening ≡ mail.opening)) d.2 (ru.names id v there) in
-    let here : w.seats c ≡ down_at i = subst (Agrees w) d.2 (ru.agree id v there) in
+    let here : w.places c ≡ down_at i = subst (Agrees w) d.2 (ru.agree id v there) in
     let now_free = chair_here mail.chairs c (Free i) Taken mine.1 in
     subst (λ (m : Mail). Stays id v v' m views) (sym d.4) (record {
       at = at;
@@ -267,7 +267,7 @@ leaves_keeps id v v' mail mail' same d views at w there se ru =
         names = each_set (λ j u. Names mail.opening u) views id v' (λ j u _ e. ru.names j u e) (as_named (shown v'.node) (v'.opening ≡ mail.opening) (same ∙ is));
         agree = each_set (λ j u. Agrees w (shown u.node)) views id v' (λ j u _ e. ru.agree j u e) (subst (Agrees w) (sym d.3) tt);
         away = λ e k free. dite (ℕ_discrete e c)
-            (λ (eq : e ≡ c). let both : Some (Free k) ≡ Some (Free i) = sym free ∙ ap (slice_get (set mail.chairs c (Free i))) eq ∙ now_free in let it : k ≡ i = cc in ap w.seats eq ∙ here ∙ ap down_at (sym it))
+            (λ (eq : e ≡ c). let both : Some (Free k) ≡ Some (Free i) = sym free ∙ ap (slice_get (set mail.chairs c (Free i))) eq ∙ now_free in let it : k ≡ i = cc in ap w.places eq ∙ here ∙ ap down_at (sym it))
             (λ ne. ru.away e k (sym (chair_else mail.chairs c e (Free i) ne) ∙ free));
         letters = record { to_server = ru.letters.to_server; to_clients = ru.letters.to_clients };
       };

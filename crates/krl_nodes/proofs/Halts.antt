@@ -1,17 +1,17 @@
 -- A server that stops, and one that starts, as a world has it.
-use Rattle.krl_nodes.proofs.Names.{◌≡◌, [], None, refl, sym, ap, ◌∙◌, Result, Ok, Err, Answer, Refused, ServerNode, Up, Down, State, unused, Takes, Steps, crashed, started, server_down, server_start}
+use Rattle.krl_nodes.proofs.Names.{◌≡◌, [], None, refl, sym, ap, ◌∙◌, Result, Ok, Err, Answer, Refused, ServerPlace, Up, Down, State, unused, Takes, Steps, crashed, started, server_down, server_start}
 use Rattle.krl_nodes.proofs.Names.{Mail, Pick, ServerActs, did_of}
 use Rattle.krl_steps.specs.declared.step.Step.TheVariants as step
-use Rattle.krl_world.specs.declared.node.ServerNode.{ServerNode as KeptNode}
+use Rattle.krl_world.specs.declared.node.ServerPlace.{ServerPlace as KeptNode}
 use Rattle.krl_world.specs.Fields.{Fields, meaning, node_of}
 use Rattle.krl_nodes.specs.declared.orders.ServerOrder.TheVariants as to_server
 
 -- a world with this server
 abbrev alone : KeptNode → Fields
-alone n = record { opening = unused []; server = n; seats = []; sent = []; writes = [] }
+alone n = record { opening = unused []; server = n; places = []; sent = []; writes = [] }
 
 module _ (p : Pick) (mail : Mail) where
-  crash_taken : (w v : State) (d : ServerNode) (a : Answer) → w.server ≡ d → Takes w step.CrashServer a v → ServerActs p to_server.Crash mail d mail v.server (did_of (Ok a))
+  crash_taken : (w v : State) (d : ServerPlace) (a : Answer) → w.server ≡ d → Takes w step.CrashServer a v → ServerActs p to_server.Crash mail d mail v.server (did_of (Ok a))
   crash_taken w v (Up s) a is t = (t.1.0, refl, record { server = s; was = refl; now = ap (λ (u : State). u.server) t.1.1 ∙ ap (λ n. (crashed w n).server) is; post = refl })
   crash_taken w v (Down d) a is t = let no : server_down (Down d) ≡ None = ap server_down (sym is) ∙ t.0 in absurd (cc)
 
@@ -20,7 +20,7 @@ module _ (p : Pick) (mail : Mail) where
   crash_acts w v (Ok a) t = crash_taken w v w.server a refl t
   crash_acts w v (Err r) t = (t.1, record { post = refl; node = ap (λ (u : State). u.server) t.0 })
 
-  start_taken : (w v : State) (d : ServerNode) (a : Answer) → w.server ≡ d → Takes w step.StartServer a v → ServerActs p to_server.Start mail d mail v.server (did_of (Ok a))
+  start_taken : (w v : State) (d : ServerPlace) (a : Answer) → w.server ≡ d → Takes w step.StartServer a v → ServerActs p to_server.Start mail d mail v.server (did_of (Ok a))
   start_taken w v (Up s) a is t = let no : server_start (Up s) ≡ None = ap server_start (sym is) ∙ t.0 in absurd (cc)
   start_taken w v (Down d) a is t = (t.1.0, ap server_start (sym is) ∙ t.0, record { durable = d; was = refl; now = ap (λ (u : State). u.server) t.1.1 ∙ ap (λ n. (started w n).server) is; post = refl })
 

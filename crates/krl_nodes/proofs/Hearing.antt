@@ -1,6 +1,6 @@
 -- A node reads the letter that is picked, or it is lost.
 use Rattle.krl_nodes.proofs.Names.{◌≡◌, ℕ, zero, suc, ◌+◌, ◌<◌, List, [], ◌∷◌, ◌++◌, length, inr, refl, sym, ap, subst, ◌∙◌, arith, set, append-nil, length-append, Result, Ok, Err, slice_index_or}
-use Rattle.krl_nodes.proofs.Names.{Value, ToServer, ToClient, Message, Refused, ServerNode, Seat, letters_to, left_by, from_client, by_server, only_to, sorted, mail_of, IsPicked, IsReader}
+use Rattle.krl_nodes.proofs.Names.{Value, ToServer, ToClient, Message, Refused, ServerPlace, ClientPlace, letters_to, left_by, from_client, by_server, only_to, sorted, mail_of, IsPicked, IsReader}
 use Rattle.krl_nodes.proofs.Names.{waiting_for, with_said, with_sent, with_to_server, with_to_client, HasHeard, HasRead, HasTaken, HasOne, HasNone, ServerActs, ClientActs, Pick, Chair}
 use Rattle.krl_nodes.specs.declared.post.Reader.{Reader}
 use Rattle.krl_nodes.specs.declared.post.Reader.TheVariants as reader
@@ -43,7 +43,7 @@ module _ (o : List (ℕ × Value)) (q : List ToServer) (b : List (List ToClient)
       ap length (box_at 0 c b (by_server pile) small ∙ bare (slice_index_or b c []) (only_to (0 + c) (by_server pile)) (ap (λ k. only_to k (by_server pile)) e ∙ none_to c pile none) ∙ sym is)
 
 module _ (p : Pick) (o : List (ℕ × Value)) (b : List (List ToClient)) (pile pile' : List Message) (chairs : List Chair) where
-  module _ (q q' : List ToServer) (d d' : ServerNode) (none : HasNone reader.Server pile) where
+  module _ (q q' : List ToServer) (d d' : ServerPlace) (none : HasNone reader.Server pile) where
     all_q : q ++ from_client pile ≡ q
     all_q = bare q (from_client pile) (none_said pile none)
 
@@ -78,7 +78,7 @@ module _ (p : Pick) (o : List (ℕ × Value)) (b : List (List ToClient)) (pile p
     }
     served_by (Err e) h = (inr (refl, h.0, subst (λ xs. 0 < length xs) (sym all_q) h.1), record { post = λ i. mail_of o (h.2 i) b (h.4 i) chairs; node = h.3 })
 
-  module _ (q : List ToServer) (c : ℕ) (l l' : List ToClient) (x x' : Seat) (none : HasNone (reader.Client c) pile) (small : c < length b) (is : slice_index_or b c [] ≡ l) where
+  module _ (q : List ToServer) (c : ℕ) (l l' : List ToClient) (x x' : ClientPlace) (none : HasNone (reader.Client c) pile) (small : c < length b) (is : slice_index_or b c [] ≡ l) where
     only_none : only_to (0 + c) (by_server pile) ≡ []
     only_none = let e : 0 + c ≡ c = omega arith in ap (λ k. only_to k (by_server pile)) e ∙ none_to c pile none
 

@@ -12,10 +12,10 @@ pub use Rattle.atomic_table.specs.Table.{Allows, opening, gives, Me, Splits, Joi
 pub use Rattle.krl_messages.specs.Values.{Value}
 pub use Rattle.krl_messages.specs.declared.to_client.ToClient.{ToClient}
 pub use Rattle.krl_messages.specs.declared.to_server.ToServer.{ToServer}
-pub use Rattle.krl_nodes.specs.Letters.{mail_of, by_server, letters_to, from_client, waiting_for, IsPicked, sorted, with_said, left_by, place_of, with_to_client, with_sent, IsReader, with_to_server}
+pub use Rattle.krl_nodes.specs.Letters.{mail_of, by_server, letters_to, from_client, waiting_for, IsPicked, sorted, with_said, left_by, position_of, with_to_client, with_sent, IsReader, with_to_server}
 pub use Rattle.krl_nodes.specs.Letters.{only_to}
 pub use Rattle.krl_nodes.specs.Mail.{Mail}
-pub use Rattle.krl_nodes.specs.Nodes.{ScansIndex, NoneSeated, client_shown, IsAt, HoldsPost, RowsAre, Changes, ClientPlace, Exchanged}
+pub use Rattle.krl_nodes.specs.Nodes.{ScansIndex, NoneSeated, client_shown, IsAt, HoldsPost, RowsAre, Changes, SeatedClient, Exchanged}
 pub use Rattle.krl_nodes.specs.Rule.{Sits, AllAway, Running, AtHome, Each, Holds, Seated, IsServer, IsOut, AllSent, NamesAs, HasView, Names, IsClient, Agrees, ReachableFrom, Kept, StandsIn, down_at}
 pub use Rattle.krl_nodes.specs.Shown.{ClientAt, Gone, ServerAt, shown, Shown, Nobody}
 pub use Rattle.krl_nodes.specs.Sorting.{is_for, HasTaken, AreSortedBack, HasRead, HasNone, HasHeard, IsPut, HasOne}
@@ -32,10 +32,10 @@ pub use Rattle.krl_server.specs.StateMeaning.{meaning}
 pub use Rattle.krl_steps.specs.declared.answer.Answer.{Answer}
 pub use Rattle.krl_steps.specs.declared.refused.Refused.{Refused}
 pub use Rattle.krl_steps.specs.declared.step.Command.{Command}
-pub use Rattle.krl_world.proofs.Functions.Lifts.{takes, seat_other, is_client, seat_here}
-pub use Rattle.krl_world.specs.Fields.{node_of, client_there, seat_of}
-pub use Rattle.krl_world.specs.SeatSteps.{IsRefused, starting_refusal, Ticked, Does, CommandedAt, Started}
-pub use Rattle.krl_world.specs.States.{from_clients, unused, Down, ServerNode, fresh, State, from_server, set_seat, index_of, durable_of, Up, client_of, Seat}
+pub use Rattle.krl_world.proofs.Functions.Lifts.{takes, place_other, is_client, place_here}
+pub use Rattle.krl_world.specs.Fields.{node_of, client_there, place_of}
+pub use Rattle.krl_world.specs.PlaceSteps.{IsRefused, starting_refusal, Ticked, Does, CommandedAt, Started}
+pub use Rattle.krl_world.specs.States.{from_clients, unused, Down, ServerPlace, fresh, State, from_server, set_place, index_of, durable_of, Up, client_of, ClientPlace}
 unfoldable pub use Rattle.krl_world.specs.States.{opened}
 pub use Rattle.krl_world.specs.Steps.{applies, server_start, Takes, server_down, command_refusal, span, if_runs, crashed, of_client, started, CommandTakesMemory, CanOpen, named}
 unfoldable pub use Rattle.krl_world.specs.Steps.{Steps}

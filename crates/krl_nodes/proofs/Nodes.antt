@@ -18,7 +18,7 @@ held_is a b m P t ch =
 node_is : (a b m : Me Mail View) (P : Mail → Mail → Type 0) → Took a b → Changes b m P → m.0.node ≡ a.0.node
 node_is a b m P t ch = ap (λ (x : Me Mail View). x.0.node) ch.has ∙ ap (λ (x : Me Mail View). x.0.node) t.1
 
--- after a take and an event the seat may give the post back as the new node
+-- after a take and an order the seat may give the post back as the new node
 pub may_give : (a b m : Me Mail View) (n n' : Node) (P : Mail → Mail → Type 0) → a.0.node ≡ n → Took a b → (ch : Changes b m P) → IsLive (shown n) → Change ch.before (shown n) ch.after (shown n') → MayGive m n'
 may_give a b m n n' P at t ch live change =
     let node : m.0.node ≡ n = node_is a b m P t ch ∙ at in record {
@@ -59,14 +59,14 @@ is_at m m' n' gave stands s is =
       stands = subst (λ (o : List (ℕ × Value)). Agreeable o (shown n')) (sym (ap (λ (x : Me Mail View). x.0.opening) all)) stands;
     }
 
--- where nothing of the seat changed
+-- if nothing of the seat changed
 pub at_same : (a b : Ticket Mail View) (n : Node) → IsAt a n → b.me ≡ a.me → IsAt b n
 at_same a b n h is = record {
   me = self_view b.me a.me.0.opening n a.me.0.last a.me.0.given (is ∙ h.me);
   stands = subst (λ (o : List (ℕ × Value)). Agreeable o (shown n)) (sym (ap (λ (x : Me Mail View). x.0.opening) is)) h.stands;
 }
 
--- and so it is where it took in a blank seat
+-- and so it is if it took in a blank seat
 pub joined_at : (a b : Ticket Mail View) (n : Node) (w : View) → IsAt a n → b.me ≡ (joined_view a.me.0 w, a.me.1) → IsAt b n
 joined_at a b n w h is =
     let node : a.me.0.node ≡ n = ap (λ (x : Me Mail View). x.0.node) h.me in

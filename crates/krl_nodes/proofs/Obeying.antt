@@ -1,9 +1,9 @@
 -- A command, a tick and a start, by what is sent.
-use Rattle.krl_nodes.proofs.Names.{◌≡◌, ℕ, suc, List, [], ◌∷◌, ◌++◌, Option, Some, None, inl, inr, ⊎_elim, refl, sym, ap, subst, ◌∙◌, Result, Ok, Err, OnOk, OnErr, IfErr, seat_of, Value, ToServer}
-use Rattle.krl_nodes.proofs.Names.{ToClient, Answer, Message, Command, Refused, Seat, from_clients, from_server, named, if_runs, command_refusal, CommandTakesMemory, IsRefused, CommandedAt, Started}
+use Rattle.krl_nodes.proofs.Names.{◌≡◌, ℕ, suc, List, [], ◌∷◌, ◌++◌, Option, Some, None, inl, inr, ⊎_elim, refl, sym, ap, subst, ◌∙◌, Result, Ok, Err, OnOk, OnErr, IfErr, place_of, Value, ToServer}
+use Rattle.krl_nodes.proofs.Names.{ToClient, Answer, Message, Command, Refused, ClientPlace, from_clients, from_server, named, if_runs, command_refusal, CommandTakesMemory, IsRefused, CommandedAt, Started}
 use Rattle.krl_nodes.proofs.Names.{Ticked, starting_refusal, Mail, mail_of, with_said, with_sent, ClientActs, IsSame, HasTicked, did_of, done_if, Pick, Chair}
 use Rattle.core.specs.declared.alloc.AllocError.{AllocError}
-use Rattle.krl_world.specs.declared.node.Seat.{Seat as KeptSeat}
+use Rattle.krl_world.specs.declared.node.ClientPlace.{ClientPlace as KeptClientPlace}
 use Rattle.krl_client.specs.Clients.{Client, begun}
 use Rattle.krl_client.specs.Ticks.{says_hello}
 use Rattle.krl_steps.specs.declared.refused.Refused.TheVariants as refused
@@ -33,11 +33,11 @@ module _ (o : List (ℕ × Value)) (q : List ToServer) (b : List (List ToClient)
   nudged outs (Ok u) t = ap (λ ms. mail_of o q b ms chairs) t ∙ sent o q b pile chairs outs
   nudged outs (Err e) t = t
 
-  pub started : (p : Pick) (c : ℕ) (x x' : KeptSeat) (r : Result (Unit {0}) Refused) → OnOk r (Started c (seat_of x) (seat_of x') pile pile') → IfErr r (IsRefused (starting_refusal c (seat_of x)) (Unit {0})) → OnErr r ((x' ≡ x) × (pile' ≡ pile)) → ClientActs p to_client.Start c before (seat_of x) after (seat_of x') (did_of (done_if r))
-  started p c x x' (Ok u) s due e = (s.none_due, record { done = refl; now = s.seat; post = says (says_hello (begun c (suc x.last_incarnation)) ∷ []) s.sent })
-  started p c x x' (Err r) s due e = (due, record { post = same e.1; node = ap seat_of e.0 })
+  pub started : (p : Pick) (c : ℕ) (x x' : KeptClientPlace) (r : Result (Unit {0}) Refused) → OnOk r (Started c (place_of x) (place_of x') pile pile') → IfErr r (IsRefused (starting_refusal c (place_of x)) (Unit {0})) → OnErr r ((x' ≡ x) × (pile' ≡ pile)) → ClientActs p to_client.Start c before (place_of x) after (place_of x') (did_of (done_if r))
+  started p c x x' (Ok u) s due e = (s.none_due, record { done = refl; now = s.place; post = says (says_hello (begun c (suc x.last_incarnation)) ∷ []) s.sent })
+  started p c x x' (Err r) s due e = (due, record { post = same e.1; node = ap place_of e.0 })
 
-  module _ (p : Pick) (c : ℕ) (what : Command) (x x' : Seat) (g : x'.last_incarnation ≡ x.last_incarnation) where
+  module _ (p : Pick) (c : ℕ) (what : Command) (x x' : ClientPlace) (g : x'.last_incarnation ≡ x.last_incarnation) where
     abbrev due : Option Client → Option Refused
     due k = if_runs k (λ k. named refused_by_client (command_refusal k what))
 

@@ -7,8 +7,8 @@ use Rattle.krl_durable.specs.Registers.{Durable}
 use Rattle.krl_durable.specs.Kept.{IsKept}
 use Rattle.krl_server.specs.Steps.{start}
 use Rattle.krl_server.specs.declared.state.State.{State as Kept}
-use Rattle.krl_world.specs.declared.node.ServerNode.{ServerNode as KeptNode}
-use Rattle.krl_world.specs.declared.node.ServerNode.TheVariants as kept
+use Rattle.krl_world.specs.declared.node.ServerPlace.{ServerPlace as KeptNode}
+use Rattle.krl_world.specs.declared.node.ServerPlace.TheVariants as kept
 use Rattle.krl_world.proofs.Functions.Shapes.{reachable_stays}
 use Rattle.krl_nodes.specs.declared.post.Chair.TheVariants.{Taken, Free}
 use Rattle.krl_nodes.proofs.Blanks.{opens}
@@ -46,7 +46,7 @@ fresh_from : (entries : List (ℕ × Value)) → CanOpen (unused entries) → Re
 unfolding opened
 fresh_from entries e = (reachable_stays.first (unused entries) e, refl)
 
-fresh_away : (entries : List (ℕ × Value)) (c : ℕ) → (fresh entries).seats c ≡ down_at 0
+fresh_away : (entries : List (ℕ × Value)) (c : ℕ) → (fresh entries).places c ≡ down_at 0
 unfolding opened
 fresh_away entries c = refl
 

@@ -1,6 +1,6 @@
 -- A scan at a node is a step of each world that has the client so, and leaves it as it is.
-use Rattle.krl_nodes.proofs.Names.{◌≡◌, ℕ, ◌≤◌, List, Some, None, refl, ap, ◌∙◌, Ok, Err, Value, Refused, State, Seat, client_of, index_of, Steps, span, if_runs, named, command_refusal, takes}
-use Rattle.krl_nodes.proofs.Names.{is_client, ClientAt, ReachableFrom, Agreeable, ClientPlace, client_shown, RowsAre, ScansIndex}
+use Rattle.krl_nodes.proofs.Names.{◌≡◌, ℕ, ◌≤◌, List, Some, None, refl, ap, ◌∙◌, Ok, Err, Value, Refused, State, ClientPlace, client_of, index_of, Steps, span, if_runs, named, command_refusal, takes}
+use Rattle.krl_nodes.proofs.Names.{is_client, ClientAt, ReachableFrom, Agreeable, SeatedClient, client_shown, RowsAre, ScansIndex}
 use Rattle.krl_durable.specs.Index.{range}
 use Rattle.krl_client.specs.Clients.{Client}
 use Rattle.krl_client.specs.Commands.{Answers, scan_refusal}
@@ -24,11 +24,11 @@ answer_is w opening c lo hi k (scanned.Rows rows) low reach up due found = rows_
 answer_is w opening c lo hi k (scanned.Miss p) low reach up due found = tt
 answer_is w opening c lo hi k (scanned.Pending n) low reach up due found = tt
 
-pub scans_there : (n : ClientPlace) (lo hi : ℕ) (k : Client) (a : ScanAnswer) → n.number ≤ 63 → Agreeable n.opening (ClientAt n.number (client_shown n)) → (client_shown n).client ≡ Some k → scan_refusal (span lo hi) ≡ None → Answers k (span lo hi) a → ScansIndex n lo hi (Ok a)
+pub scans_there : (n : SeatedClient) (lo hi : ℕ) (k : Client) (a : ScanAnswer) → n.number ≤ 63 → Agreeable n.opening (ClientAt n.number (client_shown n)) → (client_shown n).client ≡ Some k → scan_refusal (span lo hi) ≡ None → Answers k (span lo hi) a → ScansIndex n lo hi (Ok a)
 scans_there n lo hi k a low stands up due found = record {
   stands = stands;
-  rows = λ w reach agrees. answer_is w n.opening n.number lo hi k a low reach (ap (λ (x : Seat). x.client) agrees ∙ up) due found;
+  rows = λ w reach agrees. answer_is w n.opening n.number lo hi k a low reach (ap (λ (x : ClientPlace). x.client) agrees ∙ up) due found;
 }
 
-pub scans_not : (n : ClientPlace) (lo hi : ℕ) (e : Refused) → Agreeable n.opening (ClientAt n.number (client_shown n)) → ScansIndex n lo hi (Err e)
+pub scans_not : (n : SeatedClient) (lo hi : ℕ) (e : Refused) → Agreeable n.opening (ClientAt n.number (client_shown n)) → ScansIndex n lo hi (Err e)
 scans_not n lo hi e stands = record { stands = stands; rows = λ w reach agrees. tt }

@@ -3,7 +3,7 @@ use denote.Struct.Declared.{shape}
 use denote.Builtin.{bool, u64}
 use denote.Param.Send.{IsSend, struct_send, recorded_send, view_send, sendable}
 use Rattle.krl_client.proofs.Crosses.{global_sent, client_sent}
-use Rattle.krl_world.specs.contracts.node.Seat as seat
+use Rattle.krl_world.specs.contracts.node.ClientPlace as seat
 use Rattle.krl_nodes.specs.contracts.client.ClientNode as node
 use Rattle.krl_nodes.specs.contracts.run.Writer as writer
 use Rattle.krl_nodes.specs.contracts.delivery.Delivery as delivery

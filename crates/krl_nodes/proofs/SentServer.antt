@@ -4,7 +4,7 @@ use denote.Param.Send.{IsSend, struct_send, recorded_send, view_send, array_send
 use Rattle.krl_durable.proofs.Crosses.{durable_sent}
 use Rattle.krl_server.proofs.Crosses.{server_sent}
 use Rattle.krl_client.proofs.Crosses.{global_sent}
-use Rattle.krl_world.specs.contracts.node.ServerNode as desk
+use Rattle.krl_world.specs.contracts.node.ServerPlace as desk
 use Rattle.krl_nodes.specs.contracts.server.ServerNode as node
 use Rattle.krl_nodes.specs.contracts.run.Serving as serving
 use Rattle.krl_nodes.proofs.Sent.{seat_sent}

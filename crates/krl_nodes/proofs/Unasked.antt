@@ -1,5 +1,5 @@
 -- Memory was refused before the policy was asked.
-use Rattle.krl_nodes.proofs.Names.{◌≡◌, ◌<◌, ℕ, length, inr, refl, ap, Err, Refused, ServerNode, Seat, Mail, letters_to, Picks, ServerAsks, ClientAsks, ServerActsBy, ClientActsBy, Pick, Take}
+use Rattle.krl_nodes.proofs.Names.{◌≡◌, ◌<◌, ℕ, length, inr, refl, ap, Err, Refused, ServerPlace, ClientPlace, Mail, letters_to, Picks, ServerAsks, ClientAsks, ServerActsBy, ClientActsBy, Pick, Take}
 use Rattle.krl_steps.specs.declared.refused.Refused.TheVariants as refused
 use Rattle.krl_nodes.specs.declared.orders.ServerOrder.{ServerOrder}
 use Rattle.krl_nodes.specs.declared.orders.ClientOrder.{ClientOrder}
@@ -7,10 +7,10 @@ use Rattle.krl_nodes.specs.declared.orders.ServerOrder.TheVariants as to_server
 use Rattle.krl_nodes.specs.declared.orders.ClientOrder.TheVariants as to_client
 
 module _ {P : Type 0} (picks : Picks P) (mail : Mail) (q q' : P) (r : Refused) (is : r ≡ refused.OutOfMemory) (same : q' ≡ q) where
-  pub server_unasked : (d : ServerNode) → 0 < length mail.to_server → ServerActsBy picks to_server.Letter mail d q mail d (Err r) q'
+  pub server_unasked : (d : ServerPlace) → 0 < length mail.to_server → ServerActsBy picks to_server.Letter mail d q mail d (Err r) q'
   server_unasked d some = (Take 0, inr (ap (λ (e : Refused). Err e) is, same), (inr (refl, is, some), record { post = refl; node = refl }))
 
-  pub client_unasked : (c : ℕ) (x : Seat) → 0 < length (letters_to c mail) → ClientActsBy picks to_client.Letter c mail x q mail x (Err r) q'
+  pub client_unasked : (c : ℕ) (x : ClientPlace) → 0 < length (letters_to c mail) → ClientActsBy picks to_client.Letter c mail x q mail x (Err r) q'
   client_unasked c x some = (Take 0, inr (ap (λ (e : Refused). Err e) is, same), (inr (refl, is, some), record { post = refl; node = refl }))
 
 -- the order is for no letter, so the policy is not asked

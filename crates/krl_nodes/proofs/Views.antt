@@ -28,7 +28,7 @@ has_set views id j P v w at keeps t = dite (ℕ_discrete j id)
     (λ (e : j ≡ id). (w, subst (λ k. get_elem? (set views id w) k ≡ opt.some w) (sym e) (there_set views id v w at), keeps (subst (λ (u : View). P (shown u.node)) (some-injective _ _ (sym t.1 ∙ ap (get_elem? views) e ∙ at)) t.2)))
     (λ ne. (t.0, stays_set views id j w t.0 ne t.1, t.2))
 
--- and where the view that changed is not the one at that seat
+-- and if the view that changed is not the one at that seat
 pub has_set_else : (views : List View) (id j : ℕ) (P : Shown → Type 0) (v w : View) → get_elem? views id ≡ opt.some v → (P (shown v.node) → ⊥) → HasView views j P → HasView (set views id w) j P
 has_set_else views id j P v w at not t =
     let apart : j ≢ id = λ (e : j ≡ id). not (subst (λ (u : View). P (shown u.node)) (some-injective _ _ (sym t.1 ∙ ap (get_elem? views) e ∙ at)) t.2) in

@@ -4,7 +4,7 @@ use Rattle.rand_pcg.specs.Lcg.{Lcg}
 use Rattle.krl_draws.specs.Generator.{generator_of}
 use Rattle.krl_steps.specs.declared.refused.Refused.{Refused}
 use Rattle.krl_nodes.specs.Picks.{drawn_picks}
-use Rattle.krl_nodes.specs.Nodes.{ServerPlace, ClientPlace, ServerTurns, ClientTurns, ServerTurnsBy, ClientTurnsBy}
+use Rattle.krl_nodes.specs.Nodes.{SeatedServer, SeatedClient, ServerTurns, ClientTurns, ServerTurnsBy, ClientTurnsBy}
 use Rattle.krl_nodes.specs.declared.delivery.Delivery.{Delivery}
 use Rattle.krl_nodes.specs.declared.orders.ServerOrder.TheVariants as server_order
 use Rattle.krl_nodes.specs.declared.orders.ClientOrder.TheVariants as client_order
@@ -23,19 +23,19 @@ is_idle (Ok Idle) = true
 is_idle (Ok Lost) = false
 is_idle (Err e) = false
 
--- a turn for a letter: the oldest, where there is no policy, else the one that it picks
-abbrev pub ClientFetches : Option Lcg → ClientPlace → Result Turn Refused → ClientPlace → Option Lcg → Type 0
+-- a turn for a letter: the oldest, if there is no policy, else the one that it picks
+abbrev pub ClientFetches : Option Lcg → SeatedClient → Result Turn Refused → SeatedClient → Option Lcg → Type 0
 ClientFetches None n r n' p' = (p' ≡ None) × ClientTurns client_order.Letter n r n'
 ClientFetches (Some q) n r n' p' =
     (q' : Lcg) × (p' ≡ Some q') × ClientTurnsBy drawn_picks client_order.Letter n q r n' q'
 
-abbrev pub ServerFetches : Option Lcg → ServerPlace → Result Turn Refused → ServerPlace → Option Lcg → Type 0
+abbrev pub ServerFetches : Option Lcg → SeatedServer → Result Turn Refused → SeatedServer → Option Lcg → Type 0
 ServerFetches None n r n' p' = (p' ≡ None) × ServerTurns server_order.Letter n r n'
 ServerFetches (Some q) n r n' p' =
     (q' : Lcg) × (p' ≡ Some q') × ServerTurnsBy drawn_picks server_order.Letter n q r n' q'
 
 -- the client's turn for a letter, and whether it found none: then one may be lost, if a policy picks
-pub record ClientReadsBy (d : Delivery) (n : ClientPlace) (found_none : Bool) (d' : Delivery) (n' : ClientPlace)
+pub record ClientReadsBy (d : Delivery) (n : SeatedClient) (found_none : Bool) (d' : Delivery) (n' : SeatedClient)
     : Type 0 where
   pub answer : Result Turn Refused
   pub fetches : ClientFetches d.policy n answer n' d'.policy
@@ -43,7 +43,7 @@ pub record ClientReadsBy (d : Delivery) (n : ClientPlace) (found_none : Bool) (d
   pub may_lack : d'.may_lack ≡ (is_idle answer && is_some d.policy)
 
 -- so does the server
-pub record ServerReadsBy (d : Delivery) (n : ServerPlace) (d' : Delivery) (n' : ServerPlace) : Type 0 where
+pub record ServerReadsBy (d : Delivery) (n : SeatedServer) (d' : Delivery) (n' : SeatedServer) : Type 0 where
   pub answer : Result Turn Refused
   pub fetches : ServerFetches d.policy n answer n' d'.policy
   pub may_lack : d'.may_lack ≡ (is_idle answer && is_some d.policy)
@@ -52,22 +52,22 @@ pub record ServerReadsBy (d : Delivery) (n : ServerPlace) (d' : Delivery) (n' : 
 abbrev pub nudged : Bool → ℕ
 nudged is_second = if is_second then 2 else 1
 
-abbrev pub ServerNudges : Bool → ServerPlace → ServerPlace → Type 0
+abbrev pub ServerNudges : Bool → SeatedServer → SeatedServer → Type 0
 ServerNudges is_second n n' = (r : Result Turn Refused) × ServerTurns (server_order.Nudge (nudged is_second)) n r n'
 
 -- the server nudges this client, and next time the other one; what may be lost is asked once
-pub record NudgesByTurns (is_second : Bool) (d : Delivery) (n : ServerPlace) (is_second' : Bool) (d' : Delivery)
-    (n' : ServerPlace) : Type 0 where
+pub record NudgesByTurns (is_second : Bool) (d : Delivery) (n : SeatedServer) (is_second' : Bool) (d' : Delivery)
+    (n' : SeatedServer) : Type 0 where
   pub nudges : ServerNudges is_second n n'
   pub other : is_second' ≡ not is_second
   pub asked : d' ≡ record { policy = d.policy; may_lack = false }
 
--- the server nudges a client where a letter may be lost; else it reads one
-abbrev pub ServesOnce : Bool → Delivery → ServerPlace → Bool → Delivery → ServerPlace → Type 0
+-- the server nudges a client if a letter may be lost; else it reads one
+abbrev pub ServesOnce : Bool → Delivery → SeatedServer → Bool → Delivery → SeatedServer → Type 0
 ServesOnce is_second d n is_second' d' n' = MatchBool d.may_lack
     (NudgesByTurns is_second d n is_second' d' n')
     ((is_second' ≡ is_second) × ServerReadsBy d n d' n')
 
 -- the client says again what is not answered
-abbrev pub ClientTicks : ClientPlace → ClientPlace → Type 0
+abbrev pub ClientTicks : SeatedClient → SeatedClient → Type 0
 ClientTicks n n' = (r : Result Turn Refused) × ClientTurns client_order.Tick n r n'

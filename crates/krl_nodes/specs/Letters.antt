@@ -1,6 +1,7 @@
 -- Which letters wait for a node, which of them is picked, and where new ones go.
 use Rattle.std.specs.Prelude.{◌≡◌, ◌<◌, ℕ, suc, ◌-◌, cond, nat_eq, nat_lt, if◌then◌else◌, List, [], ◌∷◌, ◌++◌, length, remove}
 use Rattle.std.specs.Prelude.{Some, slice_get, slice_set, slice_index_or}
+use Rattle.krl_modes.specs.declared.limits.TheConstants.{MAX_CLIENTS}
 use Rattle.krl_messages.specs.Values.{Value}
 use Rattle.krl_messages.specs.declared.to_server.ToServer.{ToServer}
 use Rattle.krl_messages.specs.declared.to_client.ToClient.{ToClient}
@@ -22,10 +23,10 @@ abbrev pub up_to_last : ℕ → ℕ → ℕ
 up_to_last i n = if nat_lt i n then i else n - 1
 
 -- the place that is picked among n letters
-abbrev pub place_of : Pick → ℕ → ℕ
-place_of (Take i) n = up_to_last i n
-place_of (Copy i) n = up_to_last i n
-place_of (Lose i) n = up_to_last i n
+abbrev pub position_of : Pick → ℕ → ℕ
+position_of (Take i) n = up_to_last i n
+position_of (Copy i) n = up_to_last i n
+position_of (Lose i) n = up_to_last i n
 
 -- what is left of the letters
 abbrev pub left_by : {A : Type 0} → Pick → List A → List A
@@ -57,7 +58,7 @@ sorted c (xs ∷ rest) ms = (xs ++ only_to c ms) ∷ sorted (suc c) rest ms
 
 -- the letter that is picked among these
 abbrev pub IsPicked : {A : Type 0} → Pick → List A → A → Type 0
-IsPicked p xs x = slice_get xs (place_of p (length xs)) ≡ Some x
+IsPicked p xs x = slice_get xs (position_of p (length xs)) ≡ Some x
 
 -- the pick delivers the letter, or loses it
 abbrev pub Delivers : Pick → Type 0
@@ -75,7 +76,7 @@ Loses (Lose i) = Unit {0}
 -- the reader is the server, or a client with a number below 64
 abbrev pub IsReader : Reader → Type 0
 IsReader reader.Server = Unit {0}
-IsReader (reader.Client c) = c < 64
+IsReader (reader.Client c) = c < MAX_CLIENTS
 
 -- how many letters wait for it
 abbrev pub waiting_for : Reader → Mail → ℕ

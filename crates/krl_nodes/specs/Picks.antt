@@ -1,4 +1,4 @@
--- What becomes of a letter, where that is drawn.
+-- What becomes of a letter, if that is drawn.
 use Rattle.std.specs.Prelude.{◌≡◌, ℕ, nat_eq, nat_lt, if◌then◌else◌}
 use Rattle.rand_pcg.specs.Lcg.{Lcg}
 use Rattle.krl_draws.specs.Generator.{Draw, below, always, ◌>>=◌}

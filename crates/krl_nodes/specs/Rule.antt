@@ -6,7 +6,7 @@ use lib.ListN.{get_elem?}
 use Rattle.atomic_table.specs.Table.{State as Table}
 use Rattle.krl_messages.specs.Values.{Value}
 use Rattle.krl_world.specs.declared.message.Message.{Message}
-use Rattle.krl_world.specs.States.{ServerNode, Seat, State, unused}
+use Rattle.krl_world.specs.States.{ServerPlace, ClientPlace, State, unused}
 use Rattle.krl_world.specs.Steps.{IsReachable}
 use Rattle.krl_world.specs.declared.message.Message.TheVariants as message
 use Rattle.krl_messages.specs.declared.to_server.ToServer.{ToServer}
@@ -44,7 +44,7 @@ Kept words homes views mail = AtHome words homes views mail ⊎ IsOut words home
 -- (ii) the first seat is the server's; each client that the post notes as seated has exactly one view, and no other
 -- client has one
 
--- the seat i may show this, where the client c sits at the seat `at c`
+-- the seat i may show this, if the client c sits at the seat `at c`
 abbrev pub Sits : (ℕ → ℕ) → List Chair → ℕ → Shown → Type 0
 Sits at chairs i (ServerAt d) = i ≡ 0
 Sits at chairs i (ClientAt c x) = (i ≡ at c) × (slice_get chairs c ≡ Some Taken)
@@ -52,10 +52,10 @@ Sits at chairs i Nobody = Unit {0}
 Sits at chairs i Gone = Unit {0}
 
 abbrev pub IsServer : Shown → Type 0
-IsServer n = (d : ServerNode) × (n ≡ ServerAt d)
+IsServer n = (d : ServerPlace) × (n ≡ ServerAt d)
 
 abbrev pub IsClient : ℕ → Shown → Type 0
-IsClient c n = (x : Seat) × (n ≡ ClientAt c x)
+IsClient c n = (x : ClientPlace) × (n ≡ ClientAt c x)
 
 -- the view of this seat is such a one
 abbrev pub HasView : List View → ℕ → (Shown → Type 0) → Type 0
@@ -80,7 +80,7 @@ Names opening v = NamesAs (shown v.node) (v.opening ≡ opening)
 -- what is shown is so in the world
 abbrev pub Agrees : State → Shown → Type 0
 Agrees w (ServerAt d) = w.server ≡ d
-Agrees w (ClientAt c x) = w.seats c ≡ x
+Agrees w (ClientAt c x) = w.places c ≡ x
 Agrees w Nobody = Unit {0}
 Agrees w Gone = Unit {0}
 
@@ -95,11 +95,11 @@ pub record AllSent (mail : Mail) (sent : List Message) : Type 0 where
       (m.client ≡ c) × StandsIn (message.ToClient m) sent
 
 -- a client that is down, and this greatest incarnation
-abbrev pub down_at : ℕ → Seat
+abbrev pub down_at : ℕ → ClientPlace
 down_at i = record { last_incarnation = i; client = None }
 
 abbrev pub AllAway : List Chair → State → Type 0
-AllAway chairs w = (c i : ℕ) → slice_get chairs c ≡ Some (Free i) → w.seats c ≡ down_at i
+AllAway chairs w = (c i : ℕ) → slice_get chairs c ≡ Some (Free i) → w.places c ≡ down_at i
 
 -- some list of taken steps leads to the world from these entries
 abbrev pub ReachableFrom : List (ℕ × Value) → State → Type 0

@@ -11,8 +11,8 @@ abbrev pub seeds : List (ℕ × Value)
 seeds = (10, to_be_bytes w64 1) ∷ (20, to_be_bytes w64 2) ∷ []
 
 -- the most turns of a client
-abbrev pub most_turns : ℕ
-most_turns = 10000
+abbrev pub max_turns : ℕ
+max_turns = 10000
 
 -- some row has the key
 abbrev pub HasKey : ℕ → List (ℕ × Value) → Type 0

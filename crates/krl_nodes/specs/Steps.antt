@@ -5,8 +5,8 @@ use Rattle.krl_messages.specs.Values.{Value}
 use Rattle.krl_world.specs.declared.message.Message.{Message}
 use Rattle.krl_steps.specs.declared.step.Step.{Step}
 use Rattle.krl_steps.specs.declared.answer.Answer.{Answer}
-use Rattle.krl_world.specs.declared.node.ServerNode.{ServerNode as KeptNode}
-use Rattle.krl_world.specs.States.{ServerNode, Seat, State}
+use Rattle.krl_world.specs.declared.node.ServerPlace.{ServerPlace as KeptNode}
+use Rattle.krl_world.specs.States.{ServerPlace, ClientPlace, State}
 use Rattle.krl_world.specs.Steps as world
 use Rattle.krl_nodes.specs.Mail.{Mail}
 use Rattle.krl_nodes.specs.Shown.{Shown, ServerAt, ClientAt, Nobody, Gone, shown}
@@ -76,19 +76,20 @@ pub record Found (mail : Mail) (v : View) : Type 0 where
 abbrev pub Took : table.Me Mail View → table.Me Mail View → Type 0
 Took m m' = (mail : Mail) × (m' ≡ (holding m.0 mail, (0, mail) ∷ m.1)) × Found mail m.0
 
--- kinds 1 and 2: the post is taken where the word was 0
+-- kinds 1 and 2: the post is taken if the word was 0
 abbrev pub took : table.Me Mail View → ℕ → table.Me Mail View → Type 0
 took m n m' = (n ≡ 0 → Took m m') × (n ≢ 0 → m' ≡ m)
 
 abbrev pub ServerMoves : State → Shown → Shown → State → Type 0
 ServerMoves w n n' w' =
-    (d d' : ServerNode) × (n ≡ ServerAt d) × (n' ≡ ServerAt d') × (w'.server ≡ d')
-    × ((c : ℕ) → w'.seats c ≡ w.seats c)
+    (d d' : ServerPlace) × (n ≡ ServerAt d) × (n' ≡ ServerAt d') × (w'.server ≡ d')
+    × ((c : ℕ) → w'.places c ≡ w.places c)
 
 abbrev pub ClientMoves : State → Shown → Shown → State → Type 0
 ClientMoves w n n' w' =
-    (c : ℕ) × (x x' : Seat) × (n ≡ ClientAt c x) × (n' ≡ ClientAt c x') × (w'.server ≡ w.server) × (w'.seats c ≡ x')
-    × ((d : ℕ) → d ≢ c → w'.seats d ≡ w.seats d)
+    (c : ℕ) × (x x' : ClientPlace) × (n ≡ ClientAt c x) × (n' ≡ ClientAt c x') × (w'.server ≡ w.server)
+    × (w'.places c ≡ x')
+    × ((d : ℕ) → d ≢ c → w'.places d ≡ w.places d)
 
 -- the nodes of the world differ at this one alone
 abbrev pub IsMove : State → Shown → Shown → State → Type 0
@@ -107,7 +108,7 @@ pub record Event (w : State) (n n' : Shown) (mail : Mail) : Type 0 where
 pub record Acts (mail : Mail) (n : Shown) (mail' : Mail) (n' : Shown) : Type 0 where
   pub opening : mail'.opening ≡ mail.opening
   pub chairs : mail'.chairs ≡ mail.chairs
-  pub event : (w : State) → ReachableFrom mail.opening w → Agrees w n → AllSent mail w.sent →
+  pub order : (w : State) → ReachableFrom mail.opening w → Agrees w n → AllSent mail w.sent →
       Event w n n' mail'
 
 -- no letter comes
@@ -116,7 +117,7 @@ pub record HasNoMore (mail mail' : Mail) : Type 0 where
   pub chairs : mail'.chairs ≡ mail.chairs
   pub letters : (sent : List Message) → AllSent mail sent → AllSent mail' sent
 
--- kind 4: no event, and at most a letter is lost
+-- kind 4: no order, and at most a letter is lost
 abbrev pub Rests : Mail → Shown → Mail → Shown → Type 0
 Rests mail n mail' n' = HasNoMore mail mail' × (n' ≡ n)
 

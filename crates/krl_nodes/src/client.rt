@@ -1,21 +1,22 @@
 //! A client's node.
 ghost use Rattle.std.specs.Prelude.{◌≡◌, ◌<◌, suc};
-ghost use Rattle.krl_world.specs.Fields.{seat_of};
+ghost use Rattle.krl_world.specs.Fields.{place_of};
 ghost use Rattle.krl_world.specs.States.{range_believed, key_believed};
 ghost use Rattle.krl_nodes.specs.declared.policy.Pick.TheVariants.{Take};
 ghost use Rattle.krl_nodes.specs.Turns.{ClientActs, ClientActsBy};
 ghost use Rattle.krl_nodes.specs.Nodes.{HoldsPost, Changes, ClientTurns, ClientTurnsBy};
 ghost use Rattle.krl_nodes.specs.Nodes.{IsSameClient};
 ghost use Rattle.krl_nodes.specs.Nodes.{ScansAs, ScansIndex, client_of_node, status_at};
+ghost use Rattle.krl_modes.specs.declared.limits.TheConstants.{MAX_CLIENTS};
 
 use crate::office::Office;
 use crate::orders::{ClientOrder, Turn};
 use crate::policy::{Pick, Policy};
 use crate::rule::Ticket;
-use crate::turns::{client_event, client_event_by};
+use crate::turns::{do_client_order, do_client_order_by};
 use krl_client::{ScanAnswer, Status};
 use krl_modes::{KeyPart, RangePart};
-use krl_world::{Refused, Seat};
+use krl_world::{ClientPlace, Refused};
 use std::alloc::Global;
 use std::marker::{Brand, Model};
 use std::sync::Wait;
@@ -27,18 +28,18 @@ use std::sync::Wait;
 pub struct ClientNode {
     pub(crate) alloc: Global,
     pub(crate) number: u64,
-    pub(crate) seat: Seat,
+    pub(crate) seat: ClientPlace,
     pub(crate) ticket: Ticket,
 }
 
 impl Model for ClientNode {
-    ghost use Rattle.krl_nodes.specs.Nodes.{ClientPlace};
+    ghost use Rattle.krl_nodes.specs.Nodes.{SeatedClient};
     ghost use Rattle.std.specs.Coded.{codes};
     ghost use Rattle.atomic_table.specs.Seated.{table_id_coded};
-    ghost use Rattle.krl_world.specs.contracts.node.Seat as client_seat;
+    ghost use Rattle.krl_world.specs.contracts.node.ClientPlace as client_seat;
     ghost use Rattle.krl_nodes.specs.contracts.view.Exchange as exchange;
 
-    ghost Value = { ClientPlace };
+    ghost Value = { SeatedClient };
 
     ghost coded = { Prim.hlevel
         (codes, table_id_coded, client_seat.the_row.coded, exchange.the_row.coded) };
@@ -46,6 +47,7 @@ impl Model for ClientNode {
     ghost use Rattle.std.specs.Prelude.{◌<◌};
     ghost use Rattle.krl_nodes.specs.Nodes.{IsAt};
     ghost use Rattle.krl_nodes.specs.declared.view.Node.TheVariants.{Client};
+    ghost use Rattle.krl_modes.specs.declared.limits.TheConstants.{MAX_CLIENTS};
 
     ghost view = { λ n. record {
       office = n.ticket.table_id;
@@ -56,66 +58,66 @@ impl Model for ClientNode {
       seat = n.seat;
     } };
 
-    ghost invariant = { λ n. IsAt n.ticket (Client n.number n.seat) × (n.number < 64) };
+    ghost invariant = { λ n. IsAt n.ticket (Client n.number n.seat) × (n.number < MAX_CLIENTS) };
 }
 
-// One event, on the post that the seat holds.
-fn event(
+// One order, on the post that the seat holds.
+fn do_order(
     alloc: Global,
     office: &Office,
     ticket: &mut Ticket,
     number: u64,
-    seat: &mut Seat,
+    seat: &mut ClientPlace,
     order: ClientOrder,
 ) -> Result<Turn, Refused>
     requires own { ticket.old.table_id ≡ office.now }
     requires holds { HoldsPost ticket.old.me }
-    requires small { number < 64 }
+    requires small { number < MAX_CLIENTS }
     ensures own { (ticket.new.table_id ≡ ticket.old.table_id) × (ticket.new.id ≡ ticket.old.id) }
     ensures acts { Changes ticket.old.me ticket.new.me (λ mail mail'. ClientActs (Take 0) order
-        number mail (seat_of seat.old) mail' (seat_of seat.new) result) }
+        number mail (place_of seat.old) mail' (place_of seat.new) result) }
 {
     let post = ticket.slot_mut(&office.table.shared, 0);
     post.sort();
-    let answer = client_event(alloc, post, number, seat, order, Pick::Take(0));
+    let answer = do_client_order(alloc, post, number, seat, order, Pick::Take(0));
     post.sort();
     answer
 }
 
 // So by the policy's pick.
-fn event_by<P: Policy>(
+fn do_order_by<P: Policy>(
     alloc: Global,
     office: &Office,
     ticket: &mut Ticket,
     number: u64,
-    seat: &mut Seat,
+    seat: &mut ClientPlace,
     order: ClientOrder,
     policy: &mut P,
 ) -> Result<Turn, Refused>
     requires own { ticket.old.table_id ≡ office.now }
     requires holds { HoldsPost ticket.old.me }
-    requires small { number < 64 }
+    requires small { number < MAX_CLIENTS }
     ensures own { (ticket.new.table_id ≡ ticket.old.table_id) × (ticket.new.id ≡ ticket.old.id) }
     ensures acts { Changes ticket.old.me ticket.new.me (λ mail mail'. ClientActsBy P.picks order
-        number mail (seat_of seat.old) policy.old mail' (seat_of seat.new) result policy.new) }
+        number mail (place_of seat.old) policy.old mail' (place_of seat.new) result policy.new) }
 {
     let post = ticket.slot_mut(&office.table.shared, 0);
     post.sort();
-    let answer = client_event_by(alloc, post, number, seat, order, policy);
+    let answer = do_client_order_by(alloc, post, number, seat, order, policy);
     post.sort();
     answer
 }
 
 impl ClientNode {
-    /// Takes the post, does one event and gives the post back. `Letter` reads the oldest letter to
-    /// this client, which loses it where it is down. What is sent goes to the end of the letters to
+    /// Takes the post, does one order and gives the post back. `Letter` reads the oldest letter to
+    /// this client, which loses it if it is down. What is sent goes to the end of the letters to
     /// the server.
     ///
     /// # Errors
     ///
-    /// The first of these, and the post goes back as it was: `Running` for `Start` where the client
-    /// runs, and `Down` for `Command`, `Tick` and `Crash` where it doesn't; `Spent` where there is
-    /// no incarnation for a start; what the client refuses of a command; `OutOfMemory` where memory
+    /// The first of these, and the post goes back as it was: `Running` for `Start` if the client
+    /// runs, and `Down` for `Command`, `Tick` and `Crash` if it doesn't; `Spent` if there is
+    /// no incarnation for a start; what the client refuses of a command; `OutOfMemory` if memory
     /// is refused.
     pub fn turn<R: Wait>(
         &mut self,
@@ -130,7 +132,7 @@ impl ClientNode {
     {
         office.take(rt, &mut self.ticket);
         let number = self.number;
-        let answer = event(
+        let answer = do_order(
             self.alloc,
             office,
             &mut self.ticket,
@@ -142,7 +144,7 @@ impl ClientNode {
         answer
     }
 
-    /// As `turn`, but for `Letter`: the policy is asked, where some letter to this client waits,
+    /// As `turn`, but for `Letter`: the policy is asked, if some letter to this client waits,
     /// which one is delivered, and whether it is taken out or stays; or which one is lost. A lost
     /// letter is taken out, and the client is as it was: the answer is `Lost`.
     ///
@@ -163,7 +165,7 @@ impl ClientNode {
     {
         office.take(rt, &mut self.ticket);
         let number = self.number;
-        let answer = event_by(
+        let answer = do_order_by(
             self.alloc,
             office,
             &mut self.ticket,
@@ -184,7 +186,7 @@ impl ClientNode {
     }
 
     /// What the client believes that it holds at the point: a range part and a key part, both N
-    /// past END, and where the client does not run. It takes no memory, and neither the post nor a
+    /// past END, and if the client does not run. It takes no memory, and neither the post nor a
     /// runtime value.
     pub fn held(&self, point: u64) -> (RangePart, KeyPart)
         ensures { let client = client_of_node self.now in
@@ -196,7 +198,7 @@ impl ClientNode {
         }
     }
 
-    /// What the client shows of itself, where it runs. It takes no memory, and neither the post nor
+    /// What the client shows of itself, if it runs. It takes no memory, and neither the post nor
     /// a runtime value.
     pub fn status(&self) -> Option<Status>
         ensures { result ≡ status_at (client_of_node self.now) }
@@ -213,8 +215,8 @@ impl ClientNode {
     ///
     /// # Errors
     ///
-    /// `Down` where the client does not run; else `BadSpan` where `lo` is not below `hi`, or `hi`
-    /// is above TOP; else `OutOfMemory` where the memory for the rows is refused.
+    /// `Down` if the client does not run; else `BadSpan` if `lo` is not below `hi`, or `hi`
+    /// is above TOP; else `OutOfMemory` if the memory for the rows is refused.
     pub fn scan(&self, lo: u64, hi: u64) -> Result<ScanAnswer, Refused>
         ensures answers { ScansAs (client_of_node self.now) lo hi result }
         ensures there { ScansIndex self.now lo hi result }

@@ -13,7 +13,7 @@ use crate::server::ServerNode;
 use krl_world::Refused;
 use std::sync::Wait;
 
-/// How a node of a run comes by its letters: the oldest first, or as a policy picks. Where a policy
+/// How a node of a run comes by its letters: the oldest first, or as a policy picks. If a policy
 /// may have lost one, a turn that found none is followed by one that says again what is not
 /// answered.
 #[derive(Drop)]

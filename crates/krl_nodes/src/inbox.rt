@@ -48,7 +48,7 @@ impl<T> Inbox<T> {
         &self.letters[at]
     }
 
-    /// Puts a letter behind the others. It comes back where memory is refused.
+    /// Puts a letter behind the others. It comes back if memory is refused.
     pub(crate) fn push(&mut self, letter: T) -> Result<(), AllocFailed<T>>
         ensures { MatchResult result
             (λ _. self.new ≡ self.old ++ letter ∷ [])
@@ -59,7 +59,7 @@ impl<T> Inbox<T> {
 }
 
 impl<T: Drop> Inbox<T> {
-    /// Takes out the letter at this place. Where it is the oldest, no other moves.
+    /// Takes out the letter at this place. If it is the oldest, no other moves.
     pub(crate) fn remove(&mut self, at: usize)
         requires { at < length self.old }
         ensures { self.new ≡ remove self.old at }

@@ -7,7 +7,7 @@ use crate::post::Post;
 use crate::rule::{Give, Next, OnePost, Opening, Take, Ticket};
 use crate::view::View;
 use atomic_table::Table;
-use krl_world::{Seat, ServerNode as Desk};
+use krl_world::{ClientPlace, ServerPlace};
 use std::alloc::Global;
 use std::marker::Model;
 use std::snapshot::Snapshot;
@@ -63,8 +63,8 @@ impl Office {
         self.table.shared.store::<Give<J>>(ticket, 0, 0);
     }
 
-    // The same, where the call tells the server.
-    pub(crate) fn give_server<J: Next>(&self, ticket: &mut Ticket, _desk: &Desk)
+    // The same. The call tells the server, which only its proof reads.
+    pub(crate) fn give_server<J: Next>(&self, ticket: &mut Ticket, _desk: &ServerPlace)
         requires own { ticket.old.table_id ≡ self.now }
         requires may { MayGive ticket.old.me J.next }
         ensures own { (ticket.new.table_id ≡ ticket.old.table_id)
@@ -75,8 +75,13 @@ impl Office {
         self.give::<J>(ticket);
     }
 
-    // The same, where the call tells the client's number and seat.
-    pub(crate) fn give_client<J: Next>(&self, ticket: &mut Ticket, _number: u64, _seat: &Seat)
+    // The same. The call tells the client's number and seat, which only its proof reads.
+    pub(crate) fn give_client<J: Next>(
+        &self,
+        ticket: &mut Ticket,
+        _number: u64,
+        _seat: &ClientPlace,
+    )
         requires own { ticket.old.table_id ≡ self.now }
         requires may { MayGive ticket.old.me J.next }
         ensures own { (ticket.new.table_id ≡ ticket.old.table_id)

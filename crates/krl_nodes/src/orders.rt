@@ -4,7 +4,7 @@ use krl_world::{Answer, Command};
 /// What the server's node is told to do.
 #[derive(Clone, Copy)]
 pub enum ServerOrder {
-    /// Read a letter to the server, where one waits: the oldest, or the one that is picked.
+    /// Read a letter to the server, if one waits: the oldest, or the one that is picked.
     Letter,
     /// Send the client of this number again what it has not heard, or call back those who block it.
     Nudge(u64),
@@ -17,7 +17,7 @@ pub enum ServerOrder {
 /// What a client's node is told to do.
 #[derive(Clone, Copy)]
 pub enum ClientOrder {
-    /// Read a letter to this client, where one waits: the oldest, or the one that is picked.
+    /// Read a letter to this client, if one waits: the oldest, or the one that is picked.
     Letter,
     /// Obey the command.
     Command(Command),

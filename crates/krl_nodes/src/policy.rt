@@ -1,7 +1,7 @@
 //! Which of the letters to a node is picked, and what becomes of it.
 ghost use Rattle.std.specs.Prelude.{◌≡◌, ◌<◌, ℕ};
 ghost use Rattle.krl_nodes.specs.declared.policy.Pick.{Pick};
-ghost use Rattle.krl_nodes.specs.Letters.{place_of};
+ghost use Rattle.krl_nodes.specs.Letters.{position_of};
 
 /// What becomes of one of the letters to a node. Letters are counted from 0, the oldest first, and
 /// a number past the youngest stands for the youngest.
@@ -19,7 +19,7 @@ impl Pick {
     /// The place of the letter among so many.
     pub(crate) fn place(self, letters: usize) -> usize
         requires { 0 < letters }
-        ensures place { result ≡ place_of self letters }
+        ensures place { result ≡ position_of self letters }
         ensures below { result < letters }
     {
         let (Pick::Take(at) | Pick::Copy(at) | Pick::Lose(at)) = self;

@@ -4,7 +4,7 @@ ghost use Rattle.std.specs.Prelude.{Some, slice_get, MatchBool, MatchResult};
 ghost use Rattle.krl_server.specs.StateMeaning as server_states;
 ghost use Rattle.krl_server.specs.Steps as steps;
 ghost use Rattle.krl_client.specs.Fields as client_fields;
-ghost use Rattle.krl_world.specs.Fields.{node_of, seat_of};
+ghost use Rattle.krl_world.specs.Fields.{node_of, place_of};
 ghost use Rattle.krl_steps.specs.declared.refused.Refused.TheVariants as refused;
 ghost use Rattle.krl_nodes.specs.declared.orders.ServerOrder.TheVariants as server_order;
 ghost use Rattle.krl_nodes.specs.declared.orders.ClientOrder.TheVariants as client_order;
@@ -15,6 +15,7 @@ ghost use Rattle.krl_nodes.specs.Turns.{ServerActs, ClientActs, HasTicked, did_o
 ghost use Rattle.krl_nodes.specs.Sorting.{is_for, HasHeard, HasRead, HasOne, HasNone};
 ghost use Rattle.krl_nodes.specs.Sorting.{HasTaken, IsNew};
 ghost use Rattle.krl_nodes.specs.Nodes.{IsSeated};
+ghost use Rattle.krl_modes.specs.declared.limits.TheConstants.{MAX_CLIENTS};
 
 use crate::inbox::Inbox;
 use crate::orders::Turn;
@@ -22,10 +23,11 @@ use crate::policy::Pick;
 use crate::sorting::sort_all;
 use krl_client::Client;
 use krl_messages::{Items, ToClient, ToServer, Value};
+use krl_modes::MAX_CLIENTS;
 use krl_server::Server;
-use krl_world::network::{MOST_OF_A_SERVER, send_to_clients};
+use krl_world::network::{MAX_OF_A_SERVER, send_to_clients};
 use krl_world::{
-    Answer, Command, Message, Refused, Seat, ServerNode as Desk, client_steps, server_steps,
+    Answer, ClientPlace, Command, Message, Refused, ServerPlace, client_steps, server_steps,
 };
 use std::alloc::{AllocError, Global};
 use std::marker::Model;
@@ -57,9 +59,9 @@ pub struct Post {
     to_server: Inbox<ToServer>,
     to_clients: Vec<Inbox<ToClient>>,
     // What was sent last. A step has room for what it sends before it runs, and knows only then
-    // whom it sends to; `sort` leaves none of it but where memory is refused.
+    // whom it sends to; `sort` leaves none of it unless memory is refused.
     unsorted: Vec<Message>,
-    chairs: [Chair; 64],
+    chairs: [Chair; MAX_CLIENTS],
 }
 
 impl Model for Post {
@@ -69,18 +71,20 @@ impl Model for Post {
     ghost Value = { Mail };
 
     ghost use Rattle.std.specs.Prelude.{◌≡◌, length};
+    ghost use Rattle.krl_modes.specs.declared.limits.TheConstants.{MAX_CLIENTS};
 
     ghost view = { λ p.
         mail_of p.opening.value p.to_server p.to_clients.items p.unsorted.items p.chairs };
 
-    ghost invariant = { λ p. (length p.chairs ≡ 64) × (length p.to_clients.items ≡ 64) };
+    ghost invariant = { λ p. (length p.chairs ≡ MAX_CLIENTS)
+        × (length p.to_clients.items ≡ MAX_CLIENTS) };
 }
 
 // Inboxes for 64 clients, without letters.
 fn inboxes(alloc: Global) -> Result<Vec<Inbox<ToClient>>, AllocError>
-    ensures { IfOk result (λ inboxes. inboxes.items ≡ replicate 64 []) }
+    ensures { IfOk result (λ inboxes. inboxes.items ≡ replicate MAX_CLIENTS []) }
 {
-    let mut inboxes = Vec::with_capacity(alloc, 64)?;
+    let mut inboxes = Vec::with_capacity(alloc, MAX_CLIENTS)?;
     for _ in 0..64u64 {
         inboxes.push(Inbox::new(alloc))?;
     }
@@ -118,7 +122,7 @@ fn any_for(messages: &[Message], reader: Reader) -> bool
 // the letter.
 fn hear(
     alloc: Global,
-    desk: &mut Desk,
+    desk: &mut ServerPlace,
     messages: &mut Vec<Message>,
     letter: &ToServer,
 ) -> Result<(), AllocError>
@@ -127,18 +131,22 @@ fn hear(
     ensures err { OnErr result
         ((desk.new ≡ desk.old) × (messages.new.items ≡ messages.old.items)) }
 {
-    let Desk::Up(server) = desk else {
+    let ServerPlace::Up(server) = desk else {
         return Ok(());
     };
-    messages.reserve(MOST_OF_A_SERVER)?;
+    messages.reserve(MAX_OF_A_SERVER)?;
     let out = server.step(alloc, letter)?;
     send_to_clients(messages, out.messages);
     Ok(())
 }
 
 // So does a client.
-fn read(seat: &mut Seat, messages: &mut Vec<Message>, letter: &ToClient) -> Result<(), AllocError>
-    ensures ok { OnOk result (HasRead (seat_of seat.old) letter.now (seat_of seat.new)
+fn read(
+    seat: &mut ClientPlace,
+    messages: &mut Vec<Message>,
+    letter: &ToClient,
+) -> Result<(), AllocError>
+    ensures ok { OnOk result (HasRead (place_of seat.old) letter.now (place_of seat.new)
         messages.old.items messages.new.items) }
     ensures err { OnErr result
         ((seat.new ≡ seat.old) × (messages.new.items ≡ messages.old.items)) }
@@ -153,7 +161,7 @@ fn read(seat: &mut Seat, messages: &mut Vec<Message>, letter: &ToClient) -> Resu
 fn hear_one(
     alloc: Global,
     inbox: &mut Inbox<ToServer>,
-    desk: &mut Desk,
+    desk: &mut ServerPlace,
     messages: &mut Vec<Message>,
     pick: Pick,
 ) -> Result<Turn, Refused>
@@ -184,12 +192,12 @@ fn hear_one(
 // So does a client.
 fn read_one(
     inbox: &mut Inbox<ToClient>,
-    seat: &mut Seat,
+    seat: &mut ClientPlace,
     messages: &mut Vec<Message>,
     pick: Pick,
 ) -> Result<Turn, Refused>
-    ensures { HasTaken HasRead pick inbox.old (seat_of seat.old) messages.old.items
-        inbox.new (seat_of seat.new) messages.new.items result }
+    ensures { HasTaken HasRead pick inbox.old (place_of seat.old) messages.old.items
+        inbox.new (place_of seat.new) messages.new.items result }
 {
     if inbox.len() == 0 {
         return Ok(Turn::Idle);
@@ -217,7 +225,7 @@ impl Post {
     ///
     /// # Errors
     ///
-    /// `AllocError` where memory is refused.
+    /// `AllocError` if memory is refused.
     pub(crate) fn new(alloc: Global, opening: &Items<(u64, Value)>) -> Result<Post, AllocError>
         ensures { IfOk result (λ post. IsNew opening.now post) }
     {
@@ -226,12 +234,12 @@ impl Post {
             to_server: Inbox::new(alloc),
             to_clients: inboxes(alloc)?,
             unsorted: Vec::new(alloc),
-            chairs: [Chair::Free(0); 64],
+            chairs: [Chair::Free(0); MAX_CLIENTS],
         })
     }
 
     fn chair(&self, client: u64) -> Chair
-        requires { client < 64 }
+        requires { client < MAX_CLIENTS }
         ensures { slice_get self.now.chairs client ≡ Some result }
     {
         self.chairs[client as usize]
@@ -239,15 +247,15 @@ impl Post {
 
     /// Notes that the client is seated, or that it is not.
     pub(crate) fn set_chair(&mut self, client: u64, chair: Chair)
-        requires { client < 64 }
+        requires { client < MAX_CLIENTS }
         ensures { self.new ≡ with_chair self.old client chair }
     {
         self.chairs[client as usize] = chair;
     }
 
-    /// Seats the client where its chair is free, and says how it was.
+    /// Seats the client if its chair is free, and says how it was.
     pub(crate) fn sit(&mut self, client: u64) -> Chair
-        requires { client < 64 }
+        requires { client < MAX_CLIENTS }
         ensures { IsSeated client result self.old self.new }
     {
         let chair = self.chair(client);
@@ -273,7 +281,7 @@ impl Post {
     ///
     /// # Errors
     ///
-    /// `OutOfMemory` where some letter to it is not sorted, since memory was refused.
+    /// `OutOfMemory` if some letter to it is not sorted, since memory was refused.
     pub(crate) fn count_for(&self, reader: Reader) -> Result<usize, Refused>
         requires { IsReader reader }
         ensures { MatchResult result (λ n. n ≡ waiting_for reader self.now)
@@ -293,11 +301,11 @@ impl Post {
     ///
     /// # Errors
     ///
-    /// `OutOfMemory` where memory is refused. Nothing has changed then.
+    /// `OutOfMemory` if memory is refused. Nothing has changed then.
     pub(crate) fn serve(
         &mut self,
         alloc: Global,
-        desk: &mut Desk,
+        desk: &mut ServerPlace,
         pick: Pick,
     ) -> Result<Turn, Refused>
         ensures { ServerActs pick server_order.Letter self.old (node_of desk.old) self.new
@@ -314,11 +322,16 @@ impl Post {
     ///
     /// # Errors
     ///
-    /// `OutOfMemory` where memory is refused. Nothing has changed then.
-    pub(crate) fn hand(&mut self, number: u64, seat: &mut Seat, pick: Pick) -> Result<Turn, Refused>
-        requires { number < 64 }
-        ensures { ClientActs pick client_order.Letter number self.old (seat_of seat.old) self.new
-            (seat_of seat.new) result }
+    /// `OutOfMemory` if memory is refused. Nothing has changed then.
+    pub(crate) fn hand(
+        &mut self,
+        number: u64,
+        seat: &mut ClientPlace,
+        pick: Pick,
+    ) -> Result<Turn, Refused>
+        requires { number < MAX_CLIENTS }
+        ensures { ClientActs pick client_order.Letter number self.old (place_of seat.old) self.new
+            (place_of seat.new) result }
     {
         if any_for(&self.unsorted, Reader::Client(number)) {
             return Err(Refused::OutOfMemory);
@@ -331,7 +344,7 @@ impl Post {
     ///
     /// # Errors
     ///
-    /// `AllocError` where memory is refused. Nothing has changed then.
+    /// `AllocError` if memory is refused. Nothing has changed then.
     pub(crate) fn nudge(
         &mut self,
         alloc: Global,
@@ -345,14 +358,14 @@ impl Post {
         server_steps::nudge(alloc, server, &mut self.unsorted, client)
     }
 
-    /// The client at the seat, where one runs, obeys the command.
+    /// The client at the seat, if one runs, obeys the command.
     ///
     /// # Errors
     ///
-    /// `Down` where none runs, else what the client refuses. Nothing has changed then.
-    pub(crate) fn obey(&mut self, seat: &mut Seat, what: Command) -> Result<Answer, Refused>
+    /// `Down` if none runs, else what the client refuses. Nothing has changed then.
+    pub(crate) fn obey(&mut self, seat: &mut ClientPlace, what: Command) -> Result<Answer, Refused>
         ensures { (p : Pick) (c : ℕ) → ClientActs p (client_order.Command what) c self.old
-            (seat_of seat.old) self.new (seat_of seat.new) (did_of result) }
+            (place_of seat.old) self.new (place_of seat.new) (did_of result) }
     {
         client_steps::obey(seat, &mut self.unsorted, what)
     }
@@ -361,7 +374,7 @@ impl Post {
     ///
     /// # Errors
     ///
-    /// `AllocError` where memory is refused. Nothing has changed then.
+    /// `AllocError` if memory is refused. Nothing has changed then.
     pub(crate) fn tick(&mut self, client: &Client) -> Result<(), AllocError>
         ensures ok { OnOk result (HasTicked (client_fields.meaning client.now) self.old self.new) }
         ensures err { OnErr result (self.new ≡ self.old) }
@@ -377,11 +390,11 @@ impl Post {
     pub(crate) fn start(
         &mut self,
         alloc: Global,
-        seat: &mut Seat,
+        seat: &mut ClientPlace,
         number: u64,
     ) -> Result<(), Refused>
-        ensures { (p : Pick) → ClientActs p client_order.Start number self.old (seat_of seat.old)
-            self.new (seat_of seat.new) (did_of (done_if result)) }
+        ensures { (p : Pick) → ClientActs p client_order.Start number self.old (place_of seat.old)
+            self.new (place_of seat.new) (did_of (done_if result)) }
     {
         client_steps::start(alloc, seat, &mut self.unsorted, number)
     }

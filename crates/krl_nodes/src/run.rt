@@ -3,7 +3,7 @@ ghost use Rattle.std.specs.Prelude.{◌≡◌, ◌≤◌, false, None, Some, IfO
 ghost use Rattle.krl_modes.specs.declared.point.TheConstants.{END};
 ghost use Rattle.krl_nodes.specs.Nodes.{IsSameServer, IsSameClient};
 ghost use Rattle.krl_nodes.specs.Deliveries.{policy_of};
-ghost use Rattle.krl_nodes.specs.RunRows.{IsFound, most_turns, seeds};
+ghost use Rattle.krl_nodes.specs.RunRows.{IsFound, max_turns, seeds};
 ghost use Rattle.krl_nodes.specs.declared.work.TheConstants.{MAX_TURNS};
 
 use crate::client::ClientNode;
@@ -25,7 +25,7 @@ use std::thread::Threads;
 pub struct NodesReport {
     /// The entries from 11 on below 21, with key 15 among them.
     pub rows: Rows,
-    /// The seed of the nodes' policies, where they had any.
+    /// The seed of the nodes' policies, if they had any.
     pub seed: Option<u64>,
 }
 
@@ -144,7 +144,7 @@ impl Work<Office> for Reader {
     }
 }
 
-// Two nodes at once. Where no thread can be made for the first, it runs after the second.
+// Two nodes at once. If no thread can be made for the first, it runs after the second.
 fn beside<
     R: Threads + Wait + Sync,
     T: Sync,
@@ -171,7 +171,7 @@ fn beside<
     )
 }
 
-// Three nodes at once. Where no thread can be made for the first, it runs after the others: so the
+// Three nodes at once. If no thread can be made for the first, it runs after the others: so the
 // first is the one for which the others do not wait without end.
 fn together<
     R: Threads + Wait + Sync,
@@ -297,15 +297,15 @@ fn run<R: Threads + Wait + Sync, F: Gate + Send + Drop, G: Gate + Send + Drop, H
 ///
 /// # Errors
 ///
-/// `OutOfMemory` where the memory for the office is refused; `GaveUp` where a client came to its
-/// last turn, as one does for whose server or other client no thread can be made.
+/// `OutOfMemory` if the memory for the office is refused; `GaveUp` if a client came to its
+/// last turn, also if no thread could be made for the server or the other client.
 pub fn run_nodes<
     R: Threads + Wait + Sync,
     F: Gate + Send + Drop,
     G: Gate + Send + Drop,
     H: Gate + Drop,
 >(rt: &R, alloc: Global, gate0: F, gate1: G, gate2: H) -> Result<NodesReport, NotRun>
-    ensures limit { MAX_TURNS ≡ most_turns }
+    ensures limit { MAX_TURNS ≡ max_turns }
     ensures found { IfOk result (λ report. IsFound seeds report.rows) }
     ensures in_order { IfOk result (λ report. report.seed ≡ None) }
 {
@@ -319,8 +319,8 @@ pub fn run_nodes<
 ///
 /// # Errors
 ///
-/// As of `run_nodes`. A client comes to its last turn also where what was lost keeps it waiting:
-/// where the last words of client 1 are lost, nobody says them again.
+/// As of `run_nodes`. A client comes to its last turn also if what was lost keeps it waiting:
+/// if the last words of client 1 are lost, nobody says them again.
 pub fn run_nodes_by<
     R: Threads + Wait + Sync,
     F: Gate + Send + Drop,
@@ -328,7 +328,7 @@ pub fn run_nodes_by<
     H: Gate + Drop,
 >(rt: &R, alloc: Global, gate0: F, gate1: G, gate2: H, seed: u64) -> Result<NodesReport, NotRun>
     requires { seed ≤ END }
-    ensures limit { MAX_TURNS ≡ most_turns }
+    ensures limit { MAX_TURNS ≡ max_turns }
     ensures found { IfOk result (λ report. IsFound seeds report.rows) }
     ensures by_policy { IfOk result (λ report. report.seed ≡ Some seed) }
 {

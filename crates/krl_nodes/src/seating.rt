@@ -9,6 +9,7 @@ ghost use Rattle.krl_nodes.specs.Steps.{blank_of, joined_view, with_chair, IsLiv
 ghost use Rattle.krl_nodes.specs.Nodes.{HoldsPost, Changes, IsSeated, IsOpened, IsNewClient};
 ghost use Rattle.krl_nodes.specs.Nodes.{NotSeatedFor};
 ghost use Rattle.krl_nodes.specs.Nodes.{with_seated, IsRetired, NoneSeated, SomeSeated, Survives};
+ghost use Rattle.krl_modes.specs.declared.limits.TheConstants.{MAX_CLIENTS};
 
 use crate::client::ClientNode;
 use crate::office::Office;
@@ -19,8 +20,9 @@ use crate::server::ServerNode;
 use atomic_table::Table;
 use krl_durable::Durable;
 use krl_messages::{Items, Value};
+use krl_modes::MAX_CLIENTS;
 use krl_server::Server;
-use krl_world::{Refused, Seat, ServerNode as Desk};
+use krl_world::{ClientPlace, Refused, ServerPlace};
 use std::alloc::Global;
 use std::marker::Brand;
 use std::snapshot::Snapshot;
@@ -31,14 +33,15 @@ impl Office {
     ///
     /// # Errors
     ///
-    /// `Full` above 65,536 entries; else the first bad entry in order, by `BadKey` where its key is
-    /// END or more, or by `Twice` where its key stands before; and `OutOfMemory` at any point.
+    /// `Full` above 65,536 entries; else the first bad entry in order, by `BadKey` if its key is
+    /// END or more, or by `Twice` if its key stands before; and `OutOfMemory` at any point.
     pub fn open(alloc: Global, entries: Vec<(u64, Value)>) -> Result<(Office, ServerNode), Refused>
         ensures { MatchResult result
             (λ r. CanBegin entries.items × IsOpened r.0 entries.items r.1)
             (CannotBegin entries.items) }
     {
         let durable = Durable::new(alloc, entries.as_slice())?;
+        // By its clause `kept` the prover knows what holds of all that survives.
         durable.epoch();
         let server = match Server::start(alloc, durable) {
             Ok(server) => server,
@@ -46,7 +49,7 @@ impl Office {
         };
         let opening = Opening {
             entries: Items::from(entries),
-            desk: Desk::Up(server),
+            desk: ServerPlace::Up(server),
         };
         let about = Snapshot::of(&opening);
         let mut slots = Vec::with_capacity(alloc, 1)?;
@@ -59,7 +62,7 @@ impl Office {
         let node = ServerNode {
             alloc,
             desk,
-            seated: [false; 64],
+            seated: [false; MAX_CLIENTS],
             ticket,
         };
         Ok((Office { table }, node))
@@ -88,11 +91,11 @@ impl Office {
         self.table.shared.join_seat::<Blanks>(ticket, other);
     }
 
-    // Reads a client's chair in the post that the seat holds, and takes it where it is free.
+    // Reads a client's chair in the post that the seat holds, and takes it if it is free.
     fn sit(&self, ticket: &mut Ticket, number: u64) -> Chair
         requires own { ticket.old.table_id ≡ self.now }
         requires holds { HoldsPost ticket.old.me }
-        requires small { number < 64 }
+        requires small { number < MAX_CLIENTS }
         ensures own { (ticket.new.table_id ≡ ticket.old.table_id)
             × (ticket.new.id ≡ ticket.old.id) }
         ensures sits { Changes ticket.old.me ticket.new.me (IsSeated number result) }
@@ -105,7 +108,7 @@ impl Office {
     fn get_up(&self, ticket: &mut Ticket, number: u64, incarnation: u64)
         requires own { ticket.old.table_id ≡ self.now }
         requires holds { HoldsPost ticket.old.me }
-        requires small { number < 64 }
+        requires small { number < MAX_CLIENTS }
         ensures own { (ticket.new.table_id ≡ ticket.old.table_id)
             × (ticket.new.id ≡ ticket.old.id) }
         ensures gets_up { Changes ticket.old.me ticket.new.me
@@ -119,7 +122,7 @@ impl Office {
     ///
     /// # Errors
     ///
-    /// `BadClient` where the number is above 63, else `Seated` where the post notes the client as
+    /// `BadClient` if the number is above 63, else `Seated` if the post notes the client as
     /// seated. Nothing has changed then.
     pub fn seat_client<R: Wait>(
         &self,
@@ -129,11 +132,11 @@ impl Office {
     ) -> Result<ClientNode, NotSeated>
         requires { server.old.office ≡ self.now }
         ensures { MatchResult result
-            (λ n. (number < 64) × IsNewClient server.old number n
+            (λ n. (number < MAX_CLIENTS) × IsNewClient server.old number n
             × (server.new ≡ with_seated server.old number true))
             (NotSeatedFor number server.old server.new) }
     {
-        if number > 63 {
+        if number >= MAX_CLIENTS as u64 {
             return Err(NotSeated::BadClient);
         }
         let mut ticket = self.blank(&mut server.ticket);
@@ -145,7 +148,7 @@ impl Office {
                 Err(NotSeated::Seated)
             }
             Chair::Free(last_incarnation) => {
-                let seat = Seat {
+                let seat = ClientPlace {
                     last_incarnation,
                     client: None,
                 };
@@ -199,7 +202,7 @@ impl Office {
     ///
     /// # Errors
     ///
-    /// Where the server seated a client that is not retired, both come back as they were.
+    /// If the server seated a client that is not retired, both come back as they were.
     pub fn close(self, server: ServerNode) -> Result<Durable, NotClosed>
         requires { server.office ≡ self }
         ensures { MatchResult result
@@ -223,7 +226,7 @@ impl Office {
     }
 }
 
-fn any_seated(seated: &[bool; 64]) -> bool
+fn any_seated(seated: &[bool; MAX_CLIENTS]) -> bool
     ensures { MatchBool result (SomeSeated seated.now) (NoneSeated seated.now) }
 {
     for one in seated {

@@ -10,8 +10,9 @@ use crate::office::Office;
 use crate::orders::{ServerOrder, Turn};
 use crate::policy::{Pick, Policy};
 use crate::rule::Ticket;
-use crate::turns::{server_event, server_event_by};
-use krl_world::{Refused, ServerNode as Desk};
+use crate::turns::{do_server_order, do_server_order_by};
+use krl_modes::MAX_CLIENTS;
+use krl_world::{Refused, ServerPlace};
 use std::alloc::Global;
 use std::marker::{Brand, Model};
 use std::sync::Wait;
@@ -22,19 +23,19 @@ use std::sync::Wait;
 #[derive(Drop)]
 pub struct ServerNode {
     pub(crate) alloc: Global,
-    pub(crate) desk: Desk,
-    pub(crate) seated: [bool; 64],
+    pub(crate) desk: ServerPlace,
+    pub(crate) seated: [bool; MAX_CLIENTS],
     pub(crate) ticket: Ticket,
 }
 
 impl Model for ServerNode {
-    ghost use Rattle.krl_nodes.specs.Nodes.{ServerPlace};
+    ghost use Rattle.krl_nodes.specs.Nodes.{SeatedServer};
     ghost use Rattle.std.specs.Coded.{codes};
     ghost use Rattle.atomic_table.specs.Seated.{table_id_coded};
-    ghost use Rattle.krl_world.specs.contracts.node.ServerNode as server_node;
+    ghost use Rattle.krl_world.specs.contracts.node.ServerPlace as server_node;
     ghost use Rattle.krl_nodes.specs.contracts.view.Exchange as exchange;
 
-    ghost Value = { ServerPlace };
+    ghost Value = { SeatedServer };
 
     ghost coded = { Prim.hlevel
         (codes, table_id_coded, server_node.the_row.coded, exchange.the_row.coded) };
@@ -52,16 +53,17 @@ impl Model for ServerNode {
     } };
 
     ghost use Rattle.std.specs.Prelude.{◌≡◌, length};
+    ghost use Rattle.krl_modes.specs.declared.limits.TheConstants.{MAX_CLIENTS};
 
-    ghost invariant = { λ n. IsAt n.ticket (Server n.desk) × (length n.seated ≡ 64) };
+    ghost invariant = { λ n. IsAt n.ticket (Server n.desk) × (length n.seated ≡ MAX_CLIENTS) };
 }
 
-// One event, on the post that the seat holds.
-fn event(
+// One order, on the post that the seat holds.
+fn do_order(
     alloc: Global,
     office: &Office,
     ticket: &mut Ticket,
-    desk: &mut Desk,
+    desk: &mut ServerPlace,
     order: ServerOrder,
 ) -> Result<Turn, Refused>
     requires own { ticket.old.table_id ≡ office.now }
@@ -72,17 +74,17 @@ fn event(
 {
     let post = ticket.slot_mut(&office.table.shared, 0);
     post.sort();
-    let answer = server_event(alloc, post, desk, order, Pick::Take(0));
+    let answer = do_server_order(alloc, post, desk, order, Pick::Take(0));
     post.sort();
     answer
 }
 
 // So by the policy's pick.
-fn event_by<P: Policy>(
+fn do_order_by<P: Policy>(
     alloc: Global,
     office: &Office,
     ticket: &mut Ticket,
-    desk: &mut Desk,
+    desk: &mut ServerPlace,
     order: ServerOrder,
     policy: &mut P,
 ) -> Result<Turn, Refused>
@@ -94,21 +96,21 @@ fn event_by<P: Policy>(
 {
     let post = ticket.slot_mut(&office.table.shared, 0);
     post.sort();
-    let answer = server_event_by(alloc, post, desk, order, policy);
+    let answer = do_server_order_by(alloc, post, desk, order, policy);
     post.sort();
     answer
 }
 
 impl ServerNode {
-    /// Takes the post, does one event and gives the post back. `Letter` reads the oldest letter to
-    /// the server, which loses it where it is down. What is sent goes to the end of the letters to
+    /// Takes the post, does one order and gives the post back. `Letter` reads the oldest letter to
+    /// the server, which loses it if it is down. What is sent goes to the end of the letters to
     /// each client.
     ///
     /// # Errors
     ///
     /// The first of these, and the post goes back as it was: `BadClient` for a `Nudge` of a number
-    /// above 63; `Running` for `Start` where the server runs, and `Down` for `Nudge` and `Crash`
-    /// where it doesn't; `Spent` where there is no epoch for a start; `OutOfMemory` where memory is
+    /// above 63; `Running` for `Start` if the server runs, and `Down` for `Nudge` and `Crash`
+    /// if it doesn't; `Spent` if there is no epoch for a start; `OutOfMemory` if memory is
     /// refused.
     pub fn turn<R: Wait>(
         &mut self,
@@ -122,12 +124,12 @@ impl ServerNode {
         ensures once { self.new.given ≡ suc self.old.given }
     {
         office.take(rt, &mut self.ticket);
-        let answer = event(self.alloc, office, &mut self.ticket, &mut self.desk, order);
+        let answer = do_order(self.alloc, office, &mut self.ticket, &mut self.desk, order);
         office.give_server::<Brand>(&mut self.ticket, &self.desk);
         answer
     }
 
-    /// As `turn`, but for `Letter`: the policy is asked, where some letter to the server waits,
+    /// As `turn`, but for `Letter`: the policy is asked, if some letter to the server waits,
     /// which one is delivered, and whether it is taken out or stays; or which one is lost. A lost
     /// letter is taken out, and the server is as it was: the answer is `Lost`.
     ///
@@ -147,7 +149,7 @@ impl ServerNode {
         ensures once { self.new.given ≡ suc self.old.given }
     {
         office.take(rt, &mut self.ticket);
-        let answer = event_by(
+        let answer = do_order_by(
             self.alloc,
             office,
             &mut self.ticket,

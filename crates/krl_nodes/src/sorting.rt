@@ -7,7 +7,7 @@ use krl_messages::{ToClient, ToServer};
 use krl_world::Message;
 
 // Puts the message behind the letters to its reader, and drops one that no client reads. It comes
-// back where memory is refused.
+// back if memory is refused.
 fn put(
     to_server: &mut Inbox<ToServer>,
     to_clients: &mut Vec<Inbox<ToClient>>,

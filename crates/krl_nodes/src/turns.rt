@@ -1,7 +1,7 @@
-//! One event of a node, on the post that it took.
+//! One order of a node, on the post that it took.
 ghost use Rattle.std.specs.Prelude.{◌≡◌, ◌<◌, ℕ, IfOk, IfErr};
 ghost use Rattle.krl_steps.specs.declared.refused.Refused.TheVariants as refused;
-ghost use Rattle.krl_world.specs.Fields.{node_of, seat_of};
+ghost use Rattle.krl_world.specs.Fields.{node_of, place_of};
 ghost use Rattle.krl_nodes.specs.declared.orders.ServerOrder.TheVariants as to_server;
 ghost use Rattle.krl_nodes.specs.declared.orders.ClientOrder.TheVariants as to_client;
 ghost use Rattle.krl_nodes.specs.declared.policy.Pick.{Pick};
@@ -9,12 +9,14 @@ ghost use Rattle.krl_nodes.specs.Mail.{Mail};
 ghost use Rattle.krl_nodes.specs.Letters.{IsReader, waiting_for};
 ghost use Rattle.krl_nodes.specs.Turns.{ServerActs, ClientActs, ServerActsBy, ClientActsBy};
 ghost use Rattle.krl_nodes.specs.Turns.{Asks, did_of};
+ghost use Rattle.krl_modes.specs.declared.limits.TheConstants.{MAX_CLIENTS};
 
 use crate::orders::{ClientOrder, ServerOrder, Turn};
 use crate::policy::{Pick, Policy};
 use crate::post::{Post, Reader};
 use core::mem::replace_with;
-use krl_world::{Answer, Refused, Seat, ServerNode as Desk};
+use krl_modes::MAX_CLIENTS;
+use krl_world::{Answer, ClientPlace, Refused, ServerPlace};
 use std::alloc::Global;
 
 // What was done is what the turn did.
@@ -27,8 +29,8 @@ fn did(answer: Result<Answer, Refused>) -> Result<Turn, Refused>
     }
 }
 
-// A server stops.
-fn crashed(desk: Desk, _nothing: ()) -> (Desk, Result<Turn, Refused>)
+// A server stops. `_nothing` stands where a start has its memory: `replace_with` hands on both.
+fn crashed(desk: ServerPlace, _nothing: ()) -> (ServerPlace, Result<Turn, Refused>)
     ensures { (p : Pick) (mail : Mail) → ServerActs p to_server.Crash mail (node_of desk) mail
         (node_of result.0) result.1 }
 {
@@ -37,7 +39,7 @@ fn crashed(desk: Desk, _nothing: ()) -> (Desk, Result<Turn, Refused>)
 }
 
 // A server begins to run.
-fn started(desk: Desk, alloc: Global) -> (Desk, Result<Turn, Refused>)
+fn started(desk: ServerPlace, alloc: Global) -> (ServerPlace, Result<Turn, Refused>)
     ensures { (p : Pick) (mail : Mail) → ServerActs p to_server.Start mail (node_of desk) mail
         (node_of result.0) result.1 }
 {
@@ -46,14 +48,14 @@ fn started(desk: Desk, alloc: Global) -> (Desk, Result<Turn, Refused>)
 }
 
 // The server is nudged.
-fn nudge(alloc: Global, post: &mut Post, desk: &Desk, client: u64) -> Result<Turn, Refused>
+fn nudge(alloc: Global, post: &mut Post, desk: &ServerPlace, client: u64) -> Result<Turn, Refused>
     ensures { (p : Pick) → ServerActs p (to_server.Nudge client) post.old (node_of desk.now)
         post.new (node_of desk.now) result }
 {
-    if client > 63 {
+    if client >= MAX_CLIENTS as u64 {
         return Err(Refused::BadClient);
     }
-    let Desk::Up(server) = desk else {
+    let ServerPlace::Up(server) = desk else {
         return Err(Refused::Down);
     };
     match post.nudge(alloc, server, client) {
@@ -62,11 +64,11 @@ fn nudge(alloc: Global, post: &mut Post, desk: &Desk, client: u64) -> Result<Tur
     }
 }
 
-/// One event of the server.
-pub(crate) fn server_event(
+/// One order of the server.
+pub(crate) fn do_server_order(
     alloc: Global,
     post: &mut Post,
-    desk: &mut Desk,
+    desk: &mut ServerPlace,
     order: ServerOrder,
     pick: Pick,
 ) -> Result<Turn, Refused>
@@ -82,9 +84,9 @@ pub(crate) fn server_event(
 }
 
 // The client says again what is not answered.
-fn tick(post: &mut Post, seat: &Seat) -> Result<Turn, Refused>
-    ensures { (p : Pick) (c : ℕ) → ClientActs p to_client.Tick c post.old (seat_of seat.now)
-        post.new (seat_of seat.now) result }
+fn tick(post: &mut Post, seat: &ClientPlace) -> Result<Turn, Refused>
+    ensures { (p : Pick) (c : ℕ) → ClientActs p to_client.Tick c post.old (place_of seat.now)
+        post.new (place_of seat.now) result }
 {
     let Some(client) = &seat.client else {
         return Err(Refused::Down);
@@ -96,9 +98,9 @@ fn tick(post: &mut Post, seat: &Seat) -> Result<Turn, Refused>
 }
 
 // The client stops.
-fn crash(seat: &mut Seat) -> Result<Turn, Refused>
+fn crash(seat: &mut ClientPlace) -> Result<Turn, Refused>
     ensures { (p : Pick) (c : ℕ) (mail : Mail) → ClientActs p to_client.Crash c mail
-        (seat_of seat.old) mail (seat_of seat.new) result }
+        (place_of seat.old) mail (place_of seat.new) result }
 {
     match seat.client.take() {
         Some(_) => Ok(Turn::Did(Answer::Done)),
@@ -106,17 +108,17 @@ fn crash(seat: &mut Seat) -> Result<Turn, Refused>
     }
 }
 
-/// One event of a client.
-pub(crate) fn client_event(
+/// One order of a client.
+pub(crate) fn do_client_order(
     alloc: Global,
     post: &mut Post,
     number: u64,
-    seat: &mut Seat,
+    seat: &mut ClientPlace,
     order: ClientOrder,
     pick: Pick,
 ) -> Result<Turn, Refused>
-    requires { number < 64 }
-    ensures { ClientActs pick order number post.old (seat_of seat.old) post.new (seat_of seat.new)
+    requires { number < MAX_CLIENTS }
+    ensures { ClientActs pick order number post.old (place_of seat.old) post.new (place_of seat.new)
         result }
 {
     match order {
@@ -131,7 +133,7 @@ pub(crate) fn client_event(
     }
 }
 
-// Asks the policy, where some letter waits for the reader.
+// Asks the policy, if some letter waits for the reader.
 fn choose<P: Policy>(post: &Post, reader: Reader, policy: &mut P) -> Result<Pick, Refused>
     requires { IsReader reader }
     ensures ok { IfOk result (λ p.
@@ -146,11 +148,11 @@ fn choose<P: Policy>(post: &Post, reader: Reader, policy: &mut P) -> Result<Pick
     Ok(policy.pick(letters))
 }
 
-/// One event of the server, by the policy's pick.
-pub(crate) fn server_event_by<P: Policy>(
+/// One order of the server, by the policy's pick.
+pub(crate) fn do_server_order_by<P: Policy>(
     alloc: Global,
     post: &mut Post,
-    desk: &mut Desk,
+    desk: &mut ServerPlace,
     order: ServerOrder,
     policy: &mut P,
 ) -> Result<Turn, Refused>
@@ -159,31 +161,31 @@ pub(crate) fn server_event_by<P: Policy>(
 {
     if let ServerOrder::Letter = order {
         return match choose(post, Reader::Server, policy) {
-            Ok(pick) => server_event(alloc, post, desk, order, pick),
+            Ok(pick) => do_server_order(alloc, post, desk, order, pick),
             Err(refused) => Err(refused),
         };
     }
-    server_event(alloc, post, desk, order, Pick::Take(0))
+    do_server_order(alloc, post, desk, order, Pick::Take(0))
 }
 
-/// One event of a client, by the policy's pick.
-pub(crate) fn client_event_by<P: Policy>(
+/// One order of a client, by the policy's pick.
+pub(crate) fn do_client_order_by<P: Policy>(
     alloc: Global,
     post: &mut Post,
     number: u64,
-    seat: &mut Seat,
+    seat: &mut ClientPlace,
     order: ClientOrder,
     policy: &mut P,
 ) -> Result<Turn, Refused>
-    requires { number < 64 }
-    ensures { ClientActsBy P.picks order number post.old (seat_of seat.old) policy.old
-        post.new (seat_of seat.new) result policy.new }
+    requires { number < MAX_CLIENTS }
+    ensures { ClientActsBy P.picks order number post.old (place_of seat.old) policy.old
+        post.new (place_of seat.new) result policy.new }
 {
     if let ClientOrder::Letter = order {
         return match choose(post, Reader::Client(number), policy) {
-            Ok(pick) => client_event(alloc, post, number, seat, order, pick),
+            Ok(pick) => do_client_order(alloc, post, number, seat, order, pick),
             Err(refused) => Err(refused),
         };
     }
-    client_event(alloc, post, number, seat, order, Pick::Take(0))
+    do_client_order(alloc, post, number, seat, order, Pick::Take(0))
 }

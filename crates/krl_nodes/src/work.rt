@@ -143,7 +143,7 @@ fn nudge<R: Wait>(rt: &R, office: &Office, node: &mut ServerNode, is_second: boo
     let _ = node.turn(rt, office, ServerOrder::Nudge(nudged(is_second)));
 }
 
-// Reads a letter, or, where one may be lost, rests and nudges a client. Says whether the next nudge
+// Reads a letter, or, if one may be lost, rests and nudges a client. Says whether the next nudge
 // is for the second.
 fn serve_once<R: Wait, G: Gate>(
     rt: &R,
@@ -168,7 +168,7 @@ fn serve_once<R: Wait, G: Gate>(
     }
 }
 
-/// Reads letters until both clients have ended. Where a letter may be lost it nudges clients 1 and
+/// Reads letters until both clients have ended. If a letter may be lost it nudges clients 1 and
 /// 2 by turns.
 pub(crate) fn serve<R: Wait, G: Gate>(
     rt: &R,
@@ -256,7 +256,7 @@ fn has_key(rows: &[(u64, Value)], key: u64) -> bool
     false
 }
 
-// The rows from 11 on below 21, where the client knows them and key 15 is among them.
+// The rows from 11 on below 21, if the client knows them and key 15 is among them.
 fn look(node: &ClientNode) -> Result<Option<Rows>, Refused>
     ensures { IfOk result (λ rows. IfSome rows (IsFound node.now.opening)) }
 {

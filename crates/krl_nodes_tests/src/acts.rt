@@ -1,4 +1,4 @@
-//! Calls of nodes that are made again where memory was refused, once or twice in a row: then the
+//! Calls of nodes that are made again if memory was refused, once or twice in a row: then the
 //! node has to be as it was, and the last call to do what the first would have done.
 ghost use Rattle.std.specs.Prelude.{◌≡◌, IfOk, IfSome};
 ghost use Rattle.krl_nodes.specs.Nodes.{IsSameServer, IsSameClient};
@@ -91,7 +91,7 @@ pub fn open(alloc: Global, entries: &[(u64, u64)]) -> Result<(Office, ServerNode
 }
 
 /// Seats the client of this number, in place of the one that has the seat. Why it gets no seat,
-/// where it gets none.
+/// if it gets none.
 pub fn seat<R: Wait>(
     rt: &R,
     office: &Office,
@@ -202,7 +202,7 @@ pub fn scan(client: &ClientNode, lo: u64, hi: u64) -> Result<ScanAnswer, Refused
     Err(Refused::OutOfMemory)
 }
 
-/// The server's turn by the policy, made again where memory was refused, twice at most.
+/// The server's turn by the policy, made again if memory was refused, twice at most.
 pub fn serve_by<R: Wait, P: Policy>(
     rt: &R,
     office: &Office,
@@ -222,7 +222,7 @@ pub fn serve_by<R: Wait, P: Policy>(
     Came::Refused(Refused::OutOfMemory)
 }
 
-/// The client's turn by the policy, made again where memory was refused, twice at most.
+/// The client's turn by the policy, made again if memory was refused, twice at most.
 pub fn act_by<R: Wait, P: Policy>(
     rt: &R,
     office: &Office,

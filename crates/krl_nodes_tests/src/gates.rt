@@ -11,7 +11,7 @@ use std::thread::Threads;
 use std::time::{Clock, Duration};
 
 // The most looks at what another thread does, with a pause after each.
-const MOST_LOOKS: u64 = 10_000;
+const MAX_LOOKS: u64 = 10_000;
 
 // What the gates of two threads tell each other.
 #[derive(Drop)]
@@ -30,9 +30,9 @@ impl Meeting {
         }
     }
 
-    // Waits until the other thread has come this far, and counts it where it did.
+    // Waits until the other thread has come this far, and counts it if it did.
     fn meet(&self, rt: &impl Clock, flag: &AtomicBool) {
-        for _ in 0..MOST_LOOKS {
+        for _ in 0..MAX_LOOKS {
             if flag.load(Ordering::SeqCst) {
                 self.met.fetch_add(1, Ordering::SeqCst);
                 return;
@@ -46,7 +46,7 @@ fn nap(rt: &impl Clock) {
     thread::sleep(rt, Duration::from_micros(200));
 }
 
-// Client 1 begins where client 2 stands in its first pass, and says when its insert is answered.
+// Client 1 begins when client 2 stands in its first pass, and says when its insert is answered.
 #[derive(Drop)]
 struct Writes<'a, R> {
     rt: &'a R,
@@ -90,7 +90,7 @@ impl<R: Clock> Gate for Reads<'_, R> {
     }
 }
 
-// Passed at once, with a short pause where no letter waits.
+// Passed at once, with a short pause if no letter waits.
 #[derive(Drop)]
 struct Naps<'a, R> {
     rt: &'a R,

@@ -20,7 +20,7 @@ pub enum Who {
     Second,
 }
 
-/// An office, its server, and two clients, each where it has a seat. Contracts see nothing of it: a
+/// An office, its server, and two clients, each if it has a seat. Contracts see nothing of it: a
 /// test looks at answers alone.
 pub struct Scene {
     office: Office,
@@ -53,7 +53,7 @@ impl Drop for Scene {
 }
 
 impl Scene {
-    /// An office with a server on these entries, where nobody has a seat.
+    /// An office with a server on these entries, in which nobody has a seat.
     fn empty(alloc: Global, entries: &[(u64, u64)]) -> Option<Scene> {
         match acts::open(alloc, entries) {
             Ok((office, server)) => Some(Scene {
@@ -82,7 +82,7 @@ impl Scene {
         None
     }
 
-    /// Seats the client of this number. Why it gets no seat, where it gets none.
+    /// Seats the client of this number. Why it gets no seat, if it gets none.
     pub fn seat<R: Wait>(&mut self, rt: &R, who: Who, number: u64) -> Option<NotSeated> {
         let server = &mut self.server;
         match who {
@@ -104,7 +104,7 @@ impl Scene {
     ///
     /// # Errors
     ///
-    /// The scene as it was, where some client has a seat.
+    /// The scene as it was, if some client has a seat.
     pub fn close(self) -> Result<Durable, Scene> {
         let Scene {
             office,

@@ -130,7 +130,7 @@ fn fails<R: Wait>(rt: &R, scene: &mut Scene, steps: &[Step]) -> Option<usize> {
     None
 }
 
-/// The scene after these steps, with these entries, and with clients of these numbers. Where a step
+/// The scene after these steps, with these entries, and with clients of these numbers. If a step
 /// is not so it ends the test with the number of the first.
 pub fn after(
     rt: &(impl Wait + AllocGlobal + Abort),

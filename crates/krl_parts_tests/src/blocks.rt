@@ -1,5 +1,5 @@
 //! Ordered maps in blocks, beside a list with a place for each key: 10,000 keys come in no order,
-//! two of three go, and the others are walked, found and reached, four times over. Where room is
+//! two of three go, and the others are walked, found and reached, four times over. If room is
 //! refused it is asked for again, so that each run ends the same, whichever requests for memory are
 //! refused. No later call asks for memory.
 ghost use Rattle.std.specs.Prelude.{◌≡◌, ◌≤◌, IfOk};

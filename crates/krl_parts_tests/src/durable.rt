@@ -4,18 +4,18 @@ mod starts;
 
 use crate::durable::asks::{Ask, Change, Worth, check};
 use crate::durable::starts::{LEFT, SILENT, Start, many, refusal, two_entries};
-use krl_durable::{MAX_ROOM, Refused, Room};
+use krl_durable::{EntriesRefused, Room};
 use krl_messages::{Outcome, Value};
-use krl_modes::{END, TOP};
+use krl_modes::{END, MAX_ROOM, TOP};
 use std::alloc::Global;
 use std::process::Abort;
 
 /// Three keys, of which some are bad, and how the first of those is refused.
-static BAD_KEYS: [(u64, u64, u64, Refused); 4] = [
-    (1, 2, 1, Refused::Twice),
-    (END, 2, 2, Refused::BadKey),
-    (2, 2, END, Refused::Twice),
-    (2, END, 2, Refused::BadKey),
+static BAD_KEYS: [(u64, u64, u64, EntriesRefused); 4] = [
+    (1, 2, 1, EntriesRefused::Twice),
+    (END, 2, 2, EntriesRefused::BadKey),
+    (2, 2, END, EntriesRefused::Twice),
+    (2, END, 2, EntriesRefused::BadKey),
 ];
 
 // The first row that is not refused so.
@@ -55,7 +55,7 @@ const MORE: Change = Change::Insert(70000, Worth::Number(1));
 static FALLS: [Ask; 2] = [Ask::Slot(0, 1), Ask::Slot(65537, END)];
 
 // How one entry more than there may be is refused.
-fn refusal_of_one_more(alloc: Global) -> Option<Refused> {
+fn refusal_of_one_more(alloc: Global) -> Option<EntriesRefused> {
     refusal(alloc, Start::Unused, &many(alloc, 65537, false)?)
 }
 
@@ -70,7 +70,7 @@ fn check_full(rt: &impl Abort, alloc: Global, falls: bool, rows: &[Ask]) {
 #[test]
 fn large_index_holds_the_most_entries(rt: HostRuntime) {
     check_full(&rt, rt.alloc(), false, &MAKES_ROOM);
-    assert!(rt; refusal_of_one_more(rt.alloc()) == Some(Refused::Full));
+    assert!(rt; refusal_of_one_more(rt.alloc()) == Some(EntriesRefused::Full));
 }
 
 #[test]
@@ -97,7 +97,7 @@ fn small_index_is_full_at_its_room(rt: HostRuntime) {
 #[test]
 fn more_entries_than_the_room_are_refused(rt: HostRuntime) {
     let refused = refusal(rt.alloc(), Start::Roomed(1), &two_entries());
-    assert!(rt; refused == Some(Refused::Full));
+    assert!(rt; refused == Some(EntriesRefused::Full));
 }
 
 #[test]

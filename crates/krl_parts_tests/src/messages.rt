@@ -20,7 +20,7 @@ static KEYS: [KeyPiece; 2] = [
 ];
 
 /// A span's ends, a mode and a value, which is a number, and whether the value is there exactly
-/// where it has to be.
+/// if it has to be.
 static HOLDINGS: [(u64, u64, Mode, Option<u64>, bool); 6] = [
     (0, 11, Mode::RangeSS, Some(1), true),
     (0, 11, Mode::RangeSS, None, false),
@@ -30,7 +30,7 @@ static HOLDINGS: [(u64, u64, Mode, Option<u64>, bool); 6] = [
     (11, TOP, Mode::RangeXX, Some(1), false),
 ];
 
-/// Range parts, asked for again where they are refused.
+/// Range parts, asked for again if they are refused.
 fn ranges(alloc: Global, parts: &[RangePiece]) -> Option<RangePieces> {
     for _ in 0..CALLS {
         if let Ok(pieces) = Vec::from_slice(alloc, parts) {
@@ -40,7 +40,7 @@ fn ranges(alloc: Global, parts: &[RangePiece]) -> Option<RangePieces> {
     None
 }
 
-/// Two key parts, asked for again where they are refused.
+/// Two key parts, asked for again if they are refused.
 fn keys(alloc: Global) -> Option<KeyPieces> {
     for _ in 0..CALLS {
         if let Ok(pieces) = Vec::from_slice(alloc, &KEYS) {
@@ -66,7 +66,7 @@ fn report(alloc: Global, span: Span) -> Option<ToServer> {
     })
 }
 
-/// Its clone, asked for again where it is refused.
+/// Its clone, asked for again if it is refused.
 fn cloned(alloc: Global, message: &ToServer) -> Option<ToServer> {
     for _ in 0..CALLS {
         if let Ok(copy) = message.try_clone(alloc) {
@@ -139,7 +139,7 @@ fn nth(n: u64) -> Option<Holding> {
     })
 }
 
-/// Puts the holding behind the others, where it lies behind them and there is room.
+/// Puts the holding behind the others, if it lies behind them and there is room.
 fn push_behind(holdings: &mut Holdings, holding: Holding) -> bool {
     let list = holdings.as_slice();
     let last = list[list.len() - 1];

@@ -4,10 +4,10 @@
 ghost use Rattle.std.specs.Prelude.{nat_eq};
 ghost use Rattle.std.specs.List.{AllByRecursion, IsDistinct};
 ghost use Rattle.std.specs.Map.{keys_of};
-ghost use Rattle.krl_durable.specs.Kept.{IsRow};
+ghost use Rattle.krl_durable.specs.Invariants.{IsRow};
 
 use crate::again::CALLS;
-use krl_durable::{Durable, DurableV1, NotMigrated, Record, Refused};
+use krl_durable::{Durable, DurableV1, EntriesRefused, NotMigrated, Record};
 use krl_messages::Outcome;
 use krl_modes::END;
 use std::alloc::Global;
@@ -45,7 +45,7 @@ static ONE_HERE: [(u64, Record); 2] = [(0, HERE), (9, WRITER)];
 // The last two of them have not left.
 static TWO_HERE: [(u64, Record); 3] = [(0, GONE), (3, HERE), (1, HERE)];
 
-// What survived: one entry, epoch 4 and these records. None where memory is refused.
+// What survived: one entry, epoch 4 and these records. None if memory is refused.
 fn survived(alloc: Global, records: &[(u64, Record)]) -> Option<DurableV1>
     requires each { AllByRecursion IsRow records.now }
     requires once { IsDistinct nat_eq (keys_of records.now) }
@@ -68,7 +68,7 @@ fn has_survived(old: &DurableV1, records: &[(u64, Record)]) -> bool {
     old.epoch() == 4 && old.entries() == [(10, 258)].as_slice()
 }
 
-// Whether the clients that have not left are these, asked for again where memory was refused.
+// Whether the clients that have not left are these, asked for again if memory was refused.
 fn are_missing(old: &DurableV1, alloc: Global, expected: &[u64]) -> bool {
     for _ in 0..CALLS {
         if let Ok(clients) = old.missing_order(alloc) {
@@ -96,7 +96,7 @@ fn has_records(durable: &Durable) -> bool {
     durable.record(1).is_none()
 }
 
-// Whether it keeps all but the form of its value where nobody is missing, and is else refused,
+// Whether it keeps all but the form of its value if nobody is missing, and is else refused,
 // since this client has not left.
 fn is_migrated(alloc: Global, old: &DurableV1, missing: Option<u64>) -> bool {
     for _ in 0..CALLS {
@@ -144,18 +144,18 @@ fn names_the_first_who_has_not_left(rt: HostRuntime) {
     assert!(rt; migrates(rt.alloc(), &TWO_HERE, &[3, 1]));
 }
 
-// How these numbers are refused, as they never served. None where they are not.
-fn refusal(alloc: Global, entries: &[(u64, u64)]) -> Option<Refused> {
+// How these numbers are refused, as they never served. None if they are not.
+fn refusal(alloc: Global, entries: &[(u64, u64)]) -> Option<EntriesRefused> {
     for _ in 1..CALLS {
         match DurableV1::new(alloc, entries) {
-            Err(Refused::OutOfMemory) => {}
+            Err(EntriesRefused::OutOfMemory) => {}
             answer => return answer.err(),
         }
     }
     DurableV1::new(alloc, entries).err()
 }
 
-// What never served: these entries alone. None where they are refused.
+// What never served: these entries alone. None if they are refused.
 fn unused(alloc: Global, entries: &[(u64, u64)]) -> Option<DurableV1> {
     for _ in 0..CALLS {
         if let Ok(old) = DurableV1::new(alloc, entries) {
@@ -185,6 +185,6 @@ fn begins_at_epoch_0_with_good_entries(rt: HostRuntime) {
 #[test]
 fn refuses_the_first_bad_number(rt: HostRuntime) {
     let (twice, bad) = ([(1, 0), (2, 0), (1, 0)], [(END, 0), (2, 0), (2, 0)]);
-    assert!(rt; refusal(rt.alloc(), &twice) == Some(Refused::Twice));
-    assert!(rt; refusal(rt.alloc(), &bad) == Some(Refused::BadKey));
+    assert!(rt; refusal(rt.alloc(), &twice) == Some(EntriesRefused::Twice));
+    assert!(rt; refusal(rt.alloc(), &bad) == Some(EntriesRefused::BadKey));
 }

@@ -3,7 +3,7 @@ use crate::again::CALLS;
 use krl_modes::{BadSpan, END, KeyPart, Mode, Point, RangePart, Span, TOP};
 use std::alloc::Global;
 
-/// Each mode's name, range part and key part, and the greatest mode that goes beside it.
+/// Each mode's name, range part and key part, and the greatest mode that is compatible with it.
 static ROWS: [(&str, &str, &str, &str); 13] = [
     ("N", "N", "N", "RangeX-X"),
     ("S", "N", "S", "RangeX-U"),

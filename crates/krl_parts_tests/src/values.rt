@@ -63,7 +63,7 @@ fn eight_bytes_are_a_number(rt: HostRuntime) {
     }
 }
 
-// Whether the value of these bytes is a number; None where they are too many.
+// Whether the value of these bytes is a number; None if they are too many.
 fn is_number(bytes: &[u8]) -> Option<bool> {
     Some(Value::new(bytes)?.as_u64().is_some())
 }

@@ -1,8 +1,16 @@
-//! A picture of a script's run. It takes the same steps as the script's transcript, by the same
-//! interpreter, and notes what happens; `krl_drawing` draws that. Nothing is promised of a picture
-//! but that making it is safe and ends.
+//! Pictures of a script's run: the nodes side by side, and a line for each message that is delivered,
+//! repeated or lost, each crash and each start, and what each line of the script printed. A picture
+//! takes the same steps as the script's transcript, by the same interpreter.
+//!
+//! Nothing is promised of a picture but that making it is safe and ends.
 #![tactic(auto)]
 
+mod canvas;
+mod label;
+mod layout;
 mod recorder;
+mod row;
+mod svg;
+mod text;
 
-pub use recorder::write_picture;
+pub use recorder::{write_drawing, write_picture};

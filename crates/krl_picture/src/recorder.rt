@@ -1,14 +1,14 @@
 //! A script is run, and what happens is noted.
-use krl_drawing::{Fate, Form, Node, Row, draw, to_client, to_server};
-use krl_script::{
-    Interpreter, LineFault, MAX_DELIVERIES, MAX_TEXT, Request, ScriptFault, Sink, Source,
-    SyntaxFault, first_line, read_text, write_line,
-};
+use crate::label::{to_client, to_server};
+use crate::row::{Fate, Node, Row};
+use crate::{svg, text};
+use krl_script::{Interpreter, LineFault, Request, ScriptFault, Sink, Source};
+use krl_text::{MAX_DELIVERIES, MAX_TEXT, SyntaxFault, first_line, read_text, write_line};
 use krl_world::{Command, Message, Step};
 use std::alloc::{AllocError, Global};
 
 /// The most lines of a picture.
-const MOST_ROWS: usize = 20000;
+const MAX_ROWS: usize = 20000;
 
 // The run of a script, as far as it got.
 struct Recorder {
@@ -30,7 +30,7 @@ impl Drop for Recorder {
     }
 }
 
-// What a step of this kind does to a node, where it is not refused.
+// What a step of this kind does to a node, if it is not refused.
 fn mark_of(step: &Step) -> Option<Row> {
     let (node, text) = match step {
         Step::StartClient(client) => (Node::Client(*client), "starts"),
@@ -53,11 +53,11 @@ impl Recorder {
         })
     }
 
-    // Notes the line, where the picture has room for it.
+    // Notes the line, if the picture has room for it.
     fn note(&mut self, row: Row) -> Result<(), AllocError> {
-        if self.rows.len() < MOST_ROWS {
+        if self.rows.len() < MAX_ROWS {
             self.rows.push(row)?;
-        } else if self.rows.len() == MOST_ROWS {
+        } else if self.rows.len() == MAX_ROWS {
             self.rows.push(Row::More)?;
         }
         Ok(())
@@ -156,7 +156,7 @@ impl Recorder {
             return Ok(true);
         }
         // It was refused, and the message waits on.
-        if at < self.rows.len() && at < MOST_ROWS {
+        if at < self.rows.len() && at < MAX_ROWS {
             self.rows.remove(at);
         }
         Ok(false)
@@ -266,8 +266,23 @@ impl Recorder {
     }
 }
 
-/// Reads a script to its end, runs it, and writes a picture of the run. It shows all that happened
-/// before a fault.
+// Reads a script to its end, and runs it. Gives what happened, and how the script ended.
+fn record<R: Source>(
+    alloc: Global,
+    reader: &mut R,
+) -> Result<(Recorder, Result<(), ScriptFault>), ScriptFault> {
+    let script = read_text(alloc, reader)?;
+    if script.len() > MAX_TEXT {
+        let what = SyntaxFault::TextTooLong;
+        return Err(ScriptFault::Syntax { line: 0, what });
+    }
+    let mut recorder = Recorder::new(alloc)?;
+    let ended = recorder.run(&script);
+    Ok((recorder, ended))
+}
+
+/// Reads a script to its end, runs it, and writes a picture of the run in plain text of at most 120
+/// columns. It shows all that happened before a fault.
 ///
 /// # Errors
 ///
@@ -276,16 +291,25 @@ pub fn write_picture<R: Source, W: Sink>(
     alloc: Global,
     reader: &mut R,
     writer: &mut W,
-    form: Form,
 ) -> Result<(), ScriptFault> {
-    let script = read_text(alloc, reader)?;
-    if script.len() > MAX_TEXT {
-        let what = SyntaxFault::TextTooLong;
-        return Err(ScriptFault::Syntax { line: 0, what });
-    }
-    let mut recorder = Recorder::new(alloc)?;
-    let ended = recorder.run(&script);
-    let picture = draw(alloc, &recorder.rows, form)?;
+    let (recorder, ended) = record(alloc, reader)?;
+    let picture = text::draw(alloc, &recorder.rows)?;
     write_line(writer, &picture)?;
+    ended
+}
+
+/// The same, but the picture is a drawing in SVG.
+///
+/// # Errors
+///
+/// Those of `run_script`.
+pub fn write_drawing<R: Source, W: Sink>(
+    alloc: Global,
+    reader: &mut R,
+    writer: &mut W,
+) -> Result<(), ScriptFault> {
+    let (recorder, ended) = record(alloc, reader)?;
+    let drawing = svg::draw(alloc, &recorder.rows)?;
+    write_line(writer, &drawing)?;
     ended
 }

@@ -1,9 +1,10 @@
 -- In each reachable world server and client agree on the client's lock request.
 use Rattle.krl_progress.proofs.Names.{◌≡◌, ◌≢◌, ℕ, suc, ◌≤◌, inl, inr, ⊎_elim, ◌∙◌, Bool, true, false, Option, Some, None, List, [], ◌∷◌, ◌++◌, is_some, refl, sym, ap, subst, arith, nat_eq, if◌then◌else◌, eq-eqb, eqb-true, eqb-false, same_Some, In, in_both}
-use Rattle.krl_progress.proofs.Names.{ToServer, ToClient, Client, Server, Durable, durable_of, ServerStep, start, nudge, Step, Up, Down, State, Seat, client_of, with_client, seated, served, opened, Runs, IsReachable, from_clients, from_server, AppliedWrite}
+use Rattle.krl_progress.proofs.Names.{ToServer, ToClient, Client, Server, Durable, durable_of, ServerStep, start, nudge, Step, Up, Down, State, ClientPlace, client_of, with_client, seated, served, opened, Runs, IsReachable, from_clients, from_server, AppliedWrite}
 use Rattle.krl_queue.specs.declared.waiter.Waiter.{Waiter}
 use Rattle.krl_queue.specs.Waiting.{first_of}
-use Rattle.krl_table.specs.Rows.{waits, waiter_at, place_of}
+use Rattle.krl_table.specs.Rows.{waits}
+use Rattle.krl_table.specs.Waiters.{waiter_at, place_of}
 use Rattle.krl_table.specs.Sound.{IsTable}
 use Rattle.krl_table.proofs.Invariant.Stands.{first_in}
 use Rattle.krl_client.specs.Clients.{begun, is_waiting}
@@ -34,11 +35,11 @@ pub record Agrees (u : State) : Type 0 where
   pub within : AllWithin u
   pub same : AllSame u
 
--- who stands at a seat that is set
-pub by_seat : (u : State) (d : ℕ) (x : Seat) (c : ℕ) (k : Client) (P : Type 0) → (c ≡ d → x.client ≡ Some k → P) → (c ≢ d → client_of u c ≡ Some k → P) → (if nat_eq c d then x else u.seats c).client ≡ Some k → P
-by_seat u d x c k P f g e = by_test (nat_eq c d) refl e
+-- who stands at a place that is set
+pub by_place : (u : State) (d : ℕ) (x : ClientPlace) (c : ℕ) (k : Client) (P : Type 0) → (c ≡ d → x.client ≡ Some k → P) → (c ≢ d → client_of u c ≡ Some k → P) → (if nat_eq c d then x else u.places c).client ≡ Some k → P
+by_place u d x c k P f g e = by_test (nat_eq c d) refl e
   where
-    by_test : (b : Bool) → nat_eq c d ≡ b → (if b then x else u.seats c).client ≡ Some k → P
+    by_test : (b : Bool) → nat_eq c d ≡ b → (if b then x else u.places c).client ≡ Some k → P
     by_test true i e = f (eqb-true c d i) e
     by_test false i e = g (eqb-false c d i) e
 
@@ -57,17 +58,17 @@ within_by_clients u v c k ms e f h m own at inc some r is now = ⊎_elim (λ (x 
 
 goes_on : (u : State) (d : ℕ) (k l : Client) (ms : List ToServer) → IsReachable u → IsReachable (with_client u d (Some l) ms) → client_of u d ≡ Some k → Goes u d k l ms → Agrees u → Agrees (with_client u d (Some l) ms)
 goes_on u d k l ms ru rv i g h = record {
-  knows = λ s c k1 up. by_seat u d _ c k1 (Knows s c k1)
+  knows = λ s c k1 up. by_place u d _ c k1 (Knows s c k1)
       (λ e f. subst (λ y. Knows s y k1) (sym e) (subst (Knows s d) (some_is l k1 f) (goes_knows u (with_client u d (Some l) ms) ru rv s up up d k i (h.same s d up) (h.knows s d k up i) l ms here g)))
       (λ ne f. h.knows s c k1 up f);
-  within = λ c k1. by_seat u d _ c k1 (Within (with_client u d (Some l) ms) c k1)
+  within = λ c k1. by_place u d _ c k1 (Within (with_client u d (Some l) ms) c k1)
       (λ e f. subst (λ y. Within (with_client u d (Some l) ms) y k1) (sym e) (subst (Within (with_client u d (Some l) ms) d) (some_is l k1 f) (goes_within u (with_client u d (Some l) ms) d k l ms (has_said u d k ru i) (h.within d k i) refl g)))
       (λ ne f. within_by_clients u (with_client u d (Some l) ms) c k1 ms refl (λ m at own. absurd (ne (sym own ∙ goes_mine u d k l ms m g at ∙ (has_said u d k ru i).number))) (h.within c k1 f));
   same = λ s c up. same_by_clients u (with_client u d (Some l) ms) s c ms refl (h.same s c up);
 }
   where
     here : client_of (with_client u d (Some l) ms) d ≡ Some l
-    here = ap (λ b. (if b then (let x : Seat = record { last_incarnation = (u.seats d).last_incarnation; client = Some l } in x) else u.seats d).client) (eq-eqb d d refl)
+    here = ap (λ b. (if b then (let x : ClientPlace = record { last_incarnation = (u.places d).last_incarnation; client = Some l } in x) else u.places d).client) (eq-eqb d d refl)
 
 pub heard_of : (u : State) (s : Server) (c : ℕ) (k : Client) (m : ToServer) → IsReachable u → u.server ≡ Up s → client_of u c ≡ Some k → Within u c k → In (message.ToServer m) u.sent → m.client ≡ c → Heard s m k
 heard_of u s c k m ru up runs within at own = let st = standing u s c k ru up runs in let x = has_said u c k ru runs in record {
@@ -95,28 +96,28 @@ nudges_on u s d up h = record {
       (in_both u.sent (from_server (nudge s d)) (message.ToClient o) at));
 }
 
-abbrev pub new_seat : State → ℕ → Seat
-new_seat u d = record { last_incarnation = suc (u.seats d).last_incarnation; client = Some (begun d (suc (u.seats d).last_incarnation)) }
+abbrev pub new_place : State → ℕ → ClientPlace
+new_place u d = record { last_incarnation = suc (u.places d).last_incarnation; client = Some (begun d (suc (u.places d).last_incarnation)) }
 
 abbrev pub hello : State → ℕ → List ToServer
-hello u d = says_hello (begun d (suc (u.seats d).last_incarnation)) ∷ []
+hello u d = says_hello (begun d (suc (u.places d).last_incarnation)) ∷ []
 
 hello_asks : (u : State) (d : ℕ) (m : ToServer) (n : ℕ) → In m (hello u d) → request_said m.body ≤ n
 hello_asks u d m n (inl e) = let x = ap (λ (y : ToServer). request_said y.body) e in omega (arith, x)
 hello_asks u d m n (inr x) = absurd x
 
-starts_on : (u : State) (d : ℕ) → IsReachable u → Agrees u → Agrees (seated u d (new_seat u d) (hello u d))
+starts_on : (u : State) (d : ℕ) → IsReachable u → Agrees u → Agrees (seated u d (new_place u d) (hello u d))
 starts_on u d ru h = record {
-  knows = λ s c k up. by_seat u d (new_seat u d) c k (Knows s c k)
-      (λ e f. subst (λ y. Knows s y k) (sym e) (subst (Knows s d) (some_is (begun d (suc (u.seats d).last_incarnation)) k f) (record {
-        early = λ inc lt. absurd (let x = (has_told u s d ru up).seat in omega (arith, x, inc));
+  knows = λ s c k up. by_place u d (new_place u d) c k (Knows s c k)
+      (λ e f. subst (λ y. Knows s y k) (sym e) (subst (Knows s d) (some_is (begun d (suc (u.places d).last_incarnation)) k f) (record {
+        early = λ inc lt. absurd (let x = (has_told u s d ru up).place in omega (arith, x, inc));
         now = λ g. absurd (let x = (in_order u s ru up).0.begun in omega (arith, x, g));
       })))
       (λ ne f. h.knows s c k up f);
-  within = λ c k. by_seat u d (new_seat u d) c k (Within (seated u d (new_seat u d) (hello u d)) c k)
-      (λ e f m own at inc some r is now. absurd (let x : 0 ≡ k.epoch = ap (λ (y : Client). y.epoch) (some_is (begun d (suc (u.seats d).last_incarnation)) k f) in omega (arith, x, some)))
-      (λ ne f. within_by_clients u (seated u d (new_seat u d) (hello u d)) c k (hello u d) refl (λ m at own. hello_asks u d m k.req at) (h.within c k f));
-  same = λ s c up. same_by_clients u (seated u d (new_seat u d) (hello u d)) s c (hello u d) refl (h.same s c up);
+  within = λ c k. by_place u d (new_place u d) c k (Within (seated u d (new_place u d) (hello u d)) c k)
+      (λ e f m own at inc some r is now. absurd (let x : 0 ≡ k.epoch = ap (λ (y : Client). y.epoch) (some_is (begun d (suc (u.places d).last_incarnation)) k f) in omega (arith, x, some)))
+      (λ ne f. within_by_clients u (seated u d (new_place u d) (hello u d)) c k (hello u d) refl (λ m at own. hello_asks u d m k.req at) (h.within c k f));
+  same = λ s c up. same_by_clients u (seated u d (new_place u d) (hello u d)) s c (hello u d) refl (h.same s c up);
 }
 
 does_on : (u v : State) → IsReachable u → IsReachable v → Does u v → Agrees u → Agrees v
@@ -124,8 +125,8 @@ does_on u _ ru rv rests h = h
 does_on u _ ru rv (goes d k l ms i g x) h = goes_on u d k l ms ru rv i g h
 does_on u _ ru rv (starts d down) h = starts_on u d ru h
 does_on u _ ru rv (ends d number ms most silent) h = record {
-  knows = λ s c k up. by_seat u d _ c k (Knows s c k) (λ e f. absurd (let bad : None ≡ Some k = f in cc)) (λ ne f. h.knows s c k up f);
-  within = λ c k. by_seat u d _ c k (Within (with_client u d None ms) c k) (λ e f. absurd (let bad : None ≡ Some k = f in cc))
+  knows = λ s c k up. by_place u d _ c k (Knows s c k) (λ e f. absurd (let bad : None ≡ Some k = f in cc)) (λ ne f. h.knows s c k up f);
+  within = λ c k. by_place u d _ c k (Within (with_client u d None ms) c k) (λ e f. absurd (let bad : None ≡ Some k = f in cc))
       (λ ne f. within_by_clients u (with_client u d None ms) c k ms refl (λ m at own. let x = (most m at).1 in omega (arith, x)) (h.within c k f));
   same = λ s c up. same_by_clients u (with_client u d None ms) s c ms refl (h.same s c up);
 }

@@ -1,12 +1,12 @@
 -- An outstanding write is answered within six good rounds: at most one other push comes before its answer.
 use Rattle.krl_progress.proofs.Names.{◌≡◌, ℕ, zero, suc, ◌≤◌, ◌<◌, ◌⊎◌, inl, inr, ⊎_elim, ◌∙◌, Bool, true, false, ◌&&◌, Option, Some, None, List, [], ◌∷◌, length, is_some, refl, sym, ap, subst, arith, nat_eq, if◌then◌else◌, eq-eqb, END, In}
-use Rattle.krl_progress.proofs.Names.{ToServer, ToClient, Client, Server, is_recovering, Step, Up, Down, State, ServerNode, client_of, Runs, IsReachable, is_serving}
+use Rattle.krl_progress.proofs.Names.{ToServer, ToClient, Client, Server, is_recovering, Step, Up, Down, State, ServerPlace, client_of, Runs, IsReachable, is_serving}
 use Rattle.krl_messages.specs.declared.write_op.WriteOp.{WriteOp}
 use Rattle.krl_messages.specs.declared.outcome.Outcome.{Outcome}
 use Rattle.krl_messages.specs.declared.to_client.ToClientBody.TheVariants as told
 use Rattle.krl_messages.specs.declared.to_client.PushBody.{PushBody}
 use Rattle.krl_messages.specs.declared.to_client.PushBody.TheVariants as push
-use Rattle.krl_client.specs.Clients.{is_waiting, outstanding, LastWrite, Unwritten, Outstanding, Judged, LockRequest, Granted, NoEntry, begun}
+use Rattle.krl_client.specs.Clients.{is_waiting, outstanding, LastWrite, Unwritten, Outstanding, Judged, LockRequest, Granted, Absent, begun}
 use Rattle.krl_client.specs.Messages as receiver
 use Rattle.krl_client.specs.Messages.{accepted, asked_after}
 use Rattle.krl_server.specs.Servers.{incarnation_of}
@@ -20,7 +20,7 @@ use Rattle.krl_progress.proofs.Standings.{HasStanding, standing}
 use Rattle.krl_progress.proofs.Heard.{has_told}
 use Rattle.krl_progress.proofs.Recovers.{same_up}
 use Rattle.krl_progress.proofs.Doings.{Goes, same, locks, adopts, accepts, WriteGoes, Does, rests, goes, starts, ends, reads, nudges, stops, begins, does}
-use Rattle.krl_progress.proofs.Agreed.{Agrees, agrees, by_seat, new_seat}
+use Rattle.krl_progress.proofs.Agreed.{Agrees, agrees, by_place, new_place}
 use Rattle.krl_progress.proofs.Awaited.{awaits}
 use Rattle.krl_progress.proofs.WriteSteps.{Live, live_kept, now}
 use Rattle.krl_progress.proofs.WritesMove.{serving_now, nobody_listed, writes_move_on}
@@ -56,7 +56,7 @@ accepts_awaited seen req number k (push.Grant r hs) a h = by_seen h.2
 accepts_awaited seen req number k (push.Absent r point) a h = by_seen h.2
   where
     by_seen : (k.seen ≡ seen) ⊎ ((k.seen ≡ suc seen) × (is_waiting k.asked ≡ false)) → Follows seen req number (accepted k (push.Absent r point))
-    by_seen (inl e) = inr (h.0, h.1, inr (ap (λ n. suc n) e, replied k r NoEntry refl a.0 a.1))
+    by_seen (inl e) = inr (h.0, h.1, inr (ap (λ n. suc n) e, replied k r Absent refl a.0 a.1))
     by_seen (inr e) = absurd (not_both (is_waiting k.asked) a.0 e.1)
 accepts_awaited seen req number k (push.Answer n o y) a h = inl (inr (inr (h.1, judged_now k n o k.written a.0 a.1)))
 
@@ -126,15 +126,15 @@ module _ (c inc epoch seen0 req0 number : ℕ) (op : WriteOp) (some : 1 ≤ epoc
     -- a client that runs afterwards is in the epoch
     does_on : (u v : State) → LiveAt u → ((k : Client) → client_of v c ≡ Some k → k.epoch ≡ epoch) → Does u v → Holds u → Holds v
     does_on u _ hu hv rests h k1 at = h k1 at
-    does_on u _ hu hv (goes d k l ms i g x) h k1 at = by_seat u d _ c k1 (X k1)
+    does_on u _ hu hv (goes d k l ms i g x) h k1 at = by_place u d _ c k1 (X k1)
         (λ e f. let here : client_of u c ≡ Some k = ap (client_of u) e ∙ i in
         subst X (some_is l k1 f) (steps_on u hu k l ms here
         (ap (λ (y : Client). y.epoch) (some_is l k1 f) ∙ hv k1 at ∙ sym (now c inc epoch seen0 number op some room n u hu k here)) (subst (λ y. Goes u y k l ms) (sym e) g) x (h k here)))
         (λ ne f. h k1 f) at
-    does_on u _ hu hv (starts d down) h k1 at = by_seat u d (new_seat u d) c k1 (X k1)
-        (λ e f. absurd (let z : 0 ≡ k1.epoch = ap (λ (y : Client). y.epoch) (some_is (begun d (suc (u.seats d).last_incarnation)) k1 f) in let y = hv k1 at in omega (arith, z, y, some)))
+    does_on u _ hu hv (starts d down) h k1 at = by_place u d (new_place u d) c k1 (X k1)
+        (λ e f. absurd (let z : 0 ≡ k1.epoch = ap (λ (y : Client). y.epoch) (some_is (begun d (suc (u.places d).last_incarnation)) k1 f) in let y = hv k1 at in omega (arith, z, y, some)))
         (λ ne f. h k1 f) at
-    does_on u _ hu hv (ends d number ms most silent) h k1 at = by_seat u d _ c k1 (X k1) (λ e f. absurd (let bad : None ≡ Some k1 = f in cc)) (λ ne f. h k1 f) at
+    does_on u _ hu hv (ends d number ms most silent) h k1 at = by_place u d _ c k1 (X k1) (λ e f. absurd (let bad : None ≡ Some k1 = f in cc)) (λ ne f. h k1 f) at
     does_on u _ hu hv (reads old new m outs writes up sent step) h k1 at = h k1 at
     does_on u _ hu hv (nudges s d up) h k1 at = h k1 at
     does_on u _ hu hv (stops s up) h k1 at = h k1 at
@@ -245,6 +245,6 @@ module _ (w v : State) (s : Server) (c : ℕ) (k l : Client) (op : WriteOp) (h :
 pub writes_are_answered : WritesAreAnsweredIn 6
 writes_are_answered w v c k l op h serving runs out room r there req writes = by_node w.server refl serving
   where
-    by_node : (x : ServerNode) → w.server ≡ x → is_serving x ≡ true → outstanding l.written ≡ None
+    by_node : (x : ServerPlace) → w.server ≡ x → is_serving x ≡ true → outstanding l.written ≡ None
     by_node (Down d) e f = absurd (cc)
     by_node (Up s) e f = over_now k.req k.writes l req writes (over w v s c k l op h e (serving_now s f) serving runs out room there r)

@@ -3,6 +3,7 @@ use Rattle.krl_progress.proofs.Names.{◌≡◌, ℕ, suc, ◌≤◌, ◌<◌, �
 use Rattle.krl_progress.proofs.Names.{ToServer, ToClient, In, Client, Message, Pieces, Record, Server, is_recovering, Step, Answer, Up, Down, State, client_of, message_at, Delivers, ServerReads, ClientReads, Runs, Takes, IsReachable, Case, Ignored, Repeats, case_of, effect, from_clients, from_server, record_of, kind_of}
 use Rattle.std.proofs.Common.{le-leb}
 use Rattle.krl_modes.proofs.Basics.{not_both}
+use Rattle.krl_modes.specs.Limits.{max_clients}
 use Rattle.krl_messages.proofs.Members.{in_right, in_left}
 use Rattle.krl_messages.specs.declared.write_op.WriteOp.{WriteOp}
 use Rattle.krl_messages.specs.declared.to_server.ToServerBody.TheVariants as said
@@ -11,13 +12,12 @@ use Rattle.krl_messages.specs.declared.to_server.RequestBody.TheVariants as aske
 use Rattle.krl_messages.specs.declared.to_client.ToClientBody.TheVariants as told
 use Rattle.krl_messages.specs.declared.to_client.PushBody.{PushBody}
 use Rattle.krl_messages.specs.declared.to_client.PushBody.TheVariants as push
-use Rattle.krl_table.specs.Rows.{most_clients}
 use Rattle.krl_server.specs.Servers.{incarnation_of, incarnation_or_0}
 use Rattle.krl_server.specs.Cases.{is_malformed, case_of_record, case_of_body, case_of_request, case_of_late}
 use Rattle.krl_server.specs.Effects.{push_to}
 use Rattle.krl_server.proofs.Tests.{if_case}
 use Rattle.krl_client.specs.Ticks.{tick, says_hello, lock_again, write_again}
-use Rattle.krl_client.specs.Clients.{outstanding, requests, is_waiting, LockRequest, NotAsked, Granted, NoEntry, Dropped, Waiting}
+use Rattle.krl_client.specs.Clients.{outstanding, requests, is_waiting, LockRequest, NotAsked, Granted, Absent, Dropped, Waiting}
 use Rattle.krl_client.specs.Messages as receiver
 use Rattle.krl_client.specs.Messages.{fits, accepted}
 use Rattle.krl_steps.specs.declared.step.Step.TheVariants as step
@@ -30,7 +30,7 @@ use Rattle.krl_progress.proofs.Standings.{HasStanding, standing}
 use Rattle.krl_progress.proofs.Hearing.{all_false}
 use Rattle.krl_progress.proofs.Recovers.{same_up, At, at_kept, run_hits, Joined, joined_kept, near}
 use Rattle.krl_progress.proofs.Fits.{all_pushes_fit}
-use Rattle.krl_progress.proofs.WriteSteps.{Serves, serves_kept, place, to_clients, ends_idle}
+use Rattle.krl_progress.proofs.WriteSteps.{Serves, serves_kept, position_in, to_clients, ends_idle}
 use Rattle.krl_progress.proofs.Later.{Later, anew, kept, more, step_later}
 use Rattle.krl_progress.proofs.Agreed.{agrees}
 use Rattle.krl_progress.proofs.Awaited.{awaits, accepted_seen}
@@ -46,7 +46,7 @@ pub data Hears (s : Server) (c : ℕ) (k : Client) (b : RequestBody) (x : Case) 
 abbrev pub request_from : ℕ → ℕ → ℕ → ℕ → RequestBody → ToServer
 request_from c inc epoch seen b = record { client = c; incarnation = inc; body = said.Request (record { epoch = epoch; seen = seen; body = b }) }
 
-module _ (u : State) (s : Server) (c : ℕ) (k : Client) (ru : IsReachable u) (up : u.server ≡ Up s) (runs : client_of u c ≡ Some k) (now : k.epoch ≡ s.durable.epoch) (serves : is_recovering s.missing ≡ false) (below : nat_lt c most_clients ≡ true) (b : RequestBody) where
+module _ (u : State) (s : Server) (c : ℕ) (k : Client) (ru : IsReachable u) (up : u.server ≡ Up s) (runs : client_of u c ≡ Some k) (now : k.epoch ≡ s.durable.epoch) (serves : is_recovering s.missing ≡ false) (below : nat_lt c max_clients ≡ true) (b : RequestBody) where
   st : HasStanding u s c k
   st = standing u s c k ru up runs
 
@@ -91,7 +91,7 @@ module _ (u : State) (s : Server) (c : ℕ) (k : Client) (ru : IsReachable u) (u
 
   pub request_hears : Hears s c k b (case_of s the_request)
   request_hears = if_case OfCase (is_malformed the_request) Ignored _
-      (λ bad. absurd (not_both _ bad (all_false (nat_lt c most_clients) (nat_eq k.incarnation 0) (nat_lt END k.incarnation) below
+      (λ bad. absurd (not_both _ bad (all_false (nat_lt c max_clients) (nat_eq k.incarnation 0) (nat_lt END k.incarnation) below
       (ne_eqb k.incarnation 0 (λ e. let x = st.some in omega (arith, x, e)))
       (le-ltb END k.incarnation (within_end u ru c k runs)))))
       (λ fine. record_case (record_of s.durable.register c) refl)
@@ -119,7 +119,7 @@ module _ (c inc epoch seen0 : ℕ) (some : 1 ≤ epoch) (room : seen0 < END) (n 
   mine : (u : State) (h : Live u) → incarnation_of h.at.server c ≡ inc
   mine u h = let st = standing u h.at.server c h.at.client h.at.reachable h.at.up h.at.runs in st.joined (let x = now_in u h h.at.client h.at.runs in omega (arith, x, some)) ∙ h.at.same
 
-  -- the server has made the push of this number; where the client has accepted it, that is what is to be shown
+  -- the server has made the push of this number; if the client has accepted it, that is what is to be shown
   abbrev pub Made : State → Type 0
   Made u = (s : Server) → u.server ≡ Up s → suc seen0 ≤ (s.sessions c).last_push
 
@@ -228,7 +228,7 @@ module _ (c inc epoch seen0 : ℕ) (some : 1 ≤ epoch) (room : seen0 < END) (n 
   locks_again : (k : Client) (a : LockRequest) → is_waiting a ≡ true → (b : RequestBody) × In (requests k b) (lock_again k a)
   locks_again k NotAsked w = absurd (cc)
   locks_again k Granted w = absurd (cc)
-  locks_again k NoEntry w = absurd (cc)
+  locks_again k Absent w = absurd (cc)
   locks_again k Dropped w = absurd (cc)
   locks_again k (Waiting point hi g) w = (asked.Lock k.req point hi g, inl refl)
 
@@ -277,7 +277,7 @@ module _ (c inc epoch seen0 : ℕ) (some : 1 ≤ epoch) (room : seen0 < END) (n 
       let same : d.0.incarnation ≡ inc = ap (λ (y : Client). y.incarnation) (some_is d.0 h.live.at.client (sym d.1 ∙ h.live.at.runs)) ∙ h.live.at.same in
       let says = says_request d.0 d.2.0 p.0 (now_in u h.live d.0 d.1) p.1 in
       let is = request_is d.0 says.0 st.number same (now_in u h.live d.0 d.1) (w d.0 d.1) in
-      let there = place u.sent (from_clients (tick d.2.0 d.0)) (said_by says.0) (to_clients (request_from c inc epoch seen0 says.0) (tick d.2.0 d.0) (subst (λ y. In y (tick d.2.0 d.0)) is says.1)) in
+      let there = position_in u.sent (from_clients (tick d.2.0 d.0)) (said_by says.0) (to_clients (request_from c inc epoch seen0 says.0) (tick d.2.0 d.0) (subst (λ y. In y (tick d.2.0 d.0)) is says.1)) in
       inr (record { body = says.0; sent = record { index = suc there.0; above = (let a = there.1 in let b = h.live.at.long in omega (arith, a, b)); sent = subst (λ xs. slice_get xs there.0 ≡ Some (said_by says.0)) (sym (ap (λ (y : State). y.sent) d.2.2)) there.2 } })
 
   -- The push that the server says again
@@ -331,7 +331,7 @@ module _ (c inc epoch seen0 : ℕ) (some : 1 ≤ epoch) (room : seen0 < END) (n 
           fits_p = all_pushes_fit u s h.live.at.reachable h.live.at.up c p e
 
           there : (j : ℕ) × (length u.sent ≤ j) × (slice_get (u.sent ++ from_server d.1) j ≡ Some (pushed p))
-          there = place u.sent (from_server d.1) (pushed p) (subst (λ xs. In (pushed p) (from_server xs)) (sym outs) (inl (ap (λ (y : ToClient). message.ToClient y) (sym is_push))))
+          there = position_in u.sent (from_server d.1) (pushed p) (subst (λ xs. In (pushed p) (from_server xs)) (sym outs) (inl (ap (λ (y : ToClient). message.ToClient y) (sym is_push))))
 
   -- The client accepts it
 
@@ -354,7 +354,7 @@ module _ (c inc epoch seen0 : ℕ) (some : 1 ≤ epoch) (room : seen0 < END) (n 
       let x = w k h.live.at.runs in
       let own : record { client = c; incarnation = inc; body = told.Push epoch (suc seen0) b } ≡ record { client = k.number; incarnation = k.incarnation; body = told.Push epoch (suc seen0) b } = λ z. (let y : ToClient = record { client = sym st.number z; incarnation = sym h.live.at.same z; body = told.Push epoch (suc seen0) b } in y) in
       let case = ap (receiver.case_of k) own ∙ accepts_next k b (now_in u h.live k h.live.at.runs) x fit in
-      let new : client_of v c ≡ Some (accepted k b) = ap (λ y. client_of y c) d.2 ∙ ap (λ (y : Bool). (if y then (record { last_incarnation = (u.seats c).last_incarnation; client = Some (receiver.after k (receiver.case_of k (record { client = c; incarnation = inc; body = told.Push epoch (suc seen0) b }))) }) else u.seats c).client) (eq-eqb c c refl) ∙ ap (λ y. Some (receiver.after k y)) case in
+      let new : client_of v c ≡ Some (accepted k b) = ap (λ y. client_of y c) d.2 ∙ ap (λ (y : Bool). (if y then (record { last_incarnation = (u.places c).last_incarnation; client = Some (receiver.after k (receiver.case_of k (record { client = c; incarnation = inc; body = told.Push epoch (suc seen0) b }))) }) else u.places c).client) (eq-eqb c c refl) ∙ ap (λ y. Some (receiver.after k y)) case in
       let same = some_is (accepted k b) l (sym new ∙ j) in
       let a = (accepted_seen k b).0 in
       subst (λ (y : Client). seen0 < y.seen) same (omega (arith, a, x)))

@@ -19,7 +19,7 @@ use Rattle.krl_progress.proofs.Heard.{has_said, has_told}
 use Rattle.krl_progress.proofs.Doings.{write_said, Goes, same, locks, adopts, accepts, WriteGoes, one_silent, Does, rests, goes, starts, ends, reads, nudges, stops, begins, does}
 use Rattle.krl_progress.proofs.Knowing.{Knows}
 use Rattle.krl_progress.proofs.Known.{goes_mine}
-use Rattle.krl_progress.proofs.Agreed.{agrees, by_seat, heard_of, new_seat, hello}
+use Rattle.krl_progress.proofs.Agreed.{agrees, by_place, heard_of, new_place, hello}
 use Rattle.krl_progress.proofs.Pending.{Pending, Writes, step_pending}
 
 -- what was said of a write with the client's last push seen is said of its outstanding one
@@ -96,10 +96,10 @@ module _ (u : State) (ru : IsReachable u) (d : ℕ) (k : Client) (runs : client_
 
 goes_on : (u : State) (d : ℕ) (k l : Client) (ms : List ToServer) → IsReachable u → client_of u d ≡ Some k → Goes u d k l ms → WriteGoes k l ms → Awaits u → Awaits (with_client u d (Some l) ms)
 goes_on u d k l ms ru i g x h = record {
-  says = λ c k1. by_seat u d _ c k1 (Says (with_client u d (Some l) ms) c k1)
+  says = λ c k1. by_place u d _ c k1 (Says (with_client u d (Some l) ms) c k1)
       (λ e f. subst (λ y. Says (with_client u d (Some l) ms) y k1) (sym e) (subst (Says (with_client u d (Some l) ms) d) (some_is l k1 f) (goes_says u ru d k i (with_client u d (Some l) ms) (h.says d k i) l ms refl g x)))
       (λ ne f. says_by_clients u (with_client u d (Some l) ms) c k1 ms refl (λ m at own. absurd (ne (sym own ∙ goes_mine u d k l ms m g at ∙ (has_said u d k ru i).number))) (h.says c k1 f));
-  pending = λ s c k1 up. by_seat u d _ c k1 (Pending s c k1)
+  pending = λ s c k1 up. by_place u d _ c k1 (Pending s c k1)
       (λ e f. subst (λ y. Pending s y k1) (sym e) (subst (Pending s d) (some_is l k1 f) (goes_pending u ru d k i s up ((agrees u ru).knows s d k up i) (h.pending s d k up i) l ms g x)))
       (λ ne f. h.pending s c k1 up f);
 }
@@ -115,13 +115,13 @@ reads_on u old new m outs writes ru up at step h = let order = in_order u old ru
 hello_silent : (u : State) (d : ℕ) (m : ToServer) → In m (hello u d) → write_said m.body ≡ None
 hello_silent u d m at = one_silent _ refl m at
 
-starts_on : (u : State) (d : ℕ) → IsReachable u → Awaits u → Awaits (seated u d (new_seat u d) (hello u d))
+starts_on : (u : State) (d : ℕ) → IsReachable u → Awaits u → Awaits (seated u d (new_place u d) (hello u d))
 starts_on u d ru h = record {
-  says = λ c k. by_seat u d (new_seat u d) c k (Says (seated u d (new_seat u d) (hello u d)) c k)
-      (λ e f m own at some inc r is now seen n number. absurd (let x : 0 ≡ k.epoch = ap (λ (y : Client). y.epoch) (some_is (begun d (suc (u.seats d).last_incarnation)) k f) in omega (arith, x, some)))
-      (λ ne f. says_by_clients u (seated u d (new_seat u d) (hello u d)) c k (hello u d) refl (λ m at own. hello_silent u d m at) (h.says c k f));
-  pending = λ s c k up. by_seat u d (new_seat u d) c k (Pending s c k)
-      (λ e f now. absurd (let x : 0 ≡ k.epoch = ap (λ (y : Client). y.epoch) (some_is (begun d (suc (u.seats d).last_incarnation)) k f) in let y = (in_order u s ru up).0.begun in omega (arith, x, y, now)))
+  says = λ c k. by_place u d (new_place u d) c k (Says (seated u d (new_place u d) (hello u d)) c k)
+      (λ e f m own at some inc r is now seen n number. absurd (let x : 0 ≡ k.epoch = ap (λ (y : Client). y.epoch) (some_is (begun d (suc (u.places d).last_incarnation)) k f) in omega (arith, x, some)))
+      (λ ne f. says_by_clients u (seated u d (new_place u d) (hello u d)) c k (hello u d) refl (λ m at own. hello_silent u d m at) (h.says c k f));
+  pending = λ s c k up. by_place u d (new_place u d) c k (Pending s c k)
+      (λ e f now. absurd (let x : 0 ≡ k.epoch = ap (λ (y : Client). y.epoch) (some_is (begun d (suc (u.places d).last_incarnation)) k f) in let y = (in_order u s ru up).0.begun in omega (arith, x, y, now)))
       (λ ne f. h.pending s c k up f);
 }
 
@@ -130,9 +130,9 @@ does_on u _ ru rests h = h
 does_on u _ ru (goes d k l ms i g x) h = goes_on u d k l ms ru i g x h
 does_on u _ ru (starts d down) h = starts_on u d ru h
 does_on u _ ru (ends d number ms most silent) h = record {
-  says = λ c k. by_seat u d _ c k (Says (with_client u d None ms) c k) (λ e f. absurd (let bad : None ≡ Some k = f in cc))
+  says = λ c k. by_place u d _ c k (Says (with_client u d None ms) c k) (λ e f. absurd (let bad : None ≡ Some k = f in cc))
       (λ ne f. says_by_clients u (with_client u d None ms) c k ms refl (λ m at own. silent m at) (h.says c k f));
-  pending = λ s c k up. by_seat u d _ c k (Pending s c k) (λ e f. absurd (let bad : None ≡ Some k = f in cc)) (λ ne f. h.pending s c k up f);
+  pending = λ s c k up. by_place u d _ c k (Pending s c k) (λ e f. absurd (let bad : None ≡ Some k = f in cc)) (λ ne f. h.pending s c k up f);
 }
 does_on u _ ru (reads old new m outs writes up at step) h = reads_on u old new m outs writes ru up at step h
 does_on u _ ru (nudges s d up) h = record {

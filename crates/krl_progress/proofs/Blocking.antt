@@ -1,6 +1,6 @@
 -- What becomes of a block: the waiter's tick calls the blocker back, which gives way.
 use Rattle.krl_progress.proofs.Names.{◌≡◌, ◌≢◌, ℕ, zero, suc, ◌≤◌, ◌<◌, ◌+◌, ◌∙◌, inl, inr, Bool, true, false, not, ◌&&◌, ◌||◌, None, List, [], ◌∷◌, ◌++◌, refl, sym, ap, subst, arith, nat_eq, if◌then◌else◌, eq_cases, eq-eqb, eqb-true}
-use Rattle.krl_progress.proofs.Names.{ToServer, ToClient, In, Server, is_recovering, State, ServerStep, Lowers, Waits, Acknowledges, case_of, effect, acknowledged, kind_of, Kind, Acts, Quiet, Idle, Ends, at_once, recovers, serves, Done, calls_of, Answered, stops, goes_on, answer_first, callbacks, callbacks_from, callbacks_at, callbacks_among, is_compatible, callback_to, slots, most_clients, span_of, cap}
+use Rattle.krl_progress.proofs.Names.{ToServer, ToClient, In, Server, is_recovering, State, ServerStep, Lowers, Waits, Acknowledges, case_of, effect, acknowledged, kind_of, Kind, Acts, Quiet, Idle, Ends, at_once, recovers, serves, Done, calls_of, Answered, stops, goes_on, answer_first, callbacks, callbacks_from, callbacks_at, callbacks_among, is_compatible, callback_to, slots, max_clients, span_of, cap}
 use Rattle.krl_modes.proofs.Basics.{not_both}
 use Rattle.krl_modes.specs.declared.mode.Mode.{Mode}
 use Rattle.krl_modes.specs.Modes.{at_most, compatible, meet}
@@ -40,11 +40,11 @@ in_among s x n (m ∷ ns) (inl e) h = in_left (callbacks_at s m (s.rows m).queue
 in_among s x n (m ∷ ns) (inr at) h = in_right (callbacks_at s m (s.rows m).queue) (callbacks_among s ns) x (in_among s x n ns at h)
 
 -- who blocks a first waiter is called back
-pub blocker_called : (s : Server) (n : ℕ) (u : Waiter) (us : List Waiter) (c : ℕ) → In n (slots s.durable.index) → (s.rows n).queue ≡ u ∷ us → asks_absent s.durable.index u ≡ false → c < most_clients → is_compatible s n u c ≡ false → In (callback_to s c (span_of s.durable.index n) (cap (wanted (s.rows n) u))) (callbacks s)
+pub blocker_called : (s : Server) (n : ℕ) (u : Waiter) (us : List Waiter) (c : ℕ) → In n (slots s.durable.index) → (s.rows n).queue ≡ u ∷ us → asks_absent s.durable.index u ≡ false → c < max_clients → is_compatible s n u c ≡ false → In (callback_to s c (span_of s.durable.index n) (cap (wanted (s.rows n) u))) (callbacks s)
 blocker_called s n u us c at q possible near blocks =
     let x = callback_to s c (span_of s.durable.index n) (cap (wanted (s.rows n) u)) in
     in_among s x n (slots s.durable.index) at (subst (λ vs. In x (callbacks_at s n vs)) (sym q)
-    (subst (λ b. In x (if b then [] else callbacks_from s n u 0 most_clients)) (sym possible) (in_from s n u 0 c most_clients (omega arith) (omega (arith, near)) blocks)))
+    (subst (λ b. In x (if b then [] else callbacks_from s n u 0 max_clients)) (sym possible) (in_from s n u 0 c max_clients (omega arith) (omega (arith, near)) blocks)))
 
 -- A step that acts calls back
 
@@ -56,7 +56,7 @@ acts_calls done kind t outs x e up (serves y answers ne g a) at = in_right done.
 pub lock_acts : (s : Server) (c req point hi : ℕ) (g : Mode) → kind_of (case_of_lock s c req point hi g) ≡ Acts
 lock_acts s c req point hi g = if_both (λ x. kind_of x ≡ Acts) (nat_eq req (suc (s.sessions c).last_request) && (not (waits s.durable.index s.rows c) && is_reach point hi)) (Waits req point hi g) Acknowledges refl refl
 
--- Where the blocker has given way
+-- When the blocker has given way
 
 -- while the waiter has had no answer, answers to others leave its row as it is
 pub row_stays : (s t : Server) (outs : List ToClient) (n : ℕ) (u : Waiter) (us : List Waiter) → Answered s t outs → (s.rows n).queue ≡ u ∷ us → (t.sessions u.client).last_push ≡ (s.sessions u.client).last_push → t.rows n ≡ s.rows n

@@ -1,6 +1,6 @@
 -- No block lasts four good rounds: a tick, the callback that it brings out, the Release, and its hearing.
 use Rattle.krl_progress.proofs.Names.{◌≡◌, ℕ, ◌≤◌, ◌<◌, ◌∙◌, inl, true, false, Some, is_some, List, length, refl, sym, ap, subst, arith, ltb-true}
-use Rattle.krl_progress.proofs.Names.{ToServer, ToClient, In, Client, Message, Acts, Server, is_recovering, Step, Answer, Up, State, message_at, Delivers, ServerReads, ClientReads, Runs, Takes, ServerStep, case_of, effect, from_clients, from_server, kind_of, callbacks, callback_to, most_clients, span_of, cap}
+use Rattle.krl_progress.proofs.Names.{ToServer, ToClient, In, Client, Message, Acts, Server, is_recovering, Step, Answer, Up, State, message_at, Delivers, ServerReads, ClientReads, Runs, Takes, ServerStep, case_of, effect, from_clients, from_server, kind_of, callbacks, callback_to, max_clients, span_of, cap}
 use Rattle.krl_modes.specs.declared.mode.Mode.{Mode}
 use Rattle.krl_modes.specs.Modes.{at_most}
 use Rattle.krl_modes.proofs.ModeLaws.{mode_order}
@@ -91,8 +91,8 @@ module _ (b : Block) (waiter_inc blocker_inc epoch : ℕ) (some : 1 ≤ epoch) (
       acts : kind_of (case_of s m) ≡ Acts
       acts = let r = heard_now epoch some n u s b.waiter.client waiter_inc b.waiter_seen h.waiter_at h.blocked.up h.blocked.waiting (asked.Lock req point hi g) h.blocked.serves in ap kind_of r.1 ∙ lock_acts s b.waiter.client req point hi g
 
-      below : b.blocker < most_clients
-      below = ltb-true b.blocker most_clients (near b.blocker blocker_inc epoch n v after.blocker_at)
+      below : b.blocker < max_clients
+      below = ltb-true b.blocker max_clients (near b.blocker blocker_inc epoch n v after.blocker_at)
 
       in_callbacks : In (callback_to x b.blocker (span_of x.durable.index b.slot) (cap want)) (callbacks x)
       in_callbacks = blocker_called x b.slot b.waiter after.blocked.behind b.blocker (slots_have x.durable.index b.slot after.blocked.slot) after.blocked.first after.blocked.possible below after.blocked.blocks

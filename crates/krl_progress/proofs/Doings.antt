@@ -1,7 +1,7 @@
--- What each step does to lock requests: at a client's seat, or at the server.
+-- What each step does to lock requests: at a client's place, or at the server.
 use Rattle.krl_progress.proofs.Names.{◌≡◌, ℕ, suc, ◌≤◌, ◌<◌, ◌⊎◌, inl, inr, ⊎_elim, ◌∙◌, true, false, not, ◌&&◌, Option, Some, None, List, [], ◌∷◌, ◌++◌, is_some, refl, sym, ap, subst, arith, same_Some, nat_eq, nat_lt, nat_le, if◌then◌else◌, and_parts, eqb-true, ltb-true, END, In, in_both}
-use Rattle.krl_progress.proofs.Names.{ToServer, ToClient, Client, Message, AppliedWrite, Step, Command, Answer, ServerNode, Up, Down, State, Server, Durable, client_of, with_client, seated, served, message_at, ServerReads, ClientReads, ServerStep, Delivers, Obeys, nudged, started, crashed, Takes, refused_by_client, Pieces, start, nudge, span, applies, case_of, command_refusal}
-use Rattle.krl_client.specs.Clients.{begun, is_waiting, outstanding, LockRequest, NotAsked, Granted, NoEntry, Dropped, Waiting, has_joined, LastWrite, Unwritten, Outstanding, Judged}
+use Rattle.krl_progress.proofs.Names.{ToServer, ToClient, Client, Message, AppliedWrite, Step, Command, Answer, ServerPlace, Up, Down, State, Server, Durable, client_of, with_client, seated, served, message_at, ServerReads, ClientReads, ServerStep, Delivers, Obeys, nudged, started, crashed, Takes, refused_by_client, Pieces, start, nudge, span, applies, case_of, command_refusal}
+use Rattle.krl_client.specs.Clients.{begun, is_waiting, outstanding, LockRequest, NotAsked, Granted, Absent, Dropped, Waiting, has_joined, LastWrite, Unwritten, Outstanding, Judged}
 use Rattle.krl_messages.specs.declared.outcome.Outcome.{Outcome}
 use Rattle.krl_client.specs.Commands.{says_lock, locked, says_write, wrote, says_release, says_bye, forgot, pinned, unpinned, lock_refusal}
 use Rattle.krl_client.specs.declared.refused.CommandRefused.TheVariants as refused
@@ -112,7 +112,7 @@ its_write k op some m (inr at) n e = absurd at
 pub data Does (u : State) : State → Type 0 where
   rests : Does u u
   goes : (d : ℕ) (k l : Client) (ms : List ToServer) → client_of u d ≡ Some k → Goes u d k l ms → WriteGoes k l ms → Does u (with_client u d (Some l) ms)
-  starts : (d : ℕ) → client_of u d ≡ None → Does u (seated u d (record { last_incarnation = suc (u.seats d).last_incarnation; client = Some (begun d (suc (u.seats d).last_incarnation)) }) (says_hello (begun d (suc (u.seats d).last_incarnation)) ∷ []))
+  starts : (d : ℕ) → client_of u d ≡ None → Does u (seated u d (record { last_incarnation = suc (u.places d).last_incarnation; client = Some (begun d (suc (u.places d).last_incarnation)) }) (says_hello (begun d (suc (u.places d).last_incarnation)) ∷ []))
   ends : (d number : ℕ) (ms : List ToServer) → AsksAtMost number 0 ms → SaysNoWrite ms → Does u (with_client u d None ms)
   reads : (old new : Server) (m : ToServer) (outs : List ToClient) (writes : List AppliedWrite) → u.server ≡ Up old → In (message.ToServer m) u.sent → ServerStep old m new outs → Does u (served u (Up new) outs writes)
   nudges : (s : Server) (c : ℕ) → u.server ≡ Up s → Does u (served u (Up s) (nudge s c) [])
@@ -205,7 +205,7 @@ tick_says ps k = if_both (SaysItsWrite k) (has_joined k) _ (says_hello k ∷ [])
     locks_again : (a : LockRequest) → SaysNoWrite (lock_again k a)
     locks_again NotAsked = none_silent
     locks_again Granted = none_silent
-    locks_again NoEntry = none_silent
+    locks_again Absent = none_silent
     locks_again Dropped = none_silent
     locks_again (Waiting point hi g) = one_silent (says_lock k point hi g) refl
 
@@ -226,7 +226,7 @@ tick_asks ps k = if_both (AsksAtMost k.number k.req) (has_joined k) _ (says_hell
     locks_again : (a : LockRequest) → AsksAtMost k.number k.req (lock_again k a)
     locks_again NotAsked = none_asks k.number k.req
     locks_again Granted = none_asks k.number k.req
-    locks_again NoEntry = none_asks k.number k.req
+    locks_again Absent = none_asks k.number k.req
     locks_again Dropped = none_asks k.number k.req
     locks_again (Waiting point hi g) = one_asks k.number k.req (says_lock k point hi g) refl (omega arith)
 
@@ -250,8 +250,8 @@ reaches k point hi e =
     let b = passed (not (nat_lt point hi && nat_le hi TOP)) refused.BadSpan _ a.1 in
     ap (λ x. not x && (nat_lt point hi && nat_le hi TOP)) a.0 ∙ not-false (nat_lt point hi && nat_le hi TOP) b.0
 
-seat_does : (u v : State) (d : ℕ) (k l : Client) (ms : List ToServer) → client_of u d ≡ Some k → Goes u d k l ms → WriteGoes k l ms → v ≡ with_client u d (Some l) ms → Does u v
-seat_does u v d k l ms i g x e = subst (Does u) (sym e) (goes d k l ms i g x)
+place_does : (u v : State) (d : ℕ) (k l : Client) (ms : List ToServer) → client_of u d ≡ Some k → Goes u d k l ms → WriteGoes k l ms → v ≡ with_client u d (Some l) ms → Does u v
+place_does u v d k l ms i g x e = subst (Does u) (sym e) (goes d k l ms i g x)
 
 -- a client whose write and pushes stay
 unwritten : (k l : Client) (ms : List ToServer) → l.seen ≡ k.seen → l.written ≡ k.written → l.writes ≡ k.writes → SaysNoWrite ms → WriteGoes k l ms
@@ -271,21 +271,21 @@ writes_now k op none = record {
 }
 
 obeys_does : (u v : State) (c : ℕ) (k : Client) (what : Command) (answer : Answer) → command_refusal k what ≡ None → client_of u c ≡ Some k → Obeys u c k what answer v → Does u v
-obeys_does u v c k (command.Lock point hi g) answer r i d = seat_does u v c k _ _ i (locks point hi g (not_waiting k point hi r) (reaches k point hi r)) (unwritten k (locked k point hi g) _ refl refl refl (one_silent (says_lock (locked k point hi g) point hi g) refl)) d.1
-obeys_does u v c k (command.Write op) answer r i d = seat_does u v c k _ _ i (same (wrote k op) (says_write (wrote k op) op ∷ []) refl refl refl refl refl (one_asks k.number k.req (says_write (wrote k op) op) refl (omega arith))) (writes_now k op (write_free k op r).0) d.1
+obeys_does u v c k (command.Lock point hi g) answer r i d = place_does u v c k _ _ i (locks point hi g (not_waiting k point hi r) (reaches k point hi r)) (unwritten k (locked k point hi g) _ refl refl refl (one_silent (says_lock (locked k point hi g) point hi g) refl)) d.1
+obeys_does u v c k (command.Write op) answer r i d = place_does u v c k _ _ i (same (wrote k op) (says_write (wrote k op) op ∷ []) refl refl refl refl refl (one_asks k.number k.req (says_write (wrote k op) op) refl (omega arith))) (writes_now k op (write_free k op r).0) d.1
 obeys_does u v c k (command.Scan lo hi) answer r i d = rests_at u v d.1
-obeys_does u v c k (command.Forget lo hi) answer r i d = seat_does u v c k _ _ i (same (forgot k (span lo hi)) (says_release k (span lo hi) mode.N ∷ []) refl refl refl refl refl (one_asks k.number k.req (says_release k (span lo hi) mode.N) refl (omega arith))) (unwritten k (forgot k (span lo hi)) _ refl refl refl (one_silent (says_release k (span lo hi) mode.N) refl)) d.1
-obeys_does u v c k (command.Pin lo hi) answer r i d = seat_does u v c k _ _ i (same (pinned k (span lo hi) d.0) [] refl refl refl refl refl (none_asks k.number k.req)) (unwritten k (pinned k (span lo hi) d.0) [] refl refl refl none_silent) d.3
-obeys_does u v c k (command.Unpin id) answer r i d = seat_does u v c k _ _ i (same (unpinned k id) [] refl refl refl refl refl (none_asks k.number k.req)) (unwritten k (unpinned k id) [] refl refl refl none_silent) d.1
+obeys_does u v c k (command.Forget lo hi) answer r i d = place_does u v c k _ _ i (same (forgot k (span lo hi)) (says_release k (span lo hi) mode.N ∷ []) refl refl refl refl refl (one_asks k.number k.req (says_release k (span lo hi) mode.N) refl (omega arith))) (unwritten k (forgot k (span lo hi)) _ refl refl refl (one_silent (says_release k (span lo hi) mode.N) refl)) d.1
+obeys_does u v c k (command.Pin lo hi) answer r i d = place_does u v c k _ _ i (same (pinned k (span lo hi) d.0) [] refl refl refl refl refl (none_asks k.number k.req)) (unwritten k (pinned k (span lo hi) d.0) [] refl refl refl none_silent) d.3
+obeys_does u v c k (command.Unpin id) answer r i d = place_does u v c k _ _ i (same (unpinned k id) [] refl refl refl refl refl (none_asks k.number k.req)) (unwritten k (unpinned k id) [] refl refl refl none_silent) d.1
 obeys_does u v c k command.Leave answer r i d = subst (Does u) (sym d.1) (ends c k.number (says_bye k ∷ []) (one_asks k.number 0 (says_bye k) refl (omega arith)) (one_silent (says_bye k) refl))
 
 -- Each step
 
 client_does : (u v : State) (m : ToClient) (o : Option Client) → client_of u m.client ≡ o → In (message.ToClient m) u.sent → ClientReads u o m v → Does u v
 client_does u v m None i at d = rests_at u v d
-client_does u v m (Some k) i at d = seat_does u v m.client k _ _ i (client_goes u d.0 k m at) (reads_write d.0 k m) d.2
+client_does u v m (Some k) i at d = place_does u v m.client k _ _ i (client_goes u d.0 k m at) (reads_write d.0 k m) d.2
 
-read_does : (u v : State) (m : ToServer) (n : ServerNode) → u.server ≡ n → In (message.ToServer m) u.sent → ServerReads u n m v → Does u v
+read_does : (u v : State) (m : ToServer) (n : ServerPlace) → u.server ≡ n → In (message.ToServer m) u.sent → ServerReads u n m v → Does u v
 read_does u v m (Up s) up at d = subst (Does u) (sym d.3) (reads s d.0 m d.1 (applies m (case_of s m)) up at d.2)
 read_does u v m (Down x) up at d = rests_at u v d
 
@@ -294,22 +294,22 @@ delivers_does u v None at d = absurd d
 delivers_does u v (Some (message.ToServer m)) at d = read_does u v m u.server refl (at (message.ToServer m) refl) d
 delivers_does u v (Some (message.ToClient m)) at d = client_does u v m (client_of u m.client) refl (at (message.ToClient m) refl) d
 
-nudged_does : (u v : State) (c : ℕ) (n : ServerNode) → u.server ≡ n → v ≡ nudged u n c → Does u v
+nudged_does : (u v : State) (c : ℕ) (n : ServerPlace) → u.server ≡ n → v ≡ nudged u n c → Does u v
 nudged_does u v c (Up s) up e = subst (Does u) (sym e) (nudges s c up)
 nudged_does u v c (Down d) up e = rests_at u v e
 
-started_does : (u v : State) (n : ServerNode) → u.server ≡ n → v ≡ started u n → Does u v
+started_does : (u v : State) (n : ServerPlace) → u.server ≡ n → v ≡ started u n → Does u v
 started_does u v (Up s) up e = rests_at u v e
 started_does u v (Down d) up e = subst (Does u) (sym e) (begins d up)
 
-crashed_does : (u v : State) (n : ServerNode) → u.server ≡ n → v ≡ crashed u n → Does u v
+crashed_does : (u v : State) (n : ServerPlace) → u.server ≡ n → v ≡ crashed u n → Does u v
 crashed_does u v (Up s) up e = subst (Does u) (sym e) (stops s up)
 crashed_does u v (Down d) up e = rests_at u v e
 
 pub does : (u v : State) (s : Step) (answer : Answer) → Takes u s answer v → Does u v
 does u v (step.Deliver i) answer t = delivers_does u v (message_at u.sent i) (at_in u.sent i) t.1.1
 does u v (step.Command c what) answer t = obeys_does u v c t.1.0 what answer (not_named refused_by_client (command_refusal t.1.0 what) (runs_ok (client_of u c) t.1.0 _ t.1.1 (client_ok c _ t.0))) t.1.1 t.1.2
-does u v (step.Tick c) answer t = let d = t.1.1 in seat_does u v c d.0 d.0 (tick d.2.0 d.0) d.1 (same d.0 _ refl refl refl refl refl (tick_asks d.2.0 d.0)) (tick_writes d.2.0 d.0) d.2.2
+does u v (step.Tick c) answer t = let d = t.1.1 in place_does u v c d.0 d.0 (tick d.2.0 d.0) d.1 (same d.0 _ refl refl refl refl refl (tick_asks d.2.0 d.0)) (tick_writes d.2.0 d.0) d.2.2
 does u v (step.Nudge c) answer t = nudged_does u v c u.server refl t.1.1
 does u v (step.StartClient c) answer t = subst (Does u) (sym t.1.1) (starts c (was_down u c _ t.0).0)
 does u v (step.CrashClient c) answer t = subst (Does u) (sym t.1.1) (ends c c [] (none_asks c 0) none_silent)

@@ -2,9 +2,10 @@
 use Rattle.krl_progress.proofs.Names.{◌≡◌, ℕ, zero, suc, ◌≤◌, ◌∙◌, inl, Bool, true, false, List, [], ◌∷◌, length, refl, sym, ap, subst, arith}
 use Rattle.krl_progress.proofs.Names.{ToServer, ToClient, In, Server, is_recovering, is_slot, Step, Up, Down, State, Runs, IsReachable, ServerStep, is_compatible}
 use Rattle.krl_modes.proofs.Basics.{not_both}
-use Rattle.krl_table.specs.Replies.{asks_absent, lacks_entry}
+use Rattle.krl_table.specs.Replies.{asks_absent}
+use Rattle.krl_table.specs.FirstReplies.{lacks_entry}
 use Rattle.krl_table.proofs.Calls.Answering.{lacks_is}
-use Rattle.krl_durable.specs.Index.{IsSlotOf}
+use Rattle.krl_durable.specs.Slots.{IsSlotOf}
 use Rattle.krl_table.proofs.Rows.Slots.{next_of}
 use Rattle.krl_server.specs.Servers.{incarnation_of}
 use Rattle.krl_world.specs.States.{served}

@@ -2,13 +2,14 @@
 -- its pushes.
 use Rattle.krl_progress.proofs.Names.{◌≡◌, ℕ, zero, suc, ◌≤◌, ◌<◌, ◌∙◌, Bool, true, false, not, ◌&&◌, ◌||◌, Option, Some, None, is_some, List, ◌∷◌, length, refl, sym, ap, subst, arith, nat_eq, nat_lt, if◌then◌else◌, END}
 use Rattle.std.proofs.lemmas.Bool.{lt-ltb}
-use Rattle.krl_progress.proofs.Names.{ToServer, ToClient, Server, Step, Answer, Up, Down, State, message_at, Delivers, ServerReads, Takes, IsReachable, ServerStep, Case, Waits, Acknowledges, case_of, Done, effect, acknowledged, kind_of, Kind, Ends, at_once, recovers, serves, Turn, next_turn, turn_at, is_compatible, most_clients}
+use Rattle.krl_progress.proofs.Names.{ToServer, ToClient, Server, Step, Answer, Up, Down, State, message_at, Delivers, ServerReads, Takes, IsReachable, ServerStep, Case, Waits, Acknowledges, case_of, Done, effect, acknowledged, kind_of, Kind, Ends, at_once, recovers, serves, Turn, next_turn, turn_at, is_compatible, max_clients}
 use Rattle.krl_modes.specs.declared.mode.Mode.{Mode}
 use Rattle.krl_messages.specs.declared.to_client.PushBody.{PushBody}
 use Rattle.krl_messages.specs.declared.to_server.RequestBody.TheVariants as asked
 use Rattle.krl_queue.specs.declared.waiter.Waiter.{Waiter}
 use Rattle.krl_table.specs.Rows.{waits}
-use Rattle.krl_table.specs.Replies.{asks_absent, is_wanted_compatible, lacks_entry}
+use Rattle.krl_table.specs.Replies.{asks_absent, is_wanted_compatible}
+use Rattle.krl_table.specs.FirstReplies.{lacks_entry}
 use Rattle.krl_table.specs.Sound.{IsTable}
 use Rattle.krl_server.specs.declared.session.Session.{Session}
 use Rattle.krl_server.specs.Servers.{incarnation_of}
@@ -201,4 +202,4 @@ first_waits_end f w v rw h room r =
   where
     by_test : IsReachable v → (g : StandsFirst f v) → (b : Bool) → lacks_entry f.slot f.waiter ≡ b → (asks_absent g.server.durable.index f.waiter || is_wanted_compatible g.server.rows f.slot f.waiter) ≡ true
     by_test rv g true e = ap (λ x. x || is_wanted_compatible g.server.rows f.slot f.waiter) (sym (lacks_there f v rv g) ∙ e)
-    by_test rv g false e = or_right (asks_absent g.server.durable.index f.waiter) (is_wanted_compatible g.server.rows f.slot f.waiter) (below_all most_clients _ (λ d lt. compatible_then f e d w v rw h r g.server g.up))
+    by_test rv g false e = or_right (asks_absent g.server.durable.index f.waiter) (is_wanted_compatible g.server.rows f.slot f.waiter) (below_all max_clients _ (λ d lt. compatible_then f e d w v rw h r g.server g.up))

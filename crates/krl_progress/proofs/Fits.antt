@@ -16,7 +16,7 @@ use Rattle.krl_client.specs.Messages.{fits}
 use Rattle.krl_queue.specs.declared.waiter.Waiter.{Waiter}
 use Rattle.krl_table.specs.Rows.{mode_at}
 use Rattle.krl_table.specs.Calls.{granted_first, dropped}
-use Rattle.krl_table.specs.Grants.{taken_by, taken_after, granted, most_more}
+use Rattle.krl_table.specs.Grants.{taken_by, taken_after, granted, max_more}
 use Rattle.krl_table.specs.Replies.{asks_absent}
 use Rattle.krl_server.specs.declared.session.Session.{Session}
 use Rattle.krl_server.specs.Servers.{blank_session, set_session}
@@ -30,7 +30,7 @@ use Rattle.krl_server.proofs.Grants.{AreSlotsAfter, taken_slots, slot_always}
 use Rattle.krl_table.specs.Sound.{IsTable}
 use Rattle.krl_steps.specs.declared.step.Step.{Step}
 use Rattle.krl_world.proofs.Refinement.ServerMoves.{Way, stays, reads, stops, begins, way}
-use Rattle.krl_progress.proofs.Names.{ServerNode, Up, Down, State, Runs, IsReachable, opened, CanOpen, start}
+use Rattle.krl_progress.proofs.Names.{ServerPlace, Up, Down, State, Runs, IsReachable, opened, CanOpen, start}
 use Rattle.krl_progress.proofs.Recovers.{next_reachable}
 use Rattle.krl_progress.proofs.CallsBack.{in_order}
 use Rattle.krl_world.proofs.Functions.Shapes.{reachable_stays}
@@ -124,8 +124,8 @@ by_queue_slot m rows n u us h q = by_test (is_slot m n) refl
 taken_fit : (s g : Server) (c n : ℕ) (us : List Waiter) → Near g → g.durable ≡ s.durable → is_slot s.durable.index n ≡ true → have_values (holdings g c (taken_by s.durable.index s.rows n us)) ≡ true
 taken_fit s g c n [] i d e = refl
 taken_fit s g c n (u ∷ us) i d e =
-    ap (λ b. b && have_values (holdings g c (taken_after s.durable.index (granted_first s.rows n) n u most_more))) (holding_fits g n c i (ap (λ (x : Durable). is_slot x.index n) d ∙ e))
-    ∙ holdings_fit g c n (taken_after s.durable.index (granted_first s.rows n) n u most_more) i (subst (λ (x : Durable). AreSlotsAfter x.index n (taken_after s.durable.index (granted_first s.rows n) n u most_more)) (sym d) (taken_slots s.durable.index u most_more n (granted_first s.rows n)))
+    ap (λ b. b && have_values (holdings g c (taken_after s.durable.index (granted_first s.rows n) n u max_more))) (holding_fits g n c i (ap (λ (x : Durable). is_slot x.index n) d ∙ e))
+    ∙ holdings_fit g c n (taken_after s.durable.index (granted_first s.rows n) n u max_more) i (subst (λ (x : Durable). AreSlotsAfter x.index n (taken_after s.durable.index (granted_first s.rows n) n u max_more)) (sym d) (taken_slots s.durable.index u max_more n (granted_first s.rows n)))
 
 turn_fits : (s : Server) (t : Turn) → next_turn s ≡ Some t → IsSound s → IsOrdered s → SessionsFit s → SessionsFit (answer_first s t).server
 turn_fits s t e i o h = if_both (λ (x : Done). SessionsFit x.server) (asks_absent s.durable.index t.waiter) (tells_absent s t) (grants_first s t)
@@ -150,7 +150,7 @@ start_fits d c b e = absurd (cc)
 
 -- The pushes of a server of a reachable world fit
 
-abbrev AllFit : ServerNode → Type 0
+abbrev AllFit : ServerPlace → Type 0
 AllFit (Up s) = SessionsFit s
 AllFit (Down d) = Unit {0}
 

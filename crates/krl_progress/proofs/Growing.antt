@@ -5,7 +5,7 @@ use Rattle.krl_client.specs.Clients.{outstanding}
 use Rattle.krl_progress.specs.Rounds.{loses_a_node, Rounds}
 use Rattle.krl_progress.proofs.Moves.{Moves, moves, client_goes_on, some_is}
 use Rattle.krl_progress.proofs.Doings.{Goes, same, locks, adopts, accepts, accepted_same, WriteGoes, Does, rests, goes, starts, ends, reads, nudges, stops, begins, does}
-use Rattle.krl_progress.proofs.Agreed.{by_seat, new_seat}
+use Rattle.krl_progress.proofs.Agreed.{by_place, new_place}
 use Rattle.krl_progress.proofs.Awaited.{accepted_seen}
 
 pub record Grows (k l : Client) : Type 0 where
@@ -57,14 +57,14 @@ goes_grow u d k l ms g x = record {
 -- one step
 does_grow : (u v : State) (c : ℕ) (k l : Client) → client_of u c ≡ Some k → Does u v → client_of v c ≡ Some l → Grows k l
 does_grow u _ c k l i rests j = subst (Grows k) (some_is k l (sym i ∙ j)) (stays_so k)
-does_grow u _ c k l i (goes d k2 l2 ms at g x) j = by_seat u d _ c l (Grows k l)
+does_grow u _ c k l i (goes d k2 l2 ms at g x) j = by_place u d _ c l (Grows k l)
     (λ e f. let here : client_of u d ≡ Some k = ap (client_of u) (sym e) ∙ i in
     subst (λ y. Grows y l) (some_is k2 k (sym at ∙ here)) (subst (Grows k2) (some_is l2 l f) (goes_grow u d k2 l2 ms g x)))
     (λ ne f. subst (Grows k) (some_is k l (sym i ∙ f)) (stays_so k)) j
-does_grow u _ c k l i (starts d down) j = by_seat u d (new_seat u d) c l (Grows k l)
+does_grow u _ c k l i (starts d down) j = by_place u d (new_place u d) c l (Grows k l)
     (λ e f. absurd (let bad : None ≡ Some k = sym down ∙ ap (client_of u) (sym e) ∙ i in cc))
     (λ ne f. subst (Grows k) (some_is k l (sym i ∙ f)) (stays_so k)) j
-does_grow u _ c k l i (ends d number ms most silent) j = by_seat u d _ c l (Grows k l)
+does_grow u _ c k l i (ends d number ms most silent) j = by_place u d _ c l (Grows k l)
     (λ e f. absurd (let bad : None ≡ Some l = f in cc))
     (λ ne f. subst (Grows k) (some_is k l (sym i ∙ f)) (stays_so k)) j
 does_grow u _ c k l i (reads old new m outs writes up at step) j = subst (Grows k) (some_is k l (sym i ∙ j)) (stays_so k)

@@ -1,6 +1,6 @@
 -- What the messages of a reachable world say of a client that runs, and of the server.
 use Rattle.krl_progress.proofs.Names.{◌≡◌, ℕ, ◌≤◌, ◌∙◌, Option, Some, None, refl, sym, subst, arith, END, all_follow, In}
-use Rattle.krl_progress.proofs.Names.{ToServer, ToClient, Client, Link, Up, Down, State, ServerNode, client_of, IsReachable, Server, durable_of, record_of, IsRecord, view, ShowsClient, ShowsSeat, Stands, WasSent, push_of}
+use Rattle.krl_progress.proofs.Names.{ToServer, ToClient, Client, Link, Up, Down, State, ServerPlace, client_of, IsReachable, Server, durable_of, record_of, IsRecord, view, ShowsClient, ShowsPlace, Stands, WasSent, push_of}
 use Rattle.krl_messages.specs.declared.to_server.ToServerBody.TheVariants as said
 use Rattle.krl_messages.specs.declared.to_server.Request.{Request}
 use Rattle.krl_messages.specs.declared.to_client.ToClientBody.TheVariants as told
@@ -16,7 +16,7 @@ use Rattle.krl_world.proofs.Refinement.Openings.{first_of}
 use Rattle.krl_world.proofs.Refinement.Reached.{world_reached}
 use Rattle.krl_progress.proofs.Standings.{reg_is}
 
--- what a client's number has said, where it runs as k
+-- what a client's number has said, if it runs as k
 pub record HasSaid (u : State) (c : ℕ) (k : Client) : Type 0 where
   pub number : k.number ≡ c
   pub epoch : k.epoch ≤ (durable_of u.server).epoch
@@ -35,7 +35,7 @@ said_so u c k l i same h from = record {
       (let z = y.0 in omega (arith, z, h.epoch), λ f. let z = y.1 (f ∙ sym h.epoch) in omega (arith, z, h.seen));
 }
 
-shared_epoch : (n : ServerNode) → (shared_of n).epoch ≡ (durable_of n).epoch
+shared_epoch : (n : ServerPlace) → (shared_of n).epoch ≡ (durable_of n).epoch
 shared_epoch (Up s) = refl
 shared_epoch (Down d) = refl
 
@@ -43,12 +43,12 @@ pub has_said : (u : State) (c : ℕ) (k : Client) → IsReachable u → client_o
 has_said u c k h runs =
     let r = (world_reached all_follow u h).1 in
     let i = (reachable_inv (first_of u.opening) END (machine_of u.server r.of r.log) r.reach).links c in
-    let seat : ShowsSeat c (u.seats c).last_incarnation (Some k) (r.of c) = subst (λ o. ShowsSeat c (u.seats c).last_incarnation o (r.of c)) runs (r.mirrors.seats c) in
-    said_so u c k (r.of c) i (shared_epoch u.server) seat.1 (λ m e at. subst (λ d. Stands (r.of d) m.incarnation m.body) e (r.mirrors.from m at))
+    let place : ShowsPlace c (u.places c).last_incarnation (Some k) (r.of c) = subst (λ o. ShowsPlace c (u.places c).last_incarnation o (r.of c)) runs (r.mirrors.places c) in
+    said_so u c k (r.of c) i (shared_epoch u.server) place.1 (λ m e at. subst (λ d. Stands (r.of d) m.incarnation m.body) e (r.mirrors.from m at))
 
 -- what a server that runs has told a client's number
 pub record HasTold (u : State) (s : Server) (c : ℕ) : Type 0 where
-  pub seat : incarnation_of s c ≤ (u.seats c).last_incarnation
+  pub place : incarnation_of s c ≤ (u.places c).last_incarnation
   pub epochs : (m : ToClient) → m.client ≡ c → In (message.ToClient m) u.sent → (e : ℕ) → m.body ≡ told.Epoch e → (m.incarnation ≤ incarnation_of s c) × (e ≤ s.durable.epoch)
   pub pushes : (m : ToClient) → m.client ≡ c → In (message.ToClient m) u.sent → (e n : ℕ) (b : PushBody) → m.body ≡ told.Push e n b → (m.incarnation ≤ incarnation_of s c) × (e ≤ s.durable.epoch) × (m.incarnation ≡ incarnation_of s c → e ≡ s.durable.epoch → n ≤ (s.sessions c).last_push)
 
@@ -57,9 +57,9 @@ push_parts inc e n (push.Grant req hs) = (refl, refl, refl)
 push_parts inc e n (push.Absent req point) = (refl, refl, refl)
 push_parts inc e n (push.Answer w o h) = (refl, refl, refl)
 
-told_so : (u : State) (s : Server) (c : ℕ) (l : Link) → Inv (view s) l → IsRecord (record_of s.durable.register c) l → l.last_push ≡ (s.sessions c).last_push → l.inc ≡ (u.seats c).last_incarnation → ((m : ToClient) → m.client ≡ c → In (message.ToClient m) u.sent → WasSent l m.incarnation m.body) → HasTold u s c
+told_so : (u : State) (s : Server) (c : ℕ) (l : Link) → Inv (view s) l → IsRecord (record_of s.durable.register c) l → l.last_push ≡ (s.sessions c).last_push → l.inc ≡ (u.places c).last_incarnation → ((m : ToClient) → m.client ≡ c → In (message.ToClient m) u.sent → WasSent l m.incarnation m.body) → HasTold u s c
 told_so u s c l i known pushed inc to = let reg = reg_is (record_of s.durable.register c) l known in record {
-  seat = let x = i.standing.reg in omega (arith, x, inc, reg);
+  place = let x = i.standing.reg in omega (arith, x, inc, reg);
   epochs = λ m e at n is. let x : WasSent l m.incarnation (told.Epoch n) = subst (WasSent l m.incarnation) is (to m e at) in
       let y = i.standing.notices _ x in (let z = y.0 in omega (arith, z, reg), y.1);
   pushes = λ m e at n number b is. let x : WasSent l m.incarnation (told.Push n number b) = subst (WasSent l m.incarnation) is (to m e at) in
@@ -67,14 +67,14 @@ told_so u s c l i known pushed inc to = let reg = reg_is (record_of s.durable.re
       (let z = y.reg in omega (arith, z, reg, p0), let z = y.epoch in omega (arith, z, p1), λ f g. let z = y.last_push (p0 ∙ f ∙ sym reg) (p1 ∙ g) in omega (arith, z, p2, pushed));
 }
 
-seat_inc : (c n : ℕ) (o : Option Client) (l : Link) → ShowsSeat c n o l → l.inc ≡ n
-seat_inc c n None l h = h.0
-seat_inc c n (Some k) l h = h.0
+place_inc : (c n : ℕ) (o : Option Client) (l : Link) → ShowsPlace c n o l → l.inc ≡ n
+place_inc c n None l h = h.0
+place_inc c n (Some k) l h = h.0
 
 pub has_told : (u : State) (s : Server) (c : ℕ) → IsReachable u → u.server ≡ Up s → HasTold u s c
 has_told u s c h up =
     let r = (world_reached all_follow u h).1 in
     let i = (reachable_inv (first_of u.opening) END (machine_of u.server r.of r.log) r.reach).links c in
     let shown : ServerShows (Up s) r.of = subst (λ n. ServerShows n r.of) up r.mirrors.server in
-    told_so u s c (r.of c) (subst (λ n. Inv (shared_of n) (r.of c)) up i) (shown.0.link c).known (shown.0.link c).last_push (seat_inc c _ (u.seats c).client (r.of c) (r.mirrors.seats c))
+    told_so u s c (r.of c) (subst (λ n. Inv (shared_of n) (r.of c)) up i) (shown.0.link c).known (shown.0.link c).last_push (place_inc c _ (u.places c).client (r.of c) (r.mirrors.places c))
     (λ m e at. subst (λ d. WasSent (r.of d) m.incarnation m.body) e (r.mirrors.to m at))

@@ -1,6 +1,6 @@
 -- In each reachable world server and client know the same of a lock request.
 use Rattle.krl_progress.proofs.Names.{◌≡◌, ℕ, zero, suc, ◌≤◌, ◌⊎◌, inl, inr, ⊎_elim, ◌∙◌, Option, Some, None, List, [], ◌∷◌, ◌++◌, refl, sym, ap, subst, arith, nat_eq, if◌then◌else◌, same_Some, In, in_both}
-use Rattle.krl_progress.proofs.Names.{ToServer, ToClient, Client, Record, Server, is_recovering, lists, Durable, record_of, case_of, Done, effect, answer_first, Answered, stops, goes_on, Kind, kind_of, Ends, at_once, recovers, serves, ServerStep, nudge, nudge_known, nudge_served, slots, callbacks_of, callbacks_from, callbacks_for, callbacks_of_among, most_clients}
+use Rattle.krl_progress.proofs.Names.{ToServer, ToClient, Client, Record, Server, is_recovering, lists, Durable, record_of, case_of, Done, effect, answer_first, Answered, stops, goes_on, Kind, kind_of, Ends, at_once, recovers, serves, ServerStep, nudge, nudge_known, nudge_served, slots, callbacks_of, callbacks_from, callbacks_for, callbacks_of_among, max_clients}
 use Rattle.krl_progress.proofs.Names.{Up, State, client_of, IsReachable, from_clients, from_server}
 use Rattle.krl_messages.specs.declared.to_server.ToServerBody.TheVariants as said
 use Rattle.krl_messages.specs.declared.to_server.Request.{Request}
@@ -145,7 +145,7 @@ callbacks_no_push s n u d (suc j) = if_both NoPush (is_compatible s n u d) (call
 
 of_no_push : (s : Server) (c n : ℕ) (us : List Waiter) → NoPush (callbacks_of c s n us)
 of_no_push s c n [] = none_push
-of_no_push s c n (u ∷ us) = if_both NoPush (nat_eq u.client c) (callbacks_for s n u) [] (if_both NoPush (asks_absent s.durable.index u) [] (callbacks_from s n u 0 most_clients) none_push (callbacks_no_push s n u 0 most_clients)) none_push
+of_no_push s c n (u ∷ us) = if_both NoPush (nat_eq u.client c) (callbacks_for s n u) [] (if_both NoPush (asks_absent s.durable.index u) [] (callbacks_from s n u 0 max_clients) none_push (callbacks_no_push s n u 0 max_clients)) none_push
 
 among_no_push : (s : Server) (c : ℕ) (ns : List ℕ) → NoPush (callbacks_of_among c s ns)
 among_no_push s c [] = none_push

@@ -1,6 +1,6 @@
 -- Calm rounds leave no lock request untaken: a request that is untaken after two of them was so all the time.
 use Rattle.krl_progress.proofs.Names.{◌≡◌, ◌≢◌, ℕ, zero, suc, ◌≤◌, ◌<◌, inl, inr, ◌∙◌, true, false, Some, None, List, [], ◌∷◌, length, refl, sym, ap, subst, arith, eq_cases, eq-eqb, ne_eqb, cond, nat_lt, END}
-use Rattle.krl_progress.proofs.Names.{ToServer, ToClient, Client, Server, Step, Answer, Up, Down, State, Seat, client_of, with_client, served, Runs, Takes, IsReachable, ServerStep, Done, effect, case_of, kind_of, acknowledged, writes, pushes, Lowers, Judges, AnswersAgain}
+use Rattle.krl_progress.proofs.Names.{ToServer, ToClient, Client, Server, Step, Answer, Up, Down, State, ClientPlace, client_of, with_client, served, Runs, Takes, IsReachable, ServerStep, Done, effect, case_of, kind_of, acknowledged, writes, pushes, Lowers, Judges, AnswersAgain}
 use Rattle.krl_modes.proofs.Basics.{not_both}
 use Rattle.krl_client.specs.Clients.{is_waiting, begun}
 use Rattle.krl_client.specs.Messages.{accepted}
@@ -24,7 +24,7 @@ use Rattle.krl_progress.proofs.Seated.{not_waiting_on}
 use Rattle.krl_progress.proofs.Awaited.{accepted_seen}
 use Rattle.krl_progress.proofs.Knowing as know
 use Rattle.krl_progress.proofs.Knowing.{Asks, other_session}
-use Rattle.krl_progress.proofs.Agreed.{agrees, by_seat, new_seat}
+use Rattle.krl_progress.proofs.Agreed.{agrees, by_place, new_place}
 use Rattle.krl_progress.proofs.Sinking.{same_incarnation}
 use Rattle.krl_progress.proofs.Calming.{IsSafe, run_quiet, three_behind, quiet_now, later_while, waiters_move_on}
 use Rattle.krl_progress.proofs.Standstill.{ends_after}
@@ -156,17 +156,17 @@ module _ (reqs seen : ℕ → ℕ) (e : ℕ) where
 
   does_back : (u v : State) (c : ℕ) → IsGood u → IsGood v → Does u v → IsLate c v → IsLate c u
   does_back u _ c q g rests h = h
-  does_back u _ c q g (goes d k l ms i x y) h = by_seat u d _ c h.client (IsLate c u)
+  does_back u _ c q g (goes d k l ms i x y) h = by_place u d _ c h.client (IsLate c u)
       (λ f is. subst (λ z. IsLate z u) (sym f) (let there = subst (λ z. IsLate z (with_client u d (Some l) ms)) f h in
-      goes_back u d k l ms q there g.calm i (some_is l there.client (sym (seat_is u d l ms) ∙ there.runs)) x))
+      goes_back u d k l ms q there g.calm i (some_is l there.client (sym (place_is u d l ms) ∙ there.runs)) x))
       (λ ne f. record { client = h.client; runs = f; now = h.now; waiting = h.waiting; server = h.server; up = h.up; late = h.late }) h.runs
     where
-      seat_is : (u : State) (d : ℕ) (l : Client) (ms : List ToServer) → client_of (with_client u d (Some l) ms) d ≡ Some l
-      seat_is u d l ms = ap (λ b. (cond b (let z : Seat = record { last_incarnation = (u.seats d).last_incarnation; client = Some l } in z) (u.seats d)).client) (eq-eqb d d refl)
-  does_back u _ c q g (starts d down) h = by_seat u d (new_seat u d) c h.client (IsLate c u)
-      (λ f is. absurd (not_both (is_waiting h.client.asked) h.waiting (sym (ap (λ (y : Client). is_waiting y.asked) (some_is (begun d (suc (u.seats d).last_incarnation)) h.client is)))))
+      place_is : (u : State) (d : ℕ) (l : Client) (ms : List ToServer) → client_of (with_client u d (Some l) ms) d ≡ Some l
+      place_is u d l ms = ap (λ b. (cond b (let z : ClientPlace = record { last_incarnation = (u.places d).last_incarnation; client = Some l } in z) (u.places d)).client) (eq-eqb d d refl)
+  does_back u _ c q g (starts d down) h = by_place u d (new_place u d) c h.client (IsLate c u)
+      (λ f is. absurd (not_both (is_waiting h.client.asked) h.waiting (sym (ap (λ (y : Client). is_waiting y.asked) (some_is (begun d (suc (u.places d).last_incarnation)) h.client is)))))
       (λ ne f. record { client = h.client; runs = f; now = h.now; waiting = h.waiting; server = h.server; up = h.up; late = h.late }) h.runs
-  does_back u _ c q g (ends d number ms most silent) h = by_seat u d _ c h.client (IsLate c u)
+  does_back u _ c q g (ends d number ms most silent) h = by_place u d _ c h.client (IsLate c u)
       (λ f is. absurd (let bad : None ≡ Some h.client = is in cc))
       (λ ne f. record { client = h.client; runs = f; now = h.now; waiting = h.waiting; server = h.server; up = h.up; late = h.late }) h.runs
   does_back u _ c q g (reads old new m outs applied up at step) h = read_back u old new m outs applied c q g.reached up step g h
@@ -267,15 +267,15 @@ module _ (reqs seen : ℕ → ℕ) (e : ℕ) where
   does_waiting u _ c q g rests h moved = h
   does_waiting u _ c q g (goes d k l ms i x y) h moved = eq_cases c d
       (λ f. subst (λ z. IsWaiting z (with_client u d (Some l) ms)) (sym f) (let there = subst (λ z. IsWaiting z u) f h in
-      goes_waiting u d k l ms q g there (some_is there.client k (sym there.runs ∙ i)) (ap (λ b. (cond b (let z : Seat = record { last_incarnation = (u.seats d).last_incarnation; client = Some l } in z) (u.seats d)).client) (eq-eqb d d refl)) x))
-      (λ ne. record { client = h.client; runs = ap (λ b. (cond b (let z : Seat = record { last_incarnation = (u.seats d).last_incarnation; client = Some l } in z) (u.seats c)).client) (ne_eqb c d ne) ∙ h.runs; now = h.now; waiting = h.waiting })
-  does_waiting u _ c q g (starts d down) h moved = record { client = h.client; runs = ap (λ b. (cond b (new_seat u d) (u.seats c)).client) (ne_eqb c d (λ f. let bad : None ≡ Some h.client = sym down ∙ ap (client_of u) (sym f) ∙ h.runs in absurd (cc))) ∙ h.runs; now = h.now; waiting = h.waiting }
-  does_waiting u _ c q g (ends d number ms most silent) h moved = record { client = h.client; runs = ap (λ b. (cond b (let z : Seat = record { last_incarnation = (u.seats d).last_incarnation; client = None } in z) (u.seats c)).client) (ne_eqb c d apart) ∙ h.runs; now = h.now; waiting = h.waiting }
+      goes_waiting u d k l ms q g there (some_is there.client k (sym there.runs ∙ i)) (ap (λ b. (cond b (let z : ClientPlace = record { last_incarnation = (u.places d).last_incarnation; client = Some l } in z) (u.places d)).client) (eq-eqb d d refl)) x))
+      (λ ne. record { client = h.client; runs = ap (λ b. (cond b (let z : ClientPlace = record { last_incarnation = (u.places d).last_incarnation; client = Some l } in z) (u.places c)).client) (ne_eqb c d ne) ∙ h.runs; now = h.now; waiting = h.waiting })
+  does_waiting u _ c q g (starts d down) h moved = record { client = h.client; runs = ap (λ b. (cond b (new_place u d) (u.places c)).client) (ne_eqb c d (λ f. let bad : None ≡ Some h.client = sym down ∙ ap (client_of u) (sym f) ∙ h.runs in absurd (cc))) ∙ h.runs; now = h.now; waiting = h.waiting }
+  does_waiting u _ c q g (ends d number ms most silent) h moved = record { client = h.client; runs = ap (λ b. (cond b (let z : ClientPlace = record { last_incarnation = (u.places d).last_incarnation; client = None } in z) (u.places c)).client) (ne_eqb c d apart) ∙ h.runs; now = h.now; waiting = h.waiting }
     where
       apart : c ≢ d
       apart f =
           let x = client_goes_on u (with_client u d None ms) c h.client moved h.runs in
-          let gone : client_of (with_client u d None ms) c ≡ None = ap (λ b. (cond b (let z : Seat = record { last_incarnation = (u.seats d).last_incarnation; client = None } in z) (u.seats c)).client) (eq-eqb c d f) in
+          let gone : client_of (with_client u d None ms) c ≡ None = ap (λ b. (cond b (let z : ClientPlace = record { last_incarnation = (u.places d).last_incarnation; client = None } in z) (u.places c)).client) (eq-eqb c d f) in
           let bad : None ≡ Some x.0 = sym gone ∙ x.1 in cc
   does_waiting u _ c q g (reads old new m outs applied up at step) h moved = record { client = h.client; runs = h.runs; now = h.now; waiting = h.waiting }
   does_waiting u _ c q g (nudges s d up) h moved = record { client = h.client; runs = h.runs; now = h.now; waiting = h.waiting }

@@ -2,7 +2,7 @@
 -- are owed no more than 128 pushes; and nobody waits through nine calm ones.
 use Rattle.std.specs.Prelude.{◌*◌}
 use Rattle.krl_progress.proofs.Names.{◌≡◌, ℕ, zero, suc, ◌≤◌, ◌<◌, ◌+◌, ⊎_elim, ◌∙◌, Bool, true, false, Option, Some, None, length, refl, sym, ap, subst, arith, eq_cases, END}
-use Rattle.krl_progress.proofs.Names.{Client, Server, State, client_of, most_clients}
+use Rattle.krl_progress.proofs.Names.{Client, Server, State, client_of, max_clients}
 use Rattle.krl_client.specs.Clients.{is_waiting}
 use Rattle.krl_progress.specs.Blocks.{RoundsWhile}
 use Rattle.krl_progress.specs.Calm.{HasAsked, IsCalm}
@@ -69,10 +69,10 @@ module _ (e : ℕ) (reqs writes : ℕ → ℕ) (some : 1 ≤ e) where
           (λ away. waits_away e k away)
 
   abbrev owed : State → ℕ
-  owed u = total most_clients (owed_at e u)
+  owed u = total max_clients (owed_at e u)
 
   less_owed : (w z : State) → ((c : ℕ) → IsLow e w z c) → IsLess e w z → owed z < owed w
-  less_owed w z low h = total_less most_clients (owed_at e z) (owed_at e w) h.client h.near (λ c. let a = (low c).waits in let b = (low c).writes in omega (arith, a, b)) h.less
+  less_owed w z low h = total_less max_clients (owed_at e z) (owed_at e w) h.client h.near (λ c. let a = (low c).waits in let b = (low c).writes in omega (arith, a, b)) h.less
 
   abbrev Undisturbed : ℕ → State → State → Type 0
   Undisturbed m w v = RoundsWhile (IsUndisturbed reqs writes) m (length w.sent) w v
@@ -101,8 +101,8 @@ module _ (e : ℕ) (reqs writes : ℕ → ℕ) (some : 1 ≤ e) where
       first = rounds_low e reqs writes some 9 (length w.sent) w p.mid h p.first
 
   owed_most : (w : State) → owed w ≤ 128
-  unfolding most_clients
-  owed_most w = let x = total_most most_clients (owed_at e w) (λ c. owed_low e (client_of w c)) in omega (arith, x)
+  unfolding max_clients
+  owed_most w = let x = total_most max_clients (owed_at e w) (λ c. owed_low e (client_of w c)) in omega (arith, x)
 
 pub locks_are_answered : LocksAreAnsweredIn 1161
 locks_are_answered reqs writes w v s c k rw q r up i now =

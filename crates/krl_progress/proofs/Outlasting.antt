@@ -1,6 +1,6 @@
--- An outstanding write is answered within eleven good rounds also where the server has yet to recover.
+-- An outstanding write is answered within eleven good rounds even if the server has yet to recover.
 use Rattle.krl_progress.proofs.Names.{◌≡◌, ℕ, zero, suc, ◌<◌, inl, inr, ◌∙◌, true, false, Option, Some, None, List, [], ◌∷◌, length, refl, sym, ap, subst, arith, eq_cases, END, In}
-use Rattle.krl_progress.proofs.Names.{Client, Server, Step, Up, Down, State, ServerNode, client_of, Runs, IsReachable, is_serving}
+use Rattle.krl_progress.proofs.Names.{Client, Server, Step, Up, Down, State, ServerPlace, client_of, Runs, IsReachable, is_serving}
 use Rattle.krl_messages.specs.declared.write_op.WriteOp.{WriteOp}
 use Rattle.krl_client.specs.Clients.{outstanding}
 use Rattle.krl_progress.specs.Rounds.{loses_a_node, Rounds}
@@ -91,6 +91,6 @@ module _ (w v : State) (s : Server) (c : ℕ) (k l : Client) (h : IsReachable w)
 pub writes_outlast_recoveries : WritesOutlastRecoveriesIn 11
 writes_outlast_recoveries w v c k l h missing runs r there room more number = by_node w.server refl missing
   where
-    by_node : (x : ServerNode) → w.server ≡ x → MissingRun w x → outstanding l.written ≡ None
+    by_node : (x : ServerPlace) → w.server ≡ x → MissingRun w x → outstanding l.written ≡ None
     by_node (Down d) e f = absurd f
     by_node (Up s) e f = now_answered w v s c k l h e missing runs (parts w v r) there room more number

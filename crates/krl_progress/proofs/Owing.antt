@@ -1,10 +1,10 @@
 -- What a client is owed: the reply to its lock request, and the answer to its write. Each push that it accepts pays one.
 use Rattle.krl_progress.proofs.Names.{◌≡◌, ◌≢◌, ℕ, suc, ◌≤◌, ◌<◌, ◌+◌, ◌⊎◌, inl, inr, ⊎_elim, ◌∙◌, Bool, true, false, Option, Some, None, is_some, List, refl, sym, ap, subst, arith, nat_eq, if◌then◌else◌, eq_cases, eq-eqb, ne_eqb, In}
-use Rattle.krl_progress.proofs.Names.{ToServer, ToClient, Client, State, Seat, client_of, with_client, IsReachable, WriteOp}
+use Rattle.krl_progress.proofs.Names.{ToServer, ToClient, Client, State, ClientPlace, client_of, with_client, IsReachable, WriteOp}
 use Rattle.krl_messages.specs.declared.to_client.PushBody.{PushBody}
 use Rattle.krl_messages.specs.declared.to_client.PushBody.TheVariants as push
 use Rattle.krl_messages.specs.declared.to_client.ToClientBody.TheVariants as told
-use Rattle.krl_client.specs.Clients.{is_waiting, outstanding, Granted, NoEntry, begun}
+use Rattle.krl_client.specs.Clients.{is_waiting, outstanding, Granted, Absent, begun}
 use Rattle.krl_client.specs.Messages.{accepted, joined}
 use Rattle.krl_world.specs.declared.message.Message.TheVariants as message
 use Rattle.krl_progress.specs.Requests.{IsAwaited}
@@ -13,7 +13,7 @@ use Rattle.krl_progress.proofs.Moves.{Moves, client_goes_on}
 use Rattle.krl_progress.proofs.Standings.{standing}
 use Rattle.krl_progress.proofs.Doings.{Goes, same, locks, adopts, accepts, WriteGoes, Does, rests, goes, starts, ends, reads, nudges, stops, begins}
 use Rattle.krl_progress.proofs.Seated.{not_waiting_on}
-use Rattle.krl_progress.proofs.Agreed.{new_seat}
+use Rattle.krl_progress.proofs.Agreed.{new_place}
 use Rattle.krl_progress.proofs.Awaited.{accepted_seen}
 use Rattle.krl_progress.proofs.Answering.{judged_now, replied, came}
 use Rattle.krl_progress.proofs.WritesMove.{nobody_listed}
@@ -110,7 +110,7 @@ pays_reply k l w free alike = let a = ap count w in let b = ap count free in let
 
 accepted_pays : (k : Client) (b : PushBody) → IsAwaited k b → PaysOne k (accepted k b)
 accepted_pays k (push.Grant r hs) a = pays_reply k (accepted k (push.Grant r hs)) a.0 (replied k r Granted refl a.0 a.1) refl
-accepted_pays k (push.Absent r point) a = pays_reply k (accepted k (push.Absent r point)) a.0 (replied k r NoEntry refl a.0 a.1) refl
+accepted_pays k (push.Absent r point) a = pays_reply k (accepted k (push.Absent r point)) a.0 (replied k r Absent refl a.0 a.1) refl
 accepted_pays k (push.Answer n o y) a =
     let l = accepted k (push.Answer n o y) in
     let was = ap count a.0 in let now : count (is_some (outstanding l.written)) ≡ 0 = ap (λ x. count (is_some x)) (judged_now k n o k.written a.0 a.1) in
@@ -148,10 +148,10 @@ module _ (e : ℕ) (u : State) (d : ℕ) (k : Client) (no_write : k.epoch ≢ e 
 
 -- A step of the world
 
-at_seat : (u : State) (d : ℕ) (x : Seat) (c : ℕ) (P : Option Client → Option Client → Type 0) → (c ≡ d → P (client_of u c) x.client) → ((o : Option Client) → P o o) → P (client_of u c) (if nat_eq c d then x else u.seats c).client
-at_seat u d x c P own other = eq_cases c d
-    (λ f. subst (P (client_of u c)) (sym (ap (λ b. (if b then x else u.seats c).client) (eq-eqb c d f))) (own f))
-    (λ ne. subst (P (client_of u c)) (sym (ap (λ b. (if b then x else u.seats c).client) (ne_eqb c d ne))) (other (client_of u c)))
+at_place : (u : State) (d : ℕ) (x : ClientPlace) (c : ℕ) (P : Option Client → Option Client → Type 0) → (c ≡ d → P (client_of u c) x.client) → ((o : Option Client) → P o o) → P (client_of u c) (if nat_eq c d then x else u.places c).client
+at_place u d x c P own other = eq_cases c d
+    (λ f. subst (P (client_of u c)) (sym (ap (λ b. (if b then x else u.places c).client) (eq-eqb c d f))) (own f))
+    (λ ne. subst (P (client_of u c)) (sym (ap (λ b. (if b then x else u.places c).client) (ne_eqb c d ne))) (other (client_of u c)))
 
 module _ (reqs writes : ℕ → ℕ) (e : ℕ) (u v : State) (ru : IsReachable u) (rv : IsReachable v) (q : IsUndisturbed reqs writes u) (g : IsUndisturbed reqs writes v) (eu : q.server.durable.epoch ≡ e) (ev : g.server.durable.epoch ≡ e) where
   -- a client's own step
@@ -175,21 +175,21 @@ starts_pay e k o none away = pays_none e o (Some k) (waits_away e k away) (write
 
 pub step_pays : (reqs writes : ℕ → ℕ) (e : ℕ) (u v : State) → IsReachable u → IsReachable v → (q : IsUndisturbed reqs writes u) → (g : IsUndisturbed reqs writes v) → q.server.durable.epoch ≡ e → g.server.durable.epoch ≡ e → 1 ≤ e → Moves false u v → Does u v → (c : ℕ) → Pays e (client_of u c) (client_of v c)
 step_pays reqs writes e u _ ru rv q g eu ev some moved rests c = pays_same e (client_of u c)
-step_pays reqs writes e u _ ru rv q g eu ev some moved (goes d k l ms i x y) c = at_seat u d _ c (Pays e)
-    (λ f. let here : client_of (with_client u d (Some l) ms) d ≡ Some l = ap (λ b. (if b then (let z : Seat = record { last_incarnation = (u.seats d).last_incarnation; client = Some l } in z) else u.seats d).client) (eq-eqb d d refl) in
+step_pays reqs writes e u _ ru rv q g eu ev some moved (goes d k l ms i x y) c = at_place u d _ c (Pays e)
+    (λ f. let here : client_of (with_client u d (Some l) ms) d ≡ Some l = ap (λ b. (if b then (let z : ClientPlace = record { last_incarnation = (u.places d).last_incarnation; client = Some l } in z) else u.places d).client) (eq-eqb d d refl) in
     subst (λ o. Pays e o (Some l)) (sym (ap (client_of u) f ∙ i)) (client_pays reqs writes e u (with_client u d (Some l) ms) ru rv q g eu ev d k l ms i here x y))
     (pays_same e)
-step_pays reqs writes e u _ ru rv q g eu ev some moved (starts d down) c = at_seat u d (new_seat u d) c (Pays e)
-    (λ f. starts_pay e (begun d (suc (u.seats d).last_incarnation)) (client_of u c) (ap (client_of u) f ∙ down) (λ z. omega (arith, z, some)))
+step_pays reqs writes e u _ ru rv q g eu ev some moved (starts d down) c = at_place u d (new_place u d) c (Pays e)
+    (λ f. starts_pay e (begun d (suc (u.places d).last_incarnation)) (client_of u c) (ap (client_of u) f ∙ down) (λ z. omega (arith, z, some)))
     (pays_same e)
-step_pays reqs writes e u _ ru rv q g eu ev some moved (ends d number ms most silent) c = at_seat u d _ c (Pays e)
+step_pays reqs writes e u _ ru rv q g eu ev some moved (ends d number ms most silent) c = at_place u d _ c (Pays e)
     (λ f. by_client (client_of u c) refl f)
     (pays_same e)
   where
     by_client : (o : Option Client) → client_of u c ≡ o → c ≡ d → Pays e o None
     by_client None i f = pays_same e None
     by_client (Some k) i f = absurd (let x = client_goes_on u (with_client u d None ms) c k moved i in
-        let gone : client_of (with_client u d None ms) c ≡ None = ap (λ b. (if b then (let z : Seat = record { last_incarnation = (u.seats d).last_incarnation; client = None } in z) else u.seats c).client) (eq-eqb c d f) in
+        let gone : client_of (with_client u d None ms) c ≡ None = ap (λ b. (if b then (let z : ClientPlace = record { last_incarnation = (u.places d).last_incarnation; client = None } in z) else u.places c).client) (eq-eqb c d f) in
         let bad : None ≡ Some x.0 = sym gone ∙ x.1 in cc)
 step_pays reqs writes e u _ ru rv q g eu ev some moved (reads old new m outs applied up at step) c = pays_same e (client_of u c)
 step_pays reqs writes e u _ ru rv q g eu ev some moved (nudges s d up) c = pays_same e (client_of u c)

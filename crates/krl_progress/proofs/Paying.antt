@@ -1,7 +1,7 @@
 -- What all clients are owed, and that undisturbed rounds are calm or pay some of it.
 use Rattle.std.proofs.lemmas.Bool.{cases_lt}
 use Rattle.krl_progress.proofs.Names.{◌≡◌, ℕ, zero, suc, ◌≤◌, ◌<◌, ◌+◌, ◌⊎◌, inl, inr, ⊎_elim, ◌∙◌, false, Option, Some, None, List, [], ◌∷◌, length, refl, sym, ap, subst, arith, eq_cases, ltb-true, In}
-use Rattle.krl_progress.proofs.Names.{Client, Server, Step, Answer, State, client_of, Runs, Takes, IsReachable, most_clients}
+use Rattle.krl_progress.proofs.Names.{Client, Server, Step, Answer, State, client_of, Runs, Takes, IsReachable, max_clients}
 use Rattle.krl_progress.specs.Rounds.{loses_a_node}
 use Rattle.krl_progress.specs.Blocks.{Throughout, RoundsWhile}
 use Rattle.krl_progress.specs.Calm.{HasAsked, IsCalm}
@@ -61,7 +61,7 @@ module _ (e : ℕ) where
   -- some client is owed less
   pub record IsLess (u v : State) : Type 0 where
     pub client : ℕ
-    pub near : client < most_clients
+    pub near : client < max_clients
     pub less : owed_at v client < owed_at u client
 
   less_low : (u x v : State) → IsLess u x → ((c : ℕ) → IsLow x v c) → IsLess u v
@@ -71,12 +71,12 @@ module _ (e : ℕ) where
   low_less u x v low h = let a = h.less in let b = (low h.client).waits in let d = (low h.client).writes in record { client = h.client; near = h.near; less = omega (arith, a, b, d) }
 
   -- no client has a number as high as this
-  far : (u : State) (c : ℕ) → IsReachable u → most_clients ≤ c → seen_at u c ≡ 0
+  far : (u : State) (c : ℕ) → IsReachable u → max_clients ≤ c → seen_at u c ≡ 0
   far u c ru high = by_client (client_of u c) refl
     where
       by_client : (o : Option Client) → client_of u c ≡ o → seen_by e o ≡ 0
       by_client None i = refl
-      by_client (Some k) i = absurd (let x = ltb-true c most_clients (near_of u c k ru i) in omega (arith, x, high))
+      by_client (Some k) i = absurd (let x = ltb-true c max_clients (near_of u c k ru i) in omega (arith, x, high))
 
   search : (u v : State) (n : ℕ) → ((c : ℕ) → Pays e (client_of u c) (client_of v c)) → ((c : ℕ) → c < n → seen_at v c ≡ seen_at u c) ⊎ ((d : ℕ) × (d < n) × (owed_at v d < owed_at u d))
   search u v zero h = inl (λ c lt. absurd (omega (arith, lt)))
@@ -89,8 +89,8 @@ module _ (e : ℕ) where
   -- nobody accepts a push, or somebody is owed less
   pays_or : (u v : State) → IsReachable u → IsReachable v → ((c : ℕ) → Pays e (client_of u c) (client_of v c)) → ((c : ℕ) → seen_at v c ≡ seen_at u c) ⊎ IsLess u v
   pays_or u v ru rv h = ⊎_elim
-      (λ (same : (c : ℕ) → c < most_clients → seen_at v c ≡ seen_at u c). inl (λ c. ⊎_elim (λ (lt : c < most_clients). same c lt) (λ (ge : most_clients ≤ c). far v c rv ge ∙ sym (far u c ru ge)) (cases_lt c most_clients)))
-      (λ (x : (d : ℕ) × (d < most_clients) × (owed_at v d < owed_at u d)). inr (record { client = x.0; near = x.1; less = x.2 })) (search u v most_clients h)
+      (λ (same : (c : ℕ) → c < max_clients → seen_at v c ≡ seen_at u c). inl (λ c. ⊎_elim (λ (lt : c < max_clients). same c lt) (λ (ge : max_clients ≤ c). far v c rv ge ∙ sym (far u c ru ge)) (cases_lt c max_clients)))
+      (λ (x : (d : ℕ) × (d < max_clients) × (owed_at v d < owed_at u d)). inr (record { client = x.0; near = x.1; less = x.2 })) (search u v max_clients h)
 
   module _ (reqs writes : ℕ → ℕ) (some : 1 ≤ e) where
     abbrev P : State → Type 0

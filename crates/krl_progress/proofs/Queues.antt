@@ -229,7 +229,7 @@ module _ (s : Server) (t : Turn) (e : next_turn s ≡ Some t) where
       alone = times_none t.waiter.client (behind_first (s.rows t.slot).queue)
           (let once = table.once t.slot t.waiter.client in
           let more = times_more t.waiter.client t.waiter (behind_first (s.rows t.slot).queue) in
-          let is = ap (λ q. Rattle.krl_table.specs.Kept.times t.waiter.client q) first in
+          let is = ap (λ q. Rattle.krl_table.specs.KeptRows.times t.waiter.client q) first in
           let one = ap (λ b. Rattle.krl_table.proofs.Invariant.Alone.one b) (eq-eqb t.waiter.client t.waiter.client refl) in
           omega (arith, once, more, is, one))
 

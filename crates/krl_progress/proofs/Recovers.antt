@@ -1,11 +1,11 @@
 -- How a client that the server misses comes to be heard, in good rounds.
+use Rattle.krl_modes.specs.Limits.{max_clients}
 use Rattle.krl_progress.proofs.Names.{◌≡◌, ◌≢◌, ℕ, zero, suc, ◌≤◌, ◌<◌, ◌∙◌, ◌⊎◌, inl, inr, Bool, true, false, Some, None, List, [], ◌∷◌, ◌++◌, length, is_some, slice_get, refl, sym, ap, subst, arith, nat_eq, nat_lt, if◌then◌else◌, ltb-true, ltb-false, eqb-false, eq-eqb, ⊎_elim, all_follow, Ok}
-use Rattle.krl_progress.proofs.Names.{ToServer, ToClient, In, Client, Message, Pieces, Server, is_recovering, lists, Step, Answer, Up, Down, State, ServerNode, client_of, message_at, Delivers, ServerReads, ClientReads, Runs, IsReachable, Takes, case_of, effect, from_clients, from_server, set_seat, set_seat}
-use Rattle.krl_progress.proofs.Names.{says_ack, says_report, Seat}
+use Rattle.krl_progress.proofs.Names.{ToServer, ToClient, In, Client, Message, Pieces, Server, is_recovering, lists, Step, Answer, Up, Down, State, ServerPlace, client_of, message_at, Delivers, ServerReads, ClientReads, Runs, IsReachable, Takes, case_of, effect, from_clients, from_server, set_place, set_place}
+use Rattle.krl_progress.proofs.Names.{says_ack, says_report, ClientPlace}
 use Rattle.krl_messages.specs.declared.to_server.ToServerBody.{ToServerBody}
 use Rattle.krl_messages.specs.declared.to_server.ToServerBody.TheVariants as said
 use Rattle.krl_messages.specs.declared.to_client.ToClientBody.TheVariants as told
-use Rattle.krl_table.specs.Rows.{most_clients}
 use Rattle.krl_messages.specs.declared.to_server.RequestBody.TheVariants as asked
 use Rattle.krl_server.proofs.Tests.{if_case}
 use Rattle.krl_server.specs.Effects.{epoch_to}
@@ -32,7 +32,7 @@ pub next_reachable : (u v : State) (s : Step) (answer : Answer) → IsReachable 
 unfolding Steps
 next_reachable u v s answer h t = reachable_stays.step u v s (Ok answer) h t
 
-server_or : Server → ServerNode → Server
+server_or : Server → ServerPlace → Server
 server_or s (Up t) = t
 server_or s (Down d) = s
 
@@ -219,8 +219,8 @@ module _ (c inc epoch n : ℕ) where
 
   -- Deliveries to the server
 
-  pub near : (u : State) → At c inc epoch n u → nat_lt c most_clients ≡ true
-  unfolding most_clients
+  pub near : (u : State) → At c inc epoch n u → nat_lt c max_clients ≡ true
+  unfolding max_clients
   near u h = by_test (nat_lt c 64) refl
     where
       by_test : (b : Bool) → nat_lt c 64 ≡ b → b ≡ true
@@ -253,15 +253,15 @@ module _ (c inc epoch n : ℕ) where
 
   -- Deliveries to the client
 
-  seat_here : (u : State) (x : Seat) → (set_seat u.seats c x c).client ≡ x.client
-  seat_here u x = ap (λ (b : Bool). (if b then x else u.seats c).client) (eq-eqb c c refl)
+  place_here : (u : State) (x : ClientPlace) → (set_place u.places c x c).client ≡ x.client
+  place_here u x = ap (λ (b : Bool). (if b then x else u.places c).client) (eq-eqb c c refl)
 
   hit_epoch : (i : ℕ) (u v : State) (answer : Answer) → At c inc epoch n u → message_at u.sent i ≡ Some (message.ToClient (epoch_message c inc epoch)) → Takes u (step.Deliver i) answer v → Joined c epoch v
   hit_epoch i u v answer h sent t k e =
       let d : ClientReads u (Some h.client) (epoch_message c inc epoch) v = subst (λ o. ClientReads u o (epoch_message c inc epoch) v) h.runs (subst (λ o. Delivers u o v) sent t.1.1) in
       let st = standing u h.server c h.client h.reachable h.up h.runs in
       let own : epoch_message h.client.number h.client.incarnation epoch ≡ epoch_message c inc epoch = λ j. record { client = st.number j; incarnation = h.same j; body = told.Epoch epoch } in
-      let new : client_of v c ≡ Some (receiver.after h.client (receiver.case_of h.client (epoch_message c inc epoch))) = ap (λ x. client_of x c) d.2 ∙ seat_here u _ in
+      let new : client_of v c ≡ Some (receiver.after h.client (receiver.case_of h.client (epoch_message c inc epoch))) = ap (λ x. client_of x c) d.2 ∙ place_here u _ in
       let up : epoch ≤ (receiver.after h.client (receiver.case_of h.client (epoch_message c inc epoch))).epoch = subst (λ m. epoch ≤ (receiver.after h.client (receiver.case_of h.client m)).epoch) own (joins h.client epoch) in
       subst (λ (x : Client). epoch ≤ x.epoch) (some_is _ k (sym new ∙ e)) up
 

@@ -1,6 +1,6 @@
 -- A recovery ends in five good rounds.
 use Rattle.krl_progress.proofs.Names.{◌≡◌, ℕ, zero, suc, ◌∙◌, inl, inr, Bool, true, false, Option, Some, None, List, [], ◌∷◌, length, is_some, ◌||◌, refl, sym, ap, subst, arith, if◌then◌else◌, eq-eqb}
-use Rattle.krl_progress.proofs.Names.{In, Client, Server, is_recovering, lists, Step, Answer, Up, Down, State, ServerNode, client_of, Runs, IsReachable, Takes, is_serving}
+use Rattle.krl_progress.proofs.Names.{In, Client, Server, is_recovering, lists, Step, Answer, Up, Down, State, ServerPlace, client_of, Runs, IsReachable, Takes, is_serving}
 use Rattle.krl_modes.proofs.Basics.{not_both}
 use Rattle.krl_world.proofs.Refinement.ServerMoves.{way}
 use Rattle.krl_progress.specs.Rounds.{loses_a_node, Rounds}
@@ -52,6 +52,6 @@ recovers w v s h up run r = subst (λ n. is_serving n ≡ true) (sym g.up) (by_l
 pub recovery_ends : RecoveryEndsIn 5
 recovery_ends w v h run r = by_node w.server refl run
   where
-    by_node : (n : ServerNode) → w.server ≡ n → MissingRun w n → is_serving v.server ≡ true
+    by_node : (n : ServerPlace) → w.server ≡ n → MissingRun w n → is_serving v.server ≡ true
     by_node (Up s) e m = recovers w v s h e m r
     by_node (Down d) e m = absurd m

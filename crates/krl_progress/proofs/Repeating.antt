@@ -7,7 +7,7 @@ use Rattle.krl_messages.specs.declared.to_server.RequestBody.TheVariants as aske
 use Rattle.krl_queue.specs.declared.waiter.Waiter.{Waiter}
 use Rattle.krl_server.proofs.Tests.{if_case}
 use Rattle.krl_client.specs.Ticks.{tick, says_hello, lock_again, write_again}
-use Rattle.krl_client.specs.Clients.{outstanding, requests, is_waiting, LockRequest, NotAsked, Granted, NoEntry, Dropped, Waiting}
+use Rattle.krl_client.specs.Clients.{outstanding, requests, is_waiting, LockRequest, NotAsked, Granted, Absent, Dropped, Waiting}
 use Rattle.krl_steps.specs.declared.step.Step.TheVariants as step
 use Rattle.krl_world.specs.declared.message.Message.TheVariants as message
 use Rattle.krl_progress.specs.Blocks.{HasSeen}
@@ -30,7 +30,7 @@ record AsksAgain (k : Client) (a : LockRequest) (ms : List ToServer) : Type 0 wh
 locks_again : (k : Client) (a : LockRequest) → is_waiting a ≡ true → AsksAgain k a (lock_again k a)
 locks_again k NotAsked w = absurd (cc)
 locks_again k Granted w = absurd (cc)
-locks_again k NoEntry w = absurd (cc)
+locks_again k Absent w = absurd (cc)
 locks_again k Dropped w = absurd (cc)
 locks_again k (Waiting point hi g) w = record { point = point; hi = hi; mode = g; is = refl; said = inl refl }
 

@@ -4,7 +4,7 @@ use Rattle.krl_messages.specs.declared.to_client.PushBody.{PushBody}
 use Rattle.krl_messages.specs.declared.to_client.PushBody.TheVariants as push
 use Rattle.krl_modes.specs.declared.mode.Mode.{Mode}
 use Rattle.krl_modes.proofs.Basics.{not_both}
-use Rattle.krl_client.specs.Clients.{is_waiting, LockRequest, NotAsked, Granted, NoEntry, Dropped, Waiting}
+use Rattle.krl_client.specs.Clients.{is_waiting, LockRequest, NotAsked, Granted, Absent, Dropped, Waiting}
 use Rattle.krl_client.specs.Commands.{locked}
 use Rattle.krl_client.specs.Messages.{accepted, joined, dropped, asked_after}
 use Rattle.krl_server.specs.declared.session.Session.{Session}
@@ -12,7 +12,7 @@ use Rattle.krl_progress.specs.Answers.{answers_request}
 use Rattle.krl_progress.proofs.Knowing.{IsClear, Asks, idle, untaken, stands, comes, Current, Fresh}
 
 module _ (x : Session) (rows : Rows) (c : ℕ) (k : Client) (h : Current x rows c k) where
-  -- where its request is the same
+  -- if its request is the same
   pub alike : (l : Client) → l.seen ≡ k.seen → l.req ≡ k.req → l.asked ≡ k.asked → Current x rows c l
   alike l seen req asked = record { low = (let a = h.low in omega (arith, a, seen)); high = (let a = h.high in omega (arith, a, seen)); acked = λ e. h.acked e ∙ sym seen; request = by_request h.request }
     where
@@ -65,7 +65,7 @@ module _ (x : Session) (rows : Rows) (c : ℕ) (k : Client) (h : Current x rows 
 
     pub accepts_now : (body : PushBody) → b ≡ body → Current x rows c (accepted k body)
     accepts_now (push.Grant req hs) e = replied req Granted refl (λ n. ap (answers_request n) e) (accepted k (push.Grant req hs)) refl refl refl
-    accepts_now (push.Absent req point) e = replied req NoEntry refl (λ n. ap (answers_request n) e) (accepted k (push.Absent req point)) refl refl refl
+    accepts_now (push.Absent req point) e = replied req Absent refl (λ n. ap (answers_request n) e) (accepted k (push.Absent req point)) refl refl refl
     accepts_now (push.Answer number o y) e = seen_all (accepted k (push.Answer number o y)) refl (by_request h.request)
       where
         by_request : Asks x rows c k → Asks x rows c (accepted k (push.Answer number o y))
@@ -78,7 +78,7 @@ module _ (x : Session) (rows : Rows) (c : ℕ) (k : Client) (h : Current x rows 
 pub not_waiting_on : (a : LockRequest) → is_waiting (dropped a) ≡ false
 not_waiting_on NotAsked = refl
 not_waiting_on Granted = refl
-not_waiting_on NoEntry = refl
+not_waiting_on Absent = refl
 not_waiting_on Dropped = refl
 not_waiting_on (Waiting point hi g) = refl
 

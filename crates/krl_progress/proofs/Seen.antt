@@ -11,7 +11,7 @@ use Rattle.krl_progress.specs.Blocks.{HasSeen}
 use Rattle.krl_progress.proofs.Moves.{moves, still_sent, some_is}
 use Rattle.krl_progress.proofs.Standings.{HasStanding, standing}
 use Rattle.krl_progress.proofs.Recovers.{same_up, At, near}
-use Rattle.krl_progress.proofs.WriteSteps.{place}
+use Rattle.krl_progress.proofs.WriteSteps.{position_in}
 use Rattle.krl_progress.proofs.Arrivals.{request_from, Hears, hears, again, request_hears}
 
 -- Messages behind number n
@@ -22,7 +22,7 @@ pub record Sent (n : ℕ) (m : Message) (u : State) : Type 0 where
   pub sent : message_at u.sent index ≡ Some m
 
 pub sent_now : (n : ℕ) (u v : State) (m : Message) (more : List Message) → n ≤ length u.sent → v.sent ≡ u.sent ++ more → In m more → Sent n m v
-sent_now n u v m more long e at = let p = place u.sent more m at in record { index = suc p.0; above = (let a = p.1 in omega (arith, a, long)); sent = subst (λ xs. slice_get xs p.0 ≡ Some m) (sym e) p.2 }
+sent_now n u v m more long e at = let p = position_in u.sent more m at in record { index = suc p.0; above = (let a = p.1 in omega (arith, a, long)); sent = subst (λ xs. slice_get xs p.0 ≡ Some m) (sym e) p.2 }
 
 pub still : (i : ℕ) (m : Message) (u v : State) (s : Step) (answer : Answer) → message_at u.sent i ≡ Some m → Takes u s answer v → message_at v.sent i ≡ Some m
 still i m u v s answer e t = still_sent (loses_a_node s) u v i m (moves u v s answer t) e

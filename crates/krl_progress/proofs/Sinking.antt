@@ -17,7 +17,7 @@ use Rattle.krl_messages.specs.declared.to_client.PushBody.TheVariants as push
 use Rattle.krl_queue.specs.declared.waiter.Waiter.{Waiter}
 use Rattle.krl_table.specs.Rows.{Row, mode_at, set_row, set_mode}
 use Rattle.krl_table.specs.Calls.{wanted, with_mode, with_queue, queue_with, raised, raised_on, granted_first, grant_first, dropped, behind_first}
-use Rattle.krl_table.specs.Grants.{granted, granted_by, taken_after, most_more}
+use Rattle.krl_table.specs.Grants.{granted, granted_by, taken_after, max_more}
 use Rattle.krl_table.specs.Replies.{asks_absent}
 use Rattle.krl_table.proofs.Rows.Slots.{no_slot}
 use Rattle.krl_table.proofs.Invariant.Compatible.{mode_other}
@@ -57,7 +57,7 @@ low_meet g keep = by_table_2 (λ g keep. at_most (meet g keep) g) refl g keep
 low_join : (a b q : Mode) → at_most a b ≡ true → at_most (join a q) (join b q) ≡ true
 low_join a b q e = implies_use (at_most a b) (at_most (join a q) (join b q)) (by_table_3 (λ a b q. implies (at_most a b) (at_most (join a q) (join b q))) refl a b q) e
 
--- lower modes go beside each other too
+-- lower modes are compatible too
 pub low_compatible : (a b x y : Mode) → at_most a b ≡ true → at_most x y ≡ true → compatible b y ≡ true → compatible a x ≡ true
 low_compatible a b x y low below e =
     let one : compatible a y ≡ true = mode_compatibility.downward a b y low e in
@@ -134,7 +134,7 @@ raised_on_others rows (n ∷ ns) u d ne k = raised_others rows n u d ne k ∙ ra
 granted_others : (m : Index) (rows : Rows) (n d : ℕ) (u : Waiter) (us : List Waiter) → (rows n).queue ≡ u ∷ us → d ≢ u.client → (k : ℕ) → mode_at (granted m rows n) k d ≡ mode_at rows k d
 granted_others m rows n d u us q ne k =
     ap (λ vs. mode_at (granted_by m rows n vs) k d) q
-    ∙ sym (raised_on_others (granted_first rows n) (taken_after m (granted_first rows n) n u most_more) u d ne k)
+    ∙ sym (raised_on_others (granted_first rows n) (taken_after m (granted_first rows n) n u max_more) u d ne k)
     ∙ sym (row_modes rows n (grant_first (rows n) (rows n).queue) d (sym (ap (λ vs. (grant_first (rows n) vs).modes d) q ∙ mode_other (rows n).modes u.client d (wanted (rows n) u) ne)) k)
 
 -- an answer changes what its waiter's client holds, and what nobody else holds

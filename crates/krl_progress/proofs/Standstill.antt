@@ -205,7 +205,7 @@ module _ (seen : ℕ → ℕ) (room : (c : ℕ) → seen c < END) (n : ℕ) (the
       let end = run_end (IsQuiet IsTaken seen) r.0 x r.1 rx q r.3 r.4 in
       (r.0, r.1, r.2, r.3, one.0, rounds_stand m (length x.sent) r.1 y end.0 end.1 one.1 r.5)
 
--- where somebody waits there is a slot
+-- if somebody waits there is a slot
 slot_there : (s : Server) (n : ℕ) (u : Waiter) (us : List Waiter) → IsTable s.durable.index s.rows → (s.rows n).queue ≡ u ∷ us → is_slot s.durable.index n ≡ true
 slot_there s n u us table e = by_test (is_slot s.durable.index n) refl
   where

@@ -13,12 +13,12 @@ use Rattle.krl_messages.specs.declared.to_client.ToClientBody.TheVariants as tol
 use Rattle.krl_messages.specs.declared.to_client.PushBody.{PushBody}
 use Rattle.krl_messages.specs.declared.to_client.PushBody.TheVariants as push
 use Rattle.krl_messages.specs.Writes.{op_key}
-use Rattle.krl_table.specs.Rows.{most_clients}
 use Rattle.krl_server.specs.Servers.{incarnation_of, incarnation_or_0}
 use Rattle.krl_server.specs.Cases.{is_malformed, case_of_record, case_of_body, case_of_write, case_of_last, case_of_late, is_bad_write, judged}
 use Rattle.krl_server.specs.Effects.{push_to}
 use Rattle.krl_server.specs.Outputs.{answered_write, IsAnswered}
 use Rattle.std.specs.Prelude.{IfSome}
+use Rattle.krl_modes.specs.Limits.{max_clients}
 use Rattle.krl_server.proofs.Tests.{if_case}
 use Rattle.krl_server.proofs.Functions.StepClauses.{answers_said}
 use Rattle.krl_server.proofs.Functions.Standing.{pushes_stand}
@@ -59,9 +59,9 @@ in_at [] x h = absurd h
 in_at (y ∷ xs) x (inl e) = (zero, ap (λ z. Some z) (sym e))
 in_at (y ∷ xs) x (inr h) = let r = in_at xs x h in (suc r.0, r.1)
 
-pub place : {A : Type 0} (xs ys : List A) (x : A) → In x ys → (i : ℕ) × (length xs ≤ i) × (slice_get (xs ++ ys) i ≡ Some x)
-place [] ys x h = let r = in_at ys x h in (r.0, omega arith, r.1)
-place (z ∷ xs) ys x h = let r = place xs ys x h in let l : length (z ∷ xs) ≡ suc (length xs) = refl in (suc r.0, (let a = r.1 in omega (arith, a, l)), r.2)
+pub position_in : {A : Type 0} (xs ys : List A) (x : A) → In x ys → (i : ℕ) × (length xs ≤ i) × (slice_get (xs ++ ys) i ≡ Some x)
+position_in [] ys x h = let r = in_at ys x h in (r.0, omega arith, r.1)
+position_in (z ∷ xs) ys x h = let r = position_in xs ys x h in let l : length (z ∷ xs) ≡ suc (length xs) = refl in (suc r.0, (let a = r.1 in omega (arith, a, l)), r.2)
 
 pub to_server : (o : ToClient) (outs : List ToClient) → In o outs → In (message.ToClient o) (from_server outs)
 to_server o [] i = absurd i
@@ -189,7 +189,7 @@ module _ (c inc epoch seen0 number : ℕ) (op : WriteOp) (some : 1 ≤ epoch) (r
       let x = w d.0 d.1 in
       let same : d.0.incarnation ≡ inc = ap (λ (y : Client). y.incarnation) (some_is d.0 h.at.client (sym d.1 ∙ h.at.runs)) ∙ h.at.same in
       let says = tick_says d.0 d.2.0 st.number same (now u h d.0 d.1) x.0 x.1 x.2 in
-      let p = place u.sent (from_clients (tick d.2.0 d.0)) write_said (to_clients _ (tick d.2.0 d.0) says) in
+      let p = position_in u.sent (from_clients (tick d.2.0 d.0)) write_said (to_clients _ (tick d.2.0 d.0) says) in
       inr (record { index = suc p.0; above = (let a = p.1 in let b = h.at.long in omega (arith, a, b)); sent = subst (λ xs. slice_get xs p.0 ≡ Some write_said) (sym (ap (λ (y : State). y.sent) d.2.2)) p.2 })
 
   -- What the server makes of it
@@ -274,7 +274,7 @@ module _ (c inc epoch seen0 number : ℕ) (op : WriteOp) (some : 1 ≤ epoch) (r
 
     write_does : Does h.at.server (case_of h.at.server write)
     write_does = if_case (Does h.at.server) (is_malformed write) Ignored _
-        (λ bad. absurd (not_both _ bad (all_false (nat_lt c most_clients) (nat_eq inc 0) (nat_lt END inc) (near c inc epoch n u h.at)
+        (λ bad. absurd (not_both _ bad (all_false (nat_lt c max_clients) (nat_eq inc 0) (nat_lt END inc) (near c inc epoch n u h.at)
         (ne_eqb inc 0 (λ e. let x = st.some in let y = h.at.same in omega (arith, x, e, y)))
         (le-ltb END inc (let x = within_end u h.at.reachable c h.at.client h.at.runs in let y = h.at.same in omega (arith, x, y))))))
         (λ fine. record_case (record_of h.at.server.durable.register c) refl)
@@ -319,7 +319,7 @@ module _ (c inc epoch seen0 number : ℕ) (op : WriteOp) (some : 1 ≤ epoch) (r
       found b at =
           let e = is_push g.at.server b inc_after g.at.now in
           let here = subst (λ y. In (message.ToClient y) (from_server d.1)) e (to_server (push_to g.at.server c (suc seen0) b) d.1 at) in
-          let p = place u.sent (from_server d.1) (pushed b) here in
+          let p = position_in u.sent (from_server d.1) (pushed b) here in
           let stands = pushes_stand h.at.server d.0 the_write d.1 d.2 (push_to g.at.server c (suc seen0) b) g.at.server.durable.epoch (suc seen0) b at refl in record {
             body = b;
             fits = fit c b stands.1;
@@ -369,7 +369,7 @@ module _ (c inc epoch seen0 number : ℕ) (op : WriteOp) (some : 1 ≤ epoch) (r
       let x = w k h.at.runs in
       let mine : record { client = c; incarnation = inc; body = told.Push epoch (suc seen0) b } ≡ record { client = k.number; incarnation = k.incarnation; body = told.Push epoch (suc seen0) b } = λ z. (let y : ToClient = record { client = sym st.number z; incarnation = sym h.at.same z; body = told.Push epoch (suc seen0) b } in y) in
       let case = ap (receiver.case_of k) mine ∙ accepts k b (now u h k h.at.runs) x.0 fit in
-      let new : client_of v c ≡ Some (accepted k b) = ap (λ y. client_of y c) d.2 ∙ ap (λ (y : Bool). (if y then (record { last_incarnation = (u.seats c).last_incarnation; client = Some (receiver.after k (receiver.case_of k (record { client = c; incarnation = inc; body = told.Push epoch (suc seen0) b }))) }) else u.seats c).client) (eq-eqb c c refl) ∙ ap (λ y. Some (receiver.after k y)) case in
+      let new : client_of v c ≡ Some (accepted k b) = ap (λ y. client_of y c) d.2 ∙ ap (λ (y : Bool). (if y then (record { last_incarnation = (u.places c).last_incarnation; client = Some (receiver.after k (receiver.case_of k (record { client = c; incarnation = inc; body = told.Push epoch (suc seen0) b }))) }) else u.places c).client) (eq-eqb c c refl) ∙ ap (λ y. Some (receiver.after k y)) case in
       let same = some_is (accepted k b) l (sym new ∙ j) in
       let a = seen_next k b in let e = x.0 in
       subst (λ (y : Client). seen0 < y.seen) same (omega (arith, a, e))

@@ -1,6 +1,6 @@
 -- A client whose write is outstanding accepts a further push within three good rounds.
 use Rattle.krl_progress.proofs.Names.{◌≡◌, ℕ, ◌≤◌, ◌<◌, ◌∙◌, ◌⊎◌, inl, inr, ⊎_elim, Bool, true, false, Some, is_some, List, [], ◌∷◌, length, refl, sym, ap, subst, arith, if◌then◌else◌, END}
-use Rattle.krl_progress.proofs.Names.{Client, Server, is_recovering, lists, Step, Up, Down, State, ServerNode, message_at, Runs, is_serving}
+use Rattle.krl_progress.proofs.Names.{Client, Server, is_recovering, lists, Step, Up, Down, State, ServerPlace, message_at, Runs, is_serving}
 use Rattle.krl_messages.specs.declared.write_op.WriteOp.{WriteOp}
 use Rattle.krl_client.specs.Clients.{outstanding}
 use Rattle.krl_steps.specs.declared.step.Step.TheVariants as step
@@ -90,7 +90,7 @@ nobody_listed (d ∷ cs) c e = absurd (cc)
 pub writes_move_on : WritesMoveOnIn 3
 writes_move_on w v c k l op h up_now runs out room r done = by_node w.server refl up_now
   where
-    by_node : (x : ServerNode) → w.server ≡ x → is_serving x ≡ true → k.seen < l.seen
+    by_node : (x : ServerPlace) → w.server ≡ x → is_serving x ≡ true → k.seen < l.seen
     by_node (Down d) e f = absurd (cc)
     by_node (Up s) e f =
         let st = standing w s c k h e runs in

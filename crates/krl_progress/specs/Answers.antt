@@ -7,6 +7,7 @@ use Rattle.krl_world.specs.declared.message.Message.TheVariants as message
 use Rattle.krl_world.specs.States.{State, Up, client_of}
 use Rattle.krl_world.specs.Steps.{message_at, Runs, IsReachable}
 use Rattle.krl_modes.specs.Modes.{cap}
+use Rattle.krl_modes.specs.Limits.{max_clients}
 use Rattle.krl_messages.specs.declared.to_server.ToServer.{ToServer}
 use Rattle.krl_messages.specs.declared.to_client.ToClient.{ToClient}
 use Rattle.krl_messages.specs.declared.to_client.PushBody.{PushBody}
@@ -14,7 +15,6 @@ use Rattle.krl_messages.specs.declared.to_client.PushBody.TheVariants as push
 use Rattle.krl_messages.specs.Members.{In}
 use Rattle.krl_queue.specs.declared.waiter.Waiter.{Waiter}
 use Rattle.krl_durable.specs.Index.{span_of, is_slot}
-use Rattle.krl_table.specs.Rows.{most_clients}
 use Rattle.krl_table.specs.Calls.{wanted}
 use Rattle.krl_server.specs.Servers.{Server, is_recovering}
 use Rattle.krl_server.specs.Cases.{Lowers, case_of}
@@ -54,7 +54,7 @@ pub record IsLastBlocker (s : Server) (n : ℕ) (u : Waiter) (us : List Waiter) 
   pub first : (s.rows n).queue ≡ u ∷ us
   pub acked : can_push (s.sessions u.client) ≡ true
   pub other : d ≢ u.client
-  pub alone : (e : ℕ) → e < most_clients → e ≢ d → is_compatible s n u e ≡ true
+  pub alone : (e : ℕ) → e < max_clients → e ≢ d → is_compatible s n u e ≡ true
 
 -- When the last client that blocks a first waiter gives way, as its callback asked, the waiter is answered in that very
 -- step.

@@ -1,12 +1,13 @@
 -- What becomes of a world in good rounds.
 use Rattle.std.specs.Prelude.{◌≡◌, ℕ, true, is_some, length}
 use Rattle.krl_server.specs.Servers.{lists}
-use Rattle.krl_world.specs.States.{ServerNode, Up, Down, State, client_of, is_serving}
+use Rattle.krl_world.specs.States.{ServerPlace, Up, Down, State, client_of}
+use Rattle.krl_world.specs.Shown.{is_serving}
 use Rattle.krl_world.specs.Steps.{IsReachable}
 use Rattle.krl_progress.specs.Rounds.{Rounds}
 
 -- a server runs, and each client whose report it misses runs
-abbrev pub MissingRun : State → ServerNode → Type 0
+abbrev pub MissingRun : State → ServerPlace → Type 0
 MissingRun w (Up s) = (c : ℕ) → lists s.missing c ≡ true → is_some (client_of w c) ≡ true
 MissingRun w (Down d) = ⊥
 

@@ -27,7 +27,7 @@ pub record RequestIsKnown (s : Server) (c : ℕ) (k : Client) : Type 0 where
   pub at_rest : is_waiting k.asked ≡ false →
       (k.req ≡ (s.sessions c).last_request) × (waits s.durable.index s.rows c ≡ false)
 
--- In every reachable world: where the server runs, it and each client that runs in its epoch agree on the client's
+-- In every reachable world: if the server runs, it and each client that runs in its epoch agree on the client's
 -- last lock request.
 abbrev pub RequestsAreKnown : Type 0
 RequestsAreKnown =

@@ -3,7 +3,8 @@ use Rattle.std.specs.Prelude.{◌≡◌, ℕ, suc, ◌<◌, true, Some, None, le
 use Rattle.krl_modes.specs.declared.point.TheConstants.{END}
 use Rattle.krl_messages.specs.declared.write_op.WriteOp.{WriteOp}
 use Rattle.krl_client.specs.Clients.{Client, outstanding}
-use Rattle.krl_world.specs.States.{State, client_of, is_serving}
+use Rattle.krl_world.specs.States.{State, client_of}
+use Rattle.krl_world.specs.Shown.{is_serving}
 use Rattle.krl_world.specs.Steps.{IsReachable}
 use Rattle.krl_progress.specs.Rounds.{Rounds}
 use Rattle.krl_progress.specs.Laws.{MissingRun}
@@ -23,7 +24,7 @@ WritesAreAnsweredIn n =
     client_of w c ≡ Some k → outstanding k.written ≡ Some op → suc k.seen < END → Rounds n (length w.sent) w v →
     client_of v c ≡ Some l → l.req ≡ k.req → l.writes ≡ k.writes → outstanding l.written ≡ None
 
--- the client has asked for no further lock in the epoch that it is in, where it counts anew if it has joined it since
+-- the client has asked for no further lock in the epoch that it is in, if it counts anew if it has joined it since
 abbrev pub HasAskedNoMore : Client → Client → Type 0
 HasAskedNoMore k l = (l.epoch ≡ k.epoch → l.req ≡ k.req) × (k.epoch < l.epoch → l.req ≡ 0)
 

@@ -1,7 +1,8 @@
 //! What becomes of every world in good rounds: each function's contract is a law, and its body is
 //! empty.
 ghost use Rattle.krl_progress.specs.Laws.{RecoveryEndsIn, RoundsCanBeMade};
-ghost use Rattle.krl_progress.specs.Writes.{WritesMoveOnIn, WritesAreAnsweredIn, WritesOutlastRecoveriesIn};
+ghost use Rattle.krl_progress.specs.Writes.{WritesMoveOnIn, WritesAreAnsweredIn};
+ghost use Rattle.krl_progress.specs.Writes.{WritesOutlastRecoveriesIn};
 ghost use Rattle.krl_progress.specs.Answers.{AnswersAtOnce, GivesWay, CallbackFrees};
 ghost use Rattle.krl_progress.specs.Blocks.{BlocksEndIn};
 ghost use Rattle.krl_progress.specs.FirstWaits.{FirstWaitsEndIn};
@@ -11,7 +12,7 @@ ghost use Rattle.krl_progress.specs.Locks.{LocksAreAnsweredIn};
 ghost use Rattle.krl_progress.specs.Pushes.{PushesArriveIn};
 ghost use Rattle.krl_progress.specs.Requests.{RequestsAreKnown, PushesAreAwaited};
 
-/// After any past: where the server runs, and each client whose report is missing runs, the server
+/// After any past: if the server runs, and each client whose report is missing runs, the server
 /// serves after five good rounds.
 pub fn recovery_ends()
     ensures { RecoveryEndsIn 5 }
@@ -46,7 +47,7 @@ pub fn rounds_can_be_made()
     ensures { RoundsCanBeMade }
 {}
 
-/// In every reachable world: where the server runs, it and each client that runs in its epoch agree
+/// In every reachable world: if the server runs, it and each client that runs in its epoch agree
 /// on the client's last lock request.
 pub fn requests_are_known()
     ensures { RequestsAreKnown }

@@ -1,7 +1,8 @@
 //! Lists of waiters.
 ghost use Rattle.std.specs.Prelude.{◌≡◌, ◌↔◌, [], ◌∷◌, ◌++◌, length, drop, min, slice_get, IsTrue};
 ghost use Rattle.std.specs.Prelude.{MatchOption};
-ghost use Rattle.krl_queue.specs.Waiting.{first_of, without_first, up_to, beyond, goes_before};
+ghost use Rattle.krl_queue.specs.Waiting.{first_of, up_to, beyond};
+ghost use Rattle.krl_queue.specs.Turns.{without_first, goes_before};
 
 use crate::node::WaitNode;
 use crate::node_chain::NodeChain;
@@ -49,7 +50,7 @@ impl WaitList {
         }
     }
 
-    /// How many wait, or the greatest `usize` where more do. It takes time in proportion to the
+    /// How many wait, or the greatest `usize` if more do. It takes time in proportion to the
     /// list's length: no count is kept.
     pub fn len(&self) -> usize
         ensures { result ≡ min (length self.now) usize.MAX }
@@ -86,7 +87,7 @@ impl WaitList {
         self.splice_front(WaitList::of(node));
     }
 
-    /// The first waiter; None where nobody waits.
+    /// The first waiter; None if nobody waits.
     pub fn front(&self) -> Option<Waiter>
         ensures { result ≡ slice_get self.now 0 }
     {
@@ -117,7 +118,7 @@ impl WaitList {
         false
     }
 
-    /// Takes the first waiter out and frees its node; None where nobody waits. It takes constant
+    /// Takes the first waiter out and frees its node; None if nobody waits. It takes constant
     /// time.
     pub fn pop_front(&mut self) -> Option<Waiter>
         ensures first { result ≡ slice_get self.old 0 }
@@ -126,7 +127,7 @@ impl WaitList {
         self.pop_node().map(|node| node.into_waiter())
     }
 
-    /// Takes the first waiter of this client out and frees its node; None where the client has none
+    /// Takes the first waiter of this client out and frees its node; None if the client has none
     /// here. It takes time in proportion to the waiter's place.
     pub fn remove_client(&mut self, client: u64) -> Option<Waiter>
         ensures taken { result ≡ first_of client self.old }

@@ -8,7 +8,7 @@ use std::fmt;
 use std::marker::{Model, Send, Sync};
 use std::ptr::null_mut;
 
-/// A waiter with the links that tie it to its neighbours in a list: null where there is none.
+/// A waiter with the links that tie it to its neighbours in a list: null if there is none.
 #[derive(Drop)]
 pub(crate) struct Node {
     pub(crate) prev: *mut Node,
@@ -50,7 +50,7 @@ impl WaitNode {
     ///
     /// # Errors
     ///
-    /// `AllocFailed`, with the waiter back, where the node's memory is refused.
+    /// `AllocFailed`, with the waiter back, if the node's memory is refused.
     pub fn try_new(alloc: Global, waiter: Waiter) -> Result<WaitNode, AllocFailed<Waiter>>
         ensures made { IfOk result (λ node. node ≡ waiter) }
         ensures returned { IfErr result (λ refused. refused.value ≡ waiter) }

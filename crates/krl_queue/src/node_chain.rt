@@ -3,7 +3,8 @@ ghost use Rattle.std.specs.Prelude.{◌≡◌, ◌+◌, ◌<◌, ◌≤◌, List
 ghost use Rattle.std.specs.Prelude.{slice_get};
 ghost use denote.RawPtr.{null_ptr};
 ghost use Rattle.krl_queue.specs.Ends.{IsPlace, ArePlaces};
-ghost use Rattle.krl_queue.specs.Waiting.{first_of, without_first};
+ghost use Rattle.krl_queue.specs.Waiting.{first_of};
+ghost use Rattle.krl_queue.specs.Turns.{without_first};
 ghost use Rattle.krl_queue.specs.Segment.{Spot, spot, waiters, first_or, last_or, segment};
 ghost use Rattle.krl_queue.specs.Segment.{segment_lent};
 
@@ -136,7 +137,7 @@ impl NodeChain {
         unsafe { &(*at.ptr).waiter }
     }
 
-    /// Where the client's first waiter lies, and its index; null and the chain's length where it
+    /// Where the client's first waiter lies, and its index; null and the chain's length if it
     /// has none.
     pub(crate) fn find(&self, head: NodePtr, client: u64) -> (NodePtr, Index)
         requires head { head.ptr ≡ first_or null_ptr self.now.spots }

@@ -18,13 +18,13 @@ use Rattle.krl_cache.specs.Kept as cache
 use Rattle.krl_cache.proofs.Described.{in_order_before}
 use Rattle.krl_table.proofs.ReportRows.PieceByPiece.{range_right, key_right}
 
--- Reports. Where pieces stand apart, the first that speaks of a point is the join of all that do
+-- Reports. If pieces stand apart, the first that speaks of a point is the join of all that do
 
-ranges_agree : (xs : List RangePiece) (lo q : ℕ) → AreInOrder lo xs → range_said xs q ≡ cache.range_said xs q
+ranges_agree : (xs : List RangePiece) (lo q : ℕ) → AreInOrder lo xs → range_said xs q ≡ cache.range_reported_at xs q
 ranges_agree [] lo q h = refl
 ranges_agree (x ∷ xs) lo q h = by_test (contains x.span q) refl (ranges_agree xs x.span.hi q h.3)
   where
-    by_test : (t : Bool) → contains x.span q ≡ t → range_said xs q ≡ cache.range_said xs q → (if t then range_join x.part (range_said xs q) else range_said xs q) ≡ (if t then x.part else cache.range_said xs q)
+    by_test : (t : Bool) → contains x.span q ≡ t → range_said xs q ≡ cache.range_reported_at xs q → (if t then range_join x.part (range_said xs q) else range_said xs q) ≡ (if t then x.part else cache.range_reported_at xs q)
     by_test true e ih = let i = inside_span x.span q e in ap (range_join x.part) (ih ∙ in_order_before x.span.hi q xs h.3 i.1) ∙ range_right x.part
     by_test false e ih = ih
 

@@ -2,9 +2,10 @@
 use Rattle.std.specs.Prelude.{ℕ, ◌-◌, ◌≤◌, Bool, false, List, [], ◌∷◌}
 use Rattle.std.specs.List.{AllByRecursion}
 use Rattle.krl_modes.specs.Modes.{range_of, key_of}
-use Rattle.krl_modes.specs.Spans.{Bounds, IsWhole}
+use Rattle.krl_modes.specs.Spans.{Bounds}
+use Rattle.krl_modes.specs.PointSets.{IsWhole}
 use Rattle.krl_messages.specs.declared.holding.Holding.{Holding}
-use Rattle.krl_messages.specs.Several.{Ascend}
+use Rattle.krl_messages.specs.Ascending.{Ascend}
 use Rattle.krl_messages.specs.declared.pieces.Pieces.{Pieces}
 use Rattle.krl_messages.specs.declared.write_op.WriteOp.{WriteOp}
 use Rattle.krl_messages.specs.declared.write_op.WriteOp.TheVariants as write
@@ -18,7 +19,7 @@ use Rattle.krl_messages.specs.declared.to_client.ToClientBody.TheVariants as tol
 use Rattle.krl_messages.specs.declared.to_client.PushBody.{PushBody}
 use Rattle.krl_messages.specs.declared.to_client.PushBody.TheVariants as push
 use Rattle.krl_messages.specs.Members.{In}
-use Rattle.krl_messages.specs.Writes.{is_applied}
+use Rattle.krl_messages.specs.Outcomes.{is_applied}
 use Rattle.krl_machine.specs.Links as links
 use Rattle.krl_machine.specs.Links.{Op, Insert, Put, Delete, Head, Link}
 use Rattle.krl_machine.specs.Holdings.{said_by}
@@ -34,7 +35,7 @@ op_of (write.Insert k v) = Insert k v
 op_of (write.Put k v) = Put k v
 op_of (write.Delete k) = Delete k
 
--- the machine has one push for an answer to a write, where applied says how it was judged, and for a grant, which
+-- the machine has one push for an answer to a write, if applied says how it was judged, and for a grant, which
 -- answers no write
 abbrev pub push_with : ℕ → ℕ → ℕ → ℕ → Bool → List Holding → links.Push
 push_with inc epoch number answers applied hs =

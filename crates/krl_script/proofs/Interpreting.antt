@@ -2,14 +2,15 @@
 use Rattle.std.proofs.Common.{◌≡◌, ℕ, zero, suc, ◌+◌, ◌≤◌, ◌<◌, true, false, length, List, [], ◌∷◌, Option, Result, Ok, Err, refl, sym, ap, subst, ◌∙◌, arith, inl, inr, add-one, length-append}
 use Rattle.std.specs.Prelude.{IfOk, OnOk, is_ok, is_some, slice_get, ◌≢◌}
 use Rattle.std.specs.Int.{w64, to_be_bytes}
-use Rattle.krl_durable.specs.Writes.{most_entries}
-use Rattle.krl_durable.specs.declared.refused.Refused.TheVariants as index
+use Rattle.krl_modes.specs.Limits.{max_entries}
+use Rattle.krl_durable.specs.declared.refused.EntriesRefused.TheVariants as index
 use Rattle.krl_steps.specs.declared.refused.Refused.{Refused}
 use Rattle.krl_steps.specs.declared.refused.Refused.TheVariants as refused
 use Rattle.krl_script.specs.declared.delivery.Delivery.{Delivery}
 use Rattle.krl_script.specs.declared.delivery.Delivery.TheVariants as delivery
 use Rattle.krl_steps.specs.declared.answer.Answer.{Answer}
-use Rattle.krl_world.specs.States.{fresh, sent_count}
+use Rattle.krl_world.specs.States.{fresh}
+use Rattle.krl_world.specs.Shown.{sent_count}
 use Rattle.krl_world.specs.Fields as world
 use Rattle.krl_script.specs.Fields.{Fields, meaning}
 use Rattle.krl_script.specs.Undelivered.{Waits, sent_to, without}
@@ -47,9 +48,9 @@ length_filled (suc n) = omega (arith, length-append (filled n) ((n, to_be_bytes 
 
 -- more than there may be are refused
 pub fill_refused : (s s' : Stage) (n : ℕ) (out : List ℕ) → 65536 < n → out ≡ refused_line refused.Full → s' ≡ record s { begun = true; world = fresh [] } → Seeds s (filled n) out s'
-unfolding most_entries
+unfolding max_entries
 fill_refused s s' n out l line leaves =
-    let many : most_entries < length (filled n) = omega (arith, length_filled n, l) in
+    let many : max_entries < length (filled n) = omega (arith, length_filled n, l) in
     inr (refused.Full, record { due = (index.Full, many, refl); has_memory = λ e. absurd (let other : refused.Full ≡ refused.OutOfMemory = e in cc); prints = line; leaves = leaves })
 
 -- the beginning of a settling, and how it ends

@@ -16,8 +16,8 @@ use Rattle.std.specs.List.{filter}
 use Rattle.rand_pcg.specs.Lcg.{Lcg}
 use Rattle.krl_messages.specs.Values.{Value}
 use Rattle.krl_messages.specs.Padded.{padded}
-use Rattle.krl_world.specs.declared.node.ServerNode.{ServerNode as KeptNode}
-use Rattle.krl_world.specs.declared.node.ServerNode.TheVariants as kept
+use Rattle.krl_world.specs.declared.node.ServerPlace.{ServerPlace as KeptNode}
+use Rattle.krl_world.specs.declared.node.ServerPlace.TheVariants as kept
 use Rattle.krl_steps.specs.declared.step.Step.{Step}
 use Rattle.krl_steps.specs.declared.step.Step.TheVariants as step
 use Rattle.krl_steps.specs.declared.step.Command.{Command}
@@ -29,12 +29,13 @@ use Rattle.krl_world.specs.States.{State, fresh, index_of, opened}
 use Rattle.krl_world.specs.Steps.{Steps}
 use Rattle.krl_world.specs.Promises.{IsCompatible, ScansIndex, CommandIsRange}
 use Rattle.krl_world.specs.Fields as world
+use Rattle.krl_world.specs.FieldParts as field_parts
 use Rattle.krl_script.specs.declared.random.RandomRun.{RandomRun}
 use Rattle.krl_script.specs.declared.random.Pace.{Pace}
 use Rattle.krl_script.specs.declared.random.Pace.TheVariants as pace
 use Rattle.krl_script.specs.Undelivered.{Waits, sent_to}
 use Rattle.krl_script.specs.Soundness.{are_compatible, all_below, is_sound_at, first_unsound, numbers_below}
-use Rattle.krl_script.specs.RandomRuns.{RandomStage, stage_of, first_entries, first_of, is_down, observed_of, waits_since, TakesDrawn, GoesOn, late, most_hurried, Hurries, GoesAt, RunsRandomly, EndsRandomRun}
+use Rattle.krl_script.specs.RandomRuns.{RandomStage, stage_of, first_entries, first_of, is_down, observed_of, waits_since, TakesDrawn, GoesOn, late, max_hurried, Hurries, GoesAt, RunsRandomly, EndsRandomRun}
 use Rattle.krl_script.proofs.Interpreting.{sent_is}
 use Rattle.krl_script.proofs.SoundnessLemmas.{all_of_below, none_unsound}
 
@@ -95,12 +96,12 @@ scans_same w v step.CrashServer r t h = tt
 
 -- Steps
 
-down_is : (n : KeptNode) → is_none (world.server_up n) ≡ is_down (world.node_of n)
+down_is : (n : KeptNode) → is_none (field_parts.server_up n) ≡ is_down (world.node_of n)
 down_is (kept.Up s) = refl
 down_is (kept.Down d) = refl
 
 -- what is read of a world
-pub sight_is : (w : world.Fields) (waits : Waits) (g : Lcg) (waiting : Option ℕ) (sent : ℕ) (is_down : Bool) → waiting ≡ slice_get waits.waiting 0 → sent ≡ length w.sent → is_down ≡ is_none (world.server_up w.server) → record { waiting = waiting; sent = sent; is_down = is_down } ≡ observed_of (record { world = world.meaning w; waits = waits; generator = g })
+pub sight_is : (w : world.Fields) (waits : Waits) (g : Lcg) (waiting : Option ℕ) (sent : ℕ) (is_down : Bool) → waiting ≡ slice_get waits.waiting 0 → sent ≡ length w.sent → is_down ≡ is_none (field_parts.server_up w.server) → record { waiting = waiting; sent = sent; is_down = is_down } ≡ observed_of (record { world = world.meaning w; waits = waits; generator = g })
 sight_is w waits g waiting sent down oldest all none = rw (oldest, all, sent_is w, none, down_is w.server) refl
 
 -- a step was taken, and what it sent is counted
@@ -165,7 +166,7 @@ module _ (p : ℕ × Value → Bool) (es rows left : List (ℕ × Value)) (i : �
       h ∙ ap (λ (xs : List (ℕ × Value)). filter p (take i es) ++ xs) first ∙ sym (append_assoc (filter p (take i es)) (e ∷ []) rest)
       ∙ ap (λ (xs : List (ℕ × Value)). xs ++ rest) (sym (range_next ∙ ap (λ (xs : List (ℕ × Value)). filter p (take i es) ++ xs) one))
 
-  -- and where the rows begin with the whole range, it is
+  -- and if the rows begin with the whole range, it is
   pub row_must : p e ≡ true → (rest : List (ℕ × Value)) → rows ≡ filter p es ++ rest → left ≡ e ∷ (filter p (drop (i + 1) es) ++ rest)
   row_must passes rest all =
       let back : drop i es ≡ e ∷ drop (i + 1) es = drop_at es i e l ∙ ap (λ (x : ℕ × Value). x ∷ drop (i + 1) es) (sym is) in
@@ -194,7 +195,7 @@ module _ (p : ℕ × Value → Bool) (xs : List (List (ℕ × Value))) (rows lef
       h ∙ ap (λ (es : List (ℕ × Value)). filter p (flat (take i xs)) ++ es) first ∙ sym (append_assoc (filter p (flat (take i xs))) (filter p x) rest)
       ∙ ap (λ (es : List (ℕ × Value)). es ++ rest) (sym (ap (filter p) (flat_next xs i x there) ∙ filter-append p (flat (take i xs)) x))
 
-  -- and where they are the whole range they do
+  -- and if they are the whole range they do
   pub runs_must : rows ≡ filter p (flat xs) → left ≡ filter p x ++ filter p (flat (drop (i + 1) xs))
   runs_must all =
       let back : xs ≡ take (i + 1) xs ++ drop (i + 1) xs = sym (take-append-drop (i + 1) xs) in
@@ -243,7 +244,7 @@ hurries_step n m r q t number last e is same takes h =
     (hurries_more m (stage_of r) (stage_of t) last number (sym is)
     (subst (λ (x : RandomRun). TakesDrawn (world.meaning x.world) x.waiting (step.Deliver number) x.draws (stage_of t)) same takes) h)
 
-pub goes_busily : (at : Pace) (s mid last : RandomStage) → at ≡ pace.Busy → GoesOn s mid → Hurries most_hurried mid last → GoesAt at s last
+pub goes_busily : (at : Pace) (s mid last : RandomStage) → at ≡ pace.Busy → GoesOn s mid → Hurries max_hurried mid last → GoesAt at s last
 goes_busily at s mid last e goes h = subst (λ (x : Pace). GoesAt x s last) (sym e) (mid, goes, h)
 
 -- Whole runs

@@ -8,9 +8,9 @@ use Rattle.std.specs.FinMap as map
 use Rattle.std.specs.FinMap.Entries.{put}
 use Rattle.std.specs.Int.{w64, to_be_bytes}
 use Rattle.std.specs.List.{IsDistinct}
+use Rattle.krl_modes.specs.Limits.{max_entries, max_room}
 use Rattle.rand_pcg.specs.Lcg.{Lcg}
 use Rattle.krl_draws.specs.Generator.{drawn}
-use Rattle.krl_durable.specs.Writes.{most_entries, most_room}
 use Rattle.krl_messages.specs.Values.{Value}
 use Rattle.krl_durable.specs.Index.{Index}
 use Rattle.krl_durable.specs.Kept.{IsKept, AreBelowEnd}
@@ -22,7 +22,7 @@ use Rattle.krl_world.proofs.Functions.Shapes.{reachable_stays}
 use Rattle.krl_world.proofs.Examples.Running.{no_entries}
 use Rattle.krl_script.specs.declared.random.Pace.{Pace}
 use Rattle.krl_script.specs.declared.random.Pace.TheVariants as pace
-use Rattle.krl_script.specs.RandomRuns.{RandomStage, first_entries, first_of, observed_of, TakesDrawn, GoesBy, GoesOn, late, most_hurried, Hurries, GoesAt, RunsRandomly, EndsRandomRun}
+use Rattle.krl_script.specs.RandomRuns.{RandomStage, first_entries, first_of, observed_of, TakesDrawn, GoesBy, GoesOn, late, max_hurried, Hurries, GoesAt, RunsRandomly, EndsRandomRun}
 
 -- The first world
 
@@ -35,10 +35,10 @@ first_index =
     map.entries-insert nat_cmp_total (map.insert map.empty 20 two) 10 one ∙ ap (put nat_cmp 10 one) (map.entries-insert nat_cmp_total map.empty 20 two ∙ ap (put nat_cmp 20 two) no_entries)
 
 first_kept : IsKept (unused first_entries)
-unfolding most_entries most_room IsDistinct
+unfolding max_entries max_room IsDistinct
 first_kept = record {
   keys = subst AreBelowEnd (sym first_index) (refl, (refl, tt));
-  few = subst (λ (es : List (ℕ × Value)). length es ≤ most_entries) (sym first_index) (omega arith);
+  few = subst (λ (es : List (ℕ × Value)). length es ≤ max_entries) (sym first_index) (omega arith);
   room = (omega arith, omega arith);
   epoch = omega arith;
   clients = tt;
@@ -71,7 +71,7 @@ next_reachable s t i h = let d = drawn (observed_of s) s.generator in drawn_reac
 
 goes_reachable : (at : Pace) (s t : RandomStage) → IsReachable s.world → GoesAt at s t → IsReachable t.world
 goes_reachable pace.Drawn s t i h = next_reachable s t i h
-goes_reachable pace.Busy s t i h = hurried_reachable most_hurried h.0 t (next_reachable s h.0 i h.1) h.2
+goes_reachable pace.Busy s t i h = hurried_reachable max_hurried h.0 t (next_reachable s h.0 i h.1) h.2
 
 runs_reachable : (at : Pace) (n : ℕ) (s t : RandomStage) → IsReachable s.world → RunsRandomly at n s t → IsReachable t.world
 runs_reachable at zero s t i h = subst (λ (x : RandomStage). IsReachable x.world) (sym h) i

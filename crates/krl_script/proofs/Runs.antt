@@ -17,7 +17,7 @@ use Rattle.krl_text.specs.declared.request.Request.{Request}
 use Rattle.krl_text.specs.declared.request.Request.TheVariants as request
 use Rattle.krl_text.specs.declared.fault.SyntaxFault.{SyntaxFault}
 use Rattle.krl_text.specs.declared.fault.SyntaxFault.TheVariants.{TextTooLong}
-use Rattle.krl_text.specs.Limits.{most_text, most_deliveries}
+use Rattle.krl_text.specs.Limits.{max_text, max_deliveries}
 use Rattle.krl_text.specs.declared.fault.ScriptFault.{ScriptFault}
 use Rattle.krl_text.specs.declared.fault.ScriptFault.TheVariants as script
 use Rattle.krl_text.specs.Words.{line_request}
@@ -87,7 +87,7 @@ some_obeys s (request.Deliver i) =
       record { outcome = o.0; delivers = record { world = o.1; steps = o.2; leaves = refl }; prints = refl },
     )
 some_obeys s (request.Next n) = some_settles n [] s
-some_obeys s request.Settle = some_settles most_deliveries unsettled_line s
+some_obeys s request.Settle = some_settles max_deliveries unsettled_line s
 some_obeys s request.Drop = ([], record s { begun = true; waits = none_waiting s.waits }, (refl, refl))
 some_obeys s (request.Query what) = (shown_lines s.world what, record s { begun = true }, (refl, refl))
 some_obeys s request.Modes = (modes_lines, s, (refl, refl))
@@ -211,8 +211,8 @@ ran_unread unread left before text reads script.OutOfMemory comes = inl (record 
 ran_unread unread left before text reads (script.Syntax n what) comes = absurd comes
 
 -- the transcript of a text that is too long, or not
-pub long_text : (text : List ℕ) → most_text < length text → (out : List ℕ) (end : End) → (out ≡ fault_line 0 TextTooLong) × (end ≡ Some (0, TextTooLong)) → Transcript text out end
-long_text text l out end h = let t : nat_lt most_text (length text) ≡ true = lt-ltb most_text (length text) l in rw t h
+pub long_text : (text : List ℕ) → max_text < length text → (out : List ℕ) (end : End) → (out ≡ fault_line 0 TextTooLong) × (end ≡ Some (0, TextTooLong)) → Transcript text out end
+long_text text l out end h = let t : nat_lt max_text (length text) ≡ true = lt-ltb max_text (length text) l in rw t h
 
-pub short_text : (text : List ℕ) → length text ≤ most_text → (out : List ℕ) (end : End) → Prints first_stage 1 (lines text) out end → Transcript text out end
-short_text text l out end h = let t : nat_lt most_text (length text) ≡ false = le-ltb most_text (length text) l in rw t h
+pub short_text : (text : List ℕ) → length text ≤ max_text → (out : List ℕ) (end : End) → Prints first_stage 1 (lines text) out end → Transcript text out end
+short_text text l out end h = let t : nat_lt max_text (length text) ≡ false = le-ltb max_text (length text) l in rw t h

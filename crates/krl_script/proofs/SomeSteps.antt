@@ -5,6 +5,7 @@ use Rattle.std.proofs.lemmas.Bool.Decides.{nat_tests, eqb_tells}
 use Rattle.std.specs.Prelude.{is_some, cond, not}
 use Rattle.krl_modes.specs.declared.point.TheConstants.{END}
 use Rattle.krl_modes.specs.Spans.{Bounds}
+use Rattle.krl_modes.specs.Limits.{max_entries}
 use Rattle.krl_messages.specs.Values.{Value}
 use Rattle.krl_messages.specs.declared.to_server.ToServer.{ToServer}
 use Rattle.krl_messages.specs.declared.to_client.ToClient.{ToClient}
@@ -26,10 +27,9 @@ use Rattle.krl_steps.specs.declared.answer.Answer.{Answer}
 use Rattle.krl_steps.specs.declared.answer.Answer.TheVariants as told
 use Rattle.krl_steps.specs.declared.refused.Refused.{Refused}
 use Rattle.krl_steps.specs.declared.refused.Refused.TheVariants as refused
-use Rattle.krl_world.specs.States.{State, ServerNode, Up, Down, client_of}
-use Rattle.krl_durable.specs.Writes.{most_entries}
+use Rattle.krl_world.specs.States.{State, ServerPlace, Up, Down, client_of}
 use Rattle.krl_durable.specs.InitialEntries.{key_of_entry, stands_before, IsGood, AreGood}
-use Rattle.krl_durable.specs.declared.refused.Refused.TheVariants as index
+use Rattle.krl_durable.specs.declared.refused.EntriesRefused.TheVariants as index
 use Rattle.krl_world.specs.Steps.{CanBegin, CannotBegin, span, named, if_runs, command_refusal, server_down, message_at, refusal_of, Arrives, ServerReads, ClientReads, Delivers, TakesMemory, Does, Steps}
 use Rattle.krl_steps.specs.Refusals.{refused_by_client}
 use Rattle.krl_world.proofs.Refinement.Taken.{client_ok}
@@ -49,7 +49,7 @@ taken w w' s answer e d = (Ok answer, w', (e, d))
 
 -- Deliveries
 
-server_reads : (w : State) (s : ServerNode) (m : ToServer) → (server_down s ≡ None) ⊎ ServerReads w s m w
+server_reads : (w : State) (s : ServerPlace) (m : ToServer) → (server_down s ≡ None) ⊎ ServerReads w s m w
 server_reads w (Up s) m = inl refl
 server_reads w (Down d) m = inr refl
 
@@ -194,7 +194,7 @@ good_or_not es (suc n) =
 
 pub can_begin_or_not : (entries : List (ℕ × Value)) → CanBegin entries ⊎ ((r : Refused) × CannotBegin entries r × (r ≢ refused.OutOfMemory))
 can_begin_or_not entries =
-    elim (cases_lt most_entries (length entries)) [
+    elim (cases_lt max_entries (length entries)) [
       | inl l ↦ inr (refused.Full, (index.Full, l, refl), λ e. absurd (let bad : refused.Full ≡ refused.OutOfMemory = e in cc))
       | inr l ↦
           elim (good_or_not entries (length entries)) [

@@ -41,7 +41,7 @@ unfolding all_below
 all_of_below zero f each = refl
 all_of_below (suc n) f each = rw (all_of_below n f (λ k l. each k (omega (arith, l))), each n (omega arith)) refl
 
--- N goes beside everything
+-- N is compatible with everything
 pub nothing_goes : (w : State) (n c p : ℕ) (held : RangePart × KeyPart) → held ≡ (range_held w c p, key_held w c p) → held.0 ≡ range.N → held.1 ≡ key.N → all_below n (are_compatible w p c) ≡ true
 nothing_goes w n c p held is no_range no_key =
     let no_range' : range_held w c p ≡ range.N = sym (ap (λ (h : RangePart × KeyPart). h.0) is) ∙ no_range in
@@ -96,7 +96,7 @@ is_false b c e h = rw (← e, h) refl
 pub is_true : (b c : Bool) → b ≡ c → b ≡ true → not c ≡ false
 is_true b c e h = rw (← e, h) refl
 
--- nothing is found where the test fails everywhere
+-- nothing is found if the test fails everywhere
 pub none_unsound : (n : ℕ) (f : ℕ → Bool) → ((k : ℕ) → f k ≡ false) → find f (numbers_below n) ≡ None
 unfolding numbers_below
 none_unsound zero f each = refl

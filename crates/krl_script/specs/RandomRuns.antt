@@ -5,7 +5,8 @@ use Rattle.std.specs.Io.KnownBytes.{Appends}
 use Rattle.rand_pcg.specs.Lcg.{Lcg}
 use Rattle.std.specs.Int.{w64, to_be_bytes}
 use Rattle.krl_messages.specs.Values.{Value}
-use Rattle.krl_world.specs.States.{State, ServerNode, Up, Down, fresh, index_of, sent_count}
+use Rattle.krl_world.specs.States.{State, ServerPlace, Up, Down, fresh, index_of}
+use Rattle.krl_world.specs.Shown.{sent_count}
 use Rattle.krl_world.specs.Steps.{Steps}
 use Rattle.krl_world.specs.Promises.{ScansIndex}
 use Rattle.krl_world.specs.Fields as world
@@ -44,7 +45,7 @@ abbrev pub first_of : ℕ → RandomStage
 first_of seed =
     record { world = fresh first_entries; waits = none_sent; generator = generator_of seed }
 
-abbrev pub is_down : ServerNode → Bool
+abbrev pub is_down : ServerPlace → Bool
 is_down (Up s) = false
 is_down (Down d) = true
 
@@ -85,16 +86,16 @@ abbrev pub GoesOn : RandomStage → RandomStage → Type 0
 GoesOn s s' = let d = drawn (observed_of s) s.generator in GoesBy s d.0 d.1 s'
 
 -- so many messages may wait between two steps of a busy run
-abbrev pub most_waiting : ℕ
-most_waiting = 4
+abbrev pub max_waiting : ℕ
+max_waiting = 4
 
 -- the most deliveries that a busy run makes after a step
-abbrev pub most_hurried : ℕ
-most_hurried = 1000
+abbrev pub max_hurried : ℕ
+max_hurried = 1000
 
--- the oldest message that waits, where too many do
+-- the oldest message that waits, if too many do
 abbrev pub late : RandomStage → Option ℕ
-late s = if nat_lt most_waiting (length s.waits.waiting) then slice_get s.waits.waiting 0 else None
+late s = if nat_lt max_waiting (length s.waits.waiting) then slice_get s.waits.waiting 0 else None
 
 -- as long as too many messages wait the oldest is delivered, at most so often
 unfoldable pub Hurries : ℕ → RandomStage → RandomStage → Type 0
@@ -106,7 +107,7 @@ Hurries (suc n) s s' = MatchOption (late s) (s' ≡ s) (λ number.
 -- the next step is drawn and done; a busy run delivers what is late then
 abbrev pub GoesAt : Pace → RandomStage → RandomStage → Type 0
 GoesAt pace.Drawn s s' = GoesOn s s'
-GoesAt pace.Busy s s' = (mid : RandomStage) × GoesOn s mid × Hurries most_hurried mid s'
+GoesAt pace.Busy s s' = (mid : RandomStage) × GoesOn s mid × Hurries max_hurried mid s'
 
 -- so many steps, one after another
 abbrev pub RunsRandomly : Pace → ℕ → RandomStage → RandomStage → Type 0

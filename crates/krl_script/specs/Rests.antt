@@ -5,8 +5,9 @@ use Rattle.std.specs.Fmt.{decimal}
 use Rattle.krl_client.specs.declared.status.LockStatus.{LockStatus}
 use Rattle.krl_client.specs.declared.status.LockStatus.TheVariants as lock
 use Rattle.krl_client.specs.declared.status.WriteStatus.{WriteStatus}
-use Rattle.krl_client.specs.declared.status.WriteStatus.TheVariants as write
-use Rattle.krl_client.specs.Clients.{Client, status_of}
+use Rattle.krl_client.specs.declared.status.WriteStatus.TheVariants as written
+use Rattle.krl_client.specs.Clients.{Client}
+use Rattle.krl_client.specs.Shown.{status_of}
 use Rattle.krl_steps.specs.declared.step.Step.{Step}
 use Rattle.krl_steps.specs.declared.step.Step.TheVariants as step
 use Rattle.krl_steps.specs.declared.answer.Answer.{Answer}
@@ -45,9 +46,9 @@ IsWhole w = IsCompatible w × IsReachable w
 
 -- what is not answered yet
 abbrev pub awaited_by : LockStatus → WriteStatus → Awaited
-awaited_by lock.Waiting (write.Waiting n) = awaited.Both
+awaited_by lock.Waiting (written.Waiting n) = awaited.Both
 awaited_by lock.Waiting other = awaited.Lock
-awaited_by other (write.Waiting n) = awaited.Write
+awaited_by other (written.Waiting n) = awaited.Write
 awaited_by other more = awaited.Nothing
 
 -- what the client waits for

@@ -42,7 +42,7 @@ abbrev pub Wrote : {A : Type 0} → Known → Known → Texts → Result A Scrip
 Wrote before after T (Ok done) = WroteWhole before after T None
 Wrote before after T (Err fault) = Failed before after T fault
 
--- the line of a fault was written, or the front of it where another fault came
+-- the line of a fault was written, or the front of it if another fault came
 abbrev pub EndsInFault : {A : Type 0} → Known → Known → ℕ → SyntaxFault →
     Result A ScriptFault → Type 0
 EndsInFault before after n what r =

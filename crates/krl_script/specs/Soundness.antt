@@ -1,8 +1,9 @@
--- Whether what clients hold goes together, looked at point by point.
+-- Whether what clients hold is compatible, looked at point by point.
 use Rattle.std.specs.Prelude.{ℕ, zero, suc, ◌-◌, ◌&&◌, Bool, true, not, List, [], ◌∷◌, ◌++◌, Option}
 use Rattle.std.specs.List.{find}
 use Rattle.krl_modes.specs.declared.point.TheConstants.{END}
 use Rattle.krl_modes.specs.Parts.{ranges_compatible, keys_compatible}
+use Rattle.krl_modes.specs.declared.limits.TheConstants.{MAX_CLIENTS}
 use Rattle.krl_world.specs.States.{State, range_held, key_held}
 
 -- two clients hold compatible parts at the point
@@ -35,4 +36,4 @@ checked_points = numbers_below 64 ++ (END - 1) ∷ END ∷ []
 
 -- the least of them at which two clients hold incompatible parts
 unfoldable pub unsound_point : State → Option ℕ
-unsound_point w = first_unsound w 64 checked_points
+unsound_point w = first_unsound w MAX_CLIENTS checked_points

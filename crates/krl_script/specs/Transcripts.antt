@@ -3,14 +3,15 @@ use Rattle.std.specs.Prelude.{◌≡◌, ◌≢◌, ℕ, zero, suc, ◌+◌, ◌
 use Rattle.std.specs.Str.Lines.{lines}
 use Rattle.std.specs.Int.{w64, to_be_bytes}
 use Rattle.krl_messages.specs.Values.{Value}
-use Rattle.krl_world.specs.States.{State, fresh, sent_count}
+use Rattle.krl_world.specs.States.{State, fresh}
+use Rattle.krl_world.specs.Shown.{sent_count}
 use Rattle.krl_world.specs.Steps.{CanBegin, CannotBegin, Steps}
 use Rattle.krl_steps.specs.declared.step.Step.{Step}
 use Rattle.krl_steps.specs.declared.step.Step.TheVariants as step
 use Rattle.krl_steps.specs.declared.answer.Answer.{Answer}
 use Rattle.krl_steps.specs.declared.refused.Refused.{Refused}
 use Rattle.krl_steps.specs.declared.refused.Refused.TheVariants as refused
-use Rattle.krl_text.specs.Limits.{most_text, most_deliveries}
+use Rattle.krl_text.specs.Limits.{max_text, max_deliveries}
 use Rattle.krl_text.specs.declared.request.Request.{Request}
 use Rattle.krl_text.specs.declared.request.Request.TheVariants as request
 use Rattle.krl_script.specs.declared.delivery.Delivery.{Delivery}
@@ -44,7 +45,7 @@ pub record Acts (s : Stage) (what : Step) (out : List ℕ) (s' : Stage) : Type 0
   pub prints : out ≡ outcome_lines outcome
   pub leaves : s' ≡ counted world s.waits
 
--- which messages wait, where this came of the delivery of one: a delivery that is refused leaves
+-- which messages wait, if this came of the delivery of one: a delivery that is refused leaves
 -- it waiting
 abbrev pub waits_after : Result Answer Refused → ℕ → Waits → Waits
 waits_after (Ok answer) number waits = without waits number
@@ -117,7 +118,7 @@ pub record BeginsEmpty (s : Stage) (entries : List (ℕ × Value)) (r : Refused)
   pub prints : out ≡ refused_line r
   pub leaves : s' ≡ record s { begun = true; world = fresh [] }
 
--- A world is made with these entries; where they are refused, it has none.
+-- A world is made with these entries; if they are refused, it has none.
 abbrev pub Seeds : Stage → List (ℕ × Value) → List ℕ → Stage → Type 0
 Seeds s entries out s' = Begins s entries out s' ⊎ ((r : Refused) × BeginsEmpty s entries r out s')
 
@@ -129,7 +130,7 @@ Obeys s (request.Fill n) out s' = Seeds s (filled n) out s'
 Obeys s (request.Step step) out s' = Acts s step out s'
 Obeys s (request.Deliver number) out s' = DeliversThis s number out s'
 Obeys s (request.Next n) out s' = Settles n [] s out s'
-Obeys s request.Settle out s' = Settles most_deliveries unsettled_line s out s'
+Obeys s request.Settle out s' = Settles max_deliveries unsettled_line s out s'
 Obeys s request.Drop out s' =
     (out ≡ []) × (s' ≡ record s { begun = true; waits = none_waiting s.waits })
 Obeys s (request.Query what) out s' =
@@ -166,6 +167,6 @@ Prints s n (line ∷ more) out end =
 -- than one such output: each step that takes memory may be refused for want of it.
 abbrev pub Transcript : List ℕ → List ℕ → End → Type 0
 Transcript text out end =
-    MatchBool (nat_lt most_text (length text))
+    MatchBool (nat_lt max_text (length text))
     ((out ≡ fault_line 0 TextTooLong) × (end ≡ Some (0, TextTooLong)))
     (Prints first_stage 1 (lines text) out end)

@@ -15,6 +15,7 @@ use crate::delivery::Delivery;
 use crate::query;
 use crate::undelivered::Undelivered;
 use krl_messages::Value;
+use krl_modes::STANDARD_ROOM;
 use krl_text::{
     LineFault, MAX_DELIVERIES, MAX_LINE, MAX_LINES, Query, Request, SyntaxFault, print,
     request_of_line,
@@ -22,9 +23,6 @@ use krl_text::{
 use krl_world::{Answer, Refused, Step, World};
 use std::alloc::{AllocError, Global};
 use std::marker::Model;
-
-// The most entries of an index.
-const MAX_ENTRIES: u64 = 65536;
 
 /// The world, and the messages that wait. Before the script's world is made it has no entries.
 pub struct Interpreter {
@@ -224,7 +222,7 @@ impl Interpreter {
         ensures { IfOk result (λ line.
             Seeds (meaning self.old) (filled n) line.bytes.items (meaning self.new)) }
     {
-        if n > MAX_ENTRIES {
+        if n > STANDARD_ROOM as u64 {
             return self.refuse(Refused::Full);
         }
         let entries = filled(self.alloc, n)?;

@@ -14,11 +14,7 @@ mod soundness;
 mod undelivered;
 
 pub use interpreter::Interpreter;
-pub use krl_text::{
-    AnyReader, AnyWriter, Entries, LineFault, MAX_DELIVERIES, MAX_LINE, MAX_LINES, MAX_STEPS,
-    MAX_TEXT, MAX_TURNS, Query, Request, ScriptFault, Sink, Source, SyntaxFault, first_line, laws,
-    read_text, write_line,
-};
+pub use krl_text::{LineFault, Request, ScriptFault, Sink, Source};
 pub use progress::{Progress, Untold};
 pub use random::{busy_run, random_run};
 pub use rest::{Rest, bring_to_rest};

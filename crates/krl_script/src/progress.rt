@@ -2,7 +2,7 @@
 
 /// Who is told how far a random run is.
 pub trait Progress {
-    /// So many steps were taken by now. It is told of every 10,000th step.
+    /// Called after every 10,000th step, with the number of steps taken.
     fn taken(&mut self, steps: u64);
 }
 

@@ -1,7 +1,6 @@
 //! What is read of a world, as a line.
 ghost use Rattle.std.specs.Prelude.{◌≡◌, IfOk};
 ghost use Rattle.krl_client.specs.Clients as clients;
-ghost use Rattle.krl_client.specs.Fields as client_fields;
 ghost use Rattle.krl_world.specs.States.{client_of};
 ghost use Rattle.krl_world.specs.Fields as world_fields;
 ghost use Rattle.krl_text.specs.Printing.{status_line, list_line, check_line};
@@ -9,6 +8,7 @@ ghost use Rattle.krl_script.specs.Shown.{missing_line, shown_lines};
 ghost use Rattle.krl_script.specs.Soundness.{unsound_point};
 
 use crate::soundness::unsound_point;
+use krl_modes::MAX_CLIENTS;
 use krl_server::Server;
 use krl_text::Query;
 use krl_text::print::refused;
@@ -21,7 +21,7 @@ fn status(alloc: Global, world: &World, client: u64) -> Result<String, AllocErro
     ensures { IfOk result (λ line. line.bytes.items ≡
         status_line client (client_of (world_fields.meaning world.now) client)) }
 {
-    if client > 63 {
+    if client >= MAX_CLIENTS as u64 {
         return refused(alloc, Refused::BadClient);
     }
     match world.client(client) {
@@ -38,7 +38,7 @@ fn missing(alloc: Global, server: &Server) -> Result<String, AllocError>
     unreported(alloc, clients.as_slice())
 }
 
-// The same, where a server runs.
+// The same, if a server runs.
 fn server(alloc: Global, world: &World) -> Result<String, AllocError>
     ensures { IfOk result (λ line.
         line.bytes.items ≡ missing_line (world_fields.node_of world.now.server)) }
@@ -49,7 +49,7 @@ fn server(alloc: Global, world: &World) -> Result<String, AllocError>
     }
 }
 
-// The line of whether clients hold what goes together.
+// The line of whether what clients hold is compatible.
 fn check(alloc: Global, world: &World) -> Result<String, AllocError>
     ensures { IfOk result (λ line.
         line.bytes.items ≡ check_line (unsound_point (world_fields.meaning world.now))) }

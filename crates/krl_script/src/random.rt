@@ -5,12 +5,12 @@ ghost use Rattle.krl_world.specs.Fields.{meaning};
 ghost use Rattle.krl_world.specs.Promises.{IsCompatible, ScansIndex};
 ghost use Rattle.krl_world.specs.Steps.{IsReachable};
 ghost use Rattle.krl_text.specs.declared.limits.TheConstants.{MAX_STEPS};
-ghost use Rattle.krl_text.specs.Limits.{most_interruptions, most_steps};
+ghost use Rattle.krl_text.specs.Limits.{max_interruptions, max_steps};
 ghost use Rattle.krl_script.specs.Soundness.{first_unsound, numbers_below};
 ghost use Rattle.krl_text.specs.Transfers.{IsSteady};
 ghost use Rattle.krl_script.specs.declared.random.Pace.TheVariants as pace;
 ghost use Rattle.krl_script.specs.RandomRuns.{stage_of, first_entries, first_of, observed_of};
-ghost use Rattle.krl_script.specs.RandomRuns.{waits_since, TakesDrawn, GoesOn, late, most_hurried};
+ghost use Rattle.krl_script.specs.RandomRuns.{waits_since, TakesDrawn, GoesOn, late, max_hurried};
 ghost use Rattle.krl_script.specs.RandomRuns.{Hurries, GoesAt, RunsRandomly, EndsRandomRun};
 ghost use Rattle.krl_script.specs.RandomRuns.{random_line, WroteLineOf};
 
@@ -26,10 +26,10 @@ use krl_world::{Answer, Refused, Step, World};
 use std::alloc::{AllocError, Global};
 
 // So many messages may wait between two steps of a busy run.
-const MOST_WAITING: usize = 4;
+const MAX_WAITING: usize = 4;
 
 // The most deliveries that a busy run makes after a step.
-const MOST_HURRIED: u64 = 1000;
+const MAX_HURRIED: u64 = 1000;
 
 // How many clients a run draws.
 const CLIENTS: u64 = 4;
@@ -106,7 +106,7 @@ impl RandomRun {
         }
     }
 
-    // Whether the clients hold what goes together.
+    // Whether what the clients hold is compatible.
     fn is_sound(&self) -> bool
         ensures sound { IsCompatible (meaning self.now.world) → result ≡ true }
         ensures looks { result
@@ -137,6 +137,7 @@ impl RandomRun {
             ScansIndex (index_of (meaning self.new.world)) step outcome) }
         ensures sound { IfOk result (λ outcome. IsCompatible (meaning self.new.world)) }
     {
+        // A copy: the prover takes a value that is handed on as moved.
         let passed = *&step;
         let outcome = self.world.step(step);
         pass(&mut self.waiting, passed, &outcome);
@@ -157,18 +158,19 @@ impl RandomRun {
         let Some(step) = self.draws.step(&seen) else {
             return Ok(self.is_sound());
         };
+        // A copy: the prover takes a value that is handed on as moved.
         let taken = *&step;
         let outcome = self.take(taken)?;
         Ok(self.is_sound_after(step, &outcome))
     }
 
-    // The oldest message that waits, where too many do.
+    // The oldest message that waits, if too many do.
     fn late(&mut self) -> Option<u64>
         ensures late { result ≡ late (stage_of self.old) }
         ensures same { self.new ≡ self.old }
     {
         let number = self.waiting.oldest()?;
-        if self.waiting.exceeds(MOST_WAITING) {
+        if self.waiting.exceeds(MAX_WAITING) {
             Some(number)
         } else {
             None
@@ -205,7 +207,7 @@ impl RandomRun {
         let sound = self.go_on()?;
         match pace {
             Pace::Drawn => Ok(sound),
-            Pace::Busy => Ok(self.hurry(MOST_HURRIED)? & sound),
+            Pace::Busy => Ok(self.hurry(MAX_HURRIED)? & sound),
         }
     }
 }
@@ -289,7 +291,7 @@ fn write_verdict<W: Sink>(
 ///
 /// # Errors
 ///
-/// `Write` where the writer fails; `OutOfMemory` where the making of the world or the run's own
+/// `Write` if the writer fails; `OutOfMemory` if the making of the world or the run's own
 /// growth finds no memory: nothing is written then.
 pub fn random_run<W: Sink, P: Progress>(
     alloc: Global,
@@ -300,14 +302,14 @@ pub fn random_run<W: Sink, P: Progress>(
 ) -> Result<(World, bool), ScriptFault>
     requires seed { seed ≤ END }
     requires some { 1 ≤ steps }
-    requires bounded { steps ≤ most_steps }
-    ensures limit { MAX_STEPS ≡ most_steps }
+    requires bounded { steps ≤ max_steps }
+    ensures limit { MAX_STEPS ≡ max_steps }
     ensures ran { IfOk result
         (λ end. (end.1 ≡ true) × EndsRandomRun pace.Drawn seed steps (meaning end.0)) }
     ensures reachable { IfOk result (λ end. IsReachable (meaning end.0)) }
     ensures wrote { WroteLineOf (W.contents writer.old) (W.contents writer.new)
         (random_line seed steps None) result }
-    ensures steady { (n : ℕ) → W.interruptions writer.old ≡ Some n → n ≤ most_interruptions →
+    ensures steady { (n : ℕ) → W.interruptions writer.old ≡ Some n → n ≤ max_interruptions →
         ¬ IsErrOf result ScriptFault.Write }
 {
     let (world, unsound) = driven(alloc, progress, Pace::Drawn, seed, steps)?;
@@ -321,7 +323,7 @@ pub fn random_run<W: Sink, P: Progress>(
 ///
 /// # Errors
 ///
-/// `Write` where the writer fails; `OutOfMemory` where the making of the world or the run's own
+/// `Write` if the writer fails; `OutOfMemory` if the making of the world or the run's own
 /// growth finds no memory: nothing is written then.
 pub fn busy_run<W: Sink, P: Progress>(
     alloc: Global,
@@ -332,14 +334,14 @@ pub fn busy_run<W: Sink, P: Progress>(
 ) -> Result<(World, bool), ScriptFault>
     requires seed { seed ≤ END }
     requires some { 1 ≤ steps }
-    requires bounded { steps ≤ most_steps }
-    ensures limit { MAX_STEPS ≡ most_steps }
+    requires bounded { steps ≤ max_steps }
+    ensures limit { MAX_STEPS ≡ max_steps }
     ensures ran { IfOk result
         (λ end. (end.1 ≡ true) × EndsRandomRun pace.Busy seed steps (meaning end.0)) }
     ensures reachable { IfOk result (λ end. IsReachable (meaning end.0)) }
     ensures wrote { WroteLineOf (W.contents writer.old) (W.contents writer.new)
         (random_line seed steps None) result }
-    ensures steady { (n : ℕ) → W.interruptions writer.old ≡ Some n → n ≤ most_interruptions →
+    ensures steady { (n : ℕ) → W.interruptions writer.old ≡ Some n → n ≤ max_interruptions →
         ¬ IsErrOf result ScriptFault.Write }
 {
     let (world, unsound) = driven(alloc, progress, Pace::Busy, seed, steps)?;

@@ -36,7 +36,7 @@ const WRITE_ROUNDS: u64 = 11;
 const LOCK_ROUNDS: u64 = 1161;
 
 // The most rounds: the line of `missed` names this number, 1172.
-const MOST_ROUNDS: u64 = WRITE_ROUNDS + LOCK_ROUNDS;
+const MAX_ROUNDS: u64 = WRITE_ROUNDS + LOCK_ROUNDS;
 
 /// How good rounds ended.
 #[derive(Clone, Copy, PartialEq, Eq)]
@@ -70,7 +70,7 @@ fn awaited_by(lock: LockStatus, write: WriteStatus) -> Awaited
     }
 }
 
-// What the client waits for: nothing where it does not run.
+// What the client waits for: nothing if it does not run.
 fn waits_for(world: &World, client: u64) -> Awaited
     ensures { result ≡ awaited_of (client_of (meaning world.now) client) }
 {
@@ -177,7 +177,7 @@ fn go_rounds(world: &mut World, past: u64) -> Result<Rest, AllocError>
         → IfOk result (λ rest. EndsAs (meaning world.new) rest) }
 {
     let mut past = past;
-    'rounds: for rounds in 0..MOST_ROUNDS {
+    'rounds: for rounds in 0..MAX_ROUNDS {
         if !is_sound(world) {
             return Ok(Rest::Unsound(rounds));
         }
@@ -194,10 +194,10 @@ fn last_of(world: &World) -> Rest
     ensures { IsWhole (meaning world.now) → EndsAs (meaning world.now) result }
 {
     if !is_sound(world) {
-        return Rest::Unsound(MOST_ROUNDS);
+        return Rest::Unsound(MAX_ROUNDS);
     }
     if nobody_waits(world) {
-        return Rest::Reached(MOST_ROUNDS);
+        return Rest::Reached(MAX_ROUNDS);
     }
     Rest::Missed
 }
@@ -275,7 +275,7 @@ fn write_verdict<W: Sink>(
 }
 
 /// Brings a world to rest by good rounds, and writes a line that says how that ended. It first
-/// starts the server and each of the clients 0 to 3, where they do not run. In a good round each
+/// starts the server and each of the clients 0 to 3, if they do not run. In a good round each
 /// client ticks, and each message that was sent in the round before is delivered; nobody asks for
 /// more, crashes or leaves. The rounds end once nobody waits for a lock or a write, or after 1172.
 /// Before each, and at the end, it looks at every two clients and every point from 0 to 63.
@@ -284,7 +284,7 @@ fn write_verdict<W: Sink>(
 ///
 /// # Errors
 ///
-/// `Write` where the writer fails; `OutOfMemory` where a step, or the line, finds no memory:
+/// `Write` if the writer fails; `OutOfMemory` if a step, or the line, finds no memory:
 /// nothing is written then.
 pub fn bring_to_rest<W: Sink>(
     alloc: Global,

@@ -12,7 +12,7 @@ use krl_blocks::Entries;
 use krl_messages::Value;
 use krl_world::{Answer, Command, Refused, Step, World};
 
-// The rows behind those of the entries with keys from lo on below hi; None where the rows do not
+// The rows behind those of the entries with keys from lo on below hi; None if the rows do not
 // begin with them.
 fn rows_behind<'a>(
     entries: &[(u64, Value)],
@@ -56,7 +56,7 @@ fn are_range(entries: &Entries<'_, Value>, rows: &[(u64, Value)], lo: u64, hi: u
     left.is_empty()
 }
 
-/// Whether what a step answered is what the index has, where it is a scan's rows.
+/// Whether what a step answered is what the index has, if it is a scan's rows.
 pub fn answers_index(world: &World, step: Step, outcome: &Result<Answer, Refused>) -> bool
     ensures sound { ScansIndex (index_of (meaning world.now)) step outcome.now → result ≡ true }
     ensures looks { result ≡ true → ScansIndex (index_of (meaning world.now)) step outcome.now }

@@ -1,7 +1,7 @@
 //! A whole script.
 ghost use Rattle.std.specs.Prelude.{◌≡◌, ℕ, ◌≤◌, length, Some, IfErr, IsErrOf, OnOk};
 ghost use Rattle.std.specs.Str.Lines.{lines};
-ghost use Rattle.krl_text.specs.Limits.{most_text, most_turns, most_interruptions};
+ghost use Rattle.krl_text.specs.Limits.{max_text, max_turns, max_interruptions};
 ghost use Rattle.krl_script.specs.Transcripts.{first_stage, Prints};
 ghost use Rattle.krl_script.specs.Fields.{meaning};
 ghost use Rattle.krl_script.specs.Runs.{Wrote, EndsInFault, RunsLine, Ran};
@@ -58,7 +58,7 @@ fn obey_lines<W: Sink>(
     text: &[u8],
     writer: &mut W,
 ) -> Result<(), ScriptFault>
-    requires { length text.now ≤ most_text }
+    requires { length text.now ≤ max_text }
     ensures wrote { Wrote (W.contents writer.old) (W.contents writer.new)
         (Prints (meaning interpreter.old) 1 (lines text.now)) result }
     ensures steady { IsSteady (W.interruptions writer.old) →
@@ -76,7 +76,7 @@ fn obey_lines<W: Sink>(
 }
 
 fn run_lines<W: Sink>(alloc: Global, text: &[u8], writer: &mut W) -> Result<(), ScriptFault>
-    requires { length text.now ≤ most_text }
+    requires { length text.now ≤ max_text }
     ensures wrote { Wrote (W.contents writer.old) (W.contents writer.new)
         (Prints first_stage 1 (lines text.now)) result }
     ensures steady { IsSteady (W.interruptions writer.old) →
@@ -88,13 +88,13 @@ fn run_lines<W: Sink>(alloc: Global, text: &[u8], writer: &mut W) -> Result<(), 
 
 /// Reads a script to its end, and then runs it line by line. What a line prints is written before
 /// the next line is run. What is written is exactly a transcript of what was read, or the front of
-/// one where the writer fails or memory runs out. A read or a write that is interrupted is tried
+/// one if the writer fails or memory runs out. A read or a write that is interrupted is tried
 /// again.
 ///
 /// # Errors
 ///
-/// `Read` where a read fails, and `NoEnd` where 2,097,152 reads gave no end: nothing is written
-/// then. `Write` where the writer fails, takes nothing, or is interrupted more than 2,097,152 times
+/// `Read` if a read fails, and `NoEnd` if 2,097,152 reads gave no end: nothing is written
+/// then. `Write` if the writer fails, takes nothing, or is interrupted more than 2,097,152 times
 /// in one line. `Syntax` for the first fault of the text, which the transcript's last line says
 /// too. `OutOfMemory` at any point.
 pub fn run_script<R: Source, W: Sink>(
@@ -108,8 +108,8 @@ pub fn run_script<R: Source, W: Sink>(
     // that is at most interrupted is written, unless that takes too many writes.
     ensures read { (n : ℕ) → R.interruptions reader.old ≡ Some n → IfErr result (MayEndReading n) }
     ensures turns { IsErrOf result ScriptFault.NoEnd →
-        Counts (R.reads reader.old) (R.reads reader.new) most_turns }
-    ensures written { (n : ℕ) → W.interruptions writer.old ≡ Some n → n ≤ most_interruptions →
+        Counts (R.reads reader.old) (R.reads reader.new) max_turns }
+    ensures written { (n : ℕ) → W.interruptions writer.old ≡ Some n → n ≤ max_interruptions →
         ¬ IsErrOf result ScriptFault.Write }
 {
     let text = read_text(alloc, reader)?;

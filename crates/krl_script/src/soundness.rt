@@ -1,4 +1,4 @@
-//! Whether clients hold what goes together, looked at point by point.
+//! Whether what clients hold is compatible, looked at point by point.
 ghost use Rattle.std.specs.Prelude.{◌≡◌, ◌&&◌};
 ghost use Rattle.krl_modes.specs.Parts.{ranges_compatible, keys_compatible};
 ghost use Rattle.krl_world.specs.States.{range_held, key_held};
@@ -6,11 +6,8 @@ ghost use Rattle.krl_world.specs.Fields.{meaning};
 ghost use Rattle.krl_script.specs.Soundness.{are_compatible, all_below, is_sound_at, numbers_below};
 ghost use Rattle.krl_script.specs.Soundness.{first_unsound, unsound_point};
 
-use krl_modes::{END, KeyPart, RangePart};
+use krl_modes::{END, KeyPart, MAX_CLIENTS, RangePart};
 use krl_world::World;
-
-// How many clients `check` looks at.
-const CLIENTS: u64 = 64;
 
 // It looks at the points below this one, and at the last two.
 const POINTS: u64 = 64;
@@ -42,7 +39,7 @@ fn is_compatible_below(world: &World, client: u64, point: u64) -> bool
     true
 }
 
-/// Whether what the first so many clients hold at the point goes together.
+/// Whether what the first so many clients hold at the point is compatible.
 pub fn is_sound_at(world: &World, clients: u64, point: u64) -> bool
     ensures { result ≡ is_sound_at (meaning world.now) clients point }
 {
@@ -54,8 +51,7 @@ pub fn is_sound_at(world: &World, clients: u64, point: u64) -> bool
     true
 }
 
-/// The least point below this one at which what the first so many clients hold does not go
-/// together.
+/// The least point below this one at which what the first so many clients hold is not compatible.
 pub fn least_unsound(world: &World, clients: u64, below: u64) -> Option<u64>
     ensures { result ≡ first_unsound (meaning world.now) clients (numbers_below below) }
 {
@@ -67,19 +63,19 @@ pub fn least_unsound(world: &World, clients: u64, below: u64) -> Option<u64>
     None
 }
 
-/// The least of the points 0 to 63, END - 1 and END at which two clients hold what does not go
-/// together.
+/// The least of the points 0 to 63, END - 1 and END at which what two clients hold is not
+/// compatible.
 pub fn unsound_point(world: &World) -> Option<u64>
     ensures { result ≡ unsound_point (meaning world.now) }
 {
-    let below = least_unsound(world, CLIENTS, POINTS);
+    let below = least_unsound(world, MAX_CLIENTS as u64, POINTS);
     if below.is_some() {
         return below;
     }
-    if !is_sound_at(world, CLIENTS, END - 1) {
+    if !is_sound_at(world, MAX_CLIENTS as u64, END - 1) {
         return Some(END - 1);
     }
-    if !is_sound_at(world, CLIENTS, END) {
+    if !is_sound_at(world, MAX_CLIENTS as u64, END) {
         return Some(END);
     }
     None

@@ -1,6 +1,6 @@
 -- What holds of the server and the message in each case: so anything is proved of the case that a message meets.
 use Rattle.krl_server.proofs.Names.{◌≡◌, ℕ, suc, ◌≤◌, ◌<◌, true, false, not, ◌&&◌, ◌||◌, Option, Some, None, refl, sym, subst, arith, nat_eq, eqb-true, ltb-true, ltb-false, eqb-false, and_parts}
-use Rattle.krl_server.proofs.Names.{or_parts, not-true, not-false, nat_lt, nat_le, END, TOP, Mode, Bounds, Pieces, WriteOp, Outcome, ToServer, PushBody, Record, record_of, op_key, most_clients}
+use Rattle.krl_server.proofs.Names.{or_parts, not-true, not-false, nat_lt, nat_le, END, TOP, Mode, Bounds, Pieces, WriteOp, Outcome, ToServer, PushBody, Record, record_of, op_key, max_clients}
 use Rattle.krl_server.proofs.Names.{waits, conflicts, Server, is_recovering, lists, incarnation_or_0, Case, Ignored, Registers, Leaves, Tells, Alarms, Rebuilds, Repeats, Acknowledges, Lowers, Waits}
 use Rattle.krl_server.proofs.Names.{Judges, AnswersAgain, judged, case_of_last, is_bad_write, case_of_write, is_reach, case_of_request, case_of_late, case_of_seen, case_of_report, case_of_body}
 use Rattle.krl_server.proofs.Names.{case_of_newer, case_of_record, is_malformed, case_of}
@@ -13,7 +13,7 @@ use Rattle.krl_server.proofs.Tests.{if_case}
 
 -- the message is the registered incarnation's, which has not left
 pub record IsFrom (s : Server) (m : ToServer) (r : Record) : Type 0 where
-  pub client : m.client < most_clients
+  pub client : m.client < max_clients
   pub known : record_of s.durable.register m.client ≡ Some r
   pub same : m.incarnation ≡ r.incarnation
   pub here : r.left ≡ false
@@ -34,7 +34,7 @@ pub record IsAsked (s : Server) (m : ToServer) (r : Record) (request : Request) 
 -- what is to be proved in each case, by what the message says
 pub record EachSaid (s : Server) (m : ToServer) (P : Case → Type 0) : Type 0 where
   pub ignored : P Ignored
-  pub registers : m.client < most_clients → incarnation_or_0 (record_of s.durable.register m.client) < m.incarnation → m.body ≡ said.Hello → P Registers
+  pub registers : m.client < max_clients → incarnation_or_0 (record_of s.durable.register m.client) < m.incarnation → m.body ≡ said.Hello → P Registers
   pub leaves : (r : Record) → IsFrom s m r → m.body ≡ said.Bye → P Leaves
   pub tells : P Tells
   pub alarms : (r : Record) (epoch : ℕ) (pieces : Pieces) → IsFrom s m r → m.body ≡ said.Report epoch pieces → epoch ≡ s.durable.epoch → lists s.missing m.client ≡ true → conflicts s.durable.index s.rows m.client pieces ≡ true → P Alarms
@@ -47,7 +47,7 @@ pub record EachSaid (s : Server) (m : ToServer) (P : Case → Type 0) : Type 0 w
   pub answers_again : (r : Record) (request : Request) (number : ℕ) (op : WriteOp) (o : Outcome) → IsAsked s m r request (asked.Write number op) → op_key op < END → 1 ≤ number → number ≡ r.last → r.outcome ≡ Some o → P (AnswersAgain number op o)
 
 module _ (s : Server) (m : ToServer) (P : Case → Type 0) (each : EachSaid s m P) where
-  of_newer : m.client < most_clients → incarnation_or_0 (record_of s.durable.register m.client) < m.incarnation → (b : ToServerBody) → m.body ≡ b → P (case_of_newer b)
+  of_newer : m.client < max_clients → incarnation_or_0 (record_of s.durable.register m.client) < m.incarnation → (b : ToServerBody) → m.body ≡ b → P (case_of_newer b)
   of_newer lt newer said.Hello e = each.registers lt newer e
   of_newer lt newer said.Bye e = each.ignored
   of_newer lt newer (said.Report epoch pieces) e = each.ignored
@@ -107,7 +107,7 @@ module _ (s : Server) (m : ToServer) (P : Case → Type 0) (each : EachSaid s m 
         (λ yes. if_case P (is_recovering s.missing) Ignored _ (λ recovers. each.ignored) (λ serves. of_seen request is (eqb-true request.epoch s.durable.epoch yes) serves))
         (λ no. each.tells)
 
-  of_record : m.client < most_clients → 1 ≤ m.incarnation → (o : Option Record) → record_of s.durable.register m.client ≡ o → P (case_of_record s m o)
+  of_record : m.client < max_clients → 1 ≤ m.incarnation → (o : Option Record) → record_of s.durable.register m.client ≡ o → P (case_of_record s m o)
   of_record lt some None e = of_newer lt (subst (λ o. incarnation_or_0 o < m.incarnation) (sym e) (omega (arith, some))) m.body refl
   of_record lt some (Some r) e = if_case P (nat_lt r.incarnation m.incarnation) _ _
       (λ newer. of_newer lt (subst (λ o. incarnation_or_0 o < m.incarnation) (sym e) (ltb-true r.incarnation m.incarnation newer)) m.body refl)
@@ -120,14 +120,14 @@ module _ (s : Server) (m : ToServer) (P : Case → Type 0) (each : EachSaid s m 
   pub by_said : P (case_of s m)
   by_said = if_case P (is_malformed m) Ignored _ (λ malformed. each.ignored)
       (λ fine.
-      let x = or_parts (not (nat_lt m.client most_clients)) (nat_eq m.incarnation 0 || nat_lt END m.incarnation) fine in
+      let x = or_parts (not (nat_lt m.client max_clients)) (nat_eq m.incarnation 0 || nat_lt END m.incarnation) fine in
       let y = or_parts (nat_eq m.incarnation 0) (nat_lt END m.incarnation) x.1 in
-      of_record (ltb-true m.client most_clients (not-false (nat_lt m.client most_clients) x.0)) (let ne = eqb-false m.incarnation 0 y.0 in omega (arith, ne)) (record_of s.durable.register m.client) refl)
+      of_record (ltb-true m.client max_clients (not-false (nat_lt m.client max_clients) x.0)) (let ne = eqb-false m.incarnation 0 y.0 in omega (arith, ne)) (record_of s.durable.register m.client) refl)
 
 -- the same for what does not ask what the message says
 pub record EachCase (s : Server) (m : ToServer) (P : Case → Type 0) : Type 0 where
   pub ignored : P Ignored
-  pub registers : m.client < most_clients → incarnation_or_0 (record_of s.durable.register m.client) < m.incarnation → m.body ≡ said.Hello → P Registers
+  pub registers : m.client < max_clients → incarnation_or_0 (record_of s.durable.register m.client) < m.incarnation → m.body ≡ said.Hello → P Registers
   pub leaves : (r : Record) → IsFrom s m r → P Leaves
   pub tells : P Tells
   pub alarms : P Alarms

@@ -5,9 +5,9 @@ use Rattle.krl_server.proofs.Names.{eq_cases, Index, first_or_end, slot_of, low_
 use Rattle.krl_server.proofs.Names.{is_wanted_compatible, Durable, Server, holding, holdings, find_here, find_past, IsWhole}
 use Rattle.krl_table.proofs.Invariant.Compatible.{mode_other}
 use Rattle.std.specs.FinMap as fin
-use Rattle.krl_table.specs.Grants.{nobody_waits, can_take, goes_on, taken_after, taken_by, taken, granted_by, granted, most_more}
+use Rattle.krl_table.specs.Grants.{nobody_waits, can_take, goes_on, taken_after, taken_by, taken, granted_by, granted, max_more}
 use Rattle.krl_table.proofs.Rows.Slots.{low_under}
-use Rattle.krl_messages.specs.Several.{IsBefore, Ascend, most_holdings}
+use Rattle.krl_messages.specs.Ascending.{IsBefore, Ascend, max_holdings}
 use Rattle.krl_server.proofs.Slots.{is_slot_true, span_here}
 use Rattle.krl_server.proofs.Updates.{row_here, row_other, row_modes}
 use Rattle.krl_server.proofs.Tests.{if_case}
@@ -69,7 +69,7 @@ granted_queue m rows n k = by_queue (rows n).queue refl
     by_queue [] e = eq_cases k n
         (λ f. subst (λ x. (rows x).queue ≡ (granted_first rows n x).queue) (sym f) (sym (ap (λ r. r.queue) (row_here rows n (grant_first (rows n) (rows n).queue)) ∙ ap (λ q. (grant_first (rows n) q).queue) e)))
         (λ ne. ap (λ r. r.queue) (sym (row_other rows n (grant_first (rows n) (rows n).queue) k ne)))
-    by_queue (u ∷ us) e = raised_on_queue (granted_first rows n) (taken_after m (granted_first rows n) n u most_more) u k
+    by_queue (u ∷ us) e = raised_on_queue (granted_first rows n) (taken_after m (granted_first rows n) n u max_more) u k
 
 -- The slots that are taken, one after another
 
@@ -117,11 +117,11 @@ module _ (m : Index) (rows : Rows) (n : ℕ) (u : Waiter) (us : List Waiter) (qu
   abbrev pub first_rows : Rows
   first_rows = set_row rows n (grant_first (rows n) (u ∷ us))
 
-  pub granted_is : granted m rows n ≡ raised_on first_rows (taken_after m first_rows n u most_more) u
-  granted_is = ap (granted_by m rows n) queue ∙ ap (λ q. raised_on (set_row rows n (grant_first (rows n) q)) (taken_after m (set_row rows n (grant_first (rows n) q)) n u most_more) u) queue
+  pub granted_is : granted m rows n ≡ raised_on first_rows (taken_after m first_rows n u max_more) u
+  granted_is = ap (granted_by m rows n) queue ∙ ap (λ q. raised_on (set_row rows n (grant_first (rows n) q)) (taken_after m (set_row rows n (grant_first (rows n) q)) n u max_more) u) queue
 
-  pub taken_is : taken m rows n ≡ n ∷ taken_after m first_rows n u most_more
-  taken_is = ap (taken_by m rows n) queue ∙ ap (λ q. n ∷ taken_after m (set_row rows n (grant_first (rows n) q)) n u most_more) queue
+  pub taken_is : taken m rows n ≡ n ∷ taken_after m first_rows n u max_more
+  taken_is = ap (taken_by m rows n) queue ∙ ap (λ q. n ∷ taken_after m (set_row rows n (grant_first (rows n) q)) n u max_more) queue
 
 -- rows below the slot stay
 pub granted_below : (m : Index) (rows : Rows) (n k : ℕ) → k < n → granted m rows n k ≡ rows k
@@ -131,7 +131,7 @@ granted_below m rows n k lt = by_queue (rows n).queue refl
     by_queue [] e = refl
     by_queue (u ∷ us) e = along m u (λ r. r k ≡ rows k) n
         (λ r j far slot is_compatible_there same. row_other r j (with_mode (r j) u.client (wanted (r j) u)) k (λ f. omega (arith, f, far, lt)) ∙ same)
-        most_more n (granted_first rows n) (omega arith) (row_other rows n (grant_first (rows n) (rows n).queue) k (λ f. omega (arith, f, lt)))
+        max_more n (granted_first rows n) (omega arith) (row_other rows n (grant_first (rows n) (rows n).queue) k (λ f. omega (arith, f, lt)))
 
 -- a row at which somebody waits stays, beside the grant's own
 module _ (m : Index) (u : Waiter) (k : ℕ) (v : Waiter) (vs : List Waiter) where
@@ -162,7 +162,7 @@ granted_compatible m rows n k v vs ne queue = by_queue (rows n).queue refl
 
     by_queue : (us : List Waiter) → (rows n).queue ≡ us → granted_by m rows n us k ≡ rows k
     by_queue [] e = refl
-    by_queue (u ∷ us) e = raised_compatible m u k v vs most_more n (granted_first rows n) (ap (λ r. r.queue) first ∙ queue) ∙ first
+    by_queue (u ∷ us) e = raised_compatible m u k v vs max_more n (granted_first rows n) (ap (λ r. r.queue) first ∙ queue) ∙ first
 
 -- What a push tells of the slots
 
@@ -213,19 +213,19 @@ pub record IsTaken (t : Server) (c : ℕ) (slots : List ℕ) : Type 0 where
   pub there : AllByRecursion (λ k. is_slot t.durable.index k ≡ true) slots
   pub order : Ascend (holdings t c slots)
   pub some : 1 ≤ length slots
-  pub few : length slots ≤ most_holdings
+  pub few : length slots ≤ max_holdings
 
 pub taken_told : (s t : Server) (n : ℕ) (u : Waiter) (slots : List ℕ) (rest : List Waiter) → ((q : ℕ) → END ≤ q → fin.get s.durable.index q ≡ None) → t.durable ≡ s.durable → is_slot s.durable.index n ≡ true → (s.rows n).queue ≡ u ∷ rest → slots ≡ taken s.durable.index s.rows n → IsTaken t u.client slots
 taken_told s t n u slots rest near same here queue is =
     let m = s.durable.index in
     let first = first_rows m s.rows n u rest queue in
-    let ns = taken_after m first n u most_more in
-    let after = taken_slots m u most_more n first in
+    let ns = taken_after m first n u max_more in
+    let after = taken_slots m u max_more n first in
     let e : slots ≡ n ∷ ns = is ∙ taken_is m s.rows n u rest queue in
     subst (IsTaken t u.client) (sym e)
     (record {
       there = subst (λ (d : Durable). AllByRecursion (λ k. is_slot d.index k ≡ true) (n ∷ ns)) (sym same) (slots_there m n ns here after);
       order = slots_ascend t (λ q a. ap (λ (d : Durable). fin.get d.index q) same ∙ near q a) u.client n ns (ap (λ (d : Durable). is_slot d.index n) same ∙ here) (subst (λ (d : Durable). AreSlotsAfter d.index n ns) (sym same) after);
       some = omega arith;
-      few = let x = taken_few m u most_more n first in omega (arith, x);
+      few = let x = taken_few m u max_more n first in omega (arith, x);
     })

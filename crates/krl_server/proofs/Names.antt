@@ -13,16 +13,18 @@ pub use Rattle.std.specs.Ordering.{nat_cmp, eq_by_cmp}
 pub use Rattle.std.specs.Prelude.{IsSome, nat_le, set, is_some, nat_lt, IsSomeAnd, OnErr, Ok, Err, if◌then◌else◌, IfOk, IfSome, Result, OnOk}
 pub use Rattle.krl_durable.proofs.SlotLaws.{From, keys_of_map_rise, from_above, from_zero, low_is, first_is, find_past}
 pub use Rattle.krl_durable.proofs.Slots.{Rises, find_here}
-pub use Rattle.krl_durable.specs.Index.{slots, is_slot, Index, IsSlotOf, low_of, span_of, slot_of, first_or_end}
-pub use Rattle.krl_durable.specs.Kept.{HasOutcome, IsKept}
+pub use Rattle.krl_durable.specs.Index.{slots, is_slot, Index, low_of, span_of, slot_of, first_or_end}
+pub use Rattle.krl_durable.specs.Slots.{IsSlotOf}
+pub use Rattle.krl_durable.specs.Invariants.{HasOutcome}
+pub use Rattle.krl_durable.specs.Kept.{IsKept}
 pub use Rattle.krl_durable.specs.Registers.{missing_order, new_record, with_record, departed, record_of, registered, IsIncarnation, HasOutcomes, left_by, Durable, Register}
 pub use Rattle.krl_durable.specs.Writes.{applied, held, applied_by, judge, noted, judged_change, judged_insert, index_after, written}
-unfoldable pub use Rattle.krl_durable.specs.Writes.{most_entries}
 pub use Rattle.krl_durable.specs.declared.record.Record.{Record}
 pub use Rattle.krl_messages.proofs.Members.{in_right, in_to_all, in_both, in_left}
 pub use Rattle.krl_messages.specs.Members.{In}
 pub use Rattle.krl_messages.specs.Values.{Value}
-pub use Rattle.krl_messages.specs.Writes.{is_applied, op_key}
+pub use Rattle.krl_messages.specs.Outcomes.{is_applied}
+pub use Rattle.krl_messages.specs.Writes.{op_key}
 pub use Rattle.krl_messages.specs.declared.holding.Holding.{Holding}
 pub use Rattle.krl_messages.specs.declared.outcome.Outcome.{Outcome}
 pub use Rattle.krl_messages.specs.declared.pieces.Pieces.{Pieces}
@@ -31,7 +33,8 @@ pub use Rattle.krl_messages.specs.declared.to_client.ToClient.{ToClient}
 pub use Rattle.krl_messages.specs.declared.to_server.ToServer.{ToServer}
 pub use Rattle.krl_messages.specs.declared.write_op.WriteOp.{WriteOp}
 pub use Rattle.krl_modes.specs.Modes.{at_or_above, meet, key_of, at_most, join, cap, range_of, needs_entry, compatible}
-pub use Rattle.krl_modes.specs.Spans.{IsWhole, Bounds, within}
+pub use Rattle.krl_modes.specs.PointSets.{IsWhole}
+pub use Rattle.krl_modes.specs.Spans.{Bounds, within}
 pub use Rattle.krl_modes.specs.declared.mode.Mode.{Mode}
 pub use Rattle.krl_modes.specs.declared.point.TheConstants.{TOP, END}
 pub use Rattle.krl_queue.specs.Waiting.{first_of, up_to, beyond}
@@ -43,19 +46,19 @@ pub use Rattle.krl_server.specs.Cases.{is_reach, case_of_record, Registers, case
 pub use Rattle.krl_server.specs.Cases.{is_alarm}
 pub use Rattle.krl_server.specs.CodeSteps.{IsPerformed, IsServer, calls_after, still_recovering, Finished, HasRoom, HasTurned, HasAnsweredFirst, IsStarted, calls_at_first, own_of, alarm_of, call_if, callback_if, rests}
 pub use Rattle.krl_server.specs.CodeSteps.{HasFinished, HaveWaiters, count_below, is_registered, turn_here, waiting_clients, HasStepped, HasAnswered, served, room_for}
-pub use Rattle.krl_server.specs.Effects.{silent, epoch_to, pushed_again, with_session, lowers, writes, answers, effect, Done, acknowledged, push_to, callback_to, holdings, queues, with_rows, departs, holding}
-pub use Rattle.krl_server.specs.Effects.{rows_after, pushes, adopts, rows_written}
-pub use Rattle.krl_server.specs.Outboxes.{Sent, as_list, Sends}
+pub use Rattle.krl_server.specs.Effects.{silent, epoch_to, with_session, lowers, writes, answers, effect, Done, acknowledged, push_to, callback_to, holdings, queues, with_rows, departs, holding, rows_after, pushes, adopts, rows_written}
+pub use Rattle.krl_server.specs.Outboxes.{pushed_again, Sent, as_list, Sends}
 pub use Rattle.krl_server.specs.Outputs.{PushesStand, may_change, is_answer, answered_write, may_change_durable, IsCallback, IsNextPush, IsAnswered, is_new_write, ServerSays, AnswersWrite}
 pub use Rattle.krl_server.specs.Outputs.{HasCallbacks, last_of, changes_durable, is_callback}
 pub use Rattle.krl_server.specs.Ranges.{IsEntry, IsWithin, IsDurableWithin, clients_of, ServerWithin, IsRegistered, AreApart, AreRegistered}
 pub use Rattle.krl_server.specs.Servers.{is_recovering, Server, unlist, incarnation_or_0, lists, blank_session, set_session}
 pub use Rattle.krl_server.specs.Soundness.{IsSound}
-pub use Rattle.krl_server.specs.StateMeaning.{after_of, IsFormed, sessions_of, case_of_pieces, case_of_unacked, meant, meaning}
-pub use Rattle.krl_server.specs.Steps.{ServerStep, nudge_served, Ends, nudge, serves, calls_of, Quiet, Kind, IsSettled, crash, kind_of, nudge_known, at_once, start, can_start, Idle, nudge_missing}
-pub use Rattle.krl_server.specs.Steps.{recovers, Acts}
+pub use Rattle.krl_server.specs.FoundCases.{after_of, IsFormed, case_of_pieces, case_of_unacked, meant}
+pub use Rattle.krl_server.specs.StateMeaning.{sessions_of, meaning}
+pub use Rattle.krl_server.specs.Steps.{ServerStep, nudge_served, Ends, nudge, serves, calls_of, Quiet, Kind, crash, kind_of, nudge_known, at_once, start, can_start, Idle, nudge_missing, recovers, Acts}
+pub use Rattle.krl_server.specs.Settled.{IsSettled}
 pub use Rattle.krl_server.specs.Termination.{waiting_on, waiting, StepsEnd}
-unfoldable pub use Rattle.krl_server.specs.Termination.{most_messages}
+unfoldable pub use Rattle.krl_server.specs.Termination.{max_messages}
 pub use Rattle.krl_server.specs.declared.out.ServerOut.{ServerOut}
 pub use Rattle.krl_server.specs.declared.session.Session.{Session}
 pub use Rattle.krl_server.specs.declared.state.State.{State}
@@ -65,12 +68,15 @@ pub use Rattle.krl_table.proofs.Invariant.Stands.{in_queue_with, in_filter, in_u
 pub use Rattle.krl_table.proofs.Rows.RowChanges.{eq_cases}
 pub use Rattle.krl_table.specs.Calls.{with_queue, split_modes, with_mode, cleared, raised_on, wanted, grant_first, dropped, lowered, merged, enqueued, granted_first, behind_first, mode_beside}
 pub use Rattle.krl_table.specs.Calls.{raised, unqueue, queue_with, split}
-pub use Rattle.krl_table.specs.Grants.{is_granted_at_once, taken_after, granted, nobody_waits, most_more, taken}
-pub use Rattle.krl_table.specs.Kept.{times, rows_of, Kept, KeptTable, IsOver, AreCompatible}
-pub use Rattle.krl_table.specs.Points.{MayDelete, key_at, key_off_slot, range_at, MayInsert}
-pub use Rattle.krl_table.specs.Replies.{first_reply, reply_to, asks_absent, is_wanted_compatible, answerable}
+pub use Rattle.krl_table.specs.FirstReplies.{is_granted_at_once, first_reply, reply_to, answerable}
+pub use Rattle.krl_table.specs.Grants.{taken_after, granted, nobody_waits, max_more, taken}
+pub use Rattle.krl_table.specs.KeptRows.{times, KeptTable, IsOver, AreCompatible}
+pub use Rattle.krl_table.specs.Kept.{rows_of, Kept}
+pub use Rattle.krl_table.specs.Writers.{MayDelete, MayInsert}
+pub use Rattle.krl_table.specs.Points.{key_at, key_off_slot, range_at}
+pub use Rattle.krl_table.specs.Replies.{asks_absent, is_wanted_compatible}
 pub use Rattle.krl_table.specs.Reports.{adopted, conflicts, rebuilt}
-pub use Rattle.krl_table.specs.Rows.{waiter_at, set_mode, column, is_compatible_there, Rows, mode_at, waits, waiter_of, all_below, blank_rows, front_of, blank_row, Row, set_row}
-unfoldable pub use Rattle.krl_table.specs.Rows.{most_clients}
+pub use Rattle.krl_table.specs.Waiters.{waiter_at, waiter_of, front_of, WaitsNowhere, AreWaiting}
+pub use Rattle.krl_table.specs.Rows.{set_mode, column, is_compatible_there, Rows, mode_at, waits, all_below, blank_rows, blank_row, Row, set_row}
 pub use Rattle.krl_table.specs.Sound.{IsPlaced, IsTable}
-pub use Rattle.krl_table.specs.Waiters.{WaitsNowhere, AreWaiting}
+unfoldable pub use Rattle.krl_modes.specs.Limits.{max_clients, max_entries}

@@ -34,7 +34,7 @@ record_other (e ∷ es) c d x ne = by_eq (nat_eq c e.0) refl (record_other es c 
     by_eq true f ih = ap (λ b. if b then Some x else record_of es d) (ne_eqb d c ne) ∙ sym (ap (λ b. if b then Some e.1 else record_of es d) (ne_eqb d e.0 (λ g. ne (g ∙ sym (eqb-true c e.0 f)))))
     by_eq false f ih = ap (λ y. if nat_eq d e.0 then Some e.1 else y) ih
 
--- the modes of a row that is set are as they were, where they are in it
+-- the modes of a row that is set are as they were, if they are in it
 pub row_modes : (rows : Rows) (n : ℕ) (row : Row) (c : ℕ) → (rows n).modes c ≡ row.modes c → (k : ℕ) → mode_at rows k c ≡ mode_at (set_row rows n row) k c
 row_modes rows n row c e k = eq_cases k n
     (λ f. subst (λ x. mode_at rows x c ≡ mode_at (set_row rows n row) x c) (sym f) (e ∙ sym (ap (λ x. x.modes c) (row_here rows n row))))

@@ -1,6 +1,6 @@
 -- Worked rows: small servers, computed.
-use Rattle.krl_server.proofs.Names.{◌≡◌, ℕ, suc, List, [], ◌∷◌, ◌++◌, map, Option, Some, None, refl, Mode, Holding, ToServer, ToClient, PushBody, Waiter, Index, is_slot, new_record, most_entries}
-use Rattle.krl_server.proofs.Names.{END, Bounds, Value, Pieces, range_at, key_at, lowered, adopted, Row, Rows, blank_row, most_clients, mode_at, Session, Server, case_of, Judges, Ignored, Registers}
+use Rattle.krl_server.proofs.Names.{◌≡◌, ℕ, suc, List, [], ◌∷◌, ◌++◌, map, Option, Some, None, refl, Mode, Holding, ToServer, ToClient, PushBody, Waiter, Index, is_slot, new_record, max_entries}
+use Rattle.krl_server.proofs.Names.{END, Bounds, Value, Pieces, range_at, key_at, lowered, adopted, Row, Rows, blank_row, max_clients, mode_at, Session, Server, case_of, Judges, Ignored, Registers}
 use Rattle.krl_server.proofs.Names.{Waits, Lowers, Rebuilds, AnswersAgain, callbacks_from, Done, effect, Turn, next_turn, answer_first, crash, start}
 use Rattle.std.specs.Prelude.{nat_eq, if◌then◌else◌}
 use Rattle.std.specs.FinMap as map
@@ -36,7 +36,7 @@ two = (10, byte 1) ∷ (20, byte 2) ∷ []
 
 -- two clients of incarnation 1, which have acknowledged their last pushes
 abbrev server : Index → Rows → (ℕ → Session) → Server
-server m rows sessions = record { durable = record { room = most_entries; index = m; epoch = 1; register = (0, new_record 1) ∷ (1, new_record 1) ∷ [] }; rows = rows; sessions = sessions; missing = [] }
+server m rows sessions = record { durable = record { room = max_entries; index = m; epoch = 1; register = (0, new_record 1) ∷ (1, new_record 1) ∷ [] }; rows = rows; sessions = sessions; missing = [] }
 
 abbrev session : ℕ → ℕ → ℕ → Session
 session last_push asked c = record { last_push = last_push; unacked = None; last_request = asked }
@@ -53,7 +53,7 @@ row a b queue = record { modes = λ c. if nat_eq c 0 then a else (if nat_eq c 1 
 -- A server that has just started hears Hello, and grants the gap below 10
 
 abbrev begun : Index → Server
-begun m = start (record { room = most_entries; index = m; epoch = 0; register = [] })
+begun m = start (record { room = max_entries; index = m; epoch = 0; register = [] })
 
 abbrev joined : Index → Server
 joined m = (effect (begun m) (hello 0) Registers).server
@@ -68,26 +68,26 @@ abbrev gap_turn : Turn
 gap_turn = turn 10 (waiter 0 1 5 mode.RangeSS)
 
 row_1_hello : (m : Index) → case_of (begun m) (hello 0) ≡ Registers
-unfolding most_clients
+unfolding max_clients
 row_1_hello m = refl
 
 row_1_told : (m : Index) → (effect (begun m) (hello 0) Registers).outs ≡ record { client = 0; incarnation = 1; body = told.Epoch 1 } ∷ []
 row_1_told m = refl
 
 row_1_lock : (m : Index) → map.entries m ≡ two → case_of (joined m) lock_gap ≡ Waits 1 5 6 mode.RangeSS
-unfolding most_clients
+unfolding max_clients
 row_1_lock m e = simp (e, map.get-entries)
 
 row_1_turn : (m : Index) → map.entries m ≡ two → next_turn (gap_asked m) ≡ Some gap_turn
-unfolding most_clients
+unfolding max_clients
 row_1_turn m e = simp (e, map.get-entries)
 
 row_1_granted : (m : Index) → map.entries m ≡ two → (answer_first (gap_asked m) gap_turn).outs ≡ the_push 0 1 (push.Grant 1 (held 0 11 mode.RangeSS (Some (byte 1)) ∷ [])) ∷ []
-unfolding most_clients
+unfolding max_clients
 row_1_granted m e = simp (e, map.get-entries)
 
 row_1_ends : (m : Index) → map.entries m ≡ two → next_turn (answer_first (gap_asked m) gap_turn).server ≡ None
-unfolding most_clients
+unfolding max_clients
 row_1_ends m e = simp (e, map.get-entries)
 
 -- Two clients that hold RangeI-N on one gap: the first inserts
@@ -102,7 +102,7 @@ abbrev inserted : Index → Done
 inserted m = effect (shared_gap m) insert_15 (Judges 1 (write.Insert 15 (byte 5)) outcome.Applied)
 
 row_5_case : (m : Index) → map.entries m ≡ two → case_of (shared_gap m) insert_15 ≡ Judges 1 (write.Insert 15 (byte 5)) outcome.Applied
-unfolding most_clients most_entries
+unfolding max_clients max_entries
 row_5_case m e = simp (e, map.get-entries)
 
 row_5_answer : (m : Index) → map.entries m ≡ two → map.entries (map.insert m 15 (byte 5)) ≡ (10, byte 1) ∷ (15, byte 5) ∷ (20, byte 2) ∷ [] → (inserted m).outs ≡ the_push 0 2 (push.Answer 1 outcome.Applied (held 11 16 mode.RangeIX (Some (byte 5)))) ∷ []
@@ -123,14 +123,14 @@ abbrev below_11 : Bounds
 below_11 = record { lo = 0; hi = 11 }
 
 row_8_old : (m : Index) → case_of (read_gap m) (asks 0 1 (asked.Release below_11 mode.N)) ≡ Ignored
-unfolding most_clients
+unfolding max_clients
 row_8_old m = refl
 
 abbrev lock_10 : ToServer
 lock_10 = asks 1 0 (asked.Lock 1 10 11 mode.X)
 
 row_8_case : (m : Index) → map.entries m ≡ two → case_of (read_gap m) lock_10 ≡ Waits 1 10 11 mode.X
-unfolding most_clients
+unfolding max_clients
 row_8_case m e = simp e
 
 row_8_queue : (m : Index) → map.entries m ≡ two → ((effect (read_gap m) lock_10 (Waits 1 10 11 mode.X)).server.rows 10).queue ≡ waiter 1 1 10 mode.X ∷ []
@@ -140,7 +140,7 @@ abbrev entry_asked : Index → Server
 entry_asked m = server m (λ n. if nat_eq n 10 then row mode.RangeSS mode.N (waiter 1 1 10 mode.X ∷ []) else blank_row) (λ c. if nat_eq c 0 then session 2 2 c else session 0 1 c)
 
 row_8_blocked : (m : Index) → map.entries m ≡ two → next_turn (entry_asked m) ≡ None
-unfolding most_clients
+unfolding max_clients
 row_8_blocked m e = simp (e, map.get-entries)
 
 abbrev called_back : List ToClient
@@ -150,7 +150,7 @@ row_8_callbacks : (m : Index) → map.entries m ≡ two → callbacks_from (entr
 row_8_callbacks m e = simp e
 
 row_8_release : (m : Index) → case_of (entry_asked m) (asks 0 2 (asked.Release below_11 mode.RangeIN)) ≡ Lowers below_11 mode.RangeIN
-unfolding most_clients
+unfolding max_clients
 row_8_release m = refl
 
 row_8_lowered : (m : Index) → map.entries m ≡ two → mode_at (effect (entry_asked m) (asks 0 2 (asked.Release below_11 mode.RangeIN)) (Lowers below_11 mode.RangeIN)).server.rows 10 0 ≡ mode.N
@@ -160,11 +160,11 @@ abbrev released : Index → Server
 released m = server m (λ n. if nat_eq n 10 then row mode.N mode.N (waiter 1 1 10 mode.X ∷ []) else blank_row) (λ c. if nat_eq c 0 then session 2 2 c else session 0 1 c)
 
 row_8_turn : (m : Index) → map.entries m ≡ two → next_turn (released m) ≡ Some (turn 10 (waiter 1 1 10 mode.X))
-unfolding most_clients
+unfolding max_clients
 row_8_turn m e = simp (e, map.get-entries)
 
 row_8_granted : (m : Index) → map.entries m ≡ two → (answer_first (released m) (turn 10 (waiter 1 1 10 mode.X))).outs ≡ the_push 1 1 (push.Grant 1 (held 0 11 mode.X (Some (byte 1)) ∷ [])) ∷ []
-unfolding most_clients
+unfolding max_clients
 row_8_granted m e = simp (e, map.get-entries)
 
 -- A put
@@ -176,7 +176,7 @@ abbrev all_read : Index → Server
 all_read m = server m (λ n. if nat_eq n 10 then row mode.RangeXX mode.N [] else (if nat_eq n 20 then row mode.RangeSS mode.N [] else blank_row)) (session 2 2)
 
 row_10_case : (m : Index) → map.entries m ≡ two → case_of (all_read m) put_10 ≡ Judges 1 (write.Put 10 (byte 9)) outcome.Applied
-unfolding most_clients
+unfolding max_clients
 row_10_case m e = simp (e, map.get-entries)
 
 row_10_answer : (m : Index) → map.entries (map.insert m 10 (byte 9)) ≡ (10, byte 9) ∷ (20, byte 2) ∷ [] → (effect (all_read m) put_10 (Judges 1 (write.Put 10 (byte 9)) outcome.Applied)).outs ≡ the_push 0 3 (push.Answer 1 outcome.Applied (held 0 11 mode.RangeXX (Some (byte 9)))) ∷ []
@@ -194,7 +194,7 @@ abbrev deleted : Index → Done
 deleted m = effect (all_held m) delete_10 (Judges 1 (write.Delete 10) outcome.Applied)
 
 row_12_case : (m : Index) → map.entries m ≡ two → case_of (all_held m) delete_10 ≡ Judges 1 (write.Delete 10) outcome.Applied
-unfolding most_clients
+unfolding max_clients
 row_12_case m e = simp (e, map.get-entries)
 
 row_12_answer : (m : Index) → map.entries m ≡ two → map.entries (map.remove m 10) ≡ (20, byte 2) ∷ [] → (deleted m).outs ≡ the_push 0 3 (push.Answer 1 outcome.Applied (held 0 21 mode.RangeXX (Some (byte 2)))) ∷ []
@@ -216,7 +216,7 @@ abbrev report : ToServer
 report = record { client = 0; incarnation = 1; body = said.Report 2 pieces }
 
 row_12_report : (m : Index) → map.entries (map.remove m 10) ≡ (20, byte 2) ∷ [] → case_of (restarted m) report ≡ Rebuilds pieces
-unfolding most_clients
+unfolding max_clients
 row_12_report m f = simp f
 
 abbrev reported : Index → Rows
@@ -235,7 +235,7 @@ row_12_key : (m : Index) → map.entries (map.remove m 10) ≡ (20, byte 2) ∷ 
 row_12_key m f = simp (f, map.get-entries, adopted, is_slot)
 
 row_12_again : (m : Index) → case_of (record (restarted m) { missing = [] }) (record { client = 0; incarnation = 1; body = said.Request (record { epoch = 2; seen = 0; body = asked.Write 1 (write.Delete 10) }) }) ≡ AnswersAgain 1 (write.Delete 10) outcome.Applied
-unfolding most_clients
+unfolding max_clients
 row_12_again m = refl
 
 -- Two that read one entry ask for it alone: the later goes to the front, and calls the earlier back
@@ -256,7 +256,7 @@ row_18_callbacks : (m : Index) → map.entries m ≡ (10, byte 1) ∷ [] → cal
 row_18_callbacks m e = simp e
 
 row_18_turn : (m : Index) → map.entries m ≡ (10, byte 1) ∷ [] → next_turn (converting m mode.N mode.S (waiter 1 2 10 mode.X ∷ waiter 0 2 10 mode.X ∷ [])) ≡ Some (turn 10 (waiter 1 2 10 mode.X))
-unfolding most_clients
+unfolding max_clients
 row_18_turn m e = simp (e, map.get-entries)
 
 row_18_then : (m : Index) → map.entries m ≡ (10, byte 1) ∷ [] → callbacks_from (converting m mode.N mode.X []) 10 (waiter 0 2 10 mode.X) 0 3 ≡ record { client = 1; incarnation = 1; body = told.Callback 1 below_11 mode.RangeIN } ∷ []

@@ -4,27 +4,30 @@ use Rattle.krl_messages.specs.declared.to_client.ToClient.{ToClient}
 use Rattle.krl_messages.specs.declared.to_server.ToServer.{ToServer}
 use Rattle.krl_table.specs.declared.first.FirstWaiter.{FirstWaiter}
 use Rattle.krl_table.specs.Kept.{mode_of}
-use Rattle.krl_table.specs.Rows.{most_clients, mode_at, front_of, waits}
-use Rattle.krl_table.specs.Waiters.{NobodyWaits}
+use Rattle.krl_table.specs.Rows.{mode_at, waits}
+use Rattle.krl_table.specs.Waiters.{front_of, NobodyWaits}
 use Rattle.krl_server.specs.declared.case.Case.{Case as Found}
 use Rattle.krl_server.specs.declared.case.Case.TheVariants as found
 use Rattle.krl_server.specs.declared.out.ServerOut.{ServerOut}
 use Rattle.krl_durable.specs.declared.record.Record.{Record}
 use Rattle.krl_durable.specs.Registers.{Durable}
 use Rattle.krl_server.specs.declared.start_refused.NotStarted.{NotStarted}
-use Rattle.krl_server.specs.declared.start_refused.StartRefused.{StartRefused}
-use Rattle.krl_server.specs.declared.start_refused.StartRefused.TheVariants as refused
+use Rattle.krl_server.specs.declared.start_refused.ServerNotStarted.{ServerNotStarted}
+use Rattle.krl_server.specs.declared.start_refused.ServerNotStarted.TheVariants as not_started
 use Rattle.krl_server.specs.declared.state.State.{State}
 use Rattle.krl_server.specs.declared.case.After.{After}
 use Rattle.krl_server.specs.Afters.{does_answer, does_call}
 use Rattle.krl_server.specs.Termination.{waiting}
 use Rattle.krl_server.specs.Servers.{Server, is_recovering}
-use Rattle.krl_server.specs.StateMeaning.{meaning, IsFormed, after_of}
+use Rattle.krl_server.specs.StateMeaning.{meaning}
+use Rattle.krl_server.specs.FoundCases.{IsFormed, after_of}
 use Rattle.krl_server.specs.Outboxes.{Sent, Sends}
 use Rattle.krl_server.specs.Cases.{case_of}
 use Rattle.krl_modes.specs.declared.mode.Mode.{Mode}
 use Rattle.krl_modes.specs.Modes.{compatible, cap}
 use Rattle.krl_modes.specs.Spans.{Bounds}
+use Rattle.krl_modes.specs.declared.limits.TheConstants.{MAX_CLIENTS}
+use Rattle.krl_modes.specs.Limits.{max_clients}
 use Rattle.krl_durable.specs.Index.{span_of, is_slot}
 use Rattle.krl_table.specs.Calls.{wanted}
 use Rattle.krl_server.specs.Effects.{callback_to, effect}
@@ -32,7 +35,8 @@ use Rattle.krl_server.specs.Changes.{change_of}
 use Rattle.krl_server.specs.Answering.{Turn, turn_at, answer_first, Answered}
 use Rattle.krl_queue.specs.declared.waiter.Waiter.{Waiter}
 use Rattle.krl_server.specs.Callbacks.{is_compatible, callbacks_for, callbacks_of, callbacks}
-use Rattle.krl_server.specs.Steps.{ServerStep, IsSettled, alarms, start, can_start}
+use Rattle.krl_server.specs.Steps.{ServerStep, alarms, start, can_start}
+use Rattle.krl_server.specs.Settled.{IsSettled}
 use Rattle.krl_server.specs.Soundness.{IsSound}
 use Rattle.krl_server.specs.Invariant.{IsOrdered}
 use Rattle.krl_server.specs.Ranges.{IsWithin, AreRegistered}
@@ -82,7 +86,7 @@ callback_if s n u d =
 -- f is what the table tells of the first waiter of slot n
 pub record IsFirst (s : Server) (n : ℕ) (f : FirstWaiter) : Type 0 where
   pub waiter : front_of (s.rows n).queue ≡ Some f.waiter
-  pub client : f.waiter.client < 64
+  pub client : f.waiter.client < MAX_CLIENTS
   pub span : f.span ≡ span_of s.durable.index n
   pub modes : (c : ℕ) → mode_of f.modes c ≡ mode_at s.rows n c
 
@@ -128,7 +132,7 @@ pub record HasFinished (s : Server) (left : After) (t : Server) (old new : Sent)
 -- there is room for what is left to be sent
 pub record HasRoom (s : Server) (left : After) (box : Sent) : Type 0 where
   pub answers : does_answer left ≡ true → length box.sent + waiting s ≤ box.room
-  pub calls : does_call left ≡ true → length box.sent + 64 * waiting s ≤ box.room
+  pub calls : does_call left ≡ true → length box.sent + MAX_CLIENTS * waiting s ≤ box.room
 
 -- the client whose report contradicts what the server knows
 abbrev pub alarm_of : Server → ToServer → Option ℕ
@@ -147,7 +151,7 @@ count_below (suc n) f = (if f n then 1 else 0) + count_below n f
 
 -- how many clients wait
 abbrev pub waiting_clients : Server → ℕ
-waiting_clients s = count_below most_clients (waits s.durable.index s.rows)
+waiting_clients s = count_below max_clients (waits s.durable.index s.rows)
 
 -- how many messages a case sends itself, at the most
 abbrev pub own_of : Found → ℕ
@@ -160,22 +164,22 @@ own_of found.Repeats = 1
 own_of found.Acknowledges = 0
 own_of (found.Lowers span keep) = 0
 own_of (found.Waits req point hi g) = 0
-own_of (found.Writes number op) = 1
+own_of (found.Judges number op) = 1
 own_of (found.AnswersAgain number op o) = 1
 
--- how many messages a step can send, where so many clients wait
+-- how many messages a step can send, if so many clients wait
 abbrev pub room_for : ℕ → Found → ℕ
 room_for n found.Ignored = 0
-room_for n found.Registers = 1 + 64 * n
-room_for n found.Leaves = 64 * n
+room_for n found.Registers = 1 + MAX_CLIENTS * n
+room_for n found.Leaves = MAX_CLIENTS * n
 room_for n found.Tells = 1
-room_for n found.Reports = 64 * n
+room_for n found.Reports = MAX_CLIENTS * n
 room_for n found.Repeats = 1
-room_for n found.Acknowledges = 64 * n
+room_for n found.Acknowledges = MAX_CLIENTS * n
 room_for n (found.Lowers span keep) = n
-room_for n (found.Waits req point hi g) = 64 * (n + 1)
-room_for n (found.Writes number op) = 1 + 64 * n
-room_for n (found.AnswersAgain number op o) = 1 + 64 * n
+room_for n (found.Waits req point hi g) = MAX_CLIENTS * (n + 1)
+room_for n (found.Judges number op) = 1 + MAX_CLIENTS * n
+room_for n (found.AnswersAgain number op o) = 1 + MAX_CLIENTS * n
 
 -- What holds of the state of every server between two steps
 pub record IsServer (st : State) : Type 0 where
@@ -189,9 +193,9 @@ pub record IsServer (st : State) : Type 0 where
 -- Starts
 
 -- why a start is refused: there is no epoch for it; or there is one, and memory was not there
-abbrev pub IsReason : Durable → StartRefused → Type 0
-IsReason d refused.Spent = can_start d ≡ false
-IsReason d refused.OutOfMemory = can_start d ≡ true
+abbrev pub IsReason : Durable → ServerNotStarted → Type 0
+IsReason d not_started.Spent = can_start d ≡ false
+IsReason d not_started.OutOfMemory = can_start d ≡ true
 
 -- a start that was refused gives back what it would have started on
 pub record IsNotStarted (d : Durable) (e : NotStarted) : Type 0 where

@@ -52,11 +52,6 @@ epoch_to s c = out_to s c (told.Epoch s.durable.epoch)
 abbrev pub push_to : Server → ℕ → ℕ → PushBody → ToClient
 push_to s c number body = out_to s c (told.Push s.durable.epoch number body)
 
--- the push that is not acknowledged, once more
-abbrev pub pushed_again : Server → ℕ → Option PushBody → List ToClient
-pushed_again s c None = []
-pushed_again s c (Some body) = push_to s c (s.sessions c).last_push body ∷ []
-
 abbrev pub callback_to : Server → ℕ → Bounds → Mode → ToClient
 callback_to s c span keep = out_to s c (told.Callback s.durable.epoch span keep)
 
@@ -136,7 +131,7 @@ rows_after m rows c op outcome.Full = rows
 abbrev pub writes : Server → ℕ → WriteOp → Outcome → Server
 writes s c op o = record s { durable = applied s.durable c op o; rows = rows_after s.durable.index s.rows c op o }
 
--- the next push to the client. Where its number is spent none is made
+-- the next push to the client. If its number is spent none is made
 abbrev pub pushes : Server → ℕ → PushBody → Done
 pushes s c body =
     if nat_lt (s.sessions c).last_push END

@@ -10,7 +10,8 @@ use Rattle.krl_server.specs.Servers.{Server}
 use Rattle.krl_server.specs.Cases.{case_of}
 use Rattle.krl_server.specs.Effects.{effect}
 use Rattle.krl_server.specs.Answering.{Turn, next_turn, answer_first}
-use Rattle.krl_server.specs.Steps.{ServerStep, IsSettled, start}
+use Rattle.krl_server.specs.Steps.{ServerStep, start}
+use Rattle.krl_server.specs.Settled.{IsSettled}
 use Rattle.krl_server.specs.Soundness.{IsSound}
 
 -- the table and the register are in order

@@ -3,9 +3,11 @@ pub mod StateMeaning
 pub mod Afters
 pub mod Outboxes
 pub mod Cases
+pub mod FoundCases
 pub mod Effects
 pub mod Changes
 pub mod Answering
+pub mod Settled
 pub mod Callbacks
 pub mod Steps
 pub mod Soundness

@@ -3,6 +3,7 @@
 use Rattle.std.specs.Prelude.{◌≡◌, ℕ, ◌≤◌, ◌<◌, true, false, Some, List, [], ◌∷◌, length}
 use Rattle.std.specs.FinMap as map
 use Rattle.krl_modes.specs.declared.point.TheConstants.{END}
+use Rattle.krl_modes.specs.Limits.{max_clients}
 use Rattle.krl_messages.specs.declared.to_server.ToServer.{ToServer}
 use Rattle.krl_messages.specs.declared.to_client.ToClient.{ToClient}
 use Rattle.krl_messages.specs.Members.{In}
@@ -10,7 +11,6 @@ use Rattle.krl_queue.specs.declared.waiter.Waiter.{Waiter}
 use Rattle.krl_durable.specs.declared.record.Record.{Record}
 use Rattle.krl_durable.specs.Registers.{Register, Durable, record_of}
 use Rattle.krl_durable.specs.Writes.{IsRoom}
-use Rattle.krl_table.specs.Rows.{most_clients}
 use Rattle.krl_server.specs.Servers.{Server, lists}
 use Rattle.krl_server.specs.Cases.{case_of}
 use Rattle.krl_server.specs.Effects.{effect}
@@ -29,7 +29,7 @@ clients_of (e ∷ es) = e.0 ∷ clients_of es
 
 -- the client is one, and its record's numbers are within END
 abbrev pub IsEntry : ℕ → Record → Type 0
-IsEntry c r = (c < most_clients) × (1 ≤ r.incarnation) × (r.incarnation ≤ END) × (r.last ≤ END)
+IsEntry c r = (c < max_clients) × (1 ≤ r.incarnation) × (r.incarnation ≤ END) × (r.last ≤ END)
 
 pub record IsDurableWithin (d : Durable) : Type 0 where
   pub epoch : d.epoch ≤ END
@@ -62,5 +62,5 @@ pub record ServerWithin : Type 0 where
   pub registered_start : (d : Durable) → AreRegistered (start d)
   pub start : (d : Durable) → can_start d ≡ true → IsDurableWithin d → IsWithin (start d)
   -- there are no more records than clients, and no more are missing
-  pub few_known : (d : Durable) → IsDurableWithin d → length d.register ≤ most_clients
-  pub few_missing : (s : Server) → IsWithin s → length s.missing ≤ most_clients
+  pub few_known : (d : Durable) → IsDurableWithin d → length d.register ≤ max_clients
+  pub few_missing : (s : Server) → IsWithin s → length s.missing ≤ max_clients

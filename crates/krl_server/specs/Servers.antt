@@ -5,8 +5,6 @@ use Rattle.krl_durable.specs.declared.record.Record.{Record}
 use Rattle.krl_durable.specs.Registers.{Durable, record_of}
 use Rattle.krl_table.specs.Rows.{Rows}
 use Rattle.krl_server.specs.declared.session.Session.{Session}
-use Rattle.krl_server.specs.declared.phase.Phase.{Phase}
-use Rattle.krl_server.specs.declared.phase.Phase.TheVariants as phase
 
 pub record Server : Type 0 where
   pub durable : Durable
@@ -22,10 +20,6 @@ blank_session = record { last_push = 0; unacked = None; last_request = 0 }
 abbrev pub is_recovering : List ℕ → Bool
 is_recovering [] = false
 is_recovering (c ∷ cs) = true
-
-abbrev pub phase_of : List ℕ → Phase
-phase_of [] = phase.Serving
-phase_of (c ∷ cs) = phase.Recovering
 
 -- the client stands in the list
 abbrev pub lists : List ℕ → ℕ → Bool

@@ -7,7 +7,8 @@ use Rattle.krl_table.specs.Rows.{Rows}
 use Rattle.krl_table.specs.Sound.{IsTable}
 use Rattle.krl_server.specs.Servers.{Server, is_recovering}
 use Rattle.krl_server.specs.Answering.{Answered}
-use Rattle.krl_server.specs.Steps.{ServerStep, IsSettled, nudge}
+use Rattle.krl_server.specs.Steps.{ServerStep, nudge}
+use Rattle.krl_server.specs.Settled.{IsSettled}
 use Rattle.krl_server.specs.Soundness.{IsSound}
 
 -- how many wait on these slots
@@ -20,8 +21,8 @@ abbrev pub waiting : Server → ℕ
 waiting s = waiting_on s.rows (slots s.durable.index)
 
 -- the most messages of a step or nudge
-unfoldable pub most_messages : ℕ
-most_messages = 4097
+unfoldable pub max_messages : ℕ
+max_messages = 4097
 
 pub record StepsEnd : Type 0 where
   -- each message has an outcome, and one alone
@@ -31,8 +32,8 @@ pub record StepsEnd : Type 0 where
   -- each answer is to one who waits no more
   pub answers : (s t : Server) (outs : List ToClient) → Answered s t outs → waiting t + length outs ≤ waiting s
   pub few : (s t : Server) (m : ToServer) (outs : List ToClient) → IsSound s → IsTable s.durable.index s.rows →
-      ServerStep s m t outs → length outs ≤ most_messages
+      ServerStep s m t outs → length outs ≤ max_messages
   -- while a settled server serves, there is nobody to answer: so a nudge answers nobody
   pub nobody_left : (s : Server) → IsSettled s → is_recovering s.missing ≡ false → Answered s s []
   pub few_nudged : (s : Server) (c : ℕ) → IsSound s → IsTable s.durable.index s.rows →
-      length (nudge s c) ≤ most_messages
+      length (nudge s c) ≤ max_messages

@@ -1,10 +1,10 @@
 -- Who waits for whom, and who holds what: what an operator sees of a server.
 use Rattle.std.specs.Prelude.{◌≡◌, ℕ, zero, suc, Bool, false, not, ◌||◌, List, [], ◌∷◌, Option, None, Some, if◌then◌else◌}
+use Rattle.krl_modes.specs.Limits.{max_clients}
 use Rattle.krl_queue.specs.declared.waiter.Waiter.{Waiter}
-use Rattle.krl_queue.specs.Waiting.{goes_before}
+use Rattle.krl_queue.specs.Turns.{goes_before}
 use Rattle.krl_durable.specs.Index.{slot_of}
-use Rattle.krl_table.specs.Rows as table
-use Rattle.krl_table.specs.Rows.{most_clients}
+use Rattle.krl_table.specs.Waiters as waiters
 use Rattle.krl_table.specs.Holds.{AreHeld, IsNextHeld}
 use Rattle.krl_messages.specs.declared.holding.Holding.{Holding}
 use Rattle.krl_server.specs.Effects.{holding}
@@ -13,10 +13,10 @@ use Rattle.krl_server.specs.Callbacks.{is_compatible}
 
 -- how the client waits
 abbrev pub waiter_of : Server → ℕ → Option Waiter
-waiter_of s c = table.waiter_of s.durable.index s.rows c
+waiter_of s c = waiters.waiter_of s.durable.index s.rows c
 
--- the client d is in the way of the waiter u of slot n: it waits there before it, or what it holds there does not go
--- beside what u wants
+-- the client d is in the way of the waiter u of slot n: it waits there before it, or what it holds there is not
+-- compatible with what u wants
 abbrev pub is_in_the_way : Server → ℕ → Waiter → ℕ → Bool
 is_in_the_way s n u d = goes_before u.client d (s.rows n).queue || not (is_compatible s n u d)
 
@@ -35,7 +35,7 @@ waited_from s c d (suc k) = if waits_for s c d then d ∷ waited_from s c (suc d
 
 -- the clients that c waits for, in ascending order
 abbrev pub waited_for : Server → ℕ → List ℕ
-waited_for s c = waited_from s c 0 most_clients
+waited_for s c = waited_from s c 0 max_clients
 
 -- the client holds this on the first slot from this point on where its mode is not N
 abbrev pub IsNextHolding : Server → ℕ → ℕ → Holding → Type 0

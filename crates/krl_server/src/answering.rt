@@ -1,15 +1,17 @@
 //! Answers to those who wait.
 ghost use Rattle.std.specs.Prelude.{◌≡◌, ◌<◌, ◌≤◌, ◌+◌, length, IfSome, Some, None, true, false};
 ghost use Rattle.krl_durable.specs.Index.{is_slot};
-ghost use Rattle.krl_table.specs.Rows.{front_of};
+ghost use Rattle.krl_table.specs.Waiters.{front_of};
 ghost use Rattle.krl_table.specs.Replies.{is_wanted_compatible};
 ghost use Rattle.krl_table.specs.Sound.{IsTable};
 ghost use Rattle.krl_server.specs.Outboxes.{Sends};
 ghost use Rattle.krl_server.specs.Answering.{grants, tells_absent};
-ghost use Rattle.krl_server.specs.StateMeaning.{meaning, IsFormed};
+ghost use Rattle.krl_server.specs.StateMeaning.{meaning};
+ghost use Rattle.krl_server.specs.FoundCases.{IsFormed};
 ghost use Rattle.krl_server.specs.Termination.{waiting};
 ghost use Rattle.krl_server.specs.Soundness.{IsSound};
 ghost use Rattle.krl_server.specs.CodeSteps.{turn_here, HasAnsweredFirst, HasAnswered, HaveWaiters};
+ghost use Rattle.krl_modes.specs.declared.limits.TheConstants.{MAX_CLIENTS};
 
 use crate::out::Outbox;
 use crate::state::State;
@@ -22,7 +24,7 @@ impl State {
     /// may take beside, and sends it the grant.
     fn grant(&mut self, slot: u64, waiter: &Waiter, outbox: &mut Outbox)
         requires formed { IsFormed self.old }
-        requires client { waiter.now.client < 64 }
+        requires client { waiter.now.client < MAX_CLIENTS }
         requires sound { IsSound (meaning self.old) }
         requires slot { is_slot self.old.durable.index slot ≡ true }
         requires first { front_of ((meaning self.old).rows slot).queue ≡ Some waiter.now }
@@ -47,7 +49,7 @@ impl State {
     /// Tells the slot's first waiter that there is no entry.
     fn tell_absent(&mut self, slot: u64, waiter: &Waiter, outbox: &mut Outbox)
         requires formed { IsFormed self.old }
-        requires client { waiter.now.client < 64 }
+        requires client { waiter.now.client < MAX_CLIENTS }
         requires room { length outbox.old.sent < outbox.old.room }
         ensures server { meaning self.new
             ≡ (tells_absent (meaning self.old)
@@ -64,7 +66,7 @@ impl State {
         self.push(waiter.client, &body, outbox);
     }
 
-    /// Answers the slot's first waiter where that is possible, and says whether it was. Where it
+    /// Answers the slot's first waiter if that is possible, and says whether it was. If it
     /// was not, nothing changes and nothing is sent.
     fn answer_first(&mut self, slot: u64, outbox: &mut Outbox) -> bool
         requires formed { IsFormed self.old }

@@ -6,7 +6,9 @@ ghost use Rattle.krl_server.specs.Cases.{case_of};
 ghost use Rattle.krl_server.specs.Effects.{acknowledged, queues};
 ghost use Rattle.krl_server.specs.CodeSteps.{IsServer, HasAnsweredFirst, HasStepped};
 ghost use Rattle.krl_server.specs.Soundness.{IsSound};
-ghost use Rattle.krl_server.specs.StateMeaning.{meaning, meant, IsFormed};
+ghost use Rattle.krl_server.specs.StateMeaning.{meaning};
+ghost use Rattle.krl_server.specs.FoundCases.{meant, IsFormed};
+ghost use Rattle.krl_modes.specs.declared.limits.TheConstants.{MAX_CLIENTS};
 
 use crate::case::Case;
 use crate::out::{Outbox, ServerOut};
@@ -17,15 +19,15 @@ use krl_queue::Waiter;
 use std::alloc::{AllocError, Global};
 
 impl State {
-    /// Takes a lock request, grants it and sends the grant, where nobody waits on its slot: the
+    /// Takes a lock request, grants it and sends the grant, if nobody waits on its slot: the
     /// lock is found free in one search, and the waiter takes no place in a queue. The last push
     /// counts as acknowledged. It takes no memory.
     ///
-    /// It answers `false`, and nothing changes and nothing is sent, where the request has to wait
-    /// or to hear that there is no entry, and where the number of the next push is spent.
+    /// It answers `false`, and nothing changes and nothing is sent, if the request has to wait
+    /// or to hear that there is no entry, and if the number of the next push is spent.
     fn grant_at_once(&mut self, waiter: &Waiter, outbox: &mut Outbox) -> bool
         requires formed { IsFormed self.old }
-        requires client { waiter.now.client < 64 }
+        requires client { waiter.now.client < MAX_CLIENTS }
         requires sound { IsSound (meaning self.old) }
         requires room { length outbox.old.sent < outbox.old.room }
         ensures answered { result ≡ true → HasAnsweredFirst
@@ -56,11 +58,11 @@ impl State {
 
     /// The step of a lock request that can be granted at once, while the server serves. Nobody else
     /// can be answered then: who waits at other slots still does, and is called back for. None, and
-    /// nothing has changed, where it is another message, or the request has to wait.
+    /// nothing has changed, if it is another message, or the request has to wait.
     ///
     /// # Errors
     ///
-    /// `AllocError` where the memory for the messages is refused. Nothing has changed then.
+    /// `AllocError` if the memory for the messages is refused. Nothing has changed then.
     pub(crate) fn step_at_once(
         &mut self,
         alloc: Global,

@@ -6,17 +6,19 @@ ghost use Rattle.krl_server.specs.Soundness.{IsSound};
 ghost use Rattle.krl_table.specs.Kept.{mode_of};
 ghost use Rattle.krl_server.specs.Outboxes.{Sends};
 ghost use Rattle.krl_server.specs.CodeSteps.{call_if, IsFirst, HaveWaiters};
-ghost use Rattle.krl_server.specs.StateMeaning.{meaning, IsFormed};
+ghost use Rattle.krl_server.specs.StateMeaning.{meaning};
+ghost use Rattle.krl_server.specs.FoundCases.{IsFormed};
+ghost use Rattle.krl_modes.specs.declared.limits.TheConstants.{MAX_CLIENTS};
 
 use crate::out::Outbox;
 use crate::state::State;
-use krl_modes::{Mode, Span};
+use krl_modes::{MAX_CLIENTS, Mode, Span};
 use krl_queue::Waiter;
 use krl_table::FirstWaiter;
 
 // The client's mode.
-fn mode_of(modes: &[Mode; 64], client: u64) -> Mode
-    requires { client < 64 }
+fn mode_of(modes: &[Mode; MAX_CLIENTS], client: u64) -> Mode
+    requires { client < MAX_CLIENTS }
     ensures { result ≡ mode_of modes.now client }
 {
     modes[client as usize]

@@ -36,7 +36,7 @@ pub(crate) enum Case {
         mode: Mode,
     },
     /// A new write.
-    Writes {
+    Judges {
         number: u64,
         op: WriteOp,
     },

@@ -1,26 +1,28 @@
 //! Which case a message meets, in the order of judging.
 ghost use Rattle.std.specs.Prelude.{◌≡◌, ◌<◌, ℕ, suc, nat_eq, Some};
 ghost use Rattle.krl_table.specs.Rows.{waits};
-ghost use Rattle.krl_server.specs.StateMeaning.{meaning, meant, sessions_of, IsFormed};
+ghost use Rattle.krl_server.specs.StateMeaning.{meaning, sessions_of};
+ghost use Rattle.krl_server.specs.FoundCases.{meant, IsFormed};
 ghost use Rattle.krl_messages.specs.declared.to_server.ToServerBody.{ToServerBody};
 ghost use Rattle.krl_server.specs.Servers.{Server};
 ghost use Rattle.krl_server.specs.Cases.{is_malformed, case_of, case_of_record, case_of_newer};
 ghost use Rattle.krl_server.specs.Cases.{case_of_body, case_of_request, case_of_seen, case_of_late};
 ghost use Rattle.krl_server.specs.Cases.{case_of_lock, case_of_write, case_of_last, is_bad_write};
+ghost use Rattle.krl_modes.specs.declared.limits.TheConstants.{MAX_CLIENTS};
 
 use crate::case::Case;
 use crate::session::Session;
 use crate::state::State;
 use krl_durable::Record;
 use krl_messages::{Outcome, Request, RequestBody, ToServer, ToServerBody, WriteOp};
-use krl_modes::{END, Mode, Point, TOP};
+use krl_modes::{END, MAX_CLIENTS, Mode, Point, TOP};
 
 /// Whether the sender's number or incarnation is none of a client.
 #[tactic(auto, using(crate::proofs::Outputs::Numbers::sixty_four))]
 fn is_malformed(message: &ToServer) -> bool
     ensures { result ≡ is_malformed message.now }
 {
-    message.client > 63 || message.incarnation == 0 || message.incarnation > END
+    message.client >= MAX_CLIENTS as u64 || message.incarnation == 0 || message.incarnation > END
 }
 
 /// Whether the request is the one after the last that was taken.
@@ -84,7 +86,7 @@ fn case_of_write(known: &Record, number: u64, op: WriteOp) -> Case
     if is_bad_write(number, asked) {
         Case::Acknowledges
     } else if number - 1 == known.last {
-        Case::Writes { number, op }
+        Case::Judges { number, op }
     } else if number == known.last {
         case_of_last(number, op, known.outcome)
     } else {
@@ -111,7 +113,7 @@ impl State {
     /// The case of a message of a client that ever registered.
     fn case_of_record(&self, message: &ToServer, known: &Record) -> Case
         requires formed { IsFormed self.now }
-        requires client { message.now.client < 64 }
+        requires client { message.now.client < MAX_CLIENTS }
         ensures { meant (meaning self.now) message.now.client message.now.body result
             ≡ case_of_record (meaning self.now) message.now (Some known.now) }
     {
@@ -127,7 +129,7 @@ impl State {
     /// The case of what the registered incarnation says, which has not left.
     fn case_of_body(&self, client: u64, known: &Record, body: &ToServerBody) -> Case
         requires formed { IsFormed self.now }
-        requires client { client < 64 }
+        requires client { client < MAX_CLIENTS }
         ensures { meant (meaning self.now) client body.now result
             ≡ case_of_body (meaning self.now) client known.now body.now }
     {
@@ -158,7 +160,7 @@ impl State {
     /// The case of a request of this epoch, by the last push that its sender has seen.
     fn case_of_seen(&self, client: u64, known: &Record, request: &Request) -> Case
         requires formed { IsFormed self.now }
-        requires client { client < 64 }
+        requires client { client < MAX_CLIENTS }
         ensures { (b : ToServerBody)
             → meant (meaning self.now) client b result
             ≡ case_of_seen (meaning self.now) client known.now request.now }
@@ -180,7 +182,7 @@ impl State {
         body: &RequestBody,
     ) -> Case
         requires formed { IsFormed self.now }
-        requires client { client < 64 }
+        requires client { client < MAX_CLIENTS }
         requires session { session.now ≡ sessions_of self.now.sessions client }
         ensures { (b : ToServerBody)
             → meant (meaning self.now) client b result
@@ -210,7 +212,7 @@ impl State {
         mode: Mode,
     ) -> Case
         requires formed { IsFormed self.now }
-        requires client { client < 64 }
+        requires client { client < MAX_CLIENTS }
         requires session { session.now ≡ sessions_of self.now.sessions client }
         ensures { (b : ToServerBody)
             → meant (meaning self.now) client b result
@@ -239,7 +241,7 @@ impl State {
     /// Whether the client waits.
     pub(crate) fn waits(&self, client: u64) -> bool
         requires formed { IsFormed self.now }
-        requires client { client < 64 }
+        requires client { client < MAX_CLIENTS }
         ensures { result ≡ waits self.now.durable.index (meaning self.now).rows client }
     {
         self.table.waiter_of(client).is_some()

@@ -6,15 +6,17 @@ ghost use Rattle.krl_messages.specs.Writes.{op_key};
 ghost use Rattle.krl_durable.specs.Registers.{IsIncarnation, record_of};
 ghost use Rattle.krl_table.specs.Reports.{conflicts};
 ghost use Rattle.krl_table.specs.Sound.{IsTable};
-ghost use Rattle.krl_server.specs.StateMeaning.{meaning, IsFormed};
+ghost use Rattle.krl_server.specs.StateMeaning.{meaning};
+ghost use Rattle.krl_server.specs.FoundCases.{IsFormed};
 ghost use Rattle.krl_server.specs.Outboxes.{Sends};
 ghost use Rattle.krl_table.specs.Waiters.{WaitsNowhere};
 ghost use Rattle.krl_durable.specs.Writes.{index_after};
-ghost use Rattle.krl_table.specs.Kept.{IsOver};
+ghost use Rattle.krl_table.specs.KeptRows.{IsOver};
 ghost use Rattle.krl_server.specs.Cases.{judged};
 ghost use Rattle.krl_server.specs.Effects.{rows_after, registers, departs, adopts, acknowledged};
 ghost use Rattle.krl_server.specs.Effects.{lowers};
 ghost use Rattle.krl_server.specs.Effects.{queues, writes, answers};
+ghost use Rattle.krl_modes.specs.declared.limits.TheConstants.{MAX_CLIENTS};
 
 use crate::out::Outbox;
 use crate::state::State;
@@ -30,10 +32,10 @@ impl State {
     ///
     /// # Errors
     ///
-    /// `AllocError` where the memory for a new client is refused. Nothing has changed then.
+    /// `AllocError` if the memory for a new client is refused. Nothing has changed then.
     pub(crate) fn register(&mut self, client: u64, incarnation: u64) -> Result<(), AllocError>
         requires formed { IsFormed self.old }
-        requires client { client < 64 }
+        requires client { client < MAX_CLIENTS }
         requires incarnation { IsIncarnation incarnation }
         ensures registers { OnOk result
             (meaning self.new ≡ registers (meaning self.old) client incarnation) }
@@ -50,7 +52,7 @@ impl State {
     /// The client has left: it holds nothing, waits no more, and nobody waits for its report.
     pub(crate) fn depart(&mut self, client: u64)
         requires formed { IsFormed self.old }
-        requires client { client < 64 }
+        requires client { client < MAX_CLIENTS }
         requires known { IsSome (record_of self.old.durable.register client) }
         ensures departs { meaning self.new ≡ departs (meaning self.old) client }
         ensures formed { IsFormed self.new }
@@ -66,7 +68,7 @@ impl State {
     ///
     /// # Errors
     ///
-    /// `AllocError` where the memory for a report in order is refused. Nothing has changed then.
+    /// `AllocError` if the memory for a report in order is refused. Nothing has changed then.
     pub(crate) fn report(
         &mut self,
         alloc: Global,
@@ -74,7 +76,7 @@ impl State {
         pieces: &Pieces,
     ) -> Result<bool, AllocError>
         requires formed { IsFormed self.old }
-        requires client { client < 64 }
+        requires client { client < MAX_CLIENTS }
         ensures contradicts { IfOk result (λ contradicts. contradicts
             ≡ conflicts self.old.durable.index (meaning self.old).rows client pieces.now) }
         ensures adopts { IfOk result (λ contradicts. meaning self.new
@@ -94,7 +96,7 @@ impl State {
     /// `true`, and nothing has changed.
     fn adopt_report(&mut self, client: u64, pieces: &Pieces) -> bool
         requires formed { IsFormed self.old }
-        requires client { client < 64 }
+        requires client { client < MAX_CLIENTS }
         ensures contradicts { result
             ≡ conflicts self.old.durable.index (meaning self.old).rows client pieces.now }
         ensures adopts { meaning self.new
@@ -112,7 +114,7 @@ impl State {
     /// The last push counts as acknowledged, and the client's modes on the span are lowered.
     pub(crate) fn lower(&mut self, client: u64, span: Span, keep: Mode)
         requires formed { IsFormed self.old }
-        requires client { client < 64 }
+        requires client { client < MAX_CLIENTS }
         ensures lowers { meaning self.new
             ≡ lowers (acknowledged (meaning self.old) client) client span keep }
         ensures formed { IsFormed self.new }
@@ -124,7 +126,7 @@ impl State {
     /// The last push counts as acknowledged, and a lock request is taken.
     pub(crate) fn enqueue(&mut self, node: WaitNode)
         requires formed { IsFormed self.old }
-        requires client { node.client < 64 }
+        requires client { node.client < MAX_CLIENTS }
         requires free { WaitsNowhere (meaning self.old).rows node.client }
         ensures queues { meaning self.new
             ≡ queues (acknowledged (meaning self.old) node.client) node }
@@ -138,7 +140,7 @@ impl State {
     /// Judges the client's next write, and does and notes it. It takes no memory.
     pub(crate) fn write(&mut self, client: u64, op: WriteOp) -> Outcome
         requires formed { IsFormed self.old }
-        requires client { client < 64 }
+        requires client { client < MAX_CLIENTS }
         requires key { op_key op < END }
         requires unspent { IsSomeAnd (record_of self.old.durable.register client)
             (λ r. r.last < END) }
@@ -146,6 +148,7 @@ impl State {
         ensures writes { meaning self.new ≡ writes (meaning self.old) client op result }
         ensures formed { IsFormed self.new }
     {
+        // Copies: the prover takes a value that is handed on as moved.
         let (needed, judged, slots) = (*&op, *&op, *&op);
         let held = self.table.held(&self.durable, client, needed);
         let outcome = self.durable.judge(judged, held);
@@ -157,7 +160,7 @@ impl State {
     /// An insert that is applied makes a slot, and a delete takes one away. It takes no memory.
     fn change_slots(&mut self, client: u64, op: WriteOp, outcome: Outcome)
         requires formed { IsFormed self.old }
-        requires client { client < 64 }
+        requires client { client < MAX_CLIENTS }
         requires key { op_key op < END }
         requires judged { judged (meaning self.old) client op ≡ outcome }
         ensures rows { (meaning self.new).rows
@@ -189,7 +192,7 @@ impl State {
         outbox: &mut Outbox,
     )
         requires formed { IsFormed self.old }
-        requires client { client < 64 }
+        requires client { client < MAX_CLIENTS }
         requires key { op_key op < END }
         requires room { length outbox.old.sent < outbox.old.room }
         ensures server { meaning self.new

@@ -24,5 +24,5 @@ pub use out::ServerOut;
 pub use phase::Phase;
 pub use server::Server;
 pub use session::Session;
-pub use start_refused::{NotStarted, StartRefused};
+pub use start_refused::{NotStarted, ServerNotStarted};
 pub use state::State;

@@ -53,7 +53,7 @@ impl Missing {
     ///
     /// # Errors
     ///
-    /// `AllocError` where the copy's memory is refused.
+    /// `AllocError` if the copy's memory is refused.
     pub(crate) fn to_vec(&self, alloc: Global) -> Result<Vec<u64>, AllocError>
         ensures { IfOk result (λ clients. clients.items ≡ self.now) }
     {

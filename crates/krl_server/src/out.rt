@@ -18,7 +18,7 @@ pub struct ServerOut {
     /// The client whose report contradicts what the server knows, if the message was such a report.
     /// Nothing has changed then.
     pub alarm: Option<u64>,
-    /// What has changed in what survives. There is none exactly where that is as it was.
+    /// What has changed in what survives: None if that is unchanged.
     pub change: Option<Change>,
 }
 

@@ -1,30 +1,34 @@
 //! The server, as a host runs it.
-ghost use Rattle.std.specs.Prelude.{◌≡◌, ◌<◌, ◌≤◌, ℕ, false, [], length, MatchOption, MatchResult, IfOk, OnErr};
+ghost use Rattle.std.specs.Prelude.{◌≡◌, ◌<◌, ◌≤◌, ℕ, false, [], length, MatchOption, MatchResult};
+ghost use Rattle.std.specs.Prelude.{IfOk, OnErr};
 ghost use Rattle.krl_durable.specs.Registers.{missing_order};
 ghost use Rattle.krl_durable.specs.Changes.{IsChange};
 ghost use Rattle.krl_table.specs.Rows.{blank_row};
-ghost use Rattle.krl_table.specs.Kept.{rows_of, IsOver};
-ghost use Rattle.krl_server.specs.Servers.{blank_session, is_recovering, phase_of};
+ghost use Rattle.krl_table.specs.Kept.{rows_of};
+ghost use Rattle.krl_table.specs.KeptRows.{IsOver};
+ghost use Rattle.krl_server.specs.Servers.{blank_session, is_recovering};
+ghost use Rattle.krl_server.specs.Settled.{phase_of};
 ghost use Rattle.krl_server.specs.Answering.{Answered};
 ghost use Rattle.krl_server.specs.Steps.{nudge, crash};
-ghost use Rattle.krl_server.specs.Termination.{most_messages};
+ghost use Rattle.krl_server.specs.Termination.{max_messages};
 ghost use Rattle.krl_server.specs.StateMeaning.{meaning, sessions_of};
 ghost use Rattle.krl_server.specs.CodeSteps.{IsStarted, IsNotStarted, HasStepped, IsServer};
 ghost use Rattle.krl_server.specs.Outputs.{may_change_durable, HasCallbacks, AnswersWrite};
 ghost use Rattle.krl_server.specs.Outputs.{PushesStand};
 ghost use Rattle.krl_server.specs.Waits.{waiter_of, waited_for, HoldsNoMore, IsNextHolding};
 ghost use Rattle.krl_table.specs.Holds.{HoldsAt};
+ghost use Rattle.krl_modes.specs.declared.limits.TheConstants.{MAX_CLIENTS};
 
 use crate::missing::Missing;
 use crate::out::ServerOut;
 use crate::phase::Phase;
 use crate::sessions::Sessions;
-use crate::start_refused::{NotStarted, StartRefused};
+use crate::start_refused::{NotStarted, ServerNotStarted};
 use crate::state::State;
 use arrayvec::ArrayVec;
 use krl_durable::Durable;
 use krl_messages::{Holding, Items, ToClient, ToServer};
-use krl_modes::END;
+use krl_modes::{END, MAX_CLIENTS};
 use krl_queue::Waiter;
 use krl_table::Table;
 use std::alloc::{AllocError, Global};
@@ -32,11 +36,11 @@ use std::marker::Model;
 
 /// A server between two steps.
 ///
-/// Of every server holds, whoever sends it what: the table's rows stand at keys of the index, or at
-/// END; the modes of different clients on one slot go together; each waiter stands in the queue of
-/// the slot of its point, is the only one of its client, and its client is registered and has not
-/// left; so is who is missing, each of them once; push numbers are at most END; and while the
-/// server serves, no first waiter can be answered.
+/// This holds of every server, whoever sends it what. The table's rows stand at keys of the index,
+/// or at END. The modes of different clients on one slot are compatible. Each waiter stands in the
+/// queue of the slot of its point, is the only one of its client, and its client is registered and
+/// has not left. Each missing client is registered, has not left, and is missing once. Push numbers
+/// are at most END. While the server serves, no first waiter can be answered.
 pub struct Server {
     state: State,
 }
@@ -66,10 +70,11 @@ fn parts_of(alloc: Global, durable: &Durable) -> Result<(Table, Sessions, Missin
     ensures rows { IfOk result (λ parts. (n : ℕ) → rows_of parts.0.map n ≡ blank_row) }
     ensures slots { IfOk result (λ parts. IsOver durable.now.index parts.0.map) }
     ensures room { IfOk result (λ parts. durable.now.room < parts.0.room) }
-    ensures full { IfOk result (λ parts. length parts.1 ≡ 64) }
+    ensures full { IfOk result (λ parts. length parts.1 ≡ MAX_CLIENTS) }
     ensures blank { IfOk result (λ parts. (c : ℕ) → sessions_of parts.1 c ≡ blank_session) }
     ensures missing { IfOk result (λ parts. parts.2 ≡ missing_order durable.now.register) }
 {
+    // By its clause `kept` the prover knows what holds of all that survives.
     let _kept = durable.epoch();
     let clients = durable.missing_order(alloc)?;
     let sessions = Sessions::blank(alloc)?;
@@ -84,14 +89,14 @@ impl Server {
     ///
     /// # Errors
     ///
-    /// `NotStarted`, with what survived unchanged: `Spent` where the epoch is END, else
-    /// `OutOfMemory` where memory is refused.
+    /// `NotStarted`, with what survived unchanged: `Spent` if the epoch is END, else
+    /// `OutOfMemory` if memory is refused.
     pub fn start(alloc: Global, durable: Durable) -> Result<Server, NotStarted>
         ensures { MatchResult result (λ s. IsStarted durable (meaning s)) (IsNotStarted durable) }
     {
         if durable.epoch() >= END {
             return Err(NotStarted {
-                refused: StartRefused::Spent,
+                refused: ServerNotStarted::Spent,
                 durable,
             });
         }
@@ -109,7 +114,7 @@ impl Server {
                 })
             }
             Err(_) => Err(NotStarted {
-                refused: StartRefused::OutOfMemory,
+                refused: ServerNotStarted::OutOfMemory,
                 durable,
             }),
         }
@@ -122,17 +127,17 @@ impl Server {
     /// sends the messages.
     ///
     /// A write that is answered, new or once more, is answered first of all, by one push with the
-    /// next number; by none where the numbers are spent. Each push that is sent is the last one to
-    /// its client, which has to acknowledge it before the next. Where the message was acted upon, a
+    /// next number; by none if the numbers are spent. Each push that is sent is the last one to
+    /// its client, which has to acknowledge it before the next. If the message was acted upon, a
     /// Release apart, and the server serves then, those who block a first waiter are called back,
     /// and nobody else ever is.
     ///
-    /// A report's pieces may come in any order, and overlap. They are brought into order first where
+    /// A report's pieces may come in any order, and overlap. They are brought into order first if
     /// they are in none, which takes the time of a sort and memory in proportion to the report.
     ///
     /// # Errors
     ///
-    /// `AllocError` where memory is refused. Nothing has changed then, and nothing is sent.
+    /// `AllocError` if memory is refused. Nothing has changed then, and nothing is sent.
     pub fn step(&mut self, alloc: Global, message: &ToServer) -> Result<ServerOut, AllocError>
         ensures stepped { IfOk result
             (λ out. HasStepped (meaning self.old) message.now (meaning self.new) out) }
@@ -145,7 +150,7 @@ impl Server {
         ensures answers { IfOk result (λ out.
             AnswersWrite (meaning self.old) message.now (meaning self.new) out.messages) }
         ensures pushes { IfOk result (λ out. PushesStand (meaning self.new) out.messages) }
-        ensures few { IfOk result (λ out. length out.messages ≤ most_messages) }
+        ensures few { IfOk result (λ out. length out.messages ≤ max_messages) }
         ensures refused { OnErr result (self.new ≡ self.old) }
     {
         self.state.step(alloc, message)
@@ -153,17 +158,17 @@ impl Server {
 
     /// What is sent to move a client that seems stuck: while the server recovers, the epoch to a
     /// missing client; while it serves, the client's push that is not acknowledged, or else the
-    /// callbacks to those who block it where it waits first; and nothing to any other. It changes
+    /// callbacks to those who block it if it waits first; and nothing to any other. It changes
     /// nothing, and answers nobody: while the server serves, nobody is left who could be answered.
     ///
     /// # Errors
     ///
-    /// `AllocError` where the list's memory is refused.
+    /// `AllocError` if the list's memory is refused.
     pub fn nudge(&self, alloc: Global, client: u64) -> Result<Items<ToClient>, AllocError>
         ensures sent { IfOk result (λ outs. outs ≡ nudge (meaning self.now) client) }
         ensures nobody { is_recovering (meaning self.now).missing ≡ false
             → Answered (meaning self.now) (meaning self.now) [] }
-        ensures few { IfOk result (λ outs. length outs ≤ most_messages) }
+        ensures few { IfOk result (λ outs. length outs ≤ max_messages) }
     {
         self.state.nudge(alloc, client)
     }
@@ -206,7 +211,7 @@ impl Server {
     ///
     /// # Errors
     ///
-    /// `AllocError` where the list's memory is refused.
+    /// `AllocError` if the list's memory is refused.
     pub fn missing(&self, alloc: Global) -> Result<Items<u64>, AllocError>
         ensures { IfOk result (λ clients. clients ≡ (meaning self.now).missing) }
     {
@@ -214,9 +219,9 @@ impl Server {
         Ok(Items::from(clients))
     }
 
-    /// How the client waits; None where it does not. It takes no memory.
+    /// How the client waits; None if it does not. It takes no memory.
     pub fn waiter_of(&self, client: u64) -> Option<Waiter>
-        requires { client < 64 }
+        requires { client < MAX_CLIENTS }
         ensures { result ≡ waiter_of (meaning self.now) client }
     {
         self.state.waiter_of(client)
@@ -224,10 +229,10 @@ impl Server {
 
     /// The clients that the client waits for, in ascending order: at the slot at which it waits,
     /// those that wait before it, and those that hold what is not compatible with what it wants.
-    /// Nobody where it does not wait, or where it waits for a push of its own to be acknowledged,
+    /// Nobody if it does not wait, or if it waits for a push of its own to be acknowledged,
     /// or, while the server recovers, for the missing alone. It takes no memory.
-    pub fn waited_for(&self, client: u64) -> ArrayVec<u64, 64>
-        requires { client < 64 }
+    pub fn waited_for(&self, client: u64) -> ArrayVec<u64, MAX_CLIENTS>
+        requires { client < MAX_CLIENTS }
         ensures { result.items ≡ waited_for (meaning self.now) client }
     {
         self.state.waited_for(client)
@@ -236,19 +241,19 @@ impl Server {
     /// At how many slots the client holds a mode other than N. It looks at all rows that the table
     /// keeps, and takes no memory.
     pub fn held_slots(&self, client: u64) -> u64
-        requires { client < 64 }
+        requires { client < MAX_CLIENTS }
         ensures { HoldsAt (meaning self.now).rows client result }
     {
         self.state.table.held_slots(client)
     }
 
     /// What the client holds on the first slot from this point on where its mode is not N: the
-    /// slot's span, the mode, and the entry's value where the mode reads it. None where there is no
+    /// slot's span, the mode, and the entry's value if the mode reads it. None if there is no
     /// such slot. So a caller that begins at 0, and goes on at the span's end each time, sees all
     /// that the client holds. It looks at the rows that the table keeps from the point on as far as
     /// that slot, and takes no memory.
     pub fn next_holding(&self, client: u64, from: u64) -> Option<Holding>
-        requires { client < 64 }
+        requires { client < MAX_CLIENTS }
         ensures { MatchOption result (HoldsNoMore (meaning self.now) client from)
             (IsNextHolding (meaning self.now) client from) }
     {

@@ -1,16 +1,16 @@
 //! The sessions of all clients.
-ghost use Rattle.std.specs.Prelude.{◌≡◌, ◌<◌, ℕ, Some, None, IfOk, IfSome, IfNone, ◌≤◌, length, set};
+ghost use Rattle.std.specs.Prelude.{◌≡◌, ◌<◌, ℕ, Some, None, IfOk, IfSome, IfNone, ◌≤◌, length};
+ghost use Rattle.std.specs.Prelude.{set};
 ghost use Rattle.krl_server.specs.Servers.{blank_session};
 ghost use Rattle.krl_server.specs.StateMeaning.{sessions_of};
+ghost use Rattle.krl_modes.specs.declared.limits.TheConstants.{MAX_CLIENTS};
 
 use crate::session::Session;
 use krl_messages::PushBody;
+use krl_modes::MAX_CLIENTS;
 use std::alloc::{AllocError, Global};
 use std::marker::Model;
 use std::slice::from_ref;
-
-/// How many clients there are.
-const CLIENTS: usize = 64;
 
 /// A session for each client. They have memory of their own, so that a server is small to move.
 #[derive(Drop)]
@@ -33,14 +33,14 @@ impl Model for Sessions {
 
 // A blank session for each client.
 fn blank_sessions(alloc: Global) -> Result<Vec<Session>, AllocError>
-    ensures full { IfOk result (λ sessions. length sessions.items ≡ 64) }
+    ensures full { IfOk result (λ sessions. length sessions.items ≡ MAX_CLIENTS) }
     ensures blank { IfOk result
         (λ sessions. (c : ℕ) → sessions_of sessions.items c ≡ blank_session) }
 {
-    let mut each = Vec::with_capacity(alloc, CLIENTS)?;
+    let mut each = Vec::with_capacity(alloc, MAX_CLIENTS)?;
     // A push of a session gets no proof: its refusal would hand the session back.
     let blank = Session::blank();
-    for _client in 0..CLIENTS {
+    for _client in 0..MAX_CLIENTS {
         each.extend_from_slice(from_ref(&blank))?;
     }
     Ok(each)
@@ -51,9 +51,9 @@ impl Sessions {
     ///
     /// # Errors
     ///
-    /// `AllocError` where memory is refused.
+    /// `AllocError` if memory is refused.
     pub(crate) fn blank(alloc: Global) -> Result<Sessions, AllocError>
-        ensures full { IfOk result (λ sessions. length sessions ≡ 64) }
+        ensures full { IfOk result (λ sessions. length sessions ≡ MAX_CLIENTS) }
         ensures blank { IfOk result
             (λ sessions. (c : ℕ) → sessions_of sessions c ≡ blank_session) }
     {
@@ -69,7 +69,7 @@ impl Sessions {
         &self.each[client as usize]
     }
 
-    /// The client's, where the number is a client's.
+    /// The client's, if the number is a client's.
     pub(crate) fn find(&self, client: u64) -> Option<&Session>
         ensures found { IfSome result (λ session. session.now ≡ sessions_of self.now client) }
         ensures none { IfNone result (length self.now ≤ client) }

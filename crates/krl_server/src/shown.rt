@@ -1,20 +1,23 @@
 //! Who waits for whom, and who holds what.
 ghost use Rattle.std.specs.Prelude.{◌≡◌, ◌<◌, not, MatchOption};
 ghost use Rattle.krl_server.specs.Callbacks.{is_compatible};
-ghost use Rattle.krl_server.specs.StateMeaning.{meaning, IsFormed};
+ghost use Rattle.krl_server.specs.StateMeaning.{meaning};
+ghost use Rattle.krl_server.specs.FoundCases.{IsFormed};
 ghost use Rattle.krl_server.specs.Waits.{waiter_of, is_in_the_way, waits_for, waited_for};
 ghost use Rattle.krl_server.specs.Waits.{HoldsNoMore, IsNextHolding};
+ghost use Rattle.krl_modes.specs.declared.limits.TheConstants.{MAX_CLIENTS};
 
 use crate::state::State;
 use arrayvec::ArrayVec;
 use krl_messages::Holding;
+use krl_modes::MAX_CLIENTS;
 use krl_queue::Waiter;
 
 impl State {
     /// How the client waits.
     pub(crate) fn waiter_of(&self, client: u64) -> Option<Waiter>
         requires formed { IsFormed self.now }
-        requires client { client < 64 }
+        requires client { client < MAX_CLIENTS }
         ensures { result ≡ waiter_of (meaning self.now) client }
     {
         self.table.waiter_of(client)
@@ -23,8 +26,8 @@ impl State {
     /// Whether what the other client holds on the slot is not compatible with what the waiter
     /// wants.
     fn holds_against(&self, slot: u64, waiter: &Waiter, other: u64) -> bool
-        requires clients { waiter.now.client < 64 }
-        requires other { other < 64 }
+        requires clients { waiter.now.client < MAX_CLIENTS }
+        requires other { other < MAX_CLIENTS }
         ensures { result ≡ not (is_compatible (meaning self.now) slot waiter.now other) }
     {
         if other == waiter.client {
@@ -37,8 +40,8 @@ impl State {
     /// Whether the other client waits on the slot before the waiter, or holds there what is not
     /// compatible with what it wants.
     fn is_in_the_way(&self, slot: u64, waiter: &Waiter, other: u64) -> bool
-        requires client { waiter.now.client < 64 }
-        requires other { other < 64 }
+        requires client { waiter.now.client < MAX_CLIENTS }
+        requires other { other < MAX_CLIENTS }
         ensures { result ≡ is_in_the_way (meaning self.now) slot waiter.now other }
     {
         self.table.goes_before(slot, waiter.client, other)
@@ -48,8 +51,8 @@ impl State {
     /// Whether the client waits for the other one.
     fn waits_for(&self, client: u64, other: u64) -> bool
         requires formed { IsFormed self.now }
-        requires client { client < 64 }
-        requires other { other < 64 }
+        requires client { client < MAX_CLIENTS }
+        requires other { other < MAX_CLIENTS }
         ensures { result ≡ waits_for (meaning self.now) client other }
     {
         match self.table.waiter_of(client) {
@@ -62,9 +65,9 @@ impl State {
     }
 
     /// The clients that the client waits for, in ascending order.
-    pub(crate) fn waited_for(&self, client: u64) -> ArrayVec<u64, 64>
+    pub(crate) fn waited_for(&self, client: u64) -> ArrayVec<u64, MAX_CLIENTS>
         requires formed { IsFormed self.now }
-        requires client { client < 64 }
+        requires client { client < MAX_CLIENTS }
         ensures { result.items ≡ waited_for (meaning self.now) client }
     {
         let mut others = ArrayVec::new();
@@ -79,7 +82,7 @@ impl State {
     /// What the client holds on the first slot from this point on where its mode is not N.
     pub(crate) fn next_holding(&self, client: u64, from: u64) -> Option<Holding>
         requires formed { IsFormed self.now }
-        requires client { client < 64 }
+        requires client { client < MAX_CLIENTS }
         ensures { MatchOption result (HoldsNoMore (meaning self.now) client from)
             (IsNextHolding (meaning self.now) client from) }
     {

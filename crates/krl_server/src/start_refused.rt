@@ -3,7 +3,7 @@ use krl_durable::Durable;
 
 /// Why a server does not start.
 #[derive(Clone, Copy, PartialEq, Eq)]
-pub enum StartRefused {
+pub enum ServerNotStarted {
     /// The epoch is END: there is none for another start.
     Spent,
     /// Memory was refused.
@@ -14,7 +14,7 @@ pub enum StartRefused {
 #[derive(Drop)]
 pub struct NotStarted {
     /// Why.
-    pub refused: StartRefused,
+    pub refused: ServerNotStarted,
     /// What survives, as it was.
     pub durable: Durable,
 }

@@ -3,12 +3,14 @@ ghost use Rattle.std.specs.Prelude.{◌≡◌, ◌<◌, ◌≤◌, ℕ, true, Is
 ghost use Rattle.std.specs.List.{AllByRecursion};
 ghost use Rattle.krl_durable.specs.Index.{is_slot};
 ghost use Rattle.krl_modes.specs.Modes.{key_of};
-ghost use Rattle.krl_messages.specs.Several.{Ascend, most_holdings};
+ghost use Rattle.krl_messages.specs.Ascending.{Ascend, max_holdings};
 ghost use Rattle.krl_server.specs.Servers.{incarnation_of};
-ghost use Rattle.krl_server.specs.StateMeaning.{meaning, sessions_of, IsFormed};
-ghost use Rattle.krl_server.specs.Outboxes.{as_list, Sends};
-ghost use Rattle.krl_server.specs.Effects.{epoch_to, push_to, pushed_again, callback_to, shown};
-ghost use Rattle.krl_server.specs.Effects.{acknowledged, holding, holdings, pushes};
+ghost use Rattle.krl_server.specs.StateMeaning.{meaning, sessions_of};
+ghost use Rattle.krl_server.specs.FoundCases.{IsFormed};
+ghost use Rattle.krl_server.specs.Outboxes.{as_list, Sends, pushed_again};
+ghost use Rattle.krl_server.specs.Effects.{epoch_to, push_to, callback_to, shown, acknowledged};
+ghost use Rattle.krl_server.specs.Effects.{holding, holdings, pushes};
+ghost use Rattle.krl_modes.specs.declared.limits.TheConstants.{MAX_CLIENTS};
 
 use crate::missing::Missing;
 use crate::out::Outbox;
@@ -46,7 +48,7 @@ impl State {
     /// The client's session.
     pub(crate) fn session(&self, client: u64) -> &Session
         requires formed { IsFormed self.now }
-        requires client { client < 64 }
+        requires client { client < MAX_CLIENTS }
         ensures { result.now ≡ sessions_of self.now.sessions client }
     {
         self.sessions.of(client)
@@ -119,7 +121,7 @@ impl State {
     pub(crate) fn holding(&self, slot: u64, client: u64) -> Holding
         requires formed { IsFormed self.now }
         requires slot { is_slot self.now.durable.index slot ≡ true }
-        requires client { client < 64 }
+        requires client { client < MAX_CLIENTS }
         ensures { result ≡ holding (meaning self.now) slot client }
     {
         let mode = self.table.mode(slot, client);
@@ -137,8 +139,8 @@ impl State {
         requires slots { AllByRecursion (λ n. is_slot self.now.durable.index n ≡ true) slots.now }
         requires order { Ascend (holdings (meaning self.now) client slots.now) }
         requires some { 1 ≤ length slots.now }
-        requires few { length slots.now ≤ most_holdings }
-        requires client { client < 64 }
+        requires few { length slots.now ≤ max_holdings }
+        requires client { client < MAX_CLIENTS }
         ensures { result ≡ holdings (meaning self.now) client slots.now }
     {
         let mut all = Holdings::one(self.holding(slots[0].get(), client));
@@ -151,7 +153,7 @@ impl State {
     /// The client's last push counts as acknowledged.
     pub(crate) fn acknowledge(&mut self, client: u64)
         requires formed { IsFormed self.old }
-        requires client { client < 64 }
+        requires client { client < MAX_CLIENTS }
         ensures acknowledged { meaning self.new ≡ acknowledged (meaning self.old) client }
         ensures rest { self.new ≡ record self.old { sessions = self.new.sessions } }
         ensures formed { IsFormed self.new }
@@ -163,7 +165,7 @@ impl State {
     /// that was taken.
     pub(crate) fn note_request(&mut self, client: u64, req: u64)
         requires formed { IsFormed self.old }
-        requires client { client < 64 }
+        requires client { client < MAX_CLIENTS }
         ensures { self.new ≡ record self.old {
           sessions = set self.old.sessions client
               (record (sessions_of self.old.sessions client)
@@ -173,10 +175,10 @@ impl State {
         self.sessions.note_request(client, req);
     }
 
-    /// Sends the client its next push. Where its number is spent nothing is sent.
+    /// Sends the client its next push. If its number is spent nothing is sent.
     pub(crate) fn push(&mut self, client: u64, body: &PushBody, outbox: &mut Outbox)
         requires formed { IsFormed self.old }
-        requires client { client < 64 }
+        requires client { client < MAX_CLIENTS }
         requires room { length outbox.old.sent < outbox.old.room }
         ensures server { meaning self.new ≡ (pushes (meaning self.old) client body.now).server }
         ensures sent { Sends outbox.old outbox.new

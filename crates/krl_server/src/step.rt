@@ -2,7 +2,8 @@
 ghost use Rattle.std.specs.Prelude.{◌≡◌, ◌≤◌, true, ◌<◌, ◌+◌, [], length, Some, IfOk, OnOk, OnErr};
 ghost use Rattle.std.specs.Prelude.{IsSome, IfSome};
 ghost use Rattle.std.specs.FinMap as map;
-ghost use Rattle.krl_server.specs.StateMeaning.{meaning, meant, case_of_pieces, after_of, IsFormed};
+ghost use Rattle.krl_server.specs.StateMeaning.{meaning};
+ghost use Rattle.krl_server.specs.FoundCases.{meant, case_of_pieces, after_of, IsFormed};
 ghost use Rattle.krl_table.specs.Sound.{IsTable};
 ghost use Rattle.krl_server.specs.Soundness.{IsSound};
 ghost use Rattle.krl_server.specs.Cases.{case_of};
@@ -17,13 +18,14 @@ ghost use Rattle.krl_server.specs.CodeSteps.{is_registered, calls_of_first, call
 ghost use Rattle.krl_server.specs.CodeSteps.{waiting_clients};
 ghost use Rattle.krl_server.specs.CodeSteps.{room_for, own_of, IsPerformed, HasPerformed, HasRoom};
 ghost use Rattle.krl_server.specs.CodeSteps.{HasFinished, HasStepped, IsServer, IsFirst};
+ghost use Rattle.krl_modes.specs.declared.limits.TheConstants.{MAX_CLIENTS};
 
 use crate::case::{After, Case, Performed};
 use crate::out::{Outbox, ServerOut};
 use crate::state::State;
 use krl_durable::Change;
 use krl_messages::{Items, ToClient, ToServer, ToServerBody};
-use krl_modes::Point;
+use krl_modes::{MAX_CLIENTS, Point};
 use krl_queue::{WaitNode, Waiter};
 use krl_table::FirstWaiter;
 use std::alloc::{AllocError, Global};
@@ -33,7 +35,7 @@ impl State {
     pub(crate) fn count_waiting(&self) -> usize
         requires { IsFormed self.now }
         ensures count { result ≡ waiting_clients (meaning self.now) }
-        ensures few { result ≤ 64 }
+        ensures few { result ≤ MAX_CLIENTS }
     {
         if self.table.nobody_waits() {
             return 0;
@@ -57,10 +59,10 @@ impl State {
             Case::Ignored => 0,
             Case::Tells | Case::Repeats => 1,
             Case::Lowers { .. } => self.count_waiting(),
-            Case::Leaves | Case::Reports | Case::Acknowledges => 64 * self.count_waiting(),
-            Case::Registers | Case::Writes { .. } | Case::AnswersAgain { .. } => 1
-                + 64 * self.count_waiting(),
-            Case::Waits { .. } => 64 * (self.count_waiting() + 1),
+            Case::Leaves | Case::Reports | Case::Acknowledges => MAX_CLIENTS * self.count_waiting(),
+            Case::Registers | Case::Judges { .. } | Case::AnswersAgain { .. } => 1
+                + MAX_CLIENTS * self.count_waiting(),
+            Case::Waits { .. } => MAX_CLIENTS * (self.count_waiting() + 1),
         }
     }
 
@@ -68,7 +70,7 @@ impl State {
     ///
     /// # Errors
     ///
-    /// `AllocError` where memory is refused. Nothing has changed then.
+    /// `AllocError` if memory is refused. Nothing has changed then.
     fn take_report(&mut self, alloc: Global, message: &ToServer) -> Result<After, AllocError>
         requires formed { IsFormed self.old }
         requires case { case_of_pieces (meaning self.old) message.now.client message.now.body
@@ -96,7 +98,7 @@ impl State {
     ///
     /// # Errors
     ///
-    /// `AllocError` where memory is refused. Nothing has changed then.
+    /// `AllocError` if memory is refused. Nothing has changed then.
     fn perform(
         &mut self,
         alloc: Global,
@@ -168,7 +170,8 @@ impl State {
                 self.enqueue(node);
                 Ok(After::Calls.unchanging())
             }
-            Case::Writes { number, op } => {
+            Case::Judges { number, op } => {
+                // Copies: the prover takes a value that is handed on as moved.
                 let (written, answered) = (*&op, *&op);
                 let outcome = self.write(client, written);
                 self.acknowledge(client);
@@ -197,7 +200,7 @@ impl State {
     ///
     /// # Errors
     ///
-    /// `AllocError` where memory is refused. Nothing has changed then, and nothing is sent.
+    /// `AllocError` if memory is refused. Nothing has changed then, and nothing is sent.
     pub(crate) fn step(
         &mut self,
         alloc: Global,
@@ -220,7 +223,7 @@ impl State {
     ///
     /// # Errors
     ///
-    /// `AllocError` where memory is refused. Nothing has changed then, and nothing is sent.
+    /// `AllocError` if memory is refused. Nothing has changed then, and nothing is sent.
     fn step_by_turns(
         &mut self,
         alloc: Global,
@@ -274,7 +277,7 @@ impl State {
     ///
     /// # Errors
     ///
-    /// `AllocError` where the list's memory is refused.
+    /// `AllocError` if the list's memory is refused.
     pub(crate) fn nudge(&self, alloc: Global, client: u64) -> Result<Items<ToClient>, AllocError>
         requires { IsServer self.now }
         ensures { IfOk result (λ outs. outs ≡ nudge (meaning self.now) client) }
@@ -292,8 +295,9 @@ impl State {
     /// Whether the client is registered and has not left.
     fn is_registered(&self, client: u64) -> bool
         ensures here { result ≡ is_registered (record_of self.now.durable.register client) }
-        ensures client { result ≡ true → client < 64 }
+        ensures client { result ≡ true → client < MAX_CLIENTS }
     {
+        // By its clause `kept` the prover knows what holds of all that survives.
         let _kept = self.durable.epoch();
         match self.durable.record(client) {
             Some(known) => !known.left,
@@ -314,10 +318,10 @@ impl State {
     }
 
     /// While it serves, the client's push that is not acknowledged is sent again, or else those are
-    /// called back who block it where it waits first.
+    /// called back who block it if it waits first.
     fn nudge_served(&self, alloc: Global, client: u64) -> Result<Items<ToClient>, AllocError>
         requires server { IsServer self.now }
-        requires client { client < 64 }
+        requires client { client < MAX_CLIENTS }
         ensures { IfOk result (λ outs. outs ≡ nudge_served
             (meaning self.now) client ((meaning self.now).sessions client).unacked) }
     {
@@ -339,7 +343,7 @@ impl State {
     /// The slot at which the client waits first, and what it finds there.
     fn first_waiter_of(&self, client: u64) -> Option<(u64, FirstWaiter)>
         requires server { IsServer self.now }
-        requires client { client < 64 }
+        requires client { client < MAX_CLIENTS }
         ensures first { IfSome result (λ w. IsFirst (meaning self.now) w.0 w.1) }
         ensures client { IfSome result (λ w. w.1.waiter.client ≡ client) }
         ensures calls { calls_of_first (meaning self.now) result

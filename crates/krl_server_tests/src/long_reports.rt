@@ -66,7 +66,7 @@ fn recovering(alloc: Global) -> Option<Server> {
 }
 
 // How long the server takes for the report, and at how many slots the client holds something then;
-// None where it refuses a call or still waits.
+// None if it refuses a call or still waits.
 fn taken(rt: &(impl CpuClock + AllocGlobal), order: Order) -> Option<(Duration, u64)> {
     let alloc = rt.alloc();
     let mut server = recovering(alloc)?;

@@ -50,7 +50,7 @@ const ENTRIES: &[Held] = &[
 ];
 
 // On 10=1 and 20=2: a grant ends before a slot where another client's lock forbids it, though the
-// slot behind is free, and nobody is called back for it. Where the first slot is such a one the
+// slot behind is free, and nobody is called back for it. If the first slot is such a one the
 // client waits there.
 pub static ENDS_BEFORE_A_HELD_SLOT: [(Act, Gives); 8] = [
     (Act::Hello(A), Gives::Told(&[Told::Epoch(A, 1)])),

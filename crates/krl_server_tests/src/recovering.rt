@@ -68,7 +68,7 @@ pub static RECOVERS: [(Act, Gives); 22] = [
     (Act::Bye(A), Gives::Told(&[Told::Grant(B, 1, 1, SHARED)])),
 ];
 
-// On 10=1, where A and B were registered when it was kept: B reports what A holds. The server waits
+// On 10=1, if A and B were registered when it was kept: B reports what A holds. The server waits
 // for B until that registers anew, and then serves.
 pub static CONTRADICTS: [(Act, Gives); 8] = [
     (Act::Missing, Gives::Missing(&[0, 1])),

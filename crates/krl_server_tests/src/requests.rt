@@ -107,7 +107,7 @@ fn try_message(alloc: Global, act: Act) -> Result<Option<ToServer>, AllocError> 
     }))
 }
 
-// What the server is told, asked for again where memory is refused. None where the act is no
+// What the server is told, asked for again if memory is refused. None if the act is no
 // message.
 pub fn message(alloc: Global, act: Act) -> Option<ToServer> {
     for _ in 0..CALLS {

@@ -1,4 +1,4 @@
-//! Acts, one after another, and whether each gives what it should. Where an allocation is refused,
+//! Acts, one after another, and whether each gives what it should. If an allocation is refused,
 //! a server shows what it showed, and the refused call is made again.
 use crate::acts::{Act, Gives, Told};
 use crate::again::CALLS;
@@ -9,7 +9,7 @@ use krl_messages::{ToServer, Value};
 use krl_server::{Phase, Server, ServerOut};
 use std::alloc::Global;
 
-// Whether this comes of the step, where `stays` says whether nothing has changed.
+// Whether this comes of the step, if `stays` says whether nothing has changed.
 fn is_given(server: &Server, stays: bool, out: &ServerOut, client: u64, expected: &Gives) -> bool {
     let epoch = server.durable().epoch();
     let messages = out.messages.as_slice();
@@ -21,7 +21,7 @@ fn is_given(server: &Server, stays: bool, out: &ServerOut, client: u64, expected
     }
 }
 
-// Whether this comes of the message; None where memory is refused.
+// Whether this comes of the message; None if memory is refused.
 fn steps(
     alloc: Global,
     server: &mut Server,

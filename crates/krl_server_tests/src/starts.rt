@@ -3,15 +3,15 @@ use crate::again::CALLS;
 use crate::shows::{Survives, surviving};
 use krl_durable::Durable;
 use krl_modes::END;
-use krl_server::{NotStarted, Server, StartRefused};
+use krl_server::{NotStarted, Server, ServerNotStarted};
 use std::alloc::Global;
 
 // Whether a start was refused so, and what survives came back as it was.
-fn is_refused(not_started: &NotStarted, refused: StartRefused, before: &Survives) -> bool {
+fn is_refused(not_started: &NotStarted, refused: ServerNotStarted, before: &Survives) -> bool {
     not_started.refused == refused && surviving(&not_started.durable) == *before
 }
 
-// A server on what survives. Where a start is refused memory that comes back as it was, and the
+// A server on what survives. If a start is refused memory that comes back as it was, and the
 // start is made again, twice at most.
 pub fn started(alloc: Global, durable: Durable) -> Option<Server> {
     let before = surviving(&durable);
@@ -20,7 +20,7 @@ pub fn started(alloc: Global, durable: Durable) -> Option<Server> {
         match Server::start(alloc, durable) {
             Ok(server) => return Some(server),
             Err(not_started) => {
-                if !is_refused(&not_started, StartRefused::OutOfMemory, &before) {
+                if !is_refused(&not_started, ServerNotStarted::OutOfMemory, &before) {
                     return None;
                 }
                 durable = not_started.durable;
@@ -40,7 +40,7 @@ pub fn is_spent(alloc: Global, durable: Option<Durable>) -> bool {
     match Server::start(alloc, durable) {
         Ok(_) => false,
         Err(not_started) => {
-            before.epoch == END && is_refused(&not_started, StartRefused::Spent, &before)
+            before.epoch == END && is_refused(&not_started, ServerNotStarted::Spent, &before)
         }
     }
 }

@@ -4,7 +4,7 @@ ghost use Rattle.std.specs.Prelude.{◌≤◌, nat_eq};
 ghost use Rattle.std.specs.List.{AllByRecursion, IsDistinct};
 ghost use Rattle.std.specs.Map.{keys_of};
 ghost use Rattle.krl_modes.specs.declared.point.TheConstants.{END};
-ghost use Rattle.krl_durable.specs.Kept.{IsRow};
+ghost use Rattle.krl_durable.specs.Invariants.{IsRow};
 
 use crate::acts::{Act, Gives};
 use crate::again::CALLS;
@@ -55,7 +55,7 @@ static NO_NUMBER_LEFT: [(u64, Record); 1] = [(
     },
 )];
 
-// What survives where nothing has happened to these entries yet.
+// What survives if nothing has happened to these entries yet.
 fn unused(alloc: Global, entries: &[(u64, Value)]) -> Option<Durable> {
     for _ in 0..CALLS {
         if let Ok(durable) = Durable::new(alloc, entries) {
@@ -94,7 +94,7 @@ fn no_number_left(alloc: Global) -> Option<Durable> {
 }
 
 // What survives a server that begins with this, gives what each row says, and then crashes; None
-// where it does not start, or gives something else.
+// if it does not start, or gives something else.
 fn survives(alloc: Global, durable: Option<Durable>, rows: &[(Act, Gives)]) -> Option<Durable> {
     let mut server = started(alloc, durable?)?;
     if all_give(alloc, &mut server, rows) {

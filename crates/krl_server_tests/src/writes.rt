@@ -183,7 +183,7 @@ pub static ANSWERS_AGAIN: [(Act, Gives); 12] = [
     (Act::Missing, Gives::Missing(&[])),
 ];
 
-// On 10=1, where A's last write was one of the last number and was applied: it is answered again,
+// On 10=1, if A's last write was one of the last number and was applied: it is answered again,
 // and there is no number after it.
 pub static LAST_NUMBER: [(Act, Gives); 7] = [
     (Act::Missing, Gives::Missing(&[0])),

@@ -16,10 +16,10 @@ use Rattle.krl_messages.specs.declared.write_op.WriteOp.{WriteOp}
 use Rattle.krl_cache.specs.Beliefs.{Belief, is_covered, AreRows}
 use Rattle.krl_client.specs.Clients.{Client, begun}
 use Rattle.krl_refinement.proofs.Client.Basics.{passed}
-use Rattle.krl_refinement.specs.Client.Shows.{ShowsClient, ShowsSeat}
+use Rattle.krl_refinement.specs.Client.Shows.{ShowsClient, ShowsPlace}
 use Rattle.krl_steps.specs.declared.step.Step.{Step}
 use Rattle.krl_steps.specs.declared.answer.Answer.{Answer}
-use Rattle.krl_world.specs.States.{State, Seat, client_of, seated}
+use Rattle.krl_world.specs.States.{State, ClientPlace, client_of, seated}
 use Rattle.krl_world.specs.Steps.{span, message_at, Takes, IsReachable}
 use Rattle.krl_modes.specs.declared.part.RangePart.TheVariants as range
 use Rattle.krl_modes.specs.declared.part.KeyPart.TheVariants as key
@@ -148,18 +148,18 @@ one j k f l p e h =
     let i : k ≡ l = cc in
     (j, refl, subst (λ x. Knew j x p) i (f p (subst (λ (x : Client). is_covered x.belief p ≡ true) (sym i) h)))
 
-seat : (v w : State) (c d : ℕ) (x : Seat) (ms : List ToServer) → w ≡ seated v d x ms → (c ≡ d → AllKnown (client_of v d) x.client) → AllKnown (client_of v c) (client_of w c)
-seat v w c d x ms e h = subst (λ (y : State). AllKnown (client_of v c) (client_of y c)) (sym e) (by_test (nat_eq c d) refl)
+place : (v w : State) (c d : ℕ) (x : ClientPlace) (ms : List ToServer) → w ≡ seated v d x ms → (c ≡ d → AllKnown (client_of v d) x.client) → AllKnown (client_of v c) (client_of w c)
+place v w c d x ms e h = subst (λ (y : State). AllKnown (client_of v c) (client_of y c)) (sym e) (by_test (nat_eq c d) refl)
   where
-    by_test : (t : Bool) → nat_eq c d ≡ t → AllKnown (client_of v c) (if t then x else v.seats c).client
+    by_test : (t : Bool) → nat_eq c d ≡ t → AllKnown (client_of v c) (if t then x else v.places c).client
     by_test true e = let i : c ≡ d = eqb-true c d e in subst (λ n. AllKnown (client_of v n) x.client) (sym i) (h i)
     by_test false e = all_same (client_of v c)
 
 -- a client that runs becomes this one
 becomes : (v w : State) (c d g : ℕ) (k : Client) (o : Option Client) (ms : List ToServer) → w ≡ seated v d (record { last_incarnation = g; client = o }) ms → client_of v d ≡ Some k → (c ≡ d → AllKnown (Some k) o) → AllKnown (client_of v c) (client_of w c)
-becomes v w c d g k o ms e up h = seat v w c d _ ms e (λ i. subst (λ x. AllKnown x o) (sym up) (h i))
+becomes v w c d g k o ms e up h = place v w c d _ ms e (λ i. subst (λ x. AllKnown x o) (sym up) (h i))
 
--- Where no entry is held, there is no value
+-- When no entry is held, there is no value
 
 abbrev NoEntry : Client → Type 0
 NoEntry k = (p : ℕ) → k.belief.key_at p ≡ key.N → k.belief.value_at p ≡ None
@@ -167,8 +167,8 @@ NoEntry k = (p : ℕ) → k.belief.key_at p ≡ key.N → k.belief.value_at p �
 no_entry : (w : State) (c : ℕ) (k : Client) → IsReachable w → client_of w c ≡ Some k → NoEntry k
 no_entry w c k h up p e =
     let r = (world_reached all_follow w h).1 in
-    let seat : ShowsSeat c (w.seats c).last_incarnation (Some k) (r.of c) = subst (λ x. ShowsSeat c (w.seats c).last_incarnation x (r.of c)) up (r.mirrors.seats c) in
-    by_test (nat_eq p END) refl seat.1
+    let place : ShowsPlace c (w.places c).last_incarnation (Some k) (r.of c) = subst (λ x. ShowsPlace c (w.places c).last_incarnation x (r.of c)) up (r.mirrors.places c) in
+    by_test (nat_eq p END) refl place.1
   where
     by_test : {l : _} (t : Bool) → nat_eq p END ≡ t → ShowsClient c k l → k.belief.value_at p ≡ None
     by_test true i shows = subst (λ n. k.belief.value_at n ≡ None) (sym (eqb-true p END i)) shows.at_end
@@ -227,8 +227,8 @@ one_step v w c (step.Command d what) answer reach t calm =
     obeys v w c d k what answer (no_entry v d k reach up) up (not_named refused_by_client (command_refusal k what) (runs_ok (client_of v d) k _ up (client_ok d _ t.0))) t.1.2
 one_step v w c (step.Tick d) answer reach t calm = becomes v w c d _ t.1.1.0 _ (tick t.1.1.2.0 t.1.1.0) t.1.1.2.2 t.1.1.1 (λ i. all_same (Some t.1.1.0))
 one_step v w c (step.Nudge d) answer reach t calm = still v w c (nudges v w c d v.server t.1.1)
-one_step v w c (step.StartClient d) answer reach t calm = seat v w c d _ (says_hello (begun d (suc (v.seats d).last_incarnation)) ∷ []) t.1.1 (λ i. anew (client_of v d) d _)
-one_step v w c (step.CrashClient d) answer reach t calm = seat v w c d _ [] t.1.1 (λ i. gone (client_of v d))
+one_step v w c (step.StartClient d) answer reach t calm = place v w c d _ (says_hello (begun d (suc (v.places d).last_incarnation)) ∷ []) t.1.1 (λ i. anew (client_of v d) d _)
+one_step v w c (step.CrashClient d) answer reach t calm = place v w c d _ [] t.1.1 (λ i. gone (client_of v d))
 one_step v w c step.StartServer answer reach t calm = still v w c (starts v w c v.server t.1.1)
 one_step v w c step.CrashServer answer reach t calm = still v w c (crashes v w c v.server t.1.1)
 

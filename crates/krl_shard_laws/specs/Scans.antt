@@ -6,7 +6,7 @@ use Rattle.krl_messages.specs.Values.{Value}
 use Rattle.krl_durable.specs.Index.{Index, range}
 use Rattle.krl_steps.specs.declared.step.Step.TheVariants as step
 use Rattle.krl_steps.specs.declared.step.Command.TheVariants as command
-use Rattle.krl_steps.specs.declared.answer.Answer.TheVariants as told
+use Rattle.krl_steps.specs.declared.answer.Answer.TheVariants as answered
 use Rattle.krl_world.specs.States.{State, index_of, client_of}
 use Rattle.krl_world.specs.Steps.{Steps, IsReachable}
 use Rattle.krl_shards.specs.declared.part.Part.{Part}
@@ -49,7 +49,7 @@ IsUnion bounds w m = (k : ℕ) (v : Value) → (map.get m k ≡ Some v) ↔ HasE
 
 -- in this world the client answers a scan of these points with these rows
 abbrev pub AnswersScan : State → ℕ → ℕ → ℕ → Rows → Type 0
-AnswersScan w c lo hi rows = Steps w (step.Command c (command.Scan lo hi)) (Ok (told.Rows rows)) w
+AnswersScan w c lo hi rows = Steps w (step.Command c (command.Scan lo hi)) (Ok (answered.Rows rows)) w
 
 -- each part's client answers it, in the world of the part's shard; the rows of the parts stand one after another
 abbrev pub AnswerAll : Moment → (ℕ → ℕ) → List Part → Rows → Type 0

@@ -1,6 +1,6 @@
 //! Shards.
 ghost use Rattle.std.specs.Prelude.{◌≡◌, ◌<◌, ◌≤◌, ◌+◌, ◌↔◌, length, IsOk, IfOk};
-ghost use Rattle.krl_shards.specs.Partition.{most_shards, end_of};
+ghost use Rattle.krl_shards.specs.Partition.{max_shards, end_of};
 ghost use Rattle.krl_shards.specs.Partition.{IsPartition, IsShardOf, IsOnlyShardOf};
 ghost use Rattle.krl_shards.specs.Parts.{Follow, AreWithin, Ascend, AreAllOf};
 
@@ -42,12 +42,12 @@ impl Shards {
     ///
     /// # Errors
     ///
-    /// `BadShards` where there are more than 63 bounds, or one is not above the one before it, or
+    /// `BadShards` if there are more than 63 bounds, or one is not above the one before it, or
     /// is 0 or above END.
     pub fn new(bounds: &[u64]) -> Result<Shards, BadShards>
         ensures shards { IfOk result (λ s. s ≡ bounds.now) }
         ensures partition { IsOk result
-            ↔ ((length bounds.now < most_shards) × IsPartition bounds.now) }
+            ↔ ((length bounds.now < max_shards) × IsPartition bounds.now) }
     {
         if bounds.len() > 63 {
             return Err(BadShards);
@@ -71,7 +71,7 @@ impl Shards {
     /// How many shards there are: one more than there are bounds.
     pub fn count(&self) -> u64
         ensures count { result ≡ length self.now + 1 }
-        ensures few { result ≤ most_shards }
+        ensures few { result ≤ max_shards }
     {
         self.bounds.len() as u64 + 1
     }
@@ -110,6 +110,7 @@ impl Shards {
         ensures ascend { Ascend result.items }
         ensures all { AreAllOf span result.items }
     {
+        // What holds of the bounds is known to the prover if their field is named.
         let _bounds = &self.bounds;
         let hi = span.hi();
         let mut parts = ArrayVec::new();

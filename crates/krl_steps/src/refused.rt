@@ -6,7 +6,7 @@ ghost use Rattle.krl_steps.specs.Refusals.{refused_by_client, refused_at_start};
 ghost use Rattle.krl_steps.specs.Refusals.{refused_by_index, refused_by_migration};
 
 use krl_client::{CommandRefused, StartRefused};
-use krl_durable::{NotMigrated, Refused as EntriesRefused};
+use krl_durable::{EntriesRefused, NotMigrated};
 use std::alloc::{AllocError, AllocFailed};
 use std::error::Error;
 use std::fmt;

@@ -11,7 +11,8 @@ pub use Rattle.std.specs.FinMap.{get-empty, remove, insert, get-insert, get, get
 pub use Rattle.std.specs.List.{count_by, list_all, filter, AllByRecursion}
 pub use Rattle.std.specs.Ordering.{is_lt, eq_by_cmp, nat_cmp}
 pub use Rattle.std.specs.Prelude.{nat_le, slice_get, if◌then◌else◌, nat_lt, find, is_some, option_copied}
-pub use Rattle.krl_durable.specs.Index.{slot_of, Index, low_of, IsSlotOf, span_of, is_slot, slots}
+pub use Rattle.krl_durable.specs.Index.{slot_of, Index, low_of, span_of, is_slot, slots}
+pub use Rattle.krl_durable.specs.Slots.{IsSlotOf}
 pub use Rattle.krl_messages.proofs.Members.{in_right, in_both, in_left, in_to_all}
 pub use Rattle.krl_messages.specs.Members.{In}
 pub use Rattle.krl_messages.specs.Values.{Value}
@@ -23,19 +24,24 @@ pub use Rattle.krl_modes.specs.declared.mode.Mode.{Mode}
 pub use Rattle.krl_modes.specs.declared.part.KeyPart.{KeyPart}
 pub use Rattle.krl_modes.specs.declared.part.RangePart.{RangePart}
 pub use Rattle.krl_modes.specs.declared.point.TheConstants.{END, TOP}
-pub use Rattle.krl_queue.specs.Waiting.{first_of, up_to, without_first, beyond}
+pub use Rattle.krl_queue.specs.Waiting.{first_of, up_to, beyond}
+pub use Rattle.krl_queue.specs.Turns.{without_first}
 pub use Rattle.krl_queue.specs.declared.waiter.Waiter.{Waiter}
 pub use Rattle.krl_table.specs.Calls.{split, with_queue, wanted, behind_first, raised, granted_first, mode_beside, split_at, merged, queue_with, cleared, merge_into, split_modes, unqueue, lowered}
 pub use Rattle.krl_table.specs.Calls.{enqueued, with_mode, raised_on, grant_first}
 pub use Rattle.krl_table.specs.Extents.{IsFreeOf, AreWithin, cleared_within, Lies, nowhere, AreWider, extent_in}
-pub use Rattle.krl_table.specs.Grants.{taken_after, taken_by, can_take, granted, granted_by, nobody_waits, is_granted_at_once, most_more, goes_on, taken}
-pub use Rattle.krl_table.specs.Kept.{IsLeastPoint, row_takes, lesser_point, IsSound, rows_of, IsOver, AreCompatible, IsAll, IsTaken, Kept, times, row_there, AreSet, mode_of, cleared_row}
-pub use Rattle.krl_table.specs.Kept.{lowered_between, lesser, unlisted, waiter_in, IsSet, AreListed, row_of, AllWaitBelow}
-pub use Rattle.krl_table.specs.Points.{MayInsert, key_off_slot, range_at, key_at, MayDelete}
-pub use Rattle.krl_table.specs.Replies.{first_reply, lacks_entry, answerable, row_reply, is_wanted_compatible, asks_absent, first_reply_on}
+pub use Rattle.krl_table.specs.Grants.{taken_after, taken_by, can_take, granted, granted_by, nobody_waits, max_more, goes_on, taken}
+pub use Rattle.krl_table.specs.FirstReplies.{is_granted_at_once, first_reply, lacks_entry, answerable, row_reply, first_reply_on}
+pub use Rattle.krl_table.specs.KeptWaiters.{IsLeastPoint, lesser_point, lesser, unlisted, waiter_in, AreListed, AllWaitBelow}
+pub use Rattle.krl_table.specs.KeptRows.{row_takes, IsSound, IsOver, AreCompatible, IsAll, IsTaken, times, AreSet, cleared_row, lowered_between, IsSet}
+pub use Rattle.krl_table.specs.Kept.{rows_of, Kept, row_there, mode_of, row_of}
+pub use Rattle.krl_table.specs.Writers.{MayInsert, MayDelete}
+pub use Rattle.krl_table.specs.Points.{key_off_slot, range_at, key_at}
+pub use Rattle.krl_table.specs.Replies.{is_wanted_compatible, asks_absent}
 pub use Rattle.krl_table.specs.ReportSweep.{IsNextReported, ReportsSame, NothingFrom, BeginsSpan, SameKeys, RangesRise, SameRanges, RangesOff, KeysRise, KeysOff}
 pub use Rattle.krl_table.specs.Reports.{reported_key, rebuilt, adopted, conflicts, reported_range}
-pub use Rattle.krl_table.specs.Rows.{Rows, mode_at, Row, front_of, is_compatible_in_row, waiter_at, all_below, waiter_of, blank_row, set_row, set_mode, is_compatible_there}
-unfoldable pub use Rattle.krl_table.specs.Rows.{most_clients}
+pub use Rattle.krl_table.specs.Rows.{Rows, mode_at, Row, is_compatible_in_row, all_below, blank_row, set_row, set_mode, is_compatible_there}
+pub use Rattle.krl_table.specs.Waiters.{front_of, waiter_at, waiter_of}
 pub use Rattle.krl_table.specs.declared.extent.Extent.{Extent}
 pub use Rattle.krl_table.specs.declared.row.SlotRow.{SlotRow}
+unfoldable pub use Rattle.krl_modes.specs.Limits.{max_clients}

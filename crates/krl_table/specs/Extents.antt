@@ -1,9 +1,11 @@
 -- Between which slots each client holds and waits.
 use Rattle.std.specs.Prelude.{◌≡◌, ◌⊎◌, ◌≤◌, ◌<◌, ℕ, List, slice_index_or, ◌&&◌, nat_le, if◌then◌else◌}
 use Rattle.krl_modes.specs.declared.mode.Mode.TheVariants as mode
+use Rattle.krl_modes.specs.declared.limits.TheConstants.{MAX_CLIENTS}
 use Rattle.krl_table.specs.declared.extent.Extent.{Extent}
 use Rattle.krl_table.specs.Rows.{Row}
-use Rattle.krl_table.specs.Kept.{Kept, rows_of, times, cleared_row}
+use Rattle.krl_table.specs.Kept.{Kept, rows_of}
+use Rattle.krl_table.specs.KeptRows.{times, cleared_row}
 
 -- no slots
 abbrev pub nowhere : Extent
@@ -27,7 +29,7 @@ IsFreeOf row c = (row.modes c ≡ mode.N) × (times c row.queue ≡ 0)
 
 -- each client holds and waits in its extent alone
 abbrev pub AreWithin : List Extent → Kept → Type 0
-AreWithin extents t = (n c : ℕ) → c < 64 → Lies (extent_in extents c) n ⊎ IsFreeOf (rows_of t n) c
+AreWithin extents t = (n c : ℕ) → c < MAX_CLIENTS → Lies (extent_in extents c) n ⊎ IsFreeOf (rows_of t n) c
 
 -- the row of slot n, which is cleared of the client if the slot lies in the extent
 abbrev pub cleared_within : Extent → ℕ → ℕ → Row → Row

@@ -6,25 +6,18 @@ use Rattle.krl_queue.specs.declared.waiter.Waiter.{Waiter}
 use Rattle.krl_durable.specs.Index.{Index, slot_of}
 use Rattle.krl_table.specs.Rows.{Rows}
 use Rattle.krl_table.specs.Calls.{granted_first, raised, raised_on}
-use Rattle.krl_table.specs.Replies.{asks_absent, is_wanted_compatible}
+use Rattle.krl_table.specs.Replies.{is_wanted_compatible}
 
 -- the most slots that one grant takes, beside the waiter's own
-abbrev pub most_more : ℕ
-most_more = 7
+abbrev pub max_more : ℕ
+max_more = 7
 
 abbrev pub nobody_waits : List Waiter → Bool
 nobody_waits [] = true
 nobody_waits (u ∷ us) = false
 
--- grant_at_once: on the waiter's slot nobody waits, what it wants is compatible with what all others hold, and it does
--- not ask for an entry where there is none
-abbrev pub is_granted_at_once : Index → Rows → Waiter → Bool
-is_granted_at_once m rows u =
-    nobody_waits (rows (slot_of m u.point)).queue && (is_wanted_compatible rows (slot_of m u.point) u
-    && not (asks_absent m u))
-
 -- beside its own slot the waiter may take this one: nobody waits there, what it wants there is compatible with what all
--- others hold, and it does not ask for an entry alone where there is none
+-- others hold, and it does not ask for an entry alone if there is none
 abbrev pub can_take : Rows → ℕ → Waiter → Bool
 can_take rows n u =
     nobody_waits (rows n).queue && (is_wanted_compatible rows n u && not (needs_entry u.mode && nat_eq n END))
@@ -43,7 +36,7 @@ taken_after m rows n u (suc k) =
 
 abbrev pub taken_by : Index → Rows → ℕ → List Waiter → List ℕ
 taken_by m rows n [] = []
-taken_by m rows n (u ∷ us) = n ∷ taken_after m (granted_first rows n) n u most_more
+taken_by m rows n (u ∷ us) = n ∷ taken_after m (granted_first rows n) n u max_more
 
 -- the slots that a grant at slot n takes
 abbrev pub taken : Index → Rows → ℕ → List ℕ
@@ -51,7 +44,7 @@ taken m rows n = taken_by m rows n (rows n).queue
 
 abbrev pub granted_by : Index → Rows → ℕ → List Waiter → Rows
 granted_by m rows n [] = rows
-granted_by m rows n (u ∷ us) = raised_on (granted_first rows n) (taken_after m (granted_first rows n) n u most_more) u
+granted_by m rows n (u ∷ us) = raised_on (granted_first rows n) (taken_after m (granted_first rows n) n u max_more) u
 
 -- grant: the slot's first waiter gets what it wants on each of them, and waits no more
 abbrev pub granted : Index → Rows → ℕ → Rows

@@ -1,29 +1,15 @@
 -- The rows as they are kept, and what they mean.
-use Rattle.std.specs.Prelude.{◌≡◌, ◌≢◌, ◌⊎◌, ◌+◌, Bool, true, ◌&&◌, nat_le, nat_lt, nat_eq, if◌then◌else◌, set, ℕ, suc, ◌≤◌, ◌<◌, min, List, Option, Some, None, length, IsSome, slice_index_or, count_by, not}
+use Rattle.std.specs.Prelude.{ℕ, List, Option, Some, None, slice_index_or}
 use Rattle.std.specs.Ordering.{nat_cmp}
 use Rattle.std.specs.FinMap as map
-use Rattle.krl_modes.specs.declared.point.TheConstants.{END}
 use Rattle.krl_modes.specs.declared.mode.Mode.{Mode}
 use Rattle.krl_modes.specs.declared.mode.Mode.TheVariants as mode
-use Rattle.krl_modes.specs.Modes.{compatible, meet, needs_entry}
-use Rattle.krl_messages.specs.Members.{In}
-use Rattle.krl_queue.specs.declared.waiter.Waiter.{Waiter}
-use Rattle.krl_queue.specs.Waiting.{without_first}
-use Rattle.krl_blocks.specs.ReservedMaps.{MapWithRoom}
-use Rattle.krl_durable.specs.Index.{Index, slot_of, is_slot}
 use Rattle.krl_table.specs.declared.row.SlotRow.{SlotRow}
-use Rattle.krl_table.specs.Rows.{Row, Rows, blank_row, mode_at, set_mode, is_compatible_in_row}
-use Rattle.krl_table.specs.Calls.{with_mode, wanted}
-use Rattle.krl_table.specs.Replies.{is_wanted_compatible}
-use Rattle.krl_table.specs.Grants.{goes_on, nobody_waits}
+use Rattle.krl_table.specs.Rows.{Row, Rows, blank_row}
 
 -- the kept rows, by slot: a slot without one is blank
 abbrev pub Kept : Type 0
 Kept = map.FinMap nat_cmp SlotRow
-
--- a table: the kept rows, and how many there may be
-abbrev pub KeptTable : Type 0
-KeptTable = MapWithRoom SlotRow
 
 -- the mode of a client, in a row of modes
 abbrev pub mode_of : List Mode → ℕ → Mode
@@ -40,111 +26,3 @@ row_there (Some r) = row_of r
 -- what the kept rows mean
 abbrev pub rows_of : Kept → Rows
 rows_of t n = row_there (map.get t n)
-
--- no key lies at END or above; each kept row stands at a slot of the index, and each waiter in the queue of the slot of
--- its point
-pub record IsOver (m : Index) (t : Kept) : Type 0 where
-  pub near : (n : ℕ) → END ≤ n → map.get m n ≡ None
-  pub within : (n : ℕ) → IsSome (map.get t n) → is_slot m n ≡ true
-  pub points : (n : ℕ) (u : Waiter) → In u (rows_of t n).queue → u.point ≤ END
-  pub placed : (n : ℕ) (u : Waiter) → In u (rows_of t n).queue → slot_of m u.point ≡ n
-
--- the slot has a row now, and any other as before, and it has none kept where it is blank
-pub record IsSet (t u : Kept) (k : ℕ) (row : Row) : Type 0 where
-  pub here : rows_of u k ≡ row
-  pub others : (n : ℕ) → n ≢ k → map.get u n ≡ map.get t n
-  pub used : (r : SlotRow) → map.get u k ≡ Some r → row_of r ≢ blank_row
-
--- two slots have these rows now, and any other as before, and none is kept where it is blank
-pub record AreSet (t u : Kept) (i : ℕ) (a : Row) (j : ℕ) (b : Row) : Type 0 where
-  pub first : rows_of u i ≡ a
-  pub second : rows_of u j ≡ b
-  pub others : (n : ℕ) → n ≢ i → n ≢ j → map.get u n ≡ map.get t n
-  pub used : (n : ℕ) (r : SlotRow) → (n ≡ i) ⊎ (n ≡ j) → map.get u n ≡ Some r → row_of r ≢ blank_row
-
--- each row is changed by its own change; rows are kept where they were, and none that is blank
-pub record IsAll (f : ℕ → Row → Row) (t u : Kept) : Type 0 where
-  pub rows : (n : ℕ) → rows_of u n ≡ f n (rows_of t n)
-  pub kept : (n : ℕ) → IsSome (map.get u n) → IsSome (map.get t n)
-  pub used : (n : ℕ) (r : SlotRow) → map.get u n ≡ Some r → row_of r ≢ blank_row
-
--- the row of slot n, where the client's mode is lowered if the slot is from from on below hi
-abbrev pub lowered_between : ℕ → ℕ → ℕ → Mode → ℕ → Row → Row
-lowered_between from hi c keep n row =
-    if nat_le from n && nat_lt n hi then with_mode row c (meet (row.modes c) keep) else row
-
--- the row where the client's mode is N, and its first waiter is gone
-abbrev pub cleared_row : ℕ → Row → Row
-cleared_row c row = record { modes = set_mode row.modes c mode.N; queue = without_first c row.queue }
-
--- a row can be kept there with no more memory
-abbrev pub HasRoom : MapWithRoom SlotRow → ℕ → Type 0
-HasRoom s n = map.get s.map n ≡ None → length (map.entries s.map) < s.room
-
--- beside its own slot the waiter may take slot n, by the row there
-abbrev pub row_takes : ℕ → Row → Waiter → Bool
-row_takes n row u =
-    nobody_waits row.queue && (is_compatible_in_row row u.client (wanted row u) && not (needs_entry u.mode
-    && nat_eq n END))
-
--- next is the slot after this one, and the waiter may take it
-pub record IsTaken (m : Index) (t : Kept) (at : ℕ) (u : Waiter) (next : ℕ) : Type 0 where
-  pub slot : slot_of m (suc at) ≡ next
-  pub is_compatible_there : is_wanted_compatible (rows_of t) next u ≡ true
-  pub on : goes_on m (rows_of t) at u ≡ true
-
--- how often the client waits there
-abbrev pub times : ℕ → List Waiter → ℕ
-times c us = count_by (λ u. nat_eq c u.client) us
-
--- no two modes of these are in each other's way
-abbrev pub AreCompatible : (ℕ → Mode) → Type 0
-AreCompatible modes = (c d : ℕ) → c ≢ d → compatible (modes c) (modes d) ≡ true
-
--- What holds of every table: no row is kept blank, and none above END; on each slot the modes of different clients are
--- compatible; nobody but a client holds anything or waits, and each client waits once at most.
-pub record IsSound (t : Kept) : Type 0 where
-  pub near : (n : ℕ) → END < n → map.get t n ≡ None
-  pub used : (n : ℕ) (r : SlotRow) → map.get t n ≡ Some r → row_of r ≢ blank_row
-  pub strangers : (n c : ℕ) → 64 ≤ c → mode_at (rows_of t) n c ≡ mode.N
-  pub beside : (n : ℕ) → AreCompatible (rows_of t n).modes
-  pub clients : (n : ℕ) (u : Waiter) → In u (rows_of t n).queue → u.client < 64
-  pub alone : (c i j : ℕ) → i ≢ j → times c (rows_of t i).queue + times c (rows_of t j).queue ≤ 1
-
--- how the client waits, by what is kept by client
-abbrev pub waiter_in : List (Option Waiter) → ℕ → Option Waiter
-waiter_in waiting c = slice_index_or waiting c None
-
--- without this waiter
-abbrev pub unlisted : List (Option Waiter) → Option Waiter → List (Option Waiter)
-unlisted waiting None = waiting
-unlisted waiting (Some u) = set waiting u.client None
-
--- each client that waits, waits for a point below this one
-abbrev pub AllWaitBelow : List (Option Waiter) → ℕ → Type 0
-AllWaitBelow waiting low =
-    (c : ℕ) (u : Waiter) → c < 64 → waiter_in waiting c ≡ Some u → u.point < low
-
--- some client waits for the point, which is at or above low, and none for a lesser one that is
-pub record IsLeastPoint (waiting : List (Option Waiter)) (low p : ℕ) : Type 0 where
-  pub above : low ≤ p
-  pub some : (c : ℕ) × (u : Waiter) × (waiter_in waiting c ≡ Some u) × (u.point ≡ p)
-  pub least : (c : ℕ) (u : Waiter) → c < 64 → waiter_in waiting c ≡ Some u → low ≤ u.point
-      → p ≤ u.point
-
--- the lesser of the points
-abbrev pub lesser_point : Option ℕ → ℕ → Option ℕ
-lesser_point None q = Some q
-lesser_point (Some p) q = Some (min p q)
-
--- the lesser of a point and the waiter's, which counts at or above low alone
-abbrev pub lesser : Option ℕ → Option Waiter → ℕ → Option ℕ
-lesser least None low = least
-lesser least (Some u) low = if nat_lt u.point low then least else lesser_point least u.point
-
--- what is kept by client are the waiters that stand in the queues
-pub record AreListed (waiting : List (Option Waiter)) (t : Kept) : Type 0 where
-  pub full : length waiting ≡ 64
-  pub here : (n : ℕ) (u : Waiter) → In u (rows_of t n).queue → waiter_in waiting u.client ≡ Some u
-  pub there : (c : ℕ) (u : Waiter) → waiter_in waiting c ≡ Some u →
-      (u.client ≡ c) × ((n : ℕ) × In u (rows_of t n).queue)

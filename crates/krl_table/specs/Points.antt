@@ -1,12 +1,11 @@
 -- What the table gives a client at each point: a range part and a key part.
-use Rattle.std.specs.Prelude.{◌≡◌, ◌&&◌, true, ℕ, nat_lt, if◌then◌else◌}
+use Rattle.std.specs.Prelude.{ℕ, nat_lt, if◌then◌else◌}
 use Rattle.krl_modes.specs.declared.point.TheConstants.{END}
 use Rattle.krl_modes.specs.declared.part.RangePart.{RangePart}
 use Rattle.krl_modes.specs.declared.part.RangePart.TheVariants as range
 use Rattle.krl_modes.specs.declared.part.KeyPart.{KeyPart}
 use Rattle.krl_modes.specs.declared.part.KeyPart.TheVariants as key
 use Rattle.krl_modes.specs.Modes.{range_of, key_of}
-use Rattle.krl_modes.specs.Parts.{lets_insert, is_range_X, is_key_X}
 use Rattle.krl_durable.specs.Index.{Index, slot_of, is_slot}
 use Rattle.krl_table.specs.Rows.{Rows, mode_at}
 
@@ -21,16 +20,6 @@ key_off_slot range.X = key.X
 abbrev pub range_at : Index → Rows → ℕ → ℕ → RangePart
 range_at m rows c p = if nat_lt END p then range.N else range_of (mode_at rows (slot_of m p) c)
 
--- the key part of its mode there, where the point is a slot
+-- the key part of its mode there, if the point is a slot
 abbrev pub key_at : Index → Rows → ℕ → ℕ → KeyPart
 key_at m rows c p = if is_slot m p then key_of (mode_at rows p c) else key_off_slot (range_at m rows c p)
-
--- the writer may insert into the slot: it has range part I or X there
-abbrev pub MayInsert : Rows → ℕ → ℕ → Type 0
-MayInsert rows n c = lets_insert (range_of (mode_at rows n c)) ≡ true
-
--- the writer has RangeX-X on the slot k, and range part X on the next slot n
-abbrev pub MayDelete : Rows → ℕ → ℕ → ℕ → Type 0
-MayDelete rows k n c =
-    (is_key_X (key_of (mode_at rows k c)) && is_range_X (range_of (mode_at rows k c))
-    && is_range_X (range_of (mode_at rows n c))) ≡ true

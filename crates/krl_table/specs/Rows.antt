@@ -1,9 +1,10 @@
 -- The rows of the table: on each slot a mode for each client, and those who wait.
-use Rattle.std.specs.Prelude.{ℕ, zero, suc, Bool, true, ◌&&◌, ◌||◌, nat_eq, List, [], ◌∷◌, Option, None, Some, is_some, find, if◌then◌else◌}
+use Rattle.std.specs.Prelude.{ℕ, zero, suc, Bool, true, ◌&&◌, ◌||◌, nat_eq, List, [], is_some, if◌then◌else◌}
 use Rattle.std.specs.List.{list_any}
 use Rattle.krl_modes.specs.declared.mode.Mode.{Mode}
 use Rattle.krl_modes.specs.declared.mode.Mode.TheVariants as mode
 use Rattle.krl_modes.specs.Modes.{compatible}
+use Rattle.krl_modes.specs.Limits.{max_clients}
 use Rattle.krl_queue.specs.declared.waiter.Waiter.{Waiter}
 use Rattle.krl_queue.specs.Waiting.{first_of}
 use Rattle.krl_durable.specs.Index.{Index, slots}
@@ -19,10 +20,6 @@ Rows = ℕ → Row
 -- nobody holds anything, and nobody waits
 abbrev pub blank_row : Row
 blank_row = record { modes = λ c. mode.N; queue = [] }
-
--- client numbers lie below this one
-unfoldable pub most_clients : ℕ
-most_clients = 64
 
 -- the mode of a client on a slot
 abbrev pub mode_at : Rows → ℕ → ℕ → Mode
@@ -44,23 +41,6 @@ set_mode modes c g d = if nat_eq d c then g else modes d
 abbrev pub blank_rows : Rows
 blank_rows n = blank_row
 
--- the first waiter of a slot
-abbrev pub front_of : List Waiter → Option Waiter
-front_of [] = None
-front_of (u ∷ us) = Some u
-
--- the slot on which the client waits
-abbrev pub place_of : Index → Rows → ℕ → Option ℕ
-place_of m rows c = find (λ n. is_some (first_of c (rows n).queue)) (slots m)
-
-abbrev pub waiter_at : Rows → ℕ → Option ℕ → Option Waiter
-waiter_at rows c None = None
-waiter_at rows c (Some n) = first_of c (rows n).queue
-
--- how it waits there
-abbrev pub waiter_of : Index → Rows → ℕ → Option Waiter
-waiter_of m rows c = waiter_at rows c (place_of m rows c)
-
 -- the client waits on one of the slots
 abbrev pub waits : Index → Rows → ℕ → Bool
 waits m rows c = list_any (λ n. is_some (first_of c (rows n).queue)) (slots m)
@@ -72,7 +52,7 @@ all_below (suc n) f = f n && all_below n f
 
 -- the mode is compatible with what all others hold in this row
 abbrev pub is_compatible_in_row : Row → ℕ → Mode → Bool
-is_compatible_in_row row c g = all_below most_clients (λ d. nat_eq d c || compatible g (row.modes d))
+is_compatible_in_row row c g = all_below max_clients (λ d. nat_eq d c || compatible g (row.modes d))
 
 -- the mode is compatible with what all others hold on the slot
 abbrev pub is_compatible_there : Rows → ℕ → ℕ → Mode → Bool

@@ -1,6 +1,8 @@
 -- Who waits, and where somebody does.
-use Rattle.std.specs.Prelude.{◌≡◌, ◌≢◌, ℕ, suc, ◌<◌, ◌≤◌, List, [], ◌∷◌, None}
+use Rattle.std.specs.Prelude.{◌≡◌, ◌≢◌, ℕ, suc, ◌<◌, ◌≤◌, List, [], ◌∷◌, None, Option, Some, is_some, find}
 use Rattle.krl_queue.specs.Waiting.{first_of}
+use Rattle.krl_queue.specs.declared.waiter.Waiter.{Waiter}
+use Rattle.krl_durable.specs.Index.{Index, slots}
 use Rattle.krl_table.specs.Rows.{Rows}
 
 -- the client has no waiter
@@ -21,3 +23,20 @@ pub record IsNextWaiting (rows : Rows) (from n : ℕ) : Type 0 where
 abbrev pub AreWaiting : Rows → ℕ → List ℕ → Type 0
 AreWaiting rows from [] = (n : ℕ) → from ≤ n → (rows n).queue ≡ []
 AreWaiting rows from (n ∷ ns) = IsNextWaiting rows from n × AreWaiting rows (suc n) ns
+
+-- the first waiter of a slot
+abbrev pub front_of : List Waiter → Option Waiter
+front_of [] = None
+front_of (u ∷ us) = Some u
+
+-- the slot on which the client waits
+abbrev pub place_of : Index → Rows → ℕ → Option ℕ
+place_of m rows c = find (λ n. is_some (first_of c (rows n).queue)) (slots m)
+
+abbrev pub waiter_at : Rows → ℕ → Option ℕ → Option Waiter
+waiter_at rows c None = None
+waiter_at rows c (Some n) = first_of c (rows n).queue
+
+-- how it waits there
+abbrev pub waiter_of : Index → Rows → ℕ → Option Waiter
+waiter_of m rows c = waiter_at rows c (place_of m rows c)

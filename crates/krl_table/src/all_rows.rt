@@ -4,8 +4,10 @@ ghost use Rattle.std.specs.FinMap as map;
 ghost use Rattle.krl_modes.specs.declared.point.TheConstants.{END};
 ghost use Rattle.krl_table.specs.declared.row.SlotRow.{SlotRow as Kept};
 ghost use Rattle.krl_table.specs.Rows.{blank_row};
-ghost use Rattle.krl_table.specs.Kept.{row_of, IsAll, lowered_between};
+ghost use Rattle.krl_table.specs.Kept.{row_of};
+ghost use Rattle.krl_table.specs.KeptRows.{IsAll, lowered_between};
 ghost use Rattle.krl_table.specs.Extents.{cleared_within};
+ghost use Rattle.krl_modes.specs.declared.limits.TheConstants.{MAX_CLIENTS};
 
 use crate::extent::Extent;
 use crate::row::SlotRow;
@@ -17,7 +19,7 @@ use krl_modes::Mode;
 /// kept there, and at the one after them.
 pub(crate) fn lower(rows: &mut ReservedMap<SlotRow>, client: u64, from: u64, hi: u64, keep: Mode)
     requires used { (n : ℕ) (r : Kept) → map.get rows.old.map n ≡ Some r → row_of r ≢ blank_row }
-    requires client { client < 64 }
+    requires client { client < MAX_CLIENTS }
     ensures all { IsAll (lowered_between from hi client keep) rows.old.map rows.new.map }
     ensures room { rows.new.room ≡ rows.old.room }
 {
@@ -36,7 +38,7 @@ pub(crate) fn lower(rows: &mut ReservedMap<SlotRow>, client: u64, from: u64, hi:
 pub(crate) fn clear(rows: &mut ReservedMap<SlotRow>, client: u64, extent: Extent)
     requires used { (n : ℕ) (r : Kept) → map.get rows.old.map n ≡ Some r → row_of r ≢ blank_row }
     requires near { (n : ℕ) → END < n → map.get rows.old.map n ≡ None }
-    requires client { client < 64 }
+    requires client { client < MAX_CLIENTS }
     ensures all { IsAll (cleared_within extent client) rows.old.map rows.new.map }
     ensures room { rows.new.room ≡ rows.old.room }
 {

@@ -2,7 +2,7 @@
 ghost use Rattle.std.specs.Prelude.{ℕ};
 ghost use Rattle.krl_table.specs.Extents.{Lies};
 
-/// The slots from the first one to the last; none where the last lies before the first.
+/// The slots from the first one to the last; none if the last lies before the first.
 #[derive(Clone, Copy)]
 pub(crate) struct Extent {
     pub(crate) first: u64,

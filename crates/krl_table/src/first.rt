@@ -1,5 +1,5 @@
 //! A first waiter, and what it finds.
-use krl_modes::{Mode, Span};
+use krl_modes::{MAX_CLIENTS, Mode, Span};
 use krl_queue::Waiter;
 
 /// The first waiter of a slot, and how the slot stands.
@@ -10,5 +10,5 @@ pub struct FirstWaiter {
     /// The slot's span.
     pub span: Span,
     /// What each client holds there.
-    pub modes: [Mode; 64],
+    pub modes: [Mode; MAX_CLIENTS],
 }

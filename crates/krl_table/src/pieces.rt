@@ -87,7 +87,7 @@ pub(crate) fn reported_range(pieces: &[RangePiece], rises: bool, span: Span) -> 
     part
 }
 
-/// The piece's part, where it meets the span.
+/// The piece's part, if it meets the span.
 fn range_on(piece: &RangePiece, span: Span) -> RangePart
     ensures { result ≡ (if meets piece.now.span span then piece.now.part else range.N) }
 {
@@ -113,7 +113,7 @@ pub(crate) fn reported_key(pieces: &[KeyPiece], rises: bool, point: u64) -> KeyP
     part
 }
 
-/// The piece's part, where it is one at the point.
+/// The piece's part, if it is one at the point.
 fn key_at(piece: &KeyPiece, point: u64) -> KeyPart
     ensures { result ≡ (if nat_eq piece.now.point point then piece.now.part else key.N) }
 {
@@ -124,7 +124,7 @@ fn key_at(piece: &KeyPiece, point: u64) -> KeyPart
     }
 }
 
-/// The least point from `at` on in the span, or `most` where there is none.
+/// The least point from `at` on in the span, or `most` if there is none.
 fn from_span(span: Span, at: u64, most: u64) -> u64
     requires { at ≤ most }
     ensures above { at ≤ result }
@@ -137,7 +137,7 @@ fn from_span(span: Span, at: u64, most: u64) -> u64
     }
 }
 
-/// The least point from `at` on in one of the spans, or `most` where there is none.
+/// The least point from `at` on in one of the spans, or `most` if there is none.
 pub(crate) fn next_range(pieces: &[RangePiece], rises: bool, at: u64, most: u64) -> u64
     requires rises { rises ≡ true → RangesRise 0 pieces.now }
     requires most { at ≤ most }
@@ -164,7 +164,7 @@ fn from_point(point: u64, at: u64, most: u64) -> u64
     if at <= point { point } else { most }
 }
 
-/// The least of the points from `at` on, or `most` where there is none.
+/// The least of the points from `at` on, or `most` if there is none.
 pub(crate) fn next_key(pieces: &[KeyPiece], rises: bool, at: u64, most: u64) -> u64
     requires rises { rises ≡ true → KeysRise 0 pieces.now }
     requires most { at ≤ most }

@@ -1,6 +1,6 @@
 //! What a first waiter can be told.
 ghost use Rattle.std.specs.Prelude.{◌≡◌};
-ghost use Rattle.krl_table.specs.Replies.{lacks_entry};
+ghost use Rattle.krl_table.specs.FirstReplies.{lacks_entry};
 
 use krl_modes::END;
 use krl_queue::Waiter;

@@ -7,8 +7,10 @@ ghost use Rattle.krl_durable.specs.Index.{is_slot};
 ghost use Rattle.krl_table.specs.declared.row.SlotRow.{SlotRow as Kept};
 ghost use Rattle.krl_table.specs.Rows.{blank_row, is_compatible_there, mode_at};
 ghost use Rattle.krl_table.specs.Reports.{rebuilt, adopted};
-ghost use Rattle.krl_table.specs.Kept.{row_of, rows_of, IsOver};
+ghost use Rattle.krl_table.specs.Kept.{row_of, rows_of};
+ghost use Rattle.krl_table.specs.KeptRows.{IsOver};
 ghost use Rattle.krl_table.specs.Extents.{AreWithin};
+ghost use Rattle.krl_modes.specs.declared.limits.TheConstants.{MAX_CLIENTS};
 
 use crate::extents::Extents;
 use crate::row::SlotRow;
@@ -65,7 +67,7 @@ pub(crate) fn settle(
     requires used { (n : ℕ) (r : Kept) → map.get rows.old.map n ≡ Some r → row_of r ≢ blank_row }
     requires few { length (map.entries durable.now.index) ≤ durable.now.room }
     requires room { durable.now.room < rows.old.room }
-    requires client { client < 64 }
+    requires client { client < MAX_CLIENTS }
     requires free { (n : ℕ) → mode_at (rows_of rows.old.map) n client ≡ mode.N }
     requires within { AreWithin extents.old.by_client rows.old.map }
     ensures adopted { (n : ℕ) → rows_of rows.new.map n

@@ -2,35 +2,37 @@
 ghost use Rattle.std.specs.Prelude.{◌≡◌, ◌||◌, ◌↔◌, ℕ, true, ◌<◌, [], length, nat_eq, IfSome};
 ghost use Rattle.krl_modes.specs.Modes.{range_of, compatible, meet};
 ghost use Rattle.krl_modes.specs.declared.mode.Mode.TheVariants as mode;
-ghost use Rattle.krl_queue.specs.Waiting.{without_first};
+ghost use Rattle.krl_queue.specs.Turns.{without_first};
 ghost use Rattle.krl_table.specs.Calls.{queue_with, split_modes, mode_beside, wanted, with_mode};
 ghost use Rattle.krl_table.specs.Calls.{grant_first};
 ghost use Rattle.krl_table.specs.Kept.{mode_of, row_of};
-ghost use Rattle.krl_table.specs.Rows.{blank_row, front_of, all_below, most_clients};
-ghost use Rattle.krl_table.specs.Rows.{is_compatible_in_row};
+ghost use Rattle.krl_table.specs.Rows.{blank_row, all_below, is_compatible_in_row};
 ghost use Rattle.krl_table.specs.Rows.{set_mode};
-ghost use Rattle.krl_table.specs.Replies.{row_reply};
+ghost use Rattle.krl_table.specs.Waiters.{front_of};
+ghost use Rattle.krl_table.specs.FirstReplies.{row_reply};
+ghost use Rattle.krl_modes.specs.declared.limits.TheConstants.{MAX_CLIENTS};
+ghost use Rattle.krl_modes.specs.Limits.{max_clients};
 
 use crate::reply::{self, Reply};
-use krl_modes::{KeyPart, Mode, RangePart};
+use krl_modes::{KeyPart, MAX_CLIENTS, Mode, RangePart};
 use krl_queue::{WaitList, WaitNode, Waiter};
 
 /// What is kept of a slot where somebody holds or waits.
 #[derive(Drop)]
 pub struct SlotRow {
     /// The mode of each client there.
-    pub(crate) modes: [Mode; 64],
+    pub(crate) modes: [Mode; MAX_CLIENTS],
     /// Who waits there.
     pub(crate) queue: WaitList,
 }
 
 impl SlotRow {
-    /// A row where nobody holds anything, and nobody waits. It takes no memory.
+    /// A row in which nobody holds anything, and nobody waits. It takes no memory.
     pub(crate) fn blank() -> SlotRow
         ensures { row_of result ≡ blank_row }
     {
         SlotRow {
-            modes: [Mode::N; 64],
+            modes: [Mode::N; MAX_CLIENTS],
             queue: WaitList::new(),
         }
     }
@@ -44,7 +46,7 @@ impl SlotRow {
 
     /// Whether nobody but the client holds anything there, and nobody waits.
     pub(crate) fn is_blank_beside(&self, client: u64) -> bool
-        requires { client < 64 }
+        requires { client < MAX_CLIENTS }
         ensures { (result ≡ true) ↔ (with_mode (row_of self.now) client mode.N ≡ blank_row) }
     {
         let mut modes = self.all_modes();
@@ -54,23 +56,23 @@ impl SlotRow {
 
     /// The client's mode.
     pub(crate) fn mode(&self, client: u64) -> Mode
-        requires { client < 64 }
+        requires { client < MAX_CLIENTS }
         ensures { result ≡ mode_of self.now.modes client }
     {
         self.modes[client as usize]
     }
 
     /// The mode of each client.
-    pub(crate) fn all_modes(&self) -> [Mode; 64]
+    pub(crate) fn all_modes(&self) -> [Mode; MAX_CLIENTS]
         ensures modes { result ≡ self.now.modes }
-        ensures full { length self.now.modes ≡ 64 }
+        ensures full { length self.now.modes ≡ MAX_CLIENTS }
     {
         self.modes
     }
 
     /// The client has this mode from now on.
     pub(crate) fn set(&mut self, client: u64, mode: Mode)
-        requires { client < 64 }
+        requires { client < MAX_CLIENTS }
         ensures { row_of self.new ≡ with_mode (row_of self.old) client mode }
     {
         self.modes[client as usize] = mode;
@@ -78,7 +80,7 @@ impl SlotRow {
 
     /// Lowers the client's mode to this one.
     pub(crate) fn lower(&mut self, client: u64, keep: Mode)
-        requires { client < 64 }
+        requires { client < MAX_CLIENTS }
         ensures { row_of self.new
             ≡ with_mode (row_of self.old) client (meet (mode_of self.old.modes client) keep) }
     {
@@ -88,7 +90,7 @@ impl SlotRow {
 
     /// The client holds nothing, and its first waiter goes.
     pub(crate) fn clear(&mut self, client: u64)
-        requires { client < 64 }
+        requires { client < MAX_CLIENTS }
         ensures modes { row_of self.new
             ≡ record {
               modes = set_mode (mode_of self.old.modes) client mode.N;
@@ -99,9 +101,9 @@ impl SlotRow {
         let _waiter = self.queue.remove_client(client);
     }
 
-    /// Puts the waiter behind all others, or before them where its client holds a mode.
+    /// Puts the waiter behind all others, or before them if its client holds a mode.
     pub(crate) fn enqueue(&mut self, node: WaitNode)
-        requires { node.client < 64 }
+        requires { node.client < MAX_CLIENTS }
         ensures { self.new ≡ record self.old { queue = queue_with (row_of self.old) node } }
     {
         if self.mode(node.waiter().client).at_most(Mode::N) {
@@ -113,7 +115,7 @@ impl SlotRow {
 
     /// The first waiter gets what it wants, and waits no more.
     pub(crate) fn grant(&mut self) -> Option<Waiter>
-        requires { IfSome (front_of self.old.queue) (λ u. u.client < 64) }
+        requires { IfSome (front_of self.old.queue) (λ u. u.client < MAX_CLIENTS) }
         ensures row { row_of self.new ≡ grant_first (row_of self.old) self.old.queue }
         ensures waiter { result ≡ front_of self.old.queue }
     {
@@ -124,7 +126,7 @@ impl SlotRow {
 
     /// The waiter's client gets what it wants.
     pub(crate) fn raise(&mut self, waiter: &Waiter)
-        requires { waiter.now.client < 64 }
+        requires { waiter.now.client < MAX_CLIENTS }
         ensures { row_of self.new ≡ with_mode (row_of self.old) waiter.now.client
             (wanted (row_of self.old) waiter.now) }
     {
@@ -134,7 +136,7 @@ impl SlotRow {
 
     /// Whether the mode is compatible with what all others hold.
     pub(crate) fn is_compatible_there(&self, client: u64, mode: Mode) -> bool
-        ensures { result ≡ all_below most_clients
+        ensures { result ≡ all_below max_clients
             (λ d. nat_eq d client || compatible mode (mode_of self.now.modes d)) }
     {
         for other in 0..64u64 {
@@ -149,7 +151,7 @@ impl SlotRow {
 
     /// Whether what the waiter wants is compatible with what all others hold.
     pub(crate) fn is_wanted_compatible(&self, waiter: &Waiter) -> bool
-        requires { waiter.now.client < 64 }
+        requires { waiter.now.client < MAX_CLIENTS }
         ensures { result
             ≡ is_compatible_in_row (row_of self.now) waiter.now.client
             (wanted (row_of self.now) waiter.now) }
@@ -160,7 +162,7 @@ impl SlotRow {
 
     /// What the first waiter can be told, who waits on this slot.
     pub(crate) fn reply(&self, slot: u64) -> Option<Reply>
-        requires { IfSome (front_of self.now.queue) (λ u. u.client < 64) }
+        requires { IfSome (front_of self.now.queue) (λ u. u.client < MAX_CLIENTS) }
         ensures { result ≡ row_reply slot (row_of self.now) }
     {
         let waiter = self.queue.front()?;
@@ -175,10 +177,11 @@ impl SlotRow {
 
     /// The row of a new slot that its writer parts from this one. Nobody waits there.
     pub(crate) fn split(&self, client: u64) -> SlotRow
-        requires { client < 64 }
+        requires { client < MAX_CLIENTS }
         ensures { row_of result
             ≡ record { modes = split_modes (mode_of self.now.modes) client; queue = [] } }
     {
+        // By its clause `full` the prover knows that there are 64.
         let _modes = self.all_modes();
         let mut row = SlotRow::blank();
         for other in 0..64u64 {
@@ -194,7 +197,7 @@ impl SlotRow {
 }
 
 /// Whether all modes are N.
-fn all_are_n(modes: &[Mode; 64]) -> bool
+fn all_are_n(modes: &[Mode; MAX_CLIENTS]) -> bool
     ensures { (result ≡ true) ↔ ((c : ℕ) → mode_of modes.now c ≡ mode.N) }
 {
     let modes = *modes;

@@ -4,18 +4,22 @@ ghost use Rattle.std.specs.Prelude.{drop, IsSome, IfSome};
 ghost use Rattle.std.specs.FinMap as map;
 ghost use Rattle.krl_modes.specs.Modes.{meet};
 ghost use Rattle.krl_modes.specs.declared.mode.Mode.TheVariants as mode;
-ghost use Rattle.krl_queue.specs.Waiting.{up_to, beyond, without_first};
-ghost use Rattle.krl_table.specs.Kept.{row_of, rows_of, IsSet, AreSet, HasRoom};
+ghost use Rattle.krl_queue.specs.Waiting.{up_to, beyond};
+ghost use Rattle.krl_queue.specs.Turns.{without_first};
+ghost use Rattle.krl_table.specs.Kept.{row_of, rows_of};
+ghost use Rattle.krl_table.specs.KeptRows.{IsSet, AreSet, HasRoom};
 ghost use Rattle.krl_table.specs.Calls.{queue_with, split_modes, wanted, with_mode, with_queue};
 ghost use Rattle.krl_table.specs.Calls.{grant_first, behind_first};
-ghost use Rattle.krl_table.specs.Rows.{blank_row, front_of, mode_at, set_mode};
+ghost use Rattle.krl_table.specs.Rows.{blank_row, mode_at, set_mode};
+ghost use Rattle.krl_table.specs.Waiters.{front_of};
+ghost use Rattle.krl_modes.specs.declared.limits.TheConstants.{MAX_CLIENTS};
 
 use crate::row::SlotRow;
 use krl_blocks::ReservedMap;
 use krl_modes::{Mode, Point};
 use krl_queue::{WaitNode, Waiter};
 
-/// Takes the row of the slot out for a change; where there is none, a blank one.
+/// Takes the row of the slot out for a change; if there is none, a blank one.
 fn take(rows: &mut ReservedMap<SlotRow>, slot: u64) -> SlotRow
     ensures row { row_of result ≡ rows_of rows.old.map slot }
     ensures others { (n : ℕ) → n ≢ slot → map.get rows.new.map n ≡ map.get rows.old.map n }
@@ -31,7 +35,7 @@ fn take(rows: &mut ReservedMap<SlotRow>, slot: u64) -> SlotRow
     }
 }
 
-/// Puts the row back, or none where it is blank now.
+/// Puts the row back, or none if it is blank now.
 fn put(rows: &mut ReservedMap<SlotRow>, slot: u64, row: SlotRow)
     requires { HasRoom rows.old slot }
     ensures set { IsSet rows.old.map rows.new.map slot (row_of row) }
@@ -46,7 +50,7 @@ fn put(rows: &mut ReservedMap<SlotRow>, slot: u64, row: SlotRow)
 
 /// Whether the row there is blank, once the client's mode is lowered to this one.
 fn goes_blank(rows: &ReservedMap<SlotRow>, slot: u64, client: u64, keep: Mode) -> bool
-    requires client { client < 64 }
+    requires client { client < MAX_CLIENTS }
     ensures { result ≡ true → with_mode (rows_of rows.now.map slot) client
         (meet (mode_at (rows_of rows.now.map) slot client) keep) ≡ blank_row }
 {
@@ -60,7 +64,7 @@ fn goes_blank(rows: &ReservedMap<SlotRow>, slot: u64, client: u64, keep: Mode) -
 /// row is put in its place meanwhile.
 pub(crate) fn lower(rows: &mut ReservedMap<SlotRow>, slot: u64, client: u64, keep: Mode)
     requires there { IsSome (map.get rows.old.map slot) }
-    requires client { client < 64 }
+    requires client { client < MAX_CLIENTS }
     ensures set { IsSet rows.old.map rows.new.map slot (with_mode (rows_of rows.old.map slot) client
         (meet (mode_at (rows_of rows.old.map) slot client) keep)) }
     ensures room { rows.new.room ≡ rows.old.room }
@@ -77,7 +81,7 @@ pub(crate) fn lower(rows: &mut ReservedMap<SlotRow>, slot: u64, client: u64, kee
 /// The client holds nothing there, and its first waiter goes.
 pub(crate) fn clear(rows: &mut ReservedMap<SlotRow>, slot: u64, client: u64)
     requires there { IsSome (map.get rows.old.map slot) }
-    requires client { client < 64 }
+    requires client { client < MAX_CLIENTS }
     ensures set { IsSet rows.old.map rows.new.map slot (record {
       modes = set_mode (rows_of rows.old.map slot).modes client mode.N;
       queue = without_first client (rows_of rows.old.map slot).queue;
@@ -92,7 +96,7 @@ pub(crate) fn clear(rows: &mut ReservedMap<SlotRow>, slot: u64, client: u64)
 /// The client has this mode there from now on.
 pub(crate) fn set(rows: &mut ReservedMap<SlotRow>, slot: u64, client: u64, mode: Mode)
     requires room { HasRoom rows.old slot }
-    requires client { client < 64 }
+    requires client { client < MAX_CLIENTS }
     ensures set { IsSet rows.old.map rows.new.map slot
         (with_mode (rows_of rows.old.map slot) client mode) }
     ensures room { rows.new.room ≡ rows.old.room }
@@ -102,10 +106,10 @@ pub(crate) fn set(rows: &mut ReservedMap<SlotRow>, slot: u64, client: u64, mode:
     put(rows, slot, row);
 }
 
-/// Puts the waiter behind all others there, or before them where its client holds a mode there.
+/// Puts the waiter behind all others there, or before them if its client holds a mode there.
 pub(crate) fn enqueue(rows: &mut ReservedMap<SlotRow>, slot: u64, node: WaitNode)
     requires room { HasRoom rows.old slot }
-    requires client { node.client < 64 }
+    requires client { node.client < MAX_CLIENTS }
     ensures set { IsSet rows.old.map rows.new.map slot (with_queue (rows_of rows.old.map slot)
         (queue_with (rows_of rows.old.map slot) node)) }
     ensures room { rows.new.room ≡ rows.old.room }
@@ -118,7 +122,8 @@ pub(crate) fn enqueue(rows: &mut ReservedMap<SlotRow>, slot: u64, node: WaitNode
 /// The first waiter there gets what it wants, and waits no more.
 pub(crate) fn grant(rows: &mut ReservedMap<SlotRow>, slot: u64) -> Option<Waiter>
     requires there { IsSome (map.get rows.old.map slot) }
-    requires client { IfSome (front_of (rows_of rows.old.map slot).queue) (λ u. u.client < 64) }
+    requires client { IfSome (front_of (rows_of rows.old.map slot).queue)
+        (λ u. u.client < MAX_CLIENTS) }
     ensures set { IsSet rows.old.map rows.new.map slot
         (grant_first (rows_of rows.old.map slot) (rows_of rows.old.map slot).queue) }
     ensures waiter { result ≡ front_of (rows_of rows.old.map slot).queue }
@@ -133,7 +138,7 @@ pub(crate) fn grant(rows: &mut ReservedMap<SlotRow>, slot: u64) -> Option<Waiter
 /// The waiter's client gets what it wants there.
 pub(crate) fn raise(rows: &mut ReservedMap<SlotRow>, slot: u64, waiter: &Waiter)
     requires room { HasRoom rows.old slot }
-    requires client { waiter.now.client < 64 }
+    requires client { waiter.now.client < MAX_CLIENTS }
     ensures set { IsSet rows.old.map rows.new.map slot (with_mode (rows_of rows.old.map slot)
         waiter.now.client (wanted (rows_of rows.old.map slot) waiter.now)) }
     ensures room { rows.new.room ≡ rows.old.room }
@@ -163,7 +168,7 @@ pub(crate) fn part(rows: &mut ReservedMap<SlotRow>, slot: u64, key: Point, clien
     requires there { IsSome (map.get rows.old.map slot) }
     requires apart { key ≢ slot }
     requires room { HasRoom rows.old key }
-    requires client { client < 64 }
+    requires client { client < MAX_CLIENTS }
     ensures set { AreSet rows.old.map rows.new.map
         key (record {
           modes = split_modes (rows_of rows.old.map slot).modes client;

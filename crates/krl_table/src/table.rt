@@ -8,13 +8,16 @@ ghost use Rattle.krl_modes.specs.declared.point.TheConstants.{END};
 ghost use Rattle.krl_modes.specs.declared.part.KeyPart.TheVariants as key_part;
 ghost use Rattle.krl_messages.specs.Values as values;
 ghost use Rattle.krl_durable.specs.Index.{Index, slot_of, span_of, is_slot};
-ghost use Rattle.krl_table.specs.Rows.{mode_at, front_of, blank_row, waiter_of};
+ghost use Rattle.krl_table.specs.Rows.{mode_at, blank_row};
+ghost use Rattle.krl_table.specs.Waiters.{front_of, waiter_of, WaitsNowhere, AreWaiting};
 ghost use Rattle.krl_table.specs.Calls.{lowered, cleared, enqueued, dropped, split, merged};
-ghost use Rattle.krl_table.specs.Kept.{mode_of, rows_of, IsOver, Kept};
-ghost use Rattle.krl_table.specs.Points.{range_at, key_at, MayInsert, MayDelete};
+ghost use Rattle.krl_table.specs.Kept.{mode_of, rows_of, Kept};
+ghost use Rattle.krl_table.specs.KeptRows.{IsOver};
+ghost use Rattle.krl_table.specs.Points.{range_at, key_at};
+ghost use Rattle.krl_table.specs.Writers.{MayInsert, MayDelete};
 ghost use Rattle.krl_table.specs.Reports.{conflicts, adopted};
 ghost use Rattle.krl_table.specs.Sound.{IsTable};
-ghost use Rattle.krl_table.specs.Waiters.{WaitsNowhere, AreWaiting};
+ghost use Rattle.krl_modes.specs.declared.limits.TheConstants.{MAX_CLIENTS};
 
 mod at_once;
 mod granting;
@@ -31,7 +34,7 @@ use arrayvec::ArrayVec;
 use krl_blocks::ReservedMap;
 use krl_durable::{Durable, Room};
 use krl_messages::Pieces;
-use krl_modes::{Mode, Point, Span, TOP};
+use krl_modes::{MAX_CLIENTS, Mode, Point, Span, TOP};
 use krl_queue::{WaitNode, Waiter};
 use std::alloc::{AllocError, Global};
 use std::marker::Model;
@@ -57,7 +60,8 @@ impl Model for Table {
     ghost use Rattle.krl_blocks.specs.ReservedMaps.{MapWithRoom, map_with_room_code};
     ghost use Rattle.krl_table.specs.declared.row.SlotRow.{SlotRow};
     ghost use Rattle.krl_table.specs.contracts.row.SlotRow as slot_row;
-    ghost use Rattle.krl_table.specs.Kept.{IsSound, AreListed};
+    ghost use Rattle.krl_table.specs.KeptRows.{IsSound};
+    ghost use Rattle.krl_table.specs.KeptWaiters.{AreListed};
     ghost use Rattle.krl_table.specs.Extents.{AreWithin};
 
     ghost Value = { MapWithRoom SlotRow };
@@ -71,12 +75,12 @@ impl Model for Table {
 }
 
 impl Table {
-    /// A table where nobody holds anything, and nobody waits, for an index with this room: it may
-    /// have a row for each entry, and one for END. It makes at most five requests for memory.
+    /// A table in which nobody holds anything, and nobody waits, for an index with this room: it
+    /// may have a row for each entry, and one for END. It makes at most five requests for memory.
     ///
     /// # Errors
     ///
-    /// `AllocError` where memory is refused.
+    /// `AllocError` if memory is refused.
     pub fn new(alloc: Global, room: Room) -> Result<Table, AllocError>
         ensures blank { IfOk result (λ t. (n : ℕ) → rows_of t.map n ≡ blank_row) }
         ensures slots { IfOk result (λ t. (m : Index)
@@ -98,9 +102,9 @@ impl Table {
         self.rows.get(slot).is_some()
     }
 
-    /// The client's mode on the slot; N where there is no slot.
+    /// The client's mode on the slot; N if there is no slot.
     pub fn mode(&self, slot: u64, client: u64) -> Mode
-        requires { client < 64 }
+        requires { client < MAX_CLIENTS }
         ensures { result ≡ mode_at (rows_of self.now.map) slot client }
     {
         match self.rows.get(slot) {
@@ -112,7 +116,7 @@ impl Table {
     /// The first waiter of the slot.
     pub fn front(&self, slot: u64) -> Option<Waiter>
         ensures front { result ≡ front_of (rows_of self.now.map slot).queue }
-        ensures client { IfSome result (λ u. u.client < 64) }
+        ensures client { IfSome result (λ u. u.client < MAX_CLIENTS) }
     {
         match self.rows.get(slot) {
             Some(row) => row.queue.front(),
@@ -126,7 +130,7 @@ impl Table {
         ensures none { IfNone result ((rows_of self.now.map slot).queue ≡ []) }
         ensures waiter { IfSome result
             (λ first. front_of (rows_of self.now.map slot).queue ≡ Some first.waiter) }
-        ensures client { IfSome result (λ first. first.waiter.client < 64) }
+        ensures client { IfSome result (λ first. first.waiter.client < MAX_CLIENTS) }
         ensures span { IfSome result (λ first. first.span ≡ span_of durable.now.index slot) }
         ensures modes { IfSome result
             (λ first. (c : ℕ) → mode_of first.modes c ≡ mode_at (rows_of self.now.map) slot c) }
@@ -144,7 +148,7 @@ impl Table {
 
     /// How the client waits. The clause `sound` says what holds of every table.
     pub fn waiter_of(&self, client: u64) -> Option<Waiter>
-        requires { client < 64 }
+        requires { client < MAX_CLIENTS }
         ensures waiter { (m : Index) → IsOver m self.now.map
             → result ≡ waiter_of m (rows_of self.now.map) client }
         ensures client { IfSome result (λ u. u.client ≡ client) }
@@ -155,9 +159,9 @@ impl Table {
     }
 
     /// The slots at which somebody waits, each once, in ascending order. It takes a search and a
-    /// look at each client's waiter for each of them, and one look more; where nobody waits it
+    /// look at each client's waiter for each of them, and one look more; if nobody waits it
     /// looks at one number. It takes no memory.
-    pub fn waiting_slots(&self, durable: &Durable) -> ArrayVec<u64, 64>
+    pub fn waiting_slots(&self, durable: &Durable) -> ArrayVec<u64, MAX_CLIENTS>
         requires { IsOver durable.now.index self.now.map }
         ensures slots { AreWaiting (rows_of self.now.map) 0 result.items }
         ensures there { AllByRecursion (λ n. is_slot durable.now.index n ≡ true) result.items }
@@ -176,7 +180,7 @@ impl Table {
     /// the rows that are kept there, and at the one after them.
     pub fn lower(&mut self, durable: &Durable, client: u64, span: Span, keep: Mode)
         requires over { IsOver durable.now.index self.old.map }
-        requires client { client < 64 }
+        requires client { client < MAX_CLIENTS }
         ensures lowered { (n : ℕ) → rows_of self.new.map n
             ≡ lowered durable.now.index (rows_of self.old.map) client span keep n }
         ensures slots { IsOver durable.now.index self.new.map }
@@ -195,8 +199,9 @@ impl Table {
     /// The client holds nothing, and waits no more. It looks at the rows that are kept between the
     /// first and the last slot at which it held or waited since it was cleared.
     pub fn clear(&mut self, client: u64)
-        requires { client < 64 }
-        ensures cleared { (n : ℕ) → rows_of self.new.map n ≡ cleared (rows_of self.old.map) client n }
+        requires { client < MAX_CLIENTS }
+        ensures cleared { (n : ℕ) → rows_of self.new.map n
+            ≡ cleared (rows_of self.old.map) client n }
         ensures slots { (m : Index) → IsOver m self.old.map → IsOver m self.new.map }
         ensures room { self.new.room ≡ self.old.room }
     {
@@ -207,10 +212,10 @@ impl Table {
     }
 
     /// The waiter, of a client that has none, goes to the slot of its point: behind all others, or
-    /// before them where its client holds a mode there. It takes no memory.
+    /// before them if its client holds a mode there. It takes no memory.
     pub fn enqueue(&mut self, durable: &Durable, node: WaitNode)
         requires over { IsOver durable.now.index self.old.map }
-        requires client { node.client < 64 }
+        requires client { node.client < MAX_CLIENTS }
         requires free { WaitsNowhere (rows_of self.old.map) node.client }
         requires rows { durable.now.room < self.old.room }
         ensures enqueued { (n : ℕ) → rows_of self.new.map n
@@ -218,6 +223,7 @@ impl Table {
         ensures slots { IsOver durable.now.index self.new.map }
         ensures room { self.new.room ≡ self.old.room }
     {
+        // By its clause `kept` the prover knows what holds of all that survives.
         let _kept = durable.epoch();
         let waiter = node.waiter();
         let client = waiter.client;
@@ -239,12 +245,12 @@ impl Table {
         }
     }
 
-    /// The key, which is no slot yet, becomes one, written by the client, which may insert there.
-    /// The waiters up to it move there. It takes no memory. The write that makes it a key of the
-    /// index, which has room for it, comes behind.
+    /// Makes `key`, which is no slot yet, a slot. `client` writes it, and may insert there. The
+    /// waiters up to it move there. It takes no memory. The write that makes it a key of the index,
+    /// which has room for it, comes behind.
     pub fn split(&mut self, durable: &Durable, key: Point, client: u64)
         requires over { IsOver durable.now.index self.old.map }
-        requires client { client < 64 }
+        requires client { client < MAX_CLIENTS }
         requires key { key < END }
         requires free { map.get durable.now.index key ≡ None }
         requires room { length (map.entries durable.now.index) < durable.now.room }
@@ -297,15 +303,15 @@ impl Table {
     /// The client, which restarts with what it still holds, has on each slot the least mode at or
     /// above what it reports there: the join of the range parts whose spans meet the slot's, and
     /// the greatest key part at the slot. Key parts at other points are passed over. It takes no
-    /// memory. It looks at the rows that are kept from the first on where the client held or waited
+    /// memory. It looks at the rows that are kept from the first on if the client held or waited
     /// since it was cleared, and at the slots of which something is reported, with a search for
-    /// each. Where the pieces of both lists come in order it reads a piece once for each slot that
+    /// each. If the pieces of both lists come in order it reads a piece once for each slot that
     /// it meets, and once to pass it; else each piece for each of those slots. `in_order` makes a
     /// report that is in order.
     ///
     /// # Errors
     ///
-    /// `Conflict` where that is incompatible with another client's mode on some slot. Nothing
+    /// `Conflict` if that is incompatible with another client's mode on some slot. Nothing
     /// changed.
     pub fn adopt_report(
         &mut self,
@@ -314,7 +320,7 @@ impl Table {
         pieces: &Pieces,
     ) -> Result<(), Conflict>
         requires over { IsOver durable.now.index self.old.map }
-        requires client { client < 64 }
+        requires client { client < MAX_CLIENTS }
         requires rows { durable.now.room < self.old.room }
         ensures conflict { IsOk result
             ↔ (conflicts durable.now.index (rows_of self.old.map) client pieces.now ≡ false) }
@@ -324,11 +330,12 @@ impl Table {
         ensures slots { IsOver durable.now.index self.new.map }
         ensures room { self.new.room ≡ self.old.room }
     {
+        // By its clause `kept` the prover knows what holds of all that survives.
         let _kept = durable.epoch();
         if !reports::all_compatible(&self.rows, durable, client, pieces) {
             return Err(Conflict);
         }
-        // What it held before goes, of which nothing may be left where nothing is reported.
+        // What it held before goes, of which nothing may be left if nothing is reported.
         let extent = self.extents.of(client);
         all_rows::lower(&mut self.rows, client, extent.first, TOP, Mode::N);
         reports::settle(&mut self.rows, &mut self.extents, durable, client, pieces);

@@ -1,16 +1,18 @@
 //! How each client waits.
 ghost use Rattle.std.specs.Prelude.{◌≡◌, ◌<◌, ◌↔◌, ℕ, true, Some, None, IfSome, MatchOption, set};
 ghost use Rattle.std.specs.Prelude.{length, count_by, is_some};
-ghost use Rattle.krl_table.specs.Kept.{waiter_in, unlisted, AllWaitBelow, IsLeastPoint, lesser};
+ghost use Rattle.krl_table.specs.KeptWaiters.{waiter_in, unlisted, AllWaitBelow, IsLeastPoint};
+ghost use Rattle.krl_table.specs.KeptWaiters.{lesser};
+ghost use Rattle.krl_modes.specs.declared.limits.TheConstants.{MAX_CLIENTS};
 
-use krl_modes::Point;
+use krl_modes::{MAX_CLIENTS, Point};
 use krl_queue::Waiter;
 
-/// The waiter of each client, where it has one. Its slot is the one of its point, so it is not kept
+/// The waiter of each client, if it has one. Its slot is the one of its point, so it is not kept
 /// here: a slot that parts or goes changes nothing.
 #[derive(Drop)]
 pub(crate) struct Waiting {
-    pub(crate) by_client: [Option<Waiter>; 64],
+    pub(crate) by_client: [Option<Waiter>; MAX_CLIENTS],
     /// How many of them wait.
     count: u64,
     ghost counted: { count ≡ count_by is_some by_client },
@@ -20,10 +22,10 @@ impl Waiting {
     /// Nobody waits.
     pub(crate) fn nobody() -> Waiting
         ensures nobody { (c : ℕ) → waiter_in result.by_client c ≡ None }
-        ensures full { length result.by_client ≡ 64 }
+        ensures full { length result.by_client ≡ MAX_CLIENTS }
     {
         Waiting {
-            by_client: [None; 64],
+            by_client: [None; MAX_CLIENTS],
             count: 0,
         }
     }
@@ -37,7 +39,7 @@ impl Waiting {
 
     /// How the client waits.
     pub(crate) fn of(&self, client: u64) -> Option<Waiter>
-        requires { client < 64 }
+        requires { client < MAX_CLIENTS }
         ensures { result ≡ waiter_in self.now.by_client client }
     {
         self.by_client[client as usize]
@@ -45,7 +47,7 @@ impl Waiting {
 
     /// The waiter's client waits so from now on.
     pub(crate) fn note(&mut self, waiter: Waiter)
-        requires { waiter.client < 64 }
+        requires { waiter.client < MAX_CLIENTS }
         ensures { self.new.by_client ≡ set self.old.by_client waiter.client (Some waiter) }
     {
         let client = waiter.client as usize;
@@ -57,9 +59,9 @@ impl Waiting {
         self.count = count;
     }
 
-    /// The waiter's client waits no more, where there is one.
+    /// The waiter's client waits no more, if there is one.
     pub(crate) fn leave(&mut self, waiter: &Option<Waiter>)
-        requires { IfSome waiter.now (λ w. w.client < 64) }
+        requires { IfSome waiter.now (λ w. w.client < MAX_CLIENTS) }
         ensures { self.new.by_client ≡ unlisted self.old.by_client waiter.now }
     {
         if let Some(waiter) = *waiter {
@@ -69,7 +71,7 @@ impl Waiting {
 
     /// The client waits no more.
     pub(crate) fn clear(&mut self, client: u64)
-        requires { client < 64 }
+        requires { client < MAX_CLIENTS }
         ensures { self.new.by_client ≡ set self.old.by_client client None }
     {
         let client = client as usize;
@@ -81,7 +83,7 @@ impl Waiting {
         self.count = count;
     }
 
-    /// The least point at or above this one that somebody waits for. It looks at one number where
+    /// The least point at or above this one that somebody waits for. It looks at one number if
     /// nobody waits.
     pub(crate) fn least_from(&self, low: u64) -> Option<Point>
         ensures { MatchOption result (AllWaitBelow self.now.by_client low)

@@ -6,7 +6,7 @@ use krl_modes::Mode;
 use std::alloc::Global;
 use std::process::Abort;
 
-/// A client that has this mode, where no other has one.
+/// A client that has this mode, if no other has one.
 #[derive(Clone, Copy)]
 pub struct Alone(pub usize, pub Mode);
 
@@ -20,7 +20,7 @@ pub enum Ask {
     Waits(u64, u64, Mode),
     /// The same, for a lock of the points from there up to one past the last.
     WaitsTo(u64, u64, u64, Mode),
-    /// The first waiter of the slot is granted this many slots; none where it has to wait.
+    /// The first waiter of the slot is granted this many slots; none if it has to wait.
     Takes(u64, usize),
     /// The client asks from the point up to one past the last, and is granted this many slots at
     /// once.
@@ -37,7 +37,7 @@ pub enum Ask {
     Adopts(u64, Report),
     /// The client's report contradicts what others hold.
     Contradicts(u64, Report),
-    /// The point is a slot, where the client has this mode.
+    /// The point is a slot, if the client has this mode.
     Holds(u64, u64, Mode),
     /// The point is a slot, whose span begins there.
     Spans(u64, u64),

@@ -6,7 +6,7 @@ ghost use Rattle.krl_durable.specs.Registers.{record_of};
 
 use crate::again::CALLS;
 use crate::report::{Report, pieces};
-use krl_durable::{Durable, Record, Refused, Room};
+use krl_durable::{Durable, EntriesRefused, Record, Room};
 use krl_messages::{Outcome, Value, WriteOp};
 use krl_modes::{END, Mode, Point, TOP};
 use krl_queue::{WaitNode, Waiter};
@@ -36,7 +36,7 @@ pub struct Bench {
 
 impl Model for Bench {
     ghost use Rattle.std.specs.Prelude.{◌<◌};
-    ghost use Rattle.krl_table.specs.Kept.{IsOver};
+    ghost use Rattle.krl_table.specs.KeptRows.{IsOver};
 
     ghost Value = { Unit {0} };
 
@@ -89,8 +89,8 @@ fn entries_at(alloc: Global, keys: &[u64]) -> Result<Vec<(u64, Value)>, AllocErr
     Ok(entries)
 }
 
-/// What survives of entries at these keys, where the writer is registered.
-fn durable_of(alloc: Global, keys: &[u64]) -> Result<Durable, Refused> {
+/// What survives of entries at these keys, if the writer is registered.
+fn durable_of(alloc: Global, keys: &[u64]) -> Result<Durable, EntriesRefused> {
     let entries = entries_at(alloc, keys)?;
     Durable::from_parts(alloc, Room::standard(), &entries, 0, &REGISTERED)
 }
@@ -116,15 +116,15 @@ fn alone(client: usize, mode: Mode) -> [Mode; 64] {
 }
 
 impl Bench {
-    fn try_open(alloc: Global, keys: &[u64]) -> Result<Bench, Refused> {
+    fn try_open(alloc: Global, keys: &[u64]) -> Result<Bench, EntriesRefused> {
         let durable = durable_of(alloc, keys)?;
         let _kept = durable.epoch();
         let table = Table::new(alloc, durable.room())?;
         Ok(Bench { durable, table })
     }
 
-    /// A table where nobody holds anything and nobody waits, over entries at these keys. One that
-    /// is refused memory is opened again.
+    /// A table in which nobody holds anything and nobody waits, over entries at these keys. One
+    /// that is refused memory is opened again.
     pub fn open(alloc: Global, keys: &[u64]) -> Option<Bench> {
         for _ in 0..CALLS {
             if let Ok(bench) = Bench::try_open(alloc, keys) {
@@ -188,7 +188,7 @@ impl Bench {
         }
     }
 
-    /// The client's mode at the point. None where that is no slot.
+    /// The client's mode at the point. None if that is no slot.
     pub fn mode(&self, client: u64, at: u64) -> Option<Mode> {
         if client < 64 && self.durable.slot_of(at) == at {
             Some(self.table.mode(at, client))
@@ -197,7 +197,7 @@ impl Bench {
         }
     }
 
-    /// Where the span of the slot at this point begins. None where there is none.
+    /// Where the span of the slot at this point begins. None if there is none.
     pub fn span_from(&self, at: u64) -> Option<u64> {
         if at <= END && self.durable.slot_of(at) == at {
             Some(self.durable.span_of(at).lo())
@@ -269,7 +269,7 @@ impl Bench {
         Some(adopted.is_ok())
     }
 
-    /// How the writer's insert of the key is judged. Where it is Applied, the key is a slot then.
+    /// How the writer's insert of the key is judged. If it is Applied, the key is a slot then.
     pub fn inserts(&mut self, key: u64) -> Option<Outcome> {
         let Some(point) = Point::new(key) else {
             return None;
@@ -292,7 +292,7 @@ impl Bench {
         }
     }
 
-    /// How the writer's delete of the key is judged. Where it is Applied, the key is no slot then.
+    /// How the writer's delete of the key is judged. If it is Applied, the key is no slot then.
     pub fn deletes(&mut self, key: u64) -> Option<Outcome> {
         if key >= END || !has_number(&self.durable) {
             return None;

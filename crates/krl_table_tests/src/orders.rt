@@ -85,7 +85,7 @@ pub static ORDERS: [(Report, Report); 6] = [
     ),
 ];
 
-/// The pieces in order, asked for again where memory was refused.
+/// The pieces in order, asked for again if memory was refused.
 fn ordered(alloc: Global, pieces: &Pieces) -> Option<Pieces> {
     for _ in 0..CALLS {
         if let Ok(ordered) = in_order(alloc, pieces) {

@@ -40,7 +40,7 @@ fn try_pieces(alloc: Global, report: Report) -> Option<Pieces> {
     })
 }
 
-/// The pieces of the report, asked for again where memory was refused. None where a span is none.
+/// The pieces of the report, asked for again if memory was refused. None if a span is none.
 pub fn pieces(alloc: Global, report: Report) -> Option<Pieces> {
     for _ in 0..CALLS {
         if let Some(pieces) = try_pieces(alloc, report) {

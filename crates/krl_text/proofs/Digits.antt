@@ -13,7 +13,7 @@ pub digits_value_grows : (n : ℕ) (bytes : List ℕ) → n ≤ digits_value_aft
 digits_value_grows n [] = omega arith
 digits_value_grows n (b ∷ bytes) = omega (arith, digits_value_grows (n * 10 + digit_value b) bytes)
 
--- where the digits up to one make too large a number, so do all
+-- if the digits up to one make too large a number, so do all
 pub digits_value_from : (word : List ℕ) (i value : ℕ) → i < length word → digits_value_after 10 value (drop i word) ≡ digits_value 10 word → value * 10 + digit_value (get_or word i 0) ≤ digits_value 10 word
 digits_value_from word i value l e =
     let more = digits_value_grows (value * 10 + digit_value (get_or word i 0)) (drop (i + 1) word) in

@@ -2,29 +2,29 @@
 use Rattle.std.specs.Prelude.{ℕ}
 
 -- the most bytes of a text
-abbrev pub most_text : ℕ
-most_text = 1048576
+abbrev pub max_text : ℕ
+max_text = 1048576
 
 -- the most lines of a text
-abbrev pub most_lines : ℕ
-most_lines = 10000
+abbrev pub max_lines : ℕ
+max_lines = 10000
 
 -- the most bytes of a line, its end not counted
-abbrev pub most_line : ℕ
-most_line = 256
+abbrev pub max_line : ℕ
+max_line = 256
 
 -- the most deliveries of one `settle`
-abbrev pub most_deliveries : ℕ
-most_deliveries = 100000
+abbrev pub max_deliveries : ℕ
+max_deliveries = 100000
 
 -- the most reads of a text
-abbrev pub most_turns : ℕ
-most_turns = 2097152
+abbrev pub max_turns : ℕ
+max_turns = 2097152
 
 -- the most interruptions in the writing of one line
-abbrev pub most_interruptions : ℕ
-most_interruptions = 2097152
+abbrev pub max_interruptions : ℕ
+max_interruptions = 2097152
 
 -- the most steps of a random run
-abbrev pub most_steps : ℕ
-most_steps = 100000
+abbrev pub max_steps : ℕ
+max_steps = 100000

@@ -1,5 +1,5 @@
 -- The lines that a script prints.
-use Rattle.std.specs.Prelude.{ℕ, nat_lt, if◌then◌else◌, List, [], ◌∷◌, ◌++◌, codes, Option, None, Some, Result, Ok, Err}
+use Rattle.std.specs.Prelude.{ℕ, nat_lt, if◌then◌else◌, List, [], ◌∷◌, ◌++◌, codes, Option, None, Some, Result, Ok, Err, nat_le}
 use Rattle.std.specs.List.{flat_map}
 use Rattle.std.specs.Fmt.{decimal}
 use Rattle.krl_modes.specs.declared.point.TheConstants.{END}
@@ -7,11 +7,13 @@ use Rattle.krl_modes.specs.declared.part.RangePart.{RangePart}
 use Rattle.krl_modes.specs.declared.part.KeyPart.{KeyPart}
 use Rattle.krl_modes.specs.declared.mode.Mode.{Mode}
 use Rattle.krl_modes.specs.declared.mode.Mode.TheVariants as mode
-use Rattle.krl_modes.specs.Parts.{range_part_name, key_part_name}
-use Rattle.krl_modes.specs.Modes.{compatible, join, mode_name}
+use Rattle.krl_modes.specs.Names.{range_part_name, key_part_name, mode_name}
+use Rattle.krl_modes.specs.Modes.{compatible, join}
 use Rattle.std.specs.FinMap as map
+use Rattle.krl_modes.specs.declared.limits.TheConstants.{MAX_CLIENTS}
 use Rattle.hex.specs.Hex.{encode_lower}
-use Rattle.krl_messages.specs.Values.{Value, number_of}
+use Rattle.krl_messages.specs.Values.{Value}
+use Rattle.krl_messages.specs.Numbers.{number_of}
 use Rattle.krl_messages.specs.declared.outcome.Outcome.{Outcome}
 use Rattle.krl_messages.specs.declared.outcome.Outcome.TheVariants as outcome
 use Rattle.krl_durable.specs.Index.{Index}
@@ -19,11 +21,12 @@ use Rattle.krl_client.specs.declared.status.Status.{Status}
 use Rattle.krl_client.specs.declared.status.LockStatus.{LockStatus}
 use Rattle.krl_client.specs.declared.status.LockStatus.TheVariants as lock
 use Rattle.krl_client.specs.declared.status.WriteStatus.{WriteStatus}
-use Rattle.krl_client.specs.declared.status.WriteStatus.TheVariants as write
-use Rattle.krl_client.specs.Clients.{Client, status_of}
+use Rattle.krl_client.specs.declared.status.WriteStatus.TheVariants as written
+use Rattle.krl_client.specs.Clients.{Client}
+use Rattle.krl_client.specs.Shown.{status_of}
 use Rattle.krl_steps.specs.declared.applied_write.AppliedWrite.{AppliedWrite}
 use Rattle.krl_steps.specs.declared.answer.Answer.{Answer}
-use Rattle.krl_steps.specs.declared.answer.Answer.TheVariants as answer
+use Rattle.krl_steps.specs.declared.answer.Answer.TheVariants as answered
 use Rattle.krl_steps.specs.Names.{refusal_name}
 use Rattle.krl_steps.specs.declared.refused.Refused.{Refused}
 use Rattle.krl_steps.specs.declared.refused.Refused.TheVariants as refused
@@ -42,7 +45,7 @@ abbrev pub number_or_bytes : Option ℕ → Value → List ℕ
 number_or_bytes (Some n) v = decimal n
 number_or_bytes None v = codes "x" ++ encode_lower v
 
--- a value: its number where it has eight bytes; else 'x' and its bytes as two hexadecimal digits each
+-- a value: its number if it has eight bytes; else 'x' and its bytes as two hexadecimal digits each
 abbrev pub value_text : Value → List ℕ
 value_text v = number_or_bytes (number_of v) v
 
@@ -56,11 +59,11 @@ rows_line rows = line_of (codes "rows" ++ flat_map row_text rows)
 
 -- what an answer prints
 abbrev pub answer_lines : Answer → List ℕ
-answer_lines answer.Done = []
-answer_lines (answer.Pinned id) = line_of (codes "pin " ++ decimal id)
-answer_lines (answer.Rows rows) = rows_line rows
-answer_lines (answer.Miss p) = line_of (codes "miss " ++ decimal p)
-answer_lines (answer.Pending k) = line_of (codes "pending " ++ decimal k)
+answer_lines answered.Done = []
+answer_lines (answered.Pinned id) = line_of (codes "pin " ++ decimal id)
+answer_lines (answered.Rows rows) = rows_line rows
+answer_lines (answered.Miss p) = line_of (codes "miss " ++ decimal p)
+answer_lines (answered.Pending k) = line_of (codes "pending " ++ decimal k)
 
 -- what a step of the world prints
 abbrev pub outcome_lines : Result Answer Refused → List ℕ
@@ -71,7 +74,7 @@ outcome_lines (Err r) = refused_line r
 -- END.
 abbrev pub hold_line : ℕ → ℕ → RangePart → KeyPart → List ℕ
 hold_line c p r k =
-    if nat_lt 63 c then refused_line refused.BadClient
+    if nat_le MAX_CLIENTS c then refused_line refused.BadClient
     else (if nat_lt END p then refused_line refused.BadPoint
     else line_of (codes "hold " ++ range_part_name r ++ codes " " ++ key_part_name k))
 
@@ -92,9 +95,9 @@ outcome_name outcome.Full = codes "Full"
 
 -- what became of the last write of this incarnation, after its number
 abbrev pub write_text : WriteStatus → List ℕ
-write_text write.NotWritten = codes "none"
-write_text (write.Waiting n) = decimal n ++ codes " waiting"
-write_text (write.Judged n o) = decimal n ++ codes " " ++ outcome_name o
+write_text written.NotWritten = codes "none"
+write_text (written.Waiting n) = decimal n ++ codes " waiting"
+write_text (written.Judged n o) = decimal n ++ codes " " ++ outcome_name o
 
 -- the epoch, the last push that was accepted, the last lock request and the last write
 abbrev pub status_text : Status → List ℕ
@@ -109,7 +112,7 @@ state_line (Some k) = line_of (status_text (status_of k))
 
 -- the line of a client's state; a client above 63 is refused
 abbrev pub status_line : ℕ → Option Client → List ℕ
-status_line c k = if nat_lt 63 c then refused_line refused.BadClient else state_line k
+status_line c k = if nat_le MAX_CLIENTS c then refused_line refused.BadClient else state_line k
 
 -- a number after a space
 abbrev pub number_text : ℕ → List ℕ
@@ -132,7 +135,7 @@ applied_text w =
 abbrev pub writes_line : List AppliedWrite → List ℕ
 writes_line writes = line_of (codes "writes" ++ flat_map applied_text writes)
 
--- the line of whether clients hold what goes together, or the least point at which two do not
+-- the line of whether what clients hold is compatible, or the least point at which it is not
 abbrev pub check_line : Option ℕ → List ℕ
 check_line None = line_of (codes "sound")
 check_line (Some p) = line_of (codes "unsound " ++ decimal p)
@@ -148,7 +151,7 @@ conversions =
     (mode.S, mode.RangeIN) ∷ (mode.U, mode.RangeIN) ∷ (mode.X, mode.RangeIN)
     ∷ (mode.RangeIN, mode.RangeSS) ∷ (mode.RangeIN, mode.RangeSU) ∷ []
 
--- the name of the second mode, where it is compatible with the first
+-- the name of the second mode, if it is compatible with the first
 abbrev pub beside_text : Mode → Mode → List ℕ
 beside_text m other = if compatible m other then codes " " ++ mode_name other else []
 

@@ -7,9 +7,9 @@ use Rattle.std_io.specs.declared.io.kind.ErrorKind.TheVariants.{Interrupted}
 use Rattle.std.specs.Io.KnownBytes.{Consumes, IsAtEnd}
 use Rattle.krl_text.specs.declared.fault.ScriptFault.{ScriptFault}
 use Rattle.krl_text.specs.declared.fault.ScriptFault.TheVariants as script
-use Rattle.krl_text.specs.Limits.{most_interruptions, most_text}
+use Rattle.krl_text.specs.Limits.{max_interruptions, max_text}
 
--- the bytes that a reader has left or a writer holds, where it tells them
+-- the bytes that a reader has left or a writer holds, if it tells them
 abbrev pub Known : Type 0
 Known = Option (List ℕ)
 
@@ -19,7 +19,7 @@ Counts None after n = ⊤
 Counts (Some k) None n = ⊥
 Counts (Some k) (Some m) n = m ≡ k + n
 
--- A read of a reader that is interrupted at most n times, and fails in no other way, where such an
+-- A read of a reader that is interrupted at most n times, and fails in no other way, if such an
 -- n is known.
 abbrev pub ReadsOn : Option ℕ → Option ℕ → Result ℕ Error → Type 0
 ReadsOn None after r = ⊤
@@ -28,7 +28,7 @@ ReadsOn (Some n) after (Err e) =
     (error_kind e ≡ Interrupted) × (m : ℕ) × (n ≡ m + 1) × (after ≡ Some m)
 
 -- A write of so many bytes to a writer that is interrupted at most n times, and fails in no other
--- way, where such an n is known.
+-- way, if such an n is known.
 abbrev pub WritesOn : Option ℕ → Option ℕ → ℕ → Result ℕ Error → Type 0
 WritesOn None after given r = ⊤
 WritesOn (Some n) after given (Ok count) = (0 < given → 0 < count) × (after ≡ Some n)
@@ -39,7 +39,7 @@ WritesOn (Some n) after given (Err e) =
 -- other way.
 abbrev pub IsSteady : Option ℕ → Type 0
 IsSteady None = ⊥
-IsSteady (Some n) = n ≤ most_interruptions
+IsSteady (Some n) = n ≤ max_interruptions
 
 -- A fault that comes of reading. A read that is interrupted is no fault.
 abbrev pub ComesOfReading : ScriptFault → Type 0
@@ -60,4 +60,4 @@ MayEndReading n (script.Syntax line what) = ⊤
 
 -- A text was read, to the reader's end unless it is too long.
 abbrev pub ReadsWhole : Known → Known → List ℕ → Type 0
-ReadsWhole unread left text = Consumes unread left text × (length text ≤ most_text → IsAtEnd left)
+ReadsWhole unread left text = Consumes unread left text × (length text ≤ max_text → IsAtEnd left)

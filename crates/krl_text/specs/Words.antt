@@ -6,10 +6,10 @@ use Rattle.std.specs.Str.{bytes_eq, all_ascii_digits}
 use Rattle.std.specs.Str.Parse.{digits_value}
 use Rattle.krl_modes.specs.declared.point.TheConstants.{END, TOP}
 use Rattle.krl_modes.specs.declared.mode.Mode.{Mode}
-use Rattle.krl_modes.specs.Modes.{mode_named}
+use Rattle.krl_modes.specs.Names.{mode_named}
 use Rattle.krl_steps.specs.declared.step.Step.TheVariants as step
 use Rattle.krl_steps.specs.declared.step.Command.TheVariants as command
-use Rattle.krl_text.specs.Limits.{most_lines, most_line}
+use Rattle.krl_text.specs.Limits.{max_lines, max_line}
 use Rattle.krl_steps.specs.declared.step.Command.{Command}
 use Rattle.hex.specs.Hex.{decode_of}
 use Rattle.hex.specs.declared.error.FromHexError.{FromHexError}
@@ -34,7 +34,7 @@ use Rattle.krl_text.specs.declared.request.Query.TheVariants as show
 use Rattle.krl_text.specs.declared.fault.SyntaxFault.{SyntaxFault}
 use Rattle.krl_text.specs.declared.fault.SyntaxFault.TheVariants.{TooManyLines, LineTooLong, UnknownWord, MissingArgument, ExtraArgument, BadNumber, BadPair, BadValue, BadMode, LateSeed}
 use Rattle.krl_text.specs.declared.fault.LineFault.{LineFault}
-use Rattle.krl_text.specs.declared.fault.LineFault.TheVariants as fault
+use Rattle.krl_text.specs.declared.fault.LineFault.TheVariants as line_fault
 
 -- go on with what was read, or keep the fault
 infixl 10 ◌>>=◌
@@ -50,8 +50,8 @@ or_fault what (Some x) = Ok x
 
 -- What a function failed by is what is said of the text, unless memory ran out.
 abbrev pub Fails : {A : Type 0} → LineFault → Result A SyntaxFault → Type 0
-Fails fault.OutOfMemory said = Unit {0}
-Fails (fault.Syntax what) said = said ≡ Err what
+Fails line_fault.OutOfMemory said = Unit {0}
+Fails (line_fault.Syntax what) said = said ≡ Err what
 
 -- What a function returned is what is said of the text, unless memory ran out.
 abbrev pub Gives : {A : Type 0} → Result A LineFault → Result A SyntaxFault → Type 0
@@ -66,7 +66,7 @@ words_of line = filter (λ word. not (nat_eq (length word) 0)) (slice_split (λ 
 abbrev pub has_digits : List ℕ → Bool
 has_digits word = nat_lt 0 (length word) && (nat_le (length word) 20 && all_ascii_digits word)
 
--- the number that 1 to 20 digits spell, where it fits in 64 bits
+-- the number that 1 to 20 digits spell, if it fits in 64 bits
 abbrev pub digits_of : List ℕ → Option ℕ
 digits_of word =
     if has_digits word && nat_lt (digits_value 10 word) (2 ^ 64) then Some (digits_value 10 word)
@@ -78,7 +78,7 @@ number_of word =
     if bytes_eq word (codes "END") then Some END
     else (if bytes_eq word (codes "TOP") then Some TOP else digits_of word)
 
--- the eight bytes of a number, where there is one, the highest first
+-- the eight bytes of a number, if there is one, the highest first
 abbrev pub eight_of : Option ℕ → Option Value
 eight_of None = None
 eight_of (Some n) = Some (to_be_bytes w64 n)
@@ -96,7 +96,7 @@ abbrev pub value_of : List ℕ → Option Value
 value_of [] = None
 value_of (b ∷ bs) = if nat_eq b 120 then bytes_of bs else eight_of (number_of (b ∷ bs))
 
--- both, where both are there
+-- both, if both are there
 abbrev pub both : Option ℕ → Option Value → Option (ℕ × Value)
 both None v = None
 both (Some k) None = None
@@ -347,6 +347,6 @@ in_time begun request = if begun && makes_world request then Err LateSeed else O
 -- world is made.
 unfoldable pub line_request : Bool → ℕ → List ℕ → Result Request SyntaxFault
 line_request begun n line =
-    if nat_lt most_lines n then Err TooManyLines
-    else (if nat_lt most_line (length line) then Err LineTooLong
+    if nat_lt max_lines n then Err TooManyLines
+    else (if nat_lt max_line (length line) then Err LineTooLong
     else meaning_of line >>= in_time begun)

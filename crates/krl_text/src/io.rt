@@ -2,7 +2,7 @@
 ghost use Rattle.std.specs.Prelude.{◌≡◌, ℕ, ◌≤◌, List, [], ◌++◌, length, Some, IfOk, OnOk, IfErr};
 ghost use Rattle.std.specs.Prelude.{IsOk, IsErrOf};
 ghost use Rattle.std.specs.Io.KnownBytes.{Appends, Consumes};
-ghost use Rattle.krl_text.specs.Limits.{most_turns};
+ghost use Rattle.krl_text.specs.Limits.{max_turns};
 ghost use Rattle.krl_text.specs.Transfers.{Counts, ReadsWhole, ComesOfReading, MayEndReading};
 ghost use Rattle.krl_text.specs.Transfers.{IsSteady};
 
@@ -21,7 +21,7 @@ pub fn read_text<R: Source>(alloc: Global, reader: &mut R) -> Result<Vec<u8>, Sc
     ensures steady { (n : ℕ) → R.interruptions reader.old ≡ Some n →
         IfErr result (MayEndReading n) }
     ensures turns { IsErrOf result ScriptFault.NoEnd →
-        Counts (R.reads reader.old) (R.reads reader.new) most_turns }
+        Counts (R.reads reader.old) (R.reads reader.new) max_turns }
 {
     let mut text = Vec::new(alloc);
     let mut buffer = [0u8; 4096];
@@ -43,7 +43,7 @@ pub fn read_text<R: Source>(alloc: Global, reader: &mut R) -> Result<Vec<u8>, Sc
     Err(ScriptFault::NoEnd)
 }
 
-/// Writes the bytes, or a front of them where the writer fails. A write that is interrupted is
+/// Writes the bytes, or a front of them if the writer fails. A write that is interrupted is
 /// tried again, up to `MAX_TURNS` times.
 pub fn write_line<W: Sink>(writer: &mut W, bytes: &[u8]) -> Result<(), ScriptFault>
     ensures ok { OnOk result (Appends (W.contents writer.old) (W.contents writer.new) bytes.now) }

@@ -1,5 +1,5 @@
-//! The limits of a script and of a random run, which are this project's own. The definitions of the
-//! contracts have them as numerals.
+//! The limits of a script and of a random run. The definitions of the contracts have them as
+//! numerals.
 
 /// The most bytes of a text: 1,048,576.
 pub const MAX_TEXT: usize = 1048576;

@@ -28,7 +28,7 @@ pub fn refused(alloc: Global, refused: Refused) -> Result<String, AllocError>
     format!(in alloc; "refused {name}\n")
 }
 
-/// The text of a value: its number where it has eight bytes, else x and two digits for each byte.
+/// The text of a value: its number if it has eight bytes, else x and two digits for each byte.
 fn value(alloc: Global, value: &Value) -> Result<String, AllocError>
     ensures { IfOk result (λ text. text.bytes.items ≡ value_text value.now) }
 {
@@ -86,7 +86,7 @@ pub fn outcome(alloc: Global, outcome: &Result<Answer, Refused>) -> Result<Strin
     }
 }
 
-// The other mode's name, where the two go together.
+// The other mode's name, if the two are compatible.
 fn push_beside(line: &mut String, mode: Mode, other: Mode) -> Result<(), AllocError>
     ensures { OnOk result (line.new.bytes.items ≡ line.old.bytes.items ++ beside_text mode other) }
 {
@@ -106,7 +106,7 @@ fn push_all_beside(line: &mut String, mode: Mode, others: &[Mode]) -> Result<(),
     Ok(())
 }
 
-// The line of the published modes that go beside one.
+// The line of the published modes that are compatible with one.
 fn push_compatible(lines: &mut String, mode: Mode) -> Result<(), AllocError>
     ensures { OnOk result (lines.new.bytes.items ≡ lines.old.bytes.items ++ compatible_line mode) }
 {
@@ -151,8 +151,8 @@ fn push_all_joins(lines: &mut String, pairs: &[(Mode, Mode)]) -> Result<(), Allo
     Ok(())
 }
 
-/// The tables of modes: which published modes go together, and the joins that give the conversion
-/// modes.
+/// The tables of modes: which published modes are compatible, and the joins that give the
+/// conversion modes.
 #[tactic(auto, unfolding(crate::specs::Printing::modes_lines))]
 pub fn modes(alloc: Global) -> Result<String, AllocError>
     ensures { IfOk result (λ lines. lines.bytes.items ≡ modes_lines) }

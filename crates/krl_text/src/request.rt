@@ -50,7 +50,7 @@ pub enum Query {
     Index,
     /// The writes that were applied.
     Writes,
-    /// Whether what clients hold goes together.
+    /// Whether what clients hold is compatible.
     Check,
 }
 

@@ -11,7 +11,7 @@ use crate::print::{push_rows, refused};
 use krl_blocks::Entries;
 use krl_client::{LockStatus, Status, WriteStatus};
 use krl_messages::{Outcome, Value};
-use krl_modes::{END, KeyPart, RangePart};
+use krl_modes::{END, KeyPart, MAX_CLIENTS, RangePart};
 use krl_steps::{AppliedWrite, Refused};
 use std::alloc::{AllocError, Global};
 
@@ -26,7 +26,7 @@ pub fn held(
 ) -> Result<String, AllocError>
     ensures { IfOk result (λ line. line.bytes.items ≡ hold_line client point range key) }
 {
-    if client > 63 {
+    if client >= MAX_CLIENTS as u64 {
         return refused(alloc, Refused::BadClient);
     }
     if point > END {

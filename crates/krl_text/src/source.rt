@@ -9,10 +9,10 @@ use std::io::{Read, Write};
 
 /// A reader, and how its reads may fail.
 pub trait Source: Read {
-    // How many reads from here on may be interrupted, where no read fails in another way.
+    // How many reads from here on may be interrupted, if no read fails in another way.
     ghost interruptions: { Self → Option ℕ };
 
-    // How many reads were made, where the reader tells.
+    // How many reads were made, if the reader tells.
     ghost reads: { Self → Option ℕ };
 
     /// Reads as `read` does.
@@ -26,12 +26,12 @@ pub trait Source: Read {
 
 /// A writer, and how its writes may fail.
 ///
-/// An instance says how many interruptions are to come, or says no number. Where it says one, each
-/// write does one of two things. It takes at least one byte, where it is given one, and as many
+/// An instance says how many interruptions are to come, or says no number. If it says one, each
+/// write does one of two things. It takes at least one byte, if it is given one, and as many
 /// interruptions are still to come. Or it is interrupted: then at least one was to come, and one
 /// fewer is to come now. An instance that says no number promises none of this.
 pub trait Sink: Write {
-    // How many writes from here on may be interrupted, where no write fails in another way.
+    // How many writes from here on may be interrupted, if no write fails in another way.
     ghost interruptions: { Self → Option ℕ };
 
     /// Writes as `write` does.

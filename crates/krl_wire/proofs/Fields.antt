@@ -37,13 +37,13 @@ pub bind_ok : {A B : Type 0} (r : Result A Fault) (f : A → Result B Fault) (y 
 bind_ok (Ok x) f y e = (x, refl, e)
 bind_ok (Err d) f y e = absurd cc
 
--- the fault where the test holds, and it did not
+-- the fault if the test holds, and it did not
 pub passed : {A : Type 0} (b : Bool) (d : Fault) (r : Result A Fault) (y : A) → cond b (Err d) r ≡ Ok y
     → (b ≡ false) × (r ≡ Ok y)
 passed true d r y e = absurd cc
 passed false d r y e = (refl, e)
 
--- the fault where the test fails, and it held
+-- the fault if the test fails, and it held
 pub held : {A : Type 0} (b : Bool) (d : Fault) (r : Result A Fault) (y : A) → cond b r (Err d) ≡ Ok y
     → (b ≡ true) × (r ≡ Ok y)
 held true d r y e = (refl, e)

@@ -3,7 +3,7 @@ use Rattle.std.proofs.Common.{◌≡◌, ℕ, suc, ◌-◌, ◌+◌, ◌≤◌, 
 use Rattle.std.proofs.lemmas.Bool.{ltb-false}
 use Rattle.std.proofs.lemmas.List.{append-nil}
 use Rattle.krl_messages.specs.declared.holding.Holding.{Holding}
-use Rattle.krl_messages.specs.Several.{Ascend}
+use Rattle.krl_messages.specs.Ascending.{Ascend}
 use Rattle.krl_wire.specs.declared.fault.Fault.{Fault}
 use Rattle.krl_wire.specs.declared.fault.Fault.TheVariants as fault
 use Rattle.krl_wire.specs.Reading.{◌>>=◌, items_at, holding_at, holding_from, holdings_from}

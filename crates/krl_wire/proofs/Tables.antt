@@ -1,7 +1,7 @@
 -- Tables of tags: what stands at each place has that place as its tag.
 use Rattle.std.proofs.Common.{◌≡◌, ℕ, zero, suc, List, [], ◌∷◌, ◌++◌, Option, Some, None, Ok, refl, ap, subst, ◌∙◌}
 use Rattle.std.specs.Prelude.{slice_get}
-use Rattle.krl_modes.specs.Modes.{all_modes}
+use Rattle.krl_modes.specs.Names.{all_modes}
 use Rattle.krl_modes.specs.declared.mode.Mode.{Mode}
 use Rattle.krl_modes.specs.declared.mode.Mode.TheVariants as mode
 use Rattle.krl_modes.specs.declared.part.RangePart.{RangePart}

@@ -1,7 +1,7 @@
 -- Reading from the left, field by field, up to the first fault.
 use Rattle.std.specs.Prelude.{◌≡◌, ℕ, zero, suc, List, [], ◌∷◌, length, take, drop, ◌/◌, slice_get, Option, Some, None, Result, Ok, Err, nat_lt, nat_le, ◌==◌, ◌&&◌, if◌then◌else◌}
 use Rattle.std.specs.Int.{Width, w32, w64, byte_len, from_le_bytes}
-use Rattle.krl_modes.specs.Modes.{all_modes}
+use Rattle.krl_modes.specs.Names.{all_modes}
 use Rattle.krl_modes.specs.Spans.{Bounds}
 use Rattle.krl_modes.specs.declared.point.TheConstants.{TOP}
 use Rattle.krl_modes.specs.declared.part.RangePart.{RangePart}
@@ -18,12 +18,12 @@ use Rattle.krl_messages.specs.declared.pieces.Pieces.{Pieces}
 use Rattle.krl_messages.specs.declared.write_op.WriteOp.TheVariants as write
 use Rattle.krl_messages.specs.declared.to_server.ToServer.{ToServer}
 use Rattle.krl_messages.specs.declared.to_server.ToServerBody.{ToServerBody}
-use Rattle.krl_messages.specs.declared.to_server.ToServerBody.TheVariants as server
+use Rattle.krl_messages.specs.declared.to_server.ToServerBody.TheVariants as said
 use Rattle.krl_messages.specs.declared.to_server.RequestBody.{RequestBody}
-use Rattle.krl_messages.specs.declared.to_server.RequestBody.TheVariants as request
+use Rattle.krl_messages.specs.declared.to_server.RequestBody.TheVariants as asked
 use Rattle.krl_messages.specs.declared.to_client.ToClient.{ToClient}
 use Rattle.krl_messages.specs.declared.to_client.ToClientBody.{ToClientBody}
-use Rattle.krl_messages.specs.declared.to_client.ToClientBody.TheVariants as client
+use Rattle.krl_messages.specs.declared.to_client.ToClientBody.TheVariants as told
 use Rattle.krl_messages.specs.declared.to_client.PushBody.{PushBody}
 use Rattle.krl_messages.specs.declared.to_client.PushBody.TheVariants as push
 use Rattle.krl_wire.specs.declared.fault.Fault.{Fault}
@@ -178,33 +178,33 @@ lock_at bytes = do
   point ← number_at w64 req.1
   hi ← number_at w64 point.1
   m ← tag_at all_modes fault.Mode hi.1
-  Ok (request.Lock req.0 point.0 hi.0 m.0, m.1)
+  Ok (asked.Lock req.0 point.0 hi.0 m.0, m.1)
 
 unfoldable pub insert_at : List ℕ → Result (RequestBody × List ℕ) Fault
 insert_at bytes = do
   n ← number_at w64 bytes
   k ← number_at w64 n.1
   v ← value_at k.1
-  Ok (request.Write n.0 (write.Insert k.0 v.0), v.1)
+  Ok (asked.Write n.0 (write.Insert k.0 v.0), v.1)
 
 unfoldable pub put_at : List ℕ → Result (RequestBody × List ℕ) Fault
 put_at bytes = do
   n ← number_at w64 bytes
   k ← number_at w64 n.1
   v ← value_at k.1
-  Ok (request.Write n.0 (write.Put k.0 v.0), v.1)
+  Ok (asked.Write n.0 (write.Put k.0 v.0), v.1)
 
 unfoldable pub delete_at : List ℕ → Result (RequestBody × List ℕ) Fault
 delete_at bytes = do
   n ← number_at w64 bytes
   k ← number_at w64 n.1
-  Ok (request.Write n.0 (write.Delete k.0), k.1)
+  Ok (asked.Write n.0 (write.Delete k.0), k.1)
 
 unfoldable pub release_at : List ℕ → Result (RequestBody × List ℕ) Fault
 release_at bytes = do
   s ← span_at bytes
   m ← tag_at all_modes fault.Mode s.1
-  Ok (request.Release s.0 m.0, m.1)
+  Ok (asked.Release s.0 m.0, m.1)
 
 -- of the kinds 3 to 8
 unfoldable pub request_body_at : ℕ → List ℕ → Result (RequestBody × List ℕ) Fault
@@ -214,26 +214,26 @@ request_body_at kind bytes =
     else (if kind == 5 then put_at bytes
     else (if kind == 6 then delete_at bytes
     else (if kind == 7 then release_at bytes
-    else Ok (request.Ack, bytes)))))
+    else Ok (asked.Ack, bytes)))))
 
 unfoldable pub request_at : ℕ → List ℕ → Result (ToServerBody × List ℕ) Fault
 request_at kind bytes = do
   epoch ← number_at w64 bytes
   seen ← number_at w64 epoch.1
   body ← request_body_at kind seen.1
-  Ok (server.Request (record { epoch = epoch.0; seen = seen.0; body = body.0 }), body.1)
+  Ok (said.Request (record { epoch = epoch.0; seen = seen.0; body = body.0 }), body.1)
 
 unfoldable pub report_at : List ℕ → Result (ToServerBody × List ℕ) Fault
 report_at bytes = do
   epoch ← number_at w64 bytes
   p ← pieces_at epoch.1
-  Ok (server.Report epoch.0 p.0, p.1)
+  Ok (said.Report epoch.0 p.0, p.1)
 
 -- of the kinds 0 to 8
 unfoldable pub to_server_body_at : ℕ → List ℕ → Result (ToServerBody × List ℕ) Fault
 to_server_body_at kind bytes =
-    if kind == 0 then Ok (server.Hello, bytes)
-    else (if kind == 1 then Ok (server.Bye, bytes)
+    if kind == 0 then Ok (said.Hello, bytes)
+    else (if kind == 1 then Ok (said.Bye, bytes)
     else (if kind == 2 then report_at bytes
     else request_at kind bytes))
 
@@ -296,19 +296,19 @@ push_at kind bytes = do
   epoch ← number_at w64 bytes
   n ← number_at w64 epoch.1
   body ← push_body_at kind n.1
-  Ok (client.Push epoch.0 n.0 body.0, body.1)
+  Ok (told.Push epoch.0 n.0 body.0, body.1)
 
 unfoldable pub epoch_at : List ℕ → Result (ToClientBody × List ℕ) Fault
 epoch_at bytes = do
   epoch ← number_at w64 bytes
-  Ok (client.Epoch epoch.0, epoch.1)
+  Ok (told.Epoch epoch.0, epoch.1)
 
 unfoldable pub callback_at : List ℕ → Result (ToClientBody × List ℕ) Fault
 callback_at bytes = do
   epoch ← number_at w64 bytes
   s ← span_at epoch.1
   m ← tag_at all_modes fault.Mode s.1
-  Ok (client.Callback epoch.0 s.0 m.0, m.1)
+  Ok (told.Callback epoch.0 s.0 m.0, m.1)
 
 -- of the kinds 16 to 20
 unfoldable pub to_client_body_at : ℕ → List ℕ → Result (ToClientBody × List ℕ) Fault

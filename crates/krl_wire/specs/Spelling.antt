@@ -19,12 +19,12 @@ use Rattle.krl_messages.specs.declared.pieces.Pieces.{Pieces}
 use Rattle.krl_messages.specs.declared.write_op.WriteOp.TheVariants as write
 use Rattle.krl_messages.specs.declared.to_server.ToServer.{ToServer}
 use Rattle.krl_messages.specs.declared.to_server.ToServerBody.{ToServerBody}
-use Rattle.krl_messages.specs.declared.to_server.ToServerBody.TheVariants as server
+use Rattle.krl_messages.specs.declared.to_server.ToServerBody.TheVariants as said
 use Rattle.krl_messages.specs.declared.to_server.RequestBody.{RequestBody}
-use Rattle.krl_messages.specs.declared.to_server.RequestBody.TheVariants as request
+use Rattle.krl_messages.specs.declared.to_server.RequestBody.TheVariants as asked
 use Rattle.krl_messages.specs.declared.to_client.ToClient.{ToClient}
 use Rattle.krl_messages.specs.declared.to_client.ToClientBody.{ToClientBody}
-use Rattle.krl_messages.specs.declared.to_client.ToClientBody.TheVariants as client
+use Rattle.krl_messages.specs.declared.to_client.ToClientBody.TheVariants as told
 use Rattle.krl_messages.specs.declared.to_client.PushBody.{PushBody}
 use Rattle.krl_messages.specs.declared.to_client.PushBody.TheVariants as push
 
@@ -77,7 +77,7 @@ span s = number s.lo ++ number s.hi
 abbrev pub value : Value → List ℕ
 value v = length v ∷ v
 
--- a flag, and the value where there is one
+-- a flag, and the value if there is one
 abbrev pub optional : Option Value → List ℕ
 optional None = 0 ∷ []
 optional (Some v) = 1 ∷ value v
@@ -104,32 +104,32 @@ pieces p = list range_piece p.ranges ++ list key_piece p.keys
 
 -- the kind of each message to the server, and what it says after its head
 abbrev pub request_kind : RequestBody → ℕ
-request_kind (request.Lock req point hi m) = 3
-request_kind (request.Write n (write.Insert k v)) = 4
-request_kind (request.Write n (write.Put k v)) = 5
-request_kind (request.Write n (write.Delete k)) = 6
-request_kind (request.Release s m) = 7
-request_kind request.Ack = 8
+request_kind (asked.Lock req point hi m) = 3
+request_kind (asked.Write n (write.Insert k v)) = 4
+request_kind (asked.Write n (write.Put k v)) = 5
+request_kind (asked.Write n (write.Delete k)) = 6
+request_kind (asked.Release s m) = 7
+request_kind asked.Ack = 8
 
 abbrev pub request_body : RequestBody → List ℕ
-request_body (request.Lock req point hi m) = number req ++ number point ++ number hi ++ mode_tag m ∷ []
-request_body (request.Write n (write.Insert k v)) = number n ++ number k ++ value v
-request_body (request.Write n (write.Put k v)) = number n ++ number k ++ value v
-request_body (request.Write n (write.Delete k)) = number n ++ number k
-request_body (request.Release s m) = span s ++ mode_tag m ∷ []
-request_body request.Ack = []
+request_body (asked.Lock req point hi m) = number req ++ number point ++ number hi ++ mode_tag m ∷ []
+request_body (asked.Write n (write.Insert k v)) = number n ++ number k ++ value v
+request_body (asked.Write n (write.Put k v)) = number n ++ number k ++ value v
+request_body (asked.Write n (write.Delete k)) = number n ++ number k
+request_body (asked.Release s m) = span s ++ mode_tag m ∷ []
+request_body asked.Ack = []
 
 abbrev pub to_server_kind : ToServerBody → ℕ
-to_server_kind server.Hello = 0
-to_server_kind server.Bye = 1
-to_server_kind (server.Report epoch p) = 2
-to_server_kind (server.Request r) = request_kind r.body
+to_server_kind said.Hello = 0
+to_server_kind said.Bye = 1
+to_server_kind (said.Report epoch p) = 2
+to_server_kind (said.Request r) = request_kind r.body
 
 abbrev pub to_server_body : ToServerBody → List ℕ
-to_server_body server.Hello = []
-to_server_body server.Bye = []
-to_server_body (server.Report epoch p) = number epoch ++ pieces p
-to_server_body (server.Request r) = number r.epoch ++ number r.seen ++ request_body r.body
+to_server_body said.Hello = []
+to_server_body said.Bye = []
+to_server_body (said.Report epoch p) = number epoch ++ pieces p
+to_server_body (said.Request r) = number r.epoch ++ number r.seen ++ request_body r.body
 
 -- the version, the kind, the client's number, the incarnation, and the rest
 abbrev pub to_server : ToServer → List ℕ
@@ -147,14 +147,14 @@ push_body (push.Absent req point) = number req ++ number point
 push_body (push.Answer n o h) = number n ++ outcome_tag o ∷ holding h
 
 abbrev pub to_client_kind : ToClientBody → ℕ
-to_client_kind (client.Epoch epoch) = 16
-to_client_kind (client.Push epoch n b) = push_kind b
-to_client_kind (client.Callback epoch s keep) = 20
+to_client_kind (told.Epoch epoch) = 16
+to_client_kind (told.Push epoch n b) = push_kind b
+to_client_kind (told.Callback epoch s keep) = 20
 
 abbrev pub to_client_body : ToClientBody → List ℕ
-to_client_body (client.Epoch epoch) = number epoch
-to_client_body (client.Push epoch n b) = number epoch ++ number n ++ push_body b
-to_client_body (client.Callback epoch s keep) = number epoch ++ span s ++ mode_tag keep ∷ []
+to_client_body (told.Epoch epoch) = number epoch
+to_client_body (told.Push epoch n b) = number epoch ++ number n ++ push_body b
+to_client_body (told.Callback epoch s keep) = number epoch ++ span s ++ mode_tag keep ∷ []
 
 -- the version, the kind, the client's number, the incarnation, and the rest
 abbrev pub to_client : ToClient → List ℕ

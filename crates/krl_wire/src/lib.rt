@@ -6,6 +6,7 @@
 #![tactic(auto)]
 
 mod fault;
+mod kinds;
 mod put_client;
 mod put_fields;
 mod put_server;

@@ -2,6 +2,7 @@
 ghost use Rattle.std.specs.Prelude.{◌≡◌, ◌++◌, [], ◌∷◌, IfOk, OnOk};
 ghost use Rattle.krl_wire.specs.Spelling as spelling;
 
+use crate::kinds::{ABSENT, ANSWER, CALLBACK, EPOCH, GRANT};
 use crate::put_fields::{put_head, put_holding, put_holdings, put_number, put_span_and_mode};
 use krl_messages::{Outcome, PushBody, ToClient, ToClientBody};
 use krl_modes::{Mode, Span};
@@ -17,9 +18,9 @@ fn push_kind(body: &PushBody) -> u8
     ensures { result ≡ spelling.push_kind body.now }
 {
     match body {
-        PushBody::Grant { .. } => 17,
-        PushBody::Absent { .. } => 18,
-        PushBody::Answer { .. } => 19,
+        PushBody::Grant { .. } => GRANT,
+        PushBody::Absent { .. } => ABSENT,
+        PushBody::Answer { .. } => ANSWER,
     }
 }
 
@@ -27,9 +28,9 @@ fn to_client_kind(body: &ToClientBody) -> u8
     ensures { result ≡ spelling.to_client_kind body.now }
 {
     match body {
-        ToClientBody::Epoch { .. } => 16,
+        ToClientBody::Epoch { .. } => EPOCH,
         ToClientBody::Push { body, .. } => push_kind(body),
-        ToClientBody::Callback { .. } => 20,
+        ToClientBody::Callback { .. } => CALLBACK,
     }
 }
 
@@ -104,7 +105,7 @@ fn put_to_client(out: &mut Vec<u8>, message: &ToClient) -> Result<(), AllocError
 ///
 /// # Errors
 ///
-/// `AllocError` where memory is refused.
+/// `AllocError` if memory is refused.
 pub fn spell_to_client(alloc: Global, message: &ToClient) -> Result<Vec<u8>, AllocError>
     ensures { IfOk result (λ bytes. bytes.items ≡ spelling.to_client message.now) }
 {

@@ -3,12 +3,10 @@ ghost use Rattle.std.specs.Prelude.{◌≡◌, ◌++◌, [], ◌∷◌, OnOk};
 ghost use Rattle.std.specs.List.{flat_map};
 ghost use Rattle.krl_wire.specs.Spelling as spelling;
 
+use crate::kinds::VERSION;
 use krl_messages::{Holding, Holdings, Value};
 use krl_modes::{Mode, Span};
 use std::alloc::AllocError;
-
-/// The only version.
-const VERSION: u8 = 1;
 
 fn mode_tag(mode: Mode) -> u8
     ensures { result ≡ spelling.mode_tag mode }

@@ -4,6 +4,7 @@ ghost use Rattle.std.specs.List.{flat_map};
 ghost use Rattle.krl_wire.specs.Fitting.{HasCounts};
 ghost use Rattle.krl_wire.specs.Spelling as spelling;
 
+use crate::kinds::{ACK, BYE, DELETE, HELLO, INSERT, LOCK, PUT, RELEASE, REPORT};
 use crate::put_fields::{put_head, put_mode, put_number, put_span, put_span_and_mode, put_value};
 use krl_messages::{
     KeyPiece, Pieces, RangePiece, Request, RequestBody, ToServer, ToServerBody, Value, WriteOp,
@@ -126,14 +127,14 @@ fn request_kind(body: &RequestBody) -> u8
     ensures { result ≡ spelling.request_kind body.now }
 {
     match body {
-        RequestBody::Lock { .. } => 3,
+        RequestBody::Lock { .. } => LOCK,
         RequestBody::Write { op, .. } => match op {
-            WriteOp::Insert { .. } => 4,
-            WriteOp::Put { .. } => 5,
-            WriteOp::Delete { .. } => 6,
+            WriteOp::Insert { .. } => INSERT,
+            WriteOp::Put { .. } => PUT,
+            WriteOp::Delete { .. } => DELETE,
         },
-        RequestBody::Release { .. } => 7,
-        RequestBody::Ack => 8,
+        RequestBody::Release { .. } => RELEASE,
+        RequestBody::Ack => ACK,
     }
 }
 
@@ -141,9 +142,9 @@ fn to_server_kind(body: &ToServerBody) -> u8
     ensures { result ≡ spelling.to_server_kind body.now }
 {
     match body {
-        ToServerBody::Hello => 0,
-        ToServerBody::Bye => 1,
-        ToServerBody::Report { .. } => 2,
+        ToServerBody::Hello => HELLO,
+        ToServerBody::Bye => BYE,
+        ToServerBody::Report { .. } => REPORT,
         ToServerBody::Request(request) => request_kind(&request.body),
     }
 }
@@ -180,7 +181,7 @@ fn put_to_server_body(out: &mut Vec<u8>, body: &ToServerBody) -> Result<(), Allo
     }
 }
 
-/// Whether the message has a spelling: a report has one where each of its lists has less than 2^32
+/// Whether the message has a spelling: a report has one if each of its lists has less than 2^32
 /// items, and every other message has one.
 pub fn has_counts(message: &ToServer) -> bool
     ensures { IsTrue result ↔ HasCounts message.now.body }
@@ -211,7 +212,7 @@ fn put_to_server(out: &mut Vec<u8>, message: &ToServer) -> Result<(), AllocError
 ///
 /// # Errors
 ///
-/// `AllocError` where memory is refused.
+/// `AllocError` if memory is refused.
 pub fn spell_to_server(alloc: Global, message: &ToServer) -> Result<Vec<u8>, AllocError>
     requires { HasCounts message.now.body }
     ensures { IfOk result (λ bytes. bytes.items ≡ spelling.to_server message.now) }

@@ -8,6 +8,7 @@ ghost use Rattle.krl_wire.specs.Reading.{push_at, epoch_at, callback_at, to_clie
 ghost use Rattle.krl_wire.specs.Reading as reading;
 
 use crate::fault::Fault;
+use crate::kinds::{ABSENT, CALLBACK, EPOCH, GRANT};
 use crate::read_holdings::{holding, holdings};
 use crate::reader::Reader;
 use krl_messages::{Outcome, PushBody, ToClient, ToClientBody};
@@ -59,8 +60,8 @@ fn push_body(reader: &mut Reader<'_>, kind: u8) -> Result<PushBody, Fault>
     ensures { Reads result reader.new (push_body_at kind reader.old) }
 {
     match kind {
-        17 => grant(reader),
-        18 => absent(reader),
+        GRANT => grant(reader),
+        ABSENT => absent(reader),
         _ => answer(reader),
     }
 }
@@ -103,8 +104,8 @@ fn to_client_body(reader: &mut Reader<'_>, kind: u8) -> Result<ToClientBody, Fau
     ensures { Reads result reader.new (to_client_body_at kind reader.old) }
 {
     match kind {
-        16 => epoch(reader),
-        20 => callback(reader),
+        EPOCH => epoch(reader),
+        CALLBACK => callback(reader),
         _ => push(reader, kind),
     }
 }
@@ -115,7 +116,7 @@ fn read(bytes: &[u8]) -> Result<ToClient, Fault>
     ensures { result ≡ reading.to_client_of bytes.now }
 {
     let mut reader = Reader::new(bytes);
-    let kind = reader.head(16, 20)?;
+    let kind = reader.head(EPOCH, CALLBACK)?;
     let client = reader.number()?;
     let incarnation = reader.number()?;
     let body = to_client_body(&mut reader, kind)?;
@@ -133,7 +134,7 @@ fn read(bytes: &[u8]) -> Result<ToClient, Fault>
 ///
 /// # Errors
 ///
-/// The first fault from the left, where the bytes are no message.
+/// The first fault from the left, if the bytes are no message.
 pub fn to_client_of(bytes: &[u8]) -> Result<ToClient, Fault>
     // What is read is spelled so.
     ensures found { IfOk result (λ m. FitsToClient m × (bytes.now ≡ spelling.to_client m)) }

@@ -10,6 +10,7 @@ ghost use Rattle.krl_wire.specs.Reading.{request_at, report_at, to_server_body_a
 ghost use Rattle.krl_wire.specs.Reading as reading;
 
 use crate::fault::{Fault, ReadError};
+use crate::kinds::{ACK, BYE, DELETE, HELLO, INSERT, LOCK, PUT, RELEASE, REPORT};
 use crate::read_pieces::pieces;
 use crate::reader::Reader;
 use krl_messages::{Request, RequestBody, ToServer, ToServerBody, WriteOp};
@@ -78,11 +79,11 @@ fn request_body(reader: &mut Reader<'_>, kind: u8) -> Result<RequestBody, Fault>
     ensures { Reads result reader.new (request_body_at kind reader.old) }
 {
     match kind {
-        3 => lock(reader),
-        4 => insert(reader),
-        5 => put(reader),
-        6 => delete(reader),
-        7 => release(reader),
+        LOCK => lock(reader),
+        INSERT => insert(reader),
+        PUT => put(reader),
+        DELETE => delete(reader),
+        RELEASE => release(reader),
         _ => Ok(RequestBody::Ack),
     }
 }
@@ -117,9 +118,9 @@ fn to_server_body(
     ensures memory { result ≡ Err errors.OutOfMemory → kind ≡ 2 }
 {
     match kind {
-        0 => Ok(ToServerBody::Hello),
-        1 => Ok(ToServerBody::Bye),
-        2 => report(reader, alloc),
+        HELLO => Ok(ToServerBody::Hello),
+        BYE => Ok(ToServerBody::Bye),
+        REPORT => report(reader, alloc),
         _ => Ok(request(reader, kind)?),
     }
 }
@@ -131,7 +132,7 @@ fn read(alloc: Global, bytes: &[u8]) -> Result<ToServer, ReadError>
     ensures memory { result ≡ Err errors.OutOfMemory → BeginsReport bytes.now }
 {
     let mut reader = Reader::new(bytes);
-    let kind = reader.head(0, 8)?;
+    let kind = reader.head(HELLO, ACK)?;
     let client = reader.number()?;
     let incarnation = reader.number()?;
     let body = to_server_body(&mut reader, alloc, kind)?;
@@ -150,7 +151,7 @@ fn read(alloc: Global, bytes: &[u8]) -> Result<ToServer, ReadError>
 ///
 /// # Errors
 ///
-/// `Fault` with the first fault from the left, where the bytes are no message; `OutOfMemory` where
+/// `Fault` with the first fault from the left, if the bytes are no message; `OutOfMemory` if
 /// the memory for a list is refused.
 pub fn to_server_of(alloc: Global, bytes: &[u8]) -> Result<ToServer, ReadError>
     // What is read is spelled so.

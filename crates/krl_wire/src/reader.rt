@@ -1,21 +1,16 @@
 //! The fields of a message, read from the left.
 ghost use Rattle.std.specs.Prelude.{◌≡◌, ◌<◌, ◌==◌, ℕ, length};
 ghost use Rattle.std.specs.Int.{w32, w64};
-ghost use Rattle.krl_modes.specs.Modes.{all_modes};
+ghost use Rattle.krl_modes.specs.Names.{all_modes};
 ghost use Rattle.krl_wire.specs.declared.fault.Fault.TheVariants as faults;
 ghost use Rattle.krl_wire.specs.Reading.{Reads, byte_at, number_at, count_at, tag_at, span_at};
 ghost use Rattle.krl_wire.specs.Reading.{value_at, some_value_at, optional_at, kind_at, head_at};
 
 use crate::fault::Fault;
+use crate::kinds::VERSION;
 use krl_messages::Value;
-use krl_modes::{Mode, Span};
+use krl_modes::{MAX_VALUE_BYTES, Mode, Span};
 use std::marker::Model;
-
-/// The only version.
-const VERSION: u8 = 1;
-
-/// The most bytes of a value.
-const MAX_VALUE: usize = 32;
 
 /// The bytes that are not read yet. Each call reads a field off their front. What is left after a
 /// fault is not said.
@@ -98,7 +93,7 @@ impl<'a> Reader<'a> {
         Ok(count)
     }
 
-    /// What stands in the table at the place that the next byte names; `fault` where none does.
+    /// What stands in the table at the place that the next byte names; `fault` if none does.
     #[tactic(auto, unfolding(crate::specs::Reading::tag_at))]
     pub fn tag<T: Copy>(&mut self, table: &[T], fault: Fault) -> Result<T, Fault>
         ensures { Reads result self.new (tag_at table.now fault self.old) }
@@ -136,7 +131,7 @@ impl<'a> Reader<'a> {
         ensures { Reads result self.new (value_at self.old) }
     {
         let len = self.byte()? as usize;
-        if len > MAX_VALUE {
+        if len > MAX_VALUE_BYTES {
             return Err(Fault::Length);
         }
         if self.rest.len() < len {
@@ -156,7 +151,7 @@ impl<'a> Reader<'a> {
         Ok(Some(value))
     }
 
-    /// A value, where its flag is 1.
+    /// A value, if its flag is 1.
     #[tactic(auto, unfolding(crate::specs::Reading::optional_at))]
     pub fn optional_value(&mut self) -> Result<Option<Value>, Fault>
         ensures { Reads result self.new (optional_at self.old) }

@@ -14,7 +14,7 @@ static REPORT: [u8; 60] = [
 // How often a call is made at most: twice it may be refused.
 const CALLS: u64 = 3;
 
-// The message of these bytes, which are read again where memory was refused.
+// The message of these bytes, which are read again if memory was refused.
 fn read(alloc: Global, bytes: &[u8]) -> Result<ToServer, ReadError> {
     for _ in 1..CALLS {
         match to_server_of(alloc, bytes) {
@@ -25,7 +25,7 @@ fn read(alloc: Global, bytes: &[u8]) -> Result<ToServer, ReadError> {
     to_server_of(alloc, bytes)
 }
 
-// The message's bytes, which are asked for again where memory was refused; none where it has none.
+// The message's bytes, which are asked for again if memory was refused; none if it has none.
 fn written(alloc: Global, message: &ToServer) -> Result<Vec<u8>, AllocError> {
     if !has_counts(message) {
         return Ok(Vec::new(alloc));

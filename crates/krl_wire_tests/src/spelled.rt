@@ -12,7 +12,7 @@ use krl_wire::{
 use std::alloc::{AllocError, Global};
 use std::test::Fail;
 
-/// The message's bytes; None where it has none.
+/// The message's bytes; None if it has none.
 pub fn written_to_server(alloc: Global, message: &ToServer) -> Result<Option<Vec<u8>>, AllocError> {
     if !has_counts(message) {
         return Ok(None);

@@ -3,7 +3,7 @@ pub mod Due
 pub mod Fresh
 pub mod Places
 pub mod Lifts
-pub mod Seats
+pub mod ClientPlaces
 pub mod Commands
 pub mod Server
 pub mod Applies

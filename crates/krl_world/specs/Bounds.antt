@@ -16,7 +16,7 @@ use Rattle.krl_messages.specs.declared.to_server.ToServerBody.{ToServerBody}
 use Rattle.krl_messages.specs.declared.to_server.ToServerBody.TheVariants as said
 use Rattle.krl_messages.specs.declared.to_client.ToClient.{ToClient}
 use Rattle.krl_messages.specs.declared.to_client.ToClientBody.{ToClientBody}
-use Rattle.krl_messages.specs.declared.to_client.ToClientBody.TheVariants as heard
+use Rattle.krl_messages.specs.declared.to_client.ToClientBody.TheVariants as told
 use Rattle.krl_messages.specs.declared.to_client.PushBody.{PushBody}
 use Rattle.krl_messages.specs.declared.to_client.PushBody.TheVariants as push
 use Rattle.krl_messages.specs.Members.{In}
@@ -36,7 +36,7 @@ use Rattle.krl_world.specs.declared.message.Message.TheVariants as message
 use Rattle.krl_steps.specs.declared.step.Step.{Step}
 use Rattle.krl_steps.specs.declared.step.Step.TheVariants as step
 use Rattle.krl_steps.specs.declared.answer.Answer.{Answer}
-use Rattle.krl_world.specs.States.{ServerNode, Up, Down, State, opened, durable_of, index_of, client_of, range_held, key_held}
+use Rattle.krl_world.specs.States.{ServerPlace, Up, Down, State, opened, durable_of, index_of, client_of, range_held, key_held}
 use Rattle.krl_world.specs.Steps.{CanOpen, message_at, Takes}
 
 -- a range part and a key part for each client at each point, and the index of that moment
@@ -60,7 +60,7 @@ abbrev pub first_bound : Durable → Bound
 first_bound d = table_of (start d)
 
 -- the message that arrives registers this client anew, or marks it left
-abbrev pub clears_in : ServerNode → Option Message → ℕ → Bool
+abbrev pub clears_in : ServerPlace → Option Message → ℕ → Bool
 clears_in (Up s) (Some (message.ToServer m)) c = nat_eq c m.client && clears (case_of s m)
 clears_in (Up s) (Some (message.ToClient m)) c = false
 clears_in (Up s) None c = false
@@ -84,7 +84,7 @@ cleared gone b = record {
   index = b.index;
 }
 
-abbrev pub bound_at : ServerNode → Bound → Bound
+abbrev pub bound_at : ServerPlace → Bound → Bound
 bound_at (Up s) kept = if is_recovering s.missing then kept else table_of s
 bound_at (Down d) kept = kept
 
@@ -101,12 +101,6 @@ RunsWithin w b (s ∷ steps) w' b' =
 -- the world is reached by some list of taken steps, of which this is the bound table
 abbrev pub HasBound : State → Bound → Type 0
 HasBound w b = CanOpen w.opening × (steps : List Step) × RunsWithin (opened w.opening) (first_bound w.opening) steps w b
-
--- while a server serves, the bound of a run is its table
-abbrev pub BoundIsTable : Type 0
-BoundIsTable =
-    (w : State) (b : Bound) (s : Server) → HasBound w b → w.server ≡ Up s → is_recovering s.missing ≡ false →
-    b ≡ table_of s
 
 -- What lies within it
 
@@ -137,14 +131,14 @@ IsPushWithin b c (push.Answer number o h) = IsHoldingWithin b c h
 
 abbrev pub push_message : ℕ → ℕ → ℕ → ℕ → PushBody → Message
 push_message c incarnation epoch number body =
-    message.ToClient (record { client = c; incarnation = incarnation; body = heard.Push epoch number body })
+    message.ToClient (record { client = c; incarnation = incarnation; body = told.Push epoch number body })
 
 -- what clients believe, and the holdings of live pushes, are within the bound; and the index has stood still since
 pub record IsBounded (w : State) (b : Bound) : Type 0 where
   pub index : b.index ≡ index_of w
   pub held_range : (c p : ℕ) → IsRangeWithin (range_held w c p) (b.range_at c p)
   pub held_key : (c p : ℕ) → IsKeyWithin (key_held w c p) (b.key_at c p)
-  -- a push is live where its client is up, its incarnation and epoch are the client's own, and its number is the next
+  -- a push is live if its client is up, its incarnation and epoch are the client's own, and its number is the next
   pub live : (c : ℕ) (k : Client) (body : PushBody) → client_of w c ≡ Some k →
       In (push_message c k.incarnation k.epoch (suc k.seen) body) w.sent → IsPushWithin b c body
 
@@ -157,9 +151,9 @@ epoch_said (said.Report epoch pieces) = epoch
 epoch_said (said.Request request) = request.epoch
 
 abbrev pub epoch_told : ToClientBody → ℕ
-epoch_told (heard.Epoch epoch) = epoch
-epoch_told (heard.Push epoch number body) = epoch
-epoch_told (heard.Callback epoch s keep) = epoch
+epoch_told (told.Epoch epoch) = epoch
+epoch_told (told.Push epoch number body) = epoch
+epoch_told (told.Callback epoch s keep) = epoch
 
 abbrev pub report_message : ℕ → ℕ → ℕ → Pieces → Message
 report_message c incarnation epoch pieces =
@@ -188,7 +182,7 @@ pub record IsRecoveryWithin (w : State) (b : Bound) (s : Server) : Type 0 where
   -- a row that was rebuilt is, and it is at least what its client believes
   pub row : IsTableWithin (table_of s) b
   pub row_covers : (c : ℕ) → lists s.missing c ≡ false → Covers (table_of s) w c
-  -- so it is as soon as an awaited report is taken, also where it is the last and the server serves from then on
+  -- so it is as soon as an awaited report is taken, even if it is the last and the server serves from then on
   pub taken : (c : ℕ) (r : Record) (pieces : Pieces) → IsAwaited w s c r pieces →
       IsTableWithin (table_with s c pieces) b
   pub taken_covers : (c : ℕ) (r : Record) (pieces : Pieces) → IsAwaited w s c r pieces → (d : ℕ) →

@@ -1,8 +1,10 @@
 pub mod States
+pub mod Shown
 pub mod Steps
 pub mod Promises
 pub mod Bounds
 pub mod Laws
 pub mod Runs
 pub mod Fields
-pub mod SeatSteps
+pub mod FieldParts
+pub mod PlaceSteps

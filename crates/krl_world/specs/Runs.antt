@@ -5,7 +5,7 @@ use Rattle.krl_modes.specs.declared.mode.Mode.TheVariants as mode
 use Rattle.krl_messages.specs.declared.holding.Holding.{Holding}
 use Rattle.krl_messages.specs.declared.outcome.Outcome.TheVariants as outcome
 use Rattle.krl_messages.specs.declared.write_op.WriteOp.TheVariants as write
-use Rattle.krl_messages.specs.declared.to_client.ToClientBody.TheVariants as heard
+use Rattle.krl_messages.specs.declared.to_client.ToClientBody.TheVariants as told
 use Rattle.krl_messages.specs.declared.to_server.ToServerBody.TheVariants as said
 use Rattle.krl_messages.specs.declared.pieces.Pieces.{Pieces}
 use Rattle.krl_messages.specs.Members.{In}
@@ -13,21 +13,23 @@ use Rattle.krl_durable.specs.Registers.{Durable}
 use Rattle.krl_world.specs.declared.message.Message.TheVariants as message
 use Rattle.krl_steps.specs.declared.step.Step.TheVariants as step
 use Rattle.krl_steps.specs.declared.step.Command.TheVariants as command
-use Rattle.krl_steps.specs.declared.answer.Answer.TheVariants as told
-use Rattle.krl_world.specs.States.{State, Down, durable_of, index_of, is_serving}
+use Rattle.krl_steps.specs.declared.answer.Answer.TheVariants as answered
+use Rattle.krl_world.specs.States.{State, Down, durable_of, index_of}
+use Rattle.krl_world.specs.Shown.{is_serving}
 use Rattle.krl_world.specs.Steps.{span, Steps, IsReachable}
 use Rattle.krl_world.specs.Promises.{answer_message}
 
 -- a scan from a cache gives an entry
 abbrev pub ScansSomewhere : Type 0
 ScansSomewhere =
-    (w : State) × IsReachable w × Steps w (step.Command 0 (command.Scan 0 11)) (Ok (told.Rows ((10, 1 ∷ []) ∷ []))) w
+    (w : State) × IsReachable w
+    × Steps w (step.Command 0 (command.Scan 0 11)) (Ok (answered.Rows ((10, 1 ∷ []) ∷ []))) w
 
 -- a scan from a cache gives an entry while no server runs
 abbrev pub ScansWhileDown : Type 0
 ScansWhileDown =
     (w : State) × (d : Durable) × IsReachable w × (w.server ≡ Down d)
-    × Steps w (step.Command 0 (command.Scan 0 11)) (Ok (told.Rows ((10, 1 ∷ []) ∷ []))) w
+    × Steps w (step.Command 0 (command.Scan 0 11)) (Ok (answered.Rows ((10, 1 ∷ []) ∷ []))) w
 
 -- a client was told that its insert is Applied, and it stands in the list of writes
 abbrev pub WritesSomewhere : Type 0
@@ -41,7 +43,7 @@ pub record HasComeThrough (w : State) : Type 0 where
   pub called_back : In (message.ToClient (record {
     client = 0;
     incarnation = 1;
-    body = heard.Callback 1 (span 0 11) mode.N;
+    body = told.Callback 1 (span 0 11) mode.N;
   })) w.sent
   pub epoch : (durable_of w.server).epoch ≡ 2
   pub reports : (c : ℕ) → c ≤ 1 → (pieces : Pieces) × In (message.ToServer (record {

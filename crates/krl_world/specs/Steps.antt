@@ -1,21 +1,18 @@
 -- What each step answers and leaves, and which refusal comes first.
-use Rattle.std.specs.Prelude.{◌≡◌, ℕ, zero, suc, ◌⊎◌, ◌≤◌, true, false, cond, nat_lt, List, [], ◌∷◌, length, slice_get, Option, Some, None, Result, Ok, Err, is_some}
+use Rattle.std.specs.Prelude.{◌≡◌, ℕ, zero, suc, ◌⊎◌, ◌≤◌, true, false, if◌then◌else◌, List, [], ◌∷◌, length, slice_get, Option, Some, None, Result, Ok, Err, is_some, nat_le}
 use Rattle.krl_modes.specs.Spans.{Bounds}
 use Rattle.krl_messages.specs.declared.pieces.Pieces.{Pieces}
 use Rattle.krl_messages.specs.declared.outcome.Outcome.{Outcome}
 use Rattle.krl_messages.specs.declared.outcome.Outcome.TheVariants as outcome
 use Rattle.krl_messages.specs.declared.to_server.ToServer.{ToServer}
 use Rattle.krl_messages.specs.declared.to_client.ToClient.{ToClient}
-use Rattle.krl_durable.specs.declared.refused.Refused.{Refused as IndexRefused}
+use Rattle.krl_durable.specs.declared.refused.EntriesRefused.{EntriesRefused}
 use Rattle.krl_durable.specs.InitialEntries.{AreGood, Refuses}
 use Rattle.krl_durable.specs.declared.not_migrated.NotMigrated.{NotMigrated}
 use Rattle.krl_durable.specs.Kept.{IsKept}
 use Rattle.krl_durable.specs.Migrations as migrations
 use Rattle.krl_durable.specs.Migrations.{DurableV1, migrated}
 use Rattle.krl_durable.specs.Registers.{Durable, missing_order}
-use Rattle.krl_durable.specs.Writes.{most_entries}
-use Rattle.krl_server.specs.declared.start_refused.StartRefused.{StartRefused as NotStarted}
-use Rattle.krl_server.specs.declared.start_refused.StartRefused.TheVariants as not_started
 use Rattle.krl_server.specs.Servers.{Server}
 use Rattle.krl_server.specs.Cases.{Case, Ignored, Registers, Leaves, Tells, Alarms, Rebuilds, Repeats, Acknowledges, Lowers, Waits, Judges, AnswersAgain, case_of}
 use Rattle.krl_server.specs.Steps as server
@@ -23,13 +20,15 @@ use Rattle.krl_server.specs.Steps.{ServerStep}
 use Rattle.krl_cache.specs.Beliefs.{CoversAll}
 use Rattle.krl_cache.specs.Kept.{Describes}
 use Rattle.krl_client.specs.declared.refused.CommandRefused.{CommandRefused}
-use Rattle.krl_client.specs.declared.scan_answer.ScanAnswer.TheVariants as scanned
+use Rattle.krl_client.specs.declared.scan_answer.ScanAnswer.TheVariants as scan_answer
 use Rattle.krl_client.specs.Clients.{Client, begun, is_writing_in, free_pin}
 use Rattle.krl_client.specs.Commands
 use Rattle.krl_client.specs.Commands.{lock_refusal, write_refusal, scan_refusal, forget_refusal, pin_refusal, unpin_refusal, start_refusal, says_lock, wrote, says_write, says_release, forgot, pinned, unpinned, says_bye}
 use Rattle.krl_client.specs.Messages as receiver
 use Rattle.krl_client.specs.Ticks.{tick, says_hello}
 use Rattle.krl_modes.specs.declared.mode.Mode.TheVariants as mode
+use Rattle.krl_modes.specs.declared.limits.TheConstants.{MAX_CLIENTS}
+use Rattle.krl_modes.specs.Limits.{max_entries}
 use Rattle.krl_messages.specs.Values.{Value}
 use Rattle.krl_world.specs.declared.message.Message.{Message}
 use Rattle.krl_world.specs.declared.message.Message.TheVariants as message
@@ -39,17 +38,17 @@ use Rattle.krl_steps.specs.declared.step.Step.TheVariants as step
 use Rattle.krl_steps.specs.declared.step.Command.{Command}
 use Rattle.krl_steps.specs.declared.step.Command.TheVariants as command
 use Rattle.krl_steps.specs.declared.answer.Answer.{Answer}
-use Rattle.krl_steps.specs.declared.answer.Answer.TheVariants as told
+use Rattle.krl_steps.specs.declared.answer.Answer.TheVariants as answered
 use Rattle.krl_steps.specs.declared.refused.Refused.{Refused}
 use Rattle.krl_steps.specs.declared.refused.Refused.TheVariants as refused
 use Rattle.krl_steps.specs.Refusals.{refused_by_index, refused_by_migration, refused_by_client, refused_at_start}
-use Rattle.krl_world.specs.States.{ServerNode, Up, Down, State, opened, client_of, with_client, seated, served}
+use Rattle.krl_world.specs.States.{ServerPlace, Up, Down, State, opened, client_of, with_client, seated, served}
 
 -- Making a world
 
 -- a world may begin with these entries
 abbrev pub CanBegin : List (ℕ × Value) → Type 0
-CanBegin entries = (length entries ≤ most_entries) × AreGood entries (length entries)
+CanBegin entries = (length entries ≤ max_entries) × AreGood entries (length entries)
 
 -- or with this durable part, as a server keeps it: there is an epoch for the start, and each registered client has left
 pub record CanOpen (d : Durable) : Type 0 where
@@ -59,7 +58,7 @@ pub record CanOpen (d : Durable) : Type 0 where
 
 -- why no world begins with these entries
 abbrev pub CannotBegin : List (ℕ × Value) → Refused → Type 0
-CannotBegin entries r = (e : IndexRefused) × Refuses most_entries entries e × (r ≡ refused_by_index e)
+CannotBegin entries r = (e : EntriesRefused) × Refuses max_entries entries e × (r ≡ refused_by_index e)
 
 -- why no world begins with this durable part
 abbrev pub CannotOpen : Durable → Refused → Type 0
@@ -73,11 +72,6 @@ CannotMigrate d r =
     ⊎ ((missing_order d.register ≡ []) × CannotOpen (migrated d) r)
 
 -- Refusals, apart from memory: the first reason in the written order
-
--- what a server's start is refused for, by its name here
-abbrev pub refused_by_server : NotStarted → Refused
-refused_by_server not_started.OutOfMemory = refused.OutOfMemory
-refused_by_server not_started.Spent = refused.Spent
 
 abbrev pub named : {A : Type 0} → (A → Refused) → Option A → Option Refused
 named f None = None
@@ -104,29 +98,29 @@ message_at sent (suc i) = slice_get sent i
 
 -- the client's number is judged before all else
 abbrev pub of_client : ℕ → Option Refused → Option Refused
-of_client c r = cond (nat_lt 63 c) (Some refused.BadClient) r
+of_client c r = if nat_le MAX_CLIENTS c then Some refused.BadClient else r
 
 abbrev pub if_runs : Option Client → (Client → Option Refused) → Option Refused
 if_runs None f = Some refused.Down
 if_runs (Some k) f = f k
 
-abbrev pub server_down : ServerNode → Option Refused
+abbrev pub server_down : ServerPlace → Option Refused
 server_down (Up s) = None
 server_down (Down d) = Some refused.Down
 
-abbrev pub server_start : ServerNode → Option Refused
+abbrev pub server_start : ServerPlace → Option Refused
 server_start (Up s) = Some refused.Running
-server_start (Down d) = cond (server.can_start d) None (Some refused.Spent)
+server_start (Down d) = if server.can_start d then None else Some refused.Spent
 
 abbrev pub refusal_of : State → Step → Option Refused
-refusal_of w (step.Deliver i) = cond (is_some (message_at w.sent i)) None (Some refused.NoMessage)
+refusal_of w (step.Deliver i) = if is_some (message_at w.sent i) then None else Some refused.NoMessage
 refusal_of w (step.Command c what) =
     of_client c (if_runs (client_of w c) (λ k. named refused_by_client (command_refusal k what)))
 refusal_of w (step.Tick c) = of_client c (if_runs (client_of w c) (λ k. None))
 refusal_of w (step.Nudge c) = of_client c (server_down w.server)
 refusal_of w (step.StartClient c) =
-    of_client c (cond (is_some (client_of w c)) (Some refused.Running)
-    (named refused_at_start (start_refusal c (suc (w.seats c).last_incarnation))))
+    of_client c (if is_some (client_of w c) then Some refused.Running
+    else named refused_at_start (start_refusal c (suc (w.places c).last_incarnation)))
 refusal_of w (step.CrashClient c) = of_client c (if_runs (client_of w c) (λ k. None))
 refusal_of w step.StartServer = server_start w.server
 refusal_of w step.CrashServer = server_down w.server
@@ -144,7 +138,7 @@ applies m (Judges number op o) =
 applies m other = []
 
 -- the server reads the message; one that is down loses it
-abbrev pub ServerReads : State → ServerNode → ToServer → State → Type 0
+abbrev pub ServerReads : State → ServerPlace → ToServer → State → Type 0
 ServerReads w (Up s) m w' =
     (t : Server) × (outs : List ToClient) × ServerStep s m t outs
     × (w' ≡ served w (Up t) outs (applies m (case_of s m)))
@@ -167,42 +161,42 @@ Delivers w None w' = ⊥
 
 -- what a client says of a scan is the answer
 abbrev pub ScanAnswers : Client → Bounds → Answer → Type 0
-ScanAnswers k s told.Done = ⊥
-ScanAnswers k s (told.Pinned id) = ⊥
-ScanAnswers k s (told.Rows rows) = Commands.Answers k s (scanned.Rows rows)
-ScanAnswers k s (told.Miss p) = Commands.Answers k s (scanned.Miss p)
-ScanAnswers k s (told.Pending n) = Commands.Answers k s (scanned.Pending n)
+ScanAnswers k s answered.Done = ⊥
+ScanAnswers k s (answered.Pinned id) = ⊥
+ScanAnswers k s (answered.Rows rows) = Commands.Answers k s (scan_answer.Rows rows)
+ScanAnswers k s (answered.Miss p) = Commands.Answers k s (scan_answer.Miss p)
+ScanAnswers k s (answered.Pending n) = Commands.Answers k s (scan_answer.Pending n)
 
 -- a client that runs obeys a command
 abbrev pub Obeys : State → ℕ → Client → Command → Answer → State → Type 0
 Obeys w c k (command.Lock point hi m) answer w' =
-    (answer ≡ told.Done)
+    (answer ≡ answered.Done)
     × (w' ≡ with_client w c (Some (Commands.locked k point hi m))
     (says_lock (Commands.locked k point hi m) point hi m ∷ []))
 Obeys w c k (command.Write op) answer w' =
-    (answer ≡ told.Done) × (w' ≡ with_client w c (Some (wrote k op)) (says_write (wrote k op) op ∷ []))
+    (answer ≡ answered.Done) × (w' ≡ with_client w c (Some (wrote k op)) (says_write (wrote k op) op ∷ []))
 Obeys w c k (command.Scan lo hi) answer w' = ScanAnswers k (span lo hi) answer × (w' ≡ w)
 Obeys w c k (command.Forget lo hi) answer w' =
-    (answer ≡ told.Done)
+    (answer ≡ answered.Done)
     × (w' ≡ with_client w c (Some (forgot k (span lo hi))) (says_release k (span lo hi) mode.N ∷ []))
 Obeys w c k (command.Pin lo hi) answer w' =
-    (id : ℕ) × (free_pin k ≡ Some id) × (answer ≡ told.Pinned id)
+    (id : ℕ) × (free_pin k ≡ Some id) × (answer ≡ answered.Pinned id)
     × (w' ≡ with_client w c (Some (pinned k (span lo hi) id)) [])
-Obeys w c k (command.Unpin id) answer w' = (answer ≡ told.Done) × (w' ≡ with_client w c (Some (unpinned k id)) [])
-Obeys w c k command.Leave answer w' = (answer ≡ told.Done) × (w' ≡ with_client w c None (says_bye k ∷ []))
+Obeys w c k (command.Unpin id) answer w' = (answer ≡ answered.Done) × (w' ≡ with_client w c (Some (unpinned k id)) [])
+Obeys w c k command.Leave answer w' = (answer ≡ answered.Done) × (w' ≡ with_client w c None (says_bye k ∷ []))
 
 -- Steps
 
 -- what a server that runs is nudged to send
-abbrev pub nudged : State → ServerNode → ℕ → State
+abbrev pub nudged : State → ServerPlace → ℕ → State
 nudged w (Up s) c = served w (Up s) (server.nudge s c) []
 nudged w (Down d) c = w
 
-abbrev pub started : State → ServerNode → State
+abbrev pub started : State → ServerPlace → State
 started w (Up s) = w
 started w (Down d) = served w (Up (server.start d)) [] []
 
-abbrev pub crashed : State → ServerNode → State
+abbrev pub crashed : State → ServerPlace → State
 crashed w (Up s) = served w (Down (server.crash s)) [] []
 crashed w (Down d) = w
 
@@ -212,17 +206,17 @@ Ticks w c k w' = (ps : Pieces) × Describes ps k.belief × (w' ≡ with_client w
 
 -- what a step that isn't refused answers and leaves
 abbrev pub Does : State → Step → Answer → State → Type 0
-Does w (step.Deliver i) answer w' = (answer ≡ told.Done) × Delivers w (message_at w.sent i) w'
+Does w (step.Deliver i) answer w' = (answer ≡ answered.Done) × Delivers w (message_at w.sent i) w'
 Does w (step.Command c what) answer w' = (k : Client) × (client_of w c ≡ Some k) × Obeys w c k what answer w'
-Does w (step.Tick c) answer w' = (answer ≡ told.Done) × ((k : Client) × (client_of w c ≡ Some k) × Ticks w c k w')
-Does w (step.Nudge c) answer w' = (answer ≡ told.Done) × (w' ≡ nudged w w.server c)
+Does w (step.Tick c) answer w' = (answer ≡ answered.Done) × ((k : Client) × (client_of w c ≡ Some k) × Ticks w c k w')
+Does w (step.Nudge c) answer w' = (answer ≡ answered.Done) × (w' ≡ nudged w w.server c)
 Does w (step.StartClient c) answer w' =
-    let n = suc (w.seats c).last_incarnation in
-    (answer ≡ told.Done)
+    let n = suc (w.places c).last_incarnation in
+    (answer ≡ answered.Done)
     × (w' ≡ seated w c (record { last_incarnation = n; client = Some (begun c n) }) (says_hello (begun c n) ∷ []))
-Does w (step.CrashClient c) answer w' = (answer ≡ told.Done) × (w' ≡ with_client w c None [])
-Does w step.StartServer answer w' = (answer ≡ told.Done) × (w' ≡ started w w.server)
-Does w step.CrashServer answer w' = (answer ≡ told.Done) × (w' ≡ crashed w w.server)
+Does w (step.CrashClient c) answer w' = (answer ≡ answered.Done) × (w' ≡ with_client w c None [])
+Does w step.StartServer answer w' = (answer ≡ answered.Done) × (w' ≡ started w w.server)
+Does w step.CrashServer answer w' = (answer ≡ answered.Done) × (w' ≡ crashed w w.server)
 
 -- Which steps take memory
 
@@ -258,7 +252,7 @@ TakesMemory w step.CrashServer = ⊥
 abbrev pub Takes : State → Step → Answer → State → Type 0
 Takes w s answer w' = (refusal_of w s ≡ None) × Does w s answer w'
 
--- The step is taken; or refused, and then nothing changes: for the first reason, or where there is none for want of
+-- The step is taken; or refused, and then nothing changes: for the first reason, or if there is none for want of
 -- memory, if it takes some.
 unfoldable pub Steps : State → Step → Result Answer Refused → State → Type 0
 Steps w s (Ok answer) w' = Takes w s answer w'

@@ -4,14 +4,14 @@ ghost use Rattle.krl_client.specs.Fields.{meaning};
 ghost use Rattle.krl_world.specs.declared.message.Message.{Message};
 ghost use Rattle.krl_steps.specs.declared.step.Command.TheVariants as command;
 ghost use Rattle.krl_steps.specs.Refusals.{refused_by_client};
-ghost use Rattle.krl_world.specs.Fields.{seat_of, client_there};
-ghost use Rattle.krl_world.specs.SeatSteps.{IsRefused, Commanded, CommandedAt, Started, Ticked};
-ghost use Rattle.krl_world.specs.SeatSteps.{HasRead, starting_refusal};
+ghost use Rattle.krl_world.specs.Fields.{place_of, client_there};
+ghost use Rattle.krl_world.specs.PlaceSteps.{IsRefused, Commanded, CommandedAt, Started, Ticked};
+ghost use Rattle.krl_world.specs.PlaceSteps.{HasRead, starting_refusal};
 ghost use Rattle.krl_world.specs.Steps.{named};
 
 use crate::message::Message;
-use crate::network::{MOST_OF_A_CLIENT, send_to_server};
-use crate::node::Seat;
+use crate::network::{MAX_OF_A_CLIENT, send_to_server};
+use crate::node::ClientPlace;
 use krl_client::{Client, CommandRefused, ScanAnswer};
 use krl_messages::{ToClient, WriteOp};
 use krl_modes::Mode;
@@ -44,7 +44,7 @@ fn lock(
     ensures { Commanded (meaning client.old) (command.Lock point hi mode)
         (Some (meaning client.new)) sent.old.items sent.new.items result }
 {
-    if sent.reserve(MOST_OF_A_CLIENT).is_err() {
+    if sent.reserve(MAX_OF_A_CLIENT).is_err() {
         return Err(refused_without_room(client.lock_refusal(point, hi)));
     }
     let messages = client.lock(point, hi, mode)?;
@@ -57,7 +57,7 @@ fn write(client: &mut Client, sent: &mut Vec<Message>, op: WriteOp) -> Result<An
     ensures { Commanded (meaning client.old) (command.Write op) (Some (meaning client.new))
         sent.old.items sent.new.items result }
 {
-    if sent.reserve(MOST_OF_A_CLIENT).is_err() {
+    if sent.reserve(MAX_OF_A_CLIENT).is_err() {
         return Err(refused_without_room(client.write_refusal(op)));
     }
     let messages = client.write(op)?;
@@ -70,7 +70,7 @@ fn forget(client: &mut Client, sent: &mut Vec<Message>, lo: u64, hi: u64) -> Res
     ensures { Commanded (meaning client.old) (command.Forget lo hi) (Some (meaning client.new))
         sent.old.items sent.new.items result }
 {
-    if sent.reserve(MOST_OF_A_CLIENT).is_err() {
+    if sent.reserve(MAX_OF_A_CLIENT).is_err() {
         return Err(refused_without_room(client.forget_refusal(lo, hi)));
     }
     let messages = client.forget(lo, hi)?;
@@ -109,16 +109,16 @@ fn unpin(client: &mut Client, id: u64) -> Result<Answer, Refused>
 }
 
 /// The client leaves.
-fn leave(seat: &mut Seat, sent: &mut Vec<Message>) -> Result<Answer, Refused>
-    ensures commanded { CommandedAt (client_there seat.old.client) command.Leave
-        (client_there seat.new.client) sent.old.items sent.new.items result }
-    ensures last_incarnation { seat.new.last_incarnation ≡ seat.old.last_incarnation }
+fn leave(place: &mut ClientPlace, sent: &mut Vec<Message>) -> Result<Answer, Refused>
+    ensures commanded { CommandedAt (client_there place.old.client) command.Leave
+        (client_there place.new.client) sent.old.items sent.new.items result }
+    ensures last_incarnation { place.new.last_incarnation ≡ place.old.last_incarnation }
 {
-    let Some(client) = seat.client.take() else {
+    let Some(client) = place.client.take() else {
         return Err(Refused::Down);
     };
-    if sent.reserve(MOST_OF_A_CLIENT).is_err() {
-        seat.client = Some(client);
+    if sent.reserve(MAX_OF_A_CLIENT).is_err() {
+        place.client = Some(client);
         return Err(Refused::OutOfMemory);
     }
     match client.leave() {
@@ -127,19 +127,23 @@ fn leave(seat: &mut Seat, sent: &mut Vec<Message>) -> Result<Answer, Refused>
             Ok(Answer::Done)
         }
         Err(client) => {
-            seat.client = Some(client);
+            place.client = Some(client);
             Err(Refused::OutOfMemory)
         }
     }
 }
 
-/// The client at the seat, where one runs, obeys the command.
-pub fn obey(seat: &mut Seat, sent: &mut Vec<Message>, what: Command) -> Result<Answer, Refused>
-    ensures commanded { CommandedAt (client_there seat.old.client) what
-        (client_there seat.new.client) sent.old.items sent.new.items result }
-    ensures last_incarnation { seat.new.last_incarnation ≡ seat.old.last_incarnation }
+/// The client at the place, if one runs, obeys the command.
+pub fn obey(
+    place: &mut ClientPlace,
+    sent: &mut Vec<Message>,
+    what: Command,
+) -> Result<Answer, Refused>
+    ensures commanded { CommandedAt (client_there place.old.client) what
+        (client_there place.new.client) sent.old.items sent.new.items result }
+    ensures last_incarnation { place.new.last_incarnation ≡ place.old.last_incarnation }
 {
-    let Some(client) = &mut seat.client else {
+    let Some(client) = &mut place.client else {
         return Err(Refused::Down);
     };
     match what {
@@ -149,7 +153,7 @@ pub fn obey(seat: &mut Seat, sent: &mut Vec<Message>, what: Command) -> Result<A
         Command::Forget { lo, hi } => forget(client, sent, lo, hi),
         Command::Pin { lo, hi } => pin(client, lo, hi),
         Command::Unpin(id) => unpin(client, id),
-        Command::Leave => leave(seat, sent),
+        Command::Leave => leave(place, sent),
     }
 }
 
@@ -158,7 +162,7 @@ pub fn tick(client: &Client, sent: &mut Vec<Message>) -> Result<(), AllocError>
     ensures ok { OnOk result (Ticked (meaning client.now) sent.old.items sent.new.items) }
     ensures err { OnErr result (sent.new.items ≡ sent.old.items) }
 {
-    sent.reserve(MOST_OF_A_CLIENT)?;
+    sent.reserve(MAX_OF_A_CLIENT)?;
     let messages = client.tick()?;
     send_to_server(sent, messages);
     Ok(())
@@ -174,31 +178,32 @@ pub fn read(
         sent.old.items sent.new.items) }
     ensures err { OnErr result ((client.new ≡ client.old) × (sent.new.items ≡ sent.old.items)) }
 {
-    sent.reserve(MOST_OF_A_CLIENT)?;
+    sent.reserve(MAX_OF_A_CLIENT)?;
     let messages = client.step(message)?;
     send_to_server(sent, messages);
     Ok(())
 }
 
-/// A client of this number starts at its seat, with the next incarnation.
+/// A client of this number starts at its place, with the next incarnation.
 pub fn start(
     alloc: Global,
-    seat: &mut Seat,
+    place: &mut ClientPlace,
     sent: &mut Vec<Message>,
     number: u64,
 ) -> Result<(), Refused>
     ensures ok { OnOk result
-        (Started number (seat_of seat.old) (seat_of seat.new) sent.old.items sent.new.items) }
-    ensures due { IfErr result (IsRefused (starting_refusal number (seat_of seat.old)) (Unit {0})) }
-    ensures err { OnErr result ((seat.new ≡ seat.old) × (sent.new.items ≡ sent.old.items)) }
+        (Started number (place_of place.old) (place_of place.new) sent.old.items sent.new.items) }
+    ensures due { IfErr result
+        (IsRefused (starting_refusal number (place_of place.old)) (Unit {0})) }
+    ensures err { OnErr result ((place.new ≡ place.old) × (sent.new.items ≡ sent.old.items)) }
 {
-    if seat.client.is_some() {
+    if place.client.is_some() {
         return Err(Refused::Running);
     }
-    let incarnation = seat.last_incarnation.saturating_add(1);
+    let incarnation = place.last_incarnation.saturating_add(1);
     let (client, hello) = Client::start(alloc, number, incarnation)?;
     sent.push(Message::ToServer(hello))?;
-    seat.last_incarnation = incarnation;
-    seat.client = Some(client);
+    place.last_incarnation = incarnation;
+    place.client = Some(client);
     Ok(())
 }

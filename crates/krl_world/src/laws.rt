@@ -1,17 +1,16 @@
 //! What holds of every world: each function's contract is a law, and its body is empty.
 ghost use Rattle.krl_world.specs.States.{State};
 ghost use Rattle.krl_world.specs.Steps.{IsReachable};
-ghost use Rattle.krl_world.specs.Promises.{Headline};
-ghost use Rattle.krl_world.specs.Laws.{ReachableStays, NobodyAbove63};
-ghost use Rattle.krl_world.specs.Laws.{CanGoOn, ServesOn, RecoveriesEnd};
+ghost use Rattle.krl_world.specs.Promises.{Headline, CanGoOn};
+ghost use Rattle.krl_world.specs.Laws.{ReachableStays, NobodyAbove63, ServesOn, RecoveriesEnd};
+ghost use Rattle.krl_world.specs.Laws.{BoundIsTable};
 ghost use Rattle.krl_world.specs.Runs.{ScansSomewhere, ScansWhileDown, WritesSomewhere};
 ghost use Rattle.krl_world.specs.Runs.{ComesThroughSomewhere};
-ghost use Rattle.krl_world.specs.Bounds.{Bound, HasBound, BoundIsTable};
-ghost use Rattle.krl_world.specs.Bounds.{IsBounded, HoldsOverRestarts};
+ghost use Rattle.krl_world.specs.Bounds.{Bound, HasBound, IsBounded, HoldsOverRestarts};
 
 /// After every list of steps no two clients hold incompatible parts at one point, each scan that is
 /// answered from a cache is that range of the index, and each numbered write changed the index at
-/// most once, and once where its client was told Applied.
+/// most once, and once if its client was told Applied.
 pub fn headline()
     ensures { (w : State) → IsReachable w → Headline w }
 {}

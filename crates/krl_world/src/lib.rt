@@ -4,7 +4,7 @@
 //! often, what a client is told to do, who crashes and who starts. After every list of steps no two
 //! clients hold incompatible parts at one point; the rows that answer a scan are those of the
 //! index, though the client read its own cache alone; and each numbered write changed the index at
-//! most once, and once where its client was told Applied. `laws` says this and more of all worlds.
+//! most once, and once if its client was told Applied. `laws` says this and more of all worlds.
 #![tactic(auto)]
 
 pub mod client_steps;
@@ -18,5 +18,5 @@ mod world;
 
 pub use krl_steps::{Answer, AppliedWrite, Command, Refused, Step};
 pub use message::Message;
-pub use node::{Seat, ServerNode};
+pub use node::{ClientPlace, ServerPlace};
 pub use world::World;

@@ -6,10 +6,10 @@ use crate::message::Message;
 use krl_messages::{Items, ToClient, ToServer};
 
 /// The most messages that a step of a client sends.
-pub const MOST_OF_A_CLIENT: usize = 3;
+pub const MAX_OF_A_CLIENT: usize = 3;
 
 /// The most messages that a step of a server sends.
-pub const MOST_OF_A_SERVER: usize = 4097;
+pub const MAX_OF_A_SERVER: usize = 4097;
 
 /// Puts what a client sent behind all that was sent. There is room.
 pub fn send_to_server(sent: &mut Vec<Message>, messages: Vec<ToServer>)

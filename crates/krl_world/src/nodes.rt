@@ -13,16 +13,18 @@ ghost use Rattle.krl_durable.specs.Migrations.{migrated};
 ghost use Rattle.krl_world.specs.States.{index_of, unused, opened, fresh, range_held, key_held};
 ghost use Rattle.krl_world.specs.Steps.{Steps, CanBegin, CannotBegin, CanOpen, CannotOpen};
 ghost use Rattle.krl_world.specs.Steps.{CannotMigrate, message_at};
-ghost use Rattle.krl_world.specs.Fields.{meaning, server_up, kept_client, AreUnstarted};
+ghost use Rattle.krl_world.specs.Fields.{meaning};
+ghost use Rattle.krl_world.specs.FieldParts.{server_up, kept_client, AreUnstarted};
+ghost use Rattle.krl_modes.specs.declared.limits.TheConstants.{MAX_CLIENTS};
 
 use crate::message::Message;
-use crate::node::{Seat, ServerNode, not_started};
+use crate::node::{ClientPlace, ServerPlace, not_started};
 use crate::{client_steps, server_steps};
 use krl_blocks::Entries;
 use krl_client::Client;
 use krl_durable::{Durable, DurableV1};
 use krl_messages::{ToClient, Value};
-use krl_modes::{KeyPart, RangePart};
+use krl_modes::{KeyPart, MAX_CLIENTS, RangePart};
 use krl_server::{NotStarted, Server};
 use krl_steps::{Answer, AppliedWrite, Command, Refused, Step};
 use std::alloc::{AllocError, Global};
@@ -35,9 +37,9 @@ pub struct Nodes {
     // What the world began with.
     opening: Durable,
     // There is one but within a step that moves it.
-    server: Option<ServerNode>,
+    server: Option<ServerPlace>,
     // By client number: 64.
-    seats: Vec<Seat>,
+    places: Vec<ClientPlace>,
     sent: Vec<Message>,
     writes: Vec<AppliedWrite>,
 }
@@ -45,11 +47,12 @@ pub struct Nodes {
 impl Model for Nodes {
     ghost use Rattle.std.specs.Coded.{codes};
     ghost use Rattle.krl_durable.specs.contracts.durable.Durable as durable;
-    ghost use Rattle.krl_world.specs.contracts.node.ServerNode as server_node;
-    ghost use Rattle.krl_world.specs.contracts.node.Seat as seat;
+    ghost use Rattle.krl_world.specs.contracts.node.ServerPlace as server_node;
+    ghost use Rattle.krl_world.specs.contracts.node.ClientPlace as place;
     ghost use Rattle.krl_world.specs.contracts.message.Message as message;
     ghost use Rattle.krl_steps.specs.contracts.applied_write.AppliedWrite as applied_write;
-    ghost use Rattle.krl_world.specs.Fields.{Fields, server_there, AreThere};
+    ghost use Rattle.krl_world.specs.Fields.{Fields};
+    ghost use Rattle.krl_world.specs.FieldParts.{server_there, AreThere};
 
     ghost Value = { Fields };
 
@@ -57,7 +60,7 @@ impl Model for Nodes {
       codes,
       durable.the_row.coded,
       server_node.the_row.coded,
-      seat.the_row.coded,
+      place.the_row.coded,
       message.the_row.coded,
       applied_write.the_row.coded,
     ) };
@@ -65,23 +68,23 @@ impl Model for Nodes {
     ghost view = { λ n. record {
       opening = n.opening;
       server = server_there n.server;
-      seats = n.seats.items;
+      places = n.places.items;
       sent = n.sent.items;
       writes = n.writes.items;
     } };
 
-    ghost invariant = { λ n. AreThere n.server n.seats.items };
+    ghost invariant = { λ n. AreThere n.server n.places.items };
 }
 
-/// The seats of 64 clients, none of which was started since this survived.
-fn seats_of_nobody(alloc: Global, durable: &Durable) -> Result<Vec<Seat>, AllocError>
-    ensures { IfOk result (λ seats. AreUnstarted durable.now 64 seats.items) }
+/// The places of 64 clients, none of which was started since this survived.
+fn places_of_nobody(alloc: Global, durable: &Durable) -> Result<Vec<ClientPlace>, AllocError>
+    ensures { IfOk result (λ places. AreUnstarted durable.now MAX_CLIENTS places.items) }
 {
-    let mut seats = Vec::with_capacity(alloc, 64)?;
+    let mut places = Vec::with_capacity(alloc, MAX_CLIENTS)?;
     for number in 0..64u64 {
-        seats.push(Seat::unstarted(durable, number))?;
+        places.push(ClientPlace::unstarted(durable, number))?;
     }
-    Ok(seats)
+    Ok(places)
 }
 
 impl Nodes {
@@ -120,14 +123,15 @@ impl Nodes {
             (λ w. CanOpen opening × (meaning w ≡ opened opening))
             (CannotOpen opening) }
     {
+        // By its clause `kept` the prover knows what holds of all that survives.
         opening.epoch();
-        let seats = seats_of_nobody(alloc, &opening)?;
+        let places = places_of_nobody(alloc, &opening)?;
         match Server::start(alloc, durable) {
             Ok(server) => Ok(Nodes {
                 alloc,
                 opening,
-                server: Some(ServerNode::Up(server)),
-                seats,
+                server: Some(ServerPlace::Up(server)),
+                places,
                 sent: Vec::new(alloc),
                 writes: Vec::new(alloc),
             }),
@@ -183,10 +187,10 @@ impl Nodes {
         ensures { (at : ℕ) → slice_get self.old.sent at ≡ Some (sent_message.ToClient message)
             → Steps (meaning self.old) (steps.Deliver (suc at)) result (meaning self.new) }
     {
-        if message.client >= self.seats.len() as u64 {
+        if message.client >= self.places.len() as u64 {
             return Ok(Answer::Done);
         }
-        let Some(client) = &mut self.seats[message.client as usize].client else {
+        let Some(client) = &mut self.places[message.client as usize].client else {
             return Ok(Answer::Done);
         };
         client_steps::read(client, &mut self.sent, &message)?;
@@ -196,19 +200,19 @@ impl Nodes {
     fn command(&mut self, number: u64, what: Command) -> Result<Answer, Refused>
         ensures { Steps (meaning self.old) (steps.Command number what) result (meaning self.new) }
     {
-        if number > 63 {
+        if number >= MAX_CLIENTS as u64 {
             return Err(Refused::BadClient);
         }
-        client_steps::obey(&mut self.seats[number as usize], &mut self.sent, what)
+        client_steps::obey(&mut self.places[number as usize], &mut self.sent, what)
     }
 
     fn tick(&mut self, number: u64) -> Result<Answer, Refused>
         ensures { Steps (meaning self.old) (steps.Tick number) result (meaning self.new) }
     {
-        if number > 63 {
+        if number >= MAX_CLIENTS as u64 {
             return Err(Refused::BadClient);
         }
-        let Some(client) = &self.seats[number as usize].client else {
+        let Some(client) = &self.places[number as usize].client else {
             return Err(Refused::Down);
         };
         client_steps::tick(client, &mut self.sent)?;
@@ -218,13 +222,13 @@ impl Nodes {
     fn nudge(&mut self, number: u64) -> Result<Answer, Refused>
         ensures { Steps (meaning self.old) (steps.Nudge number) result (meaning self.new) }
     {
-        if number > 63 {
+        if number >= MAX_CLIENTS as u64 {
             return Err(Refused::BadClient);
         }
         let Some(node) = &self.server else {
             return Err(Refused::Down);
         };
-        let ServerNode::Up(server) = node else {
+        let ServerPlace::Up(server) = node else {
             return Err(Refused::Down);
         };
         server_steps::nudge(self.alloc, server, &mut self.sent, number)?;
@@ -234,12 +238,12 @@ impl Nodes {
     fn start_client(&mut self, number: u64) -> Result<Answer, Refused>
         ensures { Steps (meaning self.old) (steps.StartClient number) result (meaning self.new) }
     {
-        if number > 63 {
+        if number >= MAX_CLIENTS as u64 {
             return Err(Refused::BadClient);
         }
         client_steps::start(
             self.alloc,
-            &mut self.seats[number as usize],
+            &mut self.places[number as usize],
             &mut self.sent,
             number,
         )?;
@@ -249,10 +253,10 @@ impl Nodes {
     fn crash_client(&mut self, number: u64) -> Result<Answer, Refused>
         ensures { Steps (meaning self.old) (steps.CrashClient number) result (meaning self.new) }
     {
-        if number > 63 {
+        if number >= MAX_CLIENTS as u64 {
             return Err(Refused::BadClient);
         }
-        match self.seats[number as usize].client.take() {
+        match self.places[number as usize].client.take() {
             Some(_) => Ok(Answer::Done),
             None => Err(Refused::Down),
         }
@@ -287,12 +291,12 @@ impl Nodes {
         self.server.as_ref().unwrap().durable().entries()
     }
 
-    /// The server, where one runs.
+    /// The server, if one runs.
     pub(crate) fn server(&self) -> Option<&Server>
         ensures { option_copied result ≡ server_up self.now.server }
     {
         match &self.server {
-            Some(ServerNode::Up(server)) => Some(server),
+            Some(ServerPlace::Up(server)) => Some(server),
             _ => None,
         }
     }
@@ -304,14 +308,14 @@ impl Nodes {
         self.writes.as_slice()
     }
 
-    /// The client of this number, where one runs.
+    /// The client of this number, if one runs.
     pub(crate) fn client(&self, number: u64) -> Option<&Client>
-        ensures { option_copied result ≡ kept_client self.now.seats number }
+        ensures { option_copied result ≡ kept_client self.now.places number }
     {
-        if number >= self.seats.len() as u64 {
+        if number >= self.places.len() as u64 {
             return None;
         }
-        self.seats[number as usize].client.as_ref()
+        self.places[number as usize].client.as_ref()
     }
 
     /// What the client believes that it holds at the point.

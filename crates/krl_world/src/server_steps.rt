@@ -8,11 +8,11 @@ ghost use Rattle.krl_world.specs.declared.message.Message.TheVariants as sent_me
 ghost use Rattle.krl_world.specs.States.{from_server};
 ghost use Rattle.krl_world.specs.Steps.{server_down};
 ghost use Rattle.krl_world.specs.Fields.{node_of};
-ghost use Rattle.krl_world.specs.SeatSteps.{HasServed, HasArrived, applied_in, as_list};
+ghost use Rattle.krl_world.specs.PlaceSteps.{HasServed, HasArrived, applied_in, as_list};
 
 use crate::message::Message;
-use crate::network::{MOST_OF_A_SERVER, send_to_clients};
-use crate::node::ServerNode;
+use crate::network::{MAX_OF_A_SERVER, send_to_clients};
+use crate::node::ServerPlace;
 use krl_durable::Change;
 use krl_messages::{Outcome, ToServer};
 use krl_server::Server;
@@ -41,7 +41,7 @@ fn applied_in(message: &ToServer, change: Option<Change>) -> Option<AppliedWrite
     }
 }
 
-/// Notes a write that was applied, where one was. There is room.
+/// Notes a write that was applied, if one was. There is room.
 fn note(writes: &mut Vec<AppliedWrite>, applied: Option<AppliedWrite>)
     requires { vec_len writes.old < vec_capacity writes.old }
     ensures { writes.new.items ≡ writes.old.items ++ as_list applied }
@@ -81,7 +81,7 @@ fn read(
         ((server.new ≡ server.old) × (sent.new.items ≡ sent.old.items)
         × (writes.new.items ≡ writes.old.items)) }
 {
-    sent.reserve(MOST_OF_A_SERVER)?;
+    sent.reserve(MAX_OF_A_SERVER)?;
     writes.reserve(1)?;
     let Message::ToServer(message) = &sent[at] else {
         return Ok(());
@@ -95,7 +95,7 @@ fn read(
 /// A message that was sent comes to the server, which reads it; one that is down loses it.
 pub(crate) fn arrive(
     alloc: Global,
-    node: &mut ServerNode,
+    node: &mut ServerPlace,
     sent: &mut Vec<Message>,
     writes: &mut Vec<AppliedWrite>,
     at: usize,
@@ -111,8 +111,8 @@ pub(crate) fn arrive(
         × (writes.new.items ≡ writes.old.items)) }
 {
     match node {
-        ServerNode::Up(server) => read(alloc, server, sent, writes, at),
-        ServerNode::Down(_) => Ok(()),
+        ServerPlace::Up(server) => read(alloc, server, sent, writes, at),
+        ServerPlace::Down(_) => Ok(()),
     }
 }
 
@@ -127,7 +127,7 @@ pub fn nudge(
         (sent.new.items ≡ sent.old.items ++ from_server (steps.nudge (meaning server.now) client)) }
     ensures err { OnErr result (sent.new.items ≡ sent.old.items) }
 {
-    sent.reserve(MOST_OF_A_SERVER)?;
+    sent.reserve(MAX_OF_A_SERVER)?;
     let messages = server.nudge(alloc, client)?;
     send_to_clients(sent, messages);
     Ok(())

@@ -8,10 +8,10 @@ ghost use Rattle.krl_durable.specs.Migrations.{migrated};
 ghost use Rattle.krl_world.specs.States.{index_of, opened, fresh, range_held, key_held};
 ghost use Rattle.krl_world.specs.Steps.{Steps, RunsWith, CanBegin, CannotBegin, CanOpen};
 ghost use Rattle.krl_world.specs.Steps.{CannotMigrate, IsReachable, message_at};
-ghost use Rattle.krl_world.specs.Promises.{IsCompatible, ScansIndex, WritesOnce};
-ghost use Rattle.krl_world.specs.Laws.{CanGoOn};
+ghost use Rattle.krl_world.specs.Promises.{IsCompatible, ScansIndex, WritesOnce, CanGoOn};
 ghost use Rattle.krl_world.specs.Bounds.{Bound, HasBound, IsBounded, HoldsOverRestarts};
-ghost use Rattle.krl_world.specs.Fields.{meaning, server_up, kept_client};
+ghost use Rattle.krl_world.specs.Fields.{meaning};
+ghost use Rattle.krl_world.specs.FieldParts.{server_up, kept_client};
 
 use crate::message::Message;
 use crate::nodes::Nodes;
@@ -56,8 +56,8 @@ impl World {
     ///
     /// # Errors
     ///
-    /// `Full` above 65,536 entries; else the first bad entry in order, by `BadKey` where its key is
-    /// END or more, or by `Twice` where its key stands before; and `OutOfMemory` at any point.
+    /// `Full` above 65,536 entries; else the first bad entry in order, by `BadKey` if its key is
+    /// END or more, or by `Twice` if its key stands before; and `OutOfMemory` at any point.
     pub fn new(alloc: Global, entries: Vec<(u64, Value)>) -> Result<World, Refused>
         ensures { MatchResult result
             (λ w. CanBegin entries.items × (meaning w ≡ fresh entries.items))
@@ -74,9 +74,9 @@ impl World {
     ///
     /// # Errors
     ///
-    /// `StillRegistered`, with the first by registration, where some registered client has not
+    /// `StillRegistered`, with the first by registration, if some registered client has not
     /// left;
-    /// `Spent` where the epoch is END; and `OutOfMemory` at any point.
+    /// `Spent` if the epoch is END; and `OutOfMemory` at any point.
     pub fn migrate(alloc: Global, old: &DurableV1) -> Result<World, Refused>
         ensures { MatchResult result
             (λ w. CanOpen (migrated old.now) × (meaning w ≡ opened (migrated old.now)))
@@ -92,13 +92,13 @@ impl World {
     /// # Errors
     ///
     /// A step that is refused changes nothing. The first reason in this order counts:
-    /// - `BadClient` where a client number is above 63, `NoMessage` where no message of the number
+    /// - `BadClient` if a client number is above 63, `NoMessage` if no message of the number
     ///   was sent;
-    /// - `Down` where the client or server of the step does not run, `Running` where the one that
+    /// - `Down` if the client or server of the step does not run, `Running` if the one that
     ///   is to start runs;
-    /// - `Spent` where there is no incarnation or epoch for a start; what the client refuses of a
+    /// - `Spent` if there is no incarnation or epoch for a start; what the client refuses of a
     ///   command;
-    /// - `OutOfMemory` where the step takes memory, and it was refused.
+    /// - `OutOfMemory` if the step takes memory, and it was refused.
     pub fn step(&mut self, step: Step) -> Result<Answer, Refused>
         ensures steps { Steps (meaning self.old) step result (meaning self.new) }
         ensures compatible { IsCompatible (meaning self.new) }
@@ -119,7 +119,7 @@ impl World {
     ///
     /// # Errors
     ///
-    /// `AllocError` where the memory for the answers is refused. No step was taken then.
+    /// `AllocError` if the memory for the answers is refused. No step was taken then.
     pub fn run(
         &mut self,
         alloc: Global,
@@ -132,7 +132,7 @@ impl World {
         ensures writes { WritesOnce (meaning self.new) }
         ensures reachable { IsReachable (meaning self.new) }
     {
-        // What holds of every world is known where its field is named.
+        // What holds of every world is known if its field is named.
         let _ = &self.nodes;
         let mut answers = Vec::with_capacity(alloc, steps.len())?;
         for step in steps {
@@ -149,7 +149,7 @@ impl World {
         self.nodes.index()
     }
 
-    /// The server, where one runs.
+    /// The server, if one runs.
     pub fn server(&self) -> Option<&Server>
         ensures { option_copied result ≡ server_up self.now.server }
     {
@@ -163,14 +163,14 @@ impl World {
         self.nodes.writes()
     }
 
-    /// The client of this number, where one runs: none does above 63.
+    /// The client of this number, if one runs: none does above 63.
     pub fn client(&self, client: u64) -> Option<&Client>
-        ensures { option_copied result ≡ kept_client self.now.seats client }
+        ensures { option_copied result ≡ kept_client self.now.places client }
     {
         self.nodes.client(client)
     }
 
-    /// What the client believes that it holds at the point: N and N where it does not run, and past
+    /// What the client believes that it holds at the point: N and N if it does not run, and past
     /// END.
     pub fn held(&self, client: u64, point: u64) -> (RangePart, KeyPart)
         ensures { let world = meaning self.now in
@@ -186,7 +186,7 @@ impl World {
         self.nodes.sent()
     }
 
-    /// The message of this number, counted from 1 in the order in which they were sent; None where
+    /// The message of this number, counted from 1 in the order in which they were sent; None if
     /// none of it was sent. It takes no memory.
     pub fn message(&self, number: u64) -> Option<&Message>
         ensures { option_copied result ≡ message_at self.now.sent number }

@@ -1,4 +1,4 @@
-//! Calls that are made again where memory is refused: `tests/refusals` refuses one request of a
+//! Calls that are made again if memory is refused: `tests/refusals` refuses one request of a
 //! test, or two in a row. What was refused has changed nothing.
 use krl_modes::{END, KeyPart, RangePart};
 use krl_world::{Refused, Step, World};
@@ -37,7 +37,7 @@ fn seen(world: &World) -> Seen {
     )
 }
 
-/// Takes the step, again where it is refused for want of memory: then nothing has changed.
+/// Takes the step, again if it is refused for want of memory: then nothing has changed.
 pub fn takes(world: &mut World, step: Step) -> bool {
     let before = seen(world);
     for _ in 0..CALLS {

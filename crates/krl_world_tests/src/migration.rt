@@ -4,10 +4,10 @@ ghost use Rattle.std.specs.Prelude.{◌≤◌, nat_eq};
 ghost use Rattle.std.specs.List.{AllByRecursion, IsDistinct};
 ghost use Rattle.std.specs.Map.{keys_of};
 ghost use Rattle.krl_modes.specs.declared.point.TheConstants.{END};
-ghost use Rattle.krl_durable.specs.Kept.{IsRow};
+ghost use Rattle.krl_durable.specs.Invariants.{IsRow};
 
 use crate::again::{CALLS, takes};
-use krl_durable::{DurableV1, Record, Refused as EntriesRefused};
+use krl_durable::{DurableV1, EntriesRefused, Record};
 use krl_messages::Outcome;
 use krl_modes::END;
 use krl_server::Phase;
@@ -124,7 +124,7 @@ fn has_bytes(world: &World, key: u64, bytes: &[u8]) -> bool {
     }
 }
 
-/// Whether the world goes on in epoch 5 from what survived epoch 4 where all have left.
+/// Whether the world goes on in epoch 5 from what survived epoch 4 if all have left.
 fn goes_on(world: &mut World) -> bool {
     serves_in(world, 5)
         && has_bytes(world, 10, &[0, 0, 0, 0, 0, 0, 1, 2])

@@ -3,7 +3,8 @@ ghost use Rattle.std.specs.Prelude.{◌≤◌};
 
 use crate::scripts::writer;
 use krl_modes::END;
-use krl_script::{AnyWriter, MAX_STEPS, Progress, ScriptFault, Untold, busy_run, random_run};
+use krl_script::{Progress, ScriptFault, Untold, busy_run, random_run};
+use krl_text::{AnyWriter, MAX_STEPS};
 use std::alloc::{AllocError, Global};
 
 /// Counts how often it is told of steps, and keeps the last number.

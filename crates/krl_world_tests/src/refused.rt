@@ -4,9 +4,8 @@ use crate::again::{CALLS, index_len, takes};
 use crate::scripts::writer;
 use krl_messages::{Value, WriteOp};
 use krl_modes::Mode;
-use krl_script::{
-    AnyWriter, Rest, ScriptFault, Untold, bring_to_rest, busy_run, random_run, run_script,
-};
+use krl_script::{Rest, ScriptFault, Untold, bring_to_rest, busy_run, random_run, run_script};
+use krl_text::AnyWriter;
 use krl_world::{Answer, Command, Refused, Step, World};
 use std::alloc::{AllocError, Global};
 
@@ -22,7 +21,7 @@ fn made(alloc: Global) -> Result<World, Refused> {
     World::new(alloc, entries(alloc)?)
 }
 
-// The same, made again where memory was refused.
+// The same, made again if memory was refused.
 fn made_at_last(alloc: Global) -> Option<World> {
     for _ in 0..CALLS {
         if let Ok(world) = made(alloc) {
@@ -102,8 +101,8 @@ fn is_refused(answer: &Result<Answer, Refused>) -> bool {
     matches!(answer, Err(Refused::OutOfMemory))
 }
 
-// What the world answers to all steps in one run. Where there is no memory for the answers, no step
-// is taken, and the run is made again. None where a step was taken, or there is no memory in the
+// What the world answers to all steps in one run. If there is no memory for the answers, no step
+// is taken, and the run is made again. None if a step was taken, or there is no memory in the
 // end.
 fn answers(alloc: Global, world: &mut World) -> Option<Vec<Result<Answer, Refused>>> {
     for _ in 0..CALLS {
@@ -117,7 +116,7 @@ fn answers(alloc: Global, world: &mut World) -> Option<Vec<Result<Answer, Refuse
     None
 }
 
-// Whether a world takes all steps in one run. Where memory for one is refused, those after it may
+// Whether a world takes all steps in one run. If memory for one is refused, those after it may
 // be refused too, and another world has to make the run: `Err(true)`.
 fn runs(alloc: Global) -> Result<bool, bool> {
     let Ok(mut world) = made(alloc) else {
@@ -149,7 +148,7 @@ fn scripted(alloc: Global) -> Result<bool, bool> {
     }
 }
 
-// Whether the run is sound. An `Err` where it ended for want of memory, with nothing written.
+// Whether the run is sound. An `Err` if it ended for want of memory, with nothing written.
 fn drives(alloc: Global, is_busy: bool) -> Result<bool, bool> {
     let line = "random 7 40 sound\n";
     let mut taken = AnyWriter(writer(line, 1000, 1000));

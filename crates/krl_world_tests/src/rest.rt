@@ -2,7 +2,8 @@
 use crate::scripts::writer;
 use krl_messages::{Value, WriteOp};
 use krl_modes::Mode;
-use krl_script::{AnyWriter, Rest, bring_to_rest};
+use krl_script::{Rest, bring_to_rest};
+use krl_text::AnyWriter;
 use krl_world::{Command, Refused, Step, World};
 use std::alloc::{AllocError, Global};
 

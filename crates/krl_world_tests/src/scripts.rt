@@ -1,5 +1,6 @@
 //! Scripts on readers and writers that fail, stop short or are interrupted.
-use krl_script::{AnyReader, AnyWriter, ScriptFault, SyntaxFault, run_script};
+use krl_script::{ScriptFault, run_script};
+use krl_text::{AnyReader, AnyWriter, SyntaxFault};
 use std::alloc::Global;
 use std::io;
 use std::io::{ErrorKind, Read, Write};

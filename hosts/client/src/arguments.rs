@@ -161,7 +161,7 @@ impl Options {
         }))
     }
 
-    /// How answers are printed. `--json` is the more particular word, also where `KRL_FORMAT` says
+    /// How answers are printed. `--json` is the more particular word, even if `KRL_FORMAT` says
     /// otherwise.
     pub fn format(&self) -> Format {
         if self.json { Format::Json } else { self.format }

@@ -50,7 +50,7 @@ impl Noted {
     }
 }
 
-/// A process of the drive. It dies with the drive, also if that fails.
+/// A process of the drive. It dies with the drive, even if that fails.
 pub struct Process(Child);
 
 impl Process {

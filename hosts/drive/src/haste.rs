@@ -36,7 +36,7 @@ const TRIPS: u64 = 100;
 
 /// The patient client waits for no more round trips than this, each as much longer as a thread of
 /// this machine was kept from running.
-const MOST_TRIPS: u32 = 10;
+const MAX_TRIPS: u32 = 10;
 
 /// What the hasty client does with the range that the patient one wants. It gives the other one
 /// back as soon as it has it.
@@ -141,13 +141,13 @@ pub fn run(folder: &Path) -> Found {
         let in_trips = |wait: Duration| wait.as_secs_f64() / trip.as_secs_f64();
         let middle = waits.get(waits.len() / 2).copied().unwrap_or(TIMEOUT);
         let longest = waits.last().copied().unwrap_or(TIMEOUT);
-        let long = waits.iter().filter(|wait| **wait > MOST_TRIPS * trip).count();
-        let bound = MOST_TRIPS * (trip + stall);
+        let long = waits.iter().filter(|wait| **wait > MAX_TRIPS * trip).count();
+        let bound = MAX_TRIPS * (trip + stall);
         println!(
             "{habit:?}: {granted} grants, {messages} messages to the server; a patient client \
              wrote {} times, and waited {:.1} round trips of {trip:.1?} at the middle and {:.1} at \
              the longest, of {:.1} that it may on this machine; {long} waits took more than \
-             {MOST_TRIPS}",
+             {MAX_TRIPS}",
             waits.len(),
             in_trips(middle),
             in_trips(longest),

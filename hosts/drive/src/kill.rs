@@ -32,7 +32,7 @@ struct Net {
 /// How an address of TLS begins.
 const TLS: &str = "tls:";
 
-/// How many milliseconds a lease has where there are some: a killed client starts again sooner.
+/// How many milliseconds a lease has if there are some: a killed client starts again sooner.
 const LEASE: u64 = 2000;
 
 /// A round over TLS is so much longer: each start of the server is followed by a hand-shake of each

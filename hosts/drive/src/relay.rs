@@ -23,7 +23,7 @@ pub struct Relay {
     at: Vec<SocketAddr>,
 }
 
-/// What is held back. What is held once stays so until all is let go, also if other requests pass.
+/// What is held back. What is held once stays so until all is let go, even if other requests pass.
 #[derive(Clone, Copy, Debug, Default, PartialEq, Eq)]
 pub enum Holds {
     #[default]

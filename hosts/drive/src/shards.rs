@@ -59,7 +59,7 @@ struct Count {
     read: u64,
 }
 
-/// Says that the run is over, also if it fails.
+/// Says that the run is over, even if it fails.
 struct Over<'r>(&'r Run);
 
 impl Drop for Over<'_> {

@@ -1,4 +1,4 @@
-//! What an operator has to know where etcd, or TLS below it, refuses what a server shows.
+//! What an operator has to know if etcd, or TLS below it, refuses what a server shows.
 use crate::address::{Credentials, EtcdAddress};
 
 /// What stands in an error of TLS of which another attempt at the same node comes to nothing.

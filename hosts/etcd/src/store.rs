@@ -287,7 +287,7 @@ impl EtcdStore {
         self.end(Ended::Deposed(found.unwrap_or_else(|| "nothing".to_string())))
     }
 
-    /// Nothing is committed any more, also if the cluster comes back.
+    /// Nothing is committed any more, even if the cluster comes back.
     fn end(&mut self, ended: Ended) -> StoreError {
         self.ended.insert(ended).error()
     }

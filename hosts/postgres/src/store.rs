@@ -136,7 +136,7 @@ impl PostgresStore {
         Ok(())
     }
 
-    /// Nothing is committed any more, also if the database comes back.
+    /// Nothing is committed any more, even if the database comes back.
     fn end(&mut self, ended: Ended) -> StoreError {
         self.ended.insert(ended).error()
     }

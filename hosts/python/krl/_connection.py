@@ -9,7 +9,7 @@ from ._frames import Frames
 
 _GULP = 1 << 16
 _STALL_SECONDS = 5.0
-_MOST_PENDING = 1 << 22
+_MAX_PENDING = 1 << 22
 """While so many bytes wait, what is put behind them is lost: a tick says it again. A report is
 shorter."""
 
@@ -66,7 +66,7 @@ class Connection:
 
     def put(self, frames: bytes) -> None:
         """These frames are to leave behind those that wait."""
-        if len(self._pending) <= _MOST_PENDING:
+        if len(self._pending) <= _MAX_PENDING:
             self._pending += frames
 
     def send(self, now: float) -> None:

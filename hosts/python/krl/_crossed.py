@@ -11,7 +11,7 @@ from __future__ import annotations
 
 from ._handle import Range
 
-_MOST = 64
+_MAX = 64
 """A server has one callback for each client that waits, and 64 clients."""
 
 
@@ -22,8 +22,8 @@ class Crossed:
         self._callbacks: dict[Range, bytes] = {}
 
     def note(self, span: Range, message: bytes) -> None:
-        """The callback of this span came. The server calls back again where one is left out."""
-        if span in self._callbacks or len(self._callbacks) < _MOST:
+        """The callback of this span came. The server calls back again if one is left out."""
+        if span in self._callbacks or len(self._callbacks) < _MAX:
             self._callbacks[span] = message
 
     def leave_out(self, keys: Range) -> None:

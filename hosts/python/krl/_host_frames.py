@@ -9,8 +9,14 @@ from ._frames import framed
 from .errors import Reason, Refusal
 
 _HOST = 0
-_HELLO = 0
 _MARK_BYTES = 24
+
+# The kinds of frames: of a client's host, and of a server's.
+_CLIENT_HELLO = 0
+_SERVER_HELLO = 16
+_REFUSED = 17
+_MARK = 18
+_WENT_BACK = 19
 
 
 class Kind(Enum):
@@ -35,19 +41,21 @@ def is_of_host(frame: bytes) -> bool:
 
 def hello(seen: Mark | None) -> bytes:
     """The Hello of a client's host that has seen so much of the store, with its length."""
-    return framed(bytes([_HOST, _HELLO]) + (seen or b""))
+    return framed(bytes([_HOST, _CLIENT_HELLO]) + (seen or b""))
 
 
 def read(frame: bytes) -> FromServer:
     """What a frame of a server's host says. Bytes behind those that it knows are passed over."""
-    kind, rest = frame[1:2], frame[2:]
-    if kind == b"\x10":
+    if len(frame) < 2:
+        return None
+    kind, rest = frame[1], frame[2:]
+    if kind == _SERVER_HELLO:
         return Kind.HELLO
-    if kind == b"\x11":
+    if kind == _REFUSED:
         return _refusal(rest)
-    if kind == b"\x12" and len(rest) >= _MARK_BYTES:
+    if kind == _MARK and len(rest) >= _MARK_BYTES:
         return Mark(rest[:_MARK_BYTES])
-    if kind == b"\x13":
+    if kind == _WENT_BACK:
         return Kind.WENT_BACK
     return None
 

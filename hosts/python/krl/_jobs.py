@@ -14,8 +14,9 @@ from ._library import Code
 from ._pins import Pins
 from .errors import Closed, Refused, Stopped
 
-_CALLBACK = 20
-_PUSHES = (17, 18, 19)
+# The kinds of messages that a host looks for.
+_GRANT, _ABSENT, _ANSWER, _CALLBACK = 17, 18, 19, 20
+_PUSHES = (_GRANT, _ABSENT, _ANSWER)
 
 
 class Stage(Enum):

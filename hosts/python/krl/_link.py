@@ -71,7 +71,7 @@ class Link:
             self.wake()
             job.has_ended(timeout)
         finally:
-            # Also where Ctrl-C ends the wait.
+            # Even if Ctrl-C ends the wait.
             with self.lock:
                 self.jobs.abandon(job)
         if not job.has_ended():

@@ -12,7 +12,7 @@ import time
 from .errors import LockFileError
 
 _LENGTH = len("krl client 00 incarnation 00000000000000000000\n")
-_MOST = (1 << 63) - 1
+_MAX = (1 << 63) - 1
 
 
 class LockFile:
@@ -88,7 +88,7 @@ class LockFile:
             return 0
         head, digits = text[: len(self._head())], text[len(self._head()) : -1]
         is_ours = head == self._head() and text.endswith("\n") and digits.isdecimal()
-        if not is_ours or not digits.isascii() or int(digits) > _MOST:
+        if not is_ours or not digits.isascii() or int(digits) > _MAX:
             raise LockFileError(
                 f"{self._path} is no lock file of the client {self._number}: expected a line such "
                 f"as '{self._head()}00000000000000000001'"

@@ -6,7 +6,7 @@ from dataclasses import dataclass, field
 
 from ._handle import Range
 
-_MOST_CALLED = 64
+_MAX_CALLED = 64
 
 
 @dataclass
@@ -50,6 +50,6 @@ def _remember(called: list[Range], span: Range) -> None:
     if span in called:
         return
     called.append(span)
-    if len(called) > _MOST_CALLED:
+    if len(called) > _MAX_CALLED:
         start, stop = min(span.start for span in called), max(span.stop for span in called)
         called[:] = [Range(start, stop)]

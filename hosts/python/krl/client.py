@@ -23,10 +23,10 @@ TOP = 1 << 63
 """The end of the widest range."""
 
 _CLIENTS = 64
-_MOST_BYTES = 32
+_MAX_BYTES = 32
 _FAREWELL_SECONDS = 1.0
 _JOIN_THREAD_SECONDS = 1.5
-_MOST_SECONDS = 365 * 24 * 3600.0
+_MAX_SECONDS = 365 * 24 * 3600.0
 
 
 class Pin:
@@ -304,7 +304,7 @@ def _key_of(key: int) -> int:
 def _value_of(value: bytes) -> bytes:
     if not isinstance(value, (bytes, bytearray, memoryview)):
         raise BadValue(f"a value is bytes, not {type(value).__name__}")
-    if len(bytes(value)) > _MOST_BYTES:
+    if len(bytes(value)) > _MAX_BYTES:
         raise BadValue(f"a value has at most 32 bytes, not {len(bytes(value))}")
     return bytes(value)
 
@@ -312,4 +312,4 @@ def _value_of(value: bytes) -> bytes:
 def _seconds_of(timeout: float) -> float:
     if not timeout >= 0 or math.isnan(timeout):
         raise ValueError(f"a timeout is a number of seconds, 0 or more, not {timeout!r}")
-    return min(float(timeout), _MOST_SECONDS)
+    return min(float(timeout), _MAX_SECONDS)

@@ -44,7 +44,7 @@ impl Access {
     }
 
     /// A user of this machine, by number, who may connect over a Unix socket, and what it may say
-    /// there. Where there is one, every user of the machine may connect to the socket, and those
+    /// there. If there is one, every user of the machine may connect to the socket, and those
     /// who are not named may say nothing.
     pub fn user(mut self, user: u32, identity: Identity) -> Access {
         self.users.push((user, identity));

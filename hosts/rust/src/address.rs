@@ -17,7 +17,7 @@ const LOCALHOST: &str = "localhost";
 /// plain TCP.
 ///
 /// **By plain TCP whoever can connect can speak for any client.** So an address beyond the loopback
-/// is plain TCP only where that is said.
+/// is plain TCP only if that is said.
 #[derive(Clone, Debug, PartialEq, Eq)]
 #[non_exhaustive]
 pub enum Address {

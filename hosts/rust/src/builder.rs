@@ -39,7 +39,7 @@ impl ClientBuilder {
         self
     }
 
-    /// What the client shows to its servers where they listen by TLS, and whom it believes. It is
+    /// What the client shows to its servers if they listen by TLS, and whom it believes. It is
     /// read again at each connect: [`TlsConfig::reload`] has the next one show what its files say
     /// then.
     ///

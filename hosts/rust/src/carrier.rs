@@ -1,4 +1,4 @@
-//! What carries frames between a client and its server: a stream, and TLS where the address says so.
+//! What carries frames between a client and its server: a stream, and TLS if the address says so.
 use crate::address::Address;
 use crate::frames::Frames;
 use crate::stream::Stream;
@@ -24,7 +24,7 @@ pub(crate) struct Carrier {
 }
 
 impl Carrier {
-    /// Connects, and shakes hands where the address is one of TLS.
+    /// Connects, and shakes hands if the address is one of TLS.
     pub fn connect(
         address: &Address,
         tls: Option<&TlsConfig>,

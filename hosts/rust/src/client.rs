@@ -38,9 +38,9 @@ const MAX_CLIENTS: u8 = 64;
 /// When its lease ends the client drops its cache and joins anew, as above: only a write that is on
 /// its way is told so, by [`Refused::LeaseEnded`], and all other calls go on.
 ///
-/// When it is dropped, it says Bye, and waits a second at most until the server has kept that. What
-/// a process leaves behind that ends without a Bye keeps other clients waiting, until a client of
-/// its number joins again or it is evicted.
+/// A client that is dropped says Bye, and waits a second at most until the server has kept that. A
+/// process that ends without a Bye leaves what it held: other clients wait for that until a client
+/// of its number joins again or it is evicted.
 pub struct Client {
     number: u8,
     pub(crate) link: Arc<Link>,

@@ -3,11 +3,11 @@
 use crate::row::Row;
 use std::ffi::c_void;
 
-/// For how many rows a server has room where nothing asks for another number.
+/// For how many rows a server has room if nothing asks for another number.
 pub const DEFAULT_ROOM: usize = 65_536;
 
 /// The most rows that a server may have room for.
-pub const MOST_ROOM: usize = 1_048_576;
+pub const MAX_ROOM: usize = 1_048_576;
 
 #[repr(C)]
 pub struct Handle {

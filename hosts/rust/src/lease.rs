@@ -121,7 +121,7 @@ impl Lease {
         self.last.is_some()
     }
 
-    /// How often a sign is due where nothing else is said, or `None` if the lease does not end.
+    /// How often a sign is due if nothing else is said, or `None` if the lease does not end.
     pub fn pace(&self) -> Option<Duration> {
         match self.state.length {
             0 | FOR_EVER => None,

@@ -307,7 +307,7 @@ impl Link {
     }
 }
 
-/// Says that the thread has ended, also if it panics: nobody waits for it then.
+/// Says that the thread has ended, even if it panics: nobody waits for it then.
 struct Ended<'l>(&'l Link);
 
 impl Drop for Ended<'_> {

@@ -110,7 +110,7 @@ fn sync_folder_of(path: &Path) -> io::Result<()> {
 }
 
 impl Drop for LockFile {
-    /// Frees the file also if a process that was forked a moment ago has it open too, until it runs
+    /// Frees the file even if a process that was forked a moment ago has it open too, until it runs
     /// its own program.
     fn drop(&mut self) {
         let _ = self.file.unlock();

@@ -71,7 +71,7 @@ pub(crate) struct Page {
 
 impl Monitor {
     /// Who holds which slots that meet this range, at most so many (64 if fewer are asked for), and
-    /// who waits there. Slots of a client are told one by one, also if neighbours have one mode.
+    /// who waits there. Slots of a client are told one by one, even if neighbours have one mode.
     ///
     /// The server tells them between its turns, in pages of up to 1,024 slots and some milliseconds
     /// each, so that its clients do not wait for that. It may look at its whole table for each

@@ -8,6 +8,21 @@ const REQUEST_AT: usize = 34;
 /// The version of the messages that the library reads.
 pub(crate) const VERSION: u8 = 1;
 
+/// The kinds of messages that a host looks for, in a message's second byte.
+pub(crate) mod kind {
+    pub(crate) const HELLO: u8 = 0;
+    pub(crate) const BYE: u8 = 1;
+    pub(crate) const LOCK: u8 = 3;
+    pub(crate) const RELEASE: u8 = 7;
+    pub(crate) const GRANT: u8 = 17;
+    pub(crate) const ABSENT: u8 = 18;
+    pub(crate) const ANSWER: u8 = 19;
+    pub(crate) const CALLBACK: u8 = 20;
+}
+
+/// Where a message's kind stands.
+const KIND_AT: usize = 1;
+
 /// What a message is about, as far as a host cares.
 #[derive(Clone, Copy, Debug, PartialEq, Eq)]
 pub(crate) enum Kind {
@@ -44,8 +59,7 @@ pub(crate) fn epoch_of(message: &[u8]) -> Option<u64> {
 
 /// The points that a message to a client calls back, if it is a callback.
 pub(crate) fn called_back(message: &[u8]) -> Option<Range<u64>> {
-    const CALLBACK: u8 = 20;
-    if message.get(1) != Some(&CALLBACK) {
+    if message.get(KIND_AT) != Some(&kind::CALLBACK) {
         return None;
     }
     Some(number(message, 26)?..number(message, 34)?)
@@ -53,9 +67,9 @@ pub(crate) fn called_back(message: &[u8]) -> Option<Range<u64>> {
 
 /// What the message is about. Only of messages that the library wrote or took.
 pub(crate) fn kind_of(message: &[u8]) -> Kind {
-    match message.get(1) {
-        Some(1) => Kind::Bye,
-        Some(17..=19) => Kind::Push,
+    match message.get(KIND_AT) {
+        Some(&kind::BYE) => Kind::Bye,
+        Some(&(kind::GRANT | kind::ABSENT | kind::ANSWER)) => Kind::Push,
         _ => Kind::Other,
     }
 }
@@ -74,12 +88,12 @@ pub(crate) enum Timed {
 /// What the message is, as far as a server measures time by it. Only of messages that the library
 /// wrote or took.
 pub(crate) fn timed_of(message: &[u8]) -> Timed {
-    match (message.get(1), number(message, REQUEST_AT)) {
-        (Some(0), _) => Timed::Hello,
-        (Some(3), Some(request)) => Timed::Lock { request },
-        (Some(7), _) => Timed::Release,
-        (Some(17), Some(request)) => Timed::Grant { request },
-        (Some(20), _) => Timed::Callback,
+    match (message.get(KIND_AT), number(message, REQUEST_AT)) {
+        (Some(&kind::HELLO), _) => Timed::Hello,
+        (Some(&kind::LOCK), Some(request)) => Timed::Lock { request },
+        (Some(&kind::RELEASE), _) => Timed::Release,
+        (Some(&kind::GRANT), Some(request)) => Timed::Grant { request },
+        (Some(&kind::CALLBACK), _) => Timed::Callback,
         _ => Timed::Other,
     }
 }
@@ -91,9 +105,7 @@ fn number(message: &[u8], at: usize) -> Option<u64> {
 
 /// What a host says to the library to evict a client: the Hello and the Bye of the next incarnation.
 pub(crate) fn eviction(client: u8, successor: u64) -> [Vec<u8>; 2] {
-    const HELLO: u8 = 0;
-    const BYE: u8 = 1;
-    [HELLO, BYE].map(|kind| {
+    [kind::HELLO, kind::BYE].map(|kind| {
         let numbers = [u64::from(client).to_le_bytes(), successor.to_le_bytes()];
         [&[VERSION, kind], numbers.as_flattened()].concat()
     })
@@ -113,23 +125,23 @@ pub(crate) mod tests {
     }
 
     pub(crate) fn hello(client: u64) -> Vec<u8> {
-        message(0, &[client, 2])
+        message(kind::HELLO, &[client, 2])
     }
 
     pub(crate) fn lock(client: u64, request: u64) -> Vec<u8> {
-        message(3, &[client, 2, 1, 4, request, 10, 258])
+        message(kind::LOCK, &[client, 2, 1, 4, request, 10, 258])
     }
 
     pub(crate) fn release(client: u64) -> Vec<u8> {
-        message(7, &[client, 2, 1, 4, 0, 11])
+        message(kind::RELEASE, &[client, 2, 1, 4, 0, 11])
     }
 
     pub(crate) fn grant(client: u64, request: u64) -> Vec<u8> {
-        message(17, &[client, 2, 1, 4, request])
+        message(kind::GRANT, &[client, 2, 1, 4, request])
     }
 
     pub(crate) fn callback(client: u64) -> Vec<u8> {
-        message(20, &[client, 2, 1, 0, 11])
+        message(kind::CALLBACK, &[client, 2, 1, 0, 11])
     }
 
     #[test]
@@ -160,12 +172,13 @@ pub(crate) mod tests {
     #[test]
     fn an_eviction_is_a_hello_and_a_bye() {
         let [hello, bye] = eviction(3, 2);
-        assert_eq!((hello, bye), (message(0, &[3, 2]), message(1, &[3, 2])));
+        let expected = [kind::HELLO, kind::BYE].map(|kind| message(kind, &[3, 2]));
+        assert_eq!([hello, bye], expected);
     }
 
     #[test]
     fn a_callback_has_its_span() {
-        let mut message = vec![1, 20];
+        let mut message = vec![1, kind::CALLBACK];
         for number in [3u64, 2, 1, 100, 200] {
             message.extend_from_slice(&number.to_le_bytes());
         }
@@ -173,13 +186,13 @@ pub(crate) mod tests {
         assert_eq!(called_back(&message), Some(100..200));
         assert_eq!(epoch_of(&message), Some(1));
         assert_eq!(called_back(&message[..40]), None);
-        message[1] = 17;
+        message[KIND_AT] = kind::GRANT;
         assert_eq!(called_back(&message), None);
     }
 
     #[test]
     fn fields_stand_in_their_places() {
-        let mut bye = vec![1, 1];
+        let mut bye = vec![1, kind::BYE];
         bye.extend_from_slice(&3u64.to_le_bytes());
         bye.extend_from_slice(&(1u64 << 60).to_le_bytes());
         assert_eq!(kind_of(&bye), Kind::Bye);

@@ -17,7 +17,7 @@ pub struct BadRoom;
 
 impl Room {
     /// The greatest room: for 1,048,576 rows.
-    pub const MAX: Room = Room(ffi::MOST_ROOM);
+    pub const MAX: Room = Room(ffi::MAX_ROOM);
 
     /// Room for so many rows.
     ///
@@ -25,12 +25,12 @@ impl Room {
     ///
     /// `BadRoom` if there are none, or more than 1,048,576.
     pub fn of(rows: usize) -> Result<Room, BadRoom> {
-        (1..=ffi::MOST_ROOM).contains(&rows).then_some(Room(rows)).ok_or(BadRoom)
+        (1..=ffi::MAX_ROOM).contains(&rows).then_some(Room(rows)).ok_or(BadRoom)
     }
 
     /// The least room for so many rows, or the greatest if no room is for so many.
     pub(crate) fn for_rows(rows: usize) -> Room {
-        Room(rows.clamp(1, ffi::MOST_ROOM))
+        Room(rows.clamp(1, ffi::MAX_ROOM))
     }
 
     /// The most rows.
@@ -68,7 +68,7 @@ impl fmt::Display for Room {
 
 impl fmt::Display for BadRoom {
     fn fmt(&self, f: &mut fmt::Formatter<'_>) -> fmt::Result {
-        write!(f, "the room of a server is for 1 to {} rows", ffi::MOST_ROOM)
+        write!(f, "the room of a server is for 1 to {} rows", ffi::MAX_ROOM)
     }
 }
 

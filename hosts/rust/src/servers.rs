@@ -21,7 +21,7 @@ pub struct Servers {
 }
 
 impl Servers {
-    /// The same servers, to which a client shows this certificate where they listen by TLS.
+    /// The same servers, to which a client shows this certificate if they listen by TLS.
     #[cfg(feature = "tls")]
     #[must_use]
     pub fn with_tls(self, config: TlsConfig) -> Servers {

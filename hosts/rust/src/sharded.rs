@@ -18,7 +18,7 @@ use std::time::{Duration, Instant};
 /// any range of keys, and may come from several threads.
 ///
 /// It asks all shards at once, and waits for the slowest one. **A scan over several shards is
-/// answered only where all its parts are known at one moment**: the rows are that range of all
+/// answered only if all its parts are known at one moment**: the rows are that range of all
 /// tables together at one moment of the call.
 ///
 /// A write is at one shard. Two writes at two shards are two writes: another client may see the

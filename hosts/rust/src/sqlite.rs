@@ -68,7 +68,7 @@ const DELETE: &str = "DELETE FROM entry WHERE key = ?1";
 const DELETE_FROM: &str = "DELETE FROM entry WHERE key >= ?1";
 
 impl SqliteStore {
-    /// Opens the file, and makes it where there is none. Another process that has it open makes
+    /// Opens the file, and makes it if there is none. Another process that has it open makes
     /// this fail, and every later open of another process fails while this store lives.
     ///
     /// The file says that it is a store, and of which version. One that an older krl made says

@@ -6,10 +6,10 @@ use std::time::{Duration, Instant};
 
 /// The most strangers from one network: as many as a table has clients, which may all be on one
 /// machine and connect at once.
-const MOST_FROM_ONE: usize = 64;
+const MAX_FROM_ONE: usize = 64;
 
 /// The most strangers in all.
-const MOST: usize = 128;
+const MAX_IN_ALL: usize = 128;
 
 /// How long a connection may take to say whose it is. A byte now and then buys no more.
 pub(crate) const PATIENCE: Duration = Duration::from_secs(5);
@@ -35,8 +35,8 @@ impl Strangers {
     /// A connection comes. It answers which one is to be closed for it, if one is.
     pub fn comes(&mut self, connection: u64, from: Option<IpAddr>, now: Instant) -> Option<u64> {
         let network = from.map(network_of);
-        let crowded = self.from(network) >= MOST_FROM_ONE;
-        let gone = match (crowded, self.waiting.len() >= MOST) {
+        let crowded = self.from(network) >= MAX_FROM_ONE;
+        let gone = match (crowded, self.waiting.len() >= MAX_IN_ALL) {
             (true, _) => self.oldest_of(network),
             (false, true) => self.oldest(),
             (false, false) => None,

@@ -1,4 +1,4 @@
-//! TLS 1.3, where each side shows a certificate.
+//! TLS 1.3, in which each side shows a certificate.
 //!
 //! A session works on memory: what came from the socket is handed to it, and what is to leave is
 //! taken from it. So it never waits, and whoever has the socket decides how to wait for it.

@@ -53,10 +53,10 @@ impl Lines {
         lines.iter().filter(|line| words.iter().all(|word| line.contains(word))).count()
     }
 
-    /// Waits until so many lines have all the words, for ten seconds at most.
+    /// Waits until so many lines have all the words, for a minute at most.
     #[track_caller]
     fn expect(&self, count: usize, words: &[&str]) {
-        let end = Instant::now() + Duration::from_secs(10);
+        let end = Instant::now() + Duration::from_secs(60);
         while self.count(words) != count && Instant::now() < end {
             std::thread::sleep(Duration::from_millis(10));
         }

@@ -76,9 +76,9 @@ fn row(key: u64, value: u64) -> Row {
     Row { key, value: Value::from(value) }
 }
 
-/// Waits until it is so, for ten seconds at most.
+/// Waits until it is so, for a minute at most.
 fn wait_until(is_so: impl Fn() -> bool) -> bool {
-    let end = Instant::now() + Duration::from_secs(10);
+    let end = Instant::now() + Duration::from_secs(60);
     while !is_so() && Instant::now() < end {
         thread::sleep(Duration::from_millis(5));
     }

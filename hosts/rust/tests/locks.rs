@@ -65,7 +65,7 @@ fn two_hold_and_one_waits() {
     assert_eq!(world.locks(END + 1..END + 1, 100).held, []);
     thread::scope(|scope| {
         let put = scope.spawn(|| third.put(10, Value::from(7)));
-        let end = Instant::now() + Duration::from_secs(10);
+        let end = Instant::now() + Duration::from_secs(60);
         let waits = loop {
             let Locks { waits, .. } = world.locks(0..END + 1, 100);
             match waits.first() {

@@ -61,9 +61,9 @@ fn row(key: u64, number: u64) -> Row {
     Row { key, value: Value::from(number) }
 }
 
-/// Waits until it is so, for ten seconds at most.
+/// Waits until it is so, for a minute at most.
 fn wait_until(is_so: impl Fn() -> bool) -> bool {
-    let end = Instant::now() + Duration::from_secs(10);
+    let end = Instant::now() + Duration::from_secs(60);
     while !is_so() && Instant::now() < end {
         thread::sleep(Duration::from_millis(5));
     }
@@ -83,7 +83,7 @@ fn looked_up(client: &Client, ends: &AtomicBool) -> Vec<Option<Vec<Row>>> {
     found
 }
 
-/// Says that the test is over, also if it fails: else who looks would go on for ever.
+/// Says that the test is over, even if it fails: else who looks would go on for ever.
 struct Over<'f>(&'f AtomicBool);
 
 impl Drop for Over<'_> {

@@ -15,9 +15,9 @@ fn lock_file(name: &str) -> PathBuf {
     std::env::temp_dir().join(format!("krl-servers-{}-{name}.lock", std::process::id()))
 }
 
-/// Waits until it is so, for ten seconds at most.
+/// Waits until it is so, for a minute at most.
 fn wait_until(is_so: impl Fn() -> bool) -> bool {
-    let end = Instant::now() + Duration::from_secs(10);
+    let end = Instant::now() + Duration::from_secs(60);
     while !is_so() && Instant::now() < end {
         thread::sleep(Duration::from_millis(10));
     }
@@ -189,10 +189,11 @@ fn a_server_sleeps_while_nothing_comes() {
     // Half a frame waits, and the other half does not come.
     stream.write_all(&[18, 0, 0]).unwrap();
     let turns = || server.monitor().measured().turns.count;
-    let before = turns();
+    let (before, begun) = (turns(), Instant::now());
+    assert!(wait_until(|| turns() - before >= 5), "it turns now and then");
     thread::sleep(Duration::from_secs(1));
-    let turned = turns() - before;
-    assert!((5..=30).contains(&turned), "{turned} turns in a second");
+    let (turned, time) = (turns() - before, begun.elapsed());
+    assert!(u128::from(turned) * 1000 <= 30 * time.as_millis(), "{turned} turns in {time:?}");
 }
 
 #[test]
@@ -214,11 +215,16 @@ fn a_server_that_stops_answers_what_has_come() {
 fn who_asks_an_idle_server_is_answered_at_once() {
     let server = Server::start(listener(), MemoryStore::default()).unwrap();
     let monitor = server.monitor();
-    let begun = Instant::now();
-    for _ in 0..20 {
+    let ask = || {
+        let begun = Instant::now();
         assert_eq!(monitor.snapshot().unwrap().rows.len(), 0);
-    }
-    assert!(begun.elapsed() < Duration::from_millis(500), "{:?}", begun.elapsed());
+        begun.elapsed()
+    };
+    // The server turns by itself each 50 milliseconds. One that answered then would hold up each of
+    // these but the first for so long; a busy machine leaves some alone.
+    let times: Vec<_> = (0..20).map(|_| ask()).collect();
+    let least = times[1..].iter().min().unwrap();
+    assert!(*least < Duration::from_millis(25), "{times:?}");
     server.stop().unwrap();
     assert!(monitor.snapshot().is_err());
 }

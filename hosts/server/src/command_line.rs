@@ -227,7 +227,7 @@ pub struct AccessOptions {
     /// clients each may speak: 1001=3,4 or '1001=3 1002=operator'
     #[arg(long, env = "KRL_USERS", value_name = "USERS")]
     pub users: Option<String>,
-    /// Listen by plain TCP where other machines may connect: each that can may speak for any client
+    /// Listen by plain TCP even if other machines may connect: each may speak for any client
     #[arg(
         long,
         env = "KRL_PLAIN_BEYOND_LOOPBACK",

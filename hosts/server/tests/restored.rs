@@ -25,7 +25,7 @@ fn looked_up(client: &Client, ends: &AtomicBool) -> Vec<Option<Vec<Row>>> {
     found
 }
 
-/// Says that the test is over, also if it fails: else who looks would go on for ever.
+/// Says that the test is over, even if it fails: else who looks would go on for ever.
 struct Over<'f>(&'f AtomicBool);
 
 impl Drop for Over<'_> {

@@ -199,7 +199,7 @@ fn a_server_is_ready_when_nobody_is_missing() {
     until("the server serves", || serving.get("/readyz").0 == 200);
 }
 
-/// Says that the test is over, also if it fails: else the client would go on for ever.
+/// Says that the test is over, even if it fails: else the client would go on for ever.
 struct Over<'f>(&'f AtomicBool);
 
 impl Drop for Over<'_> {

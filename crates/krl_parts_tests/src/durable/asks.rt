@@ -34,8 +34,8 @@ pub enum Ask {
     Leaves(u64),
     /// The epoch rises.
     Rises,
-    /// The write of the client, which registers first if it has not, is judged so and noted, where
-    /// the client has the lock or not.
+    /// The write of the client, which registers first if it has not, is judged so and noted. The
+    /// third says whether the client has the lock.
     Writes(u64, Change, bool, Outcome),
     /// The write of client 1 is Applied, and the entry is there or gone.
     Applies(Change),
@@ -172,7 +172,7 @@ fn judges(durable: &Durable, change: Change, held: bool, expected: Outcome) -> b
     }
 }
 
-// Whether these are missing, asked for again where memory was refused.
+// Whether these are missing, asked for again if memory was refused.
 fn are_missing(durable: &Durable, alloc: Global, expected: &[u64]) -> bool {
     for _ in 0..CALLS {
         if let Ok(clients) = durable.missing_order(alloc) {

@@ -1,7 +1,7 @@
 //! What survives, made of its parts. A call that is refused memory is made again, so that each run
 //! ends alike, whichever one or two allocations in a row fail.
 use crate::again::CALLS;
-use krl_durable::{Durable, Record, Refused, Room};
+use krl_durable::{Durable, EntriesRefused, Record, Room};
 use krl_messages::{Outcome, Value};
 use std::alloc::{AllocError, Global};
 
@@ -41,12 +41,12 @@ pub fn two_entries() -> [(u64, Value); 2] {
     [(20, Value::from_u64(2)), (10, Value::from_u64(1))]
 }
 
-fn brought(alloc: Global, room: Room, entries: &[(u64, Value)]) -> Result<Durable, Refused> {
+fn brought(alloc: Global, room: Room, entries: &[(u64, Value)]) -> Result<Durable, EntriesRefused> {
     Durable::from_parts(alloc, room, entries, 7, &RECORDS)
 }
 
 // What it shows, written out and brought back.
-fn written_out(alloc: Global, durable: &Durable) -> Result<Durable, Refused> {
+fn written_out(alloc: Global, durable: &Durable) -> Result<Durable, EntriesRefused> {
     let records = durable.records(alloc)?;
     Durable::from_parts(
         alloc,
@@ -58,12 +58,16 @@ fn written_out(alloc: Global, durable: &Durable) -> Result<Durable, Refused> {
 }
 
 // With room for so many entries, written out and brought back.
-fn roomed(alloc: Global, room: usize, entries: &[(u64, Value)]) -> Result<Durable, Refused> {
-    let room = Room::new(room).ok_or(Refused::Full)?;
+fn roomed(alloc: Global, room: usize, entries: &[(u64, Value)]) -> Result<Durable, EntriesRefused> {
+    let room = Room::new(room).ok_or(EntriesRefused::Full)?;
     written_out(alloc, &brought(alloc, room, entries)?)
 }
 
-fn try_start(alloc: Global, start: Start, entries: &[(u64, Value)]) -> Result<Durable, Refused> {
+fn try_start(
+    alloc: Global,
+    start: Start,
+    entries: &[(u64, Value)],
+) -> Result<Durable, EntriesRefused> {
     match start {
         Start::Unused => Durable::new(alloc, entries),
         Start::Brought => brought(alloc, Room::standard(), entries),
@@ -72,7 +76,7 @@ fn try_start(alloc: Global, start: Start, entries: &[(u64, Value)]) -> Result<Du
     }
 }
 
-/// What survives of these entries. None where it is refused.
+/// What survives of these entries. None if it is refused.
 pub fn started(alloc: Global, start: Start, entries: &[(u64, Value)]) -> Option<Durable> {
     for _ in 0..CALLS {
         if let Ok(durable) = try_start(alloc, start, entries) {
@@ -82,11 +86,11 @@ pub fn started(alloc: Global, start: Start, entries: &[(u64, Value)]) -> Option<
     None
 }
 
-/// How these entries are refused. None where they are not.
-pub fn refusal(alloc: Global, start: Start, entries: &[(u64, Value)]) -> Option<Refused> {
+/// How these entries are refused. None if they are not.
+pub fn refusal(alloc: Global, start: Start, entries: &[(u64, Value)]) -> Option<EntriesRefused> {
     for _ in 1..CALLS {
         match try_start(alloc, start, entries) {
-            Err(Refused::OutOfMemory) => {}
+            Err(EntriesRefused::OutOfMemory) => {}
             answer => return answer.err(),
         }
     }
@@ -103,7 +107,7 @@ fn try_many(alloc: Global, n: u64, falls: bool) -> Result<Vec<(u64, Value)>, All
     Ok(entries)
 }
 
-/// As many entries as this, with keys that fall or rise. None where memory is refused.
+/// As many entries as this, with keys that fall or rise. None if memory is refused.
 pub fn many(alloc: Global, n: u64, falls: bool) -> Option<Vec<(u64, Value)>> {
     for _ in 0..CALLS {
         if let Ok(entries) = try_many(alloc, n, falls) {

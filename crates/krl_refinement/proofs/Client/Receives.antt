@@ -1,8 +1,8 @@
 -- Each message that a client takes is some steps of its link.
 use Rattle.std.proofs.Common.{◌≡◌, ◌≢◌, ℕ, suc, ◌≤◌, ◌<◌, Bool, true, false, ◌&&◌, ◌||◌, not, Option, Some, None, is_some, unwrap_or, List, [], ◌∷◌, ◌⊎◌, inl, inr, refl, sym, ap, subst, ◌∙◌, ⊎_elim, arith, nat_eq, nat_lt, nat_le, if◌then◌else◌, ltb-true, eqb-true}
 use Rattle.krl_refinement.proofs.Names.{eqb-false, and_parts, or_parts, not-true, END, KeyPart, range_of, key_of, contains, Outcome, WriteOp, Pieces, ToClient, ToClientBody, PushBody, AllByRecursion}
-use Rattle.krl_refinement.proofs.Names.{Value, row_of, reads_key, In, Belief, is_last, adopt, adopt_all, Describes, Client, LockRequest, Granted, NoEntry, LastWrite, Unwritten, Outstanding, Judged}
-use Rattle.krl_refinement.proofs.Names.{outstanding, is_writing_in, meets_pin, op_shown, Says, Tells, IsTo, ShowsClient, ShowsSeat, Leads}
+use Rattle.krl_refinement.proofs.Names.{Value, row_of, reads_key, In, Belief, is_last, adopt, adopt_all, Describes, Client, LockRequest, Granted, Absent, LastWrite, Unwritten, Outstanding, Judged}
+use Rattle.krl_refinement.proofs.Names.{outstanding, is_writing_in, meets_pin, op_shown, Says, Tells, IsTo, ShowsClient, ShowsPlace, Leads}
 use Rattle.krl_modes.specs.declared.part.KeyPart.TheVariants as key
 use Rattle.krl_messages.specs.declared.holding.Holding.{Holding}
 use Rattle.krl_messages.specs.declared.to_client.ToClientBody.TheVariants as told
@@ -21,7 +21,7 @@ use Rattle.krl_refinement.proofs.Client.Repeats.{ack_shows, describes_it}
 
 -- Accepted holdings
 
--- a value that is there exactly where the key part reads the entry is the machine's row
+-- a value that is there exactly if the key part reads the entry is the machine's row
 row_by : (k : KeyPart) (v : Option Value) → is_some v ≡ reads_key k → v ≡ row_of k v
 row_by key.N None e = refl
 row_by key.N (Some v) e = absurd (cc)
@@ -51,7 +51,7 @@ one_first : (o : Option Said) (h : Holding) (q : ℕ) (x : Said) → unwrap_or o
 one_first None h q x = refl
 one_first (Some t) h q x = refl
 
--- at one point q, where the machine's client believes x
+-- at one point q, if the machine's client believes x
 range_adopted : (hs : List Holding) (b : Belief) (q : ℕ) (x : Said) → b.range_at q ≡ x.range → (adopt_all hs b).range_at q ≡ (unwrap_or (said_by hs q) x).range
 range_adopted [] b q x e = e
 range_adopted (h ∷ hs) b q x e = range_adopted hs (adopt h b) q (unwrap_or (or_by None h q) x) (by_test (contains h.span q)) ∙ ap (λ t. t.range) (one_first (said_by hs q) h q x)
@@ -146,17 +146,17 @@ issued_or_none : (c : ℕ) (k : Client) (l : Link) → ShowsClient c k l.client 
 issued_or_none c k l x = ⊎_elim (λ (n : 1 ≤ k.writes). let i = x.issued in inl (omega arith)) (λ (n : outstanding k.written ≡ None). inr (none_out (outstanding k.written) l.out x.out n)) x.numbered
 
 -- a push of these holdings is taken
-takes_push : (s : Shared) (l : Link) (c g : ℕ) (k : Client) (p : Links.Push) (hs : List Holding) (asked : LockRequest) (w : LastWrite) (out : Option Op) → ShowsSeat c g (Some k) l → IsDue k l p → Says hs p → AllFit hs → OutAfter l p out → out ≡ op_shown (outstanding w) → (1 ≤ k.writes) ⊎ (outstanding w ≡ None) → let m = record k { seen = suc k.seen; asked = asked; written = w; belief = adopt_all hs k.belief } in Leads s l c g (Some m) (says_ack m ∷ [])
+takes_push : (s : Shared) (l : Link) (c g : ℕ) (k : Client) (p : Links.Push) (hs : List Holding) (asked : LockRequest) (w : LastWrite) (out : Option Op) → ShowsPlace c g (Some k) l → IsDue k l p → Says hs p → AllFit hs → OutAfter l p out → out ≡ op_shown (outstanding w) → (1 ≤ k.writes) ⊎ (outstanding w ≡ None) → let m = record k { seen = suc k.seen; asked = asked; written = w; belief = adopt_all hs k.belief } in Leads s l c g (Some m) (says_ack m ∷ [])
 takes_push s l c g k p hs asked w out x d says rules after o n = took s l _ c g _ _ x.1.number refl
     (accepts p out d.sent (record { up = x.1.up; inc = cc (d.inc, x.1.inc); epoch = cc (d.epoch, x.1.epoch); number = cc (d.number, x.1.seen) }) after)
     (record { hellos = λ y i. i; byes = λ y i. i; heads = λ y i. inr i; releases = λ y i. i; writes = λ y i. i; reports = λ y i. i; notices = λ y i. i; pushes = λ y i. i })
     (x.0, holdings_show c k l p hs asked w out x.1 says rules o n)
     (inl (cc (x.1.inc, x.1.epoch, x.1.seen)), tt)
 
-accept_shows : (s : Shared) (l : Link) (c g : ℕ) (k : Client) (p : Links.Push) (what : PushBody) → ShowsSeat c g (Some k) l → fits what ≡ true → IsDue k l p → Tells what p → Leads s l c g (Some (accepted k what)) (says_ack (accepted k what) ∷ [])
+accept_shows : (s : Shared) (l : Link) (c g : ℕ) (k : Client) (p : Links.Push) (what : PushBody) → ShowsPlace c g (Some k) l → fits what ≡ true → IsDue k l p → Tells what p → Leads s l c g (Some (accepted k what)) (says_ack (accepted k what) ∷ [])
 accept_shows s l c g k p (push.Grant req hs) x rule d tells = takes_push s l c g k p hs (asked_after k req k.asked Granted) k.written l.out x d tells.1 (each_fits hs rule)
     (grant_out l p (nat_eq p.answers l.issued) refl tells.0 (issued_or_none c k l x.1)) x.1.out x.1.numbered
-accept_shows s l c g k p (push.Absent req point) x rule d tells = takes_push s l c g k p [] (asked_after k req k.asked NoEntry) k.written l.out x d tells.1 tt
+accept_shows s l c g k p (push.Absent req point) x rule d tells = takes_push s l c g k p [] (asked_after k req k.asked Absent) k.written l.out x d tells.1 tt
     (grant_out l p (nat_eq p.answers l.issued) refl tells.0 (issued_or_none c k l x.1)) x.1.out x.1.numbered
 accept_shows s l c g k p (push.Answer number o h) x rule d tells = takes_push s l c g k p (h ∷ []) k.asked (judged_as k number o k.written) (op_shown (if nat_eq number k.writes then None else outstanding k.written)) x d tells.1 (rule, tt)
     (answer_out k l p number (nat_eq number k.writes) refl tells.0 x.1.issued x.1.out)
@@ -168,7 +168,7 @@ accept_shows s l c g k p (push.Answer number o h) x rule d tells = takes_push s 
 
 -- Epochs
 
-adopts_shows : (s : Shared) (l : Link) (c g : ℕ) (k : Client) (ps : Pieces) (inc epoch : ℕ) → Describes ps k.belief → ShowsSeat c g (Some k) l → IsTo l inc (told.Epoch epoch) → inc ≡ k.incarnation → k.epoch < epoch → Leads s l c g (Some (joined k epoch)) (says_report ps (joined k epoch) ∷ [])
+adopts_shows : (s : Shared) (l : Link) (c g : ℕ) (k : Client) (ps : Pieces) (inc epoch : ℕ) → Describes ps k.belief → ShowsPlace c g (Some k) l → IsTo l inc (told.Epoch epoch) → inc ≡ k.incarnation → k.epoch < epoch → Leads s l c g (Some (joined k epoch)) (says_report ps (joined k epoch) ∷ [])
 adopts_shows s l c g k ps inc epoch d h at e later = took s l _ c g _ _ h.1.number refl
     (joins (record { inc = inc; epoch = epoch }) at h.1.up (cc (e, h.1.inc)) (let i = h.1.epoch in omega arith))
     (record { hellos = λ y i. i; byes = λ y i. i; heads = λ y i. i; releases = λ y i. i; writes = λ y i. i; reports = λ y i. inr i; notices = λ y i. i; pushes = λ y i. i })
@@ -188,7 +188,7 @@ makes_either s l c g k ps false x y f h = h refl
 own_epoch : (c : ℕ) (k : Client) (l : Link) (epoch : ℕ) → ShowsClient c k l.client → 1 ≤ epoch → nat_eq epoch k.epoch ≡ true → 1 ≤ l.epoch
 own_epoch c k l epoch h old e = let i = eqb-true epoch k.epoch e in let j = h.epoch in omega arith
 
-body_shows : (s : Shared) (l : Link) (c g : ℕ) (k : Client) (ps : Pieces) (inc : ℕ) (what : ToClientBody) → Describes ps k.belief → ShowsSeat c g (Some k) l → inc ≡ k.incarnation → IsTo l inc what → Makes s l c g k ps (case_of_body k what)
+body_shows : (s : Shared) (l : Link) (c g : ℕ) (k : Client) (ps : Pieces) (inc : ℕ) (what : ToClientBody) → Describes ps k.belief → ShowsPlace c g (Some k) l → inc ≡ k.incarnation → IsTo l inc what → Makes s l c g k ps (case_of_body k what)
 body_shows s l c g k ps inc (told.Epoch epoch) d h e at = makes_either s l c g k ps (nat_lt k.epoch epoch) (Adopts epoch) Ignores
     (λ t. adopts_shows s l c g k ps inc epoch d h at e (ltb-true k.epoch epoch t))
     (λ f. rests s l c g (Some k) h)
@@ -206,7 +206,7 @@ body_shows s l c g k ps inc (told.Callback epoch span keep) d h e at = makes_eit
     lowers_show s l c g k span keep h (own_epoch c k l epoch h.1 at.0 x.0) at.1 (or_parts (is_writing_in k span) (meets_pin k span) (not-true _ x.1)).0)
     (λ f. rests s l c g (Some k) h)
 
-pub receives_show : (s : Shared) (l : Link) (c g : ℕ) (k : Client) (ps : Pieces) (m : ToClient) → Describes ps k.belief → ShowsSeat c g (Some k) l → (m.client ≡ c → IsTo l m.incarnation m.body) → Makes s l c g k ps (case_of k m)
+pub receives_show : (s : Shared) (l : Link) (c g : ℕ) (k : Client) (ps : Pieces) (m : ToClient) → Describes ps k.belief → ShowsPlace c g (Some k) l → (m.client ≡ c → IsTo l m.incarnation m.body) → Makes s l c g k ps (case_of k m)
 receives_show s l c g k ps m d h at = makes_either s l c g k ps (nat_eq m.client k.number && nat_eq m.incarnation k.incarnation) (case_of_body k m.body) Ignores
     (λ t. let x = and_parts (nat_eq m.client k.number) (nat_eq m.incarnation k.incarnation) t in
     let n = eqb-true m.client k.number x.0 in

@@ -2,7 +2,7 @@
 use Rattle.std.proofs.Common.{◌≡◌, ℕ, suc, ◌≤◌, ◌<◌, ◌-◌, Bool, true, false, ◌&&◌, Option, Some, None, [], ◌∷◌, ◌⊎◌, inl, inr, refl, sym, subst, ◌∙◌, ⊎_elim, arith, nat_lt, nat_le, not, if◌then◌else◌, ltb-true}
 use Rattle.krl_refinement.proofs.Names.{and_parts, not-false, END, TOP, KeyPart, Mode, key_meet, reads_key, is_key_X, is_range_X, range_of, key_of, Bounds, contains, WriteOp, ToServer, Value, row_of}
 use Rattle.krl_refinement.proofs.Names.{mode_parts, lower, is_span, Client, begun, LockRequest, Waiting, outstanding, has_joined, is_in, is_writing_in, op_of, op_shown, Grows, server_part, IsFrom}
-use Rattle.krl_refinement.proofs.Names.{ShowsClient, ShowsSeat, Leads}
+use Rattle.krl_refinement.proofs.Names.{ShowsClient, ShowsPlace, Leads}
 use Rattle.krl_modes.specs.declared.part.KeyPart.TheVariants as key
 use Rattle.krl_modes.specs.declared.mode.Mode.TheVariants as mode
 use Rattle.krl_messages.specs.declared.write_op.WriteOp.TheVariants as op
@@ -19,17 +19,17 @@ use Rattle.krl_client.specs.Ticks.{says_hello}
 use Rattle.krl_refinement.proofs.Client.Basics.{grows_not, passed, lowered_at, before_last}
 
 -- nothing is sent, and no step is taken
-pub rests : (s : Shared) (l : Link) (c g : ℕ) (k : Option Client) → ShowsSeat c g k l → Leads s l c g k []
-rests s l c g k h = record { link = l; steps = idle; grows = grows_not l; seat = h; told = λ m i. absurd i; mine = λ m i. absurd i; same = refl }
+pub rests : (s : Shared) (l : Link) (c g : ℕ) (k : Option Client) → ShowsPlace c g k l → Leads s l c g k []
+rests s l c g k h = record { link = l; steps = idle; grows = grows_not l; place = h; told = λ m i. absurd i; mine = λ m i. absurd i; same = refl }
 
 -- one step and one message
-pub took : (s : Shared) (l m : Link) (c g : ℕ) (k : Option Client) (x : ToServer) → x.client ≡ c → server_part m ≡ server_part l → LinkStep s l m → Grows l m → ShowsSeat c g k m → IsFrom m x.incarnation x.body → Leads s l c g k (x ∷ [])
+pub took : (s : Shared) (l m : Link) (c g : ℕ) (k : Option Client) (x : ToServer) → x.client ≡ c → server_part m ≡ server_part l → LinkStep s l m → Grows l m → ShowsPlace c g k m → IsFrom m x.incarnation x.body → Leads s l c g k (x ∷ [])
 took s l m c g k x own part step grows h f = record {
   same = part;
   link = m;
   steps = next step idle;
   grows = grows;
-  seat = h;
+  place = h;
   told = λ y i. ⊎_elim (λ (e : y ≡ x). subst (λ (z : ToServer). IsFrom m z.incarnation z.body) (sym e) f) (λ (e : ⊥). absurd e) i;
   mine = λ y i. ⊎_elim (λ (e : y ≡ x). subst (λ (z : ToServer). z.client ≡ c) (sym e) own) (λ (e : ⊥). absurd e) i;
 }
@@ -45,24 +45,24 @@ head_is c k l h = cc (h.inc, h.epoch, h.seen)
 pub joined_epoch : (c : ℕ) (k : Client) (l : Link) → ShowsClient c k l.client → has_joined k ≡ true → 1 ≤ l.epoch
 joined_epoch c k l h e = let x = ltb-true 0 k.epoch e in let y = h.epoch in omega arith
 
-pub starting : (s : Shared) (l : Link) (c g : ℕ) → ShowsSeat c g None l → Leads s l c (suc g) (Some (begun c (suc g))) (says_hello (begun c (suc g)) ∷ [])
+pub starting : (s : Shared) (l : Link) (c g : ℕ) → ShowsPlace c g None l → Leads s l c (suc g) (Some (begun c (suc g))) (says_hello (begun c (suc g)) ∷ [])
 starting s l c g h = took s l _ c (suc g) _ _ refl refl (starts h.1)
     (record { hellos = λ x i. inr i; byes = λ x i. i; heads = λ x i. i; releases = λ x i. i; writes = λ x i. i; reports = λ x i. i; notices = λ x i. i; pushes = λ x i. i })
     (cc (h.0), record { number = refl; up = refl; inc = cc (h.0); epoch = refl; seen = refl; issued = refl; out = refl; numbered = inr refl; range = λ q. refl; key = λ q. refl; value = λ q n. refl; at_end = refl })
     (inl (cc (h.0)))
 
-pub crashing : (s : Shared) (l : Link) (c g : ℕ) (k : Client) → ShowsSeat c g (Some k) l → Leads s l c g None []
+pub crashing : (s : Shared) (l : Link) (c g : ℕ) (k : Client) → ShowsPlace c g (Some k) l → Leads s l c g None []
 crashing s l c g k h = record {
   link = _;
   steps = next crashes idle;
   grows = record { hellos = λ x i. i; byes = λ x i. i; heads = λ x i. i; releases = λ x i. i; writes = λ x i. i; reports = λ x i. i; notices = λ x i. i; pushes = λ x i. i };
-  seat = (h.0, refl);
+  place = (h.0, refl);
   told = λ m i. absurd i;
   mine = λ m i. absurd i;
   same = refl;
 }
 
-pub leaving : (s : Shared) (l : Link) (c g : ℕ) (k : Client) → ShowsSeat c g (Some k) l → Leads s l c g None (says_bye k ∷ [])
+pub leaving : (s : Shared) (l : Link) (c g : ℕ) (k : Client) → ShowsPlace c g (Some k) l → Leads s l c g None (says_bye k ∷ [])
 leaving s l c g k h = took s l _ c g None _ h.1.number refl (leaves h.1.up)
     (record { hellos = λ x i. i; byes = λ x i. inr i; heads = λ x i. i; releases = λ x i. i; writes = λ x i. i; reports = λ x i. i; notices = λ x i. i; pushes = λ x i. i })
     (h.0, refl)
@@ -72,7 +72,7 @@ leaving s l c g k h = took s l _ c g None _ h.1.number refl (leaves h.1.up)
 pub more_heads : (l : Link) → Grows l (record l { heads = head_of l ∷ l.heads })
 more_heads l = record { hellos = λ x i. i; byes = λ x i. i; heads = λ x i. inr i; releases = λ x i. i; writes = λ x i. i; reports = λ x i. i; notices = λ x i. i; pushes = λ x i. i }
 
-pub locks_show : (s : Shared) (l : Link) (c g : ℕ) (k : Client) (point hi : ℕ) (mode : Mode) → ShowsSeat c g (Some k) l → lock_refusal k point hi ≡ None → Leads s l c g (Some (locked k point hi mode)) (says_lock (locked k point hi mode) point hi mode ∷ [])
+pub locks_show : (s : Shared) (l : Link) (c g : ℕ) (k : Client) (point hi : ℕ) (mode : Mode) → ShowsPlace c g (Some k) l → lock_refusal k point hi ≡ None → Leads s l c g (Some (locked k point hi mode)) (says_lock (locked k point hi mode) point hi mode ∷ [])
 locks_show s l c g k point hi mode h e = let p = passed (nat_lt END point) refused.BadPoint _ e in let r = passed (not (is_span (record { lo = point; hi = hi }))) refused.BadSpan _ p.1 in let q = passed (not (has_joined k)) refused.NotJoined _ r.1 in
     took s l _ c g _ _ h.1.number refl (speaks h.1.up (joined_epoch c k l h.1 (not-false _ q.0))) (more_heads l) (h.0, other_parts c k l.client (suc k.req) (Waiting point hi mode) k.pins h.1) (inl (sym (head_is c k l h.1)), tt)
 
@@ -99,13 +99,13 @@ may_write k change e = let p1 = passed _ _ _ e in let p2 = passed _ _ _ p1.1 in 
 nothing_out : (k : Client) (out : Option Op) → out ≡ op_shown (outstanding k.written) → outstanding k.written ≡ None → out ≡ None
 nothing_out k out o e = subst (λ x. out ≡ op_shown x) e o
 
-issue_shows : (s : Shared) (l : Link) (c g : ℕ) (k : Client) (change : WriteOp) → ShowsSeat c g (Some k) l → MayWrite k change → Leads s l c g (Some (wrote k change)) (says_write (wrote k change) change ∷ [])
+issue_shows : (s : Shared) (l : Link) (c g : ℕ) (k : Client) (change : WriteOp) → ShowsPlace c g (Some k) l → MayWrite k change → Leads s l c g (Some (wrote k change)) (says_write (wrote k change) change ∷ [])
 issue_shows s l c g k change h may = took s l _ c g _ _ h.1.number refl (issues (op_of change) h.1.up (joined_epoch c k l h.1 may.joined) (nothing_out k l.out h.1.out may.free) (may_issue c k l change h.1 may.holds))
     (record { hellos = λ x i. i; byes = λ x i. i; heads = λ x i. inr i; releases = λ x i. i; writes = λ x i. inr i; reports = λ x i. i; notices = λ x i. i; pushes = λ x i. i })
     (h.0, record { number = h.1.number; up = h.1.up; inc = h.1.inc; epoch = h.1.epoch; seen = h.1.seen; issued = cc (h.1.issued); out = refl; numbered = inl (omega arith); range = h.1.range; key = h.1.key; value = h.1.value; at_end = h.1.at_end })
     (inl (cc (h.1.inc, h.1.epoch, h.1.seen)), inl (cc (h.1.inc, h.1.epoch, h.1.seen, h.1.issued)))
 
-pub writes_show : (s : Shared) (l : Link) (c g : ℕ) (k : Client) (change : WriteOp) → ShowsSeat c g (Some k) l → write_refusal k change ≡ None → Leads s l c g (Some (wrote k change)) (says_write (wrote k change) change ∷ [])
+pub writes_show : (s : Shared) (l : Link) (c g : ℕ) (k : Client) (change : WriteOp) → ShowsPlace c g (Some k) l → write_refusal k change ≡ None → Leads s l c g (Some (wrote k change)) (says_write (wrote k change) change ∷ [])
 writes_show s l c g k change h e = issue_shows s l c g k change h (may_write k change e)
 
 -- Lowering
@@ -143,7 +143,7 @@ not_in s k out o e x i =
     let f : is_in s (Some h.0) ≡ false = subst (λ y. is_in s y ≡ false) h.1 e in
     subst (λ n. (n < s.lo) ⊎ (s.hi ≤ n)) (sym h.2) (outside_span s (key_of_op h.0) f)
 
-pub lowers_show : (s : Shared) (l : Link) (c g : ℕ) (k : Client) (span : Bounds) (keep : Mode) → ShowsSeat c g (Some k) l → 1 ≤ l.epoch → span.lo < span.hi → is_writing_in k span ≡ false → Leads s l c g (Some (lowered k span keep)) (says_release k span keep ∷ [])
+pub lowers_show : (s : Shared) (l : Link) (c g : ℕ) (k : Client) (span : Bounds) (keep : Mode) → ShowsPlace c g (Some k) l → 1 ≤ l.epoch → span.lo < span.hi → is_writing_in k span ≡ false → Leads s l c g (Some (lowered k span keep)) (says_release k span keep ∷ [])
 lowers_show s l c g k span keep h old some free = took s l _ c g _ _ h.1.number refl
     (lowers (record { head = head_of l; lo = span.lo; last = span.hi - 1; range = range_of keep; key = key_of keep }) (lower span keep k.belief).range_at (lower span keep k.belief).key_at h.1.up old refl (mode_parts keep) (λ x i. before_last span.lo span.hi (op_key x) some (not_in span k l.out h.1.out free x i))
     (λ q. lowered_at span keep (l.range q) (k.belief.range_at q) (l.key q) (k.belief.key_at q) q (contains span q) refl some (h.1.range q) (h.1.key q)))
@@ -166,6 +166,6 @@ lowers_show s l c g k span keep h old some free = took s l _ c g _ _ h.1.number 
     )
     (inl (cc (h.1.inc, h.1.epoch, h.1.seen)), (some, inl (cc (h.1.inc, h.1.epoch, h.1.seen))))
 
-pub forgets_show : (s : Shared) (l : Link) (c g : ℕ) (k : Client) (span : Bounds) → ShowsSeat c g (Some k) l → forget_refusal k span ≡ None → Leads s l c g (Some (forgot k span)) (says_release k span mode.N ∷ [])
+pub forgets_show : (s : Shared) (l : Link) (c g : ℕ) (k : Client) (span : Bounds) → ShowsPlace c g (Some k) l → forget_refusal k span ≡ None → Leads s l c g (Some (forgot k span)) (says_release k span mode.N ∷ [])
 forgets_show s l c g k span h e = let p1 = passed _ _ _ e in let p2 = passed _ _ _ p1.1 in let p3 = passed _ _ _ p2.1 in
     lowers_show s l c g k span mode.N h (joined_epoch c k l h.1 (not-false _ p2.0)) (ltb-true span.lo span.hi (and_parts (nat_lt span.lo span.hi) (nat_le span.hi TOP) (not-false _ p1.0)).0) p3.0

@@ -1,6 +1,6 @@
 -- The report of a missing client contradicts nobody's modes.
 use Rattle.krl_refinement.proofs.Names.{◌≡◌, ◌≢◌, ℕ, Bool, true, false, not, List, [], ◌∷◌, ◌++◌, map, Option, Some, None, refl, sym, ap, subst, ◌∙◌, arith, ◌||◌, cond, nat_eq, eqb-false}
-use Rattle.krl_refinement.proofs.Names.{nat_tests, none-some, list_all, END, compatible, Value, Pieces, ToServer, Record, is_slot, record_of, most_clients, mode_at, column}
+use Rattle.krl_refinement.proofs.Names.{nat_tests, none-some, list_all, END, compatible, Value, Pieces, ToServer, Record, is_slot, record_of, max_clients, mode_at, column}
 use Rattle.krl_refinement.proofs.Names.{is_compatible_there, rebuilt, adopted, conflicts, RangesAgree, KeysAgree, Recovering, Link, IsSlot, Logged, WorldInv, MayTake, no_alarm_of, slots_agree}
 use Rattle.krl_refinement.proofs.Names.{Server, lists, IsSound, report_of, Stands, IsRecord, machine_phase, view, Shows, world_of}
 use Rattle.std.specs.Ordering.{nat_cmp, eq_by_cmp}
@@ -48,5 +48,5 @@ no_conflict s of log m epoch pieces r inv shows sound known same now missing sta
     subst (λ g. compatible g (mode_at s.rows n d) ≡ true) (adopted_at index s.durable.epoch phase sound.near s.rows c m.incarnation epoch pieces stands.1 n slot (is_slot index n) refl)
     (slots_agree (view s) sound.near (column (adopted index s.rows c pieces) c) (column s.rows d) agree n slot) in
     let fit : (n : ℕ) → IsSlot (view s) n → is_compatible_there s.rows n c (rebuilt index pieces n) ≡ true = λ n slot.
-    below_true most_clients (λ d. nat_eq d c || compatible (rebuilt index pieces n) (mode_at s.rows n d)) (λ d. or_true (nat_eq d c) (compatible (rebuilt index pieces n) (mode_at s.rows n d)) (λ e. beside n slot d (eqb-false d c e))) in
+    below_true max_clients (λ d. nat_eq d c || compatible (rebuilt index pieces n) (mode_at s.rows n d)) (λ d. or_true (nat_eq d c) (compatible (rebuilt index pieces n) (mode_at s.rows n d)) (λ e. beside n slot d (eqb-false d c e))) in
     ap not (at_keys (λ n. is_compatible_there s.rows n c (rebuilt index pieces n)) (fin.entries index) (λ n some. fit n (λ far none. some (sym (fin.get-entries index n) ∙ none))) (fit END (λ far. absurd (far refl))))

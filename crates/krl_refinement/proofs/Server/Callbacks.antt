@@ -1,6 +1,6 @@
 -- Callbacks may always be sent.
 use Rattle.krl_refinement.proofs.Names.{ℕ, zero, suc, ◌≤◌, Bool, true, false, List, [], ◌∷◌, inl, inr, sym, subst, ⊎_elim, arith, if◌then◌else◌, cap, ToClient, In, in_both, Waiter, span_of, slots}
-use Rattle.krl_refinement.proofs.Names.{most_clients, wanted, Link, Server, callback_to, Kind, Idle, Quiet, Acts, calls_of, WasSent}
+use Rattle.krl_refinement.proofs.Names.{max_clients, wanted, Link, Server, callback_to, Kind, Idle, Quiet, Acts, calls_of, WasSent}
 use Rattle.krl_table.specs.Replies.{asks_absent}
 use Rattle.krl_table.proofs.Rows.Slots.{low_under}
 use Rattle.krl_server.specs.Callbacks.{is_compatible, callbacks_from, callbacks_for, callbacks_at, callbacks_among}
@@ -22,9 +22,9 @@ module _ (s : Server) (of : ℕ → Link) (begun : 1 ≤ s.durable.epoch) where
   pub callbacks_for_sent : (n : ℕ) (u : Waiter) (o : ToClient) → In o (callbacks_for s n u) → WasSent (of o.client) o.incarnation o.body
   callbacks_for_sent n u o at = by_absent (asks_absent s.durable.index u) at
     where
-      by_absent : (b : Bool) → In o (if b then [] else callbacks_from s n u 0 most_clients) → Sent o
+      by_absent : (b : Bool) → In o (if b then [] else callbacks_from s n u 0 max_clients) → Sent o
       by_absent true h = absurd h
-      by_absent false h = from_sent n u 0 most_clients o h
+      by_absent false h = from_sent n u 0 max_clients o h
 
   at_sent : (n : ℕ) (us : List Waiter) (o : ToClient) → In o (callbacks_at s n us) → Sent o
   at_sent n [] o at = absurd at

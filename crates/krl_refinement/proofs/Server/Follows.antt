@@ -97,7 +97,7 @@ pub reg_is : (k : Option Record) (l : Link) → IsRecord k l → l.reg ≡ incar
 reg_is None l h = h.reg
 reg_is (Some r) l h = h.reg
 
--- what stays of a record where the link's durable part does
+-- what stays of a record if the link's durable part does
 pub record_kept : (o : Option Record) (l m : Link) → m.reg ≡ l.reg → m.left ≡ l.left → m.done ≡ l.done → m.applied ≡ l.applied → IsRecord o l → IsRecord o m
 record_kept None l m a b c d h = record { reg = a ∙ h.reg; left = b ∙ h.left; done = c ∙ h.done }
 record_kept (Some r) l m a b c d h = record { reg = a ∙ h.reg; left = b ∙ h.left; done = λ n. c ∙ h.done n; applied = λ o n e. d ∙ h.applied o n e }

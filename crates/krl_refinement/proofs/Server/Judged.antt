@@ -48,7 +48,7 @@ key_same (write.Insert k v) = refl
 key_same (write.Put k v) = refl
 key_same (write.Delete k) = refl
 
--- the server's answer to a write, where the durable record says so already
+-- the server's answer to a write, if the durable record says so already
 pub answers_on : (s : Server) (of : ℕ → Link) (log : List Logged) (cleared : ℕ → Bool) (c : ℕ) (a : Head) (number : ℕ) (op : WriteOp) (o : Outcome) → IsSound s → (view s).phase ≡ links.Serving → (s.sessions c).unacked ≡ None → In (let w : Write = record { head = a; number = number; op = op_of op } in w) (of c).writes → In a (of c).heads → a.inc ≡ (of c).reg → a.epoch ≡ s.durable.epoch → (of c).left ≡ false → number ≡ (of c).done → 1 ≤ number → is_applied o ≡ (of c).applied → op_key op < END → Shows s of → Goes s of log cleared (answers s c number op o) log
 answers_on s of log cleared c a number op o i serving free at head inc epoch left last some applied under h =
     let n = slot_of s.durable.index (op_key op) in

@@ -1,6 +1,6 @@
 -- A release that is obeyed.
 use Rattle.krl_refinement.proofs.Names.{◌≡◌, ℕ, suc, ◌≤◌, ◌<◌, Bool, true, None, List, ◌⊎◌, inl, inr, refl, sym, ap, subst, ◌∙◌, arith, nat_tests, and_parts, none-some, Mode, range_of, key_of, meet}
-use Rattle.krl_refinement.proofs.Names.{range_meet, key_meet, Bounds, within, In, Index, span_of, record_of, most_clients, mode_at, column, range_at, key_at, Head, Release, Link, Passes, IsSlot}
+use Rattle.krl_refinement.proofs.Names.{range_meet, key_meet, Bounds, within, In, Index, span_of, record_of, max_clients, mode_at, column, range_at, key_at, Head, Release, Link, Passes, IsSlot}
 use Rattle.krl_refinement.proofs.Names.{InSpan, SlotLowered, next, idle, takes_head, takes_release, Logged, slot_near, table_row, release_lowers, put, put_changed, heard_kept, link_steps, Session}
 use Rattle.krl_refinement.proofs.Names.{Server, is_recovering, lists, set_session, IsSound, span_here, same_range, same_key, mode_here, session_here, not_both, low_row, lowered_others}
 use Rattle.krl_refinement.proofs.Names.{lowered_queue, last_of, LinkIs, Shows, view}
@@ -21,7 +21,7 @@ span_within m n span e = let x = and_parts (nat_le span.lo (span_of m n).lo) (na
     at_most : (a b : ℕ) → nat_le a b ≡ true → a ≤ b
     at_most a b e = grind (arith, nat_tests)
 
-pub lowers_follow : (s : Server) (of : ℕ → Link) (log : List Logged) (cleared : ℕ → Bool) (c : ℕ) (a : Head) (span : Bounds) (keep : Mode) → c < most_clients → IsSound s → In (let r : Release = record { head = a; lo = span.lo; last = last_of span; range = range_of keep; key = key_of keep } in r) (of c).releases → In a (of c).heads → Passes (view s) (of c) a → Shows s of → Goes s of log cleared (silent (lowers (acknowledged s c) c span keep)) log
+pub lowers_follow : (s : Server) (of : ℕ → Link) (log : List Logged) (cleared : ℕ → Bool) (c : ℕ) (a : Head) (span : Bounds) (keep : Mode) → c < max_clients → IsSound s → In (let r : Release = record { head = a; lo = span.lo; last = last_of span; range = range_of keep; key = key_of keep } in r) (of c).releases → In a (of c).heads → Passes (view s) (of c) a → Shows s of → Goes s of log cleared (silent (lowers (acknowledged s c) c span keep)) log
 lowers_follow s of log cleared c a span keep lt i at head ok h =
     let r : Release = record { head = a; lo = span.lo; last = last_of span; range = range_of keep; key = key_of keep } in
     let m = s.durable.index in

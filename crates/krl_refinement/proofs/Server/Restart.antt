@@ -32,7 +32,7 @@ known_end : (o : Option Record) (l : Link) (b : Bool) → IsRecord o l → IsRec
 known_end None l b h = h
 known_end (Some r) l b h = h
 
--- the links after a start: where nobody is missing, it serves at once
+-- the links after a start: if nobody is missing, it serves at once
 abbrev pub started_links : (ℕ → Link) → List ℕ → ℕ → Link
 started_links of [] c = record (of c) { missing = false; last_push = 0; acked = true; new_range = no_range; new_key = no_key; top_range = no_range; top_key = no_key }
 started_links of (x ∷ xs) c = record (of c) { missing = lists (x ∷ xs) c; last_push = 0; acked = true; new_range = no_range; new_key = no_key }
@@ -59,7 +59,7 @@ started_bound : (ms : List ℕ) (of : ℕ → Link) → is_recovering ms ≡ tru
 started_bound [] of g c = absurd (not_both (is_recovering []) g refl)
 started_bound (x ∷ xs) of g c = record { range = λ p. refl; key = λ p. refl }
 
--- a start is a start, and a finish where nobody is missing
+-- a start is a start, and a finish if nobody is missing
 pub start_follows : (d : Durable) (of : ℕ → Link) (log : List Logged) → can_start d ≡ true → DurableShows d of → IsSound (steps.start d) → StartFollows d of log
 start_follows d of log can known i =
     let ms = missing_order d.register in
@@ -77,7 +77,7 @@ start_follows d of log can known i =
       bound = started_bound ms of;
     }
 
--- the first start, where each client that is known has left
+-- the first start, if each client that is known has left
 pub opens : (d : Durable) (of : ℕ → Link) → missing_order d.register ≡ [] → DurableShows d of → ((c : ℕ) → IsIdle (of c)) → ((q : ℕ) → END ≤ q → map.get d.index q ≡ None) → Opens d of
 opens d of gone known idle near = record {
   shows = subst (λ ms. Shows (started_with d ms) of) (sym gone)

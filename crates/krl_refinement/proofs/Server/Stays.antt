@@ -29,7 +29,7 @@ shows_stays s of to e g h = record {
   heard = λ n u at. let x = h.heard n u at in (x.0, (g u.client).heads x.0 x.1, x.2 ∙ sym (ap (λ y. y.reg) (e u.client)), x.3, ap (λ y. y.left) (e u.client) ∙ x.4);
 }
 
--- where one link is l, and the others are as they were
+-- if one link is l, and the others are as they were
 
 pub put_grows : (of : ℕ → Link) (c : ℕ) (l : Link) → Grows (of c) l → (d : ℕ) → Grows (of d) (put of c l d)
 put_grows of c l g = at_put (λ d x. Grows (of d) x) of c l g (λ d ne. grows_not (of d))

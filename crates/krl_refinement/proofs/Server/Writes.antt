@@ -1,6 +1,6 @@
 -- A new write that is Applied, and its answer.
 use Rattle.krl_refinement.proofs.Names.{◌≡◌, ℕ, suc, ◌<◌, Bool, true, Option, Some, None, List, ◌∷◌, refl, sym, ap, subst, ◌∙◌, arith, and_parts, none-some, is_some, END, KeyPart, Value, WriteOp}
-use Rattle.krl_refinement.proofs.Names.{ToServer, op_key, In, Waiter, Record, Index, record_of, with_record, Rows, most_clients, column, range_at, key_at, Head, Write, Shared, Link, Passes, Logged}
+use Rattle.krl_refinement.proofs.Names.{ToServer, op_key, In, Waiter, Record, Index, record_of, with_record, Rows, max_clients, column, range_at, key_at, Head, Write, Shared, Link, Passes, Logged}
 use Rattle.krl_refinement.proofs.Names.{Changed, Applies, Step, applies, wrote_by, none, more, steps_on, world_steps, put, put_changed, changed_twice, heard_kept, WorldInv, Written, Session, Server}
 use Rattle.krl_refinement.proofs.Names.{lists, set_session, acknowledged, rows_written, answers, effect, Judges, judged, IsSound, session_here, pushes_serve, acknowledged_sound, None-if_not_some, Some-if_some}
 use Rattle.krl_refinement.proofs.Names.{op_of, IsRecord, LinkIs, Shows, view, world_of, logged}
@@ -103,7 +103,7 @@ is_written s of log c a op i inv head ok under e h = by_op op under e
         let y = and_parts _ _ x.1 in let z = and_parts _ _ y.0 in
         delete_shown s.durable.index s.durable.epoch (view s).phase i.near (put of c (acknowledged_link (of c))) log s.rows shows later c k p.0 under p.1 z.0 z.1 y.1
 
-pub writes_follow : (s : Server) (of : ℕ → Link) (log : List Logged) (cleared : ℕ → Bool) (m : ToServer) (a : Head) (number : ℕ) (op : WriteOp) (r : Record) → IsSound s → WorldInv (world_of s of log) → record_of s.durable.register m.client ≡ Some r → m.incarnation ≡ r.incarnation → m.client < most_clients → In (let w : Write = record { head = a; number = number; op = op_of op } in w) (of m.client).writes → In a (of m.client).heads → Passes (view s) (of m.client) a → number ≡ suc r.last → op_key op < END → judged s m.client op ≡ outcome.Applied → Shows s of → Goes s of log cleared (effect s m (Judges number op outcome.Applied)) (logged m (Judges number op outcome.Applied) log)
+pub writes_follow : (s : Server) (of : ℕ → Link) (log : List Logged) (cleared : ℕ → Bool) (m : ToServer) (a : Head) (number : ℕ) (op : WriteOp) (r : Record) → IsSound s → WorldInv (world_of s of log) → record_of s.durable.register m.client ≡ Some r → m.incarnation ≡ r.incarnation → m.client < max_clients → In (let w : Write = record { head = a; number = number; op = op_of op } in w) (of m.client).writes → In a (of m.client).heads → Passes (view s) (of m.client) a → number ≡ suc r.last → op_key op < END → judged s m.client op ≡ outcome.Applied → Shows s of → Goes s of log cleared (effect s m (Judges number op outcome.Applied)) (logged m (Judges number op outcome.Applied) log)
 writes_follow s of log cleared m a number op r i inv known same own at head ok num under e h =
     let c = m.client in
     let old : IsRecord (Some r) (of c) = subst (λ y. IsRecord y (of c)) known (h.link c).known in

@@ -7,13 +7,13 @@ use Rattle.krl_messages.specs.declared.holding.Holding.{Holding}
 use Rattle.krl_messages.specs.declared.write_op.WriteOp.{WriteOp}
 use Rattle.krl_messages.specs.declared.to_server.ToServer.{ToServer}
 use Rattle.krl_messages.specs.declared.to_server.ToServerBody.{ToServerBody}
-use Rattle.krl_messages.specs.declared.to_server.ToServerBody.TheVariants as body
+use Rattle.krl_messages.specs.declared.to_server.ToServerBody.TheVariants as said
 use Rattle.krl_messages.specs.declared.to_client.ToClientBody.{ToClientBody}
 use Rattle.krl_messages.specs.declared.to_client.ToClientBody.TheVariants as told
 use Rattle.krl_messages.specs.declared.to_client.PushBody.{PushBody}
 use Rattle.krl_messages.specs.declared.to_client.PushBody.TheVariants as push
 use Rattle.krl_messages.specs.Members.{In}
-use Rattle.krl_messages.specs.Writes.{is_applied}
+use Rattle.krl_messages.specs.Outcomes.{is_applied}
 use Rattle.krl_machine.specs.Links
 use Rattle.krl_machine.specs.Links.{Op, Link, Shared, LinkSteps, Head}
 use Rattle.krl_machine.specs.Holdings.{said_by}
@@ -32,12 +32,12 @@ op_shown (Some change) = Some (op_of change)
 
 -- the message from this incarnation stands in the link, and the pieces of a report are in order and merged
 abbrev pub IsFrom : Link → ℕ → ToServerBody → Type 0
-IsFrom l incarnation body.Hello = Stands l incarnation body.Hello
-IsFrom l incarnation body.Bye = Stands l incarnation body.Bye
-IsFrom l incarnation (body.Report epoch ps) =
-    Stands l incarnation (body.Report epoch ps)
+IsFrom l incarnation said.Hello = Stands l incarnation said.Hello
+IsFrom l incarnation said.Bye = Stands l incarnation said.Bye
+IsFrom l incarnation (said.Report epoch ps) =
+    Stands l incarnation (said.Report epoch ps)
     × Describes ps (record { range_at = range_said ps.ranges; key_at = reported_key ps.keys; value_at = λ p. None })
-IsFrom l incarnation (body.Request r) = Stands l incarnation (body.Request r)
+IsFrom l incarnation (said.Request r) = Stands l incarnation (said.Request r)
 
 -- the machine's push says what these holdings say
 abbrev pub Says : List Holding → Links.Push → Type 0
@@ -74,9 +74,9 @@ pub record ShowsClient (c : ℕ) (k : Client) (a : Links.Client) : Type 0 where
   pub at_end : k.belief.value_at END ≡ None
 
 -- a client of this greatest incarnation, up or down
-abbrev pub ShowsSeat : ℕ → ℕ → Option Client → Link → Type 0
-ShowsSeat c greatest None l = (l.inc ≡ greatest) × (l.up ≡ false)
-ShowsSeat c greatest (Some k) l = (l.inc ≡ greatest) × ShowsClient c k l.client
+abbrev pub ShowsPlace : ℕ → ℕ → Option Client → Link → Type 0
+ShowsPlace c greatest None l = (l.inc ≡ greatest) × (l.up ≡ false)
+ShowsPlace c greatest (Some k) l = (l.inc ≡ greatest) × ShowsClient c k l.client
 
 -- Steps
 
@@ -122,12 +122,12 @@ server_part l = record {
   top_key = l.top_key;
 }
 
--- some steps of the link of c lead to one that shows this seat and holds these messages, and the server's part stays
+-- some steps of the link of c lead to one that shows this place and holds these messages, and the server's part stays
 pub record Leads (s : Shared) (l : Link) (c greatest : ℕ) (k : Option Client) (ms : List ToServer) : Type 0 where
   pub link : Link
   pub steps : LinkSteps s l link
   pub grows : Grows l link
-  pub seat : ShowsSeat c greatest k link
+  pub place : ShowsPlace c greatest k link
   pub told : (m : ToServer) → In m ms → IsFrom link m.incarnation m.body
   pub mine : (m : ToServer) → In m ms → m.client ≡ c
   pub same : server_part link ≡ server_part l

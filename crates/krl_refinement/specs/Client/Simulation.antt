@@ -12,17 +12,17 @@ use Rattle.krl_client.specs.Clients.{Client, begun}
 use Rattle.krl_client.specs.Commands.{lock_refusal, locked, says_lock, write_refusal, wrote, says_write, forget_refusal, forgot, says_release, pinned, unpinned, says_bye}
 use Rattle.krl_client.specs.Messages.{case_of, after, sends}
 use Rattle.krl_client.specs.Ticks.{tick, says_hello}
-use Rattle.krl_refinement.specs.Client.Shows.{IsTo, ShowsSeat, Leads}
+use Rattle.krl_refinement.specs.Client.Shows.{IsTo, ShowsPlace, Leads}
 use Rattle.krl_modes.specs.declared.mode.Mode.TheVariants as mode
 
 -- a client that runs, and shows in the link, leaves this and sends these
 abbrev pub Shown : Client → Option Client → List ToServer → Type 0
-Shown k after ms = (s : Shared) (l : Link) (c g : ℕ) → ShowsSeat c g (Some k) l → Leads s l c g after ms
+Shown k after ms = (s : Shared) (l : Link) (c g : ℕ) → ShowsPlace c g (Some k) l → Leads s l c g after ms
 
 -- a client starts
 abbrev pub StartShows : Type 0
 StartShows =
-    (s : Shared) (l : Link) (c g : ℕ) → ShowsSeat c g None l →
+    (s : Shared) (l : Link) (c g : ℕ) → ShowsPlace c g None l →
     Leads s l c (suc g) (Some (begun c (suc g))) (says_hello (begun c (suc g)) ∷ [])
 
 -- it crashes
@@ -50,5 +50,5 @@ TicksShow = (k : Client) (ps : Pieces) → Describes ps k.belief → Shown k (So
 abbrev pub MessagesShow : Type 0
 MessagesShow =
     (k : Client) (ps : Pieces) (m : ToClient) → Describes ps k.belief → (s : Shared) (l : Link) (c g : ℕ) →
-    ShowsSeat c g (Some k) l → (m.client ≡ c → IsTo l m.incarnation m.body) →
+    ShowsPlace c g (Some k) l → (m.client ≡ c → IsTo l m.incarnation m.body) →
     Leads s l c g (Some (after k (case_of k m))) (sends ps k (case_of k m))

@@ -18,7 +18,7 @@ use Rattle.krl_server.specs.Soundness.{IsSound}
 use Rattle.krl_refinement.specs.Messages.{Stands, WasSent}
 use Rattle.krl_refinement.specs.Server.AsLinks.{Shows, world_of, DurableShows, down_world_of, logged}
 
--- the machine goes on to a world that shows the server t, where these messages stand
+-- the machine goes on to a world that shows the server t, if these messages stand
 pub record Follows (from : World) (of : ℕ → Link) (t : Server) (outs : List ToClient) : Type 0 where
   pub after : ℕ → Link
   pub log_after : List Logged
@@ -30,7 +30,7 @@ pub record Follows (from : World) (of : ℕ → Link) (t : Server) (outs : List 
 
 -- The bound
 
--- the client's bound is as it was, or N where its record was cleared
+-- the client's bound is as it was, or N if its record was cleared
 pub record BoundStays (cleared : Bool) (l m : Link) : Type 0 where
   pub range : (p : ℕ) → m.top_range p ≡ (if cleared then range.N else l.top_range p)
   pub key : (p : ℕ) → m.top_key p ≡ (if cleared then key.N else l.top_key p)
@@ -71,7 +71,7 @@ pub record IsIdle (l : Link) : Type 0 where
   pub range : (q : ℕ) → l.top_range q ≡ range.N
   pub key : (q : ℕ) → l.top_key q ≡ key.N
 
--- the server of a first start, where each client that is known has left
+-- the server of a first start, if each client that is known has left
 pub record Opens (d : Durable) (of : ℕ → Link) : Type 0 where
   pub shows : Shows (start d) of
   pub sound : IsSound (start d)

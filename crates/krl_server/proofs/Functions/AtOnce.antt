@@ -1,7 +1,7 @@
 -- A grant at once, while nobody waits on the slot: it is what a place in the queue and a turn would give.
 use Rattle.std.proofs.Common.{◌≡◌, ◌≢◌, ℕ, suc, ◌*◌, ◌≤◌, ◌<◌, Bool, true, false, not, ◌&&◌, ◌||◌, nat_eq, Some, None, List, [], ◌∷◌, ◌++◌, length, refl, sym, ap, subst, ◌∙◌, arith}
 use Rattle.krl_server.proofs.Names.{lt-ltb, and_parts, fun_ext, is_some, set, if◌then◌else◌, END, Mode, at_most, compatible, ToClient, ToServer, In, Waiter, eq_cases, Index, slots, slot_of}
-use Rattle.krl_server.proofs.Names.{Row, Rows, front_of, all_below, most_clients, enqueued, queue_with, with_queue, wanted, granted, nobody_waits, is_granted_at_once, KeptTable, rows_of}
+use Rattle.krl_server.proofs.Names.{Row, Rows, front_of, all_below, max_clients, enqueued, queue_with, with_queue, wanted, granted, nobody_waits, is_granted_at_once, KeptTable, rows_of}
 use Rattle.krl_server.proofs.Names.{asks_absent, is_wanted_compatible, first_reply, IsTable, WaitsNowhere, Session, State, Server, set_session, is_recovering, sessions_of, meaning, meant, Waits}
 use Rattle.krl_server.proofs.Names.{case_of, with_rows, acknowledged, queues, effect, can_push, next_turn, answer_first, grants, Answered, stops, goes_on, callbacks, Acts, Ends}
 use Rattle.krl_server.proofs.Names.{serves, kind_of, ServerStep, IsSound, turn_here, HasTurned, HasAnsweredFirst, IsServer, waiting_clients, Sent, Sends}
@@ -50,9 +50,9 @@ module _ (m : Index) (rows : Rows) (u : Waiter) where
   queue_besides k ne = ap (λ r. r.queue) (row_other rows (slot_of m u.point) (with_queue (rows (slot_of m u.point)) (queue_with (rows (slot_of m u.point)) u)) k ne)
 
   can_here : is_wanted_compatible (enqueued m rows u) (slot_of m u.point) u ≡ is_wanted_compatible rows (slot_of m u.point) u
-  can_here = ap (λ (r : Row). all_below most_clients (λ d. nat_eq d u.client || compatible (wanted r u) (r.modes d))) row_is
+  can_here = ap (λ (r : Row). all_below max_clients (λ d. nat_eq d u.client || compatible (wanted r u) (r.modes d))) row_is
 
-  -- a grant at once is told only where nobody waits
+  -- a grant at once is told only if nobody waits
   pub free_here : true ≡ is_granted_at_once m rows u → (rows (slot_of m u.point)).queue ≡ []
   free_here e = by_queue (rows (slot_of m u.point)).queue (and_parts (nobody_waits (rows (slot_of m u.point)).queue) (is_wanted_compatible rows (slot_of m u.point) u && not (asks_absent m u)) (sym e)).0
     where

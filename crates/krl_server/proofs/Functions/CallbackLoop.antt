@@ -1,6 +1,6 @@
 -- The callbacks, as the code makes them.
 use Rattle.krl_server.proofs.Names.{◌≡◌, ◌||◌, nat_eq, ℕ, zero, suc, ◌+◌, ◌≤◌, ◌<◌, Bool, true, false, Some, None, List, [], ◌∷◌, ◌++◌, length, inl, inr, refl, sym, ap, subst, ◌∙◌, append_assoc}
-use Rattle.krl_server.proofs.Names.{arith, length-append, append-nil, if◌then◌else◌, Mode, Bounds, compatible, cap, END, ToClient, In, Waiter, is_slot, slots, span_of, front_of, most_clients}
+use Rattle.krl_server.proofs.Names.{arith, length-append, append-nil, if◌then◌else◌, Mode, Bounds, compatible, cap, END, ToClient, In, Waiter, is_slot, slots, span_of, front_of, max_clients}
 use Rattle.krl_server.proofs.Names.{mode_at, wanted, asks_absent, Server, callback_to, is_compatible, callbacks_from, callbacks_for, callbacks_at, callbacks_among, callbacks, Sent, Sends}
 use Rattle.krl_server.proofs.Names.{callback_if}
 use Rattle.std.specs.FinMap as fin
@@ -34,16 +34,16 @@ pub record IsCalled (s : Server) (n : ℕ) (u : Waiter) (d : ℕ) (old new : Sen
   pub left : ℕ
   pub clients : d + left ≡ 64
   pub sends : Sends old new outs
-  pub all : outs ++ callbacks_from s n u d left ≡ callbacks_from s n u 0 most_clients
+  pub all : outs ++ callbacks_from s n u d left ≡ callbacks_from s n u 0 max_clients
 
 pub same_box : (a : Sent) → Sends a a []
 same_box a = record { sent = sym (append-nil a.sent); room = omega arith }
 
 pub none_called : (s : Server) (n : ℕ) (u : Waiter) (box : Sent) → IsCalled s n u 0 box box
-none_called s n u box = record { outs = []; left = most_clients; clients = let e = sixty_four in omega (arith, e); sends = same_box box; all = refl }
+none_called s n u box = record { outs = []; left = max_clients; clients = let e = sixty_four in omega (arith, e); sends = same_box box; all = refl }
 
 -- there is room for the next callback
-pub room_for_one : (s : Server) (n : ℕ) (u : Waiter) (d : ℕ) (old new : Sent) (more : List ToClient) → d < 64 → IsCalled s n u d old new → more ≡ callback_if s n u d → length old.sent + length (callbacks_from s n u 0 most_clients) ≤ old.room → length new.sent + length more ≤ new.room
+pub room_for_one : (s : Server) (n : ℕ) (u : Waiter) (d : ℕ) (old new : Sent) (more : List ToClient) → d < 64 → IsCalled s n u d old new → more ≡ callback_if s n u d → length old.sent + length (callbacks_from s n u 0 max_clients) ≤ old.room → length new.sent + length more ≤ new.room
 room_for_one s n u d old new more lt h is room = by_left h.left refl
   where
     by_left : (k : ℕ) → h.left ≡ k → length new.sent + length more ≤ new.room
@@ -70,16 +70,16 @@ one_called s n u d old new box more lt h is sends = by_left h.left refl
       all = append_assoc h.outs more (callbacks_from s n u (suc d) k) ∙ ap (λ l. h.outs ++ (l ++ callbacks_from s n u (suc d) k)) is ∙ ap (λ l. h.outs ++ l) (sym (from_one s n u d k)) ∙ ap (λ x. h.outs ++ callbacks_from s n u d x) (sym e) ∙ h.all;
     }
 
-pub all_called : (s : Server) (n : ℕ) (u : Waiter) (d : ℕ) (old new : Sent) → 64 ≤ d → IsCalled s n u d old new → Sends old new (callbacks_from s n u 0 most_clients)
+pub all_called : (s : Server) (n : ℕ) (u : Waiter) (d : ℕ) (old new : Sent) → 64 ≤ d → IsCalled s n u d old new → Sends old new (callbacks_from s n u 0 max_clients)
 all_called s n u d old new le h = subst (Sends old new) (by_left h.left refl) h.sends
   where
-    by_left : (k : ℕ) → h.left ≡ k → h.outs ≡ callbacks_from s n u 0 most_clients
+    by_left : (k : ℕ) → h.left ≡ k → h.outs ≡ callbacks_from s n u 0 max_clients
     by_left zero e = sym (append-nil h.outs) ∙ ap (λ x. h.outs ++ callbacks_from s n u d x) (sym e) ∙ h.all
     by_left (suc k) e = absurd (let x = h.clients in omega (arith, x, e, le))
 
 -- who asks for an entry that is there is called back for
-pub for_is : (s : Server) (n : ℕ) (u : Waiter) (b : Bool) → b ≡ asks_absent s.durable.index u → b ≡ false → callbacks_for s n u ≡ callbacks_from s n u 0 most_clients
-for_is s n u b e f = ap (λ b. if b then [] else callbacks_from s n u 0 most_clients) (sym e ∙ f)
+pub for_is : (s : Server) (n : ℕ) (u : Waiter) (b : Bool) → b ≡ asks_absent s.durable.index u → b ≡ false → callbacks_for s n u ≡ callbacks_from s n u 0 max_clients
+for_is s n u b e f = ap (λ b. if b then [] else callbacks_from s n u 0 max_clients) (sym e ∙ f)
 
 -- All slots
 

@@ -1,7 +1,7 @@
 -- What holds of the message in the case that was found, and what performing it comes to.
 use Rattle.krl_server.proofs.Names.{◌≡◌, ℕ, ◌≤◌, ◌<◌, Bool, true, false, not, ◌||◌, nat_eq, ltb-false, Option, Some, None, List, refl, sym, ap, subst, ◌∙◌, arith, eqb-false, or_parts, nat_lt}
 use Rattle.krl_server.proofs.Names.{is_some, IsSome, IsSomeAnd, if◌then◌else◌, END, ToClient, ToServer, Pieces, WriteOp, Outcome, op_key, Record, Index, slots, is_slot, IsIncarnation, record_of}
-use Rattle.krl_server.proofs.Names.{first_of, Rows, most_clients, waits, conflicts, IsTable, Server, Case, Ignored, Registers, Leaves, Tells, Alarms, Rebuilds, Repeats, Acknowledges, Lowers, Waits}
+use Rattle.krl_server.proofs.Names.{first_of, Rows, max_clients, waits, conflicts, IsTable, Server, Case, Ignored, Registers, Leaves, Tells, Alarms, Rebuilds, Repeats, Acknowledges, Lowers, Waits}
 use Rattle.krl_server.proofs.Names.{PushBody, pushed_again, case_of_unacked, Judges, AnswersAgain, is_malformed, case_of_record, case_of, acknowledged, writes, answers, effect, meant, case_of_pieces, WaitsNowhere, IsPerformed}
 use Rattle.krl_messages.specs.declared.to_server.ToServerBody.TheVariants as said
 use Rattle.krl_server.specs.declared.case.Case.{Case as Found}
@@ -49,7 +49,7 @@ CaseFacts s m (Judges number op o) = MayWrite s m op
 CaseFacts s m (AnswersAgain number op o) = MayAnswer m op
 
 module _ (s : Server) (m : ToServer) where
-  low : m.client < most_clients → m.client < 64
+  low : m.client < max_clients → m.client < 64
   low lt = subst (λ k. m.client < k) sixty_four lt
 
   noted_at : (o : Option Record) (r : Record) → o ≡ Some r → r.last < END → IsSomeAnd o (λ r. r.last < END)
@@ -80,7 +80,7 @@ module _ (s : Server) (m : ToServer) where
   all_facts = if_case (λ k. CaseFacts s m k) (is_malformed m) Ignored (case_of_record s m (record_of s.durable.register m.client))
       (λ malformed. tt)
       (λ fine.
-      let x = or_parts (not (nat_lt m.client most_clients)) (nat_eq m.incarnation 0 || nat_lt END m.incarnation) fine in
+      let x = or_parts (not (nat_lt m.client max_clients)) (nat_eq m.incarnation 0 || nat_lt END m.incarnation) fine in
       let y = or_parts (nat_eq m.incarnation 0) (nat_lt END m.incarnation) x.1 in
       subst (CaseFacts s m) (ap (λ b. if b then Ignored else case_of_record s m (record_of s.durable.register m.client)) fine)
       (facts_said (let ne = eqb-false m.incarnation 0 y.0 in omega (arith, ne)) (ltb-false END m.incarnation y.1)))
@@ -89,7 +89,7 @@ module _ (s : Server) (m : ToServer) where
   pub facts_of : (f g : Found) → meant s m.client m.body f ≡ case_of s m → f ≡ g → CaseFacts s m (meant s m.client m.body g)
   facts_of f g e is = subst (λ x. CaseFacts s m (meant s m.client m.body x)) is (subst (CaseFacts s m) (sym e) all_facts)
 
-  -- and where it is a report
+  -- and if it is a report
   pub reporter : (epoch : ℕ) (pieces : Pieces) → case_of_pieces s m.client m.body ≡ case_of s m → m.body ≡ said.Report epoch pieces → m.client < 64
   reporter epoch pieces e is = by_conflict (conflicts s.durable.index s.rows m.client pieces) (subst (λ b. CaseFacts s m (case_of_pieces s m.client b)) is (subst (CaseFacts s m) (sym e) all_facts))
     where
@@ -102,12 +102,12 @@ module _ (s : Server) (m : ToServer) where
   performed_repeat None outs e sent = record {
     server = ap (λ k. (effect s m k).server) e;
     outs_are = sent ∙ ap (λ k. (effect s m k).outs) e;
-    after = ap Rattle.krl_server.specs.StateMeaning.after_of e;
+    after = ap Rattle.krl_server.specs.FoundCases.after_of e;
   }
   performed_repeat (Some body) outs e sent = record {
     server = ap (λ k. (effect s m k).server) e;
     outs_are = sent ∙ ap (λ k. (effect s m k).outs) e;
-    after = ap Rattle.krl_server.specs.StateMeaning.after_of e;
+    after = ap Rattle.krl_server.specs.FoundCases.after_of e;
   }
 
   -- a new write was done and answered
@@ -115,7 +115,7 @@ module _ (s : Server) (m : ToServer) where
   performed_write t number op o outs e server sent = record {
     server = server ∙ ap (λ k. (effect s m k).server) e;
     outs_are = sent ∙ ap (λ k. (effect s m k).outs) e;
-    after = ap Rattle.krl_server.specs.StateMeaning.after_of e;
+    after = ap Rattle.krl_server.specs.FoundCases.after_of e;
   }
 
   -- the last write was answered again
@@ -123,7 +123,7 @@ module _ (s : Server) (m : ToServer) where
   performed_again t number op o outs e server sent = record {
     server = server ∙ ap (λ k. (effect s m k).server) e;
     outs_are = sent ∙ ap (λ k. (effect s m k).outs) e;
-    after = ap Rattle.krl_server.specs.StateMeaning.after_of e;
+    after = ap Rattle.krl_server.specs.FoundCases.after_of e;
   }
 
 -- who waits on no slot waits nowhere

@@ -29,7 +29,7 @@ some_waits rows n (k ∷ ks) u (inl is) e =
     omega (arith, long, here)
 some_waits rows n (k ∷ ks) u (inr at) e = let ih = some_waits rows n ks u at e in omega (arith, ih)
 
--- where a slot has a first waiter somebody waits
+-- if a slot has a first waiter somebody waits
 pub front_waits : (s : Server) (n : ℕ) (u : Waiter) → is_slot s.durable.index n ≡ true → front_of (s.rows n).queue ≡ Some u → 1 ≤ waiting s
 front_waits s n u there e = some_waits s.rows n (slots s.durable.index) u (slots_have s.durable.index n there) e
 

@@ -1,6 +1,6 @@
 -- What survives is within its bounds, by what its type says.
 use Rattle.krl_server.proofs.Names.{◌≡◌, ℕ, ◌<◌, true, false, [], ◌∷◌, Some, inl, inr, sym, ap, subst, ◌∙◌, nat_eq, ltb-true, eqb-false, nat_lt, AllByRecursion, IsDistinct, In, Record, Register}
-use Rattle.krl_server.proofs.Names.{Durable, record_of, IsKept, most_clients, AreApart, clients_of, IsDurableWithin}
+use Rattle.krl_server.proofs.Names.{Durable, record_of, IsKept, max_clients, AreApart, clients_of, IsDurableWithin}
 use Rattle.std.proofs.lemmas.Map.Keys.{IsDistinct-head, IsDistinct-tail}
 use Rattle.std.specs.Map.{keys_of}
 use Rattle.krl_server.proofs.Outputs.Numbers.{sixty_four}
@@ -20,7 +20,7 @@ low_in [] c h at = absurd at
 low_in (e ∷ es) c h (inl f) = ap (λ n. nat_lt n 64) f ∙ h.0
 low_in (e ∷ es) c h (inr at) = low_in es c h.1 at
 
-low_known : (es : Register) (c : ℕ) (r : Record) → AllByRecursion (λ e. nat_lt e.0 64 ≡ true) es → record_of es c ≡ Some r → c < most_clients
+low_known : (es : Register) (c : ℕ) (r : Record) → AllByRecursion (λ e. nat_lt e.0 64 ≡ true) es → record_of es c ≡ Some r → c < max_clients
 low_known es c r h e = subst (λ k. c < k) (sym sixty_four) (ltb-true c 64 (low_in es c h (known_in es c r e)))
 
 pub durable_within : (d : Durable) → IsKept d → IsDurableWithin d

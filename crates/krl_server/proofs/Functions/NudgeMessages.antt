@@ -2,7 +2,7 @@
 use Rattle.std.proofs.Common.{◌≡◌, ◌≢◌, ℕ, ◌≤◌, ◌<◌, Bool, true, false, Option, Some, None, List, [], ◌∷◌, ◌++◌, length, inl, inr, refl, sym, ap, subst, ◌∙◌, arith, find, nat_eq, eq-eqb, eqb-true}
 use Rattle.krl_server.proofs.Names.{append-nil, AllByRecursion, END, ToClient, In, Waiter, first_of, Index, slot_of, slots, Rows, front_of, waiter_at, waiter_of, IsPlaced, IsTable, Server}
 use Rattle.krl_server.proofs.Names.{is_recovering, callbacks_for, callbacks_of, callbacks_of_among, AreApart, WaitsNowhere, none-some, Record, Register, record_of, nudge, nudge_known, nudge_missing}
-use Rattle.krl_server.proofs.Names.{nudge_served, IsSound, most_messages, is_registered, calls_at_first}
+use Rattle.krl_server.proofs.Names.{nudge_served, IsSound, max_messages, is_registered, calls_at_first}
 use Rattle.std.specs.Prelude.{is_some, if◌then◌else◌, nat_lt, not, Result, Ok, Err, IfOk}
 use Rattle.std.specs.FinMap as fin
 use Rattle.std.proofs.lemmas.Bool.{ltb-true}
@@ -103,6 +103,6 @@ nudge_here s c b e f = by_record (record_of s.durable.register c) (sym e ∙ f)
         by_left true g = absurd (cc)
         by_left false g = refl
 
-pub few_nudges : {E : Type 0} (s : Server) (c : ℕ) (r : Result (List ToClient) E) → IsSound s → IsTable s.durable.index s.rows → IfOk r (λ outs. outs ≡ nudge s c) → IfOk r (λ outs. length outs ≤ most_messages)
-few_nudges s c (Ok outs) sound table e = subst (λ l. length l ≤ most_messages) (sym e) (nudge_few s c sound table)
+pub few_nudges : {E : Type 0} (s : Server) (c : ℕ) (r : Result (List ToClient) E) → IsSound s → IsTable s.durable.index s.rows → IfOk r (λ outs. outs ≡ nudge s c) → IfOk r (λ outs. length outs ≤ max_messages)
+few_nudges s c (Ok outs) sound table e = subst (λ l. length l ≤ max_messages) (sym e) (nudge_few s c sound table)
 few_nudges s c (Err x) sound table e = tt

@@ -1,6 +1,6 @@
 -- There is room for all that a step sends.
 use Rattle.krl_server.proofs.Names.{◌≡◌, ℕ, zero, suc, ◌+◌, ◌≤◌, ◌<◌, Bool, true, false, ◌||◌, Some, List, [], ◌∷◌, ◌⊎◌, inl, inr, refl, sym, ap, subst, ◌∙◌, ⊎_elim, arith, nat_eq}
-use Rattle.krl_server.proofs.Names.{eqb-true, is_some, if◌then◌else◌, list_any, ToServer, In, Waiter, first_of, eq_cases, Index, slots, is_slot, Rows, most_clients, waits, IsTable, Server}
+use Rattle.krl_server.proofs.Names.{eqb-true, is_some, if◌then◌else◌, list_any, ToServer, In, Waiter, first_of, eq_cases, Index, slots, is_slot, Rows, max_clients, waits, IsTable, Server}
 use Rattle.krl_server.proofs.Names.{none_times, Case, effect, IsSound, waiting, count_below, waiting_clients}
 use Rattle.krl_table.proofs.Rows.Waiters.{some_first}
 use Rattle.krl_server.proofs.Invariant.Tabled.{slots_have, any_in}
@@ -103,8 +103,8 @@ sum_count (suc n) f g low none = by_test (g n) refl (sum_count n f g low none) (
 pub few_waiting : (s : Server) → IsSound s → IsTable s.durable.index s.rows → waiting s ≤ waiting_clients s
 few_waiting s sound table =
     let m = s.durable.index in
-    let is = slots_are s.rows most_clients (slots m) (λ k. clients_of m s.rows table k (s.rows k).queue (table.placed k)) in
-    let few = sum_count most_clients (λ c. times_on s.rows c (slots m)) (waits m s.rows)
+    let is = slots_are s.rows max_clients (slots m) (λ k. clients_of m s.rows table k (s.rows k).queue (table.placed k)) in
+    let few = sum_count max_clients (λ c. times_on s.rows c (slots m)) (waits m s.rows)
     (λ c. once_on m s.rows table c (slots m) (slots_apart m sound.near))
     (λ c e. none_on s.rows c (slots m) (λ k at. none_times c (s.rows k).queue (None-if_not_some (first_of c (s.rows k).queue) (any_in (λ n. is_some (first_of c (s.rows n).queue)) (slots m) k e at)))) in
     omega (arith, is, few)
@@ -119,9 +119,9 @@ module _ (s : Server) (m : ToServer) (k : Case) (came : Came s m k) (old : IsTab
       (λ (y : (asks k ≡ true) × (x.1.client ≡ m.client)). inr (y.0, sym x.3 ∙ y.1)) (came x.0 x.1 x.2)
 
   pub no_more_clients : asks k ≡ false → waiting_clients (effect s m k).server ≤ waiting_clients s
-  no_more_clients isnt = count_fewer most_clients (waits (effect s m k).server.durable.index (effect s m k).server.rows) (waits s.durable.index s.rows)
+  no_more_clients isnt = count_fewer max_clients (waits (effect s m k).server.durable.index (effect s m k).server.rows) (waits s.durable.index s.rows)
       (λ c e. ⊎_elim (λ (x : waits s.durable.index s.rows c ≡ true). x) (λ (x : (asks k ≡ true) × (c ≡ m.client)). absurd (not_both (asks k) x.0 isnt)) (now_waits c e))
 
   pub one_more_client : waiting_clients (effect s m k).server ≤ suc (waiting_clients s)
-  one_more_client = count_one_more most_clients (waits (effect s m k).server.durable.index (effect s m k).server.rows) (waits s.durable.index s.rows) m.client
+  one_more_client = count_one_more max_clients (waits (effect s m k).server.durable.index (effect s m k).server.rows) (waits s.durable.index s.rows) m.client
       (λ c e. ⊎_elim (λ (x : waits s.durable.index s.rows c ≡ true). inl x) (λ (x : (asks k ≡ true) × (c ≡ m.client)). inr x.1) (now_waits c e))

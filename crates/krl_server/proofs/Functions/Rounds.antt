@@ -1,7 +1,7 @@
 -- One walk upward over the slots answers all who can be answered.
 use Rattle.krl_server.proofs.Names.{◌≡◌, ◌≢◌, ℕ, suc, ◌≤◌, ◌<◌, Bool, true, false, not, ◌&&◌, ◌||◌, Option, Some, None, List, [], ◌∷◌, ◌++◌, map, inl, inr, refl, sym, ap, subst, ◌∙◌, ⊎_elim}
 use Rattle.krl_server.proofs.Names.{append_assoc, arith, nat_eq, cases_lt, append-nil, none-some, same_Some, nat_lt, is_some, if◌then◌else◌, AllByRecursion, END, Value, ToClient, PushBody, In}
-use Rattle.krl_server.proofs.Names.{Waiter, eq_cases, Index, slots, is_slot, Row, all_below, most_clients, wanted, with_queue, behind_first, dropped, taken, granted, asks_absent}
+use Rattle.krl_server.proofs.Names.{Waiter, eq_cases, Index, slots, is_slot, Row, all_below, max_clients, wanted, with_queue, behind_first, dropped, taken, granted, asks_absent}
 use Rattle.krl_server.proofs.Names.{is_wanted_compatible, IsTable, Session, Server, set_session, Done, with_session, with_rows, push_to, pushes, silent, holdings, Turn, can_push, is_answerable}
 use Rattle.krl_server.proofs.Names.{turn_at, turn_among, next_turn, tells_absent, grants, answer_first, Answered, goes_on, stops, waiting, IsSound, turn_here, HasTurned, Rises, from_above}
 use Rattle.krl_server.proofs.Names.{keys_of_map_rise}
@@ -86,7 +86,7 @@ next_is s n t near there none e = among_first s n t (slots s.durable.index) (slo
 pub empty_none : (s : Server) (n : ℕ) → (s.rows n).queue ≡ [] → turn_here s n ≡ None
 empty_none s n e = ap (λ q. turn_at s n q None) e
 
--- where nobody is next, nobody can be answered at any slot
+-- if nobody is next, nobody can be answered at any slot
 at_nothing : (s : Server) (n : ℕ) (us : List Waiter) (later : Option Turn) → turn_at s n us later ≡ None → (turn_at s n us None ≡ None) × (later ≡ None)
 at_nothing s n [] later e = (refl, e)
 at_nothing s n (u ∷ us) later e = by_test (is_answerable s n u) e
@@ -148,7 +148,7 @@ turn_row_beside s t k v vs ne queue = if_both (λ (x : Done). x.server.rows k �
 
 module _ (s u : Server) (k : ℕ) (index : u.durable ≡ s.durable) (row : u.rows k ≡ s.rows k) (can : (v : Waiter) → In v (s.rows k).queue → can_push (u.sessions v.client) ≡ true → can_push (s.sessions v.client) ≡ true) where
   same_has : (v : Waiter) → (asks_absent u.durable.index v || is_wanted_compatible u.rows k v) ≡ (asks_absent s.durable.index v || is_wanted_compatible s.rows k v)
-  same_has v = ap (λ d. asks_absent d.index v || is_wanted_compatible u.rows k v) index ∙ ap (λ (r : Row). asks_absent s.durable.index v || all_below most_clients (λ d. nat_eq d v.client || Rattle.krl_modes.specs.Modes.compatible (wanted r v) (r.modes d))) row
+  same_has v = ap (λ d. asks_absent d.index v || is_wanted_compatible u.rows k v) index ∙ ap (λ (r : Row). asks_absent s.durable.index v || all_below max_clients (λ d. nat_eq d v.client || Rattle.krl_modes.specs.Modes.compatible (wanted r v) (r.modes d))) row
 
   fewer : (a b x y : Bool) → (a ≡ true → b ≡ true) → x ≡ y → (b && y) ≡ false → (a && x) ≡ false
   fewer false b x y f e g = refl

@@ -1,7 +1,7 @@
 -- A server that starts, and one that has taken a step.
 use Rattle.krl_server.proofs.Names.{Session, ◌≡◌, ℕ, zero, suc, ◌≤◌, ◌<◌, List, [], ◌∷◌, ◌++◌, length, refl, sym, ap, subst, ◌∙◌, fun_ext, lt-ltb, END, ToServer, ToClient, Durable, missing_order, IsKept}
 use Rattle.krl_server.proofs.Names.{blank_row, rows_of, IsOver, State, ServerOut, Server, blank_session, meaning, sessions_of, IsFormed, ServerStep, start, IsSettled, IsSound, Result, Ok, Err, IfOk}
-use Rattle.krl_server.proofs.Names.{OnOk, OnErr, most_messages, IsServer, IsStarted, HasStepped, IsWithin, AreRegistered}
+use Rattle.krl_server.proofs.Names.{OnOk, OnErr, max_messages, IsServer, IsStarted, HasStepped, IsWithin, AreRegistered}
 use Rattle.krl_server.specs.Invariant.{IsOrdered}
 use Rattle.krl_server.proofs.Outputs.Numbers.{all_end}
 use Rattle.krl_server.proofs.Invariant.Kept.{server_keeps}
@@ -47,7 +47,7 @@ pub server_kept : {E : Type 0} (old new : State) (m : ToServer) (r : Result Serv
 server_kept old new m (Ok out) i stepped formed refused = server_after old new m out.messages i formed stepped.step
 server_kept old new m (Err e) i stepped formed refused = subst IsServer (sym refused) i
 
-pub few_sent : {E : Type 0} (old new : State) (m : ToServer) (r : Result ServerOut E) → IsServer old → IfOk r (λ out. HasStepped (meaning old) m (meaning new) out) → IfOk r (λ out. length out.messages ≤ most_messages)
+pub few_sent : {E : Type 0} (old new : State) (m : ToServer) (r : Result ServerOut E) → IsServer old → IfOk r (λ out. HasStepped (meaning old) m (meaning new) out) → IfOk r (λ out. length out.messages ≤ max_messages)
 few_sent old new m (Ok out) i stepped = all_end.few (meaning old) (meaning new) m out.messages i.sound i.ordered.table stepped.step
 few_sent old new m (Err e) i stepped = tt
 

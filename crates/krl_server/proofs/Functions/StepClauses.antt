@@ -161,7 +161,7 @@ rest_of done kind t outs (serves t' answers acted up rest) = record {
 abbrev pushed_by : Durable → ℕ → ℕ → PushBody → ToClient
 pushed_by d c number body = record { client = c; incarnation = incarnation_or_0 (record_of d.register c); body = told.Push d.epoch number body }
 
--- the case answers the write by a push from the server x, where as many were made as in s
+-- the case answers the write by a push from the server x, if as many were made as in s
 module _ (s x : Server) (c : ℕ) (number : ℕ) (o : Outcome) (h : Holding) (same : (x.sessions c).last_push ≡ (s.sessions c).last_push) where
   pushed_once : (s.sessions c).last_push < END → (pushes x c (push.Answer number o h)).outs ≡ push_to x c (suc (s.sessions c).last_push) (push.Answer number o h) ∷ []
   pushed_once lt = subst (λ n. (pushes x c (push.Answer number o h)).outs ≡ push_to x c (suc n) (push.Answer number o h) ∷ []) same

@@ -63,7 +63,7 @@ module _ (s : Server) (m : ToServer) where
   own_few found.Acknowledges = omega arith
   own_few (found.Lowers span keep) = omega arith
   own_few (found.Waits req point hi g) = omega arith
-  own_few (found.Writes number op) = answers_few (writes (acknowledged s m.client) m.client op (judged s m.client op)) m.client number op (judged s m.client op)
+  own_few (found.Judges number op) = answers_few (writes (acknowledged s m.client) m.client op (judged s m.client op)) m.client number op (judged s m.client op)
   own_few (found.AnswersAgain number op o) = answers_few (acknowledged s m.client) m.client number op o
 
   pub own_room : (f : Found) (w : ℕ) → own_of f ≤ room_for w f
@@ -76,7 +76,7 @@ module _ (s : Server) (m : ToServer) where
   own_room found.Acknowledges w = omega arith
   own_room (found.Lowers span keep) w = omega arith
   own_room (found.Waits req point hi g) w = omega arith
-  own_room (found.Writes number op) w = omega arith
+  own_room (found.Judges number op) w = omega arith
   own_room (found.AnswersAgain number op o) w = omega arith
 
   answers_room : (f : Found) (w u : ℕ) → (asks (meant s m.client m.body f) ≡ false → u ≤ w) → u ≤ suc w → does_answer (after_of (meant s m.client m.body f)) ≡ true → own_of f + u ≤ room_for w f
@@ -89,7 +89,7 @@ module _ (s : Server) (m : ToServer) where
   answers_room found.Acknowledges w u few more e = let x = few refl in omega (arith, x)
   answers_room (found.Lowers span keep) w u few more e = let x = few refl in omega (arith, x)
   answers_room (found.Waits req point hi g) w u few more e = omega (arith, more)
-  answers_room (found.Writes number op) w u few more e = let x = few refl in omega (arith, x)
+  answers_room (found.Judges number op) w u few more e = let x = few refl in omega (arith, x)
   answers_room (found.AnswersAgain number op o) w u few more e = let x = few refl in omega (arith, x)
 
   calls_room : (f : Found) (w u : ℕ) → (asks (meant s m.client m.body f) ≡ false → u ≤ w) → u ≤ suc w → does_call (after_of (meant s m.client m.body f)) ≡ true → own_of f + 64 * u ≤ room_for w f
@@ -102,7 +102,7 @@ module _ (s : Server) (m : ToServer) where
   calls_room found.Acknowledges w u few more e = let x = few refl in omega (arith, x)
   calls_room (found.Lowers span keep) w u few more e = absurd (cc)
   calls_room (found.Waits req point hi g) w u few more e = omega (arith, more)
-  calls_room (found.Writes number op) w u few more e = let x = few refl in omega (arith, x)
+  calls_room (found.Judges number op) w u few more e = let x = few refl in omega (arith, x)
   calls_room (found.AnswersAgain number op o) w u few more e = let x = few refl in omega (arith, x)
 
   module _ (sound : IsSound s) (table : IsTable s.durable.index s.rows) (f : Found) (is : meant s m.client m.body f ≡ case_of s m) where

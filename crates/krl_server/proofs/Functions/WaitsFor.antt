@@ -1,6 +1,6 @@
 -- The clients that a client waits for, one after another.
 use Rattle.krl_server.proofs.Names.{◌≡◌, ℕ, zero, suc, ◌+◌, ◌≤◌, ◌<◌, Bool, true, false, List, [], ◌∷◌, ◌++◌, length, refl, sym, ap, ◌∙◌, append_assoc, length-append, arith, append-nil}
-use Rattle.krl_server.proofs.Names.{if◌then◌else◌, most_clients, Server}
+use Rattle.krl_server.proofs.Names.{if◌then◌else◌, max_clients, Server}
 use Rattle.krl_server.specs.Waits.{waits_for, waited_from, waited_for}
 use Rattle.krl_server.proofs.Outputs.Numbers.{sixty_four}
 
@@ -13,7 +13,7 @@ pub record AreFound (s : Server) (c d : ℕ) (found : List ℕ) : Type 0 where
 
 module _ (s : Server) (c : ℕ) where
   pub none_found : AreFound s c 0 []
-  none_found = record { left = most_clients; clients = let e = sixty_four in omega (arith, e); few = omega arith; all = refl }
+  none_found = record { left = max_clients; clients = let e = sixty_four in omega (arith, e); few = omega arith; all = refl }
 
   -- a client more, by whether it is waited for
   abbrev more : (d k : ℕ) (b : Bool) → List ℕ

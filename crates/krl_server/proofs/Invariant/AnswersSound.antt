@@ -1,6 +1,6 @@
--- A server stays sound where it pushes and where it answers first waiters, and the missing are as they were.
+-- A server stays sound when it pushes and when it answers first waiters, and the missing are as they were.
 use Rattle.krl_server.proofs.Names.{◌≡◌, ℕ, false, refl, ap, ◌∙◌, ◌≢◌, ◌<◌, Some, List, ◌∷◌, inl, inr, sym, subst, ⊎_elim, arith, nat_lt, END, PushBody, In, ToClient, Waiter, Row, Rows}
-use Rattle.krl_server.proofs.Names.{most_clients, mode_at, set_row, set_mode, with_mode, with_queue, wanted, behind_first, dropped, raised_on, taken_after, taken, granted, most_more, asks_absent}
+use Rattle.krl_server.proofs.Names.{max_clients, mode_at, set_row, set_mode, with_mode, with_queue, wanted, behind_first, dropped, raised_on, taken_after, taken, granted, max_more, asks_absent}
 use Rattle.krl_server.proofs.Names.{Server, is_recovering, Done, acknowledged, pushes, with_rows, holdings, IsSound, Turn, next_turn, tells_absent, grants, answer_first, Answered, stops, goes_on}
 use Rattle.krl_table.proofs.Invariant.Compatible.{mode_other}
 use Rattle.krl_messages.specs.declared.to_client.PushBody.TheVariants as push
@@ -23,7 +23,7 @@ pub pushes_serve : (s : Server) (c : ℕ) (body : PushBody) → is_recovering s.
 pushes_serve s c body e = ap is_recovering (pushes_missing s c body) ∙ e
 
 -- one row of the client c is another, and who waits afterwards waited before
-pub one_sound : (s : Server) → IsSound s → (c n : ℕ) (row : Row) → ((d : ℕ) → d ≢ c → row.modes d ≡ mode_at s.rows n d) → ((m : ℕ) (v : Waiter) → In v (set_row s.rows n row m).queue → In v (s.rows m).queue) → c < most_clients → IsSound (with_rows s (set_row s.rows n row))
+pub one_sound : (s : Server) → IsSound s → (c n : ℕ) (row : Row) → ((d : ℕ) → d ≢ c → row.modes d ≡ mode_at s.rows n d) → ((m : ℕ) (v : Waiter) → In v (set_row s.rows n row m).queue → In v (s.rows m).queue) → c < max_clients → IsSound (with_rows s (set_row s.rows n row))
 one_sound s i c n row rest stayed lt = record {
   near = i.near;
   begun = i.begun;
@@ -70,13 +70,13 @@ module _ (s : Server) (i : IsSound s) (n : ℕ) (u : Waiter) (us : List Waiter) 
 
   -- the rows that a grant leaves
   abbrev all_rows : Rows
-  all_rows = raised_on (set_row s.rows n grant_row) (taken_after s.durable.index (set_row s.rows n grant_row) n u most_more) u
+  all_rows = raised_on (set_row s.rows n grant_row) (taken_after s.durable.index (set_row s.rows n grant_row) n u max_more) u
 
   pub granted_sound : IsSound (with_rows s (granted s.durable.index s.rows n))
   granted_sound = subst (λ r. IsSound (with_rows s r)) (sym (granted_is s.durable.index s.rows n u us queue))
       (along s.durable.index u (λ r. IsSound (with_rows s r)) n
       (λ r j far there is_compatible_there x. one_sound (with_rows s r) x u.client j (with_mode (r j) u.client (wanted (r j) u)) (λ d ne. mode_other (r j).modes u.client d (wanted (r j) u) ne) (λ m v at. subst (In v) (raised_queue r j u m) at) (i.clients n u at_first))
-      most_more n (set_row s.rows n grant_row) (omega arith) grant_sound)
+      max_more n (set_row s.rows n grant_row) (omega arith) grant_sound)
 
 pub turn_sound : (s : Server) (t : Turn) → IsSound s → next_turn s ≡ Some t → IsSound (answer_first s t).server
 turn_sound s t i e =

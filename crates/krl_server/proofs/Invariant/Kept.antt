@@ -1,7 +1,7 @@
 -- Each step of a server keeps its table and its register in order, and leaves nobody who could be answered.
 use Rattle.krl_server.proofs.Names.{◌≡◌, ℕ, suc, ◌<◌, true, not, Some, None, List, [], ◌∷◌, refl, sym, ap, subst, ◌∙◌, arith, ne_eqb, and_parts, same_Some, nat_lt, END, WriteOp, Outcome, ToServer}
 use Rattle.krl_server.proofs.Names.{ToClient, PushBody, eq_cases, Record, slot_of, slots, Durable, Register, record_of, with_record, new_record, left_by, HasOutcomes, op_key, noted, applied_by}
-use Rattle.krl_server.proofs.Names.{HasOutcome, blank_rows, most_clients, cleared, dropped, behind_first, taken, granted, asks_absent, is_wanted_compatible, IsTable, or_true, Server, is_recovering}
+use Rattle.krl_server.proofs.Names.{HasOutcome, blank_rows, max_clients, cleared, dropped, behind_first, taken, granted, asks_absent, is_wanted_compatible, IsTable, or_true, Server, is_recovering}
 use Rattle.krl_server.proofs.Names.{Case, Ignored, Registers, Leaves, Tells, Alarms, Rebuilds, Repeats, Acknowledges, Lowers, Waits, Judges, AnswersAgain, judged, case_of, Done, acknowledged}
 use Rattle.krl_server.proofs.Names.{rows_after, pushes, effect, Turn, turn_among, next_turn, answer_first, tells_absent, grants, can_push, Answered, stops, goes_on, Kind, Idle, kind_of, Ends}
 use Rattle.krl_server.proofs.Names.{at_once, recovers, serves, IsSettled, start, IsSound}
@@ -76,7 +76,7 @@ pushes_kept : (s : Server) (c : ℕ) (body : PushBody) → ServerKept s → Serv
 pushes_kept s c body k = if_case (λ (x : Done). ServerKept x.server) (nat_lt (s.sessions c).last_push END) _ _ (λ e. k) (λ e. k)
 
 -- a new write, in the record r
-write_kept : (s : Server) (c : ℕ) (op : WriteOp) (o : Outcome) (r : Record) → IsSound s → c < most_clients → op_key op < END → record_of s.durable.register c ≡ Some r → judged s c op ≡ o → ServerKept s → ServerKept (effects.writes (acknowledged s c) c op o)
+write_kept : (s : Server) (c : ℕ) (op : WriteOp) (o : Outcome) (r : Record) → IsSound s → c < max_clients → op_key op < END → record_of s.durable.register c ≡ Some r → judged s c op ≡ o → ServerKept s → ServerKept (effects.writes (acknowledged s c) c op o)
 write_kept s c op o r i lt under known is k = subst (λ x. IsKept (applied_by s.durable c op o x).index (rows_after s.durable.index s.rows c op o)) (sym known) (by_outcome o is)
   where
     by_outcome : (o : Outcome) → judged s c op ≡ o → IsKept (applied_by s.durable c op o (Some r)).index (rows_after s.durable.index s.rows c op o)
@@ -160,7 +160,7 @@ ends_settled done kind t outs (at_once e) h = h e
 ends_settled done kind t outs (recovers e) h = λ up. absurd (not_both (is_recovering done.server.missing) e up)
 ends_settled done kind t outs (serves t' answers a b c) h = λ up. answered_settled done.server t answers c
 
--- where nobody waits, nobody is answered
+-- if nobody waits, nobody is answered
 start_settled : (d : Durable) (ns : List ℕ) → turn_among (start d) ns ≡ None
 start_settled d [] = refl
 start_settled d (n ∷ ns) = start_settled d ns

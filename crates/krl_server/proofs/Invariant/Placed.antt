@@ -1,6 +1,6 @@
 -- After a write each waiter still stands at the slot of its point.
 use Rattle.krl_server.proofs.Names.{◌≡◌, ◌≢◌, ℕ, suc, ◌≤◌, ◌<◌, true, Some, None, refl, sym, ap, subst, ◌∙◌, ⊎_elim, arith, ne_eqb, cases_lt, nat_tests, nat_lt, nat_le, if◌then◌else◌, END, range_of}
-use Rattle.krl_server.proofs.Names.{at_or_above, Value, In, in_both, Waiter, Index, slot_of, eq_cases, Row, Rows, blank_row, most_clients, mode_at, set_row, mode_beside, split, merged, in_filter}
+use Rattle.krl_server.proofs.Names.{at_or_above, Value, In, in_both, Waiter, Index, slot_of, eq_cases, Row, Rows, blank_row, max_clients, mode_at, set_row, mode_beside, split, merged, in_filter}
 use Rattle.std.specs.FinMap as map
 use Rattle.krl_modes.specs.declared.part.KeyPart.TheVariants as key
 use Rattle.krl_modes.specs.declared.mode.Mode.TheVariants as mode
@@ -31,7 +31,7 @@ module _ (m : Index) (near : (q : ℕ) → END ≤ q → map.get m q ≡ None) (
   stands n u at = let p = placed n u at in let x = slot_here m near u.point p.0 in
       (subst (λ y. IsSlot m y) p.1 x.0, subst (λ y. InSpan m y u.point) p.1 x.1)
 
-  -- it is the slot of the point in another index, where it is a slot and no key lies between
+  -- it is the slot of the point in another index, if it is a slot and no key lies between
   there : (m' : Index) → ((q : ℕ) → END ≤ q → map.get m' q ≡ None) → (n p : ℕ) → p ≤ END → IsSlot m' n → InSpan m' n p → slot_of m' p ≡ n
   there m' near' n p le slot span = let x = slot_here m' near' p le in slot_unique m' (slot_of m' p) n p x.0 slot x.1 span
 
@@ -139,14 +139,14 @@ module _ (m : Index) (near : (q : ℕ) → END ≤ q → map.get m q ≡ None) (
 beside_nothing : mode_beside (range_of mode.N) ≡ mode.N
 beside_nothing = refl
 
-pub split_strangers : (m : Index) (rows : Rows) (k c : ℕ) → c < most_clients → ((n d : ℕ) → most_clients ≤ d → mode_at rows n d ≡ mode.N) → (n d : ℕ) → most_clients ≤ d → mode_at (split m rows k c) n d ≡ mode.N
+pub split_strangers : (m : Index) (rows : Rows) (k c : ℕ) → c < max_clients → ((n d : ℕ) → max_clients ≤ d → mode_at rows n d ≡ mode.N) → (n d : ℕ) → max_clients ≤ d → mode_at (split m rows k c) n d ≡ mode.N
 split_strangers m rows k c lt none n d le = eq_cases n k
     (λ e. ap (λ x. (split m rows k c x).modes d) e ∙ ap (λ r. r.modes d) (row_here (set_row rows (slot_of m k) _) k _)
     ∙ ap (λ b. if b then at_or_above (range_of ((rows (slot_of m k)).modes c)) key.X else mode_beside (range_of ((rows (slot_of m k)).modes d))) (ne_eqb d c (λ f. omega (arith, f, lt, le)))
     ∙ ap (λ g. mode_beside (range_of g)) (none (slot_of m k) d le))
     (λ ne. set_modes rows (slot_of m k) k d n _ _ refl ne ∙ none n d le)
 
-pub merge_strangers : (m : Index) (rows : Rows) (k : ℕ) → ((n d : ℕ) → most_clients ≤ d → mode_at rows n d ≡ mode.N) → (n d : ℕ) → most_clients ≤ d → mode_at (merged m rows k) n d ≡ mode.N
+pub merge_strangers : (m : Index) (rows : Rows) (k : ℕ) → ((n d : ℕ) → max_clients ≤ d → mode_at rows n d ≡ mode.N) → (n d : ℕ) → max_clients ≤ d → mode_at (merged m rows k) n d ≡ mode.N
 merge_strangers m rows k none n d le = eq_cases n k
     (λ e. ap (λ x. (merged m rows k x).modes d) e ∙ ap (λ r. r.modes d) (row_here (set_row rows (slot_of m (suc k)) _) k blank_row))
     (λ ne. set_modes rows (slot_of m (suc k)) k d n _ _ refl ne ∙ none n d le)

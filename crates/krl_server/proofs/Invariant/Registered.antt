@@ -61,7 +61,7 @@ answered_here s t outs (goes_on s' t' turn later e rest) h = answered_here (answ
 -- Cases
 
 module _ (s : Server) (m : ToServer) (h : AreRegistered s) where
-  -- where what survives stays
+  -- if what survives stays
   same_here : (k : Case) (r : Record) → IsFrom s m r → (effect s m k).server.durable ≡ s.durable → Came s m k → AreRegistered (effect s m k).server
   same_here k r from same came n u at = subst (λ (d : Durable). IsRegistered d.register u.client) (sym same) (⊎_elim
       (λ (old : (j : ℕ) × In u (s.rows j).queue). h old.0 u old.1)

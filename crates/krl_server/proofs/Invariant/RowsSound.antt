@@ -1,6 +1,6 @@
--- A server stays sound where it lowers a client or takes its report, and it is sound where it starts.
+-- A server stays sound when it lowers a client or takes its report, and it is sound when it starts.
 use Rattle.krl_server.proofs.Names.{◌≡◌, ◌≢◌, ℕ, ◌<◌, Bool, true, false, ◌&&◌, refl, sym, subst, ◌∙◌, arith, ◌≤◌, None, if◌then◌else◌, Mode, meet, Bounds, within, END, In, Pieces, Index, span_of}
-use Rattle.krl_server.proofs.Names.{is_slot, Durable, Row, Rows, most_clients, mode_at, with_mode, lowered, rebuilt, adopted, Server, lowers, adopts, IsSound}
+use Rattle.krl_server.proofs.Names.{is_slot, Durable, Row, Rows, max_clients, mode_at, with_mode, lowered, rebuilt, adopted, Server, lowers, adopts, IsSound}
 use Rattle.krl_table.proofs.Invariant.Compatible.{mode_other}
 use Rattle.std.specs.FinMap as map
 use Rattle.krl_server.specs.Steps as steps
@@ -21,7 +21,7 @@ module _ (m : Index) (rows : Rows) (c : ℕ) (span : Bounds) (keep : Mode) where
   pub lowered_queue : (n : ℕ) → (lowered m rows c span keep n).queue ≡ (rows n).queue
   lowered_queue n = low_row n (λ r. r.queue ≡ (rows n).queue) (λ w. refl) refl
 
-pub lowered_sound : (s : Server) (c : ℕ) (span : Bounds) (keep : Mode) → c < most_clients → IsSound s → IsSound (lowers s c span keep)
+pub lowered_sound : (s : Server) (c : ℕ) (span : Bounds) (keep : Mode) → c < max_clients → IsSound s → IsSound (lowers s c span keep)
 lowered_sound s c span keep lt i = let m = s.durable.index in record {
   near = i.near;
   begun = i.begun;
@@ -45,7 +45,7 @@ module _ (m : Index) (rows : Rows) (c : ℕ) (pieces : Pieces) where
   pub adopted_queue : (n : ℕ) → (adopted m rows c pieces n).queue ≡ (rows n).queue
   adopted_queue n = new_row n (λ r. r.queue ≡ (rows n).queue) refl refl
 
-pub adopts_sound : (s : Server) (c : ℕ) (pieces : Pieces) → c < most_clients → IsSound s → IsSound (adopts s c pieces)
+pub adopts_sound : (s : Server) (c : ℕ) (pieces : Pieces) → c < max_clients → IsSound s → IsSound (adopts s c pieces)
 adopts_sound s c pieces lt i = let m = s.durable.index in record {
   near = i.near;
   begun = i.begun;
@@ -54,6 +54,6 @@ adopts_sound s c pieces lt i = let m = s.durable.index in record {
   clients = λ n u at. i.clients n u (subst (In u) (adopted_queue m s.rows c pieces n) at);
 }
 
--- a blank table, where the index is known to end below END
+-- a blank table, if the index is known to end below END
 pub start_sound : (d : Durable) → ((q : ℕ) → END ≤ q → map.get d.index q ≡ None) → IsSound (steps.start d)
 start_sound d near = record { near = near; begun = omega arith; strangers = λ n c ge. refl; placed = λ n u at. absurd at; clients = λ n u at. absurd at }

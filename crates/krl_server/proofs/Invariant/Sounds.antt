@@ -1,6 +1,6 @@
 -- Each case leaves the server sound.
 use Rattle.krl_server.proofs.Names.{◌≡◌, ℕ, ◌≤◌, ◌<◌, false, not, Option, Some, None, refl, sym, ap, subst, ◌∙◌, ⊎_elim, END, WriteOp, Outcome, ToServer, Waiter, eq_cases, Record, slot_of, record_of}
-use Rattle.krl_server.proofs.Names.{left_by, op_key, is_applied, In, Row, Rows, most_clients, mode_at, with_queue, queue_with, cleared, in_unqueue, in_queue_with, Server, Judges, judged, case_of}
+use Rattle.krl_server.proofs.Names.{left_by, op_key, is_applied, In, Row, Rows, max_clients, mode_at, with_queue, queue_with, cleared, in_unqueue, in_queue_with, Server, Judges, judged, case_of}
 use Rattle.krl_server.proofs.Names.{effect, acknowledged, queues, departs, IsSound}
 use Rattle.krl_table.proofs.Invariant.Compatible.{mode_here, mode_other}
 use Rattle.krl_modes.specs.declared.mode.Mode.TheVariants as mode
@@ -47,7 +47,7 @@ departs_sound s c i = by_record (record_of s.durable.register c)
     }
 
 -- a waiter of a client, at a point, waits at the point's slot
-pub queues_sound : (s : Server) (u : Waiter) → u.client < most_clients → u.point ≤ END → IsSound s → IsSound (queues s u)
+pub queues_sound : (s : Server) (u : Waiter) → u.client < max_clients → u.point ≤ END → IsSound s → IsSound (queues s u)
 queues_sound s u lt le i =
     let n = slot_of s.durable.index u.point in
     let row : Row = with_queue (s.rows n) (queue_with (s.rows n) u) in
@@ -63,7 +63,7 @@ queues_sound s u lt le i =
           (in_row s.rows n row m v at);
       clients = λ m v at. ⊎_elim
           (λ (x : (m ≡ n) × In v row.queue). ⊎_elim
-          (λ (e : v ≡ u). subst (λ y. y.client < most_clients) (sym e) lt)
+          (λ (e : v ≡ u). subst (λ y. y.client < max_clients) (sym e) lt)
           (λ (old : In v (s.rows n).queue). i.clients n v old) (in_queue_with (s.rows n) u v x.1))
           (λ (old : In v (s.rows m).queue). i.clients m v old)
           (in_row s.rows n row m v at);

@@ -1,8 +1,8 @@
 -- Each call keeps what holds of every table. Insert and delete are the subject of another file.
 use Rattle.krl_server.proofs.Names.{◌≡◌, ◌≢◌, ℕ, ◌≤◌, ◌<◌, Bool, true, false, not, ◌&&◌, None, List, [], ◌∷◌, inl, inr, refl, sym, ap, subst, ◌∙◌, ⊎_elim, arith, nat_eq, ne_eqb, fun_ext, not-false}
 use Rattle.krl_server.proofs.Names.{is_some, if◌then◌else◌, END, Mode, compatible, meet, Bounds, within, Pieces, In, Waiter, first_of, eq_cases, Index, slot_of, slots, is_slot, span_of, Row, Rows}
-use Rattle.krl_server.proofs.Names.{most_clients, mode_at, set_row, set_mode, is_compatible_there, waits, with_mode, with_queue, lowered, unqueue, cleared, queue_with, enqueued, wanted, behind_first}
-use Rattle.krl_server.proofs.Names.{dropped, raised, granted, most_more, rebuilt, conflicts, adopted, is_wanted_compatible, IsPlaced, times, AreCompatible, one, times_more, times_fewer, times_with}
+use Rattle.krl_server.proofs.Names.{max_clients, mode_at, set_row, set_mode, is_compatible_there, waits, with_mode, with_queue, lowered, unqueue, cleared, queue_with, enqueued, wanted, behind_first}
+use Rattle.krl_server.proofs.Names.{dropped, raised, granted, max_more, rebuilt, conflicts, adopted, is_wanted_compatible, IsPlaced, times, AreCompatible, one, times_more, times_fewer, times_with}
 use Rattle.krl_server.proofs.Names.{none_times, alone_fewer, alone_new, meet_compatible, none_compatible, turned, other_compatible, in_unqueue, in_queue_with}
 use Rattle.krl_table.proofs.Invariant.Compatible.{mode_here, mode_other}
 use Rattle.std.specs.FinMap as fin
@@ -27,7 +27,7 @@ slot_there m near p le = by_test (is_slot m (slot_of m p)) refl
     by_test false e = let x = is_slot_false m near (slot_of m p) e in absurd ((slot_here m near p le).0 x.0 x.1)
 
 -- on some slots another mode for one client, compatible with those of the others
-pub changed_kept : (m : Index) (old new : Rows) (c : ℕ) → c < most_clients → IsKept m old → ((n : ℕ) → is_slot m n ≡ false → new n ≡ old n) → ((n : ℕ) → (new n).queue ≡ (old n).queue) → ((n d : ℕ) → d ≢ c → mode_at new n d ≡ mode_at old n d) → ((n d : ℕ) → d ≢ c → compatible (mode_at new n c) (mode_at old n d) ≡ true) → IsKept m new
+pub changed_kept : (m : Index) (old new : Rows) (c : ℕ) → c < max_clients → IsKept m old → ((n : ℕ) → is_slot m n ≡ false → new n ≡ old n) → ((n : ℕ) → (new n).queue ≡ (old n).queue) → ((n d : ℕ) → d ≢ c → mode_at new n d ≡ mode_at old n d) → ((n d : ℕ) → d ≢ c → compatible (mode_at new n c) (mode_at old n d) ≡ true) → IsKept m new
 changed_kept m old new c lt k off queue same fit = record {
   blank = λ n e. off n e ∙ k.blank n e;
   strangers = λ n d ge. same n d (λ e. omega (arith, e, lt, ge)) ∙ k.strangers n d ge;
@@ -36,7 +36,7 @@ changed_kept m old new c lt k off queue same fit = record {
   alone = λ d. alone_fewer (λ j. times d (old j).queue) (λ j. times d (new j).queue) (k.alone d) (λ j. let x = ap (times d) (queue j) in omega (arith, x));
 }
 
-pub lowered_kept : (m : Index) (rows : Rows) (c : ℕ) (span : Bounds) (keep : Mode) → c < most_clients → IsKept m rows → IsKept m (lowered m rows c span keep)
+pub lowered_kept : (m : Index) (rows : Rows) (c : ℕ) (span : Bounds) (keep : Mode) → c < max_clients → IsKept m rows → IsKept m (lowered m rows c span keep)
 lowered_kept m rows c span keep lt k = changed_kept m rows (lowered m rows c span keep) c lt k
     (λ n e. ap (λ b. if b && within (span_of m n) span then with_mode (rows n) c (meet (mode_at rows n c) keep) else rows n) e)
     (lowered_queue m rows c span keep)
@@ -45,7 +45,7 @@ lowered_kept m rows c span keep lt k = changed_kept m rows (lowered m rows c spa
     (λ w. subst (λ x. compatible x (mode_at rows n d) ≡ true) (sym (mode_here (rows n).modes c (meet (mode_at rows n c) keep))) (meet_compatible (mode_at rows n c) (mode_at rows n d) keep (k.beside n c d (λ e. ne (sym e)))))
     (k.beside n c d (λ e. ne (sym e))))
 
-pub adopted_kept : (m : Index) (rows : Rows) (c : ℕ) (pieces : Pieces) → c < most_clients → conflicts m rows c pieces ≡ false → IsKept m rows → IsKept m (adopted m rows c pieces)
+pub adopted_kept : (m : Index) (rows : Rows) (c : ℕ) (pieces : Pieces) → c < max_clients → conflicts m rows c pieces ≡ false → IsKept m rows → IsKept m (adopted m rows c pieces)
 adopted_kept m rows c pieces lt fine k = changed_kept m rows (adopted m rows c pieces) c lt k
     (λ n e. ap (λ b. if b then with_mode (rows n) c (rebuilt m pieces n) else rows n) e)
     (λ n. if_case (λ (r : Row). r.queue ≡ (rows n).queue) (is_slot m n) _ _ (λ e. refl) (λ e. refl))
@@ -79,7 +79,7 @@ nowhere m rows c k e n = by_slot (is_slot m n) refl
     by_slot false f = subst (λ r. times c r.queue ≡ 0) (sym (k.blank n f)) (omega arith)
 
 -- one row with other waiters, of whom no client has more than before but those for whom that is allowed
-pub enqueued_kept : (m : Index) (rows : Rows) (u : Waiter) → ((q : ℕ) → END ≤ q → fin.get m q ≡ None) → u.client < most_clients → u.point ≤ END → waits m rows u.client ≡ false → IsKept m rows → IsKept m (enqueued m rows u)
+pub enqueued_kept : (m : Index) (rows : Rows) (u : Waiter) → ((q : ℕ) → END ≤ q → fin.get m q ≡ None) → u.client < max_clients → u.point ≤ END → waits m rows u.client ≡ false → IsKept m rows → IsKept m (enqueued m rows u)
 enqueued_kept m rows u near lt le free k = record {
   blank = λ j e. row_other rows n row j (apart j e) ∙ k.blank j e;
   strangers = λ j d ge. sym (row_modes rows n row d refl j) ∙ k.strangers j d ge;
@@ -152,7 +152,7 @@ dropped_kept m rows n u us k queue = subst (IsKept m) (ap (λ q. set_row rows n 
 
 pub granted_kept : (m : Index) (rows : Rows) (n : ℕ) (u : Waiter) (us : List Waiter) → IsKept m rows → (rows n).queue ≡ u ∷ us → is_wanted_compatible rows n u ≡ true → IsKept m (granted m rows n)
 granted_kept m rows n u us k queue can = subst (IsKept m) (sym (granted_is m rows n u us queue))
-    (along m u (IsKept m) n raised_kept most_more n (set_row rows n first) (omega arith)
+    (along m u (IsKept m) n raised_kept max_more n (set_row rows n first) (omega arith)
     (front_kept m rows n u us first k queue refl
     (λ d ne. mode_other (rows n).modes u.client d (wanted (rows n) u) ne)
     (λ d ne. subst (λ x. compatible x (mode_at rows n d) ≡ true) (sym (mode_here (rows n).modes u.client (wanted (rows n) u))) (compatible_row rows n u.client (wanted (rows n) u) (k.strangers n) can d ne))))
@@ -160,7 +160,7 @@ granted_kept m rows n u us k queue can = subst (IsKept m) (sym (granted_is m row
     first : Row
     first = record { modes = set_mode (rows n).modes u.client (wanted (rows n) u); queue = us }
 
-    lt : u.client < most_clients
+    lt : u.client < max_clients
     lt = (k.placed n u (subst (In u) (sym queue) (inl refl))).0
 
     raised_kept : (r : Rows) (j : ℕ) → n < j → is_slot m j ≡ true → is_wanted_compatible r j u ≡ true → IsKept m r → IsKept m (raised r j u)

@@ -1,6 +1,6 @@
 -- A write that is Applied keeps what holds of every table.
 use Rattle.krl_server.proofs.Names.{◌≡◌, ◌≢◌, ℕ, suc, ◌+◌, ◌≤◌, ◌<◌, true, false, ◌||◌, Some, None, ◌++◌, refl, sym, ap, ◌∙◌, arith, nat_eq, ne_eqb, is_some, END, range_of, Value, WriteOp}
-use Rattle.krl_server.proofs.Names.{up_to, beyond, eq_cases, Index, slot_of, is_slot, op_key, held, judge, written, Row, Rows, blank_row, most_clients, mode_at, column, set_row, with_queue}
+use Rattle.krl_server.proofs.Names.{up_to, beyond, eq_cases, Index, slot_of, is_slot, op_key, held, judge, written, Row, Rows, blank_row, max_clients, mode_at, column, set_row, with_queue}
 use Rattle.krl_server.proofs.Names.{split_modes, split, merged, rows_written, times, AreCompatible, times_both, times_parted, AreAlone, alone_moved, split_compatible}
 use Rattle.std.specs.FinMap as map
 use Rattle.krl_messages.specs.declared.write_op.WriteOp.TheVariants as write
@@ -44,7 +44,7 @@ module _ (m : Index) (near : (q : ℕ) → END ≤ q → map.get m q ≡ None) (
           (λ f. absurd (not_both (is_slot (map.insert m k v) j) (ap (λ o. nat_eq j END || is_some o) (ap (map.get (map.insert m k v)) f ∙ get_here m k v) ∙ or-true (nat_eq j END)) e))
           (λ ne. ap (λ o. nat_eq j END || is_some o) (sym (get_other m k v j ne)) ∙ e)
 
-  split_kept : (k : ℕ) (v : Value) (c : ℕ) → k < END → c < most_clients → map.get m k ≡ None → lets_insert (range_of (mode_at rows (slot_of m k) c)) ≡ true → IsKept (map.insert m k v) (split m rows k c)
+  split_kept : (k : ℕ) (v : Value) (c : ℕ) → k < END → c < max_clients → map.get m k ≡ None → lets_insert (range_of (mode_at rows (slot_of m k) c)) ≡ true → IsKept (map.insert m k v) (split m rows k c)
   split_kept k v c lt own absent may = record {
     blank = λ j e. two_rows rows n k j at_n at_k (λ r. r ≡ blank_row)
         (λ f. absurd (not_both (is_slot (map.insert m k v) j) (ap (λ o. nat_eq j END || is_some o) (ap (map.get (map.insert m k v)) f ∙ get_here m k v) ∙ or-true (nat_eq j END)) e))
@@ -107,7 +107,7 @@ module _ (m : Index) (near : (q : ℕ) → END ≤ q → map.get m q ≡ None) (
       still j ne e = ap (λ o. nat_eq j END || is_some o) (sym (gone_other m k j ne)) ∙ e
 
   -- the write of c
-  pub written_kept : (room c : ℕ) (op : WriteOp) → c < most_clients → op_key op < END → judge room m op (held m (column rows c) op) ≡ outcome.Applied → IsKept (written m op) (rows_written m rows c op)
+  pub written_kept : (room c : ℕ) (op : WriteOp) → c < max_clients → op_key op < END → judge room m op (held m (column rows c) op) ≡ outcome.Applied → IsKept (written m op) (rows_written m rows c op)
   written_kept room c (write.Insert k v) own lt e = let x = insert_may (is_some (map.get m k)) _ _ e in split_kept k v c lt own (None-if_not_some (map.get m k) x.0) x.1
   written_kept room c (write.Put k v) own lt e = let p = Some-if_some (map.get m k) (change_may (is_some (map.get m k)) _ e).0 in put_kept k v p.0 lt p.1
   written_kept room c (write.Delete k) own lt e = let p = Some-if_some (map.get m k) (change_may (is_some (map.get m k)) _ e).0 in merge_kept k p.0 lt p.1

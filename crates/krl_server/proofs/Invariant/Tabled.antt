@@ -1,7 +1,7 @@
 -- What holds of every table, in a form that is easy to keep; and what keeps it.
 use Rattle.krl_server.proofs.Names.{◌≡◌, ◌≢◌, ℕ, zero, suc, ◌+◌, ◌≤◌, ◌<◌, Bool, true, false, ◌||◌, ◌&&◌, Some, None, List, [], ◌∷◌, ◌++◌, inl, inr, map, refl, sym, ap, subst, ◌∙◌, ⊎_elim, cond}
 use Rattle.krl_server.proofs.Names.{arith, nat_eq, ne_eqb, cases_lt, nat_tests, is_some, AllByRecursion, list_all, list_any, nat_cmp, eq_by_cmp, find, END, Mode, compatible, Value, In, in_to_all}
-use Rattle.krl_server.proofs.Names.{Waiter, first_of, eq_cases, Index, slots, is_slot, Rows, blank_row, most_clients, mode_at, is_compatible_there, IsPlaced, IsTable, times, AreCompatible}
+use Rattle.krl_server.proofs.Names.{Waiter, first_of, eq_cases, Index, slots, is_slot, Rows, blank_row, max_clients, mode_at, is_compatible_there, IsPlaced, IsTable, times, AreCompatible}
 use Rattle.krl_server.proofs.Names.{none_times, times_none, AreAlone, alone_here, none_compatible, or_true, all_below_at}
 use Rattle.std.specs.FinMap as fin
 use Rattle.krl_modes.specs.declared.mode.Mode.TheVariants as mode
@@ -47,17 +47,17 @@ pub same_compatible : (old new : ℕ → Mode) → ((d : ℕ) → new d ≡ old 
 same_compatible old new same h c d ne = subst (λ x. compatible x (new d) ≡ true) (sym (same c)) (subst (λ x. compatible (old c) x ≡ true) (sym (same d)) (h c d ne))
 
 -- a compatible mode for one client leaves all compatible
-pub compatible_row : (rows : Rows) (n c : ℕ) (g : Mode) → ((d : ℕ) → most_clients ≤ d → mode_at rows n d ≡ mode.N) → is_compatible_there rows n c g ≡ true → (d : ℕ) → d ≢ c → compatible g (mode_at rows n d) ≡ true
+pub compatible_row : (rows : Rows) (n c : ℕ) (g : Mode) → ((d : ℕ) → max_clients ≤ d → mode_at rows n d ≡ mode.N) → is_compatible_there rows n c g ≡ true → (d : ℕ) → d ≢ c → compatible g (mode_at rows n d) ≡ true
 compatible_row rows n c g strangers e d ne = ⊎_elim
-    (λ (lt : d < most_clients). or_true (nat_eq d c) (compatible g (mode_at rows n d)) (all_below_at most_clients (λ x. nat_eq x c || compatible g (mode_at rows n x)) d e lt) (ne_eqb d c ne))
-    (λ (ge : most_clients ≤ d). subst (λ x. compatible g x ≡ true) (sym (strangers d ge)) (none_compatible g))
-    (cases_lt d most_clients)
+    (λ (lt : d < max_clients). or_true (nat_eq d c) (compatible g (mode_at rows n d)) (all_below_at max_clients (λ x. nat_eq x c || compatible g (mode_at rows n x)) d e lt) (ne_eqb d c ne))
+    (λ (ge : max_clients ≤ d). subst (λ x. compatible g x ≡ true) (sym (strangers d ge)) (none_compatible g))
+    (cases_lt d max_clients)
 
 -- Tables
 
 pub record IsKept (m : Index) (rows : Rows) : Type 0 where
   pub blank : (n : ℕ) → is_slot m n ≡ false → rows n ≡ blank_row
-  pub strangers : (n c : ℕ) → most_clients ≤ c → mode_at rows n c ≡ mode.N
+  pub strangers : (n c : ℕ) → max_clients ≤ c → mode_at rows n c ≡ mode.N
   pub beside : (n : ℕ) → AreCompatible (rows n).modes
   pub placed : (n : ℕ) (u : Waiter) → In u (rows n).queue → IsPlaced m n u
   pub alone : (c : ℕ) → AreAlone (λ n. times c (rows n).queue)

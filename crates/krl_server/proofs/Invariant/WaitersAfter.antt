@@ -1,6 +1,6 @@
 -- Who waits after a case, and how many.
 use Rattle.krl_server.proofs.Names.{◌≡◌, ℕ, ◌<◌, Bool, true, false, ◌⊎◌, inl, inr, refl, ap, subst, ⊎_elim, if◌then◌else◌, ToServer, Outcome, WriteOp, Waiter, op_key, END, In, slot_of, is_slot, Row}
-use Rattle.krl_server.proofs.Names.{most_clients, with_mode, with_queue, queue_with, in_unqueue, in_queue_with, Server, Case, Ignored, Registers, Leaves, Tells, Alarms, Rebuilds, Repeats}
+use Rattle.krl_server.proofs.Names.{max_clients, with_mode, with_queue, queue_with, in_unqueue, in_queue_with, Server, Case, Ignored, Registers, Leaves, Tells, Alarms, Rebuilds, Repeats}
 use Rattle.krl_server.proofs.Names.{Acknowledges, Lowers, Waits, Judges, AnswersAgain, case_of, judged, acknowledged, writes, rows_after, holding, effect, IsSound}
 use Rattle.krl_messages.specs.declared.to_client.PushBody.TheVariants as push
 use Rattle.krl_messages.specs.declared.outcome.Outcome.TheVariants as outcome
@@ -34,7 +34,7 @@ kept_queue true r x e = e
 kept_queue false r x e = refl
 
 module _ (s : Server) (m : ToServer) (sound : IsSound s) where
-  came_written : (op : WriteOp) (o : Outcome) → m.client < most_clients → op_key op < END → judged s m.client op ≡ o → (n : ℕ) (u : Waiter) → In u (rows_after s.durable.index s.rows m.client op o n).queue → (j : ℕ) × In u (s.rows j).queue
+  came_written : (op : WriteOp) (o : Outcome) → m.client < max_clients → op_key op < END → judged s m.client op ≡ o → (n : ℕ) (u : Waiter) → In u (rows_after s.durable.index s.rows m.client op o n).queue → (j : ℕ) × In u (s.rows j).queue
   came_written op outcome.Applied own under e n u at = (lasts s m.client op sound own under e).from n u at
   came_written op outcome.Exists own under e n u at = (n, at)
   came_written op outcome.Absent own under e n u at = (n, at)

@@ -2,7 +2,7 @@
 use Rattle.krl_server.proofs.Names.{◌≡◌, ◌≢◌, ℕ, suc, ◌+◌, ◌-◌, ◌≤◌, ◌<◌, Bool, true, false, not, cond, ◌||◌, Some, None, List, [], ◌∷◌, length, ◌⊎◌, inl, inr, refl, sym, ap, subst, ◌∙◌, ⊎_elim}
 use Rattle.krl_server.proofs.Names.{arith, nat_eq, eq-eqb, eqb-true, ltb-true, ltb-false, eqb-false, or_parts, not-false, none-some, same_Some, nat_lt, is_some, if◌then◌else◌, END, WriteOp, Outcome}
 use Rattle.krl_server.proofs.Names.{ToServer, ToClient, PushBody, eq_cases, Record, Index, slot_of, Register, Durable, record_of, with_record, new_record, left_by, missing_order, op_key, In}
-use Rattle.krl_server.proofs.Names.{judge, judged_insert, noted, index_after, applied_by, Rows, most_clients, dropped, granted, asks_absent, Session, Server, is_recovering, lists}
+use Rattle.krl_server.proofs.Names.{judge, judged_insert, noted, index_after, applied_by, Rows, max_clients, dropped, granted, asks_absent, Session, Server, is_recovering, lists}
 use Rattle.krl_server.proofs.Names.{unlist, set_session, blank_session, Ignored, judged, case_of, case_of_record, is_malformed, Done, acknowledged, pushes, effect, Turn, answer_first, tells_absent}
 use Rattle.krl_server.proofs.Names.{grants, Answered, stops, goes_on, Ends, Kind, at_once, recovers, serves, start, can_start, kind_of, AreApart, clients_of, IsEntry, IsDurableWithin, IsWithin}
 use Rattle.krl_server.proofs.Names.{ServerWithin}
@@ -195,7 +195,7 @@ answered_within s t outs (goes_on s' t' turn later e rest) w = answered_within (
 -- Effects
 
 module _ (s : Server) (m : ToServer) (w : IsWithin s) where
-  registers_within : m.client < most_clients → 1 ≤ m.incarnation → m.incarnation ≤ END → IsWithin (effects.registers s m.client m.incarnation)
+  registers_within : m.client < max_clients → 1 ≤ m.incarnation → m.incarnation ≤ END → IsWithin (effects.registers s m.client m.incarnation)
   registers_within lt some high = record {
     durable = with_within s.durable m.client (new_record m.incarnation) (lt, some, high, omega arith) w.durable;
     last_push = sessions_within s.sessions m.client blank_session (omega arith) w.last_push;
@@ -256,7 +256,7 @@ module _ (s : Server) (m : ToServer) (w : IsWithin s) where
       by_malformed : (b : Bool) → is_malformed m ≡ b → IsWithin (effect s m (case_of s m)).server
       by_malformed true e = subst (λ k. IsWithin (effect s m k).server) (sym (ap (λ b. if b then Ignored else case_of_record s m (record_of s.durable.register m.client)) e)) w
       by_malformed false e =
-          let x = or_parts (not (nat_lt m.client most_clients)) (nat_eq m.incarnation 0 || nat_lt END m.incarnation) e in
+          let x = or_parts (not (nat_lt m.client max_clients)) (nat_eq m.incarnation 0 || nat_lt END m.incarnation) e in
           let y = or_parts (nat_eq m.incarnation 0) (nat_lt END m.incarnation) x.1 in
           of_known (let ne = eqb-false m.incarnation 0 y.0 in omega (arith, ne)) (ltb-false END m.incarnation y.1)
 
@@ -285,6 +285,6 @@ all_within = record {
   registered_step = step_here;
   registered_start = λ d n u at. absurd at;
   start = start_within;
-  few_known = λ d w. subst (λ n. n ≤ most_clients) (length_clients d.register) (few_apart most_clients (clients_of d.register) w.once (λ c at. let x = in_known d.register c at in (w.known c x.0 x.1).0));
-  few_missing = λ s w. few_apart most_clients s.missing w.missing_once (λ c at. let x = w.missing c (listed s.missing c at) in (w.durable.known c x.0 x.1).0);
+  few_known = λ d w. subst (λ n. n ≤ max_clients) (length_clients d.register) (few_apart max_clients (clients_of d.register) w.once (λ c at. let x = in_known d.register c at in (w.known c x.0 x.1).0));
+  few_missing = λ s w. few_apart max_clients s.missing w.missing_once (λ c at. let x = w.missing c (listed s.missing c at) in (w.durable.known c x.0 x.1).0);
 }

@@ -1,6 +1,6 @@
--- A server stays sound where it judges a new write.
+-- A server stays sound when it judges a new write.
 use Rattle.krl_server.proofs.Names.{◌≡◌, ℕ, false, Some, refl, sym, ap, ◌∙◌, ◌≤◌, ◌<◌, Bool, true, None, subst, arith, is_some, END, WriteOp, Outcome, is_applied, op_key, ToServer, Record, Index}
-use Rattle.krl_server.proofs.Names.{Durable, record_of, with_record, noted, index_after, applied_by, applied, written, judged_insert, judged_change, Rows, most_clients, mode_at, Server, rows_after}
+use Rattle.krl_server.proofs.Names.{Durable, record_of, with_record, noted, index_after, applied_by, applied, written, judged_insert, judged_change, Rows, max_clients, mode_at, Server, rows_after}
 use Rattle.krl_server.proofs.Names.{writes, acknowledged, rows_written, answers, effect, Judges, judged, IsSound}
 use Rattle.std.specs.FinMap as map
 use Rattle.krl_modes.specs.declared.mode.Mode.TheVariants as mode
@@ -40,7 +40,7 @@ refusal_is s c op o r known not =
     ∙ ap (λ d. record s { durable = d }) (sym (applied_is s.durable c op o r known))
     ∙ ap (λ x. record s { durable = applied s.durable c op o; rows = x }) (sym (rows_kept s.durable.index s.rows c op o not))
 
--- the server after the write, where it makes this of the index and the rows
+-- the server after the write, if it makes this of the index and the rows
 abbrev pub with_write : Server → ℕ → Record → Index → Rows → Server
 with_write s c r index rows = record (acknowledged s c) { durable = record s.durable { index = index; register = with_record s.durable.register c (noted r outcome.Applied) }; rows = rows }
 
@@ -65,9 +65,9 @@ pub record Lasts (s : Server) (c : ℕ) (op : WriteOp) : Type 0 where
   pub near : (q : ℕ) → END ≤ q → map.get (written s.durable.index op) q ≡ None
   pub placed : ArePlaced (written s.durable.index op) (rows_written s.durable.index s.rows c op)
   pub from : ComeFrom s.rows (rows_written s.durable.index s.rows c op)
-  pub strangers : (n d : ℕ) → most_clients ≤ d → mode_at (rows_written s.durable.index s.rows c op) n d ≡ mode.N
+  pub strangers : (n d : ℕ) → max_clients ≤ d → mode_at (rows_written s.durable.index s.rows c op) n d ≡ mode.N
 
-pub lasts : (s : Server) (c : ℕ) (op : WriteOp) → IsSound s → c < most_clients → op_key op < END → judged s c op ≡ outcome.Applied → Lasts s c op
+pub lasts : (s : Server) (c : ℕ) (op : WriteOp) → IsSound s → c < max_clients → op_key op < END → judged s c op ≡ outcome.Applied → Lasts s c op
 lasts s c (write.Insert k v) i own under e =
     let absent = None-if_not_some (map.get s.durable.index k) (insert_may (is_some (map.get s.durable.index k)) _ _ e).0 in
     let near : (q : ℕ) → END ≤ q → map.get (map.insert s.durable.index k v) q ≡ None = λ q le. get_other s.durable.index k v q (λ f. omega (arith, f, le, under)) ∙ i.near q le in
@@ -99,7 +99,7 @@ lasts s c (write.Delete k) i own under e =
 pub lasts_sound : (s : Server) (c : ℕ) (op : WriteOp) (r : Record) → IsSound s → Lasts s c op → IsSound (with_write s c r (written s.durable.index op) (rows_written s.durable.index s.rows c op))
 lasts_sound s c op r i l = record { near = l.near; begun = i.begun; strangers = l.strangers; placed = l.placed; clients = λ n u at. let f = l.from n u at in i.clients f.0 u f.1 }
 
-pub writes_sound : (s : Server) (m : ToServer) (number : ℕ) (op : WriteOp) (r : Record) → record_of s.durable.register m.client ≡ Some r → IsSound s → m.client < most_clients → op_key op < END → judged s m.client op ≡ outcome.Applied → IsSound (effect s m (Judges number op outcome.Applied)).server
+pub writes_sound : (s : Server) (m : ToServer) (number : ℕ) (op : WriteOp) (r : Record) → record_of s.durable.register m.client ≡ Some r → IsSound s → m.client < max_clients → op_key op < END → judged s m.client op ≡ outcome.Applied → IsSound (effect s m (Judges number op outcome.Applied)).server
 writes_sound s m number op r known i own under e =
     subst (λ t. IsSound (answers t m.client number op outcome.Applied).server) (writes_is s m.client op r known)
     (pushes_sound (with_write s m.client r (written s.durable.index op) (rows_written s.durable.index s.rows m.client op)) m.client _ (lasts_sound s m.client op r i (lasts s m.client op i own under e)))

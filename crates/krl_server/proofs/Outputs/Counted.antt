@@ -1,7 +1,7 @@
 -- Few wait, and so few are answered and few are called back.
 use Rattle.krl_server.proofs.Names.{◌≡◌, ℕ, zero, suc, ◌+◌, ◌≤◌, ◌<◌, Bool, true, false, Option, Some, None, List, [], ◌∷◌, ◌++◌, map, length, inl, inr, refl, sym, ap, subst, ◌∙◌, ⊎_elim, arith}
 use Rattle.krl_server.proofs.Names.{nat_eq, eq-eqb, ne_eqb, cases_lt, none-some, is_some, AllByRecursion, nat_cmp, find, END, Value, In, Waiter, first_of, eq_cases, Index, slots}
-use Rattle.krl_server.proofs.Names.{Rows, one, times, times_more, none_times, most_clients, IsPlaced, IsTable, waiting_on, AreApart, Rises, find_here, From, from_above, find_past, keys_of_map_rise}
+use Rattle.krl_server.proofs.Names.{Rows, one, times, times_more, none_times, max_clients, IsPlaced, IsTable, waiting_on, AreApart, Rises, find_here, From, from_above, find_past, keys_of_map_rise}
 use Rattle.std.specs.FinMap as map
 
 -- Slots stand once in their list
@@ -139,13 +139,13 @@ module _ (m : Index) (rows : Rows) (table : IsTable m rows) where
       omega (arith, here, rest))
       (cases_lt (times c (rows n).queue) 1)
 
-  pub clients_of : (n : ℕ) (us : List Waiter) → AllByRecursion (IsPlaced m n) us → AllByRecursion (λ u. u.client < most_clients) us
+  pub clients_of : (n : ℕ) (us : List Waiter) → AllByRecursion (IsPlaced m n) us → AllByRecursion (λ u. u.client < max_clients) us
   clients_of n [] h = tt
   clients_of n (u ∷ us) h = (h.0.0, clients_of n us h.1)
 
   -- no more wait than there are clients
-  pub few_wait : (ns : List ℕ) → AreApart ns → waiting_on rows ns ≤ most_clients
+  pub few_wait : (ns : List ℕ) → AreApart ns → waiting_on rows ns ≤ max_clients
   few_wait ns h =
-      let is = slots_are rows most_clients ns (λ k. clients_of k (rows k).queue (table.placed k)) in
-      let ones = sum_ones most_clients (λ c. times_on rows c ns) (λ c. once_on c ns h) in
+      let is = slots_are rows max_clients ns (λ k. clients_of k (rows k).queue (table.placed k)) in
+      let ones = sum_ones max_clients (λ c. times_on rows c ns) (λ c. once_on c ns h) in
       omega (arith, is, ones)

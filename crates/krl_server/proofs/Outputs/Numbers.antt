@@ -1,10 +1,10 @@
 -- A step or nudge sends few messages; and all that holds of the end of a step.
 use Rattle.std.proofs.Common.{◌≡◌, ℕ, zero, suc, ◌+◌, ◌*◌, ◌≤◌, ◌<◌, Bool, true, false, ◌||◌, Option, Some, None, List, [], ◌∷◌, ◌++◌, length, inl, refl, sym, ap, subst, arith, length-append, nat_eq, eq-eqb}
 use Rattle.krl_server.proofs.Names.{if◌then◌else◌, compatible, cap, ToClient, PushBody, ToServer, WriteOp, Outcome, Waiter, eq_cases, Record, slot_of, slots, span_of, op_key, In, record_of}
-use Rattle.krl_server.proofs.Names.{most_clients, mode_at, wanted, asks_absent, IsTable, Server, is_recovering, lists, Case, Ignored, Registers, Leaves, Tells, Alarms, Rebuilds, Repeats}
+use Rattle.krl_server.proofs.Names.{max_clients, mode_at, wanted, asks_absent, IsTable, Server, is_recovering, lists, Case, Ignored, Registers, Leaves, Tells, Alarms, Rebuilds, Repeats}
 use Rattle.krl_server.proofs.Names.{Acknowledges, Lowers, Waits, Judges, AnswersAgain, case_of, callback_to, epoch_to, holding, acknowledged, writes, answers, effect, stops, is_compatible}
 use Rattle.krl_server.proofs.Names.{callbacks_from, callbacks_for, callbacks_at, callbacks_among, callbacks_of, callbacks_of_among, Kind, Idle, Quiet, Acts, kind_of, calls_of, at_once, recovers}
-use Rattle.krl_server.proofs.Names.{serves, ServerStep, nudge_served, nudge_missing, nudge_known, nudge, IsSound, waiting_on, waiting, most_messages, StepsEnd}
+use Rattle.krl_server.proofs.Names.{serves, ServerStep, nudge_served, nudge_missing, nudge_known, nudge, IsSound, waiting_on, waiting, max_messages, StepsEnd}
 use Rattle.krl_messages.specs.declared.to_client.PushBody.TheVariants as push
 use Rattle.krl_server.proofs.Invariant.AnswersSound.{answering_sound}
 use Rattle.krl_server.proofs.Outputs.Ends.{pushes_few, answered_less, step_ends, one_end}
@@ -13,8 +13,8 @@ use Rattle.krl_server.proofs.Invariant.Kept.{effect_table}
 use Rattle.krl_server.proofs.Outputs.Counted.{slots_apart, few_wait}
 pub use Rattle.krl_table.proofs.Rows.Below.{clients_are as sixty_four}
 
-many : most_messages ≡ 4097
-unfolding most_messages
+many : max_messages ≡ 4097
+unfolding max_messages
 many = refl
 
 -- Callbacks
@@ -39,14 +39,14 @@ from_others s n u d (suc k) low high = eq_cases d u.client
     by_compatible true ih = omega (arith, ih)
     by_compatible false ih = omega (arith, ih)
 
-pub for_few : (s : Server) (n : ℕ) (u : Waiter) → u.client < most_clients → length (callbacks_for s n u) ≤ 63
+pub for_few : (s : Server) (n : ℕ) (u : Waiter) → u.client < max_clients → length (callbacks_for s n u) ≤ 63
 for_few s n u lt = by_absent (asks_absent s.durable.index u)
   where
-    by_absent : (b : Bool) → length (if b then [] else callbacks_from s n u 0 most_clients) ≤ 63
+    by_absent : (b : Bool) → length (if b then [] else callbacks_from s n u 0 max_clients) ≤ 63
     by_absent true = omega arith
-    by_absent false = let x = from_others s n u 0 most_clients (omega arith) (omega (arith, lt)) in omega (arith, x, sixty_four)
+    by_absent false = let x = from_others s n u 0 max_clients (omega arith) (omega (arith, lt)) in omega (arith, x, sixty_four)
 
-at_few : (s : Server) (n : ℕ) (us : List Waiter) → ((u : Waiter) → In u us → u.client < most_clients) → length (callbacks_at s n us) ≤ 63 * length us
+at_few : (s : Server) (n : ℕ) (us : List Waiter) → ((u : Waiter) → In u us → u.client < max_clients) → length (callbacks_at s n us) ≤ 63 * length us
 at_few s n [] h = omega arith
 at_few s n (u ∷ us) h = let x = for_few s n u (h u (inl refl)) in omega (arith, x)
 
@@ -99,7 +99,7 @@ effect_few s m (AnswersAgain number op o) = answers_few (acknowledged s m.client
 pub no_more_wait : (s : Server) → IsSound s → IsTable s.durable.index s.rows → waiting s ≤ 64
 no_more_wait s i table = let x = few_wait s.durable.index s.rows table (slots s.durable.index) (slots_apart s.durable.index i.near) in omega (arith, x, sixty_four)
 
-pub step_few : (s : Server) (m : ToServer) (t : Server) (outs : List ToClient) → IsSound (effect s m (case_of s m)).server → IsTable (effect s m (case_of s m)).server.durable.index (effect s m (case_of s m)).server.rows → ServerStep s m t outs → length outs ≤ most_messages
+pub step_few : (s : Server) (m : ToServer) (t : Server) (outs : List ToClient) → IsSound (effect s m (case_of s m)).server → IsTable (effect s m (case_of s m)).server.durable.index (effect s m (case_of s m)).server.rows → ServerStep s m t outs → length outs ≤ max_messages
 step_few s m t outs i table (at_once e) = let x = effect_few s m (case_of s m) in omega (arith, x, many)
 step_few s m t outs i table (recovers e) = let x = effect_few s m (case_of s m) in omega (arith, x, many)
 step_few s m t outs i table (serves t' answers acts e rest) =
@@ -111,26 +111,26 @@ step_few s m t outs i table (serves t' answers acts e rest) =
     let calls = calls_few t kind (answering_sound done.server t answers rest i) in
     omega (arith, here, wait, less, calls, many, length-append done.outs (answers ++ calls_of kind t), length-append answers (calls_of kind t))
 
-pub nudge_few : (s : Server) (c : ℕ) → IsSound s → IsTable s.durable.index s.rows → length (nudge s c) ≤ most_messages
+pub nudge_few : (s : Server) (c : ℕ) → IsSound s → IsTable s.durable.index s.rows → length (nudge s c) ≤ max_messages
 nudge_few s c i table = known (record_of s.durable.register c)
   where
-    served : (o : Option PushBody) → length (nudge_served s c o) ≤ most_messages
+    served : (o : Option PushBody) → length (nudge_served s c o) ≤ max_messages
     served None = let x = of_among_fewer s c (slots s.durable.index) in let y = among_few s (slots s.durable.index) i in let w = no_more_wait s i table in omega (arith, x, y, w, many)
     served (Some body) = omega (arith, many)
 
-    missing : (b : Bool) → length (if b then epoch_to s c ∷ [] else []) ≤ most_messages
+    missing : (b : Bool) → length (if b then epoch_to s c ∷ [] else []) ≤ max_messages
     missing true = omega (arith, many)
     missing false = omega (arith, many)
 
-    recovers : (b : Bool) → length (if b then nudge_missing s c else nudge_served s c (s.sessions c).unacked) ≤ most_messages
+    recovers : (b : Bool) → length (if b then nudge_missing s c else nudge_served s c (s.sessions c).unacked) ≤ max_messages
     recovers true = missing (lists s.missing c)
     recovers false = served (s.sessions c).unacked
 
-    left : (b : Bool) → length (if b then [] else (if is_recovering s.missing then nudge_missing s c else nudge_served s c (s.sessions c).unacked)) ≤ most_messages
+    left : (b : Bool) → length (if b then [] else (if is_recovering s.missing then nudge_missing s c else nudge_served s c (s.sessions c).unacked)) ≤ max_messages
     left true = omega (arith, many)
     left false = recovers (is_recovering s.missing)
 
-    known : (o : Option Record) → length (nudge_known s c o) ≤ most_messages
+    known : (o : Option Record) → length (nudge_known s c o) ≤ max_messages
     known None = omega (arith, many)
     known (Some r) = left r.left
 

@@ -1,7 +1,7 @@
 -- What a step changes and sends.
 use Rattle.krl_server.proofs.Names.{◌≡◌, ◌≢◌, ℕ, zero, suc, ◌+◌, ◌≤◌, ◌<◌, Bool, true, false, not, ◌||◌, ◌↔◌, Some, List, [], ◌∷◌, inl, inr, refl, sym, ap, subst, ◌∙◌, ⊎_elim, arith, nat_eq, ne_eqb}
 use Rattle.krl_server.proofs.Names.{eqb-false, and_parts, or_parts, none-some, same_Some, nat_lt, is_some, if◌then◌else◌, END, compatible, cap, ToServer, ToClient, PushBody, Waiter, eq_cases}
-use Rattle.krl_server.proofs.Names.{slot_of, span_of, slots, op_key, In, in_both, in_left, in_right, most_clients, mode_at, front_of, wanted, dropped, taken, granted, asks_absent}
+use Rattle.krl_server.proofs.Names.{slot_of, span_of, slots, op_key, In, in_both, in_left, in_right, max_clients, mode_at, front_of, wanted, dropped, taken, granted, asks_absent}
 use Rattle.krl_server.proofs.Names.{is_wanted_compatible, Session, Server, Case, Ignored, Registers, Leaves, Tells, Alarms, Rebuilds, Repeats, Acknowledges, Lowers, Waits, Judges, AnswersAgain}
 use Rattle.krl_server.proofs.Names.{case_of, Done, silent, with_session, with_rows, holding, holdings, acknowledged, push_to, callback_to, pushes, effect, can_push, Turn, next_turn, tells_absent}
 use Rattle.krl_server.proofs.Names.{grants, is_compatible, callbacks_from, callbacks_for, callbacks_at, callbacks_among, callbacks, changes_durable, IsCallback, IsNextPush, ServerSays, kind_of}
@@ -58,18 +58,18 @@ blocked s n u d e = let x = or_parts (nat_eq d u.client) (compatible (wanted (s.
 not_compatible : (s : Server) (n : ℕ) (u : Waiter) (d : ℕ) → d ≢ u.client → compatible (wanted (s.rows n) u) (mode_at s.rows n d) ≡ false → is_compatible s n u d ≡ false
 not_compatible s n u d ne e = ap (λ b. b || compatible (wanted (s.rows n) u) (mode_at s.rows n d)) (ne_eqb d u.client ne) ∙ e
 
-at_is : (s : Server) (n : ℕ) (us : List Waiter) (o : ToClient) → In o (callbacks_at s n us) → (u : Waiter) × (d : ℕ) × (front_of us ≡ Some u) × (asks_absent s.durable.index u ≡ false) × (d < most_clients) × (is_compatible s n u d ≡ false) × (o ≡ call s n u d)
+at_is : (s : Server) (n : ℕ) (us : List Waiter) (o : ToClient) → In o (callbacks_at s n us) → (u : Waiter) × (d : ℕ) × (front_of us ≡ Some u) × (asks_absent s.durable.index u ≡ false) × (d < max_clients) × (is_compatible s n u d ≡ false) × (o ≡ call s n u d)
 at_is s n [] o at = absurd at
 at_is s n (u ∷ us) o at = by_absent (asks_absent s.durable.index u) refl at
   where
-    by_absent : (b : Bool) → asks_absent s.durable.index u ≡ b → In o (if b then [] else callbacks_from s n u 0 most_clients) → (v : Waiter) × (d : ℕ) × (Some u ≡ Some v) × (asks_absent s.durable.index v ≡ false) × (d < most_clients) × (is_compatible s n v d ≡ false) × (o ≡ call s n v d)
+    by_absent : (b : Bool) → asks_absent s.durable.index u ≡ b → In o (if b then [] else callbacks_from s n u 0 max_clients) → (v : Waiter) × (d : ℕ) × (Some u ≡ Some v) × (asks_absent s.durable.index v ≡ false) × (d < max_clients) × (is_compatible s n v d ≡ false) × (o ≡ call s n v d)
     by_absent true e h = absurd h
-    by_absent false e h = let x = from_is s n u 0 most_clients o h in (u, x.0, refl, e, omega (arith, x.2), x.3, x.4)
+    by_absent false e h = let x = from_is s n u 0 max_clients o h in (u, x.0, refl, e, omega (arith, x.2), x.3, x.4)
 
-at_has : (s : Server) (n : ℕ) (us : List Waiter) (u : Waiter) (d : ℕ) → front_of us ≡ Some u → asks_absent s.durable.index u ≡ false → d < most_clients → is_compatible s n u d ≡ false → In (call s n u d) (callbacks_at s n us)
+at_has : (s : Server) (n : ℕ) (us : List Waiter) (u : Waiter) (d : ℕ) → front_of us ≡ Some u → asks_absent s.durable.index u ≡ false → d < max_clients → is_compatible s n u d ≡ false → In (call s n u d) (callbacks_at s n us)
 at_has s n [] u d e asks lt f = absurd (none-some u e)
 at_has s n (v ∷ us) u d e asks lt f = subst (λ w. In (call s n u d) (callbacks_for s n w)) (sym (same_Some v u e))
-    (subst (λ b. In (call s n u d) (if b then [] else callbacks_from s n u 0 most_clients)) (sym asks) (from_has s n u 0 most_clients d (omega arith) (omega (arith, lt)) f))
+    (subst (λ b. In (call s n u d) (if b then [] else callbacks_from s n u 0 max_clients)) (sym asks) (from_has s n u 0 max_clients d (omega arith) (omega (arith, lt)) f))
 
 among_is : (s : Server) (ns : List ℕ) (o : ToClient) → In o (callbacks_among s ns) → (n : ℕ) × In n ns × In o (callbacks_at s n (s.rows n).queue)
 among_is s [] o at = absurd at

@@ -6,7 +6,7 @@ use Rattle.krl_table.specs.declared.reply.Reply.TheVariants as reply
 use Rattle.krl_table.proofs.Rows.RowChanges.{eq_cases}
 use Rattle.krl_table.proofs.Rows.Slots.{none_false, next_of}
 
--- the waiter stands on the slot of its point, so its point is a key exactly where it is that slot, below END
+-- the waiter stands on the slot of its point, so its point is a key exactly if it is that slot, below END
 module _ (m : Index) (near : (n : ℕ) → END ≤ n → get m n ≡ None) (n : ℕ) (u : Waiter) (at : IsSlotOf m u.point n) where
   key_here : (b : Bool) → nat_lt n END ≡ b → is_some (get m n) ≡ b
   key_here true e = let lt = ltb-true n END e in

@@ -191,7 +191,7 @@ module _ (t u : Kept) (k : ℕ) (w : Waiter) (sound : IsSound t) (s : IsSet t u 
       (λ f. subst (λ y. In v (rows_of u y).queue) (sym f) (subst (In v) (sym queue_at) (queue_with_in (rows_of t k) w v (inr (subst (λ y. In v (rows_of t y).queue) f at)))))
       (λ ne. subst (In v) (sym (queue_off n ne)) at)) l
 
--- where somebody waits first there is a row
+-- if somebody waits first there is a row
 pub front_there : (t : Kept) (k : ℕ) (w : Waiter) → front_of (rows_of t k).queue ≡ Some w → IsSome (Rattle.std.specs.FinMap.get t k)
 front_there t k w e = has_row t k w (by_queue (rows_of t k).queue e)
   where

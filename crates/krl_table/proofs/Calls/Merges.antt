@@ -68,11 +68,11 @@ module _ (m : Index) (k s : ℕ) (near : (n : ℕ) → END ≤ n → get m n ≡
   not_there : (j : ℕ) → is_slot m j ≡ false → is_slot less j ≡ false
   not_there j e = eq_cases j k (λ f. ap (is_slot less) f ∙ no_slot) (λ ne. other_slot j ne ∙ e)
 
-  -- a point's slot stays, where it is not k
+  -- a point's slot stays, if it is not k
   pub slot_stays : (p n : ℕ) → n ≢ k → IsSlotOf m p n → IsSlotOf less p n
   slot_stays p n nk x = record { slot = other_slot n nk ∙ x.slot; above = x.above; least = λ j a b. not_there j (x.least j a b) }
 
-  -- and where it was k it is s
+  -- and if it was k it is s
   pub slot_joined : (p : ℕ) → IsSlotOf m p k → IsSlotOf less p s
   slot_joined p x = record {
     slot = other_slot s (λ e. apart (sym e)) ∙ at.slot;

@@ -1,7 +1,7 @@
 -- A client's mode on one slot rises to what a waiter wants; and so on slot after slot.
 use Rattle.krl_table.proofs.Names.{◌≡◌, ℕ, zero, suc, ◌-◌, ◌≤◌, ◌<◌, Bool, true, false, ◌&&◌, ◌||◌, List, [], ◌∷◌, ◌++◌, Option, Some, None, IfSome, length, refl, sym, ap, subst, ◌∙◌, append_assoc}
-use Rattle.krl_table.proofs.Names.{arith, fun_ext, END, Mode, compatible, Waiter, Index, slot_of, is_slot, Row, Rows, blank_row, front_of, most_clients, is_compatible_in_row, with_mode}
-use Rattle.krl_table.proofs.Names.{wanted, raised, raised_on, granted_first, is_wanted_compatible, can_take, goes_on, taken_after, taken_by, granted_by, most_more, Kept, rows_of, IsSet, IsOver}
+use Rattle.krl_table.proofs.Names.{arith, fun_ext, END, Mode, compatible, Waiter, Index, slot_of, is_slot, Row, Rows, blank_row, front_of, max_clients, is_compatible_in_row, with_mode}
+use Rattle.krl_table.proofs.Names.{wanted, raised, raised_on, granted_first, is_wanted_compatible, can_take, goes_on, taken_after, taken_by, granted_by, max_more, Kept, rows_of, IsSet, IsOver}
 use Rattle.krl_table.proofs.Names.{IsSound, AreListed}
 use Rattle.std.specs.Prelude.{nat_eq, nat_lt, if◌then◌else◌}
 use Rattle.krl_modes.specs.declared.mode.Mode.TheVariants as mode
@@ -9,9 +9,9 @@ use Rattle.krl_table.proofs.Rows.Below.{below_true, clients_are}
 use Rattle.krl_table.proofs.Invariant.Compatible.{none_compatible, set_compatible, compatible_row}
 use Rattle.krl_table.proofs.Invariant.Sounds.{set_strangers, modes_sound, same_queue, fewer_over, listed_same}
 
--- where nobody holds anything, anything can stand
+-- if nobody holds anything, anything can stand
 pub blank_is_compatible : (c : ℕ) (g : Mode) → is_compatible_in_row blank_row c g ≡ true
-blank_is_compatible c g = below_true most_clients (λ d. nat_eq d c || compatible g mode.N) (λ d. ap (λ b. nat_eq d c || b) (none_compatible g) ∙ or_yes (nat_eq d c))
+blank_is_compatible c g = below_true max_clients (λ d. nat_eq d c || compatible g mode.N) (λ d. ap (λ b. nat_eq d c || b) (none_compatible g) ∙ or_yes (nat_eq d c))
   where
     or_yes : (b : Bool) → (b || true) ≡ true
     or_yes true = refl
@@ -123,8 +123,8 @@ module _ (m : Index) (rows : Rows) (n : ℕ) (w : Waiter) (front : front_of (row
   by_front P h [] e = absurd (cc)
   by_front P h (v ∷ ws) e = let same : v ≡ w = cc in subst (λ x. P (x ∷ ws)) (sym same) (h ws)
 
-  pub granted_from : granted_by m rows n (rows n).queue ≡ raised_on (granted_first rows n) (taken_after m (granted_first rows n) n w most_more) w
-  granted_from = by_front (λ ws. granted_by m rows n ws ≡ raised_on (granted_first rows n) (taken_after m (granted_first rows n) n w most_more) w) (λ ws. refl) (rows n).queue front
+  pub granted_from : granted_by m rows n (rows n).queue ≡ raised_on (granted_first rows n) (taken_after m (granted_first rows n) n w max_more) w
+  granted_from = by_front (λ ws. granted_by m rows n ws ≡ raised_on (granted_first rows n) (taken_after m (granted_first rows n) n w max_more) w) (λ ws. refl) (rows n).queue front
 
-  pub taken_from : taken_by m rows n (rows n).queue ≡ n ∷ taken_after m (granted_first rows n) n w most_more
-  taken_from = by_front (λ ws. taken_by m rows n ws ≡ n ∷ taken_after m (granted_first rows n) n w most_more) (λ ws. refl) (rows n).queue front
+  pub taken_from : taken_by m rows n (rows n).queue ≡ n ∷ taken_after m (granted_first rows n) n w max_more
+  taken_from = by_front (λ ws. taken_by m rows n ws ≡ n ∷ taken_after m (granted_first rows n) n w max_more) (λ ws. refl) (rows n).queue front

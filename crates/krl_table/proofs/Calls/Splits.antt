@@ -42,7 +42,7 @@ module _ (m : Index) (k s : ℕ) (v : Value) (near : (n : ℕ) → END ≤ n →
   pub more_near : (n : ℕ) → END ≤ n → get more n ≡ None
   more_near n le = insert_past m k v n (λ e. omega (arith, e, le, far)) ∙ near n le
 
-  -- a point's slot stays, where it is not s
+  -- a point's slot stays, if it is not s
   pub slot_stays : (p n : ℕ) → n ≢ s → IsSlotOf m p n → IsSlotOf more p n
   slot_stays p n ns x = record {
     slot = other_slot n (λ e. not_both (is_slot m n) x.slot (ap (is_slot m) e ∙ none_yet)) ∙ x.slot;

@@ -1,6 +1,6 @@
 -- Modes that are not in each other's way.
 use Rattle.krl_table.proofs.Names.{◌≡◌, ◌≢◌, ℕ, zero, suc, ◌≤◌, ◌<◌, Bool, true, false, ◌||◌, refl, sym, ap, subst, ◌∙◌, ⊎_elim, arith, nat_eq, eq-eqb, ne_eqb, cases_lt, and_parts, if◌then◌else◌}
-use Rattle.krl_table.proofs.Names.{RangePart, Mode, lets_insert, range_of, at_or_above, compatible, meet, Row, most_clients, all_below, is_compatible_in_row, set_mode, mode_beside, split_modes}
+use Rattle.krl_table.proofs.Names.{RangePart, Mode, lets_insert, range_of, at_or_above, compatible, meet, Row, max_clients, all_below, is_compatible_in_row, set_mode, mode_beside, split_modes}
 use Rattle.krl_table.proofs.Names.{AreCompatible}
 use Rattle.krl_modes.specs.declared.part.KeyPart.TheVariants as key
 use Rattle.krl_modes.specs.declared.mode.Mode.TheVariants as mode
@@ -46,11 +46,11 @@ pub set_compatible : (modes : ℕ → Mode) (c : ℕ) (g : Mode) → AreCompatib
 set_compatible modes c g h fit = other_compatible modes (set_mode modes c g) c h (λ d ne. mode_other modes c d g ne) (λ d ne. subst (λ x. compatible x (modes d) ≡ true) (sym (mode_here modes c g)) (fit d ne))
 
 -- a compatible mode for one client leaves all compatible
-pub compatible_row : (row : Row) (c : ℕ) (g : Mode) → ((d : ℕ) → most_clients ≤ d → row.modes d ≡ mode.N) → is_compatible_in_row row c g ≡ true → (d : ℕ) → d ≢ c → compatible g (row.modes d) ≡ true
+pub compatible_row : (row : Row) (c : ℕ) (g : Mode) → ((d : ℕ) → max_clients ≤ d → row.modes d ≡ mode.N) → is_compatible_in_row row c g ≡ true → (d : ℕ) → d ≢ c → compatible g (row.modes d) ≡ true
 compatible_row row c g strangers e d ne = ⊎_elim
-    (λ (lt : d < most_clients). or_true (nat_eq d c) (compatible g (row.modes d)) (all_below_at most_clients (λ x. nat_eq x c || compatible g (row.modes x)) d e lt) (ne_eqb d c ne))
-    (λ (ge : most_clients ≤ d). subst (λ x. compatible g x ≡ true) (sym (strangers d ge)) (none_compatible g))
-    (cases_lt d most_clients)
+    (λ (lt : d < max_clients). or_true (nat_eq d c) (compatible g (row.modes d)) (all_below_at max_clients (λ x. nat_eq x c || compatible g (row.modes x)) d e lt) (ne_eqb d c ne))
+    (λ (ge : max_clients ≤ d). subst (λ x. compatible g x ≡ true) (sym (strangers d ge)) (none_compatible g))
+    (cases_lt d max_clients)
 
 -- a lower mode is compatible with what the mode was compatible with
 pub meet_compatible : (a b keep : Mode) → compatible a b ≡ true → compatible (meet a keep) b ≡ true

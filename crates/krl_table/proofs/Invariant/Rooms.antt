@@ -140,7 +140,7 @@ module _ (m : Index) (t : Kept) (over : IsOver m t) where
       let le = few (map (λ e. e.0) (fin.entries t)) (slots m) (kept_rise t) (λ n at. slots_have m n (at_slots n at)) in
       let a = as_many (fin.entries t) in let b = many_slots (fin.entries m) in omega (arith, le, a, b)
 
-  -- and one less where a slot has none
+  -- and one less if a slot has none
   rows_fewer : (k : ℕ) → is_slot m k ≡ true → fin.get t k ≡ None → length (fin.entries t) ≤ length (fin.entries m)
   rows_fewer k slot none =
       let le = few (map (λ e. e.0) (fin.entries t)) (less_one k (slots m)) (kept_rise t)

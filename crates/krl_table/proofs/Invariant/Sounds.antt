@@ -12,7 +12,7 @@ use Rattle.krl_table.proofs.Invariant.Stands.{first_in}
 pub some_none : {X : Type 0} (o : Option X) (x : X) → o ≡ Some x → o ≡ None → ⊥
 some_none o x e f = let clash : Some x ≡ None = sym e ∙ f in absurd (cc)
 
--- where somebody waits there is a row
+-- if somebody waits there is a row
 pub has_row : (t : Kept) (n : ℕ) (u : Waiter) → In u (rows_of t n).queue → IsSome (get t n)
 has_row t n u at = by_row (get t n) at
   where
@@ -20,7 +20,7 @@ has_row t n u at = by_row (get t n) at
     by_row None h = absurd h
     by_row (Some r) h = refl
 
--- where somebody holds something, too
+-- if somebody holds something, too
 pub held_row : (t : Kept) (n c : ℕ) → (mode_at (rows_of t) n c ≡ mode.N → ⊥) → IsSome (get t n)
 held_row t n c h = by_row (get t n) h
   where
@@ -71,7 +71,7 @@ module _ (t u : Kept) (k : ℕ) (row : Row) (s : IsSet t u k row) where
         (λ v at. sound.clients k v (subst (In v) queue at))
         (λ c i j ne. let x = sound.alone c i j ne in let a = ap (times c) (same_queue i) in let b = ap (times c) (same_queue j) in omega (arith, x, a, b))
 
-  -- over the same index, where nobody new waits
+  -- over the same index, if nobody new waits
   pub set_over : (m : Index) → IsOver m t → is_slot m k ≡ true → ((v : Waiter) → In v row.queue → (v.point ≤ END) × (slot_of m v.point ≡ k)) → IsOver m u
   set_over m over slot placed = record {
     near = over.near;

@@ -2,7 +2,7 @@
 use Rattle.krl_table.proofs.Names.{◌≡◌, ◌≢◌, ℕ, zero, suc, ◌+◌, ◌≤◌, ◌<◌, Bool, true, false, not, ◌&&◌, List, [], ◌∷◌, Option, Some, None, IsSome, ◌⊎◌, ◌||◌, inl, inr, drop, slice_index_or, length}
 use Rattle.krl_table.proofs.Names.{refl, sym, ap, subst, ◌∙◌, ⊎_elim, arith, cases_lt, ne_eqb, nat_tests, fun_ext, drop_all, list_all, get, END, TOP, RangePart, KeyPart, Mode, range_join}
 use Rattle.krl_table.proofs.Names.{key_join, at_or_above, compatible, meet, Bounds, meets, Pieces, In, Index, low_of, slots, is_slot, IsSlotOf, SlotRow, Row, Rows, blank_row, is_compatible_there}
-use Rattle.krl_table.proofs.Names.{mode_at, set_mode, all_below, most_clients, is_compatible_in_row, with_mode, reported_range, reported_key, rebuilt, conflicts, adopted, RangesOff, KeysOff}
+use Rattle.krl_table.proofs.Names.{mode_at, set_mode, all_below, max_clients, is_compatible_in_row, with_mode, reported_range, reported_key, rebuilt, conflicts, adopted, RangesOff, KeysOff}
 use Rattle.krl_table.proofs.Names.{BeginsSpan, NothingFrom, IsNextReported, Kept, row_of, row_there, rows_of, IsSet, IsAll, IsOver, IsSound, AreCompatible, times, lowered_between}
 use Rattle.std.proofs.Math.Seq.{drop-cons}
 use Rattle.std.specs.Prelude.{nat_eq, nat_lt, if◌then◌else◌}
@@ -194,7 +194,7 @@ none_first : (g : Mode) → compatible mode.N g ≡ true
 none_first g = grind arith
 
 pub none_is_compatible : (rows : Rows) (n c : ℕ) (g : Mode) → g ≡ mode.N → is_compatible_there rows n c g ≡ true
-none_is_compatible rows n c g e = ap (is_compatible_there rows n c) e ∙ all_yes most_clients (λ d. nat_eq d c || compatible mode.N ((rows n).modes d)) (λ d. ap (λ b. nat_eq d c || b) (none_first ((rows n).modes d)) ∙ or_yes (nat_eq d c))
+none_is_compatible rows n c g e = ap (is_compatible_there rows n c) e ∙ all_yes max_clients (λ d. nat_eq d c || compatible mode.N ((rows n).modes d)) (λ d. ap (λ b. nat_eq d c || b) (none_first ((rows n).modes d)) ∙ or_yes (nat_eq d c))
   where
     or_yes : (b : Bool) → (b || true) ≡ true
     or_yes true = refl
@@ -334,7 +334,7 @@ module _ (c : ℕ) (t v : Kept) (made : IsAll (lowered_between 0 TOP c mode.N) t
   pub emptied_is_compatible : ((n : ℕ) → END ≤ n → get m n ≡ None) → (pieces : Pieces) → AreAllCompatible m (rows_of t) c pieces → AreAllCompatible m (rows_of v) c pieces
   emptied_is_compatible near pieces h n e = subst (λ (r : Row). is_compatible_in_row r c (rebuilt m pieces n) ≡ true)
       (sym (made.rows n ∙ lower_here 0 TOP c mode.N n (rows_of t n) (omega arith) (let le = slot_end m near n e in omega (arith, le))))
-      (ap (λ f. all_below most_clients f) (fun_ext (λ (d : ℕ). by_test d (nat_eq d c))) ∙ h n e)
+      (ap (λ f. all_below max_clients f) (fun_ext (λ (d : ℕ). by_test d (nat_eq d c))) ∙ h n e)
     where
       by_test : (d : ℕ) (b : Bool) → (b || compatible (rebuilt m pieces n) (if b then meet (mode_at (rows_of t) n c) mode.N else mode_at (rows_of t) n d)) ≡ (b || compatible (rebuilt m pieces n) (mode_at (rows_of t) n d))
       by_test d true = refl

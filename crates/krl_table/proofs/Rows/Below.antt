@@ -1,5 +1,5 @@
 -- What holds of each number below another.
-use Rattle.krl_table.proofs.Names.{◌≡◌, ℕ, zero, suc, ◌+◌, ◌<◌, Bool, true, false, ◌&&◌, refl, sym, ap, subst, ◌∙◌, arith, all_below, most_clients}
+use Rattle.krl_table.proofs.Names.{◌≡◌, ℕ, zero, suc, ◌+◌, ◌<◌, Bool, true, false, ◌&&◌, refl, sym, ap, subst, ◌∙◌, arith, all_below, max_clients}
 use Rattle.krl_table.proofs.Rows.RowChanges.{eq_cases}
 use Rattle.std.proofs.Math.Bool.{and-false}
 
@@ -16,12 +16,12 @@ below_false f (suc m) n lt e = eq_cases n m
     (λ g. ap (λ b. b && all_below m f) (ap f (sym g) ∙ e))
     (λ ne. ap (λ b. f m && b) (below_false f m n (omega (arith, lt, ne)) e) ∙ and-false (f m))
 
-pub clients_are : most_clients ≡ 64
-unfolding most_clients
+pub clients_are : max_clients ≡ 64
+unfolding max_clients
 clients_are = refl
 
-pub all_clients : (f : ℕ → Bool) (n : ℕ) → n ≡ 64 → all_below n f ≡ true → true ≡ all_below most_clients f
+pub all_clients : (f : ℕ → Bool) (n : ℕ) → n ≡ 64 → all_below n f ≡ true → true ≡ all_below max_clients f
 all_clients f n e h = subst (λ k. true ≡ all_below k f) (e ∙ sym clients_are) (sym h)
 
-pub not_all_clients : (f : ℕ → Bool) (n : ℕ) → n < 64 → f n ≡ false → false ≡ all_below most_clients f
-not_all_clients f n lt e = sym (below_false f most_clients n (subst (λ k. n < k) (sym clients_are) lt) e)
+pub not_all_clients : (f : ℕ → Bool) (n : ℕ) → n < 64 → f n ≡ false → false ≡ all_below max_clients f
+not_all_clients f n lt e = sym (below_false f max_clients n (subst (λ k. n < k) (sym clients_are) lt) e)

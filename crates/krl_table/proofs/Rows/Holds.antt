@@ -21,7 +21,7 @@ module _ (t : Kept) (c : ℕ) where
   abbrev pub IsFree : ℕ → ℕ → Type 0
   IsFree from at = (k : ℕ) → from ≤ k → k < at → mode_at (rows_of t) k c ≡ mode.N
 
-  -- nor as far as the next row, where that has N
+  -- nor as far as the next row, if that has N
   pub free_as_far : (at s : ℕ) → IsNextKey t at s → mode_at (rows_of t) s c ≡ mode.N → IsFree at (s + 1)
   free_as_far at s next free k a b =
       ⊎_elim (λ (lt : k < s). none_there k (next.least k a lt))

@@ -51,7 +51,7 @@ pub front-is : (ws : List Waiter) → slice_get ws 0 ≡ front_of ws
 front-is [] = refl
 front-is (w ∷ ws) = refl
 
--- a row that is set, where the others were changed before at its slot alone
+-- a row that is set, if the others were changed before at its slot alone
 pub set_after : (t u v : Kept) (k : ℕ) (row new : Row) → ((n : ℕ) → n ≢ k → get u n ≡ get t n) → row ≡ new → IsSet u v k row → IsSet t v k new
 set_after t u v k row new same e h = record {
   here = h.here ∙ e;
@@ -71,7 +71,7 @@ insert_other t k r n ne = get-put t k r n ∙ ap (λ b. cond b (Some r) (get t n
 pub insert_same : (t : Kept) (k : ℕ) (r : SlotRow) → get (insert t k r) k ≡ Some r
 insert_same t k r = get-put t k r k ∙ ap (λ b. cond b (Some r) (get t k)) (eq-eqb k k refl)
 
--- what all tests for N say of a row where nobody waits
+-- what all tests for N say of a row in which nobody waits
 pub blank_is : (r : SlotRow) → r.queue ≡ [] → ((c : ℕ) → mode_of r.modes c ≡ mode.N) → row_of r ≡ blank_row
 blank_is r none all i = record { modes = fun_ext all i; queue = none i }
 
@@ -83,7 +83,7 @@ module _ (t u : Kept) (k : ℕ) (r : SlotRow) where
     used = λ s at. let same : Some s ≡ Some r = sym at ∙ ap (λ y. get y k) e ∙ insert_same t k r in let is : s ≡ r = cc in subst (λ x. row_of x ≡ blank_row → ⊥) (sym is) some;
   }
 
--- the row of a slot is taken out, where what it becomes is blank
+-- the row of a slot is taken out, if what it becomes is blank
 pub set_blank : (t u : Kept) (k : ℕ) (row : Row) → u ≡ remove t k → row ≡ blank_row → IsSet t u k row
 set_blank t u k row e blank = record {
   here = ap (λ y. rows_of y k) e ∙ ap row_there gone ∙ sym blank;
@@ -165,7 +165,7 @@ goes_two t u i a j b h w x y n = eq_cases n i
     there (inl at) = (i, subst (λ (r : Row). In w r.queue) (sym h.first) at)
     there (inr at) = (j, subst (λ (r : Row). In w r.queue) (sym h.second) at)
 
--- where at most one client's mode is another, the queue is as it was
+-- if at most one client's mode is another, the queue is as it was
 pub queue_stays : (b : Bool) (row : Row) (c : ℕ) (g : Mode) → (if b then with_mode row c g else row).queue ≡ row.queue
 queue_stays true row c g = refl
 queue_stays false row c g = refl

@@ -2,9 +2,12 @@
 ghost use Rattle.std.specs.Prelude.{◌≡◌, ◌<◌, ◌↔◌, ◌&&◌, ℕ, true, [], IfSome, IfNone, is_some};
 ghost use Rattle.krl_durable.specs.Index.{slot_of};
 ghost use Rattle.krl_table.specs.Calls.{enqueued};
-ghost use Rattle.krl_table.specs.Grants.{granted, taken, nobody_waits, is_granted_at_once};
-ghost use Rattle.krl_table.specs.Kept.{rows_of, IsOver};
+ghost use Rattle.krl_table.specs.Grants.{granted, taken, nobody_waits};
+ghost use Rattle.krl_table.specs.FirstReplies.{is_granted_at_once};
+ghost use Rattle.krl_table.specs.Kept.{rows_of};
+ghost use Rattle.krl_table.specs.KeptRows.{IsOver};
 ghost use Rattle.krl_table.specs.Replies.{is_wanted_compatible};
+ghost use Rattle.krl_modes.specs.declared.limits.TheConstants.{MAX_CLIENTS};
 
 use super::Table;
 use crate::reply;
@@ -24,7 +27,7 @@ impl Table {
     /// Whether nobody waits on the slot, and what the waiter wants is compatible with what all
     /// others hold there.
     fn is_free_for(&self, slot: u64, waiter: &Waiter) -> bool
-        requires { waiter.now.client < 64 }
+        requires { waiter.now.client < MAX_CLIENTS }
         ensures { result ≡ (nobody_waits (rows_of self.now.map slot).queue
             && is_wanted_compatible (rows_of self.now.map) slot waiter.now) }
     {
@@ -35,24 +38,25 @@ impl Table {
     }
 
     /// Gives the client what `enqueue` of the waiter, and then `grant` on the slot of its point,
-    /// would give it, without a place in the queue: where nobody waits on that slot, and
+    /// would give it, without a place in the queue: if nobody waits on that slot, and
     /// `answerable` would then tell the waiter that it can be granted. It answers the slots that
     /// were taken, in ascending order. It takes no memory.
     ///
-    /// None, and nothing changes, where somebody waits there, where what the waiter wants can't
-    /// stand beside what all others hold, and where it asks for an entry and there is none.
+    /// None, and nothing changes, if somebody waits there, if what the waiter wants is not
+    /// compatible with what all others hold, and if it asks for an entry and there is none.
     pub fn grant_at_once(
         &mut self,
         durable: &Durable,
         waiter: &Waiter,
     ) -> Option<ArrayVec<Point, 8>>
         requires over { IsOver durable.now.index self.old.map }
-        requires client { waiter.now.client < 64 }
+        requires client { waiter.now.client < MAX_CLIENTS }
         requires rows { durable.now.room < self.old.room }
         ensures when { is_some result
             ≡ is_granted_at_once durable.now.index (rows_of self.old.map) waiter.now }
         ensures granted { IfSome result (λ _. (n : ℕ) → rows_of self.new.map n
-            ≡ granted durable.now.index (enqueued durable.now.index (rows_of self.old.map) waiter.now)
+            ≡ granted durable.now.index
+            (enqueued durable.now.index (rows_of self.old.map) waiter.now)
             (slot_of durable.now.index waiter.now.point) n) }
         ensures taken { IfSome result (λ slots. slots.items
             ≡ taken durable.now.index (enqueued durable.now.index (rows_of self.old.map) waiter.now)

@@ -6,11 +6,13 @@ ghost use Rattle.std.specs.FinMap as map;
 ghost use Rattle.krl_modes.specs.declared.point.TheConstants.{END};
 ghost use Rattle.krl_modes.specs.Modes.{needs_entry};
 ghost use Rattle.krl_durable.specs.Index.{Index, slot_of, is_slot};
-ghost use Rattle.krl_table.specs.Rows.{front_of};
+ghost use Rattle.krl_table.specs.Waiters.{front_of};
 ghost use Rattle.krl_table.specs.Calls.{granted_first, raised, raised_on};
 ghost use Rattle.krl_table.specs.Grants.{granted, taken, can_take, goes_on, taken_after};
-ghost use Rattle.krl_table.specs.Kept.{row_of, rows_of, row_takes, IsOver, IsTaken};
+ghost use Rattle.krl_table.specs.Kept.{row_of, rows_of};
+ghost use Rattle.krl_table.specs.KeptRows.{row_takes, IsOver, IsTaken};
 ghost use Rattle.krl_table.specs.Replies.{is_wanted_compatible};
+ghost use Rattle.krl_modes.specs.declared.limits.TheConstants.{MAX_CLIENTS};
 
 use super::Table;
 use crate::row::SlotRow;
@@ -22,7 +24,7 @@ use krl_queue::Waiter;
 
 /// Whether the waiter may take the slot, which has this row, beside its own.
 fn row_takes(row: &SlotRow, slot: u64, waiter: &Waiter) -> bool
-    requires { waiter.now.client < 64 }
+    requires { waiter.now.client < MAX_CLIENTS }
     ensures { result ≡ row_takes slot (row_of row.now) waiter.now }
 {
     let free = row.queue.is_empty();
@@ -40,9 +42,10 @@ fn lacks_entry(slot: u64, waiter: &Waiter) -> bool
 impl Table {
     /// The slot's first waiter gets what it wants, which is compatible with what all others hold
     /// there, and waits no more. The grant goes on over the slots after it that begin below the end
-    /// of what the waiter asks for: up to the first where somebody waits, or where it can't stand
-    /// beside what others hold, or which is END and the waiter asks for an entry alone. It answers
-    /// the slots that were taken, in ascending order; none where nobody waits. It takes no memory.
+    /// of what the waiter asks for. It ends before the first slot where somebody waits, or where
+    /// what it asks for is not compatible with what others hold, or which is END if the waiter asks
+    /// for an entry alone. It answers the slots that were taken, in ascending order; none if nobody
+    /// waits. It takes no memory.
     pub fn grant(&mut self, durable: &Durable, slot: u64) -> ArrayVec<Point, 8>
         requires over { IsOver durable.now.index self.old.map }
         requires rows { durable.now.room < self.old.room }
@@ -68,7 +71,8 @@ impl Table {
         requires there { IsSome (map.get self.old.map slot) }
         requires is_compatible_there { IfSome (front_of (rows_of self.old.map slot).queue)
             (λ u. is_wanted_compatible (rows_of self.old.map) slot u ≡ true) }
-        ensures granted { (n : ℕ) → rows_of self.new.map n ≡ granted_first (rows_of self.old.map) slot n }
+        ensures granted { (n : ℕ) → rows_of self.new.map n
+            ≡ granted_first (rows_of self.old.map) slot n }
         ensures slots { (m : Index) → IsOver m self.old.map → IsOver m self.new.map }
         ensures room { self.new.room ≡ self.old.room }
         ensures end { slot ≤ END }
@@ -87,7 +91,7 @@ impl Table {
         taken: &mut ArrayVec<Point, 8>,
     )
         requires over { IsOver durable.now.index self.old.map }
-        requires client { waiter.now.client < 64 }
+        requires client { waiter.now.client < MAX_CLIENTS }
         requires rows { durable.now.room < self.old.room }
         ensures rows { rows_of self.new.map
             ≡ raised_on (rows_of self.old.map)
@@ -110,10 +114,10 @@ impl Table {
         }
     }
 
-    /// The slot after this one, where the waiter may take it.
+    /// The slot after this one, if the waiter may take it.
     fn next_taken(&self, durable: &Durable, at: u64, waiter: &Waiter) -> Option<Point>
         requires over { IsOver durable.now.index self.now.map }
-        requires client { waiter.now.client < 64 }
+        requires client { waiter.now.client < MAX_CLIENTS }
         ensures some { IfSome result
             (λ next. IsTaken durable.now.index self.now.map at waiter.now next) }
         ensures slot { IfSome result (λ next. is_slot durable.now.index next ≡ true) }
@@ -133,7 +137,7 @@ impl Table {
 
     /// Whether the waiter may take the slot beside its own.
     fn can_take(&self, slot: u64, waiter: &Waiter) -> bool
-        requires { waiter.now.client < 64 }
+        requires { waiter.now.client < MAX_CLIENTS }
         ensures result { result ≡ can_take (rows_of self.now.map) slot waiter.now }
         ensures is_compatible_there { result ≡ true
             → is_wanted_compatible (rows_of self.now.map) slot waiter.now ≡ true }
@@ -149,7 +153,7 @@ impl Table {
     pub(super) fn raise(&mut self, durable: &Durable, slot: u64, waiter: &Waiter)
         requires over { IsOver durable.now.index self.old.map }
         requires slot { is_slot durable.now.index slot ≡ true }
-        requires client { waiter.now.client < 64 }
+        requires client { waiter.now.client < MAX_CLIENTS }
         requires rows { durable.now.room < self.old.room }
         requires is_compatible_there { is_wanted_compatible (rows_of self.old.map) slot waiter.now
             ≡ true }
@@ -158,6 +162,7 @@ impl Table {
         ensures slots { IsOver durable.now.index self.new.map }
         ensures room { self.new.room ≡ self.old.room }
     {
+        // By its clause `kept` the prover knows what holds of all that survives.
         let _kept = durable.epoch();
         row_ops::raise(&mut self.rows, slot, waiter);
         self.extents.note(waiter.client, slot);

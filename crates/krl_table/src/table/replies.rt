@@ -5,9 +5,13 @@ ghost use Rattle.krl_messages.specs.Writes.{op_key};
 ghost use Rattle.krl_durable.specs.Index.{Index};
 ghost use Rattle.krl_durable.specs.Writes.{held};
 ghost use Rattle.krl_table.specs.declared.reply.Reply.TheVariants as reply;
-ghost use Rattle.krl_table.specs.Rows.{column, front_of};
-ghost use Rattle.krl_table.specs.Kept.{rows_of, IsOver};
-ghost use Rattle.krl_table.specs.Replies.{answerable, is_wanted_compatible};
+ghost use Rattle.krl_table.specs.Rows.{column};
+ghost use Rattle.krl_table.specs.Waiters.{front_of};
+ghost use Rattle.krl_table.specs.Kept.{rows_of};
+ghost use Rattle.krl_table.specs.KeptRows.{IsOver};
+ghost use Rattle.krl_table.specs.FirstReplies.{answerable};
+ghost use Rattle.krl_table.specs.Replies.{is_wanted_compatible};
+ghost use Rattle.krl_modes.specs.declared.limits.TheConstants.{MAX_CLIENTS};
 
 use super::Table;
 use crate::needs;
@@ -16,8 +20,8 @@ use krl_durable::Durable;
 use krl_messages::WriteOp;
 
 impl Table {
-    /// What the slot's first waiter can be told, where its client has acknowledged every push or
-    /// not.
+    /// What the slot's first waiter can be told. `acked` says whether its client has acknowledged
+    /// every push.
     ///
     /// The clause `grants` is what `grant` asks.
     pub fn answerable(&self, slot: u64, acked: bool) -> Option<Reply>
@@ -38,7 +42,7 @@ impl Table {
 
     /// Whether the client's modes are what the write needs.
     pub fn held(&self, durable: &Durable, client: u64, op: WriteOp) -> bool
-        requires client { client < 64 }
+        requires client { client < MAX_CLIENTS }
         requires key { op_key op < END }
         ensures { result ≡ held durable.now.index (column (rows_of self.now.map) client) op }
     {

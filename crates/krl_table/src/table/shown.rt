@@ -3,10 +3,11 @@ ghost use Rattle.std.specs.Prelude.{◌≡◌, ◌≢◌, ◌<◌, ℕ, true, fa
 ghost use Rattle.std.specs.FinMap as map;
 ghost use Rattle.krl_modes.specs.declared.point.TheConstants.{END};
 ghost use Rattle.krl_modes.specs.declared.mode.Mode.TheVariants as mode;
-ghost use Rattle.krl_queue.specs.Waiting.{goes_before};
+ghost use Rattle.krl_queue.specs.Turns.{goes_before};
 ghost use Rattle.krl_table.specs.Holds.{AreHeld, HoldsAt, IsNextHeld};
 ghost use Rattle.krl_table.specs.Kept.{rows_of};
 ghost use Rattle.krl_table.specs.Rows.{mode_at};
+ghost use Rattle.krl_modes.specs.declared.limits.TheConstants.{MAX_CLIENTS};
 
 use super::Table;
 use crate::row::SlotRow;
@@ -27,7 +28,7 @@ impl Table {
     /// At how many slots the client holds a mode other than N. It looks at all rows that are kept,
     /// with two searches for each.
     pub fn held_slots(&self, client: u64) -> u64
-        requires { client < 64 }
+        requires { client < MAX_CLIENTS }
         ensures { HoldsAt (rows_of self.now.map) client result }
     {
         count_held(&self.rows, client)
@@ -36,7 +37,7 @@ impl Table {
     /// The first slot from this point on at which the client holds a mode other than N. It looks at
     /// the rows that are kept from there on as far as that slot, with two searches for each.
     pub fn next_held(&self, client: u64, from: u64) -> Option<u64>
-        requires { client < 64 }
+        requires { client < MAX_CLIENTS }
         ensures { MatchOption result (AreHeld (rows_of self.now.map) client from [])
             (IsNextHeld (rows_of self.now.map) client from) }
     {
@@ -46,7 +47,7 @@ impl Table {
 
 // Whether the client holds a mode other than N on the slot.
 fn holds(rows: &ReservedMap<SlotRow>, slot: u64, client: u64) -> bool
-    requires { client < 64 }
+    requires { client < MAX_CLIENTS }
     ensures held { result ≡ true → mode_at (rows_of rows.now.map) slot client ≢ mode.N }
     ensures free { result ≡ false → mode_at (rows_of rows.now.map) slot client ≡ mode.N }
 {
@@ -59,7 +60,7 @@ fn holds(rows: &ReservedMap<SlotRow>, slot: u64, client: u64) -> bool
 // The first slot from this point on at which it does.
 fn next_held(rows: &ReservedMap<SlotRow>, client: u64, from: u64) -> Option<u64>
     requires near { (n : ℕ) → END < n → map.get rows.now.map n ≡ None }
-    requires client { client < 64 }
+    requires client { client < MAX_CLIENTS }
     ensures { MatchOption result (AreHeld (rows_of rows.now.map) client from [])
         (IsNextHeld (rows_of rows.now.map) client from) }
 {
@@ -76,7 +77,7 @@ fn next_held(rows: &ReservedMap<SlotRow>, client: u64, from: u64) -> Option<u64>
 // At how many slots it does.
 fn count_held(rows: &ReservedMap<SlotRow>, client: u64) -> u64
     requires near { (n : ℕ) → END < n → map.get rows.now.map n ≡ None }
-    requires client { client < 64 }
+    requires client { client < MAX_CLIENTS }
     ensures { HoldsAt (rows_of rows.now.map) client result }
 {
     let mut count: u64 = 0;

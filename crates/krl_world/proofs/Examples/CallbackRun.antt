@@ -1,5 +1,5 @@
 -- On from the first run: another client wants the same gap alone, so the first is called back, and the other is granted it.
-use Rattle.krl_world.proofs.Names.{◌≡◌, Some, None, List, [], ◌∷◌, refl, sym, ap, ToServer, ToClient, Index, most_clients, Server, Registers, Waits, Lowers, case_of, effect, Turn, next_turn}
+use Rattle.krl_world.proofs.Names.{◌≡◌, Some, None, List, [], ◌∷◌, refl, sym, ap, ToServer, ToClient, Index, max_clients, Server, Registers, Waits, Lowers, case_of, effect, Turn, next_turn}
 use Rattle.krl_world.proofs.Names.{answer_first, callbacks, ServerStep, Client, locked, lowered, says_report, says_ack, accepted, Step, Up, State, seated, served, with_client, opened, span}
 use Rattle.krl_world.proofs.Names.{applies, Takes, Runs}
 use Rattle.std.specs.FinMap as map
@@ -58,49 +58,49 @@ abbrev pub taken : Index → Server
 taken m = (answer_first (freed m) turn).server
 
 hello_case : (m : Index) → case_of (granted m) hello ≡ Registers
-unfolding most_clients
+unfolding max_clients
 hello_case m = refl
 
 hello_ends : (m : Index) → map.entries m ≡ two → next_turn (both m) ≡ None
-unfolding most_clients
+unfolding max_clients
 hello_ends m e = simp (e, map.get-entries)
 
 hello_calls : (m : Index) → map.entries m ≡ two → callbacks (both m) ≡ []
-unfolding most_clients
+unfolding max_clients
 hello_calls m e = simp (e, map.get-entries)
 
 reads_hello : (m : Index) → map.entries m ≡ two → ServerStep (granted m) hello (both m) (epoch ∷ [])
 reads_hello m e = answers_none (granted m) hello Registers (epoch ∷ []) [] (hello_case m) (λ x. cc) refl refl (hello_ends m e) (hello_calls m e)
 
 lock_case : (m : Index) → map.entries m ≡ two → case_of (both m) lock ≡ Waits 1 5 6 mode.RangeXX
-unfolding most_clients
+unfolding max_clients
 lock_case m e = simp e
 
 lock_ends : (m : Index) → map.entries m ≡ two → next_turn (blocked m) ≡ None
-unfolding most_clients
+unfolding max_clients
 lock_ends m e = simp (e, map.get-entries)
 
 lock_calls : (m : Index) → map.entries m ≡ two → callbacks (blocked m) ≡ callback ∷ []
-unfolding most_clients
+unfolding max_clients
 lock_calls m e = simp (e, map.get-entries)
 
 reads_lock : (m : Index) → map.entries m ≡ two → ServerStep (both m) lock (blocked m) (callback ∷ [])
 reads_lock m e = answers_none (both m) lock (Waits 1 5 6 mode.RangeXX) [] (callback ∷ []) (lock_case m e) (λ x. cc) refl refl (lock_ends m e) (lock_calls m e)
 
 release_case : (m : Index) → case_of (blocked m) release ≡ Lowers (span 0 11) mode.N
-unfolding most_clients
+unfolding max_clients
 release_case m = refl
 
 release_turn : (m : Index) → map.entries m ≡ two → next_turn (freed m) ≡ Some turn
-unfolding most_clients
+unfolding max_clients
 release_turn m e = simp (e, map.get-entries)
 
 release_outs : (m : Index) → map.entries m ≡ two → (answer_first (freed m) turn).outs ≡ grant ∷ []
-unfolding most_clients
+unfolding max_clients
 release_outs m e = simp (e, map.get-entries)
 
 release_ends : (m : Index) → map.entries m ≡ two → next_turn (taken m) ≡ None
-unfolding most_clients
+unfolding max_clients
 release_ends m e = simp (e, map.get-entries)
 
 reads_release : (m : Index) → map.entries m ≡ two → ServerStep (blocked m) release (taken m) (grant ∷ [])

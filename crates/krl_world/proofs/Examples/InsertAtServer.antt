@@ -1,5 +1,5 @@
 -- What the server does in another short run: a client may insert into the gap below 20, and inserts 15.
-use Rattle.krl_world.proofs.Names.{◌≡◌, ℕ, Some, None, List, [], ◌∷◌, ◌++◌, refl, sym, subst, Value, Holding, ToServer, ToClient, PushBody, Index, most_entries, most_clients, Server, Waits, Judges}
+use Rattle.krl_world.proofs.Names.{◌≡◌, ℕ, Some, None, List, [], ◌∷◌, ◌++◌, refl, sym, subst, Value, Holding, ToServer, ToClient, PushBody, Index, max_entries, max_clients, Server, Waits, Judges}
 use Rattle.krl_world.proofs.Names.{case_of, effect, Turn, next_turn, answer_first, Answered, stops, goes_on, callbacks, Acts, kind_of, Ends, serves, ServerStep}
 use Rattle.std.specs.FinMap as map
 use Rattle.krl_modes.specs.declared.mode.Mode.TheVariants as mode
@@ -54,23 +54,23 @@ inserted m = (effect (granted m) insert (Judges 1 (write.Insert 15 (5 ∷ [])) o
 -- The lock
 
 pub lock_case : (m : Index) → map.entries m ≡ two → case_of (joined m) lock ≡ Waits 1 15 16 mode.RangeIN
-unfolding most_clients
+unfolding max_clients
 lock_case m e = simp e
 
 lock_turn : (m : Index) → map.entries m ≡ two → next_turn (waiting m) ≡ Some turn
-unfolding most_clients
+unfolding max_clients
 lock_turn m e = simp e
 
 lock_outs : (m : Index) → map.entries m ≡ two → (answer_first (waiting m) turn).outs ≡ grant ∷ []
-unfolding most_clients
+unfolding max_clients
 lock_outs m e = simp (e, map.get-entries)
 
 lock_ends : (m : Index) → map.entries m ≡ two → next_turn (granted m) ≡ None
-unfolding most_clients
+unfolding max_clients
 lock_ends m e = simp (e, map.get-entries)
 
 lock_calls : (m : Index) → map.entries m ≡ two → callbacks (granted m) ≡ []
-unfolding most_clients
+unfolding max_clients
 lock_calls m e = simp (e, map.get-entries)
 
 answers_lock : (m : Index) → map.entries m ≡ two → Answered (waiting m) (granted m) (grant ∷ [])
@@ -86,7 +86,7 @@ reads_lock m e = subst (λ k. Ends (effect (joined m) lock k) (kind_of k) (grant
 -- The insert
 
 pub insert_case : (m : Index) → map.entries m ≡ two → case_of (granted m) insert ≡ Judges 1 (write.Insert 15 (5 ∷ [])) outcome.Applied
-unfolding most_clients most_entries
+unfolding max_clients max_entries
 insert_case m e = simp (e, map.get-entries)
 
 insert_outs : (m : Index) → map.entries m ≡ two → map.entries (map.insert m 15 (5 ∷ [])) ≡ three → (effect (granted m) insert (Judges 1 (write.Insert 15 (5 ∷ [])) outcome.Applied)).outs ≡ answer ∷ []

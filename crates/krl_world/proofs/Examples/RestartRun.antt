@@ -1,7 +1,7 @@
 -- On from there: the server crashes and starts again, both clients report, it serves, and a client that holds a key and the
 -- gaps at both of its sides alone deletes it, and is told Applied.
 use Rattle.krl_world.proofs.Names.{◌≡◌, ◌≤◌, ℕ, zero, suc, ◌∙◌, Bool, true, false, cond, Some, None, List, [], ◌∷◌, ◌++◌, inl, inr, refl, sym, ap, arith, nat_cmp, eq_by_cmp, nat_cmp_total, put}
-use Rattle.krl_world.proofs.Names.{nat_tests, Value, Holding, Pieces, ToServer, ToClient, PushBody, In, Index, is_slot, most_entries, most_clients, Server, Rebuilds, Waits, Judges, case_of, effect}
+use Rattle.krl_world.proofs.Names.{nat_tests, Value, Holding, Pieces, ToServer, ToClient, PushBody, In, Index, is_slot, max_entries, max_clients, Server, Rebuilds, Waits, Judges, case_of, effect}
 use Rattle.krl_world.proofs.Names.{Turn, next_turn, answer_first, callbacks, ServerStep, start, Client, locked, wrote, says_ack, accepted, AppliedWrite, Step, Up, Down, State, fresh, served}
 use Rattle.krl_world.proofs.Names.{with_client, durable_of, index_of, is_serving, opened, span, applies, Takes, Runs, IsReachable, answer_message}
 use Rattle.std.specs.FinMap as map
@@ -88,44 +88,44 @@ abbrev deleted : Index → Server
 deleted i = (effect (granted i) delete (Judges 1 (write.Delete 10) outcome.Applied)).server
 
 half_case : (i : Index) → map.entries i ≡ two → case_of (again i) (report 0 no_pieces) ≡ Rebuilds no_pieces
-unfolding most_clients
+unfolding max_clients
 half_case i e = simp e
 
 reads_half : (i : Index) → map.entries i ≡ two → ServerStep (again i) (report 0 no_pieces) (half i) []
 reads_half i e = still_recovers (again i) (report 0 no_pieces) (Rebuilds no_pieces) [] (half_case i e) refl refl
 
 full_case : (i : Index) → map.entries i ≡ two → case_of (half i) (report 1 alone) ≡ Rebuilds alone
-unfolding most_clients
+unfolding max_clients
 full_case i e = simp (e, map.get-entries, adopted, is_slot)
 
 full_ends : (i : Index) → map.entries i ≡ two → next_turn (full i) ≡ None
 full_ends i e = simp (e, map.get-entries, adopted, is_slot)
 
 full_calls : (i : Index) → map.entries i ≡ two → callbacks (full i) ≡ []
-unfolding most_clients
+unfolding max_clients
 full_calls i e = simp (e, map.get-entries, adopted, is_slot)
 
 reads_full : (i : Index) → map.entries i ≡ two → ServerStep (half i) (report 1 alone) (full i) []
 reads_full i e = answers_none (half i) (report 1 alone) (Rebuilds alone) [] [] (full_case i e) (λ x. cc) refl refl (full_ends i e) (full_calls i e)
 
 lock_case : (i : Index) → map.entries i ≡ two → case_of (full i) lock ≡ Waits 1 11 12 mode.RangeXX
-unfolding most_clients
+unfolding max_clients
 lock_case i e = simp (e, map.get-entries, adopted, is_slot)
 
 lock_turn : (i : Index) → map.entries i ≡ two → next_turn (waiting i) ≡ Some turn
-unfolding most_clients
+unfolding max_clients
 lock_turn i e = simp (e, map.get-entries, adopted, is_slot)
 
 lock_outs : (i : Index) → map.entries i ≡ two → (answer_first (waiting i) turn).outs ≡ grant ∷ []
-unfolding most_clients
+unfolding max_clients
 lock_outs i e = simp (e, map.get-entries, adopted, is_slot)
 
 lock_ends : (i : Index) → map.entries i ≡ two → next_turn (granted i) ≡ None
-unfolding most_clients
+unfolding max_clients
 lock_ends i e = simp (e, map.get-entries, adopted, is_slot)
 
 lock_calls : (i : Index) → map.entries i ≡ two → callbacks (granted i) ≡ []
-unfolding most_clients
+unfolding max_clients
 lock_calls i e = simp (e, map.get-entries, adopted, is_slot)
 
 reads_lock : (i : Index) → map.entries i ≡ two → ServerStep (full i) lock (granted i) (grant ∷ [])
@@ -135,7 +135,7 @@ abbrev rest : List (ℕ × Value)
 rest = (20, 2 ∷ []) ∷ []
 
 delete_case : (i : Index) → map.entries i ≡ two → case_of (granted i) delete ≡ Judges 1 (write.Delete 10) outcome.Applied
-unfolding most_clients most_entries
+unfolding max_clients max_entries
 delete_case i e = simp (e, map.get-entries, adopted, is_slot)
 
 delete_outs : (i : Index) → map.entries i ≡ two → map.entries (map.remove i 10) ≡ rest → (effect (granted i) delete (Judges 1 (write.Delete 10) outcome.Applied)).outs ≡ answer ∷ []

@@ -1,5 +1,5 @@
 -- What the server does in a short run: a client says Hello, and locks the gap below 10 and the entry there.
-use Rattle.krl_world.proofs.Names.{◌≡◌, ℕ, Option, Some, None, List, [], ◌∷◌, ◌++◌, refl, sym, subst, Value, Holding, ToServer, ToClient, Index, slots, most_entries, most_clients, Server, Registers, Waits}
+use Rattle.krl_world.proofs.Names.{◌≡◌, ℕ, Option, Some, None, List, [], ◌∷◌, ◌++◌, refl, sym, subst, Value, Holding, ToServer, ToClient, Index, slots, max_entries, max_clients, Server, Registers, Waits}
 use Rattle.krl_world.proofs.Names.{case_of, effect, Turn, turn_at, turn_among, next_turn, answer_first, Answered, stops, goes_on, callbacks_at, callbacks_among, callbacks, Acts, kind_of, Ends}
 use Rattle.krl_world.proofs.Names.{serves, ServerStep, start}
 use Rattle.std.specs.FinMap as map
@@ -31,7 +31,7 @@ grant = record { client = 0; incarnation = 1; body = told.Push 1 1 (push.Grant 1
 -- The server, with this index
 
 abbrev pub begun : Index → Server
-begun m = start (record { room = most_entries; index = m; epoch = 0; register = [] })
+begun m = start (record { room = max_entries; index = m; epoch = 0; register = [] })
 
 abbrev pub joined : Index → Server
 joined m = (effect (begun m) hello Registers).server
@@ -45,7 +45,7 @@ turn = record { slot = 10; waiter = record { client = 0; req = 1; point = 5; hi 
 abbrev pub granted : Index → Server
 granted m = (answer_first (waiting m) turn).server
 
--- where nobody waits, nobody is answered or called back
+-- if nobody waits, nobody is answered or called back
 turn_none : (s : Server) (n : ℕ) (later : Option Turn) (us : List Waiter) → us ≡ [] → later ≡ None → turn_at s n us later ≡ None
 turn_none s n later us e l = subst (λ vs. turn_at s n vs later ≡ None) (sym e) l
 
@@ -61,7 +61,7 @@ no_calls s h [] = refl
 no_calls s h (n ∷ ns) = calls_none s n (callbacks_among s ns) (s.rows n).queue (h n) (no_calls s h ns)
 
 pub hello_case : (m : Index) → case_of (begun m) hello ≡ Registers
-unfolding most_clients
+unfolding max_clients
 hello_case m = refl
 
 ends_hello : (m : Index) → Ends (effect (begun m) hello Registers) Acts (joined m) (epoch ∷ [])
@@ -72,23 +72,23 @@ pub reads_hello : (m : Index) → ServerStep (begun m) hello (joined m) (epoch �
 reads_hello m = subst (λ k. Ends (effect (begun m) hello k) (kind_of k) (joined m) (epoch ∷ [])) (sym (hello_case m)) (ends_hello m)
 
 pub lock_case : (m : Index) → map.entries m ≡ two → case_of (joined m) lock ≡ Waits 1 5 6 mode.RangeSS
-unfolding most_clients
+unfolding max_clients
 lock_case m e = simp e
 
 lock_turn : (m : Index) → map.entries m ≡ two → next_turn (waiting m) ≡ Some turn
-unfolding most_clients
+unfolding max_clients
 lock_turn m e = simp e
 
 lock_outs : (m : Index) → map.entries m ≡ two → (answer_first (waiting m) turn).outs ≡ grant ∷ []
-unfolding most_clients
+unfolding max_clients
 lock_outs m e = simp (e, map.get-entries)
 
 lock_ends : (m : Index) → map.entries m ≡ two → next_turn (granted m) ≡ None
-unfolding most_clients
+unfolding max_clients
 lock_ends m e = simp (e, map.get-entries)
 
 lock_calls : (m : Index) → map.entries m ≡ two → callbacks (granted m) ≡ []
-unfolding most_clients
+unfolding max_clients
 lock_calls m e = simp (e, map.get-entries)
 
 answers_lock : (m : Index) → map.entries m ≡ two → Answered (waiting m) (granted m) (grant ∷ [])

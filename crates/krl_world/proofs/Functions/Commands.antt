@@ -1,24 +1,24 @@
 -- A command that a client obeys or refuses is a step of the world.
 use Rattle.krl_world.proofs.Names.{◌≡◌, ℕ, ◌≤◌, ◌<◌, Some, None, Option, List, [], ◌++◌, length, set, get_or, sym, ap, subst, ◌∙◌, append-nil, Result, Ok, Err, Client, Message, Command, Answer}
-use Rattle.krl_world.proofs.Names.{Refused, State, client_of, set_seat, with_client, Steps, refusal_of, if_runs, named, command_refusal, CommandTakesMemory, Obeys, refused_by_client, Fields, meaning}
-use Rattle.krl_world.proofs.Names.{seats_of, kept_nobody, client_there}
-use Rattle.krl_world.specs.declared.node.Seat.{Seat as KeptSeat}
+use Rattle.krl_world.proofs.Names.{Refused, State, client_of, set_place, with_client, Steps, refusal_of, if_runs, named, command_refusal, CommandTakesMemory, Obeys, refused_by_client, Fields, meaning}
+use Rattle.krl_world.proofs.Names.{places_of, kept_nobody, client_there}
+use Rattle.krl_world.specs.declared.node.ClientPlace.{ClientPlace as KeptClientPlace}
 use Rattle.krl_steps.specs.declared.step.Step.TheVariants as step
 use Rattle.krl_steps.specs.declared.step.Command.TheVariants as command
 use Rattle.krl_steps.specs.declared.refused.Refused.TheVariants as refused
-use Rattle.krl_world.specs.SeatSteps.{Does, Commanded, CommandedAt}
-use Rattle.krl_world.proofs.Functions.Lifts.{takes, refuses, refuses_by, is_client, same_seat, seats_set}
+use Rattle.krl_world.specs.PlaceSteps.{Does, Commanded, CommandedAt}
+use Rattle.krl_world.proofs.Functions.Lifts.{takes, refuses, refuses_by, is_client, same_place, places_set}
 
 -- the client of c goes on as this one, and this was sent
 abbrev pub gone : State → ℕ → Option Client → List Message → State
-gone w c next sent = record w { seats = set_seat w.seats c (record { last_incarnation = (w.seats c).last_incarnation; client = next }); sent = sent }
+gone w c next sent = record w { places = set_place w.places c (record { last_incarnation = (w.places c).last_incarnation; client = next }); sent = sent }
 
 pub gone_by : (w v : State) (c : ℕ) (next k : Option Client) (sent more : List Message) → v ≡ gone w c next sent → next ≡ k → sent ≡ more → v ≡ gone w c k more
 gone_by w v c next k sent more e f g = e ∙ (λ t. gone w c (f t) (g t))
 
--- where the client and all that was sent are the same
+-- if the client and all that was sent are the same
 pub gone_nowhere : (w v : State) (c : ℕ) (next : Option Client) (sent : List Message) → v ≡ gone w c next sent → next ≡ client_of w c → sent ≡ w.sent → v ≡ w
-gone_nowhere w v c next sent e f g = gone_by w v c next (client_of w c) sent w.sent e f g ∙ (λ t. record w { seats = same_seat w.seats c t })
+gone_nowhere w v c next sent e f g = gone_by w v c next (client_of w c) sent w.sent e f g ∙ (λ t. record w { places = same_place w.places c t })
 
 quietly : (w v : State) (c : ℕ) (next k : Option Client) (sent : List Message) → v ≡ gone w c next sent → next ≡ k → sent ≡ w.sent → v ≡ with_client w c k []
 quietly w v c next k sent e f g = gone_by w v c next k sent (w.sent ++ []) e f (g ∙ sym (append-nil w.sent))
@@ -48,6 +48,6 @@ command_steps w v c what None next sent r h i e d =
     subst (λ x. Steps w (step.Command c what) x v) (sym d.0)
     (refuses w v (step.Command c what) refused.Down (gone_nowhere w v c next sent e (d.1 ∙ sym i) d.2) (due w c what None h i))
 
--- the world of the fields, with another client at a seat
-pub gone_fields : (w : Fields) (c : ℕ) (x y : KeptSeat) (sent : List Message) → c < length w.seats → x ≡ get_or w.seats c kept_nobody → y.last_incarnation ≡ x.last_incarnation → meaning (record w { seats = set w.seats c y; sent = sent }) ≡ gone (meaning w) c (client_there y.client) sent
-gone_fields w c x y sent lt e f = λ t. record (meaning w) { seats = (seats_set w.seats c y lt ∙ ap (λ n. set_seat (seats_of w.seats) c (record { last_incarnation = n; client = client_there y.client })) (f ∙ ap (λ (s : KeptSeat). s.last_incarnation) e)) t; sent = sent }
+-- the world of the fields, with another client at a place
+pub gone_fields : (w : Fields) (c : ℕ) (x y : KeptClientPlace) (sent : List Message) → c < length w.places → x ≡ get_or w.places c kept_nobody → y.last_incarnation ≡ x.last_incarnation → meaning (record w { places = set w.places c y; sent = sent }) ≡ gone (meaning w) c (client_there y.client) sent
+gone_fields w c x y sent lt e f = λ t. record (meaning w) { places = (places_set w.places c y lt ∙ ap (λ n. set_place (places_of w.places) c (record { last_incarnation = n; client = client_there y.client })) (f ∙ ap (λ (s : KeptClientPlace). s.last_incarnation) e)) t; sent = sent }

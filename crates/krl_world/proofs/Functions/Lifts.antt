@@ -1,10 +1,10 @@
--- What a seat or the server does is a step of the world.
+-- What a place or the server does is a step of the world.
 use Rattle.std.proofs.Common.{◌≡◌, ◌≢◌, ℕ, ◌≤◌, ◌<◌, cond, Some, None, Option, inl, inr, List, [], ◌++◌, length, set, refl, sym, ap, subst, ◌∙◌, ⊎_elim, eq-eqb, ne_eqb, append-nil}
-use Rattle.krl_world.proofs.Names.{lt-ltb, le-ltb, get_or-set_same, get_or-set_other, eq_cases, ToServer, Message, Step, Answer, Refused, State, Seat, set_seat, seated, from_clients, Steps}
-use Rattle.krl_world.proofs.Names.{TakesMemory, refusal_of, of_client, Fields, meaning, seats_of, seat_of, kept_nobody, IsRefused}
+use Rattle.krl_world.proofs.Names.{lt-ltb, le-ltb, get_or-set_same, get_or-set_other, eq_cases, ToServer, Message, Step, Answer, Refused, State, ClientPlace, set_place, seated, from_clients, Steps}
+use Rattle.krl_world.proofs.Names.{TakesMemory, refusal_of, of_client, Fields, meaning, places_of, place_of, kept_nobody, IsRefused}
 use Rattle.std.proofs.Math.Path.{fun_ext}
 use Rattle.std.specs.Prelude.{if◌then◌else◌, Ok, Err}
-use Rattle.krl_world.specs.declared.node.Seat.{Seat as KeptSeat}
+use Rattle.krl_world.specs.declared.node.ClientPlace.{ClientPlace as KeptClientPlace}
 use Rattle.krl_steps.specs.declared.refused.Refused.TheVariants as refused
 use Rattle.krl_world.specs.Steps as steps
 
@@ -35,34 +35,34 @@ is_no_client c r h = ap (λ b. cond b (Some refused.BadClient) r) (lt-ltb 63 c h
 pub is_client : (c : ℕ) (r : Option Refused) → c ≤ 63 → of_client c r ≡ r
 is_client c r h = ap (λ b. cond b (Some refused.BadClient) r) (le-ltb 63 c h)
 
--- Seats
+-- Places
 
-pub seat_here : (seats : ℕ → Seat) (c : ℕ) (x : Seat) → set_seat seats c x c ≡ x
-seat_here seats c x = ap (λ b. if b then x else seats c) (eq-eqb c c refl)
+pub place_here : (places : ℕ → ClientPlace) (c : ℕ) (x : ClientPlace) → set_place places c x c ≡ x
+place_here places c x = ap (λ b. if b then x else places c) (eq-eqb c c refl)
 
-pub seat_other : (seats : ℕ → Seat) (c d : ℕ) (x : Seat) → d ≢ c → set_seat seats c x d ≡ seats d
-seat_other seats c d x ne = ap (λ b. if b then x else seats d) (ne_eqb d c ne)
+pub place_other : (places : ℕ → ClientPlace) (c d : ℕ) (x : ClientPlace) → d ≢ c → set_place places c x d ≡ places d
+place_other places c d x ne = ap (λ b. if b then x else places d) (ne_eqb d c ne)
 
--- another seat for one client
-pub seats_set : (seats : List KeptSeat) (c : ℕ) (x : KeptSeat) → c < length seats → seats_of (set seats c x) ≡ set_seat (seats_of seats) c (seat_of x)
-seats_set seats c x lt = fun_ext (λ d. eq_cases d c
-    (λ e. subst (λ y. seats_of (set seats c x) y ≡ set_seat (seats_of seats) c (seat_of x) y) (sym e) (ap seat_of (get_or-set_same seats c x kept_nobody lt) ∙ sym (seat_here (seats_of seats) c (seat_of x))))
-    (λ ne. ap seat_of (get_or-set_other seats c d x kept_nobody ne) ∙ sym (seat_other (seats_of seats) c d (seat_of x) ne)))
+-- another place for one client
+pub places_set : (places : List KeptClientPlace) (c : ℕ) (x : KeptClientPlace) → c < length places → places_of (set places c x) ≡ set_place (places_of places) c (place_of x)
+places_set places c x lt = fun_ext (λ d. eq_cases d c
+    (λ e. subst (λ y. places_of (set places c x) y ≡ set_place (places_of places) c (place_of x) y) (sym e) (ap place_of (get_or-set_same places c x kept_nobody lt) ∙ sym (place_here (places_of places) c (place_of x))))
+    (λ ne. ap place_of (get_or-set_other places c d x kept_nobody ne) ∙ sym (place_other (places_of places) c d (place_of x) ne)))
 
--- the same seat again changes nothing
-pub same_seat : (seats : ℕ → Seat) (c : ℕ) → set_seat seats c (seats c) ≡ seats
-same_seat seats c = fun_ext (λ d. eq_cases d c
-    (λ e. subst (λ y. set_seat seats c (seats c) y ≡ seats y) (sym e) (seat_here seats c (seats c)))
-    (λ ne. seat_other seats c d (seats c) ne))
+-- the same place again changes nothing
+pub same_place : (places : ℕ → ClientPlace) (c : ℕ) → set_place places c (places c) ≡ places
+same_place places c = fun_ext (λ d. eq_cases d c
+    (λ e. subst (λ y. set_place places c (places c) y ≡ places y) (sym e) (place_here places c (places c)))
+    (λ ne. place_other places c d (places c) ne))
 
--- the world with another seat, and more that was sent
-pub seated_by : (w : Fields) (c : ℕ) (x : KeptSeat) (sent : List Message) (y : Seat) (ms : List ToServer) → c < length w.seats → seat_of x ≡ y → sent ≡ w.sent ++ from_clients ms → meaning (record w { seats = set w.seats c x; sent = sent }) ≡ seated (meaning w) c y ms
-seated_by w c x sent y ms lt e f = λ t. record (meaning w) { seats = (seats_set w.seats c x lt ∙ ap (set_seat (seats_of w.seats) c) e) t; sent = f t }
+-- the world with another place, and more that was sent
+pub seated_by : (w : Fields) (c : ℕ) (x : KeptClientPlace) (sent : List Message) (y : ClientPlace) (ms : List ToServer) → c < length w.places → place_of x ≡ y → sent ≡ w.sent ++ from_clients ms → meaning (record w { places = set w.places c x; sent = sent }) ≡ seated (meaning w) c y ms
+seated_by w c x sent y ms lt e f = λ t. record (meaning w) { places = (places_set w.places c x lt ∙ ap (set_place (places_of w.places) c) e) t; sent = f t }
 
--- and where nothing is sent
-pub seated_quietly : (w : Fields) (c : ℕ) (x : KeptSeat) (y : Seat) → c < length w.seats → seat_of x ≡ y → meaning (record w { seats = set w.seats c x }) ≡ seated (meaning w) c y []
+-- and if nothing is sent
+pub seated_quietly : (w : Fields) (c : ℕ) (x : KeptClientPlace) (y : ClientPlace) → c < length w.places → place_of x ≡ y → meaning (record w { places = set w.places c x }) ≡ seated (meaning w) c y []
 seated_quietly w c x y lt e = seated_by w c x w.sent y [] lt e (sym (append-nil w.sent))
 
--- where nothing happened
-pub unchanged_by : (w : Fields) (c : ℕ) (x : KeptSeat) (sent : List Message) → c < length w.seats → seat_of x ≡ seats_of w.seats c → sent ≡ w.sent → meaning (record w { seats = set w.seats c x; sent = sent }) ≡ meaning w
-unchanged_by w c x sent lt e f = λ t. record (meaning w) { seats = (seats_set w.seats c x lt ∙ ap (set_seat (seats_of w.seats) c) e ∙ same_seat (seats_of w.seats) c) t; sent = f t }
+-- if nothing happened
+pub unchanged_by : (w : Fields) (c : ℕ) (x : KeptClientPlace) (sent : List Message) → c < length w.places → place_of x ≡ places_of w.places c → sent ≡ w.sent → meaning (record w { places = set w.places c x; sent = sent }) ≡ meaning w
+unchanged_by w c x sent lt e f = λ t. record (meaning w) { places = (places_set w.places c x lt ∙ ap (set_place (places_of w.places) c) e ∙ same_place (places_of w.places) c) t; sent = f t }

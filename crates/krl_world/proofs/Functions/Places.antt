@@ -1,73 +1,73 @@
--- The steps at a seat, over what a world keeps.
+-- The steps at a place, over what a world keeps.
 use Rattle.krl_world.proofs.Names.{◌≡◌, ℕ, suc, ◌≤◌, ◌<◌, Some, None, Option, List, length, set, get_or, refl, sym, ap, subst, ◌∙◌, arith, get_or_default, Result, Ok, Err, slice_get, ToClient}
-use Rattle.krl_world.proofs.Names.{Client, Message, Command, Answer, Refused, client_of, Steps, Fields, meaning, seat_of, kept_nobody, client_there, IsRefused, CommandedAt, Started, Ticked, HasRead}
+use Rattle.krl_world.proofs.Names.{Client, Message, Command, Answer, Refused, client_of, Steps, Fields, meaning, place_of, kept_nobody, client_there, IsRefused, CommandedAt, Started, Ticked, HasRead}
 use Rattle.krl_world.proofs.Names.{starting_refusal}
 use Rattle.krl_client.specs.Fields as client_fields
-use Rattle.krl_world.specs.declared.node.Seat.{Seat as KeptSeat}
+use Rattle.krl_world.specs.declared.node.ClientPlace.{ClientPlace as KeptClientPlace}
 use Rattle.krl_world.specs.declared.message.Message.TheVariants as message
 use Rattle.krl_steps.specs.declared.step.Step.TheVariants as step
 use Rattle.krl_steps.specs.declared.answer.Answer.TheVariants as told
 use Rattle.krl_steps.specs.declared.refused.Refused.TheVariants as refused
-use Rattle.krl_world.proofs.Functions.Lifts.{seats_set, unchanged_by}
+use Rattle.krl_world.proofs.Functions.Lifts.{places_set, unchanged_by}
 use Rattle.krl_world.proofs.Functions.Commands.{gone, gone_fields, command_steps}
-use Rattle.krl_world.proofs.Functions.Seats as seats
+use Rattle.krl_world.proofs.Functions.ClientPlaces as places
 
--- the seat of a client number
-pub record IsAt (w : Fields) (c : ℕ) (x : KeptSeat) : Type 0 where
+-- the place of a client number
+pub record IsAt (w : Fields) (c : ℕ) (x : KeptClientPlace) : Type 0 where
   pub low : c ≤ 63
-  pub there : c < length w.seats
-  pub is : x ≡ get_or w.seats c kept_nobody
+  pub there : c < length w.places
+  pub is : x ≡ get_or w.places c kept_nobody
 
-pub is_at : (w : Fields) (c : ℕ) (x d : KeptSeat) → length w.seats ≡ 64 → c ≤ 63 → x ≡ get_or w.seats c d → IsAt w c x
-is_at w c x d full low e = let there : c < length w.seats = omega arith in
-    record { low = low; there = there; is = e ∙ get_or_default w.seats c d kept_nobody there }
+pub is_at : (w : Fields) (c : ℕ) (x d : KeptClientPlace) → length w.places ≡ 64 → c ≤ 63 → x ≡ get_or w.places c d → IsAt w c x
+is_at w c x d full low e = let there : c < length w.places = omega arith in
+    record { low = low; there = there; is = e ∙ get_or_default w.places c d kept_nobody there }
 
-client_is : (w : Fields) (c : ℕ) (x : KeptSeat) (o : Option Client) → IsAt w c x → client_there x.client ≡ o → client_of (meaning w) c ≡ o
-client_is w c x o a e = ap (λ (s : KeptSeat). client_there s.client) (sym a.is) ∙ e
+client_is : (w : Fields) (c : ℕ) (x : KeptClientPlace) (o : Option Client) → IsAt w c x → client_there x.client ≡ o → client_of (meaning w) c ≡ o
+client_is w c x o a e = ap (λ (s : KeptClientPlace). client_there s.client) (sym a.is) ∙ e
 
-pub command_at : (w : Fields) (c : ℕ) (x y : KeptSeat) (sent : List Message) (what : Command) (r : Result Answer Refused) → IsAt w c x → y.last_incarnation ≡ x.last_incarnation → CommandedAt (client_there x.client) what (client_there y.client) w.sent sent r → Steps (meaning w) (step.Command c what) r (meaning (record w { seats = set w.seats c y; sent = sent }))
+pub command_at : (w : Fields) (c : ℕ) (x y : KeptClientPlace) (sent : List Message) (what : Command) (r : Result Answer Refused) → IsAt w c x → y.last_incarnation ≡ x.last_incarnation → CommandedAt (client_there x.client) what (client_there y.client) w.sent sent r → Steps (meaning w) (step.Command c what) r (meaning (record w { places = set w.places c y; sent = sent }))
 command_at w c x y sent what r a g d =
-    command_steps (meaning w) (meaning (record w { seats = set w.seats c y; sent = sent })) c what (client_there x.client) (client_there y.client) sent r a.low (client_is w c x _ a refl) (gone_fields w c x y sent a.there a.is g) d
+    command_steps (meaning w) (meaning (record w { places = set w.places c y; sent = sent })) c what (client_there x.client) (client_there y.client) sent r a.low (client_is w c x _ a refl) (gone_fields w c x y sent a.there a.is g) d
 
-pub crash_at : (w : Fields) (c : ℕ) (x y : KeptSeat) (k : client_fields.Fields) → IsAt w c x → y.last_incarnation ≡ x.last_incarnation → x.client ≡ Some k → y.client ≡ None → Steps (meaning w) (step.CrashClient c) (Ok told.Done) (meaning (record w { seats = set w.seats c y }))
+pub crash_at : (w : Fields) (c : ℕ) (x y : KeptClientPlace) (k : client_fields.Fields) → IsAt w c x → y.last_incarnation ≡ x.last_incarnation → x.client ≡ Some k → y.client ≡ None → Steps (meaning w) (step.CrashClient c) (Ok told.Done) (meaning (record w { places = set w.places c y }))
 crash_at w c x y k a g e f =
-    seats.crashed_steps (meaning w) (meaning (record w { seats = set w.seats c y })) c (client_fields.meaning k) a.low (client_is w c x _ a (ap client_there e)) (gone_fields w c x y w.sent a.there a.is g ∙ ap (λ o. gone (meaning w) c (client_there o) w.sent) f)
+    places.crashed_steps (meaning w) (meaning (record w { places = set w.places c y })) c (client_fields.meaning k) a.low (client_is w c x _ a (ap client_there e)) (gone_fields w c x y w.sent a.there a.is g ∙ ap (λ o. gone (meaning w) c (client_there o) w.sent) f)
 
-pub crash_none_at : (w : Fields) (c : ℕ) (x y : KeptSeat) → IsAt w c x → y.last_incarnation ≡ x.last_incarnation → x.client ≡ None → y.client ≡ None → Steps (meaning w) (step.CrashClient c) (Err refused.Down) (meaning (record w { seats = set w.seats c y }))
+pub crash_none_at : (w : Fields) (c : ℕ) (x y : KeptClientPlace) → IsAt w c x → y.last_incarnation ≡ x.last_incarnation → x.client ≡ None → y.client ≡ None → Steps (meaning w) (step.CrashClient c) (Err refused.Down) (meaning (record w { places = set w.places c y }))
 crash_none_at w c x y a g e f =
-    seats.crash_down (meaning w) (meaning (record w { seats = set w.seats c y })) c a.low (client_is w c x _ a (ap client_there e)) (gone_fields w c x y w.sent a.there a.is g ∙ ap (λ o. gone (meaning w) c (client_there o) w.sent) f)
+    places.crash_down (meaning w) (meaning (record w { places = set w.places c y })) c a.low (client_is w c x _ a (ap client_there e)) (gone_fields w c x y w.sent a.there a.is g ∙ ap (λ o. gone (meaning w) c (client_there o) w.sent) f)
 
-pub start_at : (w : Fields) (c : ℕ) (x y : KeptSeat) (sent : List Message) → IsAt w c x → Started c (seat_of x) (seat_of y) w.sent sent → Steps (meaning w) (step.StartClient c) (Ok told.Done) (meaning (record w { seats = set w.seats c y; sent = sent }))
+pub start_at : (w : Fields) (c : ℕ) (x y : KeptClientPlace) (sent : List Message) → IsAt w c x → Started c (place_of x) (place_of y) w.sent sent → Steps (meaning w) (step.StartClient c) (Ok told.Done) (meaning (record w { places = set w.places c y; sent = sent }))
 start_at w c x y sent a s =
-    seats.started_steps (meaning w) (meaning (record w { seats = set w.seats c y; sent = sent })) c (seat_of y) sent a.low (λ t. record (meaning w) { seats = seats_set w.seats c y a.there t; sent = sent })
-    (subst (λ (z : KeptSeat). Started c (seat_of z) (seat_of y) w.sent sent) a.is s)
+    places.started_steps (meaning w) (meaning (record w { places = set w.places c y; sent = sent })) c (place_of y) sent a.low (λ t. record (meaning w) { places = places_set w.places c y a.there t; sent = sent })
+    (subst (λ (z : KeptClientPlace). Started c (place_of z) (place_of y) w.sent sent) a.is s)
 
-pub start_refused_at : (w : Fields) (c : ℕ) (x y : KeptSeat) (sent : List Message) (r : Refused) → IsAt w c x → y ≡ x → sent ≡ w.sent → IsRefused (starting_refusal c (seat_of x)) (Unit {0}) r → Steps (meaning w) (step.StartClient c) (Err r) (meaning (record w { seats = set w.seats c y; sent = sent }))
+pub start_refused_at : (w : Fields) (c : ℕ) (x y : KeptClientPlace) (sent : List Message) (r : Refused) → IsAt w c x → y ≡ x → sent ≡ w.sent → IsRefused (starting_refusal c (place_of x)) (Unit {0}) r → Steps (meaning w) (step.StartClient c) (Err r) (meaning (record w { places = set w.places c y; sent = sent }))
 start_refused_at w c x y sent r a e f d =
-    seats.start_refused (meaning w) (meaning (record w { seats = set w.seats c y; sent = sent })) c r a.low (unchanged_by w c y sent a.there (ap seat_of (e ∙ a.is)) f)
-    (subst (λ (z : KeptSeat). IsRefused (starting_refusal c (seat_of z)) (Unit {0}) r) a.is d)
+    places.start_refused (meaning w) (meaning (record w { places = set w.places c y; sent = sent })) c r a.low (unchanged_by w c y sent a.there (ap place_of (e ∙ a.is)) f)
+    (subst (λ (z : KeptClientPlace). IsRefused (starting_refusal c (place_of z)) (Unit {0}) r) a.is d)
 
-pub tick_at : (w : Fields) (c : ℕ) (x : KeptSeat) (k : client_fields.Fields) (sent : List Message) → IsAt w c x → x.client ≡ Some k → Ticked (client_fields.meaning k) w.sent sent → Steps (meaning w) (step.Tick c) (Ok told.Done) (meaning (record w { sent = sent }))
-tick_at w c x k sent a e t = seats.ticked_steps (meaning w) (meaning (record w { sent = sent })) c (client_fields.meaning k) sent a.low (client_is w c x _ a (ap client_there e)) refl t
+pub tick_at : (w : Fields) (c : ℕ) (x : KeptClientPlace) (k : client_fields.Fields) (sent : List Message) → IsAt w c x → x.client ≡ Some k → Ticked (client_fields.meaning k) w.sent sent → Steps (meaning w) (step.Tick c) (Ok told.Done) (meaning (record w { sent = sent }))
+tick_at w c x k sent a e t = places.ticked_steps (meaning w) (meaning (record w { sent = sent })) c (client_fields.meaning k) sent a.low (client_is w c x _ a (ap client_there e)) refl t
 
-pub tick_memory_at : (w : Fields) (c : ℕ) (x : KeptSeat) (k : client_fields.Fields) (sent : List Message) → IsAt w c x → x.client ≡ Some k → sent ≡ w.sent → Steps (meaning w) (step.Tick c) (Err refused.OutOfMemory) (meaning (record w { sent = sent }))
-tick_memory_at w c x k sent a e f = seats.tick_memory (meaning w) (meaning (record w { sent = sent })) c (client_fields.meaning k) a.low (client_is w c x _ a (ap client_there e)) (λ t. meaning (record w { sent = f t }))
+pub tick_memory_at : (w : Fields) (c : ℕ) (x : KeptClientPlace) (k : client_fields.Fields) (sent : List Message) → IsAt w c x → x.client ≡ Some k → sent ≡ w.sent → Steps (meaning w) (step.Tick c) (Err refused.OutOfMemory) (meaning (record w { sent = sent }))
+tick_memory_at w c x k sent a e f = places.tick_memory (meaning w) (meaning (record w { sent = sent })) c (client_fields.meaning k) a.low (client_is w c x _ a (ap client_there e)) (λ t. meaning (record w { sent = f t }))
 
-pub tick_none_at : (w : Fields) (c : ℕ) (x : KeptSeat) → IsAt w c x → x.client ≡ None → Steps (meaning w) (step.Tick c) (Err refused.Down) (meaning w)
-tick_none_at w c x a e = seats.tick_down (meaning w) (meaning w) c a.low (client_is w c x _ a (ap client_there e)) refl
+pub tick_none_at : (w : Fields) (c : ℕ) (x : KeptClientPlace) → IsAt w c x → x.client ≡ None → Steps (meaning w) (step.Tick c) (Err refused.Down) (meaning w)
+tick_none_at w c x a e = places.tick_down (meaning w) (meaning w) c a.low (client_is w c x _ a (ap client_there e)) refl
 
-pub read_at : (w : Fields) (at : ℕ) (m : ToClient) (x y : KeptSeat) (k next : client_fields.Fields) (sent : List Message) → IsAt w m.client x → slice_get w.sent at ≡ Some (message.ToClient m) → y.last_incarnation ≡ x.last_incarnation → x.client ≡ Some k → y.client ≡ Some next → HasRead (client_fields.meaning k) m (client_fields.meaning next) w.sent sent → Steps (meaning w) (step.Deliver (suc at)) (Ok told.Done) (meaning (record w { seats = set w.seats m.client y; sent = sent }))
+pub read_at : (w : Fields) (at : ℕ) (m : ToClient) (x y : KeptClientPlace) (k next : client_fields.Fields) (sent : List Message) → IsAt w m.client x → slice_get w.sent at ≡ Some (message.ToClient m) → y.last_incarnation ≡ x.last_incarnation → x.client ≡ Some k → y.client ≡ Some next → HasRead (client_fields.meaning k) m (client_fields.meaning next) w.sent sent → Steps (meaning w) (step.Deliver (suc at)) (Ok told.Done) (meaning (record w { places = set w.places m.client y; sent = sent }))
 read_at w at m x y k next sent a f g e n r =
-    seats.read_steps (meaning w) (meaning (record w { seats = set w.seats m.client y; sent = sent })) at m (client_fields.meaning k) (client_fields.meaning next) sent f (client_is w m.client x _ a (ap client_there e)) (gone_fields w m.client x y sent a.there a.is g ∙ ap (λ o. gone (meaning w) m.client (client_there o) sent) n) r
+    places.read_steps (meaning w) (meaning (record w { places = set w.places m.client y; sent = sent })) at m (client_fields.meaning k) (client_fields.meaning next) sent f (client_is w m.client x _ a (ap client_there e)) (gone_fields w m.client x y sent a.there a.is g ∙ ap (λ o. gone (meaning w) m.client (client_there o) sent) n) r
 
-pub read_memory_at : (w : Fields) (at : ℕ) (m : ToClient) (x : KeptSeat) (k next : client_fields.Fields) (sent : List Message) → IsAt w m.client x → slice_get w.sent at ≡ Some (message.ToClient m) → x.client ≡ Some k → next ≡ k → sent ≡ w.sent → Steps (meaning w) (step.Deliver (suc at)) (Err refused.OutOfMemory) (meaning (record w { seats = set w.seats m.client (record x { client = Some next }); sent = sent }))
+pub read_memory_at : (w : Fields) (at : ℕ) (m : ToClient) (x : KeptClientPlace) (k next : client_fields.Fields) (sent : List Message) → IsAt w m.client x → slice_get w.sent at ≡ Some (message.ToClient m) → x.client ≡ Some k → next ≡ k → sent ≡ w.sent → Steps (meaning w) (step.Deliver (suc at)) (Err refused.OutOfMemory) (meaning (record w { places = set w.places m.client (record x { client = Some next }); sent = sent }))
 read_memory_at w at m x k next sent a f e g n =
-    seats.read_memory (meaning w) (meaning (record w { seats = set w.seats m.client (record x { client = Some next }); sent = sent })) at m (client_fields.meaning k) f (client_is w m.client x _ a (ap client_there e))
-    (unchanged_by w m.client (record x { client = Some next }) sent a.there ((λ t. seat_of (record x { client = (ap (λ o. Some o) g ∙ sym e) t })) ∙ ap seat_of a.is) n)
+    places.read_memory (meaning w) (meaning (record w { places = set w.places m.client (record x { client = Some next }); sent = sent })) at m (client_fields.meaning k) f (client_is w m.client x _ a (ap client_there e))
+    (unchanged_by w m.client (record x { client = Some next }) sent a.there ((λ t. place_of (record x { client = (ap (λ o. Some o) g ∙ sym e) t })) ∙ ap place_of a.is) n)
 
-pub read_none_at : (w : Fields) (at : ℕ) (m : ToClient) (x : KeptSeat) → IsAt w m.client x → slice_get w.sent at ≡ Some (message.ToClient m) → x.client ≡ None → Steps (meaning w) (step.Deliver (suc at)) (Ok told.Done) (meaning (record w { seats = set w.seats m.client x }))
+pub read_none_at : (w : Fields) (at : ℕ) (m : ToClient) (x : KeptClientPlace) → IsAt w m.client x → slice_get w.sent at ≡ Some (message.ToClient m) → x.client ≡ None → Steps (meaning w) (step.Deliver (suc at)) (Ok told.Done) (meaning (record w { places = set w.places m.client x }))
 read_none_at w at m x a f e =
-    seats.read_by_nobody (meaning w) (meaning (record w { seats = set w.seats m.client x })) at m f (client_is w m.client x _ a (ap client_there e)) (unchanged_by w m.client x w.sent a.there (ap seat_of a.is) refl)
+    places.read_by_nobody (meaning w) (meaning (record w { places = set w.places m.client x })) at m f (client_is w m.client x _ a (ap client_there e)) (unchanged_by w m.client x w.sent a.there (ap place_of a.is) refl)
 
-pub read_past : (w : Fields) (at : ℕ) (m : ToClient) → length w.seats ≤ m.client → slice_get w.sent at ≡ Some (message.ToClient m) → Steps (meaning w) (step.Deliver (suc at)) (Ok told.Done) (meaning w)
-read_past w at m le f = seats.read_by_nobody (meaning w) (meaning w) at m f (seats.nobody_past w.seats m.client le) refl
+pub read_past : (w : Fields) (at : ℕ) (m : ToClient) → length w.places ≤ m.client → slice_get w.sent at ≡ Some (message.ToClient m) → Steps (meaning w) (step.Deliver (suc at)) (Ok told.Done) (meaning w)
+read_past w at m le f = places.read_by_nobody (meaning w) (meaning w) at m f (places.nobody_past w.places m.client le) refl

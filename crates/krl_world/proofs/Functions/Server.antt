@@ -1,21 +1,21 @@
 -- What the server does is a step of the world.
 use Rattle.krl_world.proofs.Names.{◌≡◌, ℕ, zero, suc, ◌≤◌, ◌<◌, ◌⊎◌, inl, inr, true, false, Some, None, is_some, List, [], ◌++◌, length, get_or, refl, sym, ap, subst, ◌∙◌, cond, arith, ◌-◌}
 use Rattle.krl_world.proofs.Names.{slice_get_past, slice_get_read, append-nil, Result, Ok, Err, slice_get, ToServer, Durable, Server, IsStarted, IsReason, Fields, meaning, node_of, Message}
-use Rattle.krl_world.proofs.Names.{AppliedWrite, Answer, Refused, State, ServerNode, Up, Down, from_server, served, Steps, message_at, refused_by_server, refusal_of, server_down, server_start}
+use Rattle.krl_world.proofs.Names.{AppliedWrite, Answer, Refused, State, ServerPlace, Up, Down, from_server, served, Steps, message_at, refused_by_server, refusal_of, server_down, server_start}
 use Rattle.krl_world.proofs.Names.{nudged, started, crashed, ServerReads, HasServed, HasArrived}
 use Rattle.krl_server.specs.Steps as server
 use Rattle.krl_server.specs.StateMeaning.{meaning as server_of}
 use Rattle.krl_server.specs.declared.state.State.{State as Kept}
-use Rattle.krl_server.specs.declared.start_refused.StartRefused.{StartRefused}
-use Rattle.krl_server.specs.declared.start_refused.StartRefused.TheVariants as beginner
-use Rattle.krl_world.specs.declared.node.ServerNode.{ServerNode as KeptNode}
-use Rattle.krl_world.specs.declared.node.ServerNode.TheVariants as kept
+use Rattle.krl_server.specs.declared.start_refused.ServerNotStarted.{ServerNotStarted}
+use Rattle.krl_server.specs.declared.start_refused.ServerNotStarted.TheVariants as beginner
+use Rattle.krl_world.specs.declared.node.ServerPlace.{ServerPlace as KeptNode}
+use Rattle.krl_world.specs.declared.node.ServerPlace.TheVariants as kept
 use Rattle.krl_world.specs.declared.message.Message.TheVariants as message
 use Rattle.krl_steps.specs.declared.step.Step.TheVariants as step
 use Rattle.krl_steps.specs.declared.answer.Answer.TheVariants as told
 use Rattle.krl_steps.specs.declared.refused.Refused.TheVariants as refused
 use Rattle.krl_world.proofs.Functions.Lifts.{takes, refuses, lacks_memory, is_client}
-use Rattle.krl_world.proofs.Functions.Seats.{delivered, delivery_memory}
+use Rattle.krl_world.proofs.Functions.ClientPlaces.{delivered, delivery_memory}
 
 -- Messages
 
@@ -29,7 +29,7 @@ lost_steps w v at m d f down e = delivered w v at (message.ToServer m) f (subst 
 
 -- Nudges
 
-nudges : (w : State) (c : ℕ) (n : ServerNode) → c ≤ 63 → w.server ≡ n → refusal_of w (step.Nudge c) ≡ server_down n
+nudges : (w : State) (c : ℕ) (n : ServerPlace) → c ≤ 63 → w.server ≡ n → refusal_of w (step.Nudge c) ≡ server_down n
 nudges w c n h e = is_client c _ h ∙ ap server_down e
 
 -- nothing of the server changes, and nothing is written
@@ -49,7 +49,7 @@ nudge_memory w v c s h up e = lacks_memory w v (step.Nudge c) e (nudges w c (Up 
 -- Crash and start
 
 -- the server changes, and nothing is sent or written
-moved : (w v : State) (n : ServerNode) → v ≡ record w { server = n } → v ≡ served w n [] []
+moved : (w v : State) (n : ServerPlace) → v ≡ record w { server = n } → v ≡ served w n [] []
 moved w v n e = e ∙ (λ t. record w { server = n; sent = sym (append-nil w.sent) t; writes = sym (append-nil w.writes) t })
 
 pub crashed_steps : (w v : State) (s : Server) → w.server ≡ Up s → v ≡ record w { server = Down s.durable } → Steps w step.CrashServer (Ok told.Done) v
@@ -108,7 +108,7 @@ start_running_at w s up = start_running (meaning w) (meaning (record w { server 
 survives : (w : Fields) (d e : Durable) → w.server ≡ kept.Down d → e ≡ d → meaning (record w { server = kept.Down e }) ≡ meaning w
 survives w d e down f = λ t. meaning (record w { server = (ap kept.Down f ∙ sym down) t })
 
-pub start_refused_at : (w : Fields) (d e : Durable) (r : StartRefused) → w.server ≡ kept.Down d → e ≡ d → IsReason d r → Steps (meaning w) step.StartServer (Err (refused_by_server r)) (meaning (record w { server = kept.Down e }))
+pub start_refused_at : (w : Fields) (d e : Durable) (r : ServerNotStarted) → w.server ≡ kept.Down d → e ≡ d → IsReason d r → Steps (meaning w) step.StartServer (Err (refused_by_server r)) (meaning (record w { server = kept.Down e }))
 start_refused_at w d e beginner.Spent down f h = start_spent (meaning w) (meaning (record w { server = kept.Down e })) d (ap node_of down) h (survives w d e down f)
 start_refused_at w d e beginner.OutOfMemory down f h = start_memory (meaning w) (meaning (record w { server = kept.Down e })) d (ap node_of down) h (survives w d e down f)
 
@@ -137,7 +137,7 @@ arrived_at w at m n sent writes f h = go (node_of w.server) (node_of n) refl ref
     v : State
     v = meaning (record w { server = n; sent = sent; writes = writes })
 
-    go : (x y : ServerNode) → node_of w.server ≡ x → node_of n ≡ y → HasArrived x m y w.sent sent w.writes writes → Steps (meaning w) (step.Deliver (suc at)) (Ok told.Done) v
+    go : (x y : ServerPlace) → node_of w.server ≡ x → node_of n ≡ y → HasArrived x m y w.sent sent w.writes writes → Steps (meaning w) (step.Deliver (suc at)) (Ok told.Done) v
     go (Up s) (Up t) e g a = served_steps (meaning w) v at m s t sent writes f e (λ t'. record (meaning w) { server = g t'; sent = sent; writes = writes }) a
     go (Up s) (Down d) e g a = absurd a
     go (Down d) y e g a = lost_steps (meaning w) v at m d f e (λ t. record (meaning w) { server = (g ∙ a.0 ∙ sym e) t; sent = a.1 t; writes = a.2 t })

@@ -3,7 +3,7 @@ use Rattle.krl_world.proofs.Names.{◌≡◌, ℕ, zero, suc, ◌+◌, ◌-◌, 
 use Rattle.krl_world.proofs.Names.{ltb-true, eqb_tells, and_parts, not-false, not, END, TOP, Value, WriteOp, Pieces, ToServer, ToClient, op_key, always_bounded, restarts_hold, scans_are_index}
 use Rattle.krl_world.proofs.Names.{case_of, ServerFollows, Belief, is_span, is_covered, CoversAll, AreRows, Describes, Client, outstanding, is_in, is_writing_in, free_pin, begun, is_pending}
 use Rattle.krl_world.proofs.Names.{finds_rows, misses, locked, says_lock, wrote, says_write, says_release, forgot, pinned, unpinned, says_bye, passed, Message, Step, Command, Answer, Refused}
-use Rattle.krl_world.proofs.Names.{ServerNode, Up, Down, State, index_of, client_of, with_client, seated, served, span, message_at, command_refusal, if_runs, refusal_of, applies, ServerReads}
+use Rattle.krl_world.proofs.Names.{ServerPlace, Up, Down, State, index_of, client_of, with_client, seated, served, span, message_at, command_refusal, if_runs, refusal_of, applies, ServerReads}
 use Rattle.krl_world.proofs.Names.{ClientReads, Delivers, ScanAnswers, Obeys, nudged, started, crashed, Takes, IsReachable, refused_by_client, CanGoOn}
 use Rattle.krl_server.proofs.Outputs.Ends.{step_ends}
 use Rattle.krl_client.specs.Messages as receiver
@@ -32,7 +32,7 @@ HaveRows w = (c lo hi : ℕ) (k : Client) → client_of w c ≡ Some k → is_sp
 
 -- Deliveries
 
-server_on : (w : State) (m : ToServer) (n : ServerNode) → (v : State) × ServerReads w n m v
+server_on : (w : State) (m : ToServer) (n : ServerPlace) → (v : State) × ServerReads w n m v
 server_on w m (Up s) = let x = step_ends s m in (served w (Up x.0) x.1 (applies m (case_of s m)), (x.0, x.1, x.2, refl))
 server_on w m (Down d) = (w, refl)
 
@@ -123,7 +123,7 @@ goes_on w (step.Tick c) d h e =
     (told.Done, with_client w c (Some r.0) (tick x.0 r.0), (e, (refl, (r.0, r.1, (x.0, x.1, refl)))))
 goes_on w (step.Nudge c) d h e = (told.Done, nudged w w.server c, (e, (refl, refl)))
 goes_on w (step.StartClient c) d h e =
-    let n = suc (w.seats c).last_incarnation in
+    let n = suc (w.places c).last_incarnation in
     (told.Done, seated w c (record { last_incarnation = n; client = Some (begun c n) }) (says_hello (begun c n) ∷ []), (e, (refl, refl)))
 goes_on w (step.CrashClient c) d h e = (told.Done, with_client w c None [], (e, (refl, refl)))
 goes_on w step.StartServer d h e = (told.Done, started w w.server, (e, (refl, refl)))

@@ -1,6 +1,6 @@
 -- Some pieces describe what each client of a reachable world believes.
 use Rattle.krl_world.proofs.Names.{◌≡◌, ℕ, ◌<◌, ◌∙◌, Bool, true, false, Option, Some, None, List, [], refl, sym, subst, END, RangePart, KeyPart, range_at_most, key_at_most, reads_key, Value, Pieces}
-use Rattle.krl_world.proofs.Names.{RangeAtMost, KeyAtMost, Link, Logged, ranges_by_table, keys_by_table, Belief, IsBelief, Describes, Client, ShowsClient, ShowsSeat, State, client_of}
+use Rattle.krl_world.proofs.Names.{RangeAtMost, KeyAtMost, Link, Logged, ranges_by_table, keys_by_table, Belief, IsBelief, Describes, Client, ShowsClient, ShowsPlace, State, client_of}
 use Rattle.std.specs.Prelude.{nat_eq}
 use Rattle.krl_modes.specs.declared.part.RangePart.TheVariants as range
 use Rattle.krl_modes.specs.declared.part.KeyPart.TheVariants as key
@@ -79,5 +79,5 @@ within_world w of log c k low r h p far =
 
 pub described_world : (w : State) (of : ℕ → Link) (log : List Logged) → Mirrors w of log → machine.IsBounded (machine_of w.server of log) → machine.Restarts (machine_of w.server of log) → (c : ℕ) (k : Client) → client_of w c ≡ Some k → (ps : Pieces) × Describes ps k.belief
 described_world w of log m low r c k up =
-    let seat : ShowsSeat c (w.seats c).last_incarnation (Some k) (of c) = subst (λ x. ShowsSeat c (w.seats c).last_incarnation x (of c)) up (m.seats c) in
-    described_within k.belief (within_world w of log c k low r seat.1)
+    let place : ShowsPlace c (w.places c).last_incarnation (Some k) (of c) = subst (λ x. ShowsPlace c (w.places c).last_incarnation x (of c)) up (m.places c) in
+    described_within k.belief (within_world w of log c k low r place.1)

@@ -1,7 +1,7 @@
 -- What clients believe and live pushes lie within the bound of each run, and no message has an epoch above the durable one.
 use Rattle.krl_world.proofs.Names.{◌≡◌, ℕ, suc, ◌≤◌, ◌<◌, ◌&&◌, Bool, true, false, nat_le, nat_lt, inl, inr, Option, Some, None, List, [], ◌∷◌, refl, sym, ap, subst, ◌∙◌, arith, if◌then◌else◌}
 use Rattle.krl_world.proofs.Names.{RangePart, KeyPart, key_of, Holding, ToServer, ToClient, PushBody, RangeAtMost, KeyAtMost, Link, Logged, ranges_by_table, keys_by_table, AllByRecursion, nat_tests}
-use Rattle.krl_world.proofs.Names.{In, in_to_all, push_of, push_with, IsTold, Stands, WasSent, IsWhole, Client, ShowsClient, ShowsSeat, ServerNode, Up, Down, State, durable_of, index_of, client_of}
+use Rattle.krl_world.proofs.Names.{In, in_to_all, push_of, push_with, IsTold, Stands, WasSent, IsWhole, Client, ShowsClient, ShowsPlace, ServerPlace, Up, Down, State, durable_of, index_of, client_of}
 use Rattle.krl_world.proofs.Names.{range_believed, key_believed, Bound, IsRangeWithin, IsKeyWithin, IsHoldingWithin, IsPushWithin, IsBounded, epoch_said, epoch_told, push_epoch}
 use Rattle.krl_modes.specs.declared.part.KeyPart.TheVariants as key
 use Rattle.krl_modes.proofs.SpanLaws.{inside_span}
@@ -12,7 +12,7 @@ use Rattle.krl_messages.specs.declared.to_client.ToClientBody.TheVariants as tol
 use Rattle.krl_messages.specs.declared.to_client.PushBody.TheVariants as push
 use Rattle.krl_machine.specs.Links as links
 use Rattle.krl_machine.specs.Worlds as machine
-use Rattle.krl_messages.specs.Several.{IsBefore, Ascend}
+use Rattle.krl_messages.specs.Ascending.{IsBefore, Ascend}
 use Rattle.krl_machine.specs.Holdings.{said_at, or_by, said_by}
 use Rattle.krl_machine.proofs.Holdings.{says_here}
 use Rattle.krl_world.specs.declared.message.Message.TheVariants as message
@@ -30,17 +30,17 @@ key_within k k' top top' e f h = subst (λ x. IsKeyWithin x top) (sym e) (subst 
 
 -- What clients believe
 
-held_range : (c p : ℕ) (o : Option Client) (g : ℕ) (l : Link) (b : Bound) → ShowsSeat c g o l → l.top_range p ≡ b.range_at c p → RangeAtMost (l.range p) (l.top_range p) → IsRangeWithin (range_believed o p) (b.range_at c p)
+held_range : (c p : ℕ) (o : Option Client) (g : ℕ) (l : Link) (b : Bound) → ShowsPlace c g o l → l.top_range p ≡ b.range_at c p → RangeAtMost (l.range p) (l.top_range p) → IsRangeWithin (range_believed o p) (b.range_at c p)
 held_range c p None g l b h e x = refl
 held_range c p (Some k) g l b h e x = range_within _ _ _ _ (h.1.range p) e x
 
-held_key : (c p : ℕ) (o : Option Client) (g : ℕ) (l : Link) (b : Bound) → ShowsSeat c g o l → l.top_key p ≡ b.key_at c p → KeyAtMost (l.key p) (l.top_key p) → IsKeyWithin (key_believed o p) (b.key_at c p)
+held_key : (c p : ℕ) (o : Option Client) (g : ℕ) (l : Link) (b : Bound) → ShowsPlace c g o l → l.top_key p ≡ b.key_at c p → KeyAtMost (l.key p) (l.top_key p) → IsKeyWithin (key_believed o p) (b.key_at c p)
 held_key c p None g l b h e x = refl
 held_key c p (Some k) g l b h e x = key_within _ _ _ _ (h.1.key p) e x
 
 -- Live pushes
 
--- what several holdings say of a point in the span of one of them, where no point lies in two
+-- what several holdings say of a point in the span of one of them, if no point lies in two
 
 outside_span : (lo hi q : ℕ) → q < lo → (nat_le lo q && nat_lt q hi) ≡ false
 outside_span lo hi q lt = grind (arith, nat_tests)
@@ -80,16 +80,16 @@ push_within w of log b c k (push.Answer number o h) have r s at told = holding_w
 pub bounded_world : (w : State) (of : ℕ → Link) (log : List Logged) (b : Bound) → Mirrors w of log → b.index ≡ index_of w → HaveBound of b → machine.IsBounded (machine_of w.server of log) → machine.Restarts (machine_of w.server of log) → IsBounded w b
 bounded_world w of log b m same have low r = record {
   index = same;
-  held_range = λ c p. held_range c p (client_of w c) (w.seats c).last_incarnation (of c) b (m.seats c) (have c p).0 (low c p).0;
-  held_key = λ c p. held_key c p (client_of w c) (w.seats c).last_incarnation (of c) b (m.seats c) (have c p).1 (low c p).1;
+  held_range = λ c p. held_range c p (client_of w c) (w.places c).last_incarnation (of c) b (m.places c) (have c p).0 (low c p).0;
+  held_key = λ c p. held_key c p (client_of w c) (w.places c).last_incarnation (of c) b (m.places c) (have c p).1 (low c p).1;
   live = λ c k body up at.
-      let seat : ShowsSeat c (w.seats c).last_incarnation (Some k) (of c) = subst (λ x. ShowsSeat c (w.seats c).last_incarnation x (of c)) up (m.seats c) in
-      push_within w of log b c k body have r seat.1 (m.to _ at).0 (m.to _ at).2;
+      let place : ShowsPlace c (w.places c).last_incarnation (Some k) (of c) = subst (λ x. ShowsPlace c (w.places c).last_incarnation x (of c)) up (m.places c) in
+      push_within w of log b c k body have r place.1 (m.to _ at).0 (m.to _ at).2;
 }
 
 -- Epochs
 
-pub epoch_is : (n : ServerNode) → (shared_of n).epoch ≡ (durable_of n).epoch
+pub epoch_is : (n : ServerPlace) → (shared_of n).epoch ≡ (durable_of n).epoch
 epoch_is (Up s) = refl
 epoch_is (Down d) = refl
 

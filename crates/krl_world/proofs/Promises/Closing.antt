@@ -2,7 +2,7 @@
 -- rebuilt, which lies within the bound.
 use Rattle.krl_world.proofs.Names.{◌≡◌, ℕ, ◌∙◌, Bool, true, false, Option, Some, None, List, [], ◌∷◌, refl, sym, ap, subst, nat_eq, if◌then◌else◌, END, RangePart, range_of, key_of, Pieces}
 use Rattle.krl_world.proofs.Names.{ToServer, ToClient, In, Record, Index, slot_of, is_slot, Durable, record_of, left_by, Rows, Server, is_recovering, case_of, Done, effect, Answered, stops, goes_on}
-use Rattle.krl_world.proofs.Names.{Kind, kind_of, Ends, at_once, recovers, serves, ServerFollows, answered_up, Step, ServerNode, Up, Down, State, opened, range_held, key_held, Runs, IsReachable}
+use Rattle.krl_world.proofs.Names.{Kind, kind_of, Ends, at_once, recovers, serves, ServerFollows, answered_up, Step, ServerPlace, Up, Down, State, opened, range_held, key_held, Runs, IsReachable}
 use Rattle.krl_world.proofs.Names.{RecoveriesEnd, always_bounded, restarts_hold}
 use Rattle.std.specs.Prelude.{nat_lt}
 use Rattle.krl_modes.proofs.Basics.{not_both}
@@ -58,7 +58,7 @@ recovery_before s m g = by_test (is_recovering s.missing) refl
     by_test true e = refl
     by_test false e = absurd (not_both (is_recovering (effect s m (case_of s m)).server.missing) g (ap is_recovering (effect_serves s m (case_of s m) (none_missing s.missing e))))
 
-abbrev Quiet : ServerNode → Type 0
+abbrev Quiet : ServerPlace → Type 0
 Quiet (Up s) = is_recovering s.missing ≡ true → NobodyWaits s
 Quiet (Down d) = Unit {0}
 
@@ -185,7 +185,7 @@ end_within w v b s t step h up g within up' e (reads old new m outs a f at step'
 end_within w v b s t step h up g within up' e (stops old x a f) = absurd (let bad : Up t ≡ Down old.durable = sym up' ∙ f in cc)
 end_within w v b s t step h up g within up' e (begins d a f) = absurd (let bad : Up s ≡ Down d = sym up ∙ a in cc)
 
-bound_serving : (t : Server) (kept : Bound) (n : ServerNode) → n ≡ Up t → is_recovering t.missing ≡ false → bound_at n kept ≡ table_of t
+bound_serving : (t : Server) (kept : Bound) (n : ServerPlace) → n ≡ Up t → is_recovering t.missing ≡ false → bound_at n kept ≡ table_of t
 bound_serving t kept n up e = ap (λ x. bound_at x kept) up ∙ ap (λ (x : Bool). if x then kept else table_of t) e
 
 pub recoveries_end : ServerFollows → RecoveriesEnd

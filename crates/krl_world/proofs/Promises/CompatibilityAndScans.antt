@@ -2,7 +2,7 @@
 use Rattle.krl_world.proofs.Names.{◌≡◌, ◌≢◌, ℕ, ◌≤◌, ◌<◌, ◌∙◌, Bool, true, false, ◌||◌, ◌&&◌, cond, Option, Some, None, List, ◌⊎◌, inl, inr, refl, sym, ap, subst, ⊎_elim, arith, nat_eq, leb-true}
 use Rattle.krl_world.proofs.Names.{eqb-true, eqb-false, and_parts, not-false, nat_cmp, find-where_key, is_sorted-where_key, END, TOP, RangePart, KeyPart, ranges_compatible, keys_compatible}
 use Rattle.krl_world.proofs.Names.{reads_key, reads_gap, Bounds, IsPointOf, contains, Value, Logged, ranges_agree_by_table, keys_agree_by_table, Index, Belief, is_covered, is_span, CoversAll}
-use Rattle.krl_world.proofs.Names.{AreRows, Client, is_writing_in, Answers, is_pending, finds_rows, misses, scan_refusal, ShowsClient, ShowsSeat, passed, Step, Command, Answer, Refused, ServerNode}
+use Rattle.krl_world.proofs.Names.{AreRows, Client, is_writing_in, Answers, is_pending, finds_rows, misses, scan_refusal, ShowsClient, ShowsPlace, passed, Step, Command, Answer, Refused, ServerPlace}
 use Rattle.krl_world.proofs.Names.{Up, Down, State, durable_of, index_of, client_of, range_believed, key_believed, span, command_refusal, Steps, Obeys, refused_by_client, IsCompatible}
 use Rattle.krl_world.proofs.Names.{CommandIsRange, ScansIndex}
 use Rattle.std.specs.Prelude.{if◌then◌else◌, nat_lt, nat_le, Result, Ok, Err}
@@ -37,15 +37,15 @@ rows_agree b c s rows h r = record { sorted = r.sorted; at = λ p. r.at p ∙ in
 
 -- What all links see
 
-pub index_is : (n : ServerNode) (q : ℕ) → (shared_of n).index q ≡ map.get (durable_of n).index q
+pub index_is : (n : ServerPlace) (q : ℕ) → (shared_of n).index q ≡ map.get (durable_of n).index q
 index_is (Up s) q = refl
 index_is (Down d) q = refl
 
-pub end_is : (n : ServerNode) → (shared_of n).end ≡ END
+pub end_is : (n : ServerPlace) → (shared_of n).end ≡ END
 end_is (Up s) = refl
 end_is (Down d) = refl
 
-no_key_at_end : (n : ServerNode) (of : ℕ → Link) → ServerShows n of → map.get (durable_of n).index END ≡ None
+no_key_at_end : (n : ServerPlace) (of : ℕ → Link) → ServerShows n of → map.get (durable_of n).index END ≡ None
 no_key_at_end (Up s) of h = h.1.near END (omega arith)
 no_key_at_end (Down d) of h = h.1.near END (omega arith)
 
@@ -64,9 +64,9 @@ key_n key.U = refl
 key_n key.X = refl
 
 pub compatible_world : (w : State) (of : ℕ → Link) (log : List Logged) → Mirrors w of log → machine.IsCompatible (machine_of w.server of log) → IsCompatible w
-compatible_world w of log h ok c d p ne = agree (client_of w c) (client_of w d) (h.seats c) (h.seats d)
+compatible_world w of log h ok c d p ne = agree (client_of w c) (client_of w d) (h.places c) (h.places d)
   where
-    agree : (x y : Option Client) → ShowsSeat c (w.seats c).last_incarnation x (of c) → ShowsSeat d (w.seats d).last_incarnation y (of d) → (ranges_compatible (range_believed x p) (range_believed y p) ≡ true) × (keys_compatible (key_believed x p) (key_believed y p) ≡ true)
+    agree : (x y : Option Client) → ShowsPlace c (w.places c).last_incarnation x (of c) → ShowsPlace d (w.places d).last_incarnation y (of d) → (ranges_compatible (range_believed x p) (range_believed y p) ≡ true) × (keys_compatible (key_believed x p) (key_believed y p) ≡ true)
     agree None y a b = (refl, refl)
     agree (Some k) None a b = (range_n (k.belief.range_at p), key_n (k.belief.key_at p))
     agree (Some k) (Some n) a b = let both = ok c d ne p in (
@@ -125,19 +125,19 @@ scan_rows w of log c lo hi k rows _ m scan up ok (misses p f h) e = absurd (cc)
 scan_rows w of log c lo hi k rows _ m scan up ok (finds_rows found f h) e =
     let is : is_span (span lo hi) ≡ true = not-false _ (passed _ _ _ ok).0 in
     let top : hi ≤ TOP = leb-true hi TOP (and_parts (nat_lt lo hi) (nat_le hi TOP) is).1 in
-    let seat : ShowsSeat c (w.seats c).last_incarnation (Some k) (of c) = subst (λ x. ShowsSeat c (w.seats c).last_incarnation x (of c)) up (m.seats c) in
+    let place : ShowsPlace c (w.places c).last_incarnation (Some k) (of c) = subst (λ x. ShowsPlace c (w.places c).last_incarnation x (of c)) up (m.places c) in
     let r : rows ≡ found = cc in
     r ∙ rows_are_determined (index_believed (index_of w)) (span lo hi) found (index.range (index_of w) lo hi)
-    (rows_agree k.belief (index_believed (index_of w)) (span lo hi) found (λ p at. value_is w of log c k (span lo hi) p (nat_eq p END) m scan seat.1 f (h.0 p at) at top refl) h.1)
+    (rows_agree k.belief (index_believed (index_of w)) (span lo hi) found (λ p at. value_is w of log c k (span lo hi) p (nat_eq p END) m scan place.1 f (h.0 p at) at top refl) h.1)
     (range_rows (index_of w) lo hi)
 
 -- a span that a client knows has the rows of the index
 pub rows_of_scan : (w : State) (of : ℕ → Link) (log : List Logged) (c lo hi : ℕ) (k : Client) → Mirrors w of log → machine.ScanIsIndex (machine_of w.server of log) → client_of w c ≡ Some k → is_span (span lo hi) ≡ true → is_writing_in k (span lo hi) ≡ false → CoversAll k.belief (span lo hi) → AreRows k.belief (span lo hi) (index.range (index_of w) lo hi)
 rows_of_scan w of log c lo hi k m scan up is free covers =
     let top : hi ≤ TOP = leb-true hi TOP (and_parts (nat_lt lo hi) (nat_le hi TOP) is).1 in
-    let seat : ShowsSeat c (w.seats c).last_incarnation (Some k) (of c) = subst (λ x. ShowsSeat c (w.seats c).last_incarnation x (of c)) up (m.seats c) in
+    let place : ShowsPlace c (w.places c).last_incarnation (Some k) (of c) = subst (λ x. ShowsPlace c (w.places c).last_incarnation x (of c)) up (m.places c) in
     rows_agree (index_believed (index_of w)) k.belief (span lo hi) (index.range (index_of w) lo hi)
-    (λ p at. sym (value_is w of log c k (span lo hi) p (nat_eq p END) m scan seat.1 free (covers p at) at top refl))
+    (λ p at. sym (value_is w of log c k (span lo hi) p (nat_eq p END) m scan place.1 free (covers p at) at top refl))
     (range_rows (index_of w) lo hi)
 
 command_range : (w v : State) (of : ℕ → Link) (log : List Logged) (c : ℕ) (k : Client) (what : Command) (answer : Answer) → Mirrors w of log → machine.ScanIsIndex (machine_of w.server of log) → client_of w c ≡ Some k → command_refusal k what ≡ None → Obeys w c k what answer v → CommandIsRange (index_of w) what answer

@@ -2,7 +2,7 @@
 -- rebuilds.
 use Rattle.krl_world.proofs.Names.{◌≡◌, ℕ, ◌∙◌, true, false, Option, Some, None, List, refl, sym, subst, END, RangePart, KeyPart, AllByRecursion, Value, Pieces, RangeAtMost, KeyAtMost}
 use Rattle.krl_world.proofs.Names.{Link, takes_report, Logged, MayTake, Reachable, stepped, at_link, restarts_hold, Record, Index, Rows, column, Server, is_recovering, lists, unlist, report_of}
-use Rattle.krl_world.proofs.Names.{machine_phase, view, IsRecord, Shows, IsWhole, Client, ShowsSeat, Up, State, client_of, range_believed, key_believed, Bound, table_with, IsRangeWithin, IsKeyWithin}
+use Rattle.krl_world.proofs.Names.{machine_phase, view, IsRecord, Shows, IsWhole, Client, ShowsPlace, Up, State, client_of, range_believed, key_believed, Bound, table_with, IsRangeWithin, IsKeyWithin}
 use Rattle.krl_world.proofs.Names.{IsAwaited, IsRecoveryWithin}
 use Rattle.krl_machine.specs.Links as links
 use Rattle.krl_machine.specs.Tables as tables
@@ -18,16 +18,16 @@ use Rattle.krl_refinement.proofs.Server.Reported.{report_shown}
 use Rattle.krl_server.proofs.Invariant.RowsSound.{adopted_others}
 use Rattle.krl_world.proofs.Refinement.Mirrors.{machine_of, shared_of, ServerShows, Mirrors}
 use Rattle.krl_world.proofs.Refinement.Reached.{HaveBound}
-use Rattle.krl_world.proofs.Refinement.Serves.{seat_stays}
+use Rattle.krl_world.proofs.Refinement.Serves.{place_stays}
 use Rattle.krl_world.proofs.Promises.Bounded.{range_within, key_within}
 
--- What a client believes, where it is at most what its link has
+-- What a client believes, if it is at most what its link has
 
-believed_range : (c g p : ℕ) (o : Option Client) (l : Link) (r top : RangePart) → ShowsSeat c g o l → r ≡ top → RangeAtMost (l.range p) r → IsRangeWithin (range_believed o p) top
+believed_range : (c g p : ℕ) (o : Option Client) (l : Link) (r top : RangePart) → ShowsPlace c g o l → r ≡ top → RangeAtMost (l.range p) r → IsRangeWithin (range_believed o p) top
 believed_range c g p None l r top h e y = refl
 believed_range c g p (Some k) l r top h e y = range_within _ _ _ _ (h.1.range p) e y
 
-believed_key : (c g p : ℕ) (o : Option Client) (l : Link) (r top : KeyPart) → ShowsSeat c g o l → r ≡ top → KeyAtMost (l.key p) r → IsKeyWithin (key_believed o p) top
+believed_key : (c g p : ℕ) (o : Option Client) (l : Link) (r top : KeyPart) → ShowsPlace c g o l → r ≡ top → KeyAtMost (l.key p) r → IsKeyWithin (key_believed o p) top
 believed_key c g p None l r top h e y = refl
 believed_key c g p (Some k) l r top h e y = key_within _ _ _ _ (h.1.key p) e y
 
@@ -90,7 +90,7 @@ unfolding taken_link
 taken_within first w of log b s c inc pieces m have h i reach may whole d p = (
   (range_within _ _ _ _ (sym (x.range p)) (x.top_range p) low.0, key_within _ _ _ _ (sym (x.key p)) (x.top_key p) low.1),
   λ here. let high = r.rebuilt_covers d may.recovering (x.missing ∙ here) p in
-      (believed_range d (w.seats d).last_incarnation p (client_of w d) (to d) _ _ seat (x.range p) high.0, believed_key d (w.seats d).last_incarnation p (client_of w d) (to d) _ _ seat (x.key p) high.1),
+      (believed_range d (w.places d).last_incarnation p (client_of w d) (to d) _ _ place (x.range p) high.0, believed_key d (w.places d).last_incarnation p (client_of w d) (to d) _ _ place (x.key p) high.1),
 )
   where
     l : Link
@@ -116,8 +116,8 @@ taken_within first w of log b s c inc pieces m have h i reach may whole d p = (
     low : RangeAtMost ((to d).new_range p) ((to d).top_range p) × KeyAtMost ((to d).new_key p) ((to d).top_key p)
     low = r.rebuilt d may.recovering p
 
-    seat : ShowsSeat d (w.seats d).last_incarnation (client_of w d) (to d)
-    seat = seat_stays d (w.seats d).last_incarnation (client_of w d) (of d) (to d) x.client (m.seats d)
+    place : ShowsPlace d (w.places d).last_incarnation (client_of w d) (to d)
+    place = place_stays d (w.places d).last_incarnation (client_of w d) (of d) (to d) x.client (m.places d)
 
 -- Gathering
 
@@ -129,13 +129,13 @@ recovery_world first w of log b s m have up reach recovering = record {
   report = λ c x pieces a p. let y = r.reports c _ (may c x pieces a) p in
       (range_within _ _ _ _ refl (have c p).0 y.0, key_within _ _ _ _ refl (have c p).1 y.1);
   report_covers = λ c x k pieces awaited here own p.
-      let a = seat c k here in
+      let a = place c k here in
       let y = r.covers c _ (may c x pieces awaited) (sym own ∙ sym (a.1.inc)) p in
       (subst (λ o. IsRangeWithin (range_believed o p) (range_said pieces.ranges p)) (sym here) (range_within _ _ _ _ (a.1.range p) refl y.0), subst (λ o. IsKeyWithin (key_believed o p) (reported_key pieces.keys p)) (sym here) (key_within _ _ _ _ (a.1.key p) refl y.1));
   row = λ c p. let y = r.rebuilt c phase p in
       (range_within _ _ _ _ (sym ((shows.link c).new_range phase p)) (have c p).0 y.0, key_within _ _ _ _ (sym ((shows.link c).new_key phase p)) (have c p).1 y.1);
   row_covers = λ c missing p. let y = r.rebuilt_covers c phase ((shows.link c).missing ∙ missing) p in
-      (believed_range c (w.seats c).last_incarnation p (client_of w c) (of c) _ _ (m.seats c) ((shows.link c).new_range phase p) y.0, believed_key c (w.seats c).last_incarnation p (client_of w c) (of c) _ _ (m.seats c) ((shows.link c).new_key phase p) y.1);
+      (believed_range c (w.places c).last_incarnation p (client_of w c) (of c) _ _ (m.places c) ((shows.link c).new_range phase p) y.0, believed_key c (w.places c).last_incarnation p (client_of w c) (of c) _ _ (m.places c) ((shows.link c).new_key phase p) y.1);
   taken = λ c x pieces awaited d p. (as_taken c x pieces awaited d p).0;
   taken_covers = λ c x pieces awaited d missing p. (as_taken c x pieces awaited d p).1 missing;
 }
@@ -158,5 +158,5 @@ recovery_world first w of log b s m have up reach recovering = record {
     as_taken : (c : ℕ) (x : Record) (pieces : Pieces) → IsAwaited w s c x pieces → IsTakenWithin w b s c pieces
     as_taken c x pieces a = taken_within first w of log b s c x.incarnation pieces m have shown.0 shown.1 reach (may c x pieces a) (m.from _ a.sent).1
 
-    seat : (c : ℕ) (k : Client) → client_of w c ≡ Some k → ShowsSeat c (w.seats c).last_incarnation (Some k) (of c)
-    seat c k here = subst (λ x. ShowsSeat c (w.seats c).last_incarnation x (of c)) here (m.seats c)
+    place : (c : ℕ) (k : Client) → client_of w c ≡ Some k → ShowsPlace c (w.places c).last_incarnation (Some k) (of c)
+    place c k here = subst (λ x. ShowsPlace c (w.places c).last_incarnation x (of c)) here (m.places c)

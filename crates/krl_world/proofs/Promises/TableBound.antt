@@ -1,12 +1,12 @@
 -- While it serves, the bound of a run is the server's table.
-use Rattle.krl_world.proofs.Names.{◌≡◌, Bool, true, false, List, [], ◌∷◌, refl, sym, subst, if◌then◌else◌, Durable, is_recovering, Step, ServerNode, Up, Down, State, opened, Bound, table_of}
+use Rattle.krl_world.proofs.Names.{◌≡◌, Bool, true, false, List, [], ◌∷◌, refl, sym, subst, if◌then◌else◌, Durable, is_recovering, Step, ServerPlace, Up, Down, State, opened, Bound, table_of}
 use Rattle.krl_world.proofs.Names.{first_bound, step_clears, cleared, bound_at, bound_after, RunsWithin, BoundIsTable}
 
-abbrev IsItsTable : ServerNode → Bound → Type 0
+abbrev IsItsTable : ServerPlace → Bound → Type 0
 IsItsTable (Up s) b = is_recovering s.missing ≡ false → b ≡ table_of s
 IsItsTable (Down d) b = Unit {0}
 
-after_is : (n : ServerNode) (kept : Bound) → IsItsTable n (bound_at n kept)
+after_is : (n : ServerPlace) (kept : Bound) → IsItsTable n (bound_at n kept)
 after_is (Down d) kept = tt
 after_is (Up s) kept = by_test (is_recovering s.missing)
   where

@@ -1,6 +1,6 @@
 -- A callback has the epoch of the server that sends it.
 use Rattle.krl_world.proofs.Names.{ℕ, zero, suc, ◌≤◌, Bool, true, false, Option, Some, None, List, [], ◌∷◌, ◌++◌, inl, inr, sym, subst, ⊎_elim, arith, nat_eq, if◌then◌else◌, END, cap, ToServer}
-use Rattle.krl_world.proofs.Names.{ToClient, PushBody, WriteOp, Outcome, Record, slot_of, span_of, slots, record_of, op_key, In, in_both, most_clients, Server, is_recovering, lists, Case, Ignored}
+use Rattle.krl_world.proofs.Names.{ToClient, PushBody, WriteOp, Outcome, Record, slot_of, span_of, slots, record_of, op_key, In, in_both, max_clients, Server, is_recovering, lists, Case, Ignored}
 use Rattle.krl_world.proofs.Names.{Registers, Leaves, Tells, Alarms, Rebuilds, Repeats, Acknowledges, Lowers, Waits, Judges, AnswersAgain, case_of, Done, callback_to, with_rows, holding, holdings}
 use Rattle.krl_world.proofs.Names.{acknowledged, writes, answers, pushes, effect, Turn, tells_absent, grants, answer_first, Answered, stops, goes_on, is_compatible, callbacks_from, callbacks_for}
 use Rattle.krl_world.proofs.Names.{callbacks_at, callbacks_among, callbacks_of, callbacks_of_among, Kind, Idle, Quiet, Acts, kind_of, calls_of, Ends, at_once, recovers, serves, ServerStep}
@@ -84,7 +84,7 @@ module _ (s : Server) where
   from_called n u d (suc k) = list_by (is_compatible s n u d) _ _ (from_called n u (suc d) k) (both_called s.durable.epoch (callback_to s d (span_of s.durable.index n) (cap (wanted (s.rows n) u)) ∷ []) (callbacks_from s n u (suc d) k) (one_call s.durable.epoch _ (omega arith)) (from_called n u (suc d) k))
 
   for_called : (n : ℕ) (u : Waiter) → AreCalled s.durable.epoch (callbacks_for s n u)
-  for_called n u = list_by (asks_absent s.durable.index u) _ _ (no_calls s.durable.epoch) (from_called n u 0 most_clients)
+  for_called n u = list_by (asks_absent s.durable.index u) _ _ (no_calls s.durable.epoch) (from_called n u 0 max_clients)
 
   at_called : (n : ℕ) (us : List Waiter) → AreCalled s.durable.epoch (callbacks_at s n us)
   at_called n [] = no_calls s.durable.epoch

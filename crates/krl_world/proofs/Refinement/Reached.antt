@@ -1,6 +1,6 @@
 -- Each world that a run reaches shows in a machine's world that can be reached, and the run's bound is the machine's.
 use Rattle.krl_world.proofs.Names.{◌≡◌, ℕ, ◌∙◌, Bool, true, false, List, [], ◌∷◌, refl, sym, ap, subst, if◌then◌else◌, END, RangePart, KeyPart, Durable, Link, Logged, Reachable, steps_reachable}
-use Rattle.krl_world.proofs.Names.{Server, is_recovering, start, Shows, BoundStays, ServerFollows, Step, Answer, ServerNode, Up, Down, State, durable_of, index_of, is_serving, opened}
+use Rattle.krl_world.proofs.Names.{Server, is_recovering, start, Shows, BoundStays, ServerFollows, Step, Answer, ServerPlace, Up, Down, State, durable_of, index_of, is_serving, opened}
 use Rattle.krl_world.proofs.Names.{CanOpen, Takes, Runs, IsReachable, Bound, table_of, first_bound, step_clears, cleared, bound_at, bound_after, RunsWithin, HasBound}
 use Rattle.krl_modes.specs.declared.part.RangePart.TheVariants as range
 use Rattle.krl_modes.specs.declared.part.KeyPart.TheVariants as key
@@ -24,7 +24,7 @@ pub record Reached (first : Durable) (w : State) (b : Bound) : Type 0 where
   pub bound : HaveBound of b
   pub index : b.index ≡ index_of w
 
--- where it serves, the links' bounds are its table
+-- if it serves, the links' bounds are its table
 table_bound : (s : Server) (of : ℕ → Link) → Shows s of → is_recovering s.missing ≡ false → HaveBound of (table_of s)
 table_bound s of h e c p = ((h.link c).range (serving_phase s.missing e) p, (h.link c).key (serving_phase s.missing e) p)
 
@@ -36,11 +36,11 @@ key_kept : (t : Bool) (a b k : KeyPart) → a ≡ b → k ≡ (if t then key.N e
 key_kept true a b k e f = f
 key_kept false a b k e f = f ∙ e
 
--- where it does not, they stay, but for clients that were cleared
+-- if it does not, they stay, but for clients that were cleared
 kept_bound : (of to : ℕ → Link) (gone : ℕ → Bool) (b : Bound) → HaveBound of b → ((c : ℕ) → BoundStays (gone c) (of c) (to c)) → HaveBound to (cleared gone b)
 kept_bound of to gone b h stays c p = (range_kept (gone c) ((of c).top_range p) (b.range_at c p) ((to c).top_range p) (h c p).0 ((stays c).range p), key_kept (gone c) ((of c).top_key p) (b.key_at c p) ((to c).top_key p) (h c p).1 ((stays c).key p))
 
-bound_on : (n : ServerNode) (of to : ℕ → Link) (gone : ℕ → Bool) (b : Bound) → HaveBound of b → ServerShows n to → (is_serving n ≡ false → (c : ℕ) → BoundStays (gone c) (of c) (to c)) → HaveBound to (bound_at n (cleared gone b))
+bound_on : (n : ServerPlace) (of to : ℕ → Link) (gone : ℕ → Bool) (b : Bound) → HaveBound of b → ServerShows n to → (is_serving n ≡ false → (c : ℕ) → BoundStays (gone c) (of c) (to c)) → HaveBound to (bound_at n (cleared gone b))
 bound_on (Down d) of to gone b h shows stays = kept_bound of to gone b h (stays refl)
 bound_on (Up s) of to gone b h shows stays = by_test (is_recovering s.missing) refl stays
   where
@@ -49,7 +49,7 @@ bound_on (Up s) of to gone b h shows stays = by_test (is_recovering s.missing) r
     by_test false e stay = table_bound s to shows.0 e
 
 -- the index of the bound
-index_on : (n : ServerNode) (b : Bound) (gone : ℕ → Bool) → (is_serving n ≡ false → b.index ≡ (durable_of n).index) → (bound_at n (cleared gone b)).index ≡ (durable_of n).index
+index_on : (n : ServerPlace) (b : Bound) (gone : ℕ → Bool) → (is_serving n ≡ false → b.index ≡ (durable_of n).index) → (bound_at n (cleared gone b)).index ≡ (durable_of n).index
 index_on (Down d) b gone h = h refl
 index_on (Up s) b gone h = by_test (is_recovering s.missing) h
   where

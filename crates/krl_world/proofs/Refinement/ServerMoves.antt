@@ -1,6 +1,6 @@
 -- What a step makes of the server: it stays, or reads a message, crashes or starts.
 use Rattle.krl_world.proofs.Names.{◌≡◌, ℕ, ◌∙◌, Option, Some, None, List, refl, sym, ap, ToServer, ToClient, In, Durable, Server, ServerStep, start, Client, Message, Step, Command, Answer}
-use Rattle.krl_world.proofs.Names.{ServerNode, Up, Down, State, client_of, message_at, ServerReads, ClientReads, Delivers, Obeys, nudged, started, crashed, Does}
+use Rattle.krl_world.proofs.Names.{ServerPlace, Up, Down, State, client_of, message_at, ServerReads, ClientReads, Delivers, Obeys, nudged, started, crashed, Does}
 use Rattle.krl_world.specs.declared.message.Message.TheVariants as message
 use Rattle.krl_steps.specs.declared.step.Step.TheVariants as step
 use Rattle.krl_steps.specs.declared.step.Command.TheVariants as command
@@ -15,7 +15,7 @@ pub data Way (w v : State) (s : Step) : Type 0 where
 same : (w v x : State) (s : Step) → x.server ≡ w.server → v ≡ x → Way w v s
 same w v x s h e = stays (ap (λ (y : State). y.server) e ∙ h)
 
-read_way : (w v : State) (s : Step) (m : ToServer) (n : ServerNode) → w.server ≡ n → In (message.ToServer m) w.sent → ServerReads w n m v → Way w v s
+read_way : (w v : State) (s : Step) (m : ToServer) (n : ServerPlace) → w.server ≡ n → In (message.ToServer m) w.sent → ServerReads w n m v → Way w v s
 read_way w v s m (Up old) up at d = reads old d.0 m d.1 up (ap (λ (y : State). y.server) d.3) at d.2
 read_way w v s m (Down x) up at d = same w v w s refl d
 
@@ -37,15 +37,15 @@ obey_way w v s c k (command.Pin lo hi) answer d = same w v _ s refl d.3
 obey_way w v s c k (command.Unpin id) answer d = same w v _ s refl d.1
 obey_way w v s c k command.Leave answer d = same w v _ s refl d.1
 
-nudge_way : (w v : State) (s : Step) (c : ℕ) (n : ServerNode) → w.server ≡ n → v ≡ nudged w n c → Way w v s
+nudge_way : (w v : State) (s : Step) (c : ℕ) (n : ServerPlace) → w.server ≡ n → v ≡ nudged w n c → Way w v s
 nudge_way w v s c (Up old) up d = same w v _ s (sym up) d
 nudge_way w v s c (Down x) up d = same w v _ s refl d
 
-start_way : (w v : State) (s : Step) (n : ServerNode) → w.server ≡ n → v ≡ started w n → Way w v s
+start_way : (w v : State) (s : Step) (n : ServerPlace) → w.server ≡ n → v ≡ started w n → Way w v s
 start_way w v s (Up old) up d = same w v _ s refl d
 start_way w v s (Down x) up d = begins x up (ap (λ (y : State). y.server) d)
 
-crash_way : (w v : State) (n : ServerNode) → w.server ≡ n → v ≡ crashed w n → Way w v step.CrashServer
+crash_way : (w v : State) (n : ServerPlace) → w.server ≡ n → v ≡ crashed w n → Way w v step.CrashServer
 crash_way w v (Up old) up d = stops old refl up (ap (λ (y : State). y.server) d)
 crash_way w v (Down x) up d = same w v _ step.CrashServer refl d
 

@@ -1,8 +1,8 @@
 -- Each step at the server's side is steps of the machine, by what that side owes.
 use Rattle.krl_world.proofs.Names.{arith, ◌≡◌, ℕ, ◌∙◌, Bool, true, false, Option, Some, None, List, [], ◌∷◌, ◌++◌, refl, sym, ap, subst, ⊎_elim, nat_eq, if◌then◌else◌, ◌&&◌, END, Value, ToServer}
 use Rattle.krl_world.proofs.Names.{ToClient, Outcome, WriteOp, In, in_both, Durable, Link, Server, is_recovering, Case, Ignored, Registers, Leaves, Tells, Alarms, Rebuilds, Repeats, Acknowledges}
-use Rattle.krl_world.proofs.Names.{Lowers, Waits, Judges, AnswersAgain, case_of, clears, ServerStep, nudge, start, can_start, op_of, WasSent, logged, Client, Grows, ShowsClient, ShowsSeat}
-use Rattle.krl_world.proofs.Names.{AppliedWrite, ServerNode, Up, Down, State, durable_of, is_serving, from_server, served, applies, ServerFollows, stands_stays, sent_stays}
+use Rattle.krl_world.proofs.Names.{Lowers, Waits, Judges, AnswersAgain, case_of, clears, ServerStep, nudge, start, can_start, op_of, WasSent, logged, Client, Grows, ShowsClient, ShowsPlace}
+use Rattle.krl_world.proofs.Names.{AppliedWrite, ServerPlace, Up, Down, State, durable_of, is_serving, from_server, served, applies, ServerFollows, stands_stays, sent_stays}
 use Rattle.krl_messages.specs.declared.outcome.Outcome.TheVariants as outcome
 use Rattle.krl_messages.specs.declared.write_op.WriteOp.TheVariants as write
 use Rattle.krl_machine.specs.Worlds as machine
@@ -12,10 +12,10 @@ use Rattle.krl_world.proofs.Refinement.Growing.{steps_grow}
 use Rattle.krl_world.proofs.Refinement.Calling.{AreCalled, step_called, nudge_called, epoch_rises}
 use Rattle.krl_world.proofs.Refinement.Mirrors.{machine_of, ServerShows, op_back, oldest_first, Mirrors, Goes, in_from_server, not_from_server}
 
--- a seat shows in whatever has the same client
-pub seat_stays : (c g : ℕ) (k : Option Client) (l m : Link) → m.client ≡ l.client → ShowsSeat c g k l → ShowsSeat c g k m
-seat_stays c g None l m e h = (ap (λ a. a.inc) e ∙ h.0, ap (λ a. a.up) e ∙ h.1)
-seat_stays c g (Some k) l m e h = (ap (λ a. a.inc) e ∙ h.0, subst (ShowsClient c k) (sym e) h.1)
+-- a place shows in whatever has the same client
+pub place_stays : (c g : ℕ) (k : Option Client) (l m : Link) → m.client ≡ l.client → ShowsPlace c g k l → ShowsPlace c g k m
+place_stays c g None l m e h = (ap (λ a. a.inc) e ∙ h.0, ap (λ a. a.up) e ∙ h.1)
+place_stays c g (Some k) l m e h = (ap (λ a. a.inc) e ∙ h.0, subst (ShowsClient c k) (sym e) h.1)
 
 -- The list of writes
 
@@ -55,10 +55,10 @@ case_log m (AnswersAgain number x o) log = nil_right (oldest_first log)
 
 -- Steps
 
--- the messages and seats, where the machine went on and the clients stayed
-pub mirrors_on : (w : State) (n : ServerNode) (of to : ℕ → Link) (log log' : List Logged) (a b : machine.World) (outs : List ToClient) (writes : List AppliedWrite) → Mirrors w of log → a.links ≡ of → b.links ≡ to → Steps a b → ((o : ToClient) → In o outs → WasSent (to o.client) o.incarnation o.body) → ((c : ℕ) → (to c).client ≡ (of c).client) → ServerShows n to → oldest_first log ++ writes ≡ oldest_first log' → (durable_of w.server).epoch ≡ a.shared.epoch → b.shared.epoch ≡ (durable_of n).epoch → AreCalled (durable_of n).epoch outs → Mirrors (served w n outs writes) to log'
+-- the messages and places, if the machine went on and the clients stayed
+pub mirrors_on : (w : State) (n : ServerPlace) (of to : ℕ → Link) (log log' : List Logged) (a b : machine.World) (outs : List ToClient) (writes : List AppliedWrite) → Mirrors w of log → a.links ≡ of → b.links ≡ to → Steps a b → ((o : ToClient) → In o outs → WasSent (to o.client) o.incarnation o.body) → ((c : ℕ) → (to c).client ≡ (of c).client) → ServerShows n to → oldest_first log ++ writes ≡ oldest_first log' → (durable_of w.server).epoch ≡ a.shared.epoch → b.shared.epoch ≡ (durable_of n).epoch → AreCalled (durable_of n).epoch outs → Mirrors (served w n outs writes) to log'
 mirrors_on w n of to log log' a b outs writes h ea eb steps sent clients shows e old new called = record {
-  seats = λ c. seat_stays c (w.seats c).last_incarnation (w.seats c).client (of c) (to c) (clients c) (h.seats c);
+  places = λ c. place_stays c (w.places c).last_incarnation (w.places c).client (of c) (to c) (clients c) (h.places c);
   from = λ m i. ⊎_elim (λ (x : In (message.ToServer m) w.sent). stands_stays (of m.client) (to m.client) (grows m.client) m.incarnation m.body (h.from m x))
       (λ (y : In (message.ToServer m) (from_server outs)). absurd (not_from_server m outs y)) (in_both w.sent (from_server outs) (message.ToServer m) i);
   to = λ m i. ⊎_elim (λ (x : In (message.ToClient m) w.sent). sent_stays (of m.client) (to m.client) (grows m.client) m.incarnation m.body (h.to m x))

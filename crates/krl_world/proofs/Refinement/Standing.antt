@@ -1,7 +1,7 @@
 -- While nobody serves, the index stands still.
 use Rattle.krl_world.proofs.Names.{◌≡◌, ℕ, ◌∙◌, Bool, true, false, Option, Some, None, List, ◌⊎◌, inl, inr, refl, sym, ap, subst, ⊎_elim, if◌then◌else◌, END, ToServer, ToClient, PushBody, Record}
 use Rattle.krl_world.proofs.Names.{slot_of, Durable, record_of, left_by, op_key, Server, is_recovering, Case, case_of, Done, holding, acknowledged, writes, pushes, effect, Kind, Idle, kind_of, Ends}
-use Rattle.krl_world.proofs.Names.{at_once, recovers, serves, ServerStep, pushes_missing, answered_up, Step, ServerNode, Up, Down, State, durable_of, index_of, is_serving}
+use Rattle.krl_world.proofs.Names.{at_once, recovers, serves, ServerStep, pushes_missing, answered_up, Step, ServerPlace, Up, Down, State, durable_of, index_of, is_serving}
 use Rattle.std.specs.Prelude.{nat_lt}
 use Rattle.krl_modes.proofs.Basics.{not_both}
 use Rattle.krl_messages.specs.declared.to_client.PushBody.TheVariants as push
@@ -20,7 +20,7 @@ left_index : (d : Durable) (c : ℕ) (o : Option Record) → (left_by d c o).ind
 left_index d c None = refl
 left_index d c (Some r) = refl
 
--- the index stays where a step ends with its effect: nobody serves after it, or it has not acted
+-- the index stays if a step ends with its effect: nobody serves after it, or it has not acted
 abbrev Stays : Server → ToServer → Case → Type 0
 Stays s m k = (is_recovering (effect s m k).server.missing ≡ true) ⊎ (kind_of k ≡ Idle) → (effect s m k).server.durable.index ≡ s.durable.index
 
@@ -52,7 +52,7 @@ step_index s t m outs h e = ends_index s (effect s m (case_of s m)) (kind_of (ca
 
 -- Steps of the world
 
-server_is : (w v : State) (n m : ServerNode) → w.server ≡ n → v.server ≡ m → (is_serving m ≡ false → (durable_of m).index ≡ (durable_of n).index) → is_serving v.server ≡ false → index_of v ≡ index_of w
+server_is : (w v : State) (n m : ServerPlace) → w.server ≡ n → v.server ≡ m → (is_serving m ≡ false → (durable_of m).index ≡ (durable_of n).index) → is_serving v.server ≡ false → index_of v ≡ index_of w
 server_is w v n m a b h e = ap (λ x. (durable_of x).index) b ∙ h (subst (λ x. is_serving x ≡ false) b e) ∙ sym (ap (λ x. (durable_of x).index) a)
 
 -- a step after which nobody serves leaves the index

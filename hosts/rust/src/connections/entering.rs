@@ -30,7 +30,7 @@ impl Connections {
         }
     }
 
-    /// Sees whether a stranger has said whose it is. Where its identity has too many connections,
+    /// Sees whether a stranger has said whose it is. If its identity has too many connections,
     /// the oldest of them is closed.
     pub(super) fn meet(&mut self, number: u64) {
         if !self.strangers.has(number) {

@@ -25,7 +25,7 @@ impl<S: Store> EventLoop<S> {
     }
 
     /// Whether the library may have the message. A Hello that has to wait for the end of an older
-    /// lease is as good as lost, and the client's host is told why.
+    /// lease counts as lost, and the client's host is told why.
     pub(super) fn hears(&mut self, connection: u64, message: &[u8]) -> Result<bool, ServeError> {
         let is_hello = timed_of(message) == Timed::Hello;
         let (true, Some(client), Some(incarnation)) =

@@ -29,7 +29,7 @@ struct Callback {
 impl Crossed {
     fn note(&mut self, span: Range<u64>, message: &[u8]) {
         self.callbacks.retain(|other| other.span != span);
-        // The server calls back again where one is left out.
+        // The server calls back again if one is left out.
         if self.callbacks.len() < MAX_CALLBACKS {
             self.callbacks.push(Callback { span, message: message.to_vec() });
         }
@@ -77,7 +77,7 @@ impl Jobs {
     }
 }
 
-/// Gives the client a message. If memory is refused the message is as good as lost, and a client
+/// Gives the client a message. If memory is refused the message counts as lost, and a client
 /// that has left hears nothing.
 fn give(client: &mut ClientHandle, message: &[u8]) -> Result<(), Code> {
     match client.step(message) {

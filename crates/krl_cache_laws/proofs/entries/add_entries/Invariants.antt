@@ -1,6 +1,6 @@
 use Rattle.std.proofs.Common.{◌≡◌, ◌++◌, take}
 use Rattle.std.specs.List.{filter_map}
-use Rattle.krl_cache.specs.Lists.{pick, entry_lowered}
+use Rattle.krl_cache.specs.Entries.{pick, entry_lowered}
 use Rattle.krl_cache_laws.proofs.entries.add_entries.Given as goal
 
 abbrev pub invariant-loop-entry : goal.invariant-loop-entry

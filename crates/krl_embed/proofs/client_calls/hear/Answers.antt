@@ -1,5 +1,6 @@
 use Rattle.std.proofs.Common.{sym, refl}
-use Rattle.krl_client.specs.Fields.{meaning, Follows}
+use Rattle.krl_client.specs.Fields.{meaning}
+use Rattle.krl_client.specs.FieldSteps.{Follows}
 use Rattle.krl_client.specs.Messages.{case_of}
 use Rattle.krl_embed.specs.Replies as replies
 use Rattle.krl_embed.proofs.Commanding.{did, did_not}

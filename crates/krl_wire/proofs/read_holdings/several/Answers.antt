@@ -1,6 +1,6 @@
 use Rattle.std.proofs.Common.{◌≤◌, ◌++◌, ◌∷◌, [], length, sym, ap, subst, arith, length-append}
 use Rattle.std.proofs.lemmas.Result.{err_from_is_err_and}
-use Rattle.krl_messages.specs.Several.{Ascend}
+use Rattle.krl_messages.specs.Ascending.{Ascend}
 use Rattle.krl_wire.specs.Reading.{holdings_from}
 use Rattle.krl_wire.proofs.Loop.{holdings_fail, holdings_begin, holdings_go_on, holdings_end, holdings_done, from_least, ascend_more}
 use Rattle.krl_wire.proofs.read_holdings.several.Goals as goal

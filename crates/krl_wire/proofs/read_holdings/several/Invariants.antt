@@ -1,6 +1,6 @@
 use Rattle.std.proofs.Common.{◌≡◌, ◌≤◌, ◌-◌, ◌++◌, ◌∷◌, [], length}
 use Rattle.krl_messages.specs.declared.holding.Holding.{Holding}
-use Rattle.krl_messages.specs.Several.{Ascend}
+use Rattle.krl_messages.specs.Ascending.{Ascend}
 use Rattle.krl_wire.specs.Reading.{holdings_from}
 use Rattle.krl_wire.proofs.Loop.{with_front}
 use Rattle.krl_wire.proofs.read_holdings.several.Given as goal

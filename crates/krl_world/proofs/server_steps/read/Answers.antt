@@ -3,7 +3,7 @@ use Rattle.krl_world.specs.declared.message.Message.TheVariants as sent_message
 use Rattle.krl_server.specs.StateMeaning.{meaning}
 use Rattle.krl_world.proofs.Functions.Applies.{served_by}
 use Rattle.std.proofs.lemmas.Option.{get_or_from_slice_get}
-use Rattle.krl_server.specs.Termination.{most_messages}
+use Rattle.krl_server.specs.Termination.{max_messages}
 use Rattle.krl_world.proofs.server_steps.read.Goals as goal
 
 pub returns-clause-ok : goal.returns-clause-ok
@@ -20,5 +20,5 @@ returns-clause-ok c = λ m f.
     (served_by s t x out c.args.sent.now.items c.send_to_clients.new.sent.items c.args.writes.now.items c.note.new.writes.items c.in_ok-out.ensures.stepped (c.send_to_clients.ensures ∙ ap (λ xs. xs ++ from_server out.messages) c.reserve.ensures.items) written)
 
 pub send_to_clients-requires : goal.send_to_clients-requires
-unfolding most_messages
+unfolding max_messages
 send_to_clients-requires c = let few = c.in_ok-out.ensures.few in omega (arith, c.in_ok-reserve.ensures.ok)

@@ -5,6 +5,7 @@ use crate::change::{Outcome, Write};
 use crate::jobs::world::{World, row};
 use crate::jobs::{Asked, Asking};
 use crate::message::client_of;
+use crate::message::kind::{LOCK, RELEASE};
 
 const HASTY: usize = 0;
 const PATIENT: usize = 1;
@@ -21,9 +22,6 @@ const BETWEEN: u64 = 500;
 /// answer: so many round trips without a hasty one. A release that is passed over is one more.
 const FEW: usize = 4;
 const MANY: usize = 100;
-
-const LOCK: u8 = 3;
-const RELEASE: u8 = 7;
 
 /// The hasty client has read the range that the patient one wants.
 fn world() -> World {

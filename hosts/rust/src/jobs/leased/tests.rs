@@ -10,6 +10,11 @@ use std::thread::sleep;
 const LONG: u64 = 60_000_000_000;
 const SHORT: Duration = Duration::from_millis(30);
 
+/// A lease in nanoseconds, and the parts of it behind which a sign rides on messages and goes alone.
+const LEASE: u64 = 3_000_000_000;
+const RIDES: u64 = 6;
+const GOES_ALONE: u64 = 3;
+
 fn granted(sign: Sign, length: u64) -> Answer {
     Answer::Granted(Grant { incarnation: sign.incarnation, stamp: sign.stamp, length })
 }
@@ -18,6 +23,18 @@ fn granted(sign: Sign, length: u64) -> Answer {
 fn lease_for(jobs: &mut Jobs, length: u64) {
     let sign = jobs.greet().unwrap();
     jobs.hear_answer(granted(sign, length)).unwrap();
+}
+
+/// What this comes to if it takes less than so many nanoseconds: what it shows holds for so long
+/// alone. On a busy machine it may take longer, and is done again.
+fn within<T>(nanoseconds: u64, mut act: impl FnMut() -> T) -> T {
+    loop {
+        let begun = Moment::now().unwrap();
+        let shown = act();
+        if Moment::now().unwrap().since(begun) < nanoseconds {
+            return shown;
+        }
+    }
 }
 
 /// A world in which client 0 reads a range by a lease that has ended.
@@ -51,9 +68,13 @@ fn nothing_of_the_library_is_said_before_the_terms() {
 
 #[test]
 fn a_greeting_that_is_lost_is_said_again_and_each_is_answered() {
-    let mut jobs = Jobs::new(ClientHandle::open(0, 1).unwrap());
-    let first = jobs.greet().unwrap();
-    assert_eq!(jobs.greet_again_if_due(), None);
+    let (mut jobs, first, again) = within(GREETS_AGAIN, || {
+        let mut jobs = Jobs::new(ClientHandle::open(0, 1).unwrap());
+        let first = jobs.greet().unwrap();
+        let again = jobs.greet_again_if_due();
+        (jobs, first, again)
+    });
+    assert_eq!(again, None);
     sleep(Duration::from_nanos(GREETS_AGAIN));
     let second = jobs.greet_again_if_due().unwrap();
     assert!(second.stamp > first.stamp);
@@ -92,12 +113,12 @@ fn behind_the_end_nothing_is_answered_said_or_taken() {
 fn a_write_on_its_way_ends_and_other_jobs_go_on() {
     let mut world = World::new();
     assert_eq!(world.write(0, Write::Insert(row(10, 1))), Outcome::Applied);
-    lease_for(&mut world.clients[0], u64::try_from(SHORT.as_nanos()).unwrap());
     let write = world.clients[0].write(Write::Put(row(10, 2)));
     let (read, later) =
         (world.clients[0].read(0..50), world.clients[0].write(Write::Insert(row(11, 3))));
     let lost = world.said(0);
     assert!(!lost.is_empty());
+    lease_for(&mut world.clients[0], u64::try_from(SHORT.as_nanos()).unwrap());
     sleep(2 * SHORT);
     world.clients[0].end_lease_if_over();
     assert_eq!(write.answer.try_recv(), Ok(Err(Refused::LeaseEnded)));
@@ -143,20 +164,41 @@ fn an_incarnation_that_has_ended_begins_anew_or_has_left() {
     assert_eq!(left.answer.try_recv(), Ok(Ok(())));
 }
 
+/// How many signs the client says.
+fn signs(jobs: &mut Jobs) -> usize {
+    let said = messages(|frames| jobs.take(frames));
+    said.iter().filter(|frame| Sign::read(frame).is_some()).count()
+}
+
+/// A client that has just said a sign, and how many it says with the message behind that.
+fn just_signed() -> (Jobs, usize) {
+    within(LEASE / RIDES, || {
+        let mut jobs = Jobs::new(ClientHandle::open(0, 1).unwrap());
+        lease_for(&mut jobs, LEASE);
+        jobs.tick();
+        let riding = signs(&mut jobs);
+        (jobs, riding)
+    })
+}
+
+/// The same client when a sign may ride and does not go alone yet, and how many it says alone.
+fn may_ride() -> (Jobs, [usize; 2]) {
+    within(LEASE / GOES_ALONE, || {
+        let (mut jobs, riding) = just_signed();
+        sleep(Duration::from_nanos(LEASE / RIDES));
+        let alone = signs(&mut jobs);
+        (jobs, [riding, alone])
+    })
+}
+
 #[test]
 fn signs_ride_on_messages_and_go_alone_when_they_must() {
-    let mut jobs = Jobs::new(ClientHandle::open(0, 1).unwrap());
-    let signs = |jobs: &mut Jobs| {
-        let said = messages(|frames| jobs.take(frames));
-        said.iter().filter(|frame| Sign::read(frame).is_some()).count()
-    };
-    lease_for(&mut jobs, 3_000_000_000);
-    jobs.tick();
-    assert_eq!(signs(&mut jobs), 0, "one was just said");
-    sleep(Duration::from_millis(550));
-    assert_eq!(signs(&mut jobs), 0, "it does not go alone yet");
-    jobs.tick();
-    assert_eq!(signs(&mut jobs), 1);
-    sleep(Duration::from_millis(1050));
-    assert_eq!(signs(&mut jobs), 1);
+    let said = within(LEASE, || {
+        let (mut jobs, [too_early, alone_too_early]) = may_ride();
+        jobs.tick();
+        let riding = signs(&mut jobs);
+        sleep(Duration::from_nanos(LEASE / GOES_ALONE));
+        [too_early, alone_too_early, riding, signs(&mut jobs)]
+    });
+    assert_eq!(said, [0, 0, 1, 1]);
 }

@@ -8,7 +8,7 @@ use Rattle.krl_blocks.proofs.Places.{laid_rise}
 use Rattle.krl_blocks.proofs.Kept.{some_at, some_none, full_at, reads_lower, reads_upper, drop_to}
 use Rattle.krl_blocks.proofs.Laying.{laid_lengths}
 use Rattle.krl_blocks.proofs.layout.Layout.make_room.Goals as goal
-use Rattle.krl_blocks.proofs.layout.Layout.make_room.Goals.{then-b-len-via-then-b-len, then-b-len-via-else-b-len+then-get-lt-MOST}
+use Rattle.krl_blocks.proofs.layout.Layout.make_room.Goals.{then-b-len-via-then-b-len, then-b-len-via-else-b-len+then-get-lt-MAX_IN_BLOCK}
 
 pub count_tops-b-requires : goal.count_tops-b-requires
 count_tops-b-requires g c = subst Rises (sym c.deref.ensures.value) (laid_rise 0 c.args.self.now.tops.items c.args.self.now.shelf.blocks c.requires.kept.laid)
@@ -16,13 +16,13 @@ count_tops-b-requires g c = subst Rises (sym c.deref.ensures.value) (laid_rise 0
 pub returns-then-b-len-clause-room : goal.returns-then-b-len-clause-room
 returns-then-b-len-clause-room g c = elim c.then-b-len.branch [
   | then-b-len-via-then-b-len w ↦ some_none (λ x. length x < 64) c.args.self.now.shelf.blocks c.count_tops-b.result (omega (arith, w.if-b-len.true, c.len.ensures))
-  | then-b-len-via-else-b-len+then-get-lt-MOST w ↦ some_at (λ x. length x < 64) w.get.result.now _ w.get.ensures (omega (arith, w.if-get-lt-MOST.true))
+  | then-b-len-via-else-b-len+then-get-lt-MAX_IN_BLOCK w ↦ some_at (λ x. length x < 64) w.get.result.now _ w.get.ensures (omega (arith, w.if-get-lt-MAX_IN_BLOCK.true))
 ]
 
 pub part-requires-clause-full : goal.part-requires-clause-full
 part-requires-clause-full g c =
     full_at c.args.self.now.shelf.blocks c.count_tops-b.result c.get.result.now c.requires.kept.small c.get.ensures
-    (omega (arith, c.if-get-lt-MOST.false))
+    (omega (arith, c.if-get-lt-MAX_IN_BLOCK.false))
 
 pub returns-else-index-key-clause-room : goal.returns-else-index-key-clause-room
 returns-else-index-key-clause-room g c =

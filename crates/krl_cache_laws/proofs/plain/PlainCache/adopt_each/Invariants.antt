@@ -1,6 +1,7 @@
 use Rattle.std.proofs.Common.{◌≡◌, true, drop}
 use Rattle.krl_messages.specs.Several.{have_values}
-use Rattle.krl_cache.specs.Beliefs.{IsBelief, adopt_all}
+use Rattle.krl_cache.specs.Laws.{IsBelief}
+use Rattle.krl_cache.specs.Beliefs.{adopt_all}
 use Rattle.krl_cache_laws.specs.Lists.{lists_believe}
 use Rattle.krl_cache_laws.proofs.plain.PlainCache.adopt_each.Given as goal
 

@@ -2,7 +2,8 @@ use Rattle.std.proofs.Common.{add-one, ◌∙◌, sym, subst}
 use Rattle.krl_messages.specs.declared.to_client.PushBody.TheVariants as push
 use Rattle.krl_client.specs.Fields.{meaning, written_of}
 use Rattle.krl_client.specs.contracts.client.Client.{the_view}
-use Rattle.krl_cache.specs.Beliefs.{Belief, IsBelief}
+use Rattle.krl_cache.specs.Beliefs.{Belief}
+use Rattle.krl_cache.specs.Laws.{IsBelief}
 use Rattle.krl_client.specs.Clients.{Client}
 use Rattle.krl_client.specs.Keeps.{IsClient}
 use Rattle.krl_client.proofs.Keeping.{accept_keeps}

@@ -1,13 +1,14 @@
 use Rattle.std.proofs.Common.{◌≡◌, List, Option, None, Some, sym, subst, arith}
 use Rattle.krl_modes.specs.Spans.{Bounds}
-use Rattle.krl_cache.specs.Beliefs.{Belief, IsBelief}
+use Rattle.krl_cache.specs.Beliefs.{Belief}
+use Rattle.krl_cache.specs.Laws.{IsBelief}
 use Rattle.krl_cache.proofs.Calls.{calls_keep_belief}
 use Rattle.krl_client.specs.Fields.{pins_of}
 use Rattle.krl_client.proofs.client.Client.start.Goals as goal
 
 pub invariant_of-client : goal.invariant_of-client
 invariant_of-client c = record {
-  number = omega (arith, c.if-number-gt63.false);
+  number = omega (arith, c.if-number.false);
   incarnation = omega (arith, c.if-incarnation-gt-END.false);
   seen = omega arith;
   req = omega arith;

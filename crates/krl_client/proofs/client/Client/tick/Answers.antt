@@ -1,6 +1,6 @@
 use Rattle.std.proofs.Common.{subst, sym, ap, ◌∙◌, [], ◌∷◌}
 use Rattle.krl_messages.specs.declared.to_server.ToServer.{ToServer}
-use Rattle.krl_cache.specs.Beliefs.{IsBelief}
+use Rattle.krl_cache.specs.Laws.{IsBelief}
 use Rattle.krl_client.specs.Fields.{Fields, meaning}
 use Rattle.krl_client.proofs.Cases.{ticks_hello}
 use Rattle.krl_client.proofs.client.Client.tick.Goals as goal

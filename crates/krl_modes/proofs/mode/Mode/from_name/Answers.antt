@@ -5,7 +5,7 @@ use Rattle.std.proofs.lemmas.Iterator.{YieldsList-from_slice}
 use Rattle.std.proofs.lemmas.Iterator.Consumers.{YieldsList-from_copied}
 use Rattle.std.proofs.lemmas.Iterator.Search.{find_from_yields_List}
 use Rattle.krl_modes.specs.declared.mode.Mode.{Mode}
-use Rattle.krl_modes.specs.Modes.{mode_name, all_modes}
+use Rattle.krl_modes.specs.Names.{mode_name, all_modes}
 use Rattle.krl_modes.proofs.ModeLaws.{mode_named-only}
 use Rattle.krl_modes.proofs.mode.Mode.from_name.Goals as goal
 

@@ -1,4 +1,4 @@
-use Rattle.krl_nodes.proofs.Names.{ap, refl, arith, seat_of, Client}
+use Rattle.krl_nodes.proofs.Names.{ap, refl, arith, place_of, Client}
 use Rattle.krl_nodes.proofs.Events.{client_change}
 use Rattle.krl_nodes.proofs.Nodes.{may_give, is_at, exchanged, given_once}
 use Rattle.krl_nodes.proofs.client.ClientNode.turn_by.Goals as goal
@@ -6,18 +6,18 @@ use Rattle.krl_nodes.proofs.client.ClientNode.turn_by.Goals as goal
 pub give_client-requires-clause-may : goal.give_client-requires-clause-may
 give_client-requires-clause-may g c =
     let i = c.self.inside in
-    let s = c.event_by-answer.ensures.acts in
-    may_give i.ticket.me c.take.new.ticket.me c.event_by-answer.new.ticket.me (Client i.number i.seat) (Client i.number c.event_by-answer.new.seat) _ (ap (λ m. m.0.node) c.self.invariant.0.me) c.take.ensures.took s tt
-    (client_change s.so.0 i.number (omega (arith, c.self.invariant.1)) c.args.order s.before (seat_of i.seat) s.after (seat_of c.event_by-answer.new.seat) c.event_by-answer.result s.so.2)
+    let s = c.do_order_by-answer.ensures.acts in
+    may_give i.ticket.me c.take.new.ticket.me c.do_order_by-answer.new.ticket.me (Client i.number i.seat) (Client i.number c.do_order_by-answer.new.seat) _ (ap (λ m. m.0.node) c.self.invariant.0.me) c.take.ensures.took s tt
+    (client_change s.so.0 i.number (omega (arith, c.self.invariant.1)) c.args.order s.before (place_of i.seat) s.after (place_of c.do_order_by-answer.new.seat) c.do_order_by-answer.result s.so.2)
 
 pub invariant_of-self : goal.invariant_of-self
 invariant_of-self g c =
-    (is_at c.event_by-answer.new.ticket.me c.give_client.new.ticket.me (Client c.self.inside.number c.event_by-answer.new.seat) c.give_client.ensures.view c.give_client.ensures.stands c.give_client.new.ticket refl, c.self.invariant.1)
+    (is_at c.do_order_by-answer.new.ticket.me c.give_client.new.ticket.me (Client c.self.inside.number c.do_order_by-answer.new.seat) c.give_client.ensures.view c.give_client.ensures.stands c.give_client.new.ticket refl, c.self.invariant.1)
 
 pub returns-clause-turns : goal.returns-clause-turns
 returns-clause-turns g c = rw (← c.self.view_is) (
-    exchanged c.self.inside.ticket.me c.take.new.ticket.me c.event_by-answer.new.ticket.me c.give_client.new.ticket.me (Client c.self.inside.number c.event_by-answer.new.seat) _ c.take.ensures.took c.event_by-answer.ensures.acts c.give_client.ensures.view)
+    exchanged c.self.inside.ticket.me c.take.new.ticket.me c.do_order_by-answer.new.ticket.me c.give_client.new.ticket.me (Client c.self.inside.number c.do_order_by-answer.new.seat) _ c.take.ensures.took c.do_order_by-answer.ensures.acts c.give_client.ensures.view)
 
 pub returns-clause-once : goal.returns-clause-once
 returns-clause-once g c = rw (← c.self.view_is) (
-    given_once c.self.inside.ticket.me c.take.new.ticket.me c.event_by-answer.new.ticket.me c.give_client.new.ticket.me (Client c.self.inside.number c.event_by-answer.new.seat) _ c.take.ensures.took c.event_by-answer.ensures.acts c.give_client.ensures.view)
+    given_once c.self.inside.ticket.me c.take.new.ticket.me c.do_order_by-answer.new.ticket.me c.give_client.new.ticket.me (Client c.self.inside.number c.do_order_by-answer.new.seat) _ c.take.ensures.took c.do_order_by-answer.ensures.acts c.give_client.ensures.view)

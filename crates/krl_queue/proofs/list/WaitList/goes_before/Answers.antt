@@ -1,5 +1,5 @@
 use Rattle.std.proofs.Common.{◌≤◌, length, sym, ap, ◌∙◌}
-use Rattle.krl_queue.specs.Waiting.{goes_before}
+use Rattle.krl_queue.specs.Turns.{goes_before}
 use Rattle.krl_queue.proofs.Nodes.{at_testable, at_null}
 use Rattle.krl_queue.proofs.Found.{nobody_past}
 use Rattle.krl_queue.proofs.list.WaitList.goes_before.Goals as goal

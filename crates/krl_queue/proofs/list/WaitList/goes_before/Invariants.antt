@@ -1,7 +1,7 @@
 use Rattle.std.proofs.Common.{◌≡◌, ◌-◌, ◌≤◌, drop, length}
 use denote.RawPtr.{null_ptr}
 use Rattle.krl_queue.specs.Segment.{waiters, first_or}
-use Rattle.krl_queue.specs.Waiting.{goes_before}
+use Rattle.krl_queue.specs.Turns.{goes_before}
 use Rattle.krl_queue.proofs.list.WaitList.goes_before.Given as goal
 
 -- neither of them waits before the index

@@ -1,6 +1,7 @@
 use Rattle.std.proofs.Common.{◌+◌, ◌<◌, ◌≤◌, ◌++◌, take, length, sym, ap, ◌∙◌, arith}
 use Rattle.krl_queue.specs.Segment.{waiters}
-use Rattle.krl_queue.specs.Waiting.{first_of, without_first}
+use Rattle.krl_queue.specs.Waiting.{first_of}
+use Rattle.krl_queue.specs.Turns.{without_first}
 use Rattle.krl_queue.proofs.Nodes.{at_testable, at_null, at_some, take_step}
 use Rattle.krl_queue.proofs.Found.{hit, miss, slice_get_at, first_past, without_past}
 use Rattle.krl_queue.proofs.node_chain.NodeChain.find.Goals as goal

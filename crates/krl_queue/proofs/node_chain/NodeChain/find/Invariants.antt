@@ -1,7 +1,8 @@
 use Rattle.std.proofs.Common.{◌≡◌, ◌-◌, ◌≤◌, ◌++◌, take, drop, length}
 use denote.RawPtr.{null_ptr}
 use Rattle.krl_queue.specs.Segment.{waiters, first_or}
-use Rattle.krl_queue.specs.Waiting.{first_of, without_first}
+use Rattle.krl_queue.specs.Waiting.{first_of}
+use Rattle.krl_queue.specs.Turns.{without_first}
 use Rattle.krl_queue.proofs.node_chain.NodeChain.find.Given as goal
 
 -- nobody before the index is the client

@@ -1,4 +1,4 @@
-use Rattle.krl_server.proofs.Names.{◌≡◌, sym, ap, ◌∙◌, arith, rows_of, waits, most_clients, count_below}
+use Rattle.krl_server.proofs.Names.{◌≡◌, sym, ap, ◌∙◌, arith, rows_of, waits, max_clients, count_below}
 use Rattle.krl_server.proofs.Outputs.Numbers.{sixty_four}
 use Rattle.krl_server.proofs.Functions.WaitersByClient.{none_count}
 use Rattle.krl_server.proofs.state.State.count_waiting.Goals as goal
@@ -11,4 +11,4 @@ returns-clause-count c =
     c.loop-client.invariant.count ∙ ap (λ n. count_below n (waits c.args.self.now.durable.index (rows_of c.args.self.now.table.map))) (all ∙ sym sixty_four)
 
 pub returns-then-nobody_waits-clause-count : goal.returns-then-nobody_waits-clause-count
-returns-then-nobody_waits-clause-count c = sym (none_count c.args.self.now.durable.index (rows_of c.args.self.now.table.map) most_clients (c.nobody_waits.ensures.0 c.if-nobody_waits.true))
+returns-then-nobody_waits-clause-count c = sym (none_count c.args.self.now.durable.index (rows_of c.args.self.now.table.map) max_clients (c.nobody_waits.ensures.0 c.if-nobody_waits.true))

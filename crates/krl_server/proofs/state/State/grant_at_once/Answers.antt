@@ -1,5 +1,5 @@
 use Rattle.krl_server.proofs.Names.{◌≡◌, ◌<◌, true, subst, sym, ap, ◌∙◌, refl, arith, AllByRecursion, is_slot, slot_of, Session, State, END, holdings, acknowledged, queues, meaning, Sends}
-use Rattle.krl_messages.specs.Several.{Ascend}
+use Rattle.krl_messages.specs.Ascending.{Ascend}
 use Rattle.krl_server.proofs.Grants.{slot_always, taken_told}
 use Rattle.krl_server.proofs.Functions.FirstTurn.{granted_push}
 use Rattle.krl_server.proofs.Functions.AtOnce.{noted, free_here, queue_here, granted_means, granted_turn}

@@ -1,5 +1,5 @@
 use Rattle.krl_server.proofs.Names.{◌≡◌, ◌<◌, ◌+◌, ℕ, List, [], ◌∷◌, ◌++◌, length, take, get_or, sym, ap, subst, ◌∙◌, arith, take_more, length-take-le, Holding, Server, meaning, holding, holdings}
-use Rattle.krl_messages.specs.Several.{Ascend}
+use Rattle.krl_messages.specs.Ascending.{Ascend}
 use Rattle.krl_server.proofs.Grants.{ascend_take, holdings_on, holdings_long}
 use Rattle.krl_server.proofs.state.State.holdings.Goals as goal
 

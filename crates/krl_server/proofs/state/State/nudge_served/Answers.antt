@@ -1,4 +1,4 @@
-use Rattle.krl_server.proofs.Names.{◌<◌, length, ap, arith, most_clients, meaning}
+use Rattle.krl_server.proofs.Names.{◌<◌, length, ap, arith, max_clients, meaning}
 use Rattle.krl_server.proofs.Outputs.Numbers.{sixty_four, for_few}
 use Rattle.krl_server.proofs.state.State.nudge_served.Goals as goal
 
@@ -8,7 +8,7 @@ call_back_for-requires-clause-room c =
     let own = w.ensures.client in
     let low = c.requires.client in
     let all = sixty_four in
-    let lt : w.first.waiter.client < most_clients = omega (arith, own, low, all) in
+    let lt : w.first.waiter.client < max_clients = omega (arith, own, low, all) in
     let few = for_few (meaning c.args.self.now) w.slot w.first.waiter lt in
     let e = c.in_ok-outbox-in-Some-first_waiter_of.ensures in
     let sent = ap (λ b. length b.sent) e in

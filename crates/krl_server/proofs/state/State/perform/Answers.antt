@@ -25,22 +25,22 @@ pub enqueue-requires-clause-free : goal.enqueue-requires-clause-free
 enqueue-requires-clause-free c = subst (λ (u : Waiter). WaitsNowhere (rows_of c.args.self.now.table.map) u.client) (sym c.in_ok-node-in-Waits.ensures.made) (waits_nowhere c.args.self.now.durable.index (rows_of c.args.self.now.table.map) c.args.message.now.client c.requires.server.ordered.table (facts_of (meaning c.args.self.now) c.args.message.now c.args.case.now _ c.requires.case c.in-Waits.is).free)
 
 pub write-outcome-requires-clause-client : goal.write-outcome-requires-clause-client
-write-outcome-requires-clause-client c = (facts_of (meaning c.args.self.now) c.args.message.now c.args.case.now _ c.requires.case c.in-Writes.is).client
+write-outcome-requires-clause-client c = (facts_of (meaning c.args.self.now) c.args.message.now c.args.case.now _ c.requires.case c.in-Judges.is).client
 
 pub write-outcome-requires-clause-key : goal.write-outcome-requires-clause-key
-write-outcome-requires-clause-key c = (facts_of (meaning c.args.self.now) c.args.message.now c.args.case.now _ c.requires.case c.in-Writes.is).key
+write-outcome-requires-clause-key c = (facts_of (meaning c.args.self.now) c.args.message.now c.args.case.now _ c.requires.case c.in-Judges.is).key
 
 pub write-outcome-requires-clause-unspent : goal.write-outcome-requires-clause-unspent
-write-outcome-requires-clause-unspent c = (facts_of (meaning c.args.self.now) c.args.message.now c.args.case.now _ c.requires.case c.in-Writes.is).unspent
+write-outcome-requires-clause-unspent c = (facts_of (meaning c.args.self.now) c.args.message.now c.args.case.now _ c.requires.case c.in-Judges.is).unspent
 
-pub acknowledge-requires-in-Writes-clause-client : goal.acknowledge-requires-in-Writes-clause-client
-acknowledge-requires-in-Writes-clause-client c = (facts_of (meaning c.args.self.now) c.args.message.now c.args.case.now _ c.requires.case c.in-Writes.is).client
+pub acknowledge-requires-in-Judges-clause-client : goal.acknowledge-requires-in-Judges-clause-client
+acknowledge-requires-in-Judges-clause-client c = (facts_of (meaning c.args.self.now) c.args.message.now c.args.case.now _ c.requires.case c.in-Judges.is).client
 
 pub answer_write-requires-clause-client : goal.answer_write-requires-clause-client
-answer_write-requires-clause-client c = (facts_of (meaning c.args.self.now) c.args.message.now c.args.case.now _ c.requires.case c.in-Writes.is).client
+answer_write-requires-clause-client c = (facts_of (meaning c.args.self.now) c.args.message.now c.args.case.now _ c.requires.case c.in-Judges.is).client
 
 pub answer_write-requires-clause-key : goal.answer_write-requires-clause-key
-answer_write-requires-clause-key c = (facts_of (meaning c.args.self.now) c.args.message.now c.args.case.now _ c.requires.case c.in-Writes.is).key
+answer_write-requires-clause-key c = (facts_of (meaning c.args.self.now) c.args.message.now c.args.case.now _ c.requires.case c.in-Judges.is).key
 
 pub acknowledge-requires-in-AnswersAgain-clause-client : goal.acknowledge-requires-in-AnswersAgain-clause-client
 acknowledge-requires-in-AnswersAgain-clause-client c = (facts_of (meaning c.args.self.now) c.args.message.now c.args.case.now _ c.requires.case c.in-AnswersAgain.is).client
@@ -64,21 +64,21 @@ returns-in-Repeats-clause-performed c =
       sends = c.send_some.ensures;
     }
 
-pub returns-in-Writes-clause-performed : goal.returns-in-Writes-clause-performed
-returns-in-Writes-clause-performed c =
+pub returns-in-Judges-clause-performed : goal.returns-in-Judges-clause-performed
+returns-in-Judges-clause-performed c =
     let s = meaning c.args.self.now in
     let own = c.args.message.now.client in
-    let number = c.in-Writes.number in
-    let op = c.in-Writes.op in
+    let number = c.in-Judges.number in
+    let op = c.in-Judges.op in
     let o = c.write-outcome.result in
-    let is = c.acknowledge-in-Writes.ensures.acknowledged
+    let is = c.acknowledge-in-Judges.ensures.acknowledged
     ∙ ap (λ x. acknowledged x own) c.write-outcome.ensures.writes in
-    let outs = (answers (meaning c.acknowledge-in-Writes.new.self) own number op o).outs in
+    let outs = (answers (meaning c.acknowledge-in-Judges.new.self) own number op o).outs in
     record {
       outs = outs;
-      performed = subst (λ left. IsPerformed s c.args.message.now (meaning c.answer_write.new.self) left outs) (sym (ap (λ (d : Performed). d.after) c.changing-in-Writes.ensures))
+      performed = subst (λ left. IsPerformed s c.args.message.now (meaning c.answer_write.new.self) left outs) (sym (ap (λ (d : Performed). d.after) c.changing-in-Judges.ensures))
           (performed_write s c.args.message.now (meaning c.answer_write.new.self) number op o outs
-          (ap (λ x. Judges number op x) c.write-outcome.ensures.outcome ∙ (sym (ap (λ f. meant s own c.args.message.now.body f) c.in-Writes.is) ∙ c.requires.case))
+          (ap (λ x. Judges number op x) c.write-outcome.ensures.outcome ∙ (sym (ap (λ f. meant s own c.args.message.now.body f) c.in-Judges.is) ∙ c.requires.case))
           (c.answer_write.ensures.server ∙ ap (λ x. (answers x own number op o).server) is)
           (ap (λ x. (answers x own number op o).outs) is));
       sends = c.answer_write.ensures.sent;

@@ -1,7 +1,7 @@
 use Rattle.std.proofs.Common.{◌≡◌, ◌<◌, true, sym, subst, ◌∙◌, arith}
 use Rattle.std.specs.FinMap.{insert}
 use Rattle.krl_messages.specs.declared.write_op.WriteOp.TheVariants as write
-use Rattle.krl_table.specs.Kept.{IsOver}
+use Rattle.krl_table.specs.KeptRows.{IsOver}
 use Rattle.krl_table_tests.proofs.Applied.{applied_index, applied_room}
 use Rattle.krl_table_tests.proofs.bench.Bench.inserts.Goals as goal
 

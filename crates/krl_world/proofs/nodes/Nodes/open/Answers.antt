@@ -5,7 +5,7 @@ use Rattle.krl_world.proofs.nodes.Nodes.open.Goals as goal
 pub returns-in-Ok : goal.returns-in-Ok
 returns-in-Ok c = (
   record { kept = c.epoch.ensures.kept; starts = subst (λ d. can_start d ≡ true) c.requires.same c.in-Ok.ensures.epoch; left = c.requires.left },
-  opened_fields c.args.durable c.args.opening c.in-Ok.server c.in_ok-seats.seats.items c.new.result.items c.new-in-Ok.result.items c.requires.same c.epoch.ensures.kept c.in-Ok.ensures.server c.in_ok-seats.ensures c.new.ensures.items c.new-in-Ok.ensures.items,
+  opened_fields c.args.durable c.args.opening c.in-Ok.server c.in_ok-places.places.items c.new.result.items c.new-in-Ok.result.items c.requires.same c.epoch.ensures.kept c.in-Ok.ensures.server c.in_ok-places.ensures c.new.ensures.items c.new-in-Ok.ensures.items,
 )
 
 pub returns-in-Err : goal.returns-in-Err
