@@ -6,8 +6,8 @@ use crate::event_log::{self, EventLog};
 use crate::frames;
 use crate::handle::ServerHandle;
 use crate::held_back::HeldBack;
-use crate::history::{History, Mark};
-use crate::host_frame::{self, FromClient, FromServer};
+use crate::history::History;
+use crate::host_frame::{self, FromClient};
 use crate::lease::Sign;
 use crate::leases::LeaseTable;
 use crate::message::{self, Kind, client_number, client_of, incarnation_of, kind_of};
@@ -72,6 +72,8 @@ pub(crate) struct EventLoop<S> {
     asked_store: Instant,
     /// The server is to end, and goes on until then at most.
     until: Option<Instant>,
+    /// Why it is to end, if nobody has told it to.
+    failure: Option<ServeError>,
     timings: Arc<Timings>,
     open: Open,
     log: EventLog,
@@ -108,6 +110,7 @@ impl<S: Store> EventLoop<S> {
             nudged: now,
             asked_store: now,
             until: None,
+            failure: None,
             timings,
             open: Open::new(),
             log,
@@ -136,7 +139,7 @@ impl<S: Store> EventLoop<S> {
         }
         self.show(shown);
         self.connections.finish(Instant::now() + LAST_WRITES);
-        Ok(())
+        self.failure.map_or(Ok(()), Err)
     }
 
     /// Takes what waits, judges it all, commits what it changed, and only then sends. It answers
@@ -228,32 +231,6 @@ impl<S: Store> EventLoop<S> {
         } else {
             Ok(())
         }
-    }
-
-    /// Answers the Hello of a client's host, which has seen so much of the store.
-    ///
-    /// If the store lacks that, people are told too, and nothing more is heard of the connection:
-    /// its client knows what is not so, and what it says is lost as if it had crashed. The server
-    /// goes on: it does not end by a stranger's word.
-    fn greet(&mut self, connection: u64, seen: Option<Mark>) -> Result<(), ServeError> {
-        match seen.filter(|seen| !self.has(*seen)) {
-            None => self.connections.greet(connection, FromServer::Hello { answers_signs: true }),
-            Some(lacked) => {
-                // A server behind which another one has started lacks it too, and ends here.
-                self.store.commit(&[])?;
-                self.status.store_alarms += 1;
-                self.log.store_alarm(connection, lacked);
-                self.connections.greet(connection, FromServer::WentBack);
-                self.connections.end(connection);
-            }
-        }
-        Ok(())
-    }
-
-    /// Whether the store has all that was seen. One without a history told nobody a mark: whoever
-    /// has one has seen another store.
-    fn has(&self, seen: Mark) -> bool {
-        self.history.as_ref().is_some_and(|history| history.has(seen))
     }
 
     /// Gives the server one message, and says what has to be kept. A string that is no message ends
@@ -389,6 +366,7 @@ impl<S: Store> EventLoop<S> {
     }
 }
 
+mod greeting;
 mod leases;
 mod looks;
 mod notices;

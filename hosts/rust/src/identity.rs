@@ -83,6 +83,11 @@ impl Identity {
         self.clients.has(number)
     }
 
+    /// Whether it may speak for any client.
+    pub(crate) fn is_of_clients(&self) -> bool {
+        self.clients != ClientSet::default()
+    }
+
     /// Whether it may evict clients, and see the status.
     #[must_use]
     pub fn is_operator(&self) -> bool {

@@ -7,6 +7,8 @@ use crate::connections::Connections;
 use crate::event_log::EventLog;
 use crate::event_loop::EventLoop;
 use crate::handle::ServerHandle;
+use crate::history::Mark;
+use crate::identity::Identity;
 use crate::leases::LeaseTable;
 use crate::monitor::Monitor;
 use crate::requests::{Request, Requests};
@@ -62,6 +64,15 @@ pub enum ServeError {
         /// The room.
         room: Room,
     },
+    /// The store lacks what a client has seen of it: it is an older copy, or another store. The
+    /// client has shown who it is, and has been told. A server ends by no stranger's word: then
+    /// [`Status::store_alarms`] counts it, and the server goes on.
+    OlderStore {
+        /// Who has seen it.
+        identity: Identity,
+        /// What it has seen.
+        seen: Mark,
+    },
     /// A thread of the server panicked.
     Panicked,
 }
@@ -72,7 +83,8 @@ impl Server {
     /// # Errors
     ///
     /// Those of [`Server::start`]; `Store` if a change could not be committed: nothing that rests
-    /// on it was sent; `Panicked`.
+    /// on it was sent; `OlderStore` if a client that has shown who it is has seen what the store
+    /// lacks; `Panicked`.
     pub fn serve(
         listener: impl Into<Listener>,
         store: impl Store + 'static,
@@ -205,7 +217,7 @@ impl Server {
     ///
     /// # Errors
     ///
-    /// Those of [`Server::serve`], if it had failed before.
+    /// Those of [`Server::serve`], if it fails before it has ended.
     pub fn stop(mut self) -> Result<(), ServeError> {
         self.ask_to_stop();
         self.join()
@@ -262,6 +274,13 @@ impl fmt::Display for ServeError {
                 "the store has the key {key}, which the shard {shard} does not have: it is another \
                  shard's, or has to be split"
             ),
+            ServeError::OlderStore { identity, seen } => write!(
+                f,
+                "the store lacks what the holder of the identity {identity} has seen of it \
+                 ({seen:?}): it is an older copy, or another store. Start the server over the right \
+                 one, or over one that `krl-server restore` has made; the client has been told, and \
+                 joins whichever it is"
+            ),
             ServeError::Panicked => f.write_str("a thread of the server panicked"),
         }
     }
@@ -273,9 +292,10 @@ impl std::error::Error for ServeError {
             ServeError::Store(error) => Some(error),
             ServeError::Refused(code) => Some(code),
             ServeError::Network(error) | ServeError::Clock(error) => Some(error),
-            ServeError::OtherKey { .. } | ServeError::MoreRows { .. } | ServeError::Panicked => {
-                None
-            }
+            ServeError::OtherKey { .. }
+            | ServeError::MoreRows { .. }
+            | ServeError::OlderStore { .. }
+            | ServeError::Panicked => None,
         }
     }
 }

@@ -27,6 +27,10 @@ const LOOK: Duration = Duration::from_millis(20);
 /// The exit status of a process that a second signal ends.
 const ENDED_AT_ONCE: i32 = 1;
 
+/// The exit status of a server whose store lacks what a client has seen. A service manager does not
+/// start it again: over the same store it would serve, and nobody might notice.
+const OLDER_STORE: u8 = 3;
+
 /// Serves until a signal comes, and then stops in order. What goes wrong is told in the log.
 pub fn serve(settings: &Settings) -> ExitCode {
     log::start(settings);
@@ -39,8 +43,15 @@ pub fn serve(settings: &Settings) -> ExitCode {
             if !error.is::<HasFailed>() {
                 tracing::error!("{error}");
             }
-            ExitCode::FAILURE
+            exit_status(error.as_ref())
         }
+    }
+}
+
+fn exit_status(error: &(dyn Error + 'static)) -> ExitCode {
+    match error.downcast_ref() {
+        Some(HasFailed(ServeError::OlderStore { .. })) => ExitCode::from(OLDER_STORE),
+        _ => ExitCode::FAILURE,
     }
 }
 

@@ -3,11 +3,13 @@ mod common;
 
 use common::{Serving, errors, lock_file, program, run, text, until};
 use krl::{Client, JoinError, Outcome, Servers, TlsConfig, Value};
+use std::fs::File;
 use std::io::{Read, Write};
 use std::net::TcpStream;
 use std::path::{Path, PathBuf};
-use std::process::{Command, Output};
-use std::time::Instant;
+use std::process::{Child, Command, ExitStatus, Output};
+use std::thread;
+use std::time::{Duration, Instant};
 
 /// A folder of certificates, and of all else that a test has.
 struct Setup {
@@ -52,15 +54,24 @@ impl Setup {
     }
 
     fn serve_with(&self, words: &[&str]) -> Serving {
+        self.serve_at("tls:127.0.0.1:0", words)
+    }
+
+    fn serve_at(&self, listen: &str, words: &[&str]) -> Serving {
+        let mut command = self.command_at(listen);
+        Serving::start_by(command.args(words).args(["--status", "tls:127.0.0.1:0"]))
+    }
+
+    /// The command of a server that listens there.
+    fn command_at(&self, listen: &str) -> Command {
         let mut command = program();
         command.arg("serve").arg("--store").arg(self.file("krl.db")).args(self.shows("server"));
-        command.args(words);
-        Serving::start_by(command.args([
-            "--listen",
-            "tls:127.0.0.1:0",
-            "--status",
-            "tls:127.0.0.1:0",
-        ]))
+        command.args(["--listen", listen]);
+        command
+    }
+
+    fn copy(&self, from: &str, to: &str) {
+        std::fs::copy(self.file(from), self.file(to)).unwrap();
     }
 
     fn join(&self, serving: &Serving, number: u8) -> Result<Client, JoinError> {
@@ -168,6 +179,50 @@ fn a_hangup_has_the_certificates_read_again() {
     let has = |told: &str| log.iter().any(|event| event["message"] == told);
     assert!(has("the certificates can't be used: the old ones stay"), "{log:?}");
     assert!(has("the certificates are read again"), "{log:?}");
+}
+
+#[test]
+fn a_server_over_an_older_store_says_so_once_and_ends_with_status_3() {
+    let setup = Setup::new(&["server", "client-3"]);
+    // Nobody else takes a port of this address between two servers.
+    let [low, high, ..] = std::process::id().to_le_bytes();
+    let serving = setup.serve_at(&format!("tls:127.73.{high}.{low}:0"), &[]);
+    let at = serving.address.to_string();
+    let client = setup.join(&serving, 3).unwrap();
+    assert_eq!(client.insert(1, Value::from(1)), Ok(Outcome::Applied));
+    serving.signal(&["TERM"]);
+    assert_eq!(serving.ended().status.code(), Some(0));
+    setup.copy("krl.db", "copy.db");
+    let serving = setup.serve_at(&at, &[]);
+    assert_eq!(client.put(1, Value::from(2)), Ok(Outcome::Applied));
+    serving.signal(&["TERM"]);
+    assert_eq!(serving.ended().status.code(), Some(0));
+    setup.copy("copy.db", "krl.db");
+    let mut command = setup.command_at(&at);
+    let log = File::create(setup.file("log")).unwrap();
+    let mut process = command.args(["--status", "off"]).stderr(log).spawn().unwrap();
+    let ended = ended_within_a_minute(&mut process);
+    // One that has ended needs no end.
+    let _ = process.kill();
+    let log = std::fs::read_to_string(setup.file("log")).unwrap();
+    assert_eq!(ended.and_then(|status| status.code()), Some(3), "{log}");
+    let told = "the store lacks what the holder of the identity 3 has seen of it";
+    assert_eq!(log.matches(told).count(), 1, "{log}");
+    until("the client has dropped its cache", || client.cached(1..2).is_none());
+    let serving = setup.serve_at(&at, &[]);
+    assert_eq!(client.put(1, Value::from(3)), Ok(Outcome::Applied), "it has joined anew");
+    drop(serving);
+}
+
+fn ended_within_a_minute(process: &mut Child) -> Option<ExitStatus> {
+    let end = Instant::now() + Duration::from_secs(60);
+    while Instant::now() < end {
+        if let Some(status) = process.try_wait().unwrap() {
+            return Some(status);
+        }
+        thread::sleep(Duration::from_millis(10));
+    }
+    None
 }
 
 #[test]

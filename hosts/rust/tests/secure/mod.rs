@@ -1,4 +1,5 @@
 //! A server by TLS, and clients of it, for tests.
+#![allow(dead_code, reason = "each test uses a part of it")]
 use crate::certificates::{Authority, Files};
 use krl::{
     Access, Address, Client, JoinError, Listener, MemoryStore, Server, Servers, Status, TlsConfig,

@@ -1,0 +1,67 @@
+//! The Hello of a client's host, and what follows if the store lacks what that host has seen.
+use super::{EventLoop, LAST_TURNS};
+use crate::history::Mark;
+use crate::host_frame::FromServer;
+use crate::identity::Identity;
+use crate::server::ServeError;
+use crate::store::Store;
+use std::time::Instant;
+
+impl<S: Store> EventLoop<S> {
+    /// Answers the Hello of a client's host, which has seen so much of the store.
+    ///
+    /// If the store lacks that, people are told too, and nothing more is heard of the connection:
+    /// its client knows what is not so, and what it says is lost as if it had crashed. Then the
+    /// server ends, unless a stranger may have said so.
+    pub(super) fn greet(&mut self, connection: u64, seen: Option<Mark>) -> Result<(), ServeError> {
+        let Some(lacked) = seen.filter(|seen| !self.has(*seen)) else {
+            self.connections.greet(connection, FromServer::Hello { answers_signs: true });
+            return Ok(());
+        };
+        // A server behind which another one has started lacks it too, and ends here.
+        self.store.commit(&[])?;
+        self.status.store_alarms += 1;
+        self.log.store_alarm(connection, lacked);
+        let identity = self.connections.identity(connection);
+        self.connections.greet(connection, FromServer::WentBack);
+        self.connections.end(connection);
+        if ends_by_the_word_of(&identity) {
+            self.end_in_order(ServeError::OlderStore { identity, seen: lacked });
+        }
+        Ok(())
+    }
+
+    /// Whether the store has all that was seen. One without a history told nobody a mark: whoever
+    /// has one has seen another store.
+    fn has(&self, seen: Mark) -> bool {
+        self.history.as_ref().is_some_and(|history| history.has(seen))
+    }
+
+    /// Ends as a server that is told to stop, with the first such error.
+    fn end_in_order(&mut self, error: ServeError) {
+        self.until.get_or_insert_with(|| Instant::now() + LAST_TURNS);
+        self.failure.get_or_insert(error);
+    }
+}
+
+/// Whether a server ends if one of this identity has seen what the store lacks: if it may speak
+/// for some clients. Who may say all has shown nothing, as one who connects by plain TCP. A Hello
+/// names no client, so an operator's is about none.
+fn ends_by_the_word_of(identity: &Identity) -> bool {
+    *identity != Identity::everybody() && identity.is_of_clients()
+}
+
+#[cfg(test)]
+mod tests {
+    use super::*;
+
+    #[test]
+    fn a_server_ends_by_the_word_of_a_client_that_has_shown_who_it_is() {
+        for identity in ["3", "0,63", "3,operator"] {
+            assert!(ends_by_the_word_of(&identity.parse().unwrap()), "{identity}");
+        }
+        for stranger in [Identity::everybody(), Identity::nobody(), "operator".parse().unwrap()] {
+            assert!(!ends_by_the_word_of(&stranger), "{stranger}");
+        }
+    }
+}

@@ -1,0 +1,116 @@
+//! A copy of the store from before is brought back while a client lives that has shown who it is.
+mod certificates;
+mod secure;
+
+use krl::{Access, Address, Client, Listener, Outcome, Row, ServeError, Server, SqliteStore};
+use krl::{TlsConfig, Value};
+use secure::Setup;
+use std::path::PathBuf;
+use std::thread;
+use std::time::{Duration, Instant};
+
+/// A store at which servers run by TLS, one after another, all at one address.
+struct Place {
+    setup: Setup,
+    shown: TlsConfig,
+    address: Address,
+}
+
+impl Place {
+    /// A place at an address of its own of the loopback: nobody else takes a port there between two
+    /// servers.
+    fn new(name: &str, network: u8) -> Place {
+        let setup = Setup::new(name);
+        let shown = setup.config(&["krl:server"]);
+        let [low, high, ..] = std::process::id().to_le_bytes();
+        let address = format!("tls:127.{network}.{high}.{low}:0").parse().unwrap();
+        Place { setup, shown, address }
+    }
+
+    fn file(&self, name: &str) -> PathBuf {
+        self.setup.folder.join(name)
+    }
+
+    fn serve(&mut self) -> Server {
+        let listener = Listener::bind(&self.address).unwrap();
+        let store = SqliteStore::open(self.file("table.db")).unwrap();
+        let access = Access::new().tls(self.shown.clone());
+        let server = Server::builder(listener, store).access(access).start().unwrap();
+        self.address = server.address().clone();
+        server
+    }
+
+    fn copy(&self, from: &str, to: &str) {
+        std::fs::copy(self.file(from), self.file(to)).unwrap();
+    }
+
+    /// A client of this number that has the value 2 in its cache, where `copy.db` has the 1 of
+    /// before. No server runs.
+    fn client_of_a_later_store(&mut self, number: u8) -> Client {
+        let server = self.serve();
+        let config = self.setup.config(&[&format!("krl:client:{number}")]);
+        let client = self.setup.join(&server, &config, number).unwrap();
+        assert_eq!(client.insert(1, Value::from(1)), Ok(Outcome::Applied));
+        server.stop().unwrap();
+        self.copy("table.db", "copy.db");
+        let server = self.serve();
+        assert_eq!(client.put(1, Value::from(2)), Ok(Outcome::Applied));
+        assert_eq!(client.read(1..2), Ok(vec![row(2)]));
+        server.stop().unwrap();
+        client
+    }
+}
+
+fn row(number: u64) -> Row {
+    Row { key: 1, value: Value::from(number) }
+}
+
+/// Waits until it is so, for a minute at most.
+fn wait_until(is_so: impl Fn() -> bool) -> bool {
+    let end = Instant::now() + Duration::from_secs(60);
+    while !is_so() && Instant::now() < end {
+        thread::sleep(Duration::from_millis(5));
+    }
+    is_so()
+}
+
+/// The server ends by itself, and says that this client has seen what its store lacks.
+fn ends_by_the_word_of(number: u8, server: Server) {
+    assert!(wait_until(|| !server.is_running()), "{}", server.status());
+    let status = server.status();
+    assert!(!status.is_serving && status.store_alarms > 0, "{status}");
+    let error = server.stop().unwrap_err();
+    let ServeError::OlderStore { identity, seen } = &error else { panic!("{error}") };
+    assert_eq!(identity.to_string(), number.to_string());
+    assert!(seen.commits > 0, "{seen:?}");
+    assert_eq!(status.failure, Some(error.to_string()));
+}
+
+#[test]
+fn a_server_over_an_older_copy_ends_and_serves_when_it_is_started_again() {
+    let mut place = Place::new("older-copy", 71);
+    let client = place.client_of_a_later_store(3);
+    place.copy("copy.db", "table.db");
+    assert_eq!(client.cached(1..2), Some(vec![row(2)]), "it has heard nothing");
+    ends_by_the_word_of(3, place.serve());
+    assert!(wait_until(|| client.cached(1..2).is_none()), "it was told");
+    let server = place.serve();
+    assert_eq!(client.read(1..2), Ok(vec![row(1)]), "it has joined anew");
+    assert_eq!(client.put(1, Value::from(3)), Ok(Outcome::Applied));
+    assert!(server.is_running());
+    server.stop().unwrap();
+}
+
+#[test]
+fn the_right_store_is_served_after_a_server_over_the_wrong_one_has_ended() {
+    let mut place = Place::new("right-store", 72);
+    let client = place.client_of_a_later_store(3);
+    place.copy("table.db", "right.db");
+    place.copy("copy.db", "table.db");
+    ends_by_the_word_of(3, place.serve());
+    assert!(wait_until(|| client.cached(1..2).is_none()), "it was told");
+    place.copy("right.db", "table.db");
+    let server = place.serve();
+    assert_eq!(client.read(1..2), Ok(vec![row(2)]), "it has joined anew");
+    server.stop().unwrap();
+}
