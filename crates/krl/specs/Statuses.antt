@@ -1,14 +1,15 @@
 -- The exit status of each ending.
-use Rattle.std.specs.Prelude.{◌≡◌, ◌⊎◌, ℕ, Bool, true, false, List, Result, Ok, Err}
+use Rattle.std.specs.Prelude.{◌≡◌, ◌⊎◌, ℕ, Bool, true, false, List, Result, Ok, Err, IfOk}
 use Rattle.std.specs.Io.KnownBytes.{Appends}
 use Rattle.krl_text.specs.declared.fault.ScriptFault.{ScriptFault}
 use Rattle.krl_script.specs.Runs.{Ran}
 use Rattle.krl_text.specs.Transfers.{Known}
 use Rattle.krl_script.specs.RandomRuns.{WroteFrontOf}
-use Rattle.krl_script.specs.Rests.{WroteRest}
+use Rattle.krl_script.specs.Rests.{EndsAs, WroteRest}
 use Rattle.krl_script.specs.declared.rest.Rest.{Rest}
 use Rattle.krl_script.specs.declared.rest.Rest.TheVariants as rest
 use Rattle.krl_world.specs.States.{State}
+use Rattle.krl_world.specs.Steps.{IsReachable}
 
 -- of a script: 0 if its last line was run, else 1
 abbrev pub script_status : Result (Unit {0}) ScriptFault → ℕ
@@ -21,7 +22,7 @@ random_status (Ok (w, true)) = 0
 random_status (Ok (w, false)) = 1
 random_status (Err fault) = 1
 
--- of the rounds after it: 0 where nobody waits, 3 where somebody still does, else 1
+-- of the rounds after it: 0 if nobody waits, 3 if somebody still does, else 1
 abbrev pub rest_status : Result Rest ScriptFault → ℕ
 rest_status (Ok (rest.Reached n)) = 0
 rest_status (Ok rest.Missed) = 3
@@ -39,11 +40,12 @@ abbrev pub DroveTo : Known → Known → List ℕ → ℕ → Type 0
 DroveTo before after line status =
     ((status ≡ 0) × Appends before after line) ⊎ ((status ≡ 1) × WroteFrontOf before after line)
 
--- The line of good rounds that end in some world was written, or how far the writer got.
+-- Some run leads to the world in which good rounds ended, and they ended as the status says: 0 if nobody waits there, 3
+-- if somebody does. The line that says so was written, or how far the writer got.
 abbrev pub RestedTo : Known → Known → ℕ → Type 0
 RestedTo before after status =
-    (w : State) × (ended : Result Rest ScriptFault) × WroteRest before after w ended
-    × (status ≡ rest_status ended)
+    (w : State) × (ended : Result Rest ScriptFault) × IsReachable w × IfOk ended (EndsAs w)
+    × WroteRest before after w ended × (status ≡ rest_status ended)
 
 -- The line of a random run was written, and then that of its rounds; or a front of the first was,
 -- and the status is 1.

@@ -138,7 +138,7 @@ fn status_of<H: Eprint + AllocGlobal, T>(rt: &H, ended: &Result<(T, bool), Scrip
     status::of_random(ended)
 }
 
-// The exit status of the rounds after it. Where their line can't be written, that is said too.
+// The exit status of the rounds after it. If their line can't be written, that is said too.
 fn status_of_rest<H: Eprint + AllocGlobal>(rt: &H, ended: &Result<Rest, ScriptFault>) -> u8
     ensures { result ≡ rest_status ended.now }
 {

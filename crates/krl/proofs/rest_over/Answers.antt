@@ -10,6 +10,8 @@ returns-in-Ok-default-true g c =
       (
         meaning c.bring_to_rest-ended.new.world,
         c.bring_to_rest-ended.result,
+        c.bring_to_rest-ended.ensures.reachable,
+        c.bring_to_rest-ended.ensures.ended,
         c.bring_to_rest-ended.ensures.wrote,
         c.status_of_rest.ensures,
       ),
