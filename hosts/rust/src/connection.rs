@@ -1,7 +1,6 @@
 //! One connection of a server: what has come on it, what its peer is told, and what waits to be
 //! written.
 use crate::access::Entry;
-use crate::event_log::Seldom;
 use crate::frames::{Frames, GULP};
 use crate::history::Mark;
 use crate::host_frame::FromServer;
@@ -9,6 +8,7 @@ use crate::identity::Identity;
 use crate::outgoing::Outgoing;
 use crate::poller::{Readiness, Watched};
 use crate::refusal::Refusal;
+use crate::seldom::Seldom;
 use crate::stream::Stream;
 use crate::tls::TlsSession;
 use std::io::{self, ErrorKind, Read};

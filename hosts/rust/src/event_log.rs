@@ -13,38 +13,17 @@ use crate::change::{Change, Record};
 use crate::history::Mark;
 use crate::identity::Identity;
 use crate::room_at_start::RoomAtStart;
+use crate::seldom::Seldom;
 use crate::shard_fence::OtherShard;
 use std::collections::BTreeMap;
 use std::fmt::Display;
-use std::time::{Duration, Instant};
-
-/// How long a repeated event waits until it is told again.
-const PAUSE: Duration = Duration::from_secs(1);
+use std::time::Instant;
 
 macro_rules! tell {
     ($level:ident, $($event:tt)*) => {{
         #[cfg(feature = "tracing")]
         tracing::$level!($($event)*);
     }};
-}
-
-/// Lets an event through once a second, and counts those between.
-#[derive(Debug, Default)]
-pub(crate) struct Seldom {
-    told: Option<Instant>,
-    passed_over: u64,
-}
-
-impl Seldom {
-    /// How many were passed over since the last one that was told, if this one is to be told.
-    pub fn lets(&mut self, now: Instant) -> Option<u64> {
-        if self.told.is_some_and(|told| now.saturating_duration_since(told) < PAUSE) {
-            self.passed_over += 1;
-            return None;
-        }
-        self.told = Some(now);
-        Some(std::mem::take(&mut self.passed_over))
-    }
 }
 
 /// What a server has told, so that nothing is told twice.
@@ -285,22 +264,4 @@ pub(crate) fn connected(server: &Address) {
 /// A client has no connection, or has lost it.
 pub(crate) fn disconnected(server: &Address, error: &dyn Display) {
     tell!(debug, %server, %error, "a client is not connected");
-}
-
-#[cfg(test)]
-mod tests {
-    use super::*;
-
-    #[test]
-    fn a_repeated_event_is_told_once_a_second_and_counted() {
-        let (mut seldom, start) = (Seldom::default(), Instant::now());
-        assert_eq!(seldom.lets(start), Some(0));
-        for _ in 0..5 {
-            assert_eq!(seldom.lets(start + PAUSE / 2), None);
-        }
-        assert_eq!(seldom.lets(start + PAUSE), Some(5));
-        assert_eq!(seldom.lets(start + PAUSE), None);
-        assert_eq!(seldom.lets(start + 3 * PAUSE), Some(1));
-        assert_eq!(seldom.lets(start + 4 * PAUSE), Some(0));
-    }
 }

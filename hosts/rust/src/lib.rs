@@ -73,6 +73,7 @@ mod room;
 mod room_at_start;
 mod routing;
 mod row;
+mod seldom;
 mod server;
 mod server_builder;
 mod servers;
@@ -127,6 +128,9 @@ pub use refused::{JoinError, Refused};
 pub use resharding::NotNeighbors;
 pub use room::{BadRoom, Room};
 pub use row::{END, MAX_VALUE_BYTES, Row, TooLong, Value};
+// For the programs of this workspace.
+#[doc(hidden)]
+pub use seldom::Seldom;
 pub use server::{ServeError, Server};
 pub use server_builder::ServerBuilder;
 pub use servers::Servers;

@@ -1,5 +1,6 @@
 //! New connections: which are taken, and which are told that there is no room.
-use crate::event_log::{self, Seldom};
+use crate::event_log;
+use crate::seldom::Seldom;
 use crate::stream::{Accepted, Listener, Stream};
 use crate::turned_away;
 use std::io::{self, ErrorKind};

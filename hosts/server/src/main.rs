@@ -15,7 +15,6 @@ mod reshard;
 mod restore;
 mod role;
 mod sealed;
-mod seldom;
 mod serve;
 mod settings;
 mod stand_by;

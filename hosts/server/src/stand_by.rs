@@ -1,9 +1,8 @@
 //! Servers over a cluster: one serves, and the others stand by.
 use crate::role::Role;
-use crate::seldom::Seldom;
 use crate::serve::{self, Ended, HasFailed, Signal};
 use crate::settings::{Key, Settings, key};
-use krl::{Access, Listener, ServeError, Store, StoreError};
+use krl::{Access, Listener, Seldom, ServeError, Store, StoreError};
 use krl_etcd::{Credentials, Election, EtcdAddress, EtcdStore, Standing, Term};
 use std::error::Error;
 use std::path::PathBuf;
@@ -22,9 +21,9 @@ pub fn run(
     let lease = settings.election_lease.value.duration();
     let election =
         Election::new(address.clone(), credentials.clone(), &advertised.to_string(), lease)?;
-    let unanswered = Seldom::default();
+    let mut unanswered = Seldom::default();
     loop {
-        let mut hears = |standing: Standing<'_>| hear(standing, role, signal, &unanswered);
+        let mut hears = |standing: Standing<'_>| hear(standing, role, signal, &mut unanswered);
         let Some(term) = election.campaign(&mut hears)? else { return Ok(()) };
         let mut store = EtcdStore::open(address, &credentials)?.with_commit_timeout(lease);
         store.concerns().iter().for_each(|concern| tracing::warn!("{concern}"));
@@ -42,7 +41,7 @@ pub fn run(
 }
 
 /// Tells who serves, once, or why nobody knows, now and then; and answers whether to go on.
-fn hear(standing: Standing<'_>, role: &Role, signal: &Signal, unanswered: &Seldom) -> bool {
+fn hear(standing: Standing<'_>, role: &Role, signal: &Signal, unanswered: &mut Seldom) -> bool {
     match standing {
         Standing::StandsBy(leader) if role.stands_by(leader) => serve::stands_by(leader),
         Standing::Unanswered(why) => {

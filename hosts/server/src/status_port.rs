@@ -3,17 +3,16 @@ use crate::backup;
 use crate::pages::{self, Asker};
 use crate::role::Role;
 use crate::sealed;
-use crate::seldom::Seldom;
 use hyper::server::conn::Http;
 use hyper::service::service_fn;
 use hyper::{Body, Request};
-use krl::{Address, Listener, TlsConfig, TlsSession};
+use krl::{Address, Listener, Seldom, TlsConfig, TlsSession};
 use std::convert::Infallible;
 use std::io::{self, ErrorKind};
 use std::net::TcpListener;
 use std::pin::pin;
-use std::sync::Arc;
 use std::sync::atomic::{AtomicBool, Ordering};
+use std::sync::{Arc, Mutex, PoisonError};
 use std::thread;
 use std::time::{Duration, Instant};
 use tokio::io::{AsyncRead, AsyncWrite};
@@ -69,7 +68,7 @@ fn refused(why: &str) -> io::Error {
 async fn serve(listener: TcpListener, tls: Option<TlsConfig>, role: Role) -> io::Result<()> {
     let listener = tokio::net::TcpListener::from_std(listener)?;
     let places = Arc::new(Semaphore::new(MAX_CONNECTIONS));
-    let refused = Arc::new(Seldom::default());
+    let refused = Arc::new(Mutex::new(Seldom::default()));
     loop {
         let Ok(place) = Arc::clone(&places).acquire_owned().await else { return Ok(()) };
         let Ok((stream, peer)) = listener.accept().await else {
@@ -88,7 +87,7 @@ async fn serve(listener: TcpListener, tls: Option<TlsConfig>, role: Role) -> io:
 }
 
 /// Answers by TLS, if an operator is at the other end. Anybody else is closed.
-async fn answer_operator(stream: TcpStream, tls: &TlsConfig, role: Role, refused: &Seldom) {
+async fn answer_operator(stream: TcpStream, tls: &TlsConfig, role: Role, refused: &Mutex<Seldom>) {
     let Ok(session) = TlsSession::accept(tls) else { return };
     let why = match timeout(HANDSHAKE, sealed::open(stream, session)).await {
         Ok(Ok((plain, peer))) if peer.is_operator() => {
@@ -98,7 +97,8 @@ async fn answer_operator(stream: TcpStream, tls: &TlsConfig, role: Role, refused
         Ok(Err(error)) => error.to_string(),
         Err(_) => return,
     };
-    if let Some(passed_over) = refused.lets(Instant::now()) {
+    let told = refused.lock().unwrap_or_else(PoisonError::into_inner).lets(Instant::now());
+    if let Some(passed_over) = told {
         tracing::warn!(%why, passed_over, "the status port refused a connection");
     }
 }

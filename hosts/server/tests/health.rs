@@ -2,7 +2,6 @@
 mod common;
 
 use common::{Serving, errors, lock_file, run, text, until};
-use krl::{Outcome, Value};
 
 /// The exit status of the question, and what it prints.
 fn ask(serving: &Serving, words: &[&str]) -> (Option<i32>, String) {
@@ -17,14 +16,7 @@ fn a_server_that_waits_for_reports_is_alive_and_not_ready() {
     let serving = Serving::start(&store);
     assert_eq!(ask(&serving, &[]), (Some(0), "ok\n".to_string()));
     until("it is ready", || ask(&serving, &["--ready"]) == (Some(0), "serving\n".to_string()));
-    let client = serving.join(folder.path(), 3);
-    assert_eq!(client.insert(7, Value::from(7)), Ok(Outcome::Applied));
-    serving.signal(&["KILL"]);
-    serving.ended();
-    // It can't say Bye, as there is no server.
-    drop(client);
-
-    let serving = Serving::start(&store);
+    let serving = serving.killed_beside(3, folder.path(), &store);
     until("it says who is missing", || {
         let (status, said) = ask(&serving, &["--ready"]);
         status == Some(1) && said.starts_with("recovering: the clients 3 ")

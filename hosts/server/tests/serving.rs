@@ -181,13 +181,7 @@ fn a_server_is_ready_when_nobody_is_missing() {
     let folder = tempfile::tempdir().unwrap();
     let store = folder.path().join("krl.db");
     let serving = Serving::start(&store);
-    let client = serving.join(folder.path(), 3);
-    assert_eq!(client.insert(7, Value::from(7)), Ok(Outcome::Applied));
-    serving.signal(&["KILL"]);
-    serving.ended();
-    // It can't say Bye, as there is no server.
-    drop(client);
-    let serving = Serving::start(&store);
+    let serving = serving.killed_beside(3, folder.path(), &store);
     until("the server says who is missing", || {
         let (status, text) = serving.get("/readyz");
         status == 503 && text.contains("clients 3 have")

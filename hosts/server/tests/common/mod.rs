@@ -1,6 +1,6 @@
 //! The program in a process of its own.
 #![allow(dead_code, reason = "each test takes what it needs")]
-use krl::{Address, Client};
+use krl::{Address, Client, Outcome};
 use serde_json::Value;
 use std::io::{BufRead, BufReader, Read, Write};
 use std::net::TcpStream;
@@ -102,6 +102,18 @@ impl Serving {
             let words = [format!("-{signal}"), self.process.id().to_string()];
             assert!(Command::new("kill").args(words).status().unwrap().success());
         }
+    }
+
+    /// Kills the server while a client of this number is there, and starts it again over its store:
+    /// it waits for that client.
+    pub fn killed_beside(self, number: u8, folder: &Path, store: &Path) -> Serving {
+        let client = self.join(folder, number);
+        assert_eq!(client.insert(7, krl::Value::from(7)), Ok(Outcome::Applied));
+        self.signal(&["KILL"]);
+        self.ended();
+        // It can't say Bye, as there is no server.
+        drop(client);
+        Serving::start(store)
     }
 
     /// Waits until the server has ended.

@@ -1,5 +1,4 @@
 //! Events that come again and again, and are told now and then.
-use std::sync::{Mutex, PoisonError};
 use std::time::{Duration, Instant};
 
 /// How long an event that repeats waits until it is told again.
@@ -7,24 +6,20 @@ const PAUSE: Duration = Duration::from_secs(1);
 
 /// Lets an event through once a second, and counts those between.
 #[derive(Debug, Default)]
-pub struct Seldom(Mutex<Told>);
-
-#[derive(Debug, Default)]
-struct Told {
-    last: Option<Instant>,
+pub struct Seldom {
+    told: Option<Instant>,
     passed_over: u64,
 }
 
 impl Seldom {
     /// How many were passed over since the last one that was told, if this one is to be told.
-    pub fn lets(&self, now: Instant) -> Option<u64> {
-        let mut told = self.0.lock().unwrap_or_else(PoisonError::into_inner);
-        if told.last.is_some_and(|last| now.saturating_duration_since(last) < PAUSE) {
-            told.passed_over += 1;
+    pub fn lets(&mut self, now: Instant) -> Option<u64> {
+        if self.told.is_some_and(|told| now.saturating_duration_since(told) < PAUSE) {
+            self.passed_over += 1;
             return None;
         }
-        told.last = Some(now);
-        Some(std::mem::take(&mut told.passed_over))
+        self.told = Some(now);
+        Some(std::mem::take(&mut self.passed_over))
     }
 }
 
@@ -34,7 +29,7 @@ mod tests {
 
     #[test]
     fn a_repeated_event_is_told_once_a_second_and_counted() {
-        let (seldom, start) = (Seldom::default(), Instant::now());
+        let (mut seldom, start) = (Seldom::default(), Instant::now());
         assert_eq!(seldom.lets(start), Some(0));
         for _ in 0..5 {
             assert_eq!(seldom.lets(start + PAUSE / 2), None);
@@ -42,5 +37,6 @@ mod tests {
         assert_eq!(seldom.lets(start + PAUSE), Some(5));
         assert_eq!(seldom.lets(start + PAUSE), None);
         assert_eq!(seldom.lets(start + 3 * PAUSE), Some(1));
+        assert_eq!(seldom.lets(start + 4 * PAUSE), Some(0));
     }
 }
