@@ -1,2 +1,3 @@
+pub mod Systems
 pub mod Leased
 pub mod Laws

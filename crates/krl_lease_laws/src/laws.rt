@@ -1,15 +1,21 @@
-//! Laws of worlds whose clients have leases.
+//! Laws of systems whose clients have leases: of worlds of one server, of the host of one server,
+//! and of any number of hosts over one store.
+ghost use Rattle.krl_lease_laws.specs.Systems.{worlds, hosts, fenced_hosts};
 ghost use Rattle.krl_lease_laws.specs.Laws.{ScansAreIndex, WorldsAreReached};
 
-/// What a process reads, and hands over behind a check of its lease, is that range of the server's
-/// index at the moment when it was read: even if the process runs on after its eviction, of
+/// What a process reads, and hands over after a check of its lease, is that range of the index that
+/// survives at the moment when it was read: even if the process runs on after its eviction, of
 /// which it knows nothing.
 pub fn scans_are_index()
-    ensures { ScansAreIndex }
+    ensures of_worlds { ScansAreIndex worlds }
+    ensures of_hosts { ScansAreIndex hosts }
+    ensures of_fenced_hosts { ScansAreIndex fenced_hosts }
 {}
 
-/// Each world in which leases end and clients are evicted is one that steps alone lead to, an
-/// eviction being the client's crash: so all that is promised of worlds holds of it.
+/// Each world in which leases end and clients are evicted is one that the system's own moves lead
+/// to, an eviction being the client's crash: so all that is promised of such worlds holds of it.
 pub fn worlds_are_reached()
-    ensures { WorldsAreReached }
+    ensures of_worlds { WorldsAreReached worlds }
+    ensures of_hosts { WorldsAreReached hosts }
+    ensures of_fenced_hosts { WorldsAreReached fenced_hosts }
 {}

@@ -2,11 +2,13 @@
 use Rattle.std.proofs.Common.{◌≡◌, ◌≤◌, ℕ, ◌+◌, ◌⊎◌, inl, inr, Bool, true, false, ◌∷◌, Option, Some, None, refl, sym, ap, ◌∙◌, subst, arith, if◌then◌else◌}
 use Rattle.std.proofs.lemmas.Option.{same_Some}
 use Rattle.krl_leases.specs.declared.lease.Lease.{Lease}
+use Rattle.krl_leases.specs.declared.until.Until.{Until}
+use Rattle.krl_leases.specs.declared.kept.Kept.{Kept}
 use Rattle.krl_leases.specs.Clients.{takes, with_terms}
 use Rattle.krl_leases.specs.Lengths.{later}
-use Rattle.krl_leases.specs.Clocks.{Clocks, Limits, Agree}
+use Rattle.krl_leases.specs.Clocks.{Clocks, Limits}
 use Rattle.krl_leases.specs.Machine.{Sign, Grant, Server, State, In, Takes, connected, said, taken}
-use Rattle.krl_leases.proofs.Sound.{Live, LivesBy, Serves, ByServer, Sound}
+use Rattle.krl_leases.proofs.Sound.{Live, LivesBy, HasEnded, Covers, IsKept, Serves, ByServer, Sound}
 
 pub not_both : {A : Type 0} (b : Bool) → b ≡ false → b ≡ true → A
 not_both b h k = absurd (no_false (sym h ∙ k))
@@ -19,43 +21,58 @@ not_both b h k = absurd (no_false (sym h ∙ k))
 abbrev pub passed : State → ℕ → State
 passed w n = record w { now = w.now + n }
 
+still_ended : (clocks : Clocks) (now n : ℕ) (g : Grant) → ((t : ℕ) → now ≤ t → HasEnded clocks g t) → (t : ℕ) → now + n ≤ t → HasEnded clocks g t
+still_ended clocks now n g over t later = over t (omega arith)
+
+still_covers : (clocks : Clocks) (machine now n : ℕ) (until : Until) (g : Grant) → Covers clocks machine now until g → Covers clocks machine (now + n) until g
+still_covers clocks machine now n until g c = record {
+  endless = c.endless;
+  ends = λ f u t later e. c.ends f u t (omega arith) e;
+}
+
 server_passes : (limits : Limits) (clocks : Clocks) (w : State) (n : ℕ) (o : Option Server) → ByServer limits clocks w o → ByServer limits clocks (passed w n) o
-server_passes limits clocks w n None a = record { connected = a.connected; signs = a.signs; hello = a.hello }
+server_passes limits clocks w n None a = record { connected = a.connected; signs = a.signs; waiting = a.waiting; hello = a.hello }
 server_passes limits clocks w n (Some s) v = record {
   may = v.may;
   number = v.number;
+  waiting = v.waiting;
   grants = v.grants;
   greeted = v.greeted;
   hello = v.hello;
   signs = v.signs;
-  until = v.until;
-  old = v.old;
+  until = λ r g l. still_covers clocks s.machine w.now n s.until g (v.until r g l);
+  old = λ r g l f. elim (v.old r g l f) [ inl a ↦ inl a | inr b ↦ inr (still_covers clocks s.machine w.now n s.old g b) ];
   longest = v.longest;
   unleased = v.unleased;
 }
 
-pub passes : (limits : Limits) (clocks : Clocks) → Agree limits clocks → (w : State) (n : ℕ) → Sound limits clocks w → Sound limits clocks (passed w n)
-passes limits clocks agree w n s =
-    let on : clocks.server w.now ≤ clocks.server (w.now + n) = agree.rises w.now (w.now + n) (omega arith) in
-    record {
-      past = λ g l. let h : g.moment ≤ w.now = s.past g l in omega arith;
-      said_before = λ x i. let h : x.moment ≤ w.now = s.said_before x i in omega arith;
-      short = s.short;
-      lease = s.lease;
-      connected = s.connected;
-      terms_first = s.terms_first;
-      hello_first = s.hello_first;
-      known_first = s.known_first;
-      kept = λ r g l. let k = s.kept r g l in record { endless = k.endless; ends = λ h. let e = k.ends h in omega arith };
-      server = server_passes limits clocks w n w.server s.server;
-      evicted = λ r g l. let o = s.evicted r g l in record { ends = o.ends; over = let e = o.over in omega arith };
-    }
+still_kept : (clocks : Clocks) (now n : ℕ) (kept : Kept) (g : Grant) → IsKept clocks now kept g → IsKept clocks (now + n) kept g
+still_kept clocks now n kept g k = record {
+  endless = k.endless;
+  ends = λ f. elim (k.ends f) [ inl a ↦ inl a | inr over ↦ inr (still_ended clocks now n g over) ];
+}
+
+pub passes : (limits : Limits) (clocks : Clocks) (w : State) (n : ℕ) → Sound limits clocks w → Sound limits clocks (passed w n)
+passes limits clocks w n s = record {
+  past = λ g l. let h : g.moment ≤ w.now = s.past g l in omega arith;
+  said_before = λ x i. let h : x.moment ≤ w.now = s.said_before x i in omega arith;
+  short = s.short;
+  lease = s.lease;
+  connected = s.connected;
+  terms_first = s.terms_first;
+  hello_first = s.hello_first;
+  known_first = s.known_first;
+  kept = λ r g l. still_kept clocks w.now n w.kept g (s.kept r g l);
+  server = server_passes limits clocks w n w.server s.server;
+  evicted = λ r g l. let o = s.evicted r g l in record { ends = o.ends; over = still_ended clocks w.now n g o.over };
+}
 
 -- The client connects
 
 lives_still : (w : State) (g : Grant) → Live (connected w) g → Live w g
 lives_still w g (inl e) = inl e
-lives_still w g (inr i) = absurd i
+lives_still w g (inr (inl i)) = absurd i
+lives_still w g (inr (inr i)) = absurd i
 
 pub connects : (limits : Limits) (clocks : Clocks) (w : State) (s : Server) → w.server ≡ Some s → Sound limits clocks w → Sound limits clocks (connected w)
 connects limits clocks w s e h =
@@ -63,6 +80,7 @@ connects limits clocks w s e h =
     let new : ByServer limits clocks (connected w) (Some s) = record {
       may = v.may;
       number = v.number;
+      waiting = λ g i. absurd i;
       grants = λ c g i. absurd i;
       greeted = λ c t. not_both false refl t;
       hello = λ c g l. v.hello c g (lives_still w g l);
@@ -96,6 +114,7 @@ server_is_told limits clocks w None c h a = not_both w.is_connected a.connected 
 server_is_told limits clocks w (Some s) c h v = record {
   may = v.may;
   number = v.number;
+  waiting = v.waiting;
   grants = v.grants;
   greeted = v.greeted;
   hello = v.hello;
@@ -132,7 +151,7 @@ says limits clocks w c h = record {
 -- It takes terms
 
 lives_by_taken : (clocks : Clocks) (w : State) (g x : Grant) → In g w.grants → Live (taken clocks w g) x → Live w x
-lives_by_taken clocks w g x i (inl e) = inr (subst (λ y. In y w.grants) (same_Some g x e) i)
+lives_by_taken clocks w g x i (inl e) = inr (inl (subst (λ y. In y w.grants) (same_Some g x e) i))
 lives_by_taken clocks w g x i (inr j) = inr j
 
 by_terms : (clocks : Clocks) (lease : Lease) (g : Grant) (b : Bool) → b ≡ true →
@@ -141,10 +160,11 @@ by_terms clocks lease g true e = record { end = omega arith; length = refl }
 by_terms clocks lease g false e = not_both false refl e
 
 server_sees_taken : (limits : Limits) (clocks : Clocks) (w : State) (g : Grant) (o : Option Server) → In g w.grants → Sound limits clocks w → ByServer limits clocks w o → ByServer limits clocks (taken clocks w g) o
-server_sees_taken limits clocks w g None i h a = record { connected = a.connected; signs = a.signs; hello = a.hello }
+server_sees_taken limits clocks w g None i h a = record { connected = a.connected; signs = a.signs; waiting = a.waiting; hello = a.hello }
 server_sees_taken limits clocks w g (Some s) i h v = record {
   may = v.may;
   number = v.number;
+  waiting = v.waiting;
   grants = v.grants;
   greeted = λ c t x e. subst (λ (y : Grant). y.length ≡ s.terms.length) (same_Some g x e) (v.grants c g i);
   hello = λ t x l. v.hello t x (lives_by_taken clocks w g x i l);
@@ -180,6 +200,7 @@ server_is_greeted limits clocks w None c t a = not_both w.is_connected a.connect
 server_is_greeted limits clocks w (Some s) c t v = record {
   may = v.may;
   number = v.number;
+  waiting = v.waiting;
   grants = v.grants;
   greeted = v.greeted;
   hello = λ _. granted;
@@ -192,7 +213,8 @@ server_is_greeted limits clocks w (Some s) c t v = record {
   where
     granted : (g : Grant) → Live w g → g.length ≡ s.terms.length
     granted g (inl e) = v.greeted c t g e
-    granted g (inr i) = v.grants c g i
+    granted g (inr (inl i)) = v.grants c g i
+    granted g (inr (inr i)) = v.waiting g i
 
 pub greets : (limits : Limits) (clocks : Clocks) (w : State) → w.is_connected ≡ true → w.is_greeted ≡ true → Sound limits clocks w → Sound limits clocks (greeting w)
 greets limits clocks w c t h = record {

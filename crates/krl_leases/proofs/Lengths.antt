@@ -41,12 +41,12 @@ pub never : (until : Until) → FOR_EVER ≤ until.moment → until.moment ≤ F
 never until h k = let e : until.moment ≡ FOR_EVER = omega arith in eq-eqb until.moment FOR_EVER e
 
 -- the moment that a sign leaves is no earlier than the sign's own
-pub no_earlier : (until : Until) (m e : ℕ) → (m < FOR_EVER → e ≤ m) → at_least until m < FOR_EVER → e ≤ at_least until m
-no_earlier until m e h = by (is_never until)
+pub no_lower : (until : Until) (m : ℕ) → m ≤ at_least until m
+no_lower until m = by (is_never until)
   where
-    by : (b : Bool) → (if b then m else max until.moment m) < FOR_EVER → e ≤ (if b then m else max until.moment m)
-    by true k = h k
-    by false k = let g : e ≤ m = h (omega arith) in omega arith
+    by : (b : Bool) → m ≤ (if b then m else max until.moment m)
+    by true = omega arith
+    by false = omega arith
 
 pub a_number : (until : Until) (m : ℕ) → m ≤ FOR_EVER → until.moment ≤ FOR_EVER → at_least until m ≤ FOR_EVER
 a_number until m h k = by (is_never until)
@@ -65,7 +65,7 @@ steps a b d l h =
 pub steady_agree : SteadyAgree
 steady_agree limits clocks s = record {
   rises = s.rises;
-  rates = λ x y length h _ c. by (clocks.client x) (clocks.client y) (clocks.server x) (clocks.server y) limits.drift length (s.steady x y h) c;
+  rates = λ m x y length h _ c. by (clocks.client x) (clocks.client y) (clocks.server m x) (clocks.server m y) limits.drift length (s.steady m x y h) c;
 }
   where
     by : (cx cy sx sy d l : ℕ) → 100 * sy + (100 + d) * cx ≤ 100 * sx + (100 + d) * cy → cy < cx + l → sy < sx + stretched d l

@@ -3,30 +3,51 @@ use Rattle.std.proofs.Common.{◌≡◌, ◌<◌, ◌≤◌, ℕ, ◌+◌, ◌�
 use Rattle.std.specs.Prelude.{max, if◌then◌else◌}
 use Rattle.krl_leases.specs.declared.length.TheConstants.{FOR_EVER}
 use Rattle.krl_leases.specs.declared.length.Terms.{Terms}
+use Rattle.krl_leases.specs.declared.until.Until.{Until}
 use Rattle.krl_leases.specs.declared.kept.Kept.{Kept}
 use Rattle.krl_leases.specs.Lengths.{stretched, end_of}
-use Rattle.krl_leases.specs.Servers.{is_never, has_come, signed, grants_for_ever, kept_from, old_end, restarted}
+use Rattle.krl_leases.specs.Servers.{is_never, has_come, since, signed, grants_for_ever, kept_from, old_end, restarted}
 use Rattle.krl_leases.specs.Clocks.{Clocks, Limits, Agree, MayGrant}
-use Rattle.krl_leases.specs.Machine.{Sign, Grant, Server, Unknown, Registered, Evicted, State, In, heard, registered, stopped, started, kept_anew}
-use Rattle.krl_leases.proofs.Lengths.{longer, further, no_shorter, come, never, no_earlier, a_number, lt_or_ge}
-use Rattle.krl_leases.proofs.Sound.{Live, end, Covers, IsKept, Alone, Serves, ByServer, Sound}
+use Rattle.krl_leases.specs.Machine.{Sign, Grant, Server, Unknown, Registered, Evicted, State, In, heard, confirmed, registered, stopped, started, kept_anew}
+use Rattle.krl_leases.proofs.Lengths.{longer, further, no_shorter, come, never, no_lower, a_number, lt_or_ge}
+use Rattle.krl_leases.proofs.Sound.{Live, HasEnded, Covers, IsKept, Alone, Serves, ByServer, Sound}
 use Rattle.krl_leases.proofs.Client.{not_both}
 
--- a lease that began before ends within its length with the drift
-ends_within : (limits : Limits) (clocks : Clocks) → Agree limits clocks → (g : Grant) (now drift length : ℕ) → g.moment ≤ now → limits.drift ≤ drift → g.length ≤ length → end limits clocks g ≤ clocks.server now + stretched drift length
-ends_within limits clocks agree g now drift length past d l =
-    let a : clocks.server g.moment ≤ clocks.server now = agree.rises g.moment now past in
-    let b : stretched limits.drift g.length ≤ stretched limits.drift length = longer limits.drift g.length length l in
-    let c : stretched limits.drift length ≤ stretched drift length = further limits.drift drift length d in
-    omega arith
+-- a lease that began before has ended once a server's clock has gone by its length with the drift
+ended : (limits : Limits) (clocks : Clocks) → Agree limits clocks → (g : Grant) (machine now drift length t : ℕ) → g.moment ≤ now → now ≤ t → limits.drift ≤ drift → g.length ≤ length →
+    g.length ≤ limits.longest → clocks.server machine now + stretched drift length ≤ clocks.server machine t → HasEnded clocks g t
+ended limits clocks agree g machine now drift length t past later d l short e = by (lt_or_ge (clocks.client t) (clocks.client g.moment + g.length))
+  where
+    by : ((clocks.client t < clocks.client g.moment + g.length) ⊎ (clocks.client g.moment + g.length ≤ clocks.client t)) → HasEnded clocks g t
+    by (inr over) = over
+    by (inl early) =
+        let a : clocks.server machine g.moment ≤ clocks.server machine now = agree.rises machine g.moment now past in
+        let b : stretched limits.drift g.length ≤ stretched limits.drift length = longer limits.drift g.length length l in
+        let c : stretched limits.drift length ≤ stretched drift length = further limits.drift drift length d in
+        let r : clocks.server machine t < clocks.server machine g.moment + stretched limits.drift g.length = agree.rates machine g.moment t g.length (omega arith) short early in
+        absurd (omega arith)
+
+-- a lease that ends is no longer than what the operator sees to
+is_short : (limits : Limits) (n : ℕ) → (n ≤ limits.longest) ⊎ (n ≡ FOR_EVER) → n < FOR_EVER → n ≤ limits.longest
+is_short limits n (inl s) f = s
+is_short limits n (inr e) f = absurd (omega arith)
+
+-- so the end of a lease of such a length, from now on, covers it
+covered : (limits : Limits) (clocks : Clocks) → Agree limits clocks → (g : Grant) (machine now drift length : ℕ) (until : Until) → g.moment ≤ now → limits.drift ≤ drift → g.length ≤ length →
+    (g.length ≤ limits.longest) ⊎ (g.length ≡ FOR_EVER) → end_of drift (clocks.server machine now) length ≤ until.moment → Covers clocks machine now until g
+covered limits clocks agree g machine now drift length until past d l short e = record {
+  endless = λ f. let n = no_shorter drift length in omega arith;
+  ends = λ f u t later come. ended limits clocks agree g machine now drift length t past later d l (is_short limits g.length short f) (omega arith);
+}
 
 -- A sign is heard
 
 module _ (limits : Limits) (clocks : Clocks) (agree : Agree limits clocks) (w : State) (s : Server) (sign : Sign) (h : Sound limits clocks w) (v : Serves limits clocks w s) (i : In sign w.signs) where
   lives : (g : Grant) → Live (heard clocks w s sign) g → Live w g ⊎ (g ≡ record { moment = sign.moment; length = s.terms.length })
   lives g (inl e) = inl (inl e)
-  lives g (inr (inl e)) = inr e
-  lives g (inr (inr j)) = inl (inr j)
+  lives g (inr (inl j)) = inl (inr (inl j))
+  lives g (inr (inr (inl e))) = inr e
+  lives g (inr (inr (inr j))) = inl (inr (inr j))
 
   heard_past : (g : Grant) → Live (heard clocks w s sign) g → g.moment ≤ w.now
   heard_past g l = elim (lives g l) [
@@ -37,44 +58,50 @@ module _ (limits : Limits) (clocks : Clocks) (agree : Agree limits clocks) (w : 
   -- by what it lives now, or may live: what the sign says, or what this server grants
   no_longer : (g : Grant) → Live (heard clocks w s sign) g → g.length ≤ max sign.said s.terms.length
   no_longer g (inl e) = elim (v.signs sign i g e) [ inl a ↦ omega arith | inr b ↦ omega arith ]
-  no_longer g (inr (inl e)) = let m : g.length ≡ s.terms.length = ap (λ (y : Grant). y.length) e in omega arith
-  no_longer g (inr (inr j)) = let m : g.length ≡ s.terms.length = v.grants (h.connected sign i) g j in omega arith
-
-  heard_covers : (g : Grant) → Live (heard clocks w s sign) g → Covers limits clocks (signed s.terms s.until sign.said (clocks.server w.now)) g
-  heard_covers g l =
-      let longest = max sign.said s.terms.length in
-      let a : end limits clocks g ≤ clocks.server w.now + stretched s.terms.drift longest = ends_within limits clocks agree g w.now s.terms.drift longest (heard_past g l) v.may.drift (no_longer g l) in
-      no_earlier s.until (end_of s.terms.drift (clocks.server w.now) longest) (end limits clocks g) (λ b. omega arith)
-
-  heard_kept : w.standing ≡ Registered → (g : Grant) → Live (heard clocks w s sign) g → IsKept limits clocks (clocks.server w.now) w.kept g
-  heard_kept r g (inl e) = h.kept r g (inl e)
-  heard_kept r g (inr (inl e)) =
-      let m : g.length ≡ s.terms.length = ap (λ (y : Grant). y.length) e in
-      let n = v.may.number in
-      record {
-        endless = λ f. v.unleased r (omega arith);
-        ends = λ f. ends_within limits clocks agree g w.now limits.drift w.kept.longest (heard_past g (inr (inl e))) (omega arith) (let k = v.longest (omega arith) in omega arith);
-      }
-  heard_kept r g (inr (inr j)) = h.kept r g (inr j)
+  no_longer g (inr (inl j)) = let m : g.length ≡ s.terms.length = v.grants (h.connected sign i) g j in omega arith
+  no_longer g (inr (inr (inl e))) = let m : g.length ≡ s.terms.length = ap (λ (y : Grant). y.length) e in omega arith
+  no_longer g (inr (inr (inr j))) = let m : g.length ≡ s.terms.length = v.waiting g j in omega arith
 
   heard_short : (g : Grant) → Live (heard clocks w s sign) g → (g.length ≤ limits.longest) ⊎ (g.length ≡ FOR_EVER)
-  heard_short g (inl e) = h.short g (inl e)
-  heard_short g (inr (inl e)) = subst (λ n. (n ≤ limits.longest) ⊎ (n ≡ FOR_EVER)) (sym (ap (λ (y : Grant). y.length) e)) v.may.length
-  heard_short g (inr (inr j)) = h.short g (inr j)
+  heard_short g l = by (lives g l)
+    where
+      by : Live w g ⊎ (g ≡ record { moment = sign.moment; length = s.terms.length }) → (g.length ≤ limits.longest) ⊎ (g.length ≡ FOR_EVER)
+      by (inl k) = h.short g k
+      by (inr e) = subst (λ n. (n ≤ limits.longest) ⊎ (n ≡ FOR_EVER)) (sym (ap (λ (y : Grant). y.length) e)) v.may.length
 
-  heard_grants : w.is_connected ≡ true → (g : Grant) → In g (record { moment = sign.moment; length = s.terms.length } ∷ w.grants) → g.length ≡ s.terms.length
-  heard_grants c g (inl e) = ap (λ (y : Grant). y.length) e
-  heard_grants c g (inr j) = v.grants c g j
+  heard_covers : (g : Grant) → Live (heard clocks w s sign) g → Covers clocks s.machine w.now (signed s.terms s.until sign.said (clocks.server s.machine w.now)) g
+  heard_covers g l =
+      let longest = max sign.said s.terms.length in
+      covered limits clocks agree g s.machine w.now s.terms.drift longest (signed s.terms s.until sign.said (clocks.server s.machine w.now)) (heard_past g l) v.may.drift (no_longer g l) (heard_short g l)
+      (no_lower s.until (end_of s.terms.drift (clocks.server s.machine w.now) longest))
+
+  heard_kept : w.standing ≡ Registered → (g : Grant) → Live (heard clocks w s sign) g → IsKept clocks w.now w.kept g
+  heard_kept r g l = by (lives g l)
+    where
+      by : Live w g ⊎ (g ≡ record { moment = sign.moment; length = s.terms.length }) → IsKept clocks w.now w.kept g
+      by (inl k) = h.kept r g k
+      by (inr e) =
+          let m : g.length ≡ s.terms.length = ap (λ (y : Grant). y.length) e in
+          let n = v.may.number in
+          record { endless = λ f. v.unleased r (omega arith); ends = λ f. inl (let k = v.longest (omega arith) in omega arith) }
+
+  heard_waiting : (g : Grant) → In g (record { moment = sign.moment; length = s.terms.length } ∷ w.waiting) → g.length ≡ s.terms.length
+  heard_waiting g (inl e) = ap (λ (y : Grant). y.length) e
+  heard_waiting g (inr j) = v.waiting g j
 
   heard_hello : w.says_hello ≡ true → (g : Grant) → Live (heard clocks w s sign) g → g.length ≡ s.terms.length
-  heard_hello t g (inl e) = v.hello t g (inl e)
-  heard_hello t g (inr (inl e)) = ap (λ (y : Grant). y.length) e
-  heard_hello t g (inr (inr j)) = v.hello t g (inr j)
+  heard_hello t g l = by (lives g l)
+    where
+      by : Live w g ⊎ (g ≡ record { moment = sign.moment; length = s.terms.length }) → g.length ≡ s.terms.length
+      by (inl k) = v.hello t g k
+      by (inr e) = ap (λ (y : Grant). y.length) e
 
-  heard_old : w.standing ≡ Registered → (g : Grant) → Live (heard clocks w s sign) g → g.length < FOR_EVER → (g.length ≤ s.terms.length) ⊎ Covers limits clocks s.old g
-  heard_old r g (inl e) f = v.old r g (inl e) f
-  heard_old r g (inr (inl e)) f = let m : g.length ≡ s.terms.length = ap (λ (y : Grant). y.length) e in inl (omega arith)
-  heard_old r g (inr (inr j)) f = v.old r g (inr j) f
+  heard_old : w.standing ≡ Registered → (g : Grant) → Live (heard clocks w s sign) g → g.length < FOR_EVER → (g.length ≤ s.terms.length) ⊎ Covers clocks s.machine w.now s.old g
+  heard_old r g l f = by (lives g l)
+    where
+      by : Live w g ⊎ (g ≡ record { moment = sign.moment; length = s.terms.length }) → (g.length ≤ s.terms.length) ⊎ Covers clocks s.machine w.now s.old g
+      by (inl k) = v.old r g k f
+      by (inr e) = let m : g.length ≡ s.terms.length = ap (λ (y : Grant). y.length) e in inl (omega arith)
 
   pub hears : (w.standing ≡ Evicted → ⊥) → Sound limits clocks (heard clocks w s sign)
   hears stays = record {
@@ -89,8 +116,9 @@ module _ (limits : Limits) (clocks : Clocks) (agree : Agree limits clocks) (w : 
     kept = heard_kept;
     server = record {
       may = v.may;
-      number = a_number s.until (end_of s.terms.drift (clocks.server w.now) (max sign.said s.terms.length)) (omega arith) v.number;
-      grants = heard_grants;
+      number = a_number s.until (end_of s.terms.drift (clocks.server s.machine w.now) (max sign.said s.terms.length)) (omega arith) v.number;
+      waiting = heard_waiting;
+      grants = v.grants;
       greeted = v.greeted;
       hello = heard_hello;
       signs = v.signs;
@@ -101,6 +129,51 @@ module _ (limits : Limits) (clocks : Clocks) (agree : Agree limits clocks) (w : 
     };
     evicted = λ r. absurd (stays r);
   }
+
+-- The store has answered, and the terms are sent
+
+was_live : (w : State) (g x : Grant) → In g w.waiting → Live (confirmed w g) x → Live w x
+was_live w g x i (inl e) = inl e
+was_live w g x i (inr (inl (inl e))) = inr (inr (subst (λ y. In y w.waiting) (sym e) i))
+was_live w g x i (inr (inl (inr j))) = inr (inl j)
+was_live w g x i (inr (inr j)) = inr (inr j)
+
+pub confirms : (limits : Limits) (clocks : Clocks) (w : State) (s : Server) (g : Grant) → w.server ≡ Some s → In g w.waiting → Sound limits clocks w → Sound limits clocks (confirmed w g)
+confirms limits clocks w s g e i h = record {
+  past = λ x l. h.past x (was_live w g x i l);
+  said_before = h.said_before;
+  short = λ x l. h.short x (was_live w g x i l);
+  lease = h.lease;
+  connected = h.connected;
+  terms_first = h.terms_first;
+  hello_first = h.hello_first;
+  known_first = h.known_first;
+  kept = λ r x l. h.kept r x (was_live w g x i l);
+  server = subst (ByServer limits clocks (confirmed w g)) (sym e) new;
+  evicted = λ r x l. h.evicted r x (was_live w g x i l);
+}
+  where
+    v : Serves limits clocks w s
+    v = subst (ByServer limits clocks w) e h.server
+
+    sent : (x : Grant) → w.is_connected ≡ true → In x (g ∷ w.grants) → x.length ≡ s.terms.length
+    sent x c (inl same) = subst (λ (y : Grant). y.length ≡ s.terms.length) (sym same) (v.waiting g i)
+    sent x c (inr j) = v.grants c x j
+
+    new : ByServer limits clocks (confirmed w g) (Some s)
+    new = record {
+      may = v.may;
+      number = v.number;
+      waiting = v.waiting;
+      grants = λ c x. sent x c;
+      greeted = v.greeted;
+      hello = λ t x l. v.hello t x (was_live w g x i l);
+      signs = v.signs;
+      until = λ r x l. v.until r x (was_live w g x i l);
+      old = λ r x l. v.old r x (was_live w g x i l);
+      longest = v.longest;
+      unleased = v.unleased;
+    }
 
 -- The client registers
 
@@ -116,16 +189,19 @@ registers limits clocks agree w s t v h = record {
   known_first = λ _. h.hello_first t;
   kept = λ _ g l. record {
     endless = λ f. let m = v.hello t g l in let n = v.may.number in eq-eqb s.terms.length FOR_EVER (omega arith);
-    ends = λ f. ends_within limits clocks agree g w.now limits.drift w.kept.longest (h.past g l) (omega arith) (let m = v.hello t g l in let k = v.longest (omega arith) in omega arith);
+    ends = λ f. inl (let m = v.hello t g l in let k = v.longest (omega arith) in omega arith);
   };
   server = record {
     may = v.may;
     number = omega arith;
+    waiting = v.waiting;
     grants = v.grants;
     greeted = v.greeted;
     hello = v.hello;
     signs = v.signs;
-    until = λ _ g l f. let m = v.hello t g l in let a = ends_within limits clocks agree g w.now s.terms.drift s.terms.length (h.past g l) v.may.drift (omega arith) in omega arith;
+    until = λ _ g l.
+        let m = v.hello t g l in
+        covered limits clocks agree g s.machine w.now s.terms.drift s.terms.length (since s.terms (clocks.server s.machine w.now)) (h.past g l) v.may.drift (omega arith) (h.short g l) (omega arith);
     old = λ _ g l f. inl (let m = v.hello t g l in omega arith);
     longest = v.longest;
     unleased = λ _ e. eq-eqb s.terms.length FOR_EVER e;
@@ -141,19 +217,24 @@ registers limits clocks agree w s t v h = record {
 
 -- A server stops
 
+lives_on : (w : State) (g : Grant) → Live (stopped w) g → Live w g
+lives_on w g (inl e) = inl e
+lives_on w g (inr (inl j)) = inr (inl j)
+lives_on w g (inr (inr j)) = absurd j
+
 pub stops : (limits : Limits) (clocks : Clocks) (w : State) → Sound limits clocks w → Sound limits clocks (stopped w)
 stops limits clocks w h = record {
-  past = h.past;
+  past = λ g l. h.past g (lives_on w g l);
   said_before = λ x i. absurd i;
-  short = h.short;
+  short = λ g l. h.short g (lives_on w g l);
   lease = h.lease;
   connected = λ x i. absurd i;
   terms_first = h.terms_first;
   hello_first = λ e. not_both false refl e;
   known_first = h.known_first;
-  kept = h.kept;
-  server = record { connected = refl; signs = refl; hello = refl };
-  evicted = h.evicted;
+  kept = λ r g l. h.kept r g (lives_on w g l);
+  server = record { connected = refl; signs = refl; waiting = refl; hello = refl };
+  evicted = λ r g l. h.evicted r g (lives_on w g l);
 }
 
 -- Another one starts
@@ -165,15 +246,12 @@ stored_as b kept terms =
     else record { longest = max kept.longest terms.length; is_unleased = kept.is_unleased }
 
 -- what it stores covers what was stored
-stored : (limits : Limits) (clocks : Clocks) (at : ℕ) (kept : Kept) (terms : Terms) (g : Grant) → IsKept limits clocks at kept g → IsKept limits clocks at (kept_from kept terms) g
-stored limits clocks at kept terms g k = by (grants_for_ever terms)
+stored : (clocks : Clocks) (now : ℕ) (kept : Kept) (terms : Terms) (g : Grant) → IsKept clocks now kept g → IsKept clocks now (kept_from kept terms) g
+stored clocks now kept terms g k = by (grants_for_ever terms)
   where
-    by : (b : Bool) → IsKept limits clocks at (stored_as b kept terms) g
+    by : (b : Bool) → IsKept clocks now (stored_as b kept terms) g
     by true = record { endless = λ _. refl; ends = k.ends }
-    by false = record {
-      endless = k.endless;
-      ends = λ f. let a = k.ends f in let b = longer limits.drift kept.longest (max kept.longest terms.length) (omega arith) in omega arith;
-    }
+    by false = record { endless = k.endless; ends = λ f. elim (k.ends f) [ inl a ↦ inl (omega arith) | inr over ↦ inr over ] }
 
 stores_longest : (kept : Kept) (terms : Terms) → terms.length < FOR_EVER → terms.length ≤ (kept_from kept terms).longest
 stores_longest kept terms f = by (grants_for_ever terms) refl
@@ -189,23 +267,23 @@ stores_unleased kept terms f = by (grants_for_ever terms) (eq-eqb terms.length F
     by true e = refl
     by false e = not_both false refl e
 
-module _ (limits : Limits) (clocks : Clocks) (at : ℕ) (kept : Kept) (terms : Terms) (may : MayGrant limits terms) (g : Grant) (k : IsKept limits clocks at kept g) where
-  old_covers : g.length < FOR_EVER → Covers limits clocks (old_end kept terms at) g
-  old_covers f b =
-      let a = k.ends f in
-      let d : stretched limits.drift kept.longest ≤ stretched terms.drift kept.longest = further limits.drift terms.drift kept.longest may.drift in
-      omega arith
+module _ (limits : Limits) (clocks : Clocks) (agree : Agree limits clocks) (machine now : ℕ) (kept : Kept) (terms : Terms) (may : MayGrant limits terms) (g : Grant) (past : g.moment ≤ now) (short : (g.length ≤ limits.longest) ⊎ (g.length ≡ FOR_EVER)) (k : IsKept clocks now kept g) where
+  old_covers : g.length < FOR_EVER → Covers clocks machine now (old_end kept terms (clocks.server machine now)) g
+  old_covers f = elim (k.ends f) [
+    | inl a ↦ covered limits clocks agree g machine now terms.drift kept.longest (old_end kept terms (clocks.server machine now)) past may.drift a short (omega arith)
+    | inr over ↦ record { endless = λ x. absurd (omega arith); ends = λ _ u t later e. over t later }
+  ]
 
-  until_covers : Covers limits clocks (restarted kept terms at) g
+  until_covers : Covers clocks machine now (restarted kept terms (clocks.server machine now)) g
   until_covers = by kept.is_unleased refl
     where
-      by : (b : Bool) → kept.is_unleased ≡ b → Covers limits clocks (if b then record { moment = FOR_EVER } else old_end kept terms at) g
-      by true e f = absurd (omega arith)
-      by false e f = by_length (lt_or_ge g.length FOR_EVER) e f
+      by : (b : Bool) → kept.is_unleased ≡ b → Covers clocks machine now (if b then record { moment = FOR_EVER } else old_end kept terms (clocks.server machine now)) g
+      by true e = record { endless = λ _. omega arith; ends = λ f u. absurd (omega arith) }
+      by false e = by_length (lt_or_ge g.length FOR_EVER)
         where
-          by_length : ((g.length < FOR_EVER) ⊎ (FOR_EVER ≤ g.length)) → kept.is_unleased ≡ false → Covers limits clocks (old_end kept terms at) g
-          by_length (inl x) e f = old_covers x f
-          by_length (inr y) e f = not_both kept.is_unleased e (k.endless y)
+          by_length : ((g.length < FOR_EVER) ⊎ (FOR_EVER ≤ g.length)) → Covers clocks machine now (old_end kept terms (clocks.server machine now)) g
+          by_length (inl x) = old_covers x
+          by_length (inr y) = not_both kept.is_unleased e (k.endless y)
 
 restarted_number : (kept : Kept) (terms : Terms) (at : ℕ) → (restarted kept terms at).moment ≤ FOR_EVER
 restarted_number kept terms at = by kept.is_unleased
@@ -214,11 +292,11 @@ restarted_number kept terms at = by kept.is_unleased
     by true = omega arith
     by false = omega arith
 
-pub starts : (limits : Limits) (clocks : Clocks) (w : State) (terms : Terms) → w.server ≡ None → MayGrant limits terms → Sound limits clocks w → Sound limits clocks (started clocks w terms)
-starts limits clocks w terms none may h =
+pub starts : (limits : Limits) (clocks : Clocks) → Agree limits clocks → (w : State) (machine : ℕ) (terms : Terms) → w.server ≡ None → MayGrant limits terms → Sound limits clocks w → Sound limits clocks (started clocks w machine terms)
+starts limits clocks agree w machine terms none may h =
     let a : Alone w = subst (ByServer limits clocks w) none h.server in
-    let at = clocks.server w.now in
     let kept = kept_from w.kept terms in
+    let still : w.standing ≡ Registered → (g : Grant) → Live w g → IsKept clocks w.now kept g = λ r g l. stored clocks w.now w.kept terms g (h.kept r g l) in
     record {
       past = h.past;
       said_before = h.said_before;
@@ -228,56 +306,54 @@ starts limits clocks w terms none may h =
       terms_first = h.terms_first;
       hello_first = h.hello_first;
       known_first = h.known_first;
-      kept = λ r g l. stored limits clocks at w.kept terms g (h.kept r g l);
+      kept = still;
       server = record {
         may = may;
-        number = restarted_number kept terms at;
+        number = restarted_number kept terms (clocks.server machine w.now);
+        waiting = λ g i. absurd (subst (In g) a.waiting i);
         grants = λ c. not_both w.is_connected a.connected c;
         greeted = λ c. not_both w.is_connected a.connected c;
         hello = λ t. not_both w.says_hello a.hello t;
         signs = λ x i. absurd (subst (In x) a.signs i);
-        until = λ r g l. until_covers limits clocks at kept terms may g (stored limits clocks at w.kept terms g (h.kept r g l));
-        old = λ r g l f. inr (old_covers limits clocks at kept terms may g (stored limits clocks at w.kept terms g (h.kept r g l)) f);
+        until = λ r g l. until_covers limits clocks agree machine w.now kept terms may g (h.past g l) (h.short g l) (still r g l);
+        old = λ r g l f. inr (old_covers limits clocks agree machine w.now kept terms may g (h.past g l) (h.short g l) (still r g l) f);
         longest = stores_longest w.kept terms;
         unleased = λ _. stores_unleased w.kept terms;
       };
       evicted = h.evicted;
     }
 
--- What is kept is stored anew
+-- What is kept is stored again
 
 abbrev revised_as : Bool → Clocks → State → Server → Kept
 revised_as b clocks w s =
     if b
     then w.kept
     else record {
-      longest = if has_come s.old (clocks.server w.now) then s.terms.length else w.kept.longest;
+      longest = if has_come s.old (clocks.server s.machine w.now) then s.terms.length else w.kept.longest;
       is_unleased = w.kept.is_unleased && is_never s.until;
     }
 
 module _ (limits : Limits) (clocks : Clocks) (agree : Agree limits clocks) (w : State) (s : Server) (h : Sound limits clocks w) (v : Serves limits clocks w s) where
-  shorter : (b : Bool) → has_come s.old (clocks.server w.now) ≡ b → w.standing ≡ Registered → (g : Grant) → Live w g → g.length < FOR_EVER → end limits clocks g ≤ clocks.server w.now + stretched limits.drift (if b then s.terms.length else w.kept.longest)
+  shorter : (b : Bool) → has_come s.old (clocks.server s.machine w.now) ≡ b → w.standing ≡ Registered → (g : Grant) → Live w g → g.length < FOR_EVER →
+      (g.length ≤ (if b then s.terms.length else w.kept.longest)) ⊎ ((t : ℕ) → w.now ≤ t → HasEnded clocks g t)
   shorter false e r g l f = (h.kept r g l).ends f
   shorter true e r g l f =
-      let c = come s.old (clocks.server w.now) e in
+      let c = come s.old (clocks.server s.machine w.now) e in
       elim (v.old r g l f) [
-        | inl a ↦ ends_within limits clocks agree g w.now limits.drift s.terms.length (h.past g l) (omega arith) a
-        | inr b ↦ (let x = b c.0 in let y = c.1 in omega arith)
+        | inl a ↦ inl a
+        | inr b ↦ inr (λ t later. let on = agree.rises s.machine w.now t later in let y = c.1 in b.ends f c.0 t later (omega arith))
       ]
 
   still_never : w.standing ≡ Registered → (g : Grant) → Live w g → FOR_EVER ≤ g.length → is_never s.until ≡ true
-  still_never r g l f = never s.until (by (lt_or_ge s.until.moment FOR_EVER)) v.number
-    where
-      by : ((s.until.moment < FOR_EVER) ⊎ (FOR_EVER ≤ s.until.moment)) → FOR_EVER ≤ s.until.moment
-      by (inl x) = let a = v.until r g l x in let b = no_shorter limits.drift g.length in absurd (omega arith)
-      by (inr y) = y
+  still_never r g l f = never s.until ((v.until r g l).endless f) v.number
 
   revised_kept : (b : Bool) → w.standing ≡ Registered → (g : Grant) → Live w g →
-      IsKept limits clocks (clocks.server w.now) (revised_as b clocks w s) g
+      IsKept clocks w.now (revised_as b clocks w s) g
   revised_kept true r g l = h.kept r g l
   revised_kept false r g l = record {
     endless = λ f. both w.kept.is_unleased (is_never s.until) ((h.kept r g l).endless f) (still_never r g l f);
-    ends = shorter (has_come s.old (clocks.server w.now)) refl r g l;
+    ends = shorter (has_come s.old (clocks.server s.machine w.now)) refl r g l;
   }
     where
       both : (a b : Bool) → a ≡ true → b ≡ true → (a && b) ≡ true
@@ -286,7 +362,7 @@ module _ (limits : Limits) (clocks : Clocks) (agree : Agree limits clocks) (w : 
   revised_longest : (b : Bool) → s.terms.length < FOR_EVER →
       s.terms.length ≤ (revised_as b clocks w s).longest
   revised_longest true f = v.longest f
-  revised_longest false f = by (has_come s.old (clocks.server w.now))
+  revised_longest false f = by (has_come s.old (clocks.server s.machine w.now))
     where
       by : (b : Bool) → s.terms.length ≤ (if b then s.terms.length else w.kept.longest)
       by true = omega arith
@@ -301,6 +377,7 @@ module _ (limits : Limits) (clocks : Clocks) (agree : Agree limits clocks) (w : 
   new_server = record {
     may = v.may;
     number = v.number;
+    waiting = v.waiting;
     grants = v.grants;
     greeted = v.greeted;
     hello = v.hello;
@@ -340,15 +417,15 @@ not_registered e = absurd (differ e)
 not_unknown : Registered ≡ Unknown → ⊥
 not_unknown e = cc
 
-pub evicts : (limits : Limits) (clocks : Clocks) (w : State) (s : Server) → w.server ≡ Some s → w.standing ≡ Registered → has_come s.until (clocks.server w.now) ≡ true → Sound limits clocks w → Sound limits clocks (evicted w)
-evicts limits clocks w s e r b h =
+pub evicts : (limits : Limits) (clocks : Clocks) → Agree limits clocks → (w : State) (s : Server) → w.server ≡ Some s → w.standing ≡ Registered → has_come s.until (clocks.server s.machine w.now) ≡ true → Sound limits clocks w → Sound limits clocks (evicted w)
+evicts limits clocks agree w s e r b h =
     let v : Serves limits clocks w s = subst (ByServer limits clocks w) e h.server in
-    let c = come s.until (clocks.server w.now) b in
+    let c = come s.until (clocks.server s.machine w.now) b in
     let early : s.until.moment < FOR_EVER = c.0 in
-    let late : s.until.moment ≤ clocks.server w.now = c.1 in
     let new : ByServer limits clocks (evicted w) (Some s) = record {
       may = v.may;
       number = v.number;
+      waiting = v.waiting;
       grants = v.grants;
       greeted = v.greeted;
       hello = v.hello;
@@ -370,7 +447,17 @@ evicts limits clocks w s e r b h =
       kept = λ x. not_registered x;
       server = subst (ByServer limits clocks (evicted w)) (sym e) new;
       evicted = λ _ g l.
-          let a : end limits clocks g ≤ s.until.moment = v.until r g l early in
-          let n : g.length ≤ stretched limits.drift g.length = no_shorter limits.drift g.length in
-          record { ends = omega arith; over = omega arith };
+          let u : Covers clocks s.machine w.now s.until g = v.until r g l in
+          let ends : g.length < FOR_EVER = finite g.length s.until.moment u.endless early in
+          record {
+            ends = ends;
+            over = λ t later. let on = agree.rises s.machine w.now t later in let y = c.1 in u.ends ends early t later (omega arith);
+          };
     }
+  where
+    finite : (n m : ℕ) → (FOR_EVER ≤ n → FOR_EVER ≤ m) → m < FOR_EVER → n < FOR_EVER
+    finite n m f k = by (lt_or_ge n FOR_EVER)
+      where
+        by : ((n < FOR_EVER) ⊎ (FOR_EVER ≤ n)) → n < FOR_EVER
+        by (inl x) = x
+        by (inr y) = let z = f y in absurd (omega arith)

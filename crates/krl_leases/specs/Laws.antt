@@ -10,7 +10,7 @@ abbrev pub Answers : Clocks → State → Type 0
 Answers clocks w = holds w.lease (clocks.client w.now) ≡ true
 
 -- an evicted incarnation answers nothing any more, whatever was lost, delayed or repeated, whoever stood still, and
--- whichever servers ran
+-- whichever servers ran on whichever machines
 abbrev pub EvictedAnswerNothing : Type 0
 EvictedAnswerNothing =
     (limits : Limits) (clocks : Clocks) (es : List Event) (w : State) → Agree limits clocks →
@@ -29,7 +29,7 @@ abbrev pub at_most : Limits
 at_most = record { drift = 25; longest = 1000000000 }
 
 abbrev pub one_clock : Clocks
-one_clock = record { client = λ x. x; server = λ x. x }
+one_clock = record { client = λ x. x; server = λ m x. x }
 
 abbrev pub EvictsSomewhere : Type 0
 EvictsSomewhere =

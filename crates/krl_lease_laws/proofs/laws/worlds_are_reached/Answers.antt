@@ -1,5 +1,11 @@
 use Rattle.krl_lease_laws.proofs.Leased as lemmas
 use Rattle.krl_lease_laws.proofs.laws.worlds_are_reached.Goals as goal
 
-pub returns : goal.returns
-returns c = lemmas.worlds_are_reached
+pub returns-clause-of_worlds : goal.returns-clause-of_worlds
+returns-clause-of_worlds c = lemmas.worlds_reached
+
+pub returns-clause-of_hosts : goal.returns-clause-of_hosts
+returns-clause-of_hosts c = lemmas.hosts_reached
+
+pub returns-clause-of_fenced_hosts : goal.returns-clause-of_fenced_hosts
+returns-clause-of_fenced_hosts c = lemmas.fenced_hosts_reached
