@@ -9,8 +9,8 @@ LIBRARY = $(CURDIR)/crates/krl_embed/out
 KIT = $(dir $(realpath $(shell command -v rt)))../c
 TARGET = $(CURDIR)/hosts/target
 OUT = $(CURDIR)/dist
-# --config debian.toml takes the crates from Debian's packages.
-CARGO_FLAGS =
+# The crates come from Debian's packages if all of them are installed, as in ./krl serve.
+CARGO_FLAGS = $(shell hosts/packaging/requirements debian && echo --config debian.toml)
 CARGO = cargo
 
 all:

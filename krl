@@ -4,6 +4,7 @@
 #     ./krl serve
 #     ./krl client get 15
 #     ./krl script < examples/first.krl
+#     ./krl doctor
 #
 # The server and the client are programs in Rust over the proved library krl_embed. What of that is missing, or older
 # than its sources, is proved and built first.
@@ -12,7 +13,8 @@
 # it is not, the same sources run unproved, within about a minute. With --prove before the words, or alone, every crate
 # of the simulator is proved first, and the program is built.
 #
-# Only what is to be proved, or runs unproved, needs `rt`, the command of the Rattle kit.
+# Only what is to be proved, or runs unproved, needs `rt`, the command of the Rattle kit. What a build needs is looked
+# for before it begins; ./krl doctor prints it.
 set -eu
 
 # The folder of this file itself, whatever link it was called by.
@@ -33,7 +35,7 @@ usage=$crate/usage
 seconds=900
 
 say() {
-    echo "krl: $1" >&2
+    echo "krl: $*" >&2
 }
 
 need_rt() {
@@ -59,6 +61,7 @@ Usage: ./krl <COMMAND>
 The server and its client, over TCP and SQLite:
   serve [OPTIONS]    Serve the table of krl.db in this folder at 127.0.0.1:7400
   client [WORDS]     Read and write a server's table; without a command, at a prompt
+  doctor             Print what a build of them needs, and what of it is missing: status 0 or 1
 
 The simulator, in which a world of one server and up to 64 clients runs in one process:
   script  Run a script from standard input, and write its transcript to standard output
@@ -70,7 +73,7 @@ Options:
   -h, --help     Print this; behind serve, client, script, random or nodes print the help of that
   -V, --version  Print the version of the simulator
 
-The server and the client are built over a library whose proof takes about half an hour on four
+The server and the client are built over a library whose proof takes some 20 minutes on four
 processors, once. They then start within a second. The simulator runs unproved at once, within about
 a minute, and proved within milliseconds after --prove.
 
@@ -114,7 +117,8 @@ run_unproved() {
         grep -v -e '^checked: ' -e '^interpreter: ' -e '^races: ' -e '^run=' "$work/said" >&2 || :
     else
         cat "$work/said" >&2
-        say "no answer: an unproved run has room for 1 MiB of output, and for $seconds seconds; a proved one has no such limit"
+        say "no answer: an unproved run has room for 1 MiB of output, and for $seconds seconds;" \
+            "a proved one has no such limit"
     fi
     exit "$status"
 }
@@ -195,8 +199,8 @@ is_ready() {
     done <"$work/below/$1"
 }
 
-# Takes the first library of the longest chain that nobody has taken and that can be proved by now. Prints its name, or 'none' if all are
-# taken, or 'later' if those that are left wait for another.
+# Takes the first library of the longest chain that nobody has taken and that can be proved by now. Prints its name, or
+# 'none' if all are taken, or 'later' if those that are left wait for another.
 take() {
     found=none
     for name in $libraries; do
@@ -318,6 +322,7 @@ fi
 case "$#:${1-}" in
 0:) [ -n "$asked" ] || { help >&2; exit 2; } ;;
 *:--help | *:-h | 1:help) help; exit 0 ;;
+1:doctor) exec "$top/hosts/packaging/requirements" doctor ;;
 esac
 case ${1-} in
 serve | client) ;;

@@ -1,7 +1,8 @@
-# Read in by benchmarks that are programs in Rattle: proves and builds the program bench/NAME/main.rt.txt, with the other
-# files of bench/NAME that end in .rt.txt or stand in its proofs/, and runs it once without words. It wants `name`, its
-# name, and `crates`, the crates that it stands on, lowest first; if it needs them, `kit`, libraries of the kit, and
-# `handles`, what it may use. It sets `built`, the program, and makes `room`, a folder that goes when the benchmark ends.
+# Read in by benchmarks that are programs in Rattle: proves and builds the program bench/NAME/main.rt.txt, with the
+# other files of bench/NAME that end in .rt.txt or stand in its proofs/, and runs it once without words. It wants
+# `name`, its name, and `crates`, the crates that it stands on, lowest first; if it needs them, `kit`, libraries of the
+# kit, and `handles`, what it may use. It sets `built`, the program, and makes `room`, a folder that goes when the
+# benchmark ends.
 #
 # The program is no crate of crates.txt, so that the gate proves no benchmark, and its name does not end in .rt, since
 # the gate stops at such a file outside the crates: this makes a repository of the crates that it needs in `room`, with

@@ -4,7 +4,7 @@
 # What they are made of, and where cargo leaves them.
 library=${KRL_LIBRARY-$top/crates/krl_embed/out}/libkrl_embed.a
 target=${CARGO_TARGET_DIR-$top/hosts/target}
-debian=/usr/share/cargo/registry
+requirements=$top/hosts/packaging/requirements
 
 # Whether the file $1 is there, and nothing below the other folders is newer.
 is_newest() {
@@ -19,8 +19,8 @@ library_folders() {
     made_of krl_embed | sed "s|^|$top/crates/|"
 }
 
-# Proves and makes the library. A library that KRL_LIBRARY names is taken as it is.
-make_library() {
+# Whether the library is made, and none of its sources is newer. A library that KRL_LIBRARY names is taken as it is.
+has_library() {
     if [ -n "${KRL_LIBRARY-}" ]; then
         [ -f "$library" ] && return
         say "there is no $library, and KRL_LIBRARY names its folder"
@@ -32,8 +32,11 @@ make_library() {
 '
         # shellcheck disable=SC2046
         is_newest "$library" "$top/crates.txt" $(library_folders)
-    ) && return
-    need_rt "the proof of the server's library"
+    )
+}
+
+# Proves and makes the library.
+make_library() {
     say "step 1 of 2: proving the library: some 20 minutes on four processors the first time, less after an edit"
     say "there is no faster way, as the kit makes no library that is not proved"
     prove_below krl_embed
@@ -45,18 +48,9 @@ make_library() {
     say "the library is proved and made, in $(minutes)"
 }
 
-# Whether cargo finds each package that it needs in the folder of Debian's packages.
-has_debian_packages() {
-    (cd "$top/hosts" && cargo fetch --quiet --config debian.toml) >/dev/null 2>&1
-}
-
 # Builds the program $1 of the hosts.
 build_host() {
-    command -v cargo >/dev/null || {
-        say "'cargo' is not on the PATH, and builds the server and the client: it comes with Rust 1.89 or newer"
-        exit 1
-    }
-    if [ -d "$debian" ] && has_debian_packages; then
+    if "$requirements" debian; then
         say "step 2 of 2: building $1 by cargo over Debian's packages: a minute or two on four processors"
         set -- "$1" --config debian.toml
     else
@@ -90,13 +84,21 @@ run() {
     exec "$program" "$@"
 }
 
-# Builds the program $1 if it is older than the library or than what lies in the folders behind it.
+# Builds the program $1 if it is older than the library or than what lies in the folders behind it. What is missing for
+# that is reported before the proof begins.
 build_if_older() {
     host=$1
     shift
     program=$target/release/$host
-    make_library
-    is_newest "$program" "$library" "$hosts/Cargo.toml" "$@" || build_host "$host"
+    if ! has_library; then
+        "$requirements" proof || exit 1
+        make_library
+    elif is_newest "$program" "$library" "$hosts/Cargo.toml" "$@"; then
+        return
+    else
+        "$requirements" build || exit 1
+    fi
+    build_host "$host"
 }
 
 # Where help is asked for of a program that is not built, says where else it is: nobody waits for a proof to read it.

@@ -66,6 +66,7 @@ done | awk '
             split(keys[i], part, " ")
             base = least[part[1] " maps " part[3]]
             row = (part[1] ~ /^scan/) ? sprintf("%.1f", least[keys[i]] / 100) : "-"
-            printf "%-16s %-6s %8d %12.1f %10s %8.2f\n", part[1], part[2], part[3], least[keys[i]], row, least[keys[i]] / base
+            printf "%-16s %-6s %8d %12.1f %10s %8.2f\n",
+                part[1], part[2], part[3], least[keys[i]], row, least[keys[i]] / base
         }
     }'

@@ -1,6 +1,7 @@
 #!/bin/sh
 # What the stores cost: synced writes a second that one and eight clients are answered, by a server over SQLite, over
-# etcd, over PostgreSQL, and etcd by itself, by turns in one run; and how long a server takes to start over a full table.
+# etcd, over PostgreSQL, and etcd by itself, by turns in one run; and how long a server takes to start over a full
+# table.
 #
 #   bench/failover/run.sh DRIVE [ROUNDS]    DRIVE is krl_drive, built by `cargo build --release -p krl_drive` in hosts/;
 #                                           seven rounds, of two seconds each, unless it is said

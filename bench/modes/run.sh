@@ -49,6 +49,7 @@ done | awk '
         printf "%-12s %10s %10s %8s\n", "call", "Rattle ns", "Rust ns", "ratio"
         for (i = 1; i <= count; i++) {
             name = names[i]
-            printf "%-12s %10.2f %10.2f %8.2f\n", name, least["rattle " name], least["rust " name], least["rattle " name] / least["rust " name]
+            printf "%-12s %10.2f %10.2f %8.2f\n",
+                name, least["rattle " name], least["rust " name], least["rattle " name] / least["rust " name]
         }
     }'

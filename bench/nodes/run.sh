@@ -15,7 +15,8 @@
 set -eu
 
 name=nodes
-crates="krl_modes krl_messages krl_blocks krl_queue krl_durable krl_table krl_cache krl_client krl_machine krl_server krl_refinement krl_steps krl_world krl_draws krl_nodes"
+crates="krl_modes krl_messages krl_blocks krl_queue krl_durable krl_table krl_cache krl_client krl_machine krl_server \
+krl_refinement krl_steps krl_world krl_draws krl_nodes"
 kit=atomic_table
 handles='Threads, Wait'
 . "$(dirname -- "$0")/../built.sh"

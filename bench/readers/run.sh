@@ -1,6 +1,7 @@
 #!/bin/sh
-# How many scans of one client 1, 2 and 4 threads make, without and beside a client that calls back 10,000 times a second:
-# by the gate of the Rust host, and by a mutex around the same client. It prints the table of docs/BENCH_HOSTS.md.
+# How many scans of one client 1, 2 and 4 threads make, without and beside a client that calls back 10,000 times a
+# second: by the gate of the Rust host, and by a mutex around the same client. It prints the table of
+# docs/BENCH_HOSTS.md.
 #
 #   bench/readers/run.sh [ROUNDS]      100 rounds of 4 ms if nothing is said; for KRL_LIBRARY, KRL_KIT_C and
 #                                      CARGO_TARGET_DIR see tests/hosts

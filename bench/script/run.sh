@@ -16,8 +16,8 @@
 #
 # Each is run 20 times in a row, the program and its twin in turn, five times over; the least processor time, user and
 # system, counts, less the time of an empty script, which is the start of the process. A line gives the text, the
-# milliseconds of the program and of the twin, their ratio, and the program's milliseconds for the first 5,000 lines with
-# the whole's over them: near 2 if a line costs the same wherever it stands; and the most memory that the program
+# milliseconds of the program and of the twin, their ratio, and the program's milliseconds for the first 5,000 lines
+# with the whole's over them: near 2 if a line costs the same wherever it stands; and the most memory that the program
 # held. It stops if the two transcripts differ, or if the half's does not begin the whole's.
 set -eu
 

@@ -139,7 +139,9 @@ static void fault(unsigned long number, const char *text) {
 static struct { const char *at; size_t length; } word[MAX_LINE];
 static int words;
 
-static int is(int i, const char *text) { return strlen(text) == word[i].length && !memcmp(word[i].at, text, word[i].length); }
+static int is(int i, const char *text) {
+    return strlen(text) == word[i].length && !memcmp(word[i].at, text, word[i].length);
+}
 
 static int read_number(const char *at, size_t length, uint64_t *number) {
     if (length == 3 && !memcmp(at, "END", 3)) { *number = END; return 1; }

@@ -13,9 +13,9 @@ set -eu
 
 . "$(dirname -- "$0")/../program.sh"
 
-# Writes the script in which the clients wait at $1 slots over $2 entries, with $3 deliveries of the Ack. Its number counts
-# 192 messages of the greetings, three for each lock of client 63, 63 locks that wait, and their callbacks: as many for
-# each as there are slots at which somebody waits by then.
+# Writes the script in which the clients wait at $1 slots over $2 entries, with $3 deliveries of the Ack. Its number
+# counts 192 messages of the greetings, three for each lock of client 63, 63 locks that wait, and their callbacks: as
+# many for each as there are slots at which somebody waits by then.
 text() {
     awk -v slots="$1" -v entries="$2" -v times="$3" 'BEGIN {
         print "fill " entries

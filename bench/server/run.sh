@@ -5,17 +5,18 @@
 #
 # main.rt.txt, proved and built by rt, tells a server the same messages at places that no processor could guess:
 #
-#   scan-by-101        the Locks of a client that locks the 101 slots of a scan of 100 rows one by one, all of them; each
-#                      is answered, and acknowledges the push before
+#   scan-by-101        the Locks of a client that locks the 101 slots of a scan of 100 rows one by one, all of them;
+#                      each is answered, and acknowledges the push before
 #   scan-by-13         the same slots by 13 Locks of a range, each of which gets up to eight slots
 #   release-of-101, release-of-13    one Release over those slots
 #   delete, insert, put    one Write, far from the last, that is Applied
 #   ack-at-63-slots, ack-at-one-slot    an Ack while 63 other clients wait for what its sender holds
-#   wait-of-64         one of the Locks by which 64 clients come to wait at a slot that each of them reads; each calls 63
-#                      others back
+#   wait-of-64         one of the Locks by which 64 clients come to wait at a slot that each of them reads; each calls
+#                      63 others back
 #   start              a start on what survives, which registers 64 clients
 #   report-of-1000     one of the 64 reports of 1,000 ranges each that follow
 #   report-ascending, report-descending, report-shuffled    a report of as many ranges as there are entries, side by
 #                      side, in this order; the twin does not tell these
 #   report-nested      the same with ranges of which each goes on to the end
-exec "$(dirname -- "$0")/../both_sizes" server krl_modes krl_messages krl_blocks krl_queue krl_durable krl_table krl_server
+exec "$(dirname -- "$0")/../both_sizes" server krl_modes krl_messages krl_blocks krl_queue krl_durable krl_table \
+    krl_server

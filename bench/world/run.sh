@@ -19,7 +19,10 @@ set -eu
 . "$(dirname -- "$0")/../program.sh"
 
 awk -v to="$work" '
-function text(name) { file = to "/" name; opening = file ".opening"; begun = 0; lines = 0; say("fill 60000"); say("client 0"); say("settle") }
+function text(name) {
+    file = to "/" name; opening = file ".opening"; begun = 0; lines = 0
+    say("fill 60000"); say("client 0"); say("settle")
+}
 function begin() { begun = 1 }
 function say(line) {
     print line >file

@@ -7,9 +7,10 @@
  * did: a mutex does that, or the start or the end of a thread. Two threads may use two handles at once. No call waits.
  * Many threads may read one client at once: see `krl_reader_of`.
  *
- * No pointer may be null but one to no bytes, rows, records, bounds or parts. The rooms that a call writes overlap no
- * other argument. Any other number may be anything: each call tests what it is given and says by its code what was
- * wrong. A call whose code is neither KRL_DONE nor KRL_UNSAID has changed nothing.
+ * No pointer may be null but one to no bytes, rows, records, clients, bounds or parts. A length or a room is that of
+ * the memory that its pointer points to. The rooms that a call writes overlap no other argument. Any other number may
+ * be anything: each call tests what it is given and reports by its code what was wrong. A call whose code is neither
+ * KRL_DONE nor KRL_UNSAID has changed nothing.
  *
  * No call takes more than 32,000 bytes of stack.
  */

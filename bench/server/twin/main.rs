@@ -1,5 +1,5 @@
-// The twin in Rust of main.rt.txt: the same server over the maps of Rust's library, told the same messages, and the same
-// lines. It has what these messages need.
+// The twin in Rust of main.rt.txt: the same server over the maps of Rust's library, told the same messages, and the
+// same lines. It has what these messages need.
 #[path = "../../clock.rs"]
 mod clock;
 mod messages;

@@ -51,8 +51,7 @@ pub enum Reader {
     Client(u64),
 }
 
-/// The letters to each node, oldest first, and the chairs. Contracts see the entries that the world
-/// began with, too.
+/// The letters to each node, oldest first, and the chairs; for contracts, the opening entries too.
 #[derive(Drop)]
 pub struct Post {
     opening: Snapshot<Items<(u64, Value)>>,
