@@ -145,7 +145,8 @@ impl Etcd {
                 .map_err(|error| unknown(error.to_string())),
             Err(ureq::Error::Status(status, answer)) => {
                 let (code, why) = told(&read_body(answer));
-                if code.is_some_and(says_that_nothing_was_done) {
+                let is_final = code.is_some_and(says_that_nothing_was_done);
+                if is_final && !explain::passes_by_itself(&why) {
                     Err(Failure::Refused(explain::refusal(&why, &self.given)).into())
                 } else {
                     Err(unknown(format!("{status} {why}")))

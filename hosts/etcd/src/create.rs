@@ -1,23 +1,27 @@
 //! A new store in etcd of what was copied from another one.
 use crate::address::{Credentials, EtcdAddress};
-use crate::bucket::{self, BUCKETS, Bucket, bucket_of};
+use crate::bucket::{self, Buckets};
 use crate::call::{Etcd, Failure};
 use crate::head::Head;
-use crate::store::{MAX_KEYS, draw_owner, draw_salt};
-use crate::{lease, record, request};
+use crate::request;
+use crate::store::{draw_owner, draw_salt};
+use crate::table::{Table, bucket_key};
+use crate::transaction::{self, Set, parts};
 use krl::{Snapshot, StoreError};
 use serde_json::{Value as Json, json};
 use std::time::{Duration, Instant};
 
-/// How long the cluster is asked in all.
+/// How long the cluster is asked for each transaction.
 const TIMEOUT: Duration = Duration::from_secs(60);
+
+/// How the head of a place begins that is not whole.
+const UNFINISHED: &str = "unfinished ";
 
 /// The place of a new store, and what stands in its head until it is whole: no server loads that.
 struct Place<'a> {
     etcd: &'a mut Etcd,
     prefix: &'a str,
     mark: String,
-    end: Instant,
 }
 
 /// Makes a store of the snapshot at an address where there is none. No server serves it before it
@@ -28,21 +32,31 @@ pub(crate) fn create(
     snapshot: &Snapshot,
 ) -> Result<(), StoreError> {
     let mut etcd = Etcd::new(address, credentials).map_err(|why| StoreError::says(&why))?;
-    let mark = format!("unfinished {:032x}", draw_owner()?);
-    let end = Instant::now() + TIMEOUT;
-    let mut place = Place { etcd: &mut etcd, prefix: &address.prefix, mark, end };
+    transaction::probe(&mut etcd, &address.prefix, Instant::now() + TIMEOUT)?;
+    let mark = format!("{UNFINISHED}{:032x}", draw_owner()?);
+    let mut place = Place { etcd: &mut etcd, prefix: &address.prefix, mark };
     place.begin()?;
     let (salt, owner) = (draw_salt()?, draw_owner()?);
-    let rows = place.buckets(snapshot, salt);
-    let others = place.records(snapshot).into_iter().chain([place.leases(snapshot)]);
-    let others = others.chain(place.room(snapshot));
-    let sets: Vec<Json> = rows.chain(others).collect();
-    for part in sets.chunks(MAX_KEYS) {
+    let table = table_of(snapshot, salt);
+    for part in parts(&place.sets(&table)) {
         place.set(part)?;
     }
-    let head = Head { epoch: snapshot.epoch, owner, transaction: 0, commits: 0, salt };
-    place.set(&[request::put(&place.key("head"), head.to_string().as_bytes())])?;
+    let (epoch, buckets) = (snapshot.epoch, table.buckets.count());
+    let head = Head { epoch, owner, salt, buckets, ..Head::EMPTY };
+    place.set(&[Set { key: place.key("head"), value: head.to_string().into() }])?;
     Ok(())
+}
+
+/// The table as a store of this salt keeps it.
+fn table_of(snapshot: &Snapshot, salt: u64) -> Table {
+    let count = bucket::count_for(snapshot.kept_room().unwrap_or_default());
+    Table {
+        buckets: Buckets::of_rows(salt, count, &snapshot.rows),
+        records: snapshot.records.clone(),
+        leases: snapshot.leases,
+        room: snapshot.room,
+        starts: Vec::new(),
+    }
 }
 
 impl Place<'_> {
@@ -50,68 +64,91 @@ impl Place<'_> {
         format!("{}/{name}", self.prefix)
     }
 
-    /// Takes the place, if nothing is there.
+    /// Takes the place, if nothing is there but what another call has left unfinished. Each
+    /// transaction of a call compares the mark that it has set: if that one still runs, it ends
+    /// at its next transaction, and no store is mixed of both.
     fn begin(&mut self) -> Result<(), Failure> {
         let (folder, last) = (self.key(""), format!("{}0", self.prefix));
         let asked = request::range(folder.as_bytes(), last.as_bytes(), 1, 0);
-        let found = self.etcd.call("kv/range", &asked, self.end)?;
-        if found["kvs"].get(0).is_some() {
+        let found = self.etcd.call("kv/range", &asked, Instant::now() + TIMEOUT)?;
+        let is_empty = found["kvs"].get(0).is_none();
+        let left = if is_empty { None } else { self.unfinished()? };
+        if !is_empty && left.is_none() {
             let why = format!("there is something at {} already", self.prefix);
             return Err(Failure::Refused(why));
         }
-        let put = request::put(&self.key("head"), self.mark.as_bytes());
-        self.transaction(None, &[put])
+        let mut operations = vec![request::put(&self.key("head"), self.mark.as_bytes())];
+        if left.is_some() {
+            let folders = ["bucket", "client", "lease", "room"];
+            operations.extend(folders.map(|name| request::delete_all(&self.key(name))));
+        }
+        self.transaction(left.as_deref(), &operations)
     }
 
-    fn set(&mut self, sets: &[Json]) -> Result<(), Failure> {
-        let mark = self.mark.clone();
-        self.transaction(Some(&mark), sets)
+    /// The mark of another call that is not finished.
+    fn unfinished(&mut self) -> Result<Option<String>, Failure> {
+        let asked = request::range_of_one(&self.key("head"));
+        let found = self.etcd.call("kv/range", &asked, Instant::now() + TIMEOUT)?;
+        let head = found["kvs"][0].get("value").and_then(request::text_of);
+        Ok(head.filter(|head| head.starts_with(UNFINISHED)))
     }
 
-    /// Sets this if the head is as it should be. It may be done twice: it sets the same.
-    fn transaction(&mut self, head: Option<&str>, sets: &[Json]) -> Result<(), Failure> {
+    fn set(&mut self, sets: &[Set]) -> Result<(), Failure> {
+        let (mark, operations) = (self.mark.clone(), sets.iter().map(Set::as_json));
+        self.transaction(Some(&mark), &operations.collect::<Vec<_>>())
+    }
+
+    /// Does this if the head is as it should be. It may be done twice: it sets the same.
+    fn transaction(&mut self, head: Option<&str>, operations: &[Json]) -> Result<(), Failure> {
         let key = self.key("head");
         let asked = json!({
-            "compare": [request::has(&key, head)], "success": sets, "failure": [request::get(&key)],
+            "compare": [request::has(&key, head)], "success": operations,
+            "failure": [request::get(&key)],
         });
-        let answer = self.etcd.call("kv/txn", &asked, self.end)?;
+        let answer = self.etcd.call("kv/txn", &asked, Instant::now() + TIMEOUT)?;
         // An attempt whose answer was lost may have done it.
         let found = request::found_by_get(&answer);
         let is_done = request::succeeded(&answer)
-            || found.is_some_and(|found| sets.contains(&request::put(&key, found.as_bytes())));
+            || found
+                .is_some_and(|found| operations.contains(&request::put(&key, found.as_bytes())));
         if is_done {
             return Ok(());
         }
         Err(Failure::Refused(format!("somebody else makes a store at {}", self.prefix)))
     }
 
-    fn buckets(&self, snapshot: &Snapshot, salt: u64) -> impl Iterator<Item = Json> + use<> {
-        let mut buckets = vec![Bucket::new(); BUCKETS];
-        for (key, value) in &snapshot.rows {
-            buckets[bucket_of(*key, salt)].insert(*key, *value);
-        }
-        let folder = self.key("bucket");
-        let full = buckets.into_iter().enumerate().filter(|(_, rows)| !rows.is_empty());
-        full.map(move |(number, rows)| {
-            request::put(&format!("{folder}/{number:04}"), &bucket::encode(&rows))
-        })
+    /// All keys of the table, but for the head.
+    fn sets(&self, table: &Table) -> Vec<Set> {
+        let buckets = table.buckets.iter().enumerate().filter(|(_, rows)| !rows.is_empty());
+        let buckets = buckets.map(|(number, rows)| Set {
+            key: bucket_key(self.prefix, number),
+            value: bucket::encode(rows),
+        });
+        let clients = table.records.iter();
+        let clients = clients.filter_map(|record| table.set_record(self.prefix, record.client));
+        let others = [Some(table.set_leases(self.prefix)), table.set_room(self.prefix)];
+        buckets.chain(clients).chain(others.into_iter().flatten()).collect()
     }
+}
 
-    fn records(&self, snapshot: &Snapshot) -> Vec<Json> {
-        let records = snapshot.records.iter().enumerate();
-        let put = |(place, of): (usize, &krl::Record)| {
-            let key = self.key(&format!("client/{:02}", of.client));
-            request::put(&key, record::encode(place, of).as_bytes())
-        };
-        records.map(put).collect()
-    }
+#[cfg(test)]
+mod tests {
+    use super::*;
+    use crate::cluster::Cluster;
 
-    fn leases(&self, snapshot: &Snapshot) -> Json {
-        request::put(&self.key("lease"), lease::encode(snapshot.leases).as_bytes())
-    }
-
-    fn room(&self, snapshot: &Snapshot) -> Option<Json> {
-        let room = snapshot.room?.to_string();
-        Some(request::put(&self.key("room"), room.as_bytes()))
+    #[test]
+    fn of_two_that_make_a_store_at_one_place_the_later_one_does() {
+        let Some(cluster) = Cluster::start() else { return };
+        let (address, credentials) = (cluster.address("both"), Credentials::default());
+        let mut etcd = Etcd::new(&address, &credentials).unwrap();
+        let mark = format!("{UNFINISHED}of the earlier one");
+        let mut earlier = Place { etcd: &mut etcd, prefix: &address.prefix, mark };
+        let set = Set { key: earlier.key("bucket/0001"), value: b"x".to_vec() };
+        earlier.begin().unwrap();
+        earlier.set(std::slice::from_ref(&set)).unwrap();
+        create(&address, &credentials, &Snapshot::default()).unwrap();
+        assert!(earlier.set(&[set]).is_err());
+        let mut store = crate::EtcdStore::open(&address, &credentials).unwrap();
+        assert_eq!(krl::Store::load(&mut store).unwrap(), Snapshot::default());
     }
 }

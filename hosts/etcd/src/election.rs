@@ -5,6 +5,7 @@
 //! try.
 use crate::address::{Credentials, EtcdAddress};
 use crate::call::{Etcd, Failure};
+use crate::explain;
 use crate::request::{self, number_of, text_of};
 use serde_json::json;
 use std::fmt;
@@ -107,40 +108,53 @@ impl Election {
         Ok(None)
     }
 
-    /// Takes the place if nobody has it, and answers the lease then.
+    /// Takes the place if nobody has it, and answers the lease then. Who only looks writes nothing:
+    /// a transaction would be written to the log of each node, also where it changes nothing.
     fn try_once(
         &self,
         etcd: &mut Etcd,
         kept: &mut Option<Lease>,
         tell: &mut impl FnMut(Standing<'_>) -> bool,
     ) -> Result<Option<Lease>, Failure> {
-        let lease = match kept.take() {
+        let asked = request::range_of_one(&key(&self.address));
+        let answer = etcd.call("kv/range", &asked, Instant::now() + self.lease)?;
+        let found = &answer["kvs"][0];
+        // An attempt to take it whose answer was lost may have done it.
+        let is_own = |lease: &Lease| found["lease"].as_str() == Some(lease.id.as_str());
+        if kept.as_ref().is_some_and(is_own) {
+            let Some(lease) = kept.take() else { return Ok(None) };
+            return lease.kept_alive(etcd, self.lease);
+        }
+        if let Some(leader) = found.get("value").and_then(text_of) {
+            tell(Standing::StandsBy(&leader));
+            return Ok(None);
+        }
+        let lease = match kept.take().filter(|lease| lease.is_fresh(self.lease)) {
             Some(lease) => lease,
             None => self.grant(etcd)?,
         };
-        // A lease that is lost meanwhile is asked for anew in the next turn.
-        let Some(lease) = lease.kept_alive(etcd, self.lease)? else { return Ok(None) };
+        // It is kept if no answer comes.
+        let id = kept.insert(lease).id.clone();
+        let is_taken = self.take(etcd, &id)?;
+        Ok(kept.take().filter(|_| is_taken))
+    }
+
+    /// Puts the address in the place, with this lease, if nobody is there.
+    fn take(&self, etcd: &mut Etcd, lease: &str) -> Result<bool, Failure> {
         let key = key(&self.address);
         let asked = json!({
             "compare": [request::has(&key, None)],
-            "success": [request::put_leased(&key, &self.advertised, &lease.id)],
+            "success": [request::put_leased(&key, &self.advertised, lease)],
             "failure": [request::get(&key)],
         });
         let answer = match etcd.call("kv/txn", &asked, Instant::now() + self.lease) {
-            // The cluster knows no lease that has run out: it is asked for anew in the next turn.
-            Err(Failure::Refused(_)) if lease.may_have_run_out(self.lease) => return Ok(None),
+            // The lease has run out: another one is asked for in the next turn.
+            Err(Failure::Refused(why)) if explain::is_of_lost_lease(&why) => return Ok(false),
             answer => answer?,
         };
         // An attempt whose answer was lost may have done it.
-        let own = request::found_lease(&answer).as_deref() == Some(lease.id.as_str());
-        if request::succeeded(&answer) || own {
-            return Ok(Some(lease));
-        }
-        if let Some(found) = request::found_by_get(&answer) {
-            tell(Standing::StandsBy(&found));
-        }
-        *kept = Some(lease);
-        Ok(None)
+        let is_own = request::found_lease(&answer).as_deref() == Some(lease);
+        Ok(request::succeeded(&answer) || is_own)
     }
 
     fn grant(&self, etcd: &mut Etcd) -> Result<Lease, Failure> {
@@ -185,19 +199,23 @@ struct Lease {
 impl Lease {
     /// The lease, kept alive if that is due: none if it has run out.
     fn kept_alive(mut self, etcd: &mut Etcd, length: Duration) -> Result<Option<Lease>, Failure> {
-        if self.alive.elapsed() < length / 3 {
+        if self.is_fresh(length) {
             return Ok(Some(self));
         }
         let asked = Instant::now();
-        let answer = etcd.call("lease/keepalive", &json!({"ID": self.id}), asked + length / 3)?;
-        let runs = number_of(&answer["result"]["TTL"]) > 0;
+        let answer = etcd.call("lease/keepalive", &json!({"ID": self.id}), asked + length / 3);
+        let runs = match answer {
+            // A node that has just learned who leads says so.
+            Err(Failure::Refused(why)) if explain::is_of_lost_lease(&why) => false,
+            answer => number_of(&answer?["result"]["TTL"]) > 0,
+        };
         self.alive = asked;
         Ok(runs.then_some(self))
     }
 
-    /// Whether the cluster may have ended the lease by now.
-    fn may_have_run_out(&self, length: Duration) -> bool {
-        self.alive.elapsed() >= length
+    /// Whether the lease need not be kept alive yet.
+    fn is_fresh(&self, length: Duration) -> bool {
+        self.alive.elapsed() < length / 3
     }
 }
 
@@ -259,3 +277,110 @@ impl fmt::Display for ElectionError {
 }
 
 impl std::error::Error for ElectionError {}
+
+#[cfg(test)]
+mod tests {
+    use super::*;
+    use crate::cluster::Cluster;
+    use std::sync::atomic::{AtomicBool, AtomicU32, Ordering};
+
+    const LEASE: Duration = Duration::from_secs(2);
+    const LONG: Duration = Duration::from_secs(60);
+
+    fn election(address: &EtcdAddress, advertised: &str) -> Election {
+        Election::new(address.clone(), Credentials::default(), advertised, LEASE).unwrap()
+    }
+
+    /// How many entries the log of the node has.
+    fn log_entries(cluster: &Cluster) -> u64 {
+        number_of(&cluster.ask("maintenance/status", &json!({}))["raftIndex"])
+    }
+
+    fn wait_until(is_so: impl Fn() -> bool) {
+        let end = Instant::now() + LONG;
+        while !is_so() {
+            assert!(Instant::now() < end, "it does not come");
+            thread::sleep(LOOK / 10);
+        }
+    }
+
+    #[test]
+    fn a_server_that_stands_by_writes_nothing() {
+        let Some(cluster) = Cluster::start() else { return };
+        let address = cluster.address("idle");
+        let term = election(&address, "one").campaign(|_| true).unwrap().unwrap();
+        let (looks, goes_on) = (AtomicU32::new(0), AtomicBool::new(true));
+        thread::scope(|scope| {
+            let other = scope.spawn(|| {
+                election(&address, "other").campaign(|standing| {
+                    looks.fetch_add(
+                        u32::from(standing == Standing::StandsBy("one")),
+                        Ordering::SeqCst,
+                    );
+                    goes_on.load(Ordering::SeqCst)
+                })
+            });
+            wait_until(|| looks.load(Ordering::SeqCst) > 0);
+            let before = log_entries(&cluster);
+            wait_until(|| looks.load(Ordering::SeqCst) > 20);
+            let entries = log_entries(&cluster) - before;
+            assert!(entries < 10, "{entries} entries of the log for 20 looks");
+            goes_on.store(false, Ordering::SeqCst);
+            assert!(other.join().unwrap().unwrap().is_none());
+        });
+        drop(term);
+    }
+
+    #[test]
+    fn a_server_stands_by_over_a_cluster_that_hangs_for_longer_than_a_lease() {
+        let Some(cluster) = Cluster::start() else { return };
+        let address = cluster.address("hangs");
+        let term = election(&address, "one").campaign(|_| true).unwrap().unwrap();
+        let (looks, unanswered) = (AtomicU32::new(0), AtomicU32::new(0));
+        thread::scope(|scope| {
+            let other = scope.spawn(|| {
+                election(&address, "other").campaign(|standing| {
+                    looks.fetch_add(
+                        u32::from(standing == Standing::StandsBy("one")),
+                        Ordering::SeqCst,
+                    );
+                    let is_unanswered = matches!(standing, Standing::Unanswered(_));
+                    unanswered.fetch_add(u32::from(is_unanswered), Ordering::SeqCst);
+                    true
+                })
+            });
+            wait_until(|| looks.load(Ordering::SeqCst) > 0);
+            cluster.signal("-STOP");
+            // The lease of the one that serves runs out meanwhile, and any that the other one has.
+            wait_until(|| unanswered.load(Ordering::SeqCst) > 1);
+            cluster.signal("-CONT");
+            drop(term);
+            assert!(other.join().unwrap().unwrap().is_some(), "it has the place at last");
+        });
+    }
+
+    #[test]
+    fn a_lease_that_the_cluster_has_lost_is_asked_for_again() {
+        let Some(cluster) = Cluster::start() else { return };
+        let election = election(&cluster.address("lost"), "one");
+        let mut etcd = Etcd::new(&election.address, &election.credentials).unwrap();
+        let lost = || Lease { id: "4711".to_string(), alive: Instant::now() };
+        let mut kept = Some(lost());
+        assert!(election.try_once(&mut etcd, &mut kept, &mut |_| true).unwrap().is_none());
+        assert!(kept.is_none());
+        let stale = Lease { alive: Instant::now().checked_sub(LEASE).unwrap(), ..lost() };
+        assert!(stale.kept_alive(&mut etcd, LEASE).unwrap().is_none());
+        assert!(election.try_once(&mut etcd, &mut kept, &mut |_| true).unwrap().is_some());
+    }
+
+    #[test]
+    fn a_place_that_was_taken_by_an_attempt_without_an_answer_is_ones_own() {
+        let Some(cluster) = Cluster::start() else { return };
+        let election = election(&cluster.address("own"), "one");
+        let mut etcd = Etcd::new(&election.address, &election.credentials).unwrap();
+        let lease = election.try_once(&mut etcd, &mut None, &mut |_| true).unwrap().unwrap();
+        let mut kept = Some(Lease { id: lease.id.clone(), alive: lease.alive });
+        let found = election.try_once(&mut etcd, &mut kept, &mut |_| true).unwrap();
+        assert_eq!(found.map(|lease| lease.id), Some(lease.id));
+    }
+}

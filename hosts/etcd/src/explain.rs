@@ -67,6 +67,16 @@ pub(crate) fn is_of_token(why: &str) -> bool {
         .any(|sign| why.contains(sign))
 }
 
+/// Whether etcd refuses a request since it knows no such lease: it has run out.
+pub(crate) fn is_of_lost_lease(why: &str) -> bool {
+    why.contains("requested lease not found")
+}
+
+/// Whether a refusal passes by itself: the node has more to do than it keeps up with.
+pub(crate) fn passes_by_itself(why: &str) -> bool {
+    why.contains("too many requests")
+}
+
 /// What the operator has given, but for the secrets.
 pub(crate) struct Given {
     user: Option<String>,

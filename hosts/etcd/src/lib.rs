@@ -17,6 +17,8 @@ mod lease;
 mod record;
 mod request;
 mod store;
+mod table;
+mod transaction;
 
 #[cfg(test)]
 extern crate self as krl_etcd;

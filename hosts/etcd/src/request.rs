@@ -37,6 +37,13 @@ pub(crate) fn delete(key: &str) -> Json {
     json!({"requestDeleteRange": {"key": encode(key.as_bytes())}})
 }
 
+/// The key, and all keys that begin with it and a slash.
+pub(crate) fn delete_all(key: &str) -> Json {
+    // What begins with the key and a slash comes before what begins with the byte after a slash.
+    let (first, last) = (encode(key.as_bytes()), encode(format!("{key}0").as_bytes()));
+    json!({"requestDeleteRange": {"key": first, "rangeEnd": last}})
+}
+
 pub(crate) fn get(key: &str) -> Json {
     json!({"requestRange": {"key": encode(key.as_bytes())}})
 }

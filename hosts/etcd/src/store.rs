@@ -10,31 +10,26 @@
 //! PREFIX/active        the address of the server that serves, with a lease: no promise rests on it
 //! ```
 use crate::address::{Credentials, EtcdAddress};
-use crate::bucket::{self, BUCKETS, Bucket, bucket_of};
+use crate::bucket;
 use crate::call::{Etcd, Failure, pair_of};
 use crate::concerns;
 use crate::create;
 use crate::head::Head;
-use crate::lease;
-use crate::record;
 use crate::request;
-use krl::{
-    Change, History, LeaseRecord, Mark, Outcome, Record, Room, Snapshot, Store, StoreError, Write,
-};
+use crate::table::{Table, bucket_key, parse_head, strange};
+use crate::transaction::{self, Part, Set};
+use krl::{Change, History, Mark, Outcome, Snapshot, Store, StoreError};
 use serde_json::{Value as Json, json};
-use std::collections::BTreeSet;
 use std::time::{Duration, Instant};
 
-/// The most keys that one transaction sets: etcd's own limit is 128 unless it is told otherwise.
-pub(crate) const MAX_KEYS: usize = 120;
-
-/// A change sets so many keys at most: a bucket and a record, or the head that was.
+/// A change sets so many keys at most: a bucket and a record.
 const KEYS_OF_A_CHANGE: usize = 2;
 
-/// So many keys are loaded at once: buckets of a full table make some 200 kB then.
-const PAGE: usize = 64;
+/// An answer of a load has some so many bytes of keys and values, and at least so many keys.
+const PAGE_BYTES: usize = 1 << 20;
+const FEWEST_KEYS: usize = 64;
 
-/// How long a load goes on to ask, and how long a commit, unless the store is told otherwise.
+/// How long a load goes on to ask, and how long a commit, by default.
 const LOAD_TIMEOUT: Duration = Duration::from_secs(30);
 const COMMIT_TIMEOUT: Duration = Duration::from_secs(5);
 
@@ -58,41 +53,12 @@ pub struct EtcdStore {
     table: Table,
 }
 
-/// What etcd has of the table.
-#[derive(Debug, Default)]
-struct Table {
-    buckets: Vec<Bucket>,
-    /// By place of first registration.
-    records: Vec<Record>,
-    leases: LeaseRecord,
-    room: Option<Room>,
-    starts: Vec<(u64, Head)>,
-}
-
 #[derive(Clone, Debug)]
 enum Ended {
     IsNotLoaded,
     Deposed(String),
     Unanswered(String),
     Failed(String),
-}
-
-/// What one transaction sets.
-#[derive(Default)]
-struct Part {
-    buckets: BTreeSet<usize>,
-    clients: BTreeSet<u8>,
-    sets_leases: bool,
-    sets_room: bool,
-    /// The head that the server before this one left.
-    past: Option<Head>,
-}
-
-impl Part {
-    fn keys(&self) -> usize {
-        let others = [self.past.is_some(), self.sets_leases, self.sets_room];
-        self.buckets.len() + self.clients.len() + others.iter().filter(|sets| **sets).count()
-    }
 }
 
 impl EtcdStore {
@@ -109,7 +75,7 @@ impl EtcdStore {
             commit_timeout: COMMIT_TIMEOUT,
             ended: Some(Ended::IsNotLoaded),
             head: None,
-            next: Head::default(),
+            next: Head::EMPTY,
             table: Table::default(),
         })
     }
@@ -120,7 +86,7 @@ impl EtcdStore {
     /// # Errors
     ///
     /// If there is something already; if the cluster does not answer, or refuses. What was begun
-    /// stays then, and no server starts on it.
+    /// stays then, no server starts on it, and the next call here takes its place.
     pub fn create(
         address: &EtcdAddress,
         credentials: &Credentials,
@@ -154,38 +120,15 @@ impl EtcdStore {
     }
 
     fn load_once(&mut self, end: Instant) -> Result<Snapshot, Failure> {
+        transaction::probe(&mut self.etcd, &self.prefix, end)?;
         let pairs = self.all_pairs(end)?;
         let head = pairs.iter().find(|(name, _)| name == "head");
         let head = head.map(|(name, text)| parse_head(name, text)).transpose()?;
         let salt = head.map_or_else(draw_salt, |head| Ok(head.salt))?;
-        let mut records = Vec::new();
-        self.table = Table { buckets: vec![Bucket::new(); BUCKETS], ..Table::default() };
-        for (name, value) in &pairs {
-            match name.split_once('/') {
-                None if name == "head" || name == "active" => {}
-                None if name == "lease" => self.table.leases = parse_lease(name, value)?,
-                None if name == "room" => self.table.room = Some(parse_room(name, value)?),
-                Some(("bucket", number)) => {
-                    let (number, rows) = parse_bucket(name, number, salt, value)?;
-                    self.table.buckets[number] = rows;
-                }
-                Some(("client", number)) => records.push(parse_record(name, number, value)?),
-                Some(("start", epoch)) => {
-                    let epoch = epoch.parse().map_err(|_| strange(name))?;
-                    self.table.starts.push((epoch, parse_head(name, value)?));
-                }
-                _ => return Err(strange(name)),
-            }
-        }
-        if head.is_none() && self.table.has_something(&records) {
-            return Err(Failure::Refused("there are rows or records, and no head".to_string()));
-        }
-        records.sort_by_key(|(place, _)| *place);
-        self.table.records = records.into_iter().map(|(_, record)| record).collect();
-        self.table.starts.sort_by_key(|(epoch, _)| *epoch);
+        self.table = Table::of_pairs(&pairs, head, salt)?;
         self.head = head;
         let (epoch, owner) = (head.map_or(0, |head| head.epoch), draw_owner()?);
-        self.next = Head { epoch, owner, transaction: 0, commits: 0, salt };
+        self.next = Head { epoch, owner, salt, buckets: self.table.buckets.count(), ..Head::EMPTY };
         Ok(self.table.snapshot(epoch))
     }
 
@@ -195,14 +138,17 @@ impl EtcdStore {
         // What begins with the folder comes before what begins with the byte behind the slash.
         let last = format!("{}0", self.prefix);
         let (mut pairs, mut from, mut revision) = (Vec::new(), folder.clone().into_bytes(), 0);
+        let mut limit = FEWEST_KEYS;
         loop {
-            let asked = request::range(&from, last.as_bytes(), PAGE, revision);
+            let asked = request::range(&from, last.as_bytes(), limit, revision);
             let page = self.etcd.call("kv/range", &asked, end)?;
             if revision == 0 {
                 revision = request::number_of(&page["header"]["revision"]);
             }
+            let mut bytes = 0;
             for pair in page["kvs"].as_array().into_iter().flatten() {
                 let (key, value) = pair_of(pair)?;
+                bytes += key.len() + value.len();
                 from = [key.as_bytes(), &[0]].concat();
                 let name = key.strip_prefix(&folder).ok_or_else(|| strange(&key))?;
                 pairs.push((name.to_string(), value));
@@ -210,6 +156,7 @@ impl EtcdStore {
             if page["more"].as_bool() != Some(true) {
                 return Ok(pairs);
             }
+            limit = next_limit(limit, bytes);
         }
     }
 
@@ -217,20 +164,7 @@ impl EtcdStore {
     fn send(&mut self, part: &Part, end: Instant) -> Result<(), StoreError> {
         let mut next = self.next;
         next.transaction += 1;
-        let mut sets = vec![request::put(&self.key("head"), next.to_string().as_bytes())];
-        if let Some(past) = part.past {
-            let name = format!("start/{}", past.epoch);
-            sets.push(request::put(&self.key(&name), past.to_string().as_bytes()));
-        }
-        sets.extend(part.buckets.iter().map(|number| self.set_bucket(*number)));
-        sets.extend(part.clients.iter().filter_map(|client| self.set_record(*client)));
-        if part.sets_leases {
-            let text = lease::encode(self.table.leases);
-            sets.push(request::put(&self.key("lease"), text.as_bytes()));
-        }
-        if let Some(room) = self.table.room.filter(|_| part.sets_room) {
-            sets.push(request::put(&self.key("room"), room.to_string().as_bytes()));
-        }
+        let sets = self.operations(&next, part);
         let asked = json!({
             "compare": [self.fence()], "success": sets, "failure": [request::get(&self.key("head"))],
         });
@@ -242,6 +176,22 @@ impl EtcdStore {
             return Ok(());
         }
         Err(self.depose(found))
+    }
+
+    /// What a transaction does that sets this head, and what the part says.
+    fn operations(&self, next: &Head, part: &Part) -> Vec<Json> {
+        let mut operations = vec![request::put(&self.key("head"), next.to_string().as_bytes())];
+        if let Some(past) = part.past {
+            let name = format!("start/{}", past.epoch);
+            operations.push(request::put(&self.key(&name), past.to_string().as_bytes()));
+        }
+        operations.extend(part.buckets().map(|number| self.set_bucket(number)));
+        let clients = part.clients.iter();
+        let clients = clients.filter_map(|client| self.table.set_record(&self.prefix, *client));
+        let leases = part.sets_leases.then(|| self.table.set_leases(&self.prefix));
+        let room = part.sets_room.then(|| self.table.set_room(&self.prefix)).flatten();
+        operations.extend(clients.chain(leases).chain(room).map(|set: Set| set.as_json()));
+        operations
     }
 
     /// Asks whether the store is still this one's.
@@ -262,18 +212,11 @@ impl EtcdStore {
     }
 
     fn set_bucket(&self, number: usize) -> Json {
-        let key = self.key(&format!("bucket/{number:04}"));
-        match &self.table.buckets[number] {
-            rows if rows.is_empty() => request::delete(&key),
-            rows => request::put(&key, &bucket::encode(rows)),
+        let key = bucket_key(&self.prefix, number);
+        match self.table.buckets.get(number).filter(|rows| !rows.is_empty()) {
+            Some(rows) => request::put(&key, &bucket::encode(rows)),
+            None => request::delete(&key),
         }
-    }
-
-    fn set_record(&self, client: u8) -> Option<Json> {
-        let mut places = self.table.records.iter().enumerate();
-        let (place, record) = places.find(|(_, record)| record.client == client)?;
-        let key = self.key(&format!("client/{client:02}"));
-        Some(request::put(&key, record::encode(place, record).as_bytes()))
     }
 
     fn ask(&mut self, asked: &Json, end: Instant) -> Result<Json, StoreError> {
@@ -306,7 +249,8 @@ impl EtcdStore {
             Change::Judged { client, write, outcome, .. } => {
                 part.clients.insert(client);
                 if outcome == Outcome::Applied {
-                    part.buckets.insert(self.write(write));
+                    let number = self.table.buckets.write(write);
+                    self.set_in(part, number);
                 }
             }
             Change::Leased(leases) => {
@@ -321,35 +265,46 @@ impl EtcdStore {
         self.table.note_record(change);
     }
 
-    fn write(&mut self, write: Write) -> usize {
-        let number = bucket_of(write.key(), self.next.salt);
-        let rows = &mut self.table.buckets[number];
-        match write {
-            Write::Insert(row) | Write::Put(row) => rows.insert(row.key, row.value),
-            Write::Delete(key) => rows.remove(&key),
-        };
-        number
-    }
-}
-
-impl Table {
-    fn has_something(&self, records: &[(usize, Record)]) -> bool {
-        let has_rows = self.buckets.iter().any(|rows| !rows.is_empty());
-        has_rows || !records.is_empty() || !self.starts.is_empty() || self.room.is_some()
+    /// How many bytes the part has more with the change, at most.
+    fn bytes_of(&self, change: &Change) -> usize {
+        let Change::Judged { write, outcome: Outcome::Applied, .. } = change else { return 0 };
+        let rows = self.table.buckets.get(self.table.buckets.number_of(write.key()));
+        rows.map_or(0, bucket::length) + bucket::LONGEST_ROW
     }
 
-    fn snapshot(&self, epoch: u64) -> Snapshot {
-        let rows = self.buckets.iter().flatten().map(|(key, value)| (*key, *value)).collect();
-        let (records, leases, room) = (self.records.clone(), self.leases, self.room);
-        Snapshot { epoch, rows, records, leases, room }
+    fn set_in(&self, part: &mut Part, number: usize) {
+        if let Some(rows) = self.table.buckets.get(number) {
+            part.set_bucket(number, rows);
+        }
     }
 
-    fn note_record(&mut self, change: &Change) {
-        // A snapshot without rows takes the change for the records alone.
-        let records = std::mem::take(&mut self.records);
-        let mut snapshot = Snapshot { records, ..Snapshot::default() };
-        snapshot.apply(change);
-        self.records = snapshot.records;
+    /// Adds buckets until there are as many as the room wants. Each part of them is a transaction,
+    /// which sets their number with their rows. If a server ends meanwhile, the next one goes on.
+    fn grow(&mut self, end: Instant) -> Result<(), StoreError> {
+        let wanted = bucket::count_for(self.table.room.unwrap_or_default());
+        while self.next.buckets < wanted {
+            let part = self.add_buckets(wanted);
+            self.send(&part, end)?;
+        }
+        Ok(())
+    }
+
+    /// Adds as many of them as fit into one transaction.
+    fn add_buckets(&mut self, wanted: usize) -> Part {
+        let mut part = Part::default();
+        while self.table.buckets.count() < wanted {
+            let (from, number) = (self.table.buckets.splits_next(), self.table.buckets.count());
+            let bytes = self.table.buckets.get(from).map_or(0, bucket::length);
+            if !part.has_room_for(KEYS_OF_A_CHANGE, bytes) {
+                break;
+            }
+            if self.table.buckets.add() {
+                self.set_in(&mut part, from);
+                self.set_in(&mut part, number);
+            }
+        }
+        self.next.buckets = self.table.buckets.count();
+        part
     }
 }
 
@@ -377,8 +332,8 @@ impl Store for EtcdStore {
         }
     }
 
-    /// Each transaction sets 120 keys at most. If the changes set more, they are committed in
-    /// several, in their order: after an error, the first ones may be kept.
+    /// Each transaction sets 120 keys and 1 MiB at most. If the changes set more, they are committed
+    /// in several, in their order: after an error, the first ones may be kept.
     fn commit(&mut self, changes: &[Change]) -> Result<(), StoreError> {
         if let Some(ended) = &self.ended {
             return Err(ended.error());
@@ -389,14 +344,20 @@ impl Store for EtcdStore {
         }
         let mut part = Part::default();
         for change in changes {
-            if part.keys() + KEYS_OF_A_CHANGE > MAX_KEYS {
+            if !part.has_room_for(KEYS_OF_A_CHANGE, self.bytes_of(change)) {
                 self.send(&part, end)?;
                 part = Part::default();
             }
             self.note(change, &mut part);
         }
         self.next.commits += 1;
-        self.send(&part, end)
+        self.send(&part, end)?;
+        // A store of the first form stays as it is until its room is raised.
+        let is_raised = changes.iter().any(|change| matches!(change, Change::Room(_)));
+        if is_raised || self.next.buckets > bucket::FEWEST {
+            self.grow(Instant::now() + self.load_timeout)?;
+        }
+        Ok(())
     }
 
     /// What this store has committed, from memory.
@@ -434,41 +395,9 @@ impl From<Failure> for StoreError {
     }
 }
 
-fn strange(name: &str) -> Failure {
-    Failure::Refused(format!("the key {name:?} has what no server of krl keeps"))
-}
-
-fn parse_head(name: &str, value: &[u8]) -> Result<Head, Failure> {
-    let text = std::str::from_utf8(value).map_err(|_| strange(name))?;
-    text.parse().map_err(|()| strange(name))
-}
-
-fn parse_lease(name: &str, value: &[u8]) -> Result<LeaseRecord, Failure> {
-    let text = std::str::from_utf8(value).map_err(|_| strange(name))?;
-    lease::decode(text).ok_or_else(|| strange(name))
-}
-
-fn parse_room(name: &str, value: &[u8]) -> Result<Room, Failure> {
-    let room: Option<Room> = std::str::from_utf8(value).ok().and_then(|text| text.parse().ok());
-    room.filter(|room| room.to_string().as_bytes() == value).ok_or_else(|| strange(name))
-}
-
-fn parse_bucket(
-    name: &str,
-    number: &str,
-    salt: u64,
-    value: &[u8],
-) -> Result<(usize, Bucket), Failure> {
-    let number = number.parse().ok().filter(|number| *number < BUCKETS);
-    let rows = number.and_then(|number| Some((number, bucket::decode(number, salt, value)?)));
-    rows.ok_or_else(|| strange(name))
-}
-
-fn parse_record(name: &str, number: &str, value: &[u8]) -> Result<(usize, Record), Failure> {
-    let text = std::str::from_utf8(value).ok();
-    let client = number.parse().ok();
-    let record = client.zip(text).and_then(|(client, text)| record::decode(client, text));
-    record.ok_or_else(|| strange(name))
+/// How many keys the next answer may have, after one of so many keys and bytes.
+fn next_limit(keys: usize, bytes: usize) -> usize {
+    (keys * PAGE_BYTES / bytes.max(1)).clamp(FEWEST_KEYS, 64 * FEWEST_KEYS)
 }
 
 /// Bits that nobody else draws.

@@ -1,7 +1,8 @@
 //! What is committed is what is loaded, and who commits. They start a node of etcd.
 use super::*;
+use crate::bucket::Buckets;
 use crate::cluster::Cluster;
-use krl::{ClientSet, Row, Value};
+use krl::{ClientSet, LeaseRecord, Room, Row, Value, Write};
 use std::thread;
 
 fn row(key: u64, bytes: &[u8]) -> Row {
@@ -244,11 +245,131 @@ fn a_copy_becomes_a_store_of_its_own() {
     assert_eq!(found, snapshot);
     assert!(EtcdStore::create(&address, &credentials, &snapshot).is_err(), "it is there already");
     store.commit(&[Change::Started { epoch: 3 }]).unwrap();
-    // One that was not finished is nothing that a server starts on.
-    let mut store = open(&cluster.address("begun"));
-    let set = request::put(&store.key("head"), b"unfinished 00");
-    store.etcd.call("kv/txn", &json!({"success": [set]}), Instant::now() + COMMIT_TIMEOUT).unwrap();
+}
+
+/// Puts these keys, whatever is there.
+fn put_keys(store: &mut EtcdStore, sets: &[Set]) {
+    for part in transaction::parts(sets) {
+        let asked = json!({"success": part.iter().map(Set::as_json).collect::<Vec<_>>()});
+        store.etcd.call("kv/txn", &asked, Instant::now() + LOAD_TIMEOUT).unwrap();
+    }
+}
+
+#[test]
+fn a_place_that_was_not_finished_is_no_store_and_is_taken() {
+    let Some(cluster) = Cluster::start() else { return };
+    let (address, credentials) = (cluster.address("begun"), Credentials::default());
+    let mut store = open(&address);
+    let left = [("head", "unfinished 00"), ("bucket/0001", "x"), ("client/64", "y"), ("room", "3")];
+    let set = |(name, value): (&str, &str)| Set { key: store.key(name), value: value.into() };
+    let sets = left.map(set);
+    put_keys(&mut store, &sets);
     assert!(matches!(store.load(), Err(StoreError::Failed(_))));
+    let mut snapshot = Snapshot::default();
+    apply(&mut snapshot, &changes()[..3]);
+    EtcdStore::create(&address, &credentials, &snapshot).unwrap();
+    assert_eq!(loaded(&address).1, snapshot);
+}
+
+#[test]
+fn a_cluster_that_takes_too_little_is_refused_before_anything_is_stored() {
+    for settings in [["--max-request-bytes", "65536"], ["--max-txn-ops", "100"]] {
+        let Some(cluster) = Cluster::start_with_settings(&settings) else { return };
+        let address = cluster.address("small");
+        let created = EtcdStore::create(&address, &Credentials::default(), &Snapshot::default());
+        let loaded = open(&address).load().map(|_| ());
+        for refused in [created.unwrap_err(), loaded.unwrap_err()] {
+            assert!(refused.to_string().contains(settings[0]), "{refused}");
+        }
+        let stored = cluster.ask("kv/range", &request::range_of_one("/krl/small/head"));
+        assert!(stored["kvs"].is_null(), "{stored}");
+    }
+}
+
+/// Rows that lie in these buckets of a store with few of them: some 16 kB in each.
+fn rows_in(numbers: usize, salt: u64) -> std::collections::BTreeMap<u64, Value> {
+    let buckets = Buckets::empty(salt, bucket::FEWEST);
+    let keys = (0..400 * bucket::FEWEST as u64).filter(|key| buckets.number_of(*key) < numbers);
+    keys.map(|key| (key, Value::new(&[7; 32]).unwrap())).collect()
+}
+
+/// A store with so many buckets and these rows, as no transaction of today makes it.
+fn put_store(address: &EtcdAddress, count: usize, snapshot: &Snapshot) {
+    let mut store = open(address);
+    let head = Head { epoch: snapshot.epoch, buckets: count, owner: 1, salt: 5, ..Head::EMPTY };
+    let room = snapshot.room.map(|room| room.to_string());
+    let buckets = Buckets::of_rows(head.salt, count, &snapshot.rows);
+    let buckets = buckets.iter().enumerate().filter(|(_, rows)| !rows.is_empty());
+    let buckets = buckets.map(|(number, rows)| Set {
+        key: bucket_key(&store.prefix, number),
+        value: bucket::encode(rows),
+    });
+    let others = [("head", Some(head.to_string())), ("room", room)].into_iter();
+    let others =
+        others.filter_map(|(name, text)| Some(Set { key: store.key(name), value: text?.into() }));
+    let sets: Vec<Set> = buckets.chain(others).collect();
+    put_keys(&mut store, &sets);
+}
+
+#[test]
+fn a_batch_of_large_buckets_is_committed_in_several_transactions() {
+    let Some(cluster) = Cluster::start() else { return };
+    let address = cluster.address("large");
+    let (rows, room) = (rows_in(130, 5), Some(Room::MAX));
+    let mut expected = Snapshot { epoch: 7, rows, room, ..Snapshot::default() };
+    put_store(&address, bucket::FEWEST, &expected);
+    let (mut store, found) = loaded(&address);
+    assert_eq!(found, expected);
+    let places = Buckets::empty(5, bucket::FEWEST);
+    let mut keys = std::collections::BTreeMap::new();
+    expected.rows.keys().for_each(|key| _ = keys.insert(places.number_of(*key), *key));
+    assert_eq!(keys.len(), 130, "a row of each bucket");
+    let put = |(number, key): (u64, &u64)| {
+        judged(number, Write::Put(Row { key: *key, value: number.into() }), Outcome::Applied)
+    };
+    let first = [Change::Started { epoch: 8 }, Change::Registered { client: 9, incarnation: 1 }];
+    let all: Vec<Change> = first.into_iter().chain((1..).zip(keys.values()).map(put)).collect();
+    store.commit(&all).unwrap();
+    apply(&mut expected, &all);
+    assert_eq!(loaded(&address).1, expected);
+    assert_eq!(store.next.buckets, bucket::FEWEST, "a store of the first form stays as it is");
+}
+
+#[test]
+fn a_store_has_more_buckets_once_its_room_is_raised() {
+    let Some(cluster) = Cluster::start() else { return };
+    let address = cluster.address("raised");
+    let room = Room::of(100_000).unwrap();
+    let mut expected = Snapshot { epoch: 7, rows: rows_in(130, 5), ..Snapshot::default() };
+    put_store(&address, bucket::FEWEST, &expected);
+    let (mut store, _) = loaded(&address);
+    let raised = [Change::Started { epoch: 8 }, Change::Room(room)];
+    store.commit(&raised).unwrap();
+    apply(&mut expected, &raised);
+    assert_eq!(store.next.buckets, bucket::count_for(room));
+    let (mut next, found) = loaded(&address);
+    assert_eq!(found, expected);
+    assert_eq!(next.history().unwrap(), store.history().unwrap());
+    let write = Change::Room(Room::MAX);
+    store.commit(&[write]).unwrap();
+    expected.apply(&write);
+    assert!(is_deposed(&next.commit(&[])), "it read before more buckets were added");
+    assert_eq!(loaded(&address).1, expected);
+}
+
+#[test]
+fn a_server_goes_on_to_add_buckets_where_one_before_has_ended() {
+    let Some(cluster) = Cluster::start() else { return };
+    let address = cluster.address("half");
+    let (rows, room) = ((0..5_000).map(|key| (key, key.into())).collect(), Room::of(100_000).ok());
+    let mut expected = Snapshot { epoch: 7, rows, room, ..Snapshot::default() };
+    put_store(&address, 1_500, &expected);
+    let (mut store, found) = loaded(&address);
+    assert_eq!(found, expected);
+    store.commit(&[Change::Started { epoch: 8 }]).unwrap();
+    expected.epoch = 8;
+    let (store, found) = loaded(&address);
+    assert_eq!((store.next.buckets, found), (8_192, expected));
 }
 
 #[test]

@@ -29,18 +29,23 @@ static COUNT: AtomicU32 = AtomicU32::new(0);
 impl Cluster {
     /// A new cluster, or none if etcd is not there.
     pub fn start() -> Option<Cluster> {
-        Cluster::start_with(None)
+        Cluster::start_with(None, &[])
+    }
+
+    /// One with these settings, as `--max-txn-ops 100`.
+    pub fn start_with_settings(settings: &[&str]) -> Option<Cluster> {
+        Cluster::start_with(None, settings)
     }
 
     /// One that speaks TLS, and takes clients alone that have a certificate of this authority.
     pub fn start_secure(authority: &Authority) -> Option<Cluster> {
-        Cluster::start_with(Some(authority))
+        Cluster::start_with(Some(authority), &[])
     }
 
-    fn start_with(authority: Option<&Authority>) -> Option<Cluster> {
+    fn start_with(authority: Option<&Authority>, settings: &[&str]) -> Option<Cluster> {
         // Another process may take a free address before the node does.
         for _ in 0..5 {
-            let mut cluster = Cluster::start_once(authority)?;
+            let mut cluster = Cluster::start_once(authority, settings)?;
             if cluster.answers() {
                 return Some(cluster);
             }
@@ -48,7 +53,7 @@ impl Cluster {
         panic!("etcd ends again and again")
     }
 
-    fn start_once(authority: Option<&Authority>) -> Option<Cluster> {
+    fn start_once(authority: Option<&Authority>, settings: &[&str]) -> Option<Cluster> {
         let count = COUNT.fetch_add(1, Ordering::Relaxed);
         let name = format!("krl-etcd-{}-{count}", std::process::id());
         let folder = std::env::temp_dir().join(name);
@@ -67,6 +72,7 @@ impl Cluster {
             command.arg("--trusted-ca-file").arg(authority.certificate());
             command.arg("--client-cert-auth");
         }
+        command.args(settings);
         let Ok(node) = command.stdout(Stdio::null()).stderr(Stdio::null()).spawn() else {
             eprintln!("NOT RUN: there is no etcd");
             return None;

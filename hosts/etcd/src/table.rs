@@ -1,0 +1,124 @@
+//! What etcd has of a table, as a server keeps it, and how it stands in etcd's keys.
+use crate::bucket::{self, Buckets};
+use crate::call::Failure;
+use crate::head::Head;
+use crate::transaction::Set;
+use crate::{lease, record};
+use krl::{Change, LeaseRecord, Record, Room, Snapshot};
+
+/// What etcd has of the table.
+#[derive(Debug, Default)]
+pub(crate) struct Table {
+    pub buckets: Buckets,
+    /// By place of first registration.
+    pub records: Vec<Record>,
+    pub leases: LeaseRecord,
+    pub room: Option<Room>,
+    pub starts: Vec<(u64, Head)>,
+}
+
+impl Table {
+    /// The table that these keys have, under this head: names after the prefix, with their values.
+    pub fn of_pairs(
+        pairs: &[(String, Vec<u8>)],
+        head: Option<Head>,
+        salt: u64,
+    ) -> Result<Table, Failure> {
+        let count = head.map_or(bucket::FEWEST, |head| head.buckets);
+        let mut table = Table { buckets: Buckets::empty(salt, count), ..Table::default() };
+        let mut records = Vec::new();
+        for (name, value) in pairs {
+            match name.split_once('/') {
+                None if name == "head" || name == "active" => {}
+                None if name == "lease" => table.leases = parse_lease(name, value)?,
+                None if name == "room" => table.room = Some(parse_room(name, value)?),
+                Some(("bucket", number)) => table.parse_bucket(name, number, value)?,
+                Some(("client", number)) => records.push(parse_record(name, number, value)?),
+                Some(("start", epoch)) => {
+                    let epoch = epoch.parse().map_err(|_| strange(name))?;
+                    table.starts.push((epoch, parse_head(name, value)?));
+                }
+                _ => return Err(strange(name)),
+            }
+        }
+        records.sort_by_key(|(place, _)| *place);
+        table.records = records.into_iter().map(|(_, record)| record).collect();
+        table.starts.sort_by_key(|(epoch, _)| *epoch);
+        if head.is_none() && table.has_something() {
+            return Err(Failure::Refused("there are rows or records, and no head".to_string()));
+        }
+        Ok(table)
+    }
+
+    fn has_something(&self) -> bool {
+        let has_rows = self.buckets.iter().any(|rows| !rows.is_empty());
+        has_rows || !self.records.is_empty() || !self.starts.is_empty() || self.room.is_some()
+    }
+
+    pub fn snapshot(&self, epoch: u64) -> Snapshot {
+        let rows = self.buckets.iter().flatten().map(|(key, value)| (*key, *value)).collect();
+        let (records, leases, room) = (self.records.clone(), self.leases, self.room);
+        Snapshot { epoch, rows, records, leases, room }
+    }
+
+    pub fn note_record(&mut self, change: &Change) {
+        // A snapshot without rows takes the change for the records alone.
+        let records = std::mem::take(&mut self.records);
+        let mut snapshot = Snapshot { records, ..Snapshot::default() };
+        snapshot.apply(change);
+        self.records = snapshot.records;
+    }
+
+    /// What stands in etcd for the client.
+    pub fn set_record(&self, prefix: &str, client: u8) -> Option<Set> {
+        let mut places = self.records.iter().enumerate();
+        let (place, of) = places.find(|(_, record)| record.client == client)?;
+        let key = format!("{prefix}/client/{client:02}");
+        Some(Set { key, value: record::encode(place, of).into() })
+    }
+
+    pub fn set_leases(&self, prefix: &str) -> Set {
+        Set { key: format!("{prefix}/lease"), value: lease::encode(self.leases).into() }
+    }
+
+    pub fn set_room(&self, prefix: &str) -> Option<Set> {
+        Some(Set { key: format!("{prefix}/room"), value: self.room?.to_string().into() })
+    }
+
+    fn parse_bucket(&mut self, name: &str, number: &str, value: &[u8]) -> Result<(), Failure> {
+        let number = number.parse().ok().filter(|of| bucket_key("", *of).ends_with(name));
+        let taken = number.and_then(|number| self.buckets.decode(number, value));
+        taken.ok_or_else(|| strange(name))
+    }
+}
+
+/// The key of the bucket of this number.
+pub(crate) fn bucket_key(prefix: &str, number: usize) -> String {
+    format!("{prefix}/bucket/{number:04}")
+}
+
+pub(crate) fn strange(name: &str) -> Failure {
+    Failure::Refused(format!("the key {name:?} has what no server of krl keeps"))
+}
+
+pub(crate) fn parse_head(name: &str, value: &[u8]) -> Result<Head, Failure> {
+    let text = std::str::from_utf8(value).map_err(|_| strange(name))?;
+    text.parse().map_err(|()| strange(name))
+}
+
+fn parse_lease(name: &str, value: &[u8]) -> Result<LeaseRecord, Failure> {
+    let text = std::str::from_utf8(value).map_err(|_| strange(name))?;
+    lease::decode(text).ok_or_else(|| strange(name))
+}
+
+fn parse_room(name: &str, value: &[u8]) -> Result<Room, Failure> {
+    let room: Option<Room> = std::str::from_utf8(value).ok().and_then(|text| text.parse().ok());
+    room.filter(|room| room.to_string().as_bytes() == value).ok_or_else(|| strange(name))
+}
+
+fn parse_record(name: &str, number: &str, value: &[u8]) -> Result<(usize, Record), Failure> {
+    let text = std::str::from_utf8(value).ok();
+    let client = number.parse().ok();
+    let record = client.zip(text).and_then(|(client, text)| record::decode(client, text));
+    record.ok_or_else(|| strange(name))
+}
