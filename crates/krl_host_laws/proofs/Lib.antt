@@ -2,6 +2,7 @@ pub mod Notes
 pub mod Clients
 pub mod Incarnations
 pub mod Shown
+pub mod Starts
 pub mod Promised
 pub mod Lasting
 pub mod Evicting

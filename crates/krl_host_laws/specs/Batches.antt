@@ -8,8 +8,8 @@ use Rattle.krl_world.specs.Promises.{answer_message}
 use Rattle.krl_world.specs.States.{index_of}
 use Rattle.krl_host_laws.specs.Hosts.{Host, HostWorld, IsReached}
 
--- An insert was judged in memory, and is not on the disk: nobody has learned of it, and if the host crashes here it never
--- happened. If it is kept instead, its client learns that it is Applied.
+-- An insert was judged in memory, and is not on the disk: nobody has learned of it, and if the host crashes here it
+-- never happened. If it is kept instead, its client learns that it is Applied.
 pub record JudgesAhead : Type 0 where
   pub before : HostWorld
   pub reached : IsReached before

@@ -6,8 +6,8 @@ use Rattle.krl_leases.specs.Clocks.{Clocks, Limits, Agree}
 use Rattle.krl_leases.specs.Machine.{State as Lease, Event as LeaseEvent, Pass, Evict, begun as no_lease, Goes as LeaseGoes}
 use Rattle.krl_lease_laws.specs.Systems.{System}
 
--- The clocks that concern an incarnation of a client, by client number and incarnation: that of the machine on which the
--- incarnation runs, and those of the machines of its servers
+-- The clocks that concern an incarnation of a client, by client number and incarnation: that of the machine on which
+-- the incarnation runs, and those of the machines of its servers
 abbrev pub Machines : Type 0
 Machines = ℕ → ℕ → Clocks
 

@@ -5,7 +5,8 @@ use Rattle.krl_leases.specs.Machine.{Grant, Unknown, Evicted, State, Event, Pass
 use Rattle.krl_leases.specs.Laws.{Answers, EvictedAnswerNothing}
 use Rattle.krl_leases.proofs.Sound.{ByServer, Sound, sound_begun}
 use Rattle.krl_leases.proofs.Client.{passes, connects, says, takes_terms, greets}
-use Rattle.krl_leases.proofs.Server.{hears, confirms, registers, stops, starts, revises, evicts}
+use Rattle.krl_leases.proofs.Server.{hears, confirms, registers, stops}
+use Rattle.krl_leases.proofs.Restarts.{starts, revises, evicts}
 
 module _ (limits : Limits) (clocks : Clocks) (agree : Agree limits clocks) where
   goes : (w w' : State) (e : Event) → Goes limits clocks w e w' → Sound limits clocks w → Sound limits clocks w'
