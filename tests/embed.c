@@ -38,6 +38,27 @@ static void want(bool holds, const char *what) {
 
 static int changes;
 
+/* So many bytes may be taken; 0 also if some wait and none of them may leave. */
+static uint64_t ready(krl_handle *handle) {
+    krl_reply reply = krl_take(handle, NULL, 0);
+    return reply.code == KRL_TOO_SHORT ? reply.detail : 0;
+}
+
+/* The server's notes, each of which is confirmed as soon as it was reported. */
+static uint64_t notes;
+
+/* One note was reported, and before that so many bytes could be taken: they still can, and no more than they. */
+static void keep(krl_handle *server, uint64_t before) {
+    krl_reply reply = krl_confirm(server, 0);
+    want(reply.code == KRL_DONE && reply.detail == ++notes, "a note");
+    want(ready(server) == before, "what does not rest on it");
+    want(krl_confirm(server, notes - 1).code == KRL_DONE && ready(server) == before, "one too few");
+    reply = krl_confirm(server, notes + 1);
+    want(reply.code == KRL_NOT_TOLD && reply.detail == notes && ready(server) == before, "one too many");
+    want(krl_confirm(server, notes).code == KRL_DONE && ready(server) >= before, "what is kept");
+    want(krl_take(server, NULL, 0).code != KRL_UNKEPT, "all is kept");
+}
+
 static void hand_over(krl_handle *from, krl_handle *to, bool to_server) {
     static uint8_t bytes[65536];
     krl_reply taken = krl_take(from, bytes, sizeof bytes), reply;
@@ -46,6 +67,7 @@ static void hand_over(krl_handle *from, krl_handle *to, bool to_server) {
         memcpy(&length, bytes + at, 8);
         at += 8;
         if (to_server) {
+            uint64_t before = ready(to);
             krl_stepped stepped = krl_server_step(to, bytes + at, length);
             if (stepped.reply.code == KRL_OUT_OF_MEMORY) {
                 want(stepped.change.kind == KRL_UNCHANGED, "a refused step has changed something");
@@ -53,6 +75,7 @@ static void hand_over(krl_handle *from, krl_handle *to, bool to_server) {
             }
             want(stepped.reply.code == KRL_DONE || stepped.reply.code == KRL_UNSAID, "step of the server");
             changes += stepped.change.kind != KRL_UNCHANGED;
+            if (stepped.change.kind != KRL_UNCHANGED) keep(to, before);
         } else {
             AGAIN(reply, krl_client_step(to, bytes + at, length));
         }
@@ -68,12 +91,63 @@ static void talk(krl_handle *client, krl_handle *server) {
     }
 }
 
+/* A client's first message goes to the server, which reports that the client has registered. Answers whether it said
+ * something: it says nothing if memory is refused for that. */
+static bool registers(krl_handle *server, uint64_t number) {
+    krl_handle client = {0};
+    uint8_t bytes[256];
+    uint64_t length;
+    krl_reply reply;
+    AGAIN(reply, krl_client_open(&client, number, 1));
+    want(krl_confirm(&client, 1).code == KRL_DONE, "its incarnation");
+    want(krl_take(&client, bytes, sizeof bytes).code == KRL_DONE, "its Hello");
+    memcpy(&length, bytes, 8);
+    krl_stepped stepped = krl_server_step(server, bytes + 8, length);
+    if (stepped.reply.code == KRL_OUT_OF_MEMORY) stepped = krl_server_step(server, bytes + 8, length);
+    want(stepped.change.kind == KRL_REGISTERED, "that it registers");
+    krl_close(&client);
+    return stepped.reply.code == KRL_DONE;
+}
+
+/* Takes what may leave, and answers how many bytes that was. Nothing may leave afterwards; nothing waits, if `all`. */
+static uint64_t take_some(krl_handle *server, bool all) {
+    static uint8_t bytes[4096];
+    uint64_t length = ready(server);
+    if (length > 0) {
+        krl_reply reply = krl_take(server, bytes, sizeof bytes);
+        want(reply.code == KRL_DONE && reply.detail == length, "what may leave");
+    }
+    krl_reply reply = krl_take(server, bytes, sizeof bytes);
+    want(reply.code == (all ? KRL_DONE : KRL_UNKEPT) && (!all || reply.detail == 0), "what has to wait");
+    return length;
+}
+
+/* A host that judges on while it commits: each message leaves as soon as the notes are confirmed that it rests on. */
+static void take_as_it_is_kept(void) {
+    krl_handle server = {0};
+    krl_reply reply;
+    AGAIN(reply, krl_server_open(&server, KRL_DEFAULT_ROOM, 0, NULL, 0, NULL, 0));
+    want(take_some(&server, true) == 0 && krl_confirm(&server, 1).code == KRL_DONE, "the start");
+    bool first = registers(&server, 0), second = registers(&server, 1), third = registers(&server, 2);
+    want(take_some(&server, !first && !second && !third) == 0, "nothing is kept");
+    want(krl_confirm(&server, 2).code == KRL_DONE, "the first note");
+    want((take_some(&server, !second && !third) > 0) == first, "the first message");
+    bool fourth = registers(&server, 3);
+    want(take_some(&server, !second && !third && !fourth) == 0, "no more is kept");
+    want(krl_confirm(&server, 4).code == KRL_DONE, "two more notes");
+    want((take_some(&server, !fourth) > 0) == (second || third), "two more messages");
+    want(krl_confirm(&server, 6).code == KRL_NOT_TOLD && krl_confirm(&server, 5).code == KRL_DONE, "the last note");
+    want((take_some(&server, true) > 0) == fourth, "the last message");
+    krl_close(&server);
+}
+
 /* Client 3 holds the entries 10, 15, 20 and 30 and END, with the gaps below them. This one asks for a part of that, and
  * waits. */
 static void keep_waiting(krl_handle *other, krl_handle *server) {
     uint64_t clients[KRL_CLIENTS];
     krl_reply reply;
     AGAIN(reply, krl_client_open(other, 4, 1));
+    want(krl_confirm(other, 1).code == KRL_DONE, "the other incarnation");
     talk(other, server);
     AGAIN(reply, krl_client_lock(other, 12, 13, KRL_RANGE_S_S));
     talk(other, server);
@@ -203,9 +277,13 @@ int main(int count, char **words) {
     cut();
     versions();
     refuse_rooms();
+    take_as_it_is_kept();
     AGAIN(reply, krl_server_open(&server, KRL_DEFAULT_ROOM, 0, entries, 3, NULL, 0));
     want(reply.detail == 1, "the epoch");
+    keep(&server, 0);
     AGAIN(reply, krl_client_open(&client, 3, 1));
+    want(krl_take(&client, NULL, 0).code == KRL_UNKEPT, "a Hello before its incarnation");
+    want(krl_confirm(&client, 2).code == KRL_NOT_TOLD && krl_confirm(&client, 1).code == KRL_DONE, "the incarnation");
     talk(&client, &server);
     AGAIN(reply, krl_client_lock(&client, 0, 100, KRL_RANGE_X_X));
     talk(&client, &server);

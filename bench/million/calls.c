@@ -127,6 +127,8 @@ static void spell_insert(struct message *message, struct sender *sender, uint64_
 /* Takes what the server has said since the last time: so many messages. */
 static void expect_answers(uint64_t count)
 {
+    /* No disk is measured here: what was reported counts as kept. */
+    krl_confirm(&server, krl_confirm(&server, 0).detail);
     krl_reply taken = krl_take(&server, answers, sizeof answers);
     expect(taken.code == KRL_DONE, "the answers are taken");
     for (uint64_t at = 0; at < taken.detail; at += PREFIX + number_at(answers + at))

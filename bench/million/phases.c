@@ -63,6 +63,8 @@ static void keep(const krl_change *change)
 
 static uint64_t take(krl_handle *from)
 {
+    /* No disk is measured here: what was reported counts as kept. */
+    krl_confirm(from, krl_confirm(from, 0).detail);
     krl_reply taken = krl_take(from, letters, sizeof letters);
     expect(taken.code == KRL_DONE, "what was said is taken");
     return taken.detail;

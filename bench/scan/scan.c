@@ -43,6 +43,8 @@ static krl_reply step(krl_handle *to, const uint8_t *message, uint64_t length)
 /* Hands over all that `from` has to say, and answers how many bytes that was. */
 static uint64_t hand_over(krl_handle *from, krl_handle *to)
 {
+    /* No disk is measured here: what was reported counts as kept. */
+    krl_confirm(from, krl_confirm(from, 0).detail);
     krl_reply taken = krl_take(from, letters, sizeof letters);
     expect(taken.code == KRL_DONE, "take");
     for (uint64_t at = 0; at < taken.detail;) {

@@ -1,7 +1,8 @@
 /* krl: a key-range lock server, and clients that answer scans from what they hold, behind handles.
  *
  * The host owns the sockets, the disk and the threads. It hands each message to `krl_client_step` or
- * `krl_server_step`, keeps what a server's step says on its disk, and then takes what is to be sent with `krl_take`.
+ * `krl_server_step`, keeps what a server's step reports on its disk, confirms that with `krl_confirm`, and takes
+ * what may be sent with `krl_take`.
  *
  * A handle serves one call at a time, on any thread. If several threads use it, each call sees what the one before
  * did: a mutex does that, or the start or the end of a thread. Two threads may use two handles at once. No call waits.
@@ -34,9 +35,9 @@ uint32_t krl_version(void);
  */
 
 /* Starts a client of this number in a closed handle, and says Hello. The number is from 0 to 63, and the incarnation
- * from 1 to KRL_END: greater than in any earlier start of that number. The host keeps it on its disk before it sends
- * anything. Refused, in this order, by KRL_OPEN_ALREADY, KRL_BAD_CLIENT, KRL_BAD_INCARNATION (0), KRL_SPENT (above
- * KRL_END), KRL_OUT_OF_MEMORY. */
+ * from 1 to KRL_END: greater than in any earlier start of that number. It is the first note of the handle: nothing can
+ * be taken before the host has it on its disk and confirms it. Refused, in this order, by KRL_OPEN_ALREADY,
+ * KRL_BAD_CLIENT, KRL_BAD_INCARNATION (0), KRL_SPENT (above KRL_END), KRL_OUT_OF_MEMORY. */
 krl_reply krl_client_open(krl_handle *handle, uint64_t number, uint64_t incarnation);
 
 /* Gives the client the bytes of one message. One that is not meant for it is passed over. Refused by
@@ -124,15 +125,16 @@ krl_client_state krl_reader_status(krl_reader *reader);
 /* Starts a server in a closed handle with room for so many entries, from 1 to KRL_MAX_ROOM (KRL_DEFAULT_ROOM suits
  * most), on what was kept: the epoch (0 at first), the entries in any order, and the records in order of first
  * registration. All memory for entries is taken here; what none has used is not touched. The detail is the new epoch,
- * one more, which has to be kept before anything is sent. Refused, in this order, by KRL_OPEN_ALREADY, KRL_BAD_ROOM,
+ * one more, which is the first note of the handle. Refused, in this order, by KRL_OPEN_ALREADY, KRL_BAD_ROOM,
  * KRL_SPENT (an epoch of KRL_END or more), KRL_BAD_VALUE, KRL_BAD_RECORD, KRL_FULL (more entries than room), and the
  * first entry that has a key of KRL_END or more, by KRL_BAD_KEY, or one that stands before, by KRL_TWICE; and by
  * KRL_OUT_OF_MEMORY at any point. */
 krl_reply krl_server_open(krl_handle *handle, size_t room, uint64_t epoch, const krl_row *entries,
                           size_t entries_length, const krl_record *records, size_t records_length);
 
-/* Gives the server the bytes of one message, whoever sent it. The change has to be on the disk before any message
- * that this call or a later one says is sent. Refused by KRL_BAD_MESSAGE, KRL_ALARM, KRL_OUT_OF_MEMORY. */
+/* Gives the server the bytes of one message, whoever sent it. A change is one more note of the handle, also with
+ * KRL_UNSAID: what this call or a later one says can be taken once it is confirmed. Refused by KRL_BAD_MESSAGE,
+ * KRL_ALARM, KRL_OUT_OF_MEMORY. */
 krl_stepped krl_server_step(krl_handle *handle, const uint8_t *bytes, size_t length);
 
 /* Says again to a client that seems stuck what it may have missed. It changes nothing. A number of 64 or more is no
@@ -172,9 +174,20 @@ krl_held_slot krl_server_next_held(krl_handle *handle, uint64_t client, uint64_t
 
 /* Either. */
 
-/* Takes what waits to be sent: for each message its length, in eight bytes, the lowest first, and then the message.
- * All of it goes into `bytes`, and the detail is how many bytes that is; or KRL_TOO_SHORT with that number, and none
- * is taken. Refused by KRL_CLOSED. */
+/* A handle counts its notes, which the host has to keep on its disk. The first note is the opening: a client's
+ * incarnation, or a server's epoch. Each change that a server's step reports is one more. A message rests on all notes
+ * that were reported before it, the change of its own step included.
+ *
+ * Confirms that the first `count` notes are on the disk. The detail is how many were reported. A count that is not
+ * greater than an earlier one changes nothing, so a host may ask with 0. Refused, in this order, by KRL_CLOSED,
+ * KRL_NOT_TOLD. */
+krl_reply krl_confirm(krl_handle *handle, uint64_t count);
+
+/* Takes the messages that wait and rest on confirmed notes only, in their order: for each its length, in eight bytes,
+ * the lowest first, and then the message. All of them go into `bytes`, and the detail is how many bytes that is; or
+ * KRL_TOO_SHORT with that number, and none is taken. If nothing waits, the code is KRL_DONE and the detail 0. If
+ * messages wait and none of them may be taken, the code is KRL_UNKEPT, and the detail is how many notes were reported.
+ * So a call after KRL_DONE tells whether more messages wait. Refused, in this order, by KRL_CLOSED, KRL_UNKEPT. */
 krl_reply krl_take(krl_handle *handle, uint8_t *bytes, size_t room);
 
 /* Closes the handle and frees what it kept. What waits to be sent is dropped. A client says nothing. Of a closed

@@ -110,7 +110,12 @@ enum krl_code {
      * KRL_END. */
     KRL_BAD_SHARDS = 30,
     /* Room for no entry, or for more than KRL_MAX_ROOM. */
-    KRL_BAD_ROOM = 31
+    KRL_BAD_ROOM = 31,
+    /* Messages wait, and each of them rests on a note that is not confirmed. The detail is how many notes were
+     * reported. Nothing was taken. */
+    KRL_UNKEPT = 32,
+    /* More notes were confirmed than were reported. The detail is how many were reported. Nothing has changed. */
+    KRL_NOT_TOLD = 33
 };
 
 /* What is wrong with bytes that are no message: the first fault from the left. */

@@ -85,6 +85,15 @@ static uint64_t server_clock(void)
     return elapsed + 77 * MILLISECOND;
 }
 
+/* How many of the server's notes are on the disk. */
+static uint64_t notes;
+
+/* One more is: what rests on it may leave. */
+static void confirm_note(void)
+{
+    expect("confirm", krl_confirm(&server, ++notes));
+}
+
 /* What a server has to keep would go to the disk here, before any message leaves: this of a client's lease, */
 static void keep_lease(uint64_t number, krl_kept_lease kept)
 {
@@ -113,6 +122,7 @@ static void keep(const krl_change *change)
     if (change->kind != KRL_JUDGED)
         of->is_present = change->kind == KRL_REGISTERED;
     printf("keep: client %" PRIu64 " %s\n", change->client, names[change->kind]);
+    confirm_note();
 }
 
 static void step_server(const uint8_t *message, size_t length)
@@ -251,6 +261,7 @@ static void join(int number)
         of->incarnation++;
         of->lease = krl_lease_new();
         expect("client_open", krl_client_open(&of->handle, (uint64_t)number, of->incarnation));
+        expect("confirm", krl_confirm(&of->handle, 1));
     } while (!say_sign(number));
 }
 
@@ -367,6 +378,7 @@ static void start(void)
         keep_lease(number, krl_kept_start(&known_clients[number].kept, &terms));
     }
     printf("keep: epoch %" PRIu64 "\n", opened.detail);
+    confirm_note();
     for (int number = 0; number < CLIENTS; number++)
         join(number);
     settle();

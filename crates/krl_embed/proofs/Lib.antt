@@ -9,3 +9,4 @@ pub mod KeptLemmas
 pub mod Crosses
 pub mod Shared
 pub mod Loans
+mod CallLemmas

@@ -1,14 +1,11 @@
 -- What waits to be sent: each message behind its length.
-use Rattle.std.specs.Prelude.{◌≡◌, ◌<◌, ℕ, List, [], ◌++◌, length, drop, Option, Some, None}
+use Rattle.std.specs.Prelude.{◌≡◌, ℕ, List, ◌++◌, length, Option, Some, None}
 use Rattle.std.specs.List.{flat_map}
 use Rattle.krl_messages.specs.declared.to_server.ToServer.{ToServer}
 use Rattle.krl_messages.specs.declared.to_client.ToClient.{ToClient}
 use Rattle.krl_wire.specs.Spelling.{number, to_server, to_client}
 use Rattle.krl_embed.specs.declared.code.Code.{Code}
 use Rattle.krl_embed.specs.declared.code.Code.TheVariants as code
-use Rattle.krl_embed.specs.declared.endpoint.Endpoint.{Endpoint}
-use Rattle.krl_embed.specs.declared.reply.Reply.{Reply}
-use Rattle.krl_embed.specs.Replies.{code_of}
 
 -- the length in eight bytes, and the message
 abbrev pub frame : List ℕ → List ℕ
@@ -37,17 +34,3 @@ Waits frames old new _ = ⊥
 abbrev pub WaitsBy : List ℕ → List ℕ → List ℕ → Option Code → Type 0
 WaitsBy frames old new None = ⊥
 WaitsBy frames old new (Some c) = Waits frames old new c
-
--- Done: all that waited is in front of the room's old bytes, and nothing waits; TooShort: the room is too short, and
--- nothing changes. The detail is how many bytes wait.
-abbrev pub TakesAs : List ℕ → List ℕ → List ℕ → List ℕ → Option Code → Type 0
-TakesAs old new was now (Some code.Done) = (new ≡ []) × (now ≡ old ++ drop (length old) was)
-TakesAs old new was now (Some code.TooShort) = (length was < length old) × (new ≡ old) × (now ≡ was)
-TakesAs old new was now _ = ⊥
-
-abbrev pub Takes : List ℕ → List ℕ → List ℕ → List ℕ → Reply → Type 0
-Takes old new was now r = (r.detail ≡ length old) × TakesAs old new was now (code_of r)
-
--- of what a handle keeps nothing changes but what waits
-abbrev pub TakesFrames : List ℕ → List ℕ → Endpoint → Endpoint → Reply → Type 0
-TakesFrames was now e f r = (f.role ≡ e.role) × Takes e.outgoing f.outgoing was now r

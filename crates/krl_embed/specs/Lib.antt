@@ -1,6 +1,7 @@
 pub mod Owning
 pub mod Replies
 pub mod Frames
+pub mod Notes
 pub mod Rows
 pub mod Changes
 pub mod Records
@@ -14,3 +15,4 @@ pub mod Respelling
 pub mod Waits
 pub mod Leases
 pub mod Shards
+pub mod Calls

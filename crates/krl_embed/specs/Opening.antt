@@ -5,9 +5,6 @@ use Rattle.std.specs.List.{AllByRecursion, IsDistinct}
 use Rattle.std.specs.Map.{keys_of}
 use Rattle.krl_modes.specs.declared.point.TheConstants.{END}
 use Rattle.krl_modes.specs.declared.limits.TheConstants.{MAX_CLIENTS}
-use Rattle.krl_messages.specs.declared.outcome.Outcome.{Outcome}
-use Rattle.krl_messages.specs.declared.outcome.Outcome.TheVariants as outcome
-use Rattle.krl_durable.specs.declared.record.Record.{Record}
 use Rattle.krl_durable.specs.declared.refused.EntriesRefused.{EntriesRefused}
 use Rattle.krl_durable.specs.declared.refused.EntriesRefused.TheVariants as entries_refused
 use Rattle.krl_durable.specs.Registers.{Durable}
@@ -18,7 +15,6 @@ use Rattle.krl_client.specs.Clients.{begun}
 use Rattle.krl_client.specs.Ticks.{says_hello}
 use Rattle.krl_client.specs.Fields.{Fields}
 use Rattle.krl_client.specs.Fields as clients
-use Rattle.krl_server.specs.declared.state.State.{State}
 use Rattle.krl_server.specs.StateMeaning as servers
 use Rattle.krl_server.specs.Steps.{start}
 use Rattle.krl_embed.specs.declared.code.Code.{Code}
@@ -34,6 +30,7 @@ use Rattle.krl_embed.specs.Rows.{entry_of, HasValue, IsTooLong}
 use Rattle.krl_embed.specs.Records.{IsFirstBad, is_record, record_of}
 use Rattle.krl_embed.specs.Frames.{said_frames}
 use Rattle.krl_embed.specs.Endpoints.{IsCode}
+use Rattle.krl_embed.specs.Notes.{opening}
 
 -- a client that starts, whose Hello waits
 abbrev pub IsBegunRole : ℕ → ℕ → Role → Type 0
@@ -44,7 +41,7 @@ IsBegunRole number incarnation (role.Server s) = ⊥
 abbrev pub IsBegun : ℕ → ℕ → Endpoint → Type 0
 IsBegun number incarnation e =
     IsBegunRole number incarnation e.role
-    × (e.outgoing ≡ said_frames (says_hello (begun number incarnation) ∷ []))
+    × (e.outgoing ≡ said_frames (says_hello (begun number incarnation) ∷ [])) × (e.notes ≡ opening)
 
 -- why no client starts, apart from memory: the first of these
 abbrev pub client_refusal : ℕ → ℕ → Option Code
@@ -142,7 +139,7 @@ abbrev pub OpensClosed : ℕ → ℕ → List Row → List RecordRow → Option 
 OpensClosed room epoch entries records None r = RefusesOpening room epoch entries records r
 OpensClosed room epoch entries records (Some e) r =
     (code_of r ≡ Some code.Done) × (r.detail ≡ suc epoch) × MayOpen room epoch entries records
-    × IsStartedRole (parts room epoch entries records) e.role × (e.outgoing ≡ [])
+    × IsStartedRole (parts room epoch entries records) e.role × (e.outgoing ≡ []) × (e.notes ≡ opening)
 
 abbrev pub Opens : ℕ → ℕ → List Row → List RecordRow → Option Endpoint → Option Endpoint → Reply → Type 0
 Opens room epoch entries records None after r = OpensClosed room epoch entries records after r

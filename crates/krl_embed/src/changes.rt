@@ -1,5 +1,5 @@
 //! What a server's step changed, as C sees it.
-ghost use Rattle.std.specs.Prelude.{◌≡◌};
+ghost use Rattle.std.specs.Prelude.{◌≡◌, not, nat_eq};
 ghost use Rattle.krl_embed.specs.Changes as changes;
 
 use crate::records::outcome_number;
@@ -46,6 +46,13 @@ fn write_row(op: &WriteOp) -> Row
 }
 
 impl ChangeRow {
+    /// Something has changed.
+    pub(crate) fn is_change(&self) -> bool
+        ensures { result ≡ not (nat_eq self.now.kind 0) }
+    {
+        self.kind != 0
+    }
+
     /// Nothing has changed.
     pub(crate) fn none() -> ChangeRow
         ensures { result ≡ changes.unchanged }

@@ -75,7 +75,8 @@ fn hear(alloc: Global, client: &mut Client, outgoing: &mut Frames, bytes: &[u8])
 
 /// Gives the client the bytes of a message.
 pub(crate) fn step(alloc: Global, endpoint: &mut Endpoint, bytes: &[u8]) -> Reply
-    ensures { OnClient (calls.Hears bytes.now) endpoint.old endpoint.new result }
+    ensures does { OnClient (calls.Hears bytes.now) endpoint.old endpoint.new result }
+    ensures notes { endpoint.new.notes ≡ endpoint.old.notes }
 {
     match &mut endpoint.role {
         Role::Client(client) => hear(alloc, client, &mut endpoint.outgoing, bytes),
@@ -95,7 +96,8 @@ fn say_again(alloc: Global, client: &Client, outgoing: &mut Frames) -> Reply
 
 /// Says again what is not answered.
 pub(crate) fn tick(alloc: Global, endpoint: &mut Endpoint) -> Reply
-    ensures { OnClient calls.Ticks endpoint.old endpoint.new result }
+    ensures does { OnClient calls.Ticks endpoint.old endpoint.new result }
+    ensures notes { endpoint.new.notes ≡ endpoint.old.notes }
 {
     match &endpoint.role {
         Role::Client(client) => say_again(alloc, client, &mut endpoint.outgoing),
@@ -133,7 +135,8 @@ fn ask(
 
 /// Asks for a lock. The mode is given by its place among all modes.
 pub(crate) fn lock(alloc: Global, endpoint: &mut Endpoint, point: u64, hi: u64, mode: u32) -> Reply
-    ensures { OnClient (calls.Locks point hi mode) endpoint.old endpoint.new result }
+    ensures does { OnClient (calls.Locks point hi mode) endpoint.old endpoint.new result }
+    ensures notes { endpoint.new.notes ≡ endpoint.old.notes }
 {
     match &mut endpoint.role {
         Role::Client(client) => ask(alloc, client, &mut endpoint.outgoing, point, hi, mode),
@@ -159,7 +162,8 @@ fn change(
 
 /// Asks for a change. There is none if its value is too long.
 pub(crate) fn write(alloc: Global, endpoint: &mut Endpoint, op: Option<WriteOp>) -> Reply
-    ensures { OnClient (calls.Writes op) endpoint.old endpoint.new result }
+    ensures does { OnClient (calls.Writes op) endpoint.old endpoint.new result }
+    ensures notes { endpoint.new.notes ≡ endpoint.old.notes }
 {
     match &mut endpoint.role {
         Role::Client(client) => change(alloc, client, &mut endpoint.outgoing, op),
@@ -178,8 +182,9 @@ fn give_back(alloc: Global, client: &mut Client, outgoing: &mut Frames, lo: u64,
 
 /// Gives back what the client holds of a span.
 pub(crate) fn forget(alloc: Global, endpoint: &mut Endpoint, lo: u64, hi: u64) -> Reply
-    ensures { OnClient (calls.Forgets (record { lo = lo; hi = hi })) endpoint.old endpoint.new
+    ensures does { OnClient (calls.Forgets (record { lo = lo; hi = hi })) endpoint.old endpoint.new
         result }
+    ensures notes { endpoint.new.notes ≡ endpoint.old.notes }
 {
     match &mut endpoint.role {
         Role::Client(client) => give_back(alloc, client, &mut endpoint.outgoing, lo, hi),
@@ -190,7 +195,8 @@ pub(crate) fn forget(alloc: Global, endpoint: &mut Endpoint, lo: u64, hi: u64) -
 
 /// Pins a span.
 pub(crate) fn pin(endpoint: &mut Endpoint, lo: u64, hi: u64) -> Reply
-    ensures { OnClient (calls.Pins (record { lo = lo; hi = hi })) endpoint.old endpoint.new result }
+    ensures does { OnClient (calls.Pins (record { lo = lo; hi = hi })) endpoint.old endpoint.new result }
+    ensures notes { endpoint.new.notes ≡ endpoint.old.notes }
 {
     match &mut endpoint.role {
         Role::Client(client) => match client.pin(lo, hi) {
@@ -204,7 +210,8 @@ pub(crate) fn pin(endpoint: &mut Endpoint, lo: u64, hi: u64) -> Reply
 
 /// Frees a pin.
 pub(crate) fn unpin(endpoint: &mut Endpoint, id: u64) -> Reply
-    ensures { OnClient (calls.Unpins id) endpoint.old endpoint.new result }
+    ensures does { OnClient (calls.Unpins id) endpoint.old endpoint.new result }
+    ensures notes { endpoint.new.notes ≡ endpoint.old.notes }
 {
     match &mut endpoint.role {
         Role::Client(client) => match client.unpin(id) {
@@ -255,7 +262,8 @@ fn gone(role: Role) -> (Role, Code)
 
 /// Says Bye: the client is gone. One that is gone already says it again.
 pub(crate) fn leave(alloc: Global, endpoint: &mut Endpoint) -> Reply
-    ensures { Leaves endpoint.old endpoint.new result }
+    ensures does { Leaves endpoint.old endpoint.new result }
+    ensures notes { endpoint.new.notes ≡ endpoint.old.notes }
 {
     let role = replace(&mut endpoint.role, Role::Left(Items::from(Vec::new(alloc))));
     let (role, code) = gone(role);

@@ -8,6 +8,7 @@ ghost use Rattle.krl_messages.specs.declared.write_op.WriteOp.TheVariants as op;
 ghost use Rattle.krl_embed.specs.Clients as calls;
 ghost use Rattle.krl_embed.specs.Endpoints.{IsCode, IsUntold, OnHandle, OnClient, Shows};
 ghost use Rattle.krl_embed.specs.Endpoints.{OfClient};
+ghost use Rattle.krl_embed.specs.Notes.{notes_of};
 
 use crate::client_calls;
 use crate::client_shows::{self, ClientState, Held};
@@ -15,6 +16,7 @@ use crate::code::Code;
 use crate::endpoint::{Endpoint, Role};
 use crate::frames::Frames;
 use crate::handle::{Handle, put, take};
+use crate::notes::Notes;
 use crate::reply::Reply;
 use crate::rows::Row;
 use krl_client::{Client, StartRefused};
@@ -39,11 +41,16 @@ fn start(alloc: Global, number: u64, incarnation: u64) -> Result<Endpoint, Code>
         Err(StartRefused::BadClient) => return Err(Code::BadClient),
         Err(StartRefused::Spent) => return Err(Code::Spent),
     };
+    let notes = match Notes::opening(alloc) {
+        Ok(notes) => notes,
+        Err(_) => return Err(Code::OutOfMemory),
+    };
     let mut outgoing = Frames::empty(alloc);
     match outgoing.say(alloc, &[hello]) {
         Code::Done => Ok(Endpoint {
             role: Role::Client(client),
             outgoing,
+            notes,
         }),
         _ => Err(Code::OutOfMemory),
     }
@@ -80,8 +87,9 @@ pub extern "C" fn krl_client_open(
 /// Gives the client the bytes of a message.
 #[unsafe(no_mangle)]
 pub extern "C" fn krl_client_step(alloc: Global, handle: &mut Handle, bytes: &[u8]) -> Reply
-    ensures { OnHandle IsCode (OnClient (calls.Hears bytes.now))
+    ensures does { OnHandle IsCode (OnClient (calls.Hears bytes.now))
         handle.old.owned.value handle.new.owned.value result }
+    ensures notes { notes_of handle.new.owned.value ≡ notes_of handle.old.owned.value }
 {
     let Some(mut endpoint) = take(alloc, handle) else {
         return Reply::of(Code::Closed);
@@ -94,8 +102,9 @@ pub extern "C" fn krl_client_step(alloc: Global, handle: &mut Handle, bytes: &[u
 /// Says again what is not answered.
 #[unsafe(no_mangle)]
 pub extern "C" fn krl_client_tick(alloc: Global, handle: &mut Handle) -> Reply
-    ensures { OnHandle IsCode (OnClient calls.Ticks)
+    ensures does { OnHandle IsCode (OnClient calls.Ticks)
         handle.old.owned.value handle.new.owned.value result }
+    ensures notes { notes_of handle.new.owned.value ≡ notes_of handle.old.owned.value }
 {
     let Some(mut endpoint) = take(alloc, handle) else {
         return Reply::of(Code::Closed);
@@ -114,8 +123,9 @@ pub extern "C" fn krl_client_lock(
     hi: u64,
     mode: u32,
 ) -> Reply
-    ensures { OnHandle IsCode (OnClient (calls.Locks point hi mode))
+    ensures does { OnHandle IsCode (OnClient (calls.Locks point hi mode))
         handle.old.owned.value handle.new.owned.value result }
+    ensures notes { notes_of handle.new.owned.value ≡ notes_of handle.old.owned.value }
 {
     let Some(mut endpoint) = take(alloc, handle) else {
         return Reply::of(Code::Closed);
@@ -126,8 +136,9 @@ pub extern "C" fn krl_client_lock(
 }
 
 fn write(alloc: Global, handle: &mut Handle, change: Option<WriteOp>) -> Reply
-    ensures { OnHandle IsCode (OnClient (calls.Writes change))
+    ensures does { OnHandle IsCode (OnClient (calls.Writes change))
         handle.old.owned.value handle.new.owned.value result }
+    ensures notes { notes_of handle.new.owned.value ≡ notes_of handle.old.owned.value }
 {
     let Some(mut endpoint) = take(alloc, handle) else {
         return Reply::of(Code::Closed);
@@ -161,8 +172,9 @@ pub extern "C" fn krl_client_insert(
     key: u64,
     bytes: &[u8],
 ) -> Reply
-    ensures { OnHandle IsCode (OnClient (calls.Writes (calls.insert_of key bytes.now)))
+    ensures does { OnHandle IsCode (OnClient (calls.Writes (calls.insert_of key bytes.now)))
         handle.old.owned.value handle.new.owned.value result }
+    ensures notes { notes_of handle.new.owned.value ≡ notes_of handle.old.owned.value }
 {
     write(alloc, handle, insert_of(key, bytes))
 }
@@ -175,8 +187,9 @@ pub extern "C" fn krl_client_put(
     key: u64,
     bytes: &[u8],
 ) -> Reply
-    ensures { OnHandle IsCode (OnClient (calls.Writes (calls.put_of key bytes.now)))
+    ensures does { OnHandle IsCode (OnClient (calls.Writes (calls.put_of key bytes.now)))
         handle.old.owned.value handle.new.owned.value result }
+    ensures notes { notes_of handle.new.owned.value ≡ notes_of handle.old.owned.value }
 {
     write(alloc, handle, put_of(key, bytes))
 }
@@ -184,8 +197,9 @@ pub extern "C" fn krl_client_put(
 /// Asks for a delete.
 #[unsafe(no_mangle)]
 pub extern "C" fn krl_client_delete(alloc: Global, handle: &mut Handle, key: u64) -> Reply
-    ensures { OnHandle IsCode (OnClient (calls.Writes (Some (op.Delete key))))
+    ensures does { OnHandle IsCode (OnClient (calls.Writes (Some (op.Delete key))))
         handle.old.owned.value handle.new.owned.value result }
+    ensures notes { notes_of handle.new.owned.value ≡ notes_of handle.old.owned.value }
 {
     write(alloc, handle, Some(WriteOp::Delete { key }))
 }
@@ -215,8 +229,9 @@ pub extern "C" fn krl_client_scan(
 /// Gives back what the client holds of a span.
 #[unsafe(no_mangle)]
 pub extern "C" fn krl_client_forget(alloc: Global, handle: &mut Handle, lo: u64, hi: u64) -> Reply
-    ensures { OnHandle IsCode (OnClient (calls.Forgets (record { lo = lo; hi = hi })))
+    ensures does { OnHandle IsCode (OnClient (calls.Forgets (record { lo = lo; hi = hi })))
         handle.old.owned.value handle.new.owned.value result }
+    ensures notes { notes_of handle.new.owned.value ≡ notes_of handle.old.owned.value }
 {
     let Some(mut endpoint) = take(alloc, handle) else {
         return Reply::of(Code::Closed);
@@ -229,8 +244,9 @@ pub extern "C" fn krl_client_forget(alloc: Global, handle: &mut Handle, lo: u64,
 /// Pins a span.
 #[unsafe(no_mangle)]
 pub extern "C" fn krl_client_pin(alloc: Global, handle: &mut Handle, lo: u64, hi: u64) -> Reply
-    ensures { OnHandle IsCode (OnClient (calls.Pins (record { lo = lo; hi = hi })))
+    ensures does { OnHandle IsCode (OnClient (calls.Pins (record { lo = lo; hi = hi })))
         handle.old.owned.value handle.new.owned.value result }
+    ensures notes { notes_of handle.new.owned.value ≡ notes_of handle.old.owned.value }
 {
     let Some(mut endpoint) = take(alloc, handle) else {
         return Reply::of(Code::Closed);
@@ -243,8 +259,9 @@ pub extern "C" fn krl_client_pin(alloc: Global, handle: &mut Handle, lo: u64, hi
 /// Frees a pin.
 #[unsafe(no_mangle)]
 pub extern "C" fn krl_client_unpin(alloc: Global, handle: &mut Handle, id: u64) -> Reply
-    ensures { OnHandle IsCode (OnClient (calls.Unpins id))
+    ensures does { OnHandle IsCode (OnClient (calls.Unpins id))
         handle.old.owned.value handle.new.owned.value result }
+    ensures notes { notes_of handle.new.owned.value ≡ notes_of handle.old.owned.value }
 {
     let Some(mut endpoint) = take(alloc, handle) else {
         return Reply::of(Code::Closed);
@@ -289,7 +306,8 @@ pub extern "C" fn krl_client_status(alloc: Global, handle: &mut Handle) -> Clien
 /// Says Bye. A client that has left says it again.
 #[unsafe(no_mangle)]
 pub extern "C" fn krl_client_leave(alloc: Global, handle: &mut Handle) -> Reply
-    ensures { OnHandle IsCode shown.Leaves handle.old.owned.value handle.new.owned.value result }
+    ensures does { OnHandle IsCode shown.Leaves handle.old.owned.value handle.new.owned.value result }
+    ensures notes { notes_of handle.new.owned.value ≡ notes_of handle.old.owned.value }
 {
     let Some(mut endpoint) = take(alloc, handle) else {
         return Reply::of(Code::Closed);

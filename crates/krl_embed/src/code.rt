@@ -71,6 +71,10 @@ pub enum Code {
     BadShards,
     /// Room for no entry, or for more than 1,048,576.
     BadRoom,
+    /// A note that the host has to keep is not confirmed.
+    Unkept,
+    /// More notes were confirmed than were reported.
+    NotTold,
 }
 
 impl From<AllocError> for Code {

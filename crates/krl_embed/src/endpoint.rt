@@ -1,5 +1,6 @@
 //! What a handle keeps.
 use crate::frames::Frames;
+use crate::notes::Notes;
 use krl_client::Client;
 use krl_messages::{Items, ToServer};
 use krl_server::Server;
@@ -10,6 +11,8 @@ pub struct Endpoint {
     pub(crate) role: Role,
     /// What waits to be sent.
     pub(crate) outgoing: Frames,
+    /// What the host has to keep before it sends.
+    pub(crate) notes: Notes,
 }
 
 /// A client or a server.

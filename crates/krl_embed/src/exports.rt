@@ -1,13 +1,14 @@
 //! Exports on either, and on messages alone.
-ghost use Rattle.std.specs.Prelude.{◌≡◌, None};
-ghost use Rattle.krl_embed.specs.Endpoints.{IsUntold, OnHandle};
+ghost use Rattle.std.specs.Prelude.{◌≡◌, ◌≤◌, None, length};
+ghost use Rattle.krl_embed.specs.Endpoints.{IsCode, IsUntold, OnHandle};
 ghost use Rattle.krl_wire.specs.Reading as reading;
 ghost use Rattle.krl_wire.specs.Spelling as wire;
-ghost use Rattle.krl_embed.specs.Frames.{TakesFrames};
+ghost use Rattle.krl_embed.specs.Notes.{Takes, TakesReady, ConfirmsNotes};
 ghost use Rattle.krl_embed.specs.Respelling.{Respells};
 ghost use Rattle.krl_embed.specs.Shown.{Copies};
 
 use crate::code::Code;
+use crate::endpoint::Endpoint;
 use crate::handle::{Handle, put, take};
 use crate::reply::Reply;
 use krl_wire::{
@@ -15,16 +16,59 @@ use krl_wire::{
 };
 use std::alloc::Global;
 
-/// Takes the frames that wait to be sent.
+/// Confirms that the first so many notes are on the host's disk: the opening is the first, and each
+/// change of a server is one more.
+#[unsafe(no_mangle)]
+pub extern "C" fn krl_confirm(alloc: Global, handle: &mut Handle, count: u64) -> Reply
+    ensures { OnHandle IsCode (ConfirmsNotes count) handle.old.owned.value handle.new.owned.value
+        result }
+{
+    match take(alloc, handle) {
+        Some(mut endpoint) => {
+            let reply = endpoint.notes.confirm(count);
+            put(handle, endpoint);
+            reply
+        }
+        None => Reply::of(Code::Closed),
+    }
+}
+
+// So many bytes of what waits go into `bytes`: Done; or TooShort, and none is taken. The detail is how
+// many bytes that is.
+fn take_ready(endpoint: &mut Endpoint, ready: usize, bytes: &mut [u8]) -> Reply
+    requires { ready ≤ length endpoint.old.outgoing }
+    ensures { TakesReady ready bytes.old bytes.new endpoint.old endpoint.new result }
+{
+    if bytes.len() < ready {
+        return Reply::with(Code::TooShort, ready as u64);
+    }
+    endpoint.outgoing.give(ready, bytes);
+    endpoint.notes.give(ready);
+    Reply::with(Code::Done, ready as u64)
+}
+
+// Takes what rests on confirmed notes only: Done; or Unkept, if that is nothing, and something waits.
+fn take_confirmed(endpoint: &mut Endpoint, bytes: &mut [u8]) -> Reply
+    ensures { Takes bytes.old bytes.new endpoint.old endpoint.new result }
+{
+    let waiting = endpoint.outgoing.len();
+    let ready = endpoint.notes.ready(waiting);
+    if ready == 0 && waiting != 0 {
+        return Reply::with(Code::Unkept, endpoint.notes.reported());
+    }
+    take_ready(endpoint, ready, bytes)
+}
+
+/// Takes the frames that wait to be sent, as far as they rest on confirmed notes only.
 #[unsafe(no_mangle)]
 pub extern "C" fn krl_take(alloc: Global, handle: &mut Handle, bytes: &mut [u8]) -> Reply
-    ensures { OnHandle (IsUntold bytes.old bytes.new) (TakesFrames bytes.old bytes.new)
+    ensures { OnHandle (IsUntold bytes.old bytes.new) (Takes bytes.old bytes.new)
         handle.old.owned.value handle.new.owned.value result }
 {
     let Some(mut endpoint) = take(alloc, handle) else {
         return Reply::of(Code::Closed);
     };
-    let reply = endpoint.outgoing.take_into(bytes);
+    let reply = take_confirmed(&mut endpoint, bytes);
     put(handle, endpoint);
     reply
 }

@@ -1,10 +1,9 @@
 //! Messages that wait to be sent.
-ghost use Rattle.std.specs.Prelude.{◌≡◌, ◌++◌, [], IfOk, OnOk};
+ghost use Rattle.std.specs.Prelude.{◌≡◌, ◌≤◌, ◌++◌, [], IfOk, OnOk, length, take, drop};
 ghost use Rattle.krl_embed.specs.Frames.{frame, said_frame, told_frame, said_frames, told_frames};
-ghost use Rattle.krl_embed.specs.Frames.{Waits, Takes};
+ghost use Rattle.krl_embed.specs.Frames.{Waits};
 
 use crate::code::Code;
-use crate::reply::Reply;
 use krl_messages::{ToClient, ToServer};
 use krl_wire::{has_counts, spell_to_client, spell_to_server};
 use std::alloc::{AllocError, Global};
@@ -112,17 +111,21 @@ impl Frames {
         }
     }
 
-    /// All that waits goes into `bytes`, and nothing waits any more: Done, and how many bytes that
-    /// is; or TooShort with that number, and nothing is taken.
-    pub(crate) fn take_into(&mut self, bytes: &mut [u8]) -> Reply
-        ensures { Takes self.old self.new bytes.old bytes.new result }
+    /// How many bytes wait.
+    pub(crate) fn len(&self) -> usize
+        ensures { result ≡ length self.now }
     {
-        let length = self.bytes.len();
-        if bytes.len() < length {
-            return Reply::with(Code::TooShort, length as u64);
-        }
-        bytes[..length].copy_from_slice(&self.bytes);
-        self.bytes.clear();
-        Reply::with(Code::Done, length as u64)
+        self.bytes.len()
+    }
+
+    /// The first so many bytes go into `bytes`, and wait no more.
+    pub(crate) fn give(&mut self, count: usize, bytes: &mut [u8])
+        requires waiting { count ≤ length self.old }
+        requires room { count ≤ length bytes.old }
+        ensures waiting { self.new ≡ drop count self.old }
+        ensures given { bytes.new ≡ take count self.old ++ drop count bytes.old }
+    {
+        bytes[..count].copy_from_slice(&self.bytes[..count]);
+        self.bytes.drain(..count);
     }
 }

@@ -15,6 +15,7 @@ mod handle;
 mod laws;
 mod leases;
 mod lent;
+mod notes;
 mod opening;
 mod owned;
 mod reader;

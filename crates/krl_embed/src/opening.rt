@@ -1,5 +1,7 @@
 //! Starting a server on what was kept.
-ghost use Rattle.std.specs.Prelude.{◌≡◌, true, Some, IfOk, OnOk, IfErr, map};
+ghost use Rattle.std.specs.Prelude.{◌≡◌, ℕ, List, true, Some, IfOk, OnOk, IfErr, map};
+ghost use Rattle.krl_embed.specs.declared.records.RecordRow.{RecordRow};
+ghost use Rattle.krl_embed.specs.declared.rows.Row.{Row};
 ghost use Rattle.std.specs.List.{AllByRecursion};
 ghost use Rattle.krl_server.specs.StateMeaning.{meaning};
 ghost use Rattle.krl_server.specs.Steps.{start};
@@ -115,6 +117,17 @@ fn start_with(
             ServerNotStarted::Spent => Err(Reply::of(Code::Spent)),
             ServerNotStarted::OutOfMemory => Err(Reply::of(Code::OutOfMemory)),
         },
+    }
+}
+
+/// Why no server starts if there is no memory for it.
+pub(crate) fn no_memory(room: usize) -> Reply
+    ensures { (epoch : ℕ) (entries : List Row) (records : List RecordRow)
+        → RefusesOpening room epoch entries records result }
+{
+    match Room::new(room) {
+        Some(_) => Reply::of(Code::OutOfMemory),
+        None => Reply::of(Code::BadRoom),
     }
 }
 

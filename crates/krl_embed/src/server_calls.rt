@@ -1,16 +1,18 @@
 //! What the exports do with a server.
-ghost use Rattle.std.specs.Prelude.{◌≡◌};
+ghost use Rattle.std.specs.Prelude.{◌≡◌, length};
 ghost use Rattle.krl_embed.specs.Endpoints.{IsCode, IsUntold, OfServer};
 ghost use Rattle.krl_embed.specs.Shown as shown;
 ghost use Rattle.krl_embed.specs.Changes.{unchanged};
 ghost use Rattle.krl_embed.specs.Servers as calls;
 ghost use Rattle.krl_embed.specs.Servers.{OnServer, IsUnchanged};
 ghost use Rattle.krl_embed.specs.Replies.{code_of};
+ghost use Rattle.krl_embed.specs.Notes.{counted};
 
 use crate::changes::ChangeRow;
 use crate::code::Code;
 use crate::endpoint::{Endpoint, Role};
 use crate::frames::Frames;
+use crate::notes::Notes;
 use crate::records::RecordRow;
 use crate::reply::Reply;
 use krl_messages::ToServer;
@@ -83,19 +85,33 @@ impl Recorded {
 
 /// Gives the server the bytes of a message.
 pub(crate) fn step(alloc: Global, endpoint: &mut Endpoint, bytes: &[u8]) -> Stepped
-    ensures { OnServer IsUnchanged (calls.Hears bytes.now) endpoint.old endpoint.new result }
+    ensures does { OnServer IsUnchanged (calls.Hears bytes.now) endpoint.old endpoint.new result }
+    ensures notes { endpoint.new.notes
+        ≡ counted (length endpoint.old.outgoing) result.change endpoint.old.notes }
 {
-    match &mut endpoint.role {
-        Role::Server(server) => hear(alloc, server, &mut endpoint.outgoing, bytes),
+    let Endpoint {
+        role,
+        outgoing,
+        notes,
+    } = endpoint;
+    match role {
+        Role::Server(server) => hear(alloc, server, outgoing, notes, bytes),
         Role::Client(_) | Role::Left(_) => Stepped::unchanged(Reply::of(Code::NoServer)),
     }
 }
 
-fn hear(alloc: Global, server: &mut Server, outgoing: &mut Frames, bytes: &[u8]) -> Stepped
-    ensures { calls.Hears bytes.now server.old outgoing.old server.new outgoing.new result }
+fn hear(
+    alloc: Global,
+    server: &mut Server,
+    outgoing: &mut Frames,
+    notes: &mut Notes,
+    bytes: &[u8],
+) -> Stepped
+    ensures does { calls.Hears bytes.now server.old outgoing.old server.new outgoing.new result }
+    ensures notes { notes.new ≡ counted (length outgoing.old) result.change notes.old }
 {
     match to_server_of(alloc, bytes) {
-        Ok(message) => act(alloc, server, outgoing, &message),
+        Ok(message) => act(alloc, server, outgoing, notes, &message),
         Err(ReadError::OutOfMemory) => Stepped::unchanged(Reply::of(Code::OutOfMemory)),
         Err(ReadError::Fault(fault)) => {
             Stepped::unchanged(Reply::with(Code::BadMessage, fault as u64))
@@ -103,7 +119,35 @@ fn hear(alloc: Global, server: &mut Server, outgoing: &mut Frames, bytes: &[u8])
     }
 }
 
-fn act(alloc: Global, server: &mut Server, outgoing: &mut Frames, message: &ToServer) -> Stepped
+// The server takes a message. If that changes something, the change is a note.
+fn act(
+    alloc: Global,
+    server: &mut Server,
+    outgoing: &mut Frames,
+    notes: &mut Notes,
+    message: &ToServer,
+) -> Stepped
+    ensures does { calls.Acts message.now server.old outgoing.old server.new outgoing.new result
+        (code_of result.reply) }
+    ensures notes { notes.new ≡ counted (length outgoing.old) result.change notes.old }
+{
+    // A note takes memory: it is reported before anything has changed.
+    if notes.report(outgoing.len()).is_err() {
+        return Stepped::unchanged(Reply::of(Code::OutOfMemory));
+    }
+    let stepped = take_message(alloc, server, outgoing, message);
+    if !stepped.change.is_change() {
+        notes.withdraw();
+    }
+    stepped
+}
+
+fn take_message(
+    alloc: Global,
+    server: &mut Server,
+    outgoing: &mut Frames,
+    message: &ToServer,
+) -> Stepped
     ensures { calls.Acts message.now server.old outgoing.old server.new outgoing.new result
         (code_of result.reply) }
 {
@@ -132,7 +176,8 @@ fn say_again(alloc: Global, server: &Server, outgoing: &mut Frames, client: u64)
 
 /// Says again to a client what it may have missed.
 pub(crate) fn nudge(alloc: Global, endpoint: &mut Endpoint, client: u64) -> Reply
-    ensures { OnServer IsCode (calls.Nudges client) endpoint.old endpoint.new result }
+    ensures does { OnServer IsCode (calls.Nudges client) endpoint.old endpoint.new result }
+    ensures notes { endpoint.new.notes ≡ endpoint.old.notes }
 {
     match &endpoint.role {
         Role::Server(server) => say_again(alloc, server, &mut endpoint.outgoing, client),

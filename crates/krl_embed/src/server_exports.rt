@@ -6,12 +6,14 @@ ghost use Rattle.krl_embed.specs.Shown as shown;
 ghost use Rattle.krl_embed.specs.Servers as calls;
 ghost use Rattle.krl_embed.specs.Servers.{OnServer, IsUnchanged};
 ghost use Rattle.krl_embed.specs.Waits as waits;
+ghost use Rattle.krl_embed.specs.Notes.{notes_of, counted_in};
 
 use crate::code::Code;
 use crate::endpoint::{Endpoint, Role};
 use crate::frames::Frames;
 use crate::handle::{Handle, put, take};
-use crate::opening::start;
+use crate::notes::Notes;
+use crate::opening::{no_memory, start};
 use crate::records::RecordRow;
 use crate::reply::Reply;
 use crate::rows::Row;
@@ -37,6 +39,11 @@ pub extern "C" fn krl_server_open(
         put(handle, endpoint);
         return Reply::of(Code::OpenAlready);
     }
+    // Before the server: to give it up here would have it on the stack once more.
+    let notes = match Notes::opening(alloc) {
+        Ok(notes) => notes,
+        Err(_) => return no_memory(room),
+    };
     let server = match start(alloc, room, epoch, entries, records) {
         Ok(server) => server,
         Err(reply) => return reply,
@@ -45,6 +52,7 @@ pub extern "C" fn krl_server_open(
     let endpoint = Endpoint {
         role: Role::Server(server),
         outgoing: Frames::empty(alloc),
+        notes,
     };
     match Box::new(alloc, endpoint) {
         Ok(endpoint) => {
@@ -58,8 +66,10 @@ pub extern "C" fn krl_server_open(
 /// Gives the server the bytes of a message. The change is to be kept before anything is sent.
 #[unsafe(no_mangle)]
 pub extern "C" fn krl_server_step(alloc: Global, handle: &mut Handle, bytes: &[u8]) -> Stepped
-    ensures { OnHandle IsUnchanged (OnServer IsUnchanged (calls.Hears bytes.now))
+    ensures does { OnHandle IsUnchanged (OnServer IsUnchanged (calls.Hears bytes.now))
         handle.old.owned.value handle.new.owned.value result }
+    ensures notes { notes_of handle.new.owned.value
+        ≡ counted_in result.change handle.old.owned.value }
 {
     let Some(mut endpoint) = take(alloc, handle) else {
         return Stepped::unchanged(Reply::of(Code::Closed));
@@ -72,8 +82,9 @@ pub extern "C" fn krl_server_step(alloc: Global, handle: &mut Handle, bytes: &[u
 /// Says again to a client what it may have missed.
 #[unsafe(no_mangle)]
 pub extern "C" fn krl_server_nudge(alloc: Global, handle: &mut Handle, client: u64) -> Reply
-    ensures { OnHandle IsCode (OnServer IsCode (calls.Nudges client))
+    ensures does { OnHandle IsCode (OnServer IsCode (calls.Nudges client))
         handle.old.owned.value handle.new.owned.value result }
+    ensures notes { notes_of handle.new.owned.value ≡ notes_of handle.old.owned.value }
 {
     let Some(mut endpoint) = take(alloc, handle) else {
         return Reply::of(Code::Closed);

@@ -249,8 +249,14 @@ fn length_of(detail: u64) -> usize {
     usize::try_from(detail).unwrap_or(usize::MAX)
 }
 
-/// What waits to be sent, message by message.
+/// What waits to be sent, message by message. Nothing here has a disk: what was reported counts as
+/// kept.
 fn take(handle: &mut ffi::Handle) -> Vec<Vec<u8>> {
+    // SAFETY: the handle lives longer than the calls.
+    unsafe {
+        let reported = ffi::krl_confirm(handle, 0).detail;
+        ffi::krl_confirm(handle, reported);
+    }
     // SAFETY: the handle and what it is given live longer than the call.
     let length = length_of(unsafe { ffi::krl_take(handle, ptr::null_mut(), 0) }.detail);
     let mut frames = vec![0; length];

@@ -138,6 +138,8 @@ class ClientHandle:
         self._rows = ctypes.create_string_buffer(64 * _ROW.size)
         self._said = ctypes.create_string_buffer(1 << 12)
         self._done(self._calls.krl_client_open(self._at, number, incarnation))
+        # The incarnation is on the disk.
+        self._done(self._calls.krl_confirm(self._at, 1))
 
     def close(self) -> None:
         """Frees what the client keeps. From now on its calls are refused by ``CLOSED``."""

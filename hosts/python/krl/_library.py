@@ -107,6 +107,7 @@ _CALLS: dict[str, tuple[type[ctypes.Structure | c_uint32] | None, list[Any]]] = 
     "krl_client_status": (ClientState, [_HANDLE]),
     "krl_client_leave": (Reply, [_HANDLE]),
     "krl_version": (c_uint32, []),
+    "krl_confirm": (Reply, [_HANDLE, c_uint64]),
     "krl_take": (Reply, [_HANDLE, c_void_p, c_size_t]),
     "krl_close": (None, [_HANDLE]),
     "krl_respell_to_server": (Reply, _RESPELL),

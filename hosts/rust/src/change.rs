@@ -82,6 +82,20 @@ pub enum Change {
     Room(Room),
 }
 
+impl Change {
+    /// Whether the library reported it, as a note that has to be confirmed. The others are the
+    /// host's own.
+    pub(crate) fn is_note(&self) -> bool {
+        match self {
+            Change::Started { .. }
+            | Change::Registered { .. }
+            | Change::Left { .. }
+            | Change::Judged { .. } => true,
+            Change::Leased(_) | Change::Room(_) => false,
+        }
+    }
+}
+
 /// All that survives.
 #[derive(Clone, Debug, Default, PartialEq, Eq)]
 pub struct Snapshot {

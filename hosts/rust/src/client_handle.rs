@@ -132,6 +132,8 @@ impl ClientHandle {
         let mut handle = Handle::closed();
         // SAFETY: the handle stays in its place, and `&mut` gives it to this call alone.
         done(unsafe { ffi::krl_client_open(handle.raw(), number.into(), incarnation) })?;
+        // The incarnation is on the disk.
+        handle.confirm(1)?;
         Ok(ClientHandle::of(handle, Lease::new(number, incarnation, older)))
     }
 

@@ -69,4 +69,6 @@ codes! {
     BadIncarnation = 29, "a client's incarnation is 0";
     BadShards = 30, "bounds that make no shards";
     BadRoom = 31, "room for no row, or for more than 1,048,576";
+    Unkept = 32, "a note that has to be kept is not confirmed";
+    NotTold = 33, "more notes were confirmed than were reported";
 }

@@ -335,6 +335,7 @@ impl<S: Store> EventLoop<S> {
         let began = Instant::now();
         if owes_terms || !changes.is_empty() {
             self.store.commit(changes)?;
+            self.server.confirm(changes).map_err(ServeError::Refused)?;
             self.asked_store = began;
         }
         if !changes.is_empty() {

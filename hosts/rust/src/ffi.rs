@@ -235,6 +235,7 @@ unsafe extern "C" {
     #[cfg(test)]
     pub safe fn krl_version() -> u32;
 
+    pub fn krl_confirm(handle: *mut Handle, count: u64) -> Reply;
     pub fn krl_take(handle: *mut Handle, bytes: *mut u8, room: usize) -> Reply;
     pub fn krl_close(handle: *mut Handle);
 }

@@ -36,6 +36,13 @@ impl Handle {
         ffi::Reader { is_open: self.0.is_open, at: self.0.at }
     }
 
+    /// Confirms that the first `count` notes are on the host's disk, and returns how many the library
+    /// has reported.
+    pub fn confirm(&mut self, count: u64) -> Result<u64, Code> {
+        // SAFETY: the handle stays in its place, and `&mut` gives it to this call alone.
+        done(unsafe { ffi::krl_confirm(self.raw(), count) })
+    }
+
     /// Appends what waits to be sent, as frames: of each message its length in eight bytes, and the
     /// message.
     pub fn take(&mut self, frames: &mut Vec<u8>) -> Result<(), Code> {
@@ -82,7 +89,11 @@ pub(crate) fn done(reply: ffi::Reply) -> Result<u64, Code> {
 }
 
 /// A server of the library.
-pub(crate) struct ServerHandle(Handle);
+pub(crate) struct ServerHandle {
+    handle: Handle,
+    /// So many of the notes that it has reported are on the disk.
+    confirmed: u64,
+}
 
 impl ServerHandle {
     /// Starts a server of this room on what was kept, and says its epoch: it has to be kept before
@@ -105,27 +116,39 @@ impl ServerHandle {
             )
         };
         let epoch = done(reply)?;
-        Ok((ServerHandle(handle), epoch))
+        Ok((ServerHandle { handle, confirmed: 0 }, epoch))
     }
 
     /// Gives the server a message, and says what has to be kept before anything more is sent.
     pub fn step(&mut self, message: &[u8]) -> Result<Option<Change>, Code> {
         // SAFETY: as for any handle, and so many bytes of the message are there to be read.
         let stepped =
-            unsafe { ffi::krl_server_step(self.0.raw(), message.as_ptr(), message.len()) };
+            unsafe { ffi::krl_server_step(self.handle.raw(), message.as_ptr(), message.len()) };
         done(stepped.reply)?;
         change_of(&stepped.change)
     }
 
+    /// Confirms that these changes are on the disk, after all earlier ones: what rests on them may
+    /// be sent. They have to be all that the server has reported since.
+    ///
+    /// # Errors
+    ///
+    /// [`Code::Unkept`] if one is missing, and [`Code::NotTold`] if there are more.
+    pub fn confirm(&mut self, kept: &[Change]) -> Result<(), Code> {
+        self.confirmed += kept.iter().filter(|change| change.is_note()).count() as u64;
+        let reported = self.handle.confirm(self.confirmed)?;
+        if reported == self.confirmed { Ok(()) } else { Err(Code::Unkept) }
+    }
+
     pub fn nudge(&mut self, client: u8) -> Result<(), Code> {
         // SAFETY: the handle stays in its place, and `&mut` gives it to this call alone.
-        done(unsafe { ffi::krl_server_nudge(self.0.raw(), client.into()) }).map(drop)
+        done(unsafe { ffi::krl_server_nudge(self.handle.raw(), client.into()) }).map(drop)
     }
 
     pub fn is_serving(&mut self) -> bool {
         const SERVING: u64 = 1;
         // SAFETY: the handle stays in its place, and `&mut` gives it to this call alone.
-        unsafe { ffi::krl_server_status(self.0.raw()) }.phase == SERVING
+        unsafe { ffi::krl_server_status(self.handle.raw()) }.phase == SERVING
     }
 
     /// The clients whose reports are missing.
@@ -133,14 +156,15 @@ impl ServerHandle {
         let mut clients = [0; CLIENTS as usize];
         let room = clients.len();
         // SAFETY: as for any handle, and there is so much room to be written to.
-        let reply = unsafe { ffi::krl_server_missing(self.0.raw(), clients.as_mut_ptr(), room) };
+        let reply =
+            unsafe { ffi::krl_server_missing(self.handle.raw(), clients.as_mut_ptr(), room) };
         listed(reply, &clients)
     }
 
     /// What is kept of the client, if it ever registered.
     pub fn record(&mut self, client: u8) -> Result<Option<Record>, Code> {
         // SAFETY: the handle stays in its place, and `&mut` gives it to this call alone.
-        let raw = unsafe { ffi::krl_server_record(self.0.raw(), client.into()) };
+        let raw = unsafe { ffi::krl_server_record(self.handle.raw(), client.into()) };
         match code(raw.reply) {
             Code::BadClient => Ok(None),
             _ => done(raw.reply).map(|_| record_of(&raw.record)),
@@ -154,7 +178,7 @@ impl ServerHandle {
 
     fn waiting_of(&mut self, client: u8) -> Result<Option<Waiting>, Code> {
         // SAFETY: the handle stays in its place, and `&mut` gives it to this call alone.
-        let raw = unsafe { ffi::krl_server_waiter(self.0.raw(), client.into()) };
+        let raw = unsafe { ffi::krl_server_waiter(self.handle.raw(), client.into()) };
         done(raw.reply)?;
         if raw.waits == 0 {
             return Ok(None);
@@ -168,20 +192,21 @@ impl ServerHandle {
         let mut clients = [0; CLIENTS as usize];
         let (at, room) = (clients.as_mut_ptr(), clients.len());
         // SAFETY: as for any handle, and there is so much room to be written to.
-        let reply = unsafe { ffi::krl_server_waited_for(self.0.raw(), client.into(), at, room) };
+        let reply =
+            unsafe { ffi::krl_server_waited_for(self.handle.raw(), client.into(), at, room) };
         listed(reply, &clients)
     }
 
     /// At how many slots the client holds something.
     pub fn held(&mut self, client: u8) -> Result<u64, Code> {
         // SAFETY: the handle stays in its place, and `&mut` gives it to this call alone.
-        done(unsafe { ffi::krl_server_held(self.0.raw(), client.into()) })
+        done(unsafe { ffi::krl_server_held(self.handle.raw(), client.into()) })
     }
 
     /// The first slot that ends behind this point and of which the client holds something.
     pub fn next_held(&mut self, client: u8, from: u64) -> Option<HeldSlot> {
         // SAFETY: the handle stays in its place, and `&mut` gives it to this call alone.
-        let raw = unsafe { ffi::krl_server_next_held(self.0.raw(), client.into(), from) };
+        let raw = unsafe { ffi::krl_server_next_held(self.handle.raw(), client.into(), from) };
         let ffi::RawHeldSlot { lo, hi, mode, holds, .. } = raw;
         (holds != 0).then(|| HeldSlot { lo, hi, client, mode: mode_name(mode) })
     }
@@ -189,7 +214,7 @@ impl ServerHandle {
     /// Takes what waits to be sent, as frames, into the front of `room`, and says how many bytes
     /// they have. The room grows as it has to, and is used again.
     pub fn take(&mut self, room: &mut Vec<u8>) -> Result<usize, Code> {
-        self.0.take_behind(0, room)
+        self.handle.take_behind(0, room)
     }
 }
 
@@ -237,3 +262,6 @@ fn change_of(raw: &ffi::RawChange) -> Result<Option<Change>, Code> {
         _ => return Err(unknown),
     })
 }
+
+#[cfg(test)]
+mod tests;

@@ -131,13 +131,15 @@ impl Server {
         refuse_other_keys(&snapshot, shard)?;
         let at_start = RoomAtStart::of(&snapshot, room)?;
         let room = at_start.room;
-        let (server, epoch) = ServerHandle::open(&snapshot, room).map_err(ServeError::Refused)?;
+        let (mut server, epoch) =
+            ServerHandle::open(&snapshot, room).map_err(ServeError::Refused)?;
         let record = snapshot.leases.at_start(leases);
         let revised = (record != snapshot.leases).then_some(Change::Leased(record));
         // The epoch, what is known of leases and the room are kept before anything is sent.
         let changes = [Change::Started { epoch }].into_iter().chain(revised);
         let changes: Vec<Change> = changes.chain(at_start.change(&snapshot)).collect();
         store.commit(&changes)?;
+        server.confirm(&changes).map_err(ServeError::Refused)?;
         // No older server grants anything behind that commit, and the clock is read behind it.
         let now = Moment::now().map_err(ServeError::Clock)?;
         let table = LeaseTable::start(record, &snapshot.records, leases, now);

@@ -1,6 +1,6 @@
 //! A server and two clients of the library in one process, whose messages are handed over at once.
 use super::{ClientHandle, Mode, Scan};
-use crate::change::Snapshot;
+use crate::change::{Change, Snapshot};
 use crate::frames::split;
 use crate::handle::ServerHandle;
 use crate::message::client_of;
@@ -48,8 +48,9 @@ impl<S: Scanned> World<S> {
     /// A world in which the scanned client knows all rows.
     pub fn new(scanned: impl FnOnce(ClientHandle) -> S) -> World<S> {
         let rows = (0..ROWS).map(|place| (STEP * place, Value::from(place))).collect();
-        let (server, _) =
+        let (mut server, epoch) =
             ServerHandle::open(&Snapshot { rows, ..Snapshot::default() }, Room::default()).unwrap();
+        server.confirm(&[Change::Started { epoch }]).unwrap();
         let [first, other] = [0, 1].map(|number| ClientHandle::open(number, 1).unwrap());
         let mut world = World { server, scanned: scanned(first), other, frames: Vec::new() };
         world.settle();
@@ -91,7 +92,9 @@ impl<S: Scanned> World<S> {
         self.scanned.change(|client| client.take(&mut self.frames)).unwrap();
         self.other.take(&mut self.frames).unwrap();
         for (message, _) in split(&self.frames) {
-            self.server.step(message).unwrap();
+            if let Some(change) = self.server.step(message).unwrap() {
+                self.server.confirm(&[change]).unwrap();
+            }
         }
     }
 

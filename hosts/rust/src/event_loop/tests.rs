@@ -63,8 +63,9 @@ fn event_loop() -> (EventLoop<Watching>, TcpStream, Arc<Mutex<Vec<usize>>>) {
     peer.set_nonblocking(true).unwrap();
     let heard = Arc::default();
     let mut store = MemoryStore::default();
-    let (server, epoch) = ServerHandle::open(&store.load().unwrap(), Room::default()).unwrap();
+    let (mut server, epoch) = ServerHandle::open(&store.load().unwrap(), Room::default()).unwrap();
     store.commit(&[Change::Started { epoch }]).unwrap();
+    server.confirm(&[Change::Started { epoch }]).unwrap();
     let (batches, is_deposed) = Default::default();
     let (own, shared) = (peer.try_clone().unwrap(), Arc::clone(&heard));
     let store = Watching { store, peer: own, heard: shared, batches, is_deposed };

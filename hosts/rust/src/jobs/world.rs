@@ -1,6 +1,6 @@
 //! A server and two clients of the library, whose messages are handed over one by one.
 use super::{Asking, Jobs};
-use crate::change::{Outcome, Snapshot, Write};
+use crate::change::{Change, Outcome, Snapshot, Write};
 use crate::client_handle::{ClientHandle, Scan};
 use crate::frames::split;
 use crate::handle::ServerHandle;
@@ -23,7 +23,9 @@ pub(crate) fn messages(take: impl FnOnce(&mut Vec<u8>)) -> Vec<Vec<u8>> {
 
 impl World {
     pub fn new() -> World {
-        let (server, _) = ServerHandle::open(&Snapshot::default(), Room::default()).unwrap();
+        let (mut server, epoch) =
+            ServerHandle::open(&Snapshot::default(), Room::default()).unwrap();
+        server.confirm(&[Change::Started { epoch }]).unwrap();
         let clients = [0, 1].map(|number| Jobs::new(ClientHandle::open(number, 1).unwrap()));
         let mut world = World { server, clients };
         let joined = [0, 1].map(|place: usize| world.clients[place].join());
@@ -41,7 +43,9 @@ impl World {
     pub fn tell_server(&mut self, said: &[Vec<u8>]) {
         for message in said {
             // A message that is refused is one that is lost.
-            let _ = self.server.step(message);
+            if let Ok(Some(change)) = self.server.step(message) {
+                self.server.confirm(&[change]).unwrap();
+            }
         }
     }
 

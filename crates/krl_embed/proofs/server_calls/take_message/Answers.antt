@@ -2,7 +2,7 @@ use Rattle.std.proofs.Common.{ap, ◌∙◌}
 use Rattle.krl_embed.specs.declared.reply.Reply.{Reply}
 use Rattle.krl_embed.specs.Replies as replies
 use Rattle.krl_embed.proofs.Acting.{alarmed}
-use Rattle.krl_embed.proofs.server_calls.act.Goals as goal
+use Rattle.krl_embed.proofs.server_calls.take_message.Goals as goal
 
 pub returns-in-Some : goal.returns-in-Some
 returns-in-Some c =
