@@ -7,3 +7,4 @@ pub mod Promised
 pub mod Lasting
 pub mod Evicting
 pub mod Ahead
+pub mod Parts

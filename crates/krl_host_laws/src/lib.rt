@@ -5,7 +5,7 @@
 
 ghost use Rattle.krl_world.specs.Promises.{Headline};
 ghost use Rattle.krl_host_laws.specs.Hosts.{HostWorld, IsReached};
-ghost use Rattle.krl_host_laws.specs.Batches.{JudgesAhead};
+ghost use Rattle.krl_host_laws.specs.Batches.{JudgesAhead, KeepsInParts};
 ghost use Rattle.krl_host_laws.specs.Readers.{ScansLast};
 ghost use Rattle.krl_host_laws.specs.Evictions.{EvictionsAreMoves};
 ghost use Rattle.krl_host_laws.specs.Promises.{BatchesAreWorlds, HoldsAhead, NeverAlarms};
@@ -49,7 +49,9 @@ pub fn never_alarms()
 {}
 
 /// These laws are not empty: an insert is judged in memory that is not on the disk and of which
-/// nobody has learned; and if it is kept, its client learns that it is Applied.
+/// nobody has learned; and if it is kept, its client learns that it is Applied. And of a batch of
+/// three changes two are kept before a crash, and the third never happened.
 pub fn goes_on()
-    ensures { JudgesAhead }
+    ensures ahead { JudgesAhead }
+    ensures parts { KeepsInParts }
 {}
