@@ -5,7 +5,7 @@ host around it, and nothing of it is proved.
 
     import krl
 
-    with krl.join("127.0.0.1:7400", 0, "client-0.lock") as client:
+    with krl.join("127.0.0.1:7400", 0, "/var/lib/app/client-0.lock") as client:
         client.insert(15, b"hello")
         rows = client.read(10, 20)              # asks the server, and keeps the range
         assert client.cached(10, 20) == rows    # no message, also while the server is down

@@ -28,6 +28,10 @@ class Wake:
 
     def __del__(self) -> None:
         # Threads may call as long as they have this: so nobody closes it before.
+        self.close()
+
+    def close(self) -> None:
+        """Ends it: nobody calls any more."""
         self._waits.close()
         self._wakes.close()
 
@@ -41,6 +45,12 @@ class Wake:
             self._wakes.send(b"!")
         except BlockingIOError:
             pass  # So many calls wait already.
+
+    def wait(self, seconds: float) -> None:
+        """Waits for a call, at most so long."""
+        poll = select.poll()
+        poll.register(self, select.POLLIN)
+        poll.poll(seconds * 1000)
 
     def clear(self) -> None:
         """The calls of before were heard."""

@@ -45,6 +45,10 @@ class Outcome(Enum):
     FULL = 5
     """The table has all the rows that its server has room for."""
 
+    def __bool__(self) -> bool:
+        """Whether the table has changed."""
+        return self is Outcome.APPLIED
+
 
 class Row(NamedTuple):
     """A row of the table."""

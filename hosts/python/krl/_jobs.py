@@ -86,6 +86,14 @@ class Jobs:
         self._open.clear()
         self.client.close()
 
+    def end_in_child(self) -> None:
+        """This is a copy in a child process, which has not the thread. Another thread of the parent
+        may have been within a call of the library: so no other one is made, nor is its memory
+        freed."""
+        self.stage = Stage.ENDED
+        self._fault = Stopped("a client does not go over a fork: join in the process that uses it")
+        self._open.clear()
+
     def _ended(self) -> Refused:
         return Closed("the client has left") if self._fault is None else stopped(self._fault)
 
@@ -333,6 +341,8 @@ class Jobs:
 
 def stopped(fault: BaseException) -> Refused:
     """What those are told who wait when the thread has ended by an error."""
+    if isinstance(fault, Stopped):
+        return Stopped(str(fault))
     told = Stopped(f"the client's thread has ended by an error: {fault!r}")
     told.__cause__ = fault
     return told

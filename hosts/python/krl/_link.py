@@ -7,7 +7,6 @@ of the cache waits for one step of the client at most.
 from __future__ import annotations
 
 import logging
-import select
 import threading
 import time
 from collections.abc import Sequence
@@ -23,7 +22,7 @@ from ._job import Asked, Leave
 from ._jobs import Jobs
 from ._lock_file import LockFile
 from ._pacing import Backoff, Epochs, Greeting, Heard, Silence, Silent
-from .errors import LockFileError, Refusal, TimedOut, Unserved
+from .errors import LockFileError, Refusal, Stopped, TimedOut, Unserved
 
 T = TypeVar("T")
 
@@ -49,6 +48,7 @@ class Link:
         self._servers = servers
         self._lock_file = lock_file
         self._wake = Wake()
+        self._connection: Connection | None = None
         self._is_to_end = False
         self._is_deserted = False
         self._farewell: float | None = None
@@ -97,6 +97,16 @@ class Link:
         """Waits until the thread has ended, so many seconds at most."""
         self._thread.join(timeout)
 
+    def end_in_child(self) -> None:
+        """This is a copy in a child process: it ends, and the parent's goes on. What the two share
+        is closed here, so that the parent's end is the end of its connection."""
+        self.lock = threading.Lock()
+        self.jobs.end_in_child()
+        self._wake.close()
+        self._wake = Wake()
+        if self._connection is not None:
+            self._connection.close()
+
     def _timed_out(self) -> TimedOut:
         told = self._refusal
         if told is not None and time.monotonic() - told[1] < _HINT_SECONDS:
@@ -109,6 +119,9 @@ class Link:
         fault: BaseException | None = None
         try:
             self._keep_connected()
+        except Stopped as stopped:
+            fault = stopped
+            LOG.warning("%s", stopped)
         except BaseException as error:
             fault = error
             LOG.exception("the client's thread ends by an error")
@@ -148,7 +161,7 @@ class Link:
         """Waits so long, or until the client ends."""
         end = time.monotonic() + seconds
         while self._runs() and (left := end - time.monotonic()) > 0:
-            select.select([self._wake], [], [], left)
+            self._wake.wait(left)
             self._wake.clear()
 
     def _runs(self) -> bool:
@@ -164,15 +177,17 @@ class Link:
     def _serve(self, connection: Connection, address: Address, is_greeted: bool) -> Heard:
         """Takes what comes on a connection until it ends, and says what it was."""
         heard = Heard()
-        self.fault = None
+        self.fault, self._connection = None, connection
         if is_greeted:
             connection.put(_host_frames.hello(self._seen))
         try:
             self._begin_anew()
-            self._turns(connection, heard, Silence(time.monotonic(), is_greeted))
+            servers = len(self._servers)
+            self._turns(connection, heard, Silence(time.monotonic(), is_greeted, servers))
         except OSError as error:
             self._lose(address, error)
         finally:
+            self._connection = None
             connection.close()
         return heard
 
@@ -195,16 +210,13 @@ class Link:
                 silence.heard(time.monotonic())
                 self._hear_all(connection, heard)
             else:
-                self._look_for_another(connection, silence)
+                self._look_at(silence, connection)
 
-    def _look_for_another(self, connection: Connection, silence: Silence) -> None:
-        """Asks a server that is silent whether it is there, and leaves it if it is not, if there
-        are others."""
-        if len(self._servers) == 1:
-            return
+    def _look_at(self, silence: Silence, connection: Connection) -> None:
+        """Asks a server that is silent whether it is there, and leaves it if it is not."""
         look = silence.look(time.monotonic())
         if look is Silent.LEAVE:
-            raise Ended("the server is silent, and there are others")
+            raise Ended("the server is silent")
         if look is Silent.ASK:
             connection.put(_host_frames.hello(self._seen))
 
@@ -231,10 +243,12 @@ class Link:
 
     def _hear_host(self, frame: bytes, heard: Heard) -> None:
         """Takes what the server's host says beneath the messages. If the store went back, the
-        connection ends with that."""
+        connection ends with that; and if another process is this client, the client does."""
         said = _host_frames.read(frame)
         if isinstance(said, Refusal):
             self._refusal = said, time.monotonic()
+            if said.is_of_a_later(self._lock_file.number, self._lock_file.incarnation):
+                raise Stopped(f"the client has stopped, and its cache is dropped: {said}")
         elif isinstance(said, Mark):
             self._seen = said
         elif said is Kind.WENT_BACK:

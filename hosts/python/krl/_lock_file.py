@@ -8,6 +8,7 @@ from __future__ import annotations
 import fcntl
 import os
 import time
+import weakref
 
 from .errors import LockFileError
 
@@ -26,6 +27,7 @@ class LockFile:
         """
         self._number = number
         self._path = os.fspath(path)
+        self._process = os.getpid()
         try:
             self._file = os.open(self._path, os.O_RDWR | os.O_CREAT | os.O_CLOEXEC, 0o666)
         except OSError as error:
@@ -36,11 +38,17 @@ class LockFile:
         except BaseException:
             os.close(self._file)
             raise
+        _HELD.add(self)
 
     @property
     def number(self) -> int:
         """The client's number."""
         return self._number
+
+    @property
+    def incarnation(self) -> int:
+        """The last incarnation."""
+        return self._last
 
     def renew(self) -> int:
         """Another incarnation, greater than every one before. It is on the disk when this returns.
@@ -60,10 +68,14 @@ class LockFile:
         return self._last
 
     def close(self) -> None:
-        """Gives the number free: another process may take it."""
-        if self._file >= 0:
-            os.close(self._file)
-            self._file = -1
+        """Gives the number free: another process may take it, also if a child process has copies of
+        the descriptor. In a child process the file is only closed: its lock is the parent's."""
+        if self._file < 0:
+            return
+        if os.getpid() == self._process:
+            fcntl.flock(self._file, fcntl.LOCK_UN)
+        os.close(self._file)
+        self._file = -1
 
     def _head(self) -> str:
         return f"krl client {self._number:02} incarnation "
@@ -102,3 +114,16 @@ class LockFile:
             os.fsync(folder)
         finally:
             os.close(folder)
+
+
+_HELD: weakref.WeakSet[LockFile] = weakref.WeakSet()
+"""Those that this process holds, or has copies of."""
+
+
+def _close_in_child() -> None:
+    """A child process that keeps the descriptor would keep the number behind its parent's end."""
+    for file in list(_HELD):
+        file.close()
+
+
+os.register_at_fork(after_in_child=_close_in_child)

@@ -9,8 +9,8 @@ from enum import Enum, auto
 _FIRST = 0.005
 _LONGEST = 1.0
 _PATIENCE = 2
-_ASK = 0.25
-_LEAVE = 1.0
+_ASK_AMONG_SEVERAL, _LEAVE_AMONG_SEVERAL = 0.25, 1.0
+_ASK_ALONE, _LEAVE_ALONE = 1.0, 5.0
 
 
 class Backoff:
@@ -69,7 +69,7 @@ class Greeting:
 
 
 class Silent(Enum):
-    """What to do about a server that is silent, if there are others."""
+    """What to do about a server that is silent."""
 
     NO = auto()
     ASK = auto()
@@ -77,12 +77,16 @@ class Silent(Enum):
 
 
 class Silence:
-    """How long a server has been silent on one connection."""
+    """How long a server has been silent on one connection. A connection to the only server is left
+    later: it may swallow what is said, and another one to the same address be answered."""
 
-    def __init__(self, now: float, is_asked: bool) -> None:
+    def __init__(self, now: float, is_asked: bool, servers: int) -> None:
         self._heard = now
         self._asked = now
         self._is_asked = is_asked
+        self._ask, self._leave = _ASK_ALONE, _LEAVE_ALONE
+        if servers > 1:
+            self._ask, self._leave = _ASK_AMONG_SEVERAL, _LEAVE_AMONG_SEVERAL
 
     def heard(self, now: float) -> None:
         """Something came."""
@@ -91,11 +95,11 @@ class Silence:
     def look(self, now: float) -> Silent:
         """What to do now. A server that was not greeted may not answer, and is not left."""
         silent = now - self._heard
-        if not self._is_asked or silent < _ASK:
+        if not self._is_asked or silent < self._ask:
             return Silent.NO
-        if silent >= _LEAVE:
+        if silent >= self._leave:
             return Silent.LEAVE
-        if now - self._asked < _ASK:
+        if now - self._asked < self._ask:
             return Silent.NO
         self._asked = now
         return Silent.ASK

@@ -66,7 +66,11 @@ class Client:
     At the end of a ``with`` it leaves. One that is collected, or still there when the interpreter
     ends, says Bye too, and waits a second at most until the server has kept that. What a process
     leaves behind that is killed keeps other clients waiting, until a client of its number joins
-    again or it is evicted. A client does not go over a fork: join in the process that uses it.
+    again or it is evicted. A client does not go over a fork: in the child its calls raise
+    ``Stopped``, and ``cached`` answers ``None``. Join in the process that uses it.
+
+    If the server says that another process is the client of this number, or that an operator has
+    evicted this one, it drops its cache, and its calls raise ``Stopped``: join again.
 
     If the server's store went back, since an older copy of it was brought back, the client drops
     its cache as if it had crashed, and joins anew: ``StoreWentBack`` tells who waits just then.
@@ -229,6 +233,16 @@ _LINKS: weakref.WeakSet[Link] = weakref.WeakSet()
 """Those of the clients that have not left."""
 
 
+def _end_in_child() -> None:
+    """A child process has copies of the clients, to which no callback comes: they end there."""
+    for link in list(_LINKS):
+        link.end_in_child()
+    _LINKS.clear()
+
+
+os.register_at_fork(after_in_child=_end_in_child)
+
+
 @atexit.register
 def _say_bye() -> None:
     """The interpreter ends: the clients that are there say Bye."""
@@ -246,8 +260,9 @@ def join(
 
     ``servers`` is an address such as ``127.0.0.1:7400`` or ``unix:/run/krl.sock``, or those of
     servers that stand by over one store, with commas between them. ``lock_file`` is the file of
-    this number on this machine: it keeps a second process off the number. Two machines have to have
-    different numbers. Each call waits ``timeout`` seconds for an answer.
+    this number on this machine: it keeps a second process off the number. Give an absolute path: a
+    relative one is another file in another folder. Two machines have to have different numbers.
+    Each call waits ``timeout`` seconds for an answer.
 
     Raises ``ValueError`` for a number, an address or a timeout that is none; ``LockFileError`` if
     another process has the file, or it can't be used; ``JoinError`` if no answer came in time, with

@@ -50,7 +50,9 @@ class Closed(Refused):
 
 
 class Stopped(Refused):
-    """The client's own thread has ended by an error, which is the cause of this one."""
+    """The client's own thread has ended: by an error, which is the cause of this one; or since
+    another process is this client, or an operator has evicted it; or it is another process's, of
+    which this one is a child. A new client may be joined."""
 
 
 class BadRange(Refused, ValueError):
@@ -98,6 +100,11 @@ class Refusal:
     """The reason's first number: ``docs/WIRE.md`` has the table."""
     second: int
     """The reason's second number."""
+
+    def is_of_a_later(self, client: int, incarnation: int) -> bool:
+        """Whether the server knows this client by a later incarnation than this one."""
+        is_of_client = self.reason is Reason.INCARNATION and self.first == client
+        return is_of_client and self.second > incarnation
 
     def missing(self) -> list[int]:
         """The clients whose reports the server waits for, if that is the reason."""

@@ -7,8 +7,11 @@ from __future__ import annotations
 
 import os
 import shutil
+import signal
+import socket
 import subprocess
 import tempfile
+import threading
 import time
 import unittest
 from collections.abc import Callable
@@ -35,6 +38,78 @@ def until(holds: Callable[[], bool]) -> None:
         if time.monotonic() > end:
             raise AssertionError("it does not come to hold")
         time.sleep(0.005)
+
+
+def in_child(call: Callable[[], object]) -> str:
+    """What a call returns in a child process, by ``repr``; or nothing if it raises or hangs."""
+    reads, writes = os.pipe()
+    child = os.fork()
+    if child == 0:
+        try:
+            signal.alarm(int(PATIENCE))
+            os.write(writes, repr(call()).encode())
+        finally:
+            os._exit(0)
+    os.close(writes)
+    with os.fdopen(reads) as came:
+        said = came.read()
+    os.waitpid(child, 0)
+    return said
+
+
+class Relay:
+    """Stands before a server at a Unix socket. From a moment on the connections that it has swallow
+    what is said, and end nowhere; newer ones pass it on."""
+
+    def __init__(self, folder: Path, server: str) -> None:
+        self.address = f"unix:{folder / 'relay'}"
+        self._server = server.removeprefix("unix:")
+        self._open: list[socket.socket] = []
+        self._swallows: set[socket.socket] = set()
+        self._listener = socket.socket(socket.AF_UNIX)
+        self._listener.bind(str(folder / "relay"))
+        self._listener.listen()
+        threading.Thread(target=self._accept, daemon=True).start()
+
+    def swallow(self) -> None:
+        """The connections of now pass nothing on any more."""
+        self._swallows |= set(self._open)
+
+    def close(self) -> None:
+        """Ends all connections."""
+        self._listener.close()
+        for stream in self._open:
+            try:
+                stream.shutdown(socket.SHUT_RDWR)
+            except OSError:
+                pass  # The peer has gone.
+
+    def _accept(self) -> None:
+        while True:
+            try:
+                near = self._listener.accept()[0]
+            except OSError:
+                return
+            far = socket.socket(socket.AF_UNIX)
+            try:
+                far.connect(self._server)
+            except OSError:
+                near.close()  # The server has not started yet.
+                far.close()
+                continue
+            self._open += [near, far]
+            for one, other in ((near, far), (far, near)):
+                threading.Thread(target=self._pass, args=(one, other), daemon=True).start()
+
+    def _pass(self, one: socket.socket, other: socket.socket) -> None:
+        try:
+            while came := one.recv(1 << 12):
+                if one not in self._swallows:
+                    other.sendall(came)
+        except OSError:
+            pass
+        if one not in self._swallows:
+            other.close()
 
 
 class Served(unittest.TestCase):

@@ -3,6 +3,8 @@
 from __future__ import annotations
 
 import gc
+import os
+import resource
 import socket
 import subprocess
 import sys
@@ -19,7 +21,7 @@ from krl import END, TOP, Outcome, Row
 from krl._host_frames import hello
 from krl._link import LOG
 
-from .serving import PATIENCE, Served, until
+from .serving import PATIENCE, Relay, Served, in_child, until
 
 
 class CallsTest(Served):
@@ -27,6 +29,8 @@ class CallsTest(Served):
         client = self.join(0)
         self.assertEqual(client.insert(15, b"one"), Outcome.APPLIED)
         self.assertEqual(client.insert(15, b"two"), Outcome.EXISTS)
+        self.assertFalse(Outcome.EXISTS or Outcome.ABSENT or Outcome.FULL)
+        self.assertTrue(Outcome.APPLIED)
         self.assertEqual(client.put(15, b"two"), Outcome.APPLIED)
         self.assertEqual(client.put(16, b"two"), Outcome.ABSENT)
         self.assertEqual(client.delete(16), Outcome.ABSENT)
@@ -167,10 +171,80 @@ class ServersTest(Served):
         self.stop()
         # Another store stands for an older one: it lacks all that the clients have seen.
         self.server = self.start("older.db")
-        until(lambda: client.cached(0, 20) is None)
+        until(lambda: client.cached(0, 20) is None and other.cached(0, 5) is None)
         self.assertEqual(client.read(0, 20), [])
         self.assertEqual(client.insert(10, b"2"), Outcome.APPLIED)
         self.assertEqual(other.read(0, 20), [Row(10, b"2")])
+
+
+    def test_a_process_that_was_replaced_answers_nothing(self) -> None:
+        first, other = self.join(0), self.join(1)
+        other.insert(10, b"1")
+        self.assertEqual(first.read(0, 20), [Row(10, b"1")])
+        # Another lock file, as two folders have it, keeps no second process off the number.
+        second = krl.join(self.address, 0, self.folder / "another.lock", PATIENCE)
+        self.addCleanup(self._leave, second)
+        until(lambda: first.cached(0, 20) is None)
+        with self.assertRaisesRegex(krl.Stopped, "another process is that client"):
+            first.read(0, 20)
+        self.assertEqual(other.put(10, b"2"), Outcome.APPLIED)
+        self.assertEqual(second.read(0, 20), [Row(10, b"2")])
+
+    def test_a_connection_that_swallows_is_left(self) -> None:
+        # The relay ends a connection at once while there is no server. Two of those, and the client
+        # takes the server for one that knows no Hello and is not asked.
+        self.join(1)
+        relay = Relay(self.folder, self.address)
+        self.addCleanup(relay.close)
+        with mock.patch.multiple("krl._pacing", _ASK_ALONE=0.1, _LEAVE_ALONE=0.5):
+            client = krl.join(relay.address, 0, self.lock_file(0), PATIENCE)
+            self.addCleanup(self._leave, client)
+            self.assertEqual(client.insert(10, b"1"), Outcome.APPLIED)
+            relay.swallow()
+            self.assertEqual(client.put(10, b"2"), Outcome.APPLIED)
+
+
+class ForkTest(Served):
+    def test_a_client_does_not_go_over_a_fork(self) -> None:
+        client, other = self.join(0), self.join(1)
+        other.insert(10, b"1")
+        self.assertEqual(client.read(0, 20), [Row(10, b"1")])
+
+        def looks() -> list[object]:
+            told: list[object] = [client.cached(0, 20)]
+            calls: list[Callable[[], object]] = [client.epoch, lambda: client.pin(0, 5)]
+            calls += [lambda: client.read(0, 20), lambda: client.put(10, b"3"), client.leave]
+            for call in calls:
+                try:
+                    told.append(call())
+                except krl.Stopped as stopped:
+                    told.append(str(stopped))
+            return told
+
+        told = "a client does not go over a fork: join in the process that uses it"
+        self.assertEqual(in_child(looks), repr([None] + 5 * [told]))
+        self.assertEqual(client.cached(0, 20), [Row(10, b"1")])
+        self.assertEqual(other.put(10, b"2"), Outcome.APPLIED)
+        self.assertEqual(client.read(0, 20), [Row(10, b"2")])
+
+    def test_a_fork_within_a_call_hangs_no_child(self) -> None:
+        client = self.join(0)
+        with client._link.lock:
+            self.assertEqual(in_child(client.cached), "None")
+
+    def test_a_child_says_no_bye(self) -> None:
+        client, other = self.join(0), self.join(1)
+        client.insert(10, b"1")
+        child = os.fork()
+        if child == 0:
+            try:
+                client.__del__()
+                krl.client._say_bye()
+            finally:
+                os._exit(0)
+        os.waitpid(child, 0)
+        self.assertEqual(other.put(10, b"2"), Outcome.APPLIED)
+        self.assertEqual(client.read(0, 20), [Row(10, b"2")])
 
 
 class ConnectingTest(unittest.TestCase):
@@ -197,6 +271,16 @@ class ConnectingTest(unittest.TestCase):
                 with listener.accept()[0] as peer:
                     self.assertEqual(peer.recv(10), hello(None))
                     joins.join()
+
+
+    def test_a_process_with_many_files_connects_again(self) -> None:
+        soft, hard = resource.getrlimit(resource.RLIMIT_NOFILE)
+        resource.setrlimit(resource.RLIMIT_NOFILE, (min(hard, max(soft, 2048)), hard))
+        self.addCleanup(resource.setrlimit, resource.RLIMIT_NOFILE, (soft, hard))
+        for _ in range(1100):
+            self.addCleanup(os.close, os.open(os.devnull, os.O_RDONLY))
+        with self.assertRaisesRegex(krl.JoinError, "did not answer in time: .*No such file"):
+            krl.join(f"unix:{self.folder}/none", 1, self.folder / "lock", 0.5)
 
 
 class LeavingTest(Served):

@@ -2,6 +2,7 @@
 
 from __future__ import annotations
 
+import os
 import tempfile
 import unittest
 from pathlib import Path
@@ -15,6 +16,8 @@ from krl._library import VERSION, fits, spelled
 from krl._lock_file import LockFile
 from krl._pacing import Backoff, Epochs, Greeting, Heard, Silence, Silent
 from krl._pins import Pins
+
+from .serving import in_child
 
 
 class FramesTest(unittest.TestCase):
@@ -64,6 +67,12 @@ class HostFramesTest(unittest.TestCase):
         for frame in (*short, b"\0\x14", b"\0\x11\x05" + bytes(16)):
             self.assertIsNone(read(frame), frame)
 
+    def test_a_later_incarnation_of_ones_own_number_counts(self) -> None:
+        self.assertTrue(Refusal(Reason.INCARNATION, 3, 6).is_of_a_later(3, 5))
+        for other in (Refusal(Reason.INCARNATION, 3, 5), Refusal(Reason.INCARNATION, 4, 6)):
+            self.assertFalse(other.is_of_a_later(3, 5))
+        self.assertFalse(Refusal(Reason.FULL, 3, 6).is_of_a_later(3, 5))
+
     def test_each_reason_is_a_sentence(self) -> None:
         missing = Refusal(Reason.MISSING, 1 << 3 | 1 << 63, 0)
         self.assertEqual(missing.missing(), [3, 63])
@@ -91,6 +100,36 @@ class LockFileTest(unittest.TestCase):
         self.assertEqual([again.renew(), again.renew()], [far + 1, far + 2])
         self.assertEqual(self.path.read_text(), f"krl client 03 incarnation {far + 2:020}\n")
         again.close()
+
+    def test_a_child_neither_keeps_the_number_nor_gives_it_free(self) -> None:
+        held = LockFile(self.path, 3)
+        descriptor = held._file
+
+        def is_closed() -> bool:
+            held.close()
+            try:
+                os.fstat(descriptor)
+            except OSError:
+                return True
+            return False
+
+        self.assertEqual(in_child(is_closed), "True")
+        with self.assertRaisesRegex(LockFileError, "another process is the client"):
+            LockFile(self.path, 3)
+        held.close()
+
+    def test_a_child_closes_the_file_by_itself(self) -> None:
+        held = LockFile(self.path, 3)
+        descriptor = held._file
+        self.assertEqual(in_child(lambda: held._file), "-1")
+        os.fstat(descriptor)
+        held.close()
+
+    def test_a_copy_of_the_descriptor_keeps_no_number(self) -> None:
+        held = LockFile(self.path, 3)
+        self.addCleanup(os.close, os.dup(held._file))
+        held.close()
+        LockFile(self.path, 3).close()
 
     def test_another_file_is_left_alone(self) -> None:
         texts = ("hello\n", "krl client 04 incarnation 00000000000000000001\n", "krl client 03 ")
@@ -132,12 +171,18 @@ class PacingTest(unittest.TestCase):
         self.assertTrue(self.said(host_frame, nothing, nothing, nothing))
 
     def test_a_silent_server_is_asked_and_then_left(self) -> None:
-        silence = Silence(0, is_asked=True)
+        silence = Silence(0, is_asked=True, servers=2)
         silence.heard(5)
         looks = [silence.look(at) for at in (5.2, 5.25, 5.3, 5.5, 6.0)]
         asked = [Silent.NO, Silent.ASK, Silent.NO, Silent.ASK, Silent.LEAVE]
         self.assertEqual(looks, asked)
-        self.assertEqual(Silence(0, is_asked=False).look(5), Silent.NO)
+        self.assertEqual(Silence(0, is_asked=False, servers=2).look(5), Silent.NO)
+
+    def test_a_silent_connection_to_the_only_server_is_left_later(self) -> None:
+        silence = Silence(0, is_asked=True, servers=1)
+        looks = [silence.look(at) for at in (0.9, 1.0, 1.5, 2.0, 4.9, 5.0)]
+        asked = [Silent.NO, Silent.ASK, Silent.NO, Silent.ASK, Silent.ASK, Silent.LEAVE]
+        self.assertEqual(looks, asked)
 
     def test_a_server_of_an_older_epoch_is_left_if_there_are_others(self) -> None:
         epochs = Epochs(2)
@@ -178,13 +223,29 @@ class PinsTest(unittest.TestCase):
 
 class AddressTest(unittest.TestCase):
     def test_addresses_are_read_as_they_are_written(self) -> None:
-        text = "127.0.0.1:1,unix:/a,db2:7400"
+        text = "127.0.0.1:1,unix:/a,plain:db2:7400,[::1]:7400,plain:a-b.c_d.example.:1,localhost:1"
         self.assertEqual(",".join(map(str, addresses_of(text))), text)
         self.assertEqual(Address.of("[::1]:7400"), Address("::1", 7400))
+        self.assertEqual(Address.of("plain:127.3.0.1:1"), Address.of("127.3.0.1:1"))
 
     def test_what_is_none_is_told(self) -> None:
-        for text in ("", ",", "127.0.0.1:1,", "here", ":7400", "unix:", "a:-1", "a:65536", "a:x"):
+        texts = ("", ",", "127.0.0.1:1,", "here", ":7400", "unix:", "a:-1", "a:65536", "a:x")
+        wrong = ("127.0.0.256:7400", "[127.0.0.1]:1", "::1:7400", "plain:unix:/a", "a b:1", "plain:")
+        for text in texts + wrong:
             with self.assertRaisesRegex(ValueError, "is no address of a server: expected"):
+                addresses_of(text)
+
+    def test_another_machine_is_reached_by_plain_tcp_only_if_that_is_said(self) -> None:
+        mapped = "[::ffff:10.0.0.1]:1"
+        for text in ("10.0.0.1:7400", "db1:7400", "0.0.0.0:7400", "[::]:1", mapped):
+            with self.assertRaisesRegex(ValueError, "of another machine, which begins with plain:"):
+                addresses_of(text)
+            self.assertTrue(Address.of(f"plain:{text}").is_beyond_loopback(), text)
+        self.assertFalse(Address.of("[::ffff:127.0.0.1]:1").is_beyond_loopback())
+
+    def test_tls_is_refused_at_once(self) -> None:
+        for text in ("tls:db1:7400", "tls:127.0.0.1:7400"):
+            with self.assertRaisesRegex(ValueError, "TLS, which this client does not have"):
                 addresses_of(text)
 
 
