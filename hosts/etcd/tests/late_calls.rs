@@ -1,10 +1,13 @@
 //! Calls that come late, and starts that cross. They start a node of etcd, and a relay holds calls
 //! of it back.
 mod cluster;
+#[path = "../../postgres/tests/deaf_relay/mod.rs"]
+mod deaf_relay;
 #[path = "../../drive/src/relay.rs"]
 mod relay;
 
 use cluster::Cluster;
+use deaf_relay::DeafRelay;
 use krl::{Change, Outcome, Row, Store, StoreError, Value, Write};
 use krl_etcd::{Credentials, EtcdAddress, EtcdStore};
 use relay::{Holds, Relay};
@@ -104,4 +107,17 @@ fn of_two_starts_that_cross_one_is_made() {
     });
     assert!(is_deposed(&committed), "{committed:?}");
     early.commit(&[put(1, 1)]).unwrap();
+}
+
+#[test]
+fn a_connection_that_is_silent_is_left_for_a_new_one() {
+    let Some(cluster) = Cluster::start() else { return };
+    let direct = cluster.address("silent");
+    let relay = DeafRelay::start(direct.endpoints[0].parse().unwrap());
+    let address = EtcdAddress { endpoints: vec![relay.address().to_string()], ..direct };
+    let mut store = loaded(&address).with_commit_timeout(Duration::from_secs(15));
+    store.commit(&begin()).unwrap();
+    relay.swallow();
+    store.commit(&[put(1, 1)]).unwrap();
+    assert_eq!(value_of(&address), Some(1));
 }

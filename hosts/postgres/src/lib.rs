@@ -10,6 +10,7 @@ mod address;
 mod batch;
 mod head;
 mod link;
+mod security;
 mod sql;
 mod store;
 

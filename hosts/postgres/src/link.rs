@@ -1,17 +1,26 @@
 //! A connection to the database, which is made anew when it ends.
 use crate::batch::Batch;
 use crate::head::Head;
+use crate::security::Tls;
 use crate::sql;
 use std::fmt;
 use std::thread;
 use std::time::{Duration, Instant};
 use tokio::runtime::{Builder, Runtime};
+use tokio::task::JoinHandle;
 use tokio_postgres::error::SqlState;
 use tokio_postgres::types::ToSql;
 use tokio_postgres::{Client, Config, Error, IsolationLevel, NoTls, Row, Statement};
 
 /// The pause before another attempt.
 const PAUSE: Duration = Duration::from_millis(50);
+
+/// So many attempts are made if each one's connection is silent: a connection that the database, or
+/// the network, has lost without a word is left for a new one.
+const ATTEMPTS: u32 = 3;
+
+/// What stands in an error of TLS of which another attempt comes to nothing.
+const REFUSED_BY_TLS: [&str; 2] = ["certificate verify failed", "server does not support TLS"];
 
 /// Why something was not done.
 #[derive(Debug)]
@@ -38,6 +47,7 @@ pub(crate) struct Loaded {
 pub(crate) struct Link {
     runtime: Runtime,
     config: Config,
+    tls: Option<Tls>,
     session: Option<Session>,
 }
 
@@ -46,17 +56,32 @@ struct Session {
     client: Client,
     commit: Statement,
     confirm: Statement,
+    _carrier: Carrier,
+}
+
+/// The task that carries a connection. It ends with this, also if the connection is silent.
+struct Carrier(JoinHandle<()>);
+
+impl Drop for Carrier {
+    fn drop(&mut self) {
+        self.0.abort();
+    }
 }
 
 impl Link {
-    pub fn new(config: Config) -> std::io::Result<Link> {
+    pub fn new(config: Config, tls: Option<Tls>) -> std::io::Result<Link> {
         let runtime = Builder::new_current_thread().enable_all().build()?;
-        Ok(Link { runtime, config, session: None })
+        Ok(Link { runtime, config, tls, session: None })
+    }
+
+    /// Connects, if it has no connection.
+    pub fn connect(&mut self, end: Instant) -> Result<(), Failure> {
+        self.ask(end, async |_: &mut Session| Ok(()))
     }
 
     /// Loads all.
     pub fn load(&mut self, end: Instant) -> Result<Loaded, Failure> {
-        self.again(end, |link| {
+        self.again(end, |link, end| {
             link.ask(end, async |session: &mut Session| load(&mut session.client).await)
         })
     }
@@ -70,14 +95,14 @@ impl Link {
         batch: &Batch,
         end: Instant,
     ) -> Result<Option<Head>, Failure> {
-        self.again(end, |link| {
+        self.again(end, |link, end| {
             link.ask(end, async |session: &mut Session| commit(session, last, next, batch).await)
         })
     }
 
     /// The head as it stands, on every machine that a commit comes to.
     pub fn confirm(&mut self, head: &Head, end: Instant) -> Result<Option<Head>, Failure> {
-        self.again(end, |link| {
+        self.again(end, |link, end| {
             link.ask(end, async |session: &mut Session| confirm(session, head).await)
         })
     }
@@ -91,13 +116,15 @@ impl Link {
     }
 
     /// Does something that may be done more than once, until it is answered or the time is over.
+    /// Each attempt has a part of the time.
     fn again<T>(
         &mut self,
         end: Instant,
-        mut what: impl FnMut(&mut Link) -> Result<T, Failure>,
+        mut what: impl FnMut(&mut Link, Instant) -> Result<T, Failure>,
     ) -> Result<T, Failure> {
+        let attempt = end.saturating_duration_since(Instant::now()) / ATTEMPTS;
         loop {
-            match what(self) {
+            match what(self, end.min(Instant::now() + attempt)) {
                 Err(Failure::Unknown(_)) if Instant::now() + PAUSE < end => thread::sleep(PAUSE),
                 ended => return ended,
             }
@@ -116,7 +143,7 @@ impl Link {
             let asking = async {
                 let mut session = match session {
                     Some(session) => session,
-                    None => connect(&self.config).await?,
+                    None => connect(&self.config, self.tls.as_ref()).await?,
                 };
                 let answer = what(&mut session).await?;
                 Ok::<_, Error>((session, answer))
@@ -135,14 +162,27 @@ impl Link {
 }
 
 /// Connects, and makes the tables, unless they are there.
-async fn connect(config: &Config) -> Result<Session, Error> {
-    let (client, connection) = config.connect(NoTls).await?;
-    tokio::spawn(connection);
+async fn connect(config: &Config, tls: Option<&Tls>) -> Result<Session, Error> {
+    let (client, carrier) = if let Some(tls) = tls {
+        let (client, connection) = config.connect(tls.clone()).await?;
+        (client, Carrier(tokio::spawn(carry(connection))))
+    } else {
+        let (client, connection) = config.connect(NoTls).await?;
+        (client, Carrier(tokio::spawn(carry(connection))))
+    };
     client.batch_execute(sql::SESSION).await?;
-    client.batch_execute(sql::TABLES).await?;
+    let has_tables: bool = client.query_one(sql::HAS_TABLES, &[]).await?.try_get(0)?;
+    if !has_tables {
+        client.batch_execute(sql::TABLES).await?;
+    }
     let (commit, confirm) =
         (client.prepare(sql::COMMIT).await?, client.prepare(sql::CONFIRM).await?);
-    Ok(Session { client, commit, confirm })
+    Ok(Session { client, commit, confirm, _carrier: carrier })
+}
+
+/// Carries a connection until it ends. How it ended, who asks hears.
+async fn carry(connection: impl Future<Output = Result<(), Error>>) {
+    let _ = connection.await;
 }
 
 async fn load(client: &mut Client) -> Result<Loaded, Error> {
@@ -224,7 +264,9 @@ fn columns(head: &Head) -> ([i64; 3], String) {
 impl Failure {
     fn of(error: &Error) -> Failure {
         let Some(told) = error.as_db_error() else {
-            return Failure::Unknown(error.to_string());
+            let why = error.to_string();
+            let is_refused = REFUSED_BY_TLS.iter().any(|sign| why.contains(sign));
+            return if is_refused { Failure::Refused(why) } else { Failure::Unknown(why) };
         };
         let why = format!("{}: {}", told.severity(), told.message());
         if leaves_it_open(told.code()) { Failure::Unknown(why) } else { Failure::Refused(why) }

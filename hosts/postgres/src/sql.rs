@@ -1,5 +1,10 @@
 //! What is asked of the database.
 
+/// Whether all tables are there. Who asks needs no right to make any.
+pub(crate) const HAS_TABLES: &str = "
+    SELECT bool_and(to_regclass('krl.' || name) IS NOT NULL)
+    FROM unnest(ARRAY['head', 'start', 'entry', 'client', 'lease', 'room']) AS name";
+
 /// The tables, unless they are there. Numbers of 64 bits without a sign stand as those with one.
 /// The lock makes one of two servers that start over a new database wait for the other.
 pub(crate) const TABLES: &str = "

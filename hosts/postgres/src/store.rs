@@ -7,12 +7,18 @@ use krl::{
     Change, ClientSet, History, LeaseRecord, Mark, Room, Snapshot, Store, StoreError, Value,
 };
 use std::fmt;
+use std::thread;
 use std::time::{Duration, Instant};
 use tokio_postgres::Row;
 
-/// How long a load goes on to ask, and how long a commit, unless the store is told otherwise.
+/// How long a load goes on to ask, how long a commit by default, and how long what makes a store.
 const LOAD_TIMEOUT: Duration = Duration::from_secs(30);
 const COMMIT_TIMEOUT: Duration = Duration::from_secs(5);
+const CREATE_TIMEOUT: Duration = Duration::from_secs(120);
+
+/// How long one attempt to reach the database takes at most, and the pause before the next one.
+const REACH: Duration = Duration::from_secs(1);
+const REACH_PAUSE: Duration = Duration::from_millis(200);
 
 /// A store in a database of PostgreSQL, in its schema `krl`. Any number of servers may open it: one
 /// of them at a time can commit something, the one that loaded and committed last.
@@ -54,12 +60,13 @@ impl PostgresStore {
     ///
     /// # Errors
     ///
-    /// If this process can open no sockets.
+    /// If a file of the address can't be used, or this process can open no sockets.
     pub fn open(
         address: &PostgresAddress,
         user: Option<&(String, String)>,
     ) -> Result<PostgresStore, StoreError> {
-        let link = Link::new(address.config(user));
+        let tls = address.security().tls().map_err(|why| StoreError::says(&why))?;
+        let link = Link::new(address.config(user), tls);
         Ok(PostgresStore {
             link: link.map_err(|error| StoreError::Failed(error.into()))?,
             commit_timeout: COMMIT_TIMEOUT,
@@ -69,6 +76,23 @@ impl PostgresStore {
             starts: Vec::new(),
             snapshot: Snapshot::default(),
         })
+    }
+
+    /// Connects to the database, and tries again until it answers. Each time that it does not,
+    /// `goes_on` hears why, and answers whether to try again. False if it is not to go on.
+    ///
+    /// # Errors
+    ///
+    /// If the database refuses this user, or what it is asked, or TLS fails by a certificate.
+    pub fn reach(&mut self, mut goes_on: impl FnMut(&str) -> bool) -> Result<bool, StoreError> {
+        loop {
+            match self.link.connect(Instant::now() + REACH) {
+                Ok(()) => return Ok(true),
+                Err(Failure::Unknown(why)) if goes_on(&why) => thread::sleep(REACH_PAUSE),
+                Err(Failure::Unknown(_)) => return Ok(false),
+                Err(refused @ Failure::Refused(_)) => return Err(refused.into()),
+            }
+        }
     }
 
     /// Makes a store of the snapshot in a database that has none, such as of a backup.
@@ -88,7 +112,7 @@ impl PostgresStore {
             return Err(StoreError::says(&why));
         }
         let next = Head { epoch: snapshot.epoch, transaction: 1, commits: 1, ..store.next };
-        store.send(&Batch::of_all(snapshot), next, Instant::now() + LOAD_TIMEOUT)
+        store.send(&Batch::of_all(snapshot), next, Instant::now() + CREATE_TIMEOUT)
     }
 
     /// From now on a commit waits so long for the database.

@@ -76,7 +76,7 @@ fn a_commit_that_comes_behind_another_start_is_not_made() {
     database.wait_for_waiting(1);
     sql.run(START);
     sql.run("COMMIT");
-    database.wait_for_waiting(0);
+    database.wait_for_none_waiting();
     assert_eq!(value_of(&database), None);
 }
 
@@ -105,4 +105,18 @@ fn a_commit_whose_answer_got_lost_is_told_as_unknown_if_the_database_is_gone() {
     database.stop();
     assert!(matches!(lost, Err(StoreError::Unanswered(_))), "{lost:?}");
     assert!(relay.has_lost());
+}
+
+#[test]
+fn a_connection_that_is_silent_is_left_for_a_new_one() {
+    let Some(database) = Database::start() else { return };
+    let relay = DeafRelay::start(database.at());
+    let store = loaded(&address_at(relay.address()));
+    let mut store = store.with_commit_timeout(Duration::from_secs(15));
+    store.commit(&begin()).unwrap();
+    relay.swallow();
+    let before = relay.connections();
+    store.commit(&[put(1, 1)]).unwrap();
+    assert!(relay.connections() > before);
+    assert_eq!(value_of(&database), Some(1));
 }

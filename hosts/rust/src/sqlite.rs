@@ -5,6 +5,7 @@ use crate::lease_record::LeaseRecord;
 use crate::refusal::ClientSet;
 use crate::room::Room;
 use crate::row::{Row, Value};
+use crate::sqlite_copy;
 use crate::sqlite_version::{self, Found};
 use crate::store::{Store, StoreError};
 use rusqlite::{
@@ -76,8 +77,9 @@ impl SqliteStore {
     ///
     /// # Errors
     ///
-    /// If another process has the file open; if it is a database of another program, or a store of
-    /// a version that this program does not know; if SQLite can't read, make or write it.
+    /// If another process has the file open; if it is a database of another program, a file without
+    /// tables, such as a copy that lacks its log, or a store of a version that this program does not
+    /// know; if SQLite can't read, make or write it.
     pub fn open(path: impl AsRef<Path>) -> Result<SqliteStore, StoreError> {
         SqliteStore::open_by(path.as_ref(), "EXCLUSIVE")
     }
@@ -102,11 +104,16 @@ impl SqliteStore {
     }
 
     fn open_by(path: &Path, locking: &str) -> Result<SqliteStore, StoreError> {
+        // SQLite makes one as it looks.
+        let had_log = sqlite_copy::beside(path, "-wal").exists();
         let connection = Connection::open(path)?;
         connection.busy_timeout(TIMEOUT)?;
         connection.pragma_update(None, "locking_mode", locking)?;
         // A file that is no store is left as it is.
         let found = sqlite_version::look(&connection)?;
+        if found == Found::Bare && !had_log {
+            return Err(StoreError::says(sqlite_version::BARE));
+        }
         let mode: String =
             connection.query_row("PRAGMA journal_mode = WAL", [], |row| row.get(0))?;
         if mode != "wal" {

@@ -1,15 +1,17 @@
 //! Stores as files: one that is read, and a new one that is written.
 use crate::change::Snapshot;
 use crate::sqlite::{self, SqliteStore};
-use crate::sqlite_version::{Found, VERSION, look};
+use crate::sqlite_copy::part::Part;
+use crate::sqlite_version::{self, Found, VERSION, look};
 use crate::store::StoreError;
 use rusqlite::{Connection, OpenFlags};
 use std::ffi::OsString;
-use std::fs::{File, OpenOptions};
-use std::io::{self, ErrorKind};
+use std::fs::File;
+use std::io::{self, ErrorKind, Read};
 use std::os::unix::ffi::OsStrExt;
-use std::os::unix::fs::OpenOptionsExt;
 use std::path::{Path, PathBuf};
+
+mod part;
 
 /// What a file has that is only read.
 #[derive(Clone, Debug, PartialEq, Eq)]
@@ -29,15 +31,34 @@ impl SqliteStore {
     pub fn read(path: impl AsRef<Path>) -> Result<StoreFile, StoreError> {
         let connection = open_to_read(path.as_ref())?;
         let version = match look(&connection)? {
-            Found::New => return Err(StoreError::says("the file has no tables: it is no store")),
+            Found::New => return Err(StoreError::says("the file is empty: it is no store")),
+            Found::Bare => return Err(StoreError::says(sqlite_version::BARE)),
             Found::Older(version) => version,
             Found::Current => VERSION,
         };
         Ok(StoreFile { version, snapshot: sqlite::load(&connection)? })
     }
 
+    /// Looks at the first bytes of the file, and opens nothing by SQLite: so it does not matter
+    /// whether a server runs on it.
+    ///
+    /// # Errors
+    ///
+    /// If the file is plainly no store, or can't be read. One that is not there is no error.
+    pub fn judge_first_bytes(path: impl AsRef<Path>) -> Result<(), StoreError> {
+        let mut bytes = Vec::new();
+        match File::open(path.as_ref()) {
+            Ok(file) => file.take(FIRST_BYTES).read_to_end(&mut bytes)?,
+            Err(error) if error.kind() == ErrorKind::NotFound => return Ok(()),
+            Err(error) => return Err(error.into()),
+        };
+        sqlite_version::judge_first_bytes(&bytes).map_err(StoreError::says)
+    }
+
     /// Writes the snapshot as a new store, which only its owner may read and write. When this
     /// returns, the file is on the disk under its name. If it fails there is no file of that name.
+    /// It is written under a name of its own first, next to it; what calls that were cut off have
+    /// left under such a name is removed.
     ///
     /// The new store has no history: to a client that has seen something of another one, it is a
     /// store that went back.
@@ -54,23 +75,27 @@ impl SqliteStore {
                 return Err(exists(&taken));
             }
         }
+        part::remove_leftovers(path);
         let part = Part::new(path)?;
-        write(&part.path, snapshot)?;
-        File::open(&part.path)?.sync_all()?;
-        // A link fails if the name is taken meanwhile, and a rename would replace that file.
-        std::fs::hard_link(&part.path, path).map_err(|error| match error.kind() {
-            ErrorKind::AlreadyExists => exists(path),
-            _ => error.into(),
-        })?;
-        drop(part);
+        write(part.path(), snapshot)?;
+        part.take_name(path)?;
         sync_folder_of(path).map_err(Into::into)
     }
 }
+
+/// So many bytes of a file of SQLite have its application id.
+const FIRST_BYTES: u64 = 100;
 
 /// A store whose server has ended in order has no log, or an empty one. Then SQLite is told that
 /// nobody writes to the file, and leaves no files beside it. A log that has something in it is read
 /// too. A server that runs has one, and keeps others off.
 fn open_to_read(path: &Path) -> Result<Connection, StoreError> {
+    if let Err(error) = path.metadata() {
+        return Err(StoreError::says(&match error.kind() {
+            ErrorKind::NotFound => "there is no such file".to_string(),
+            _ => error.to_string(),
+        }));
+    }
     let flags = OpenFlags::SQLITE_OPEN_READ_ONLY | OpenFlags::SQLITE_OPEN_NO_MUTEX;
     let log = beside(path, "-wal").metadata();
     if log.is_ok_and(|file| file.len() > 0) {
@@ -92,7 +117,7 @@ fn percent_encoded(path: &Path) -> String {
 }
 
 /// The path with something behind it.
-fn beside(path: &Path, end: &str) -> PathBuf {
+pub(crate) fn beside(path: &Path, end: &str) -> PathBuf {
     let mut name = OsString::from(path);
     name.push(end);
     name.into()
@@ -107,26 +132,6 @@ fn write(path: &Path, snapshot: &Snapshot) -> Result<(), StoreError> {
     sqlite::prepare(&connection)?;
     sqlite::save(&mut connection, snapshot)?;
     connection.close().map_err(|(_, error)| error.into())
-}
-
-/// A file that is written under a name of its own. It is gone when this value is.
-struct Part {
-    path: PathBuf,
-}
-
-impl Part {
-    fn new(path: &Path) -> io::Result<Part> {
-        let path = beside(path, &format!(".{}.part", std::process::id()));
-        OpenOptions::new().write(true).create_new(true).mode(0o600).open(&path)?;
-        Ok(Part { path })
-    }
-}
-
-impl Drop for Part {
-    fn drop(&mut self) {
-        // A file that can't be removed is a name too many, and no harm.
-        let _ = std::fs::remove_file(&self.path);
-    }
 }
 
 /// A new name is on the disk only when its folder is synced.
@@ -144,7 +149,7 @@ impl From<io::Error> for StoreError {
 }
 
 #[cfg(test)]
-mod tests {
+pub(crate) mod tests {
     use super::*;
     use crate::change::{Change, Outcome, Record};
     use crate::lease_record::LeaseRecord;
@@ -153,17 +158,17 @@ mod tests {
     use crate::store::Store;
     use std::os::unix::fs::PermissionsExt;
 
-    struct Folder(PathBuf);
+    pub struct Folder(pub PathBuf);
 
     impl Folder {
-        fn new(name: &str) -> Folder {
+        pub fn new(name: &str) -> Folder {
             let folder =
                 std::env::temp_dir().join(format!("krl-copy-{}-{name}", std::process::id()));
             std::fs::create_dir_all(&folder).unwrap();
             Folder(folder)
         }
 
-        fn names(&self) -> Vec<String> {
+        pub fn names(&self) -> Vec<String> {
             let names = std::fs::read_dir(&self.0).unwrap();
             let names = names.map(|it| it.unwrap().file_name().into_string().unwrap());
             let mut names: Vec<_> = names.collect();
@@ -313,5 +318,25 @@ mod tests {
         }
         assert_eq!(std::fs::read(&file).unwrap(), before);
         assert_eq!(folder.names(), ["new.db"]);
+    }
+
+    #[test]
+    fn a_file_without_tables_is_refused_unless_its_first_start_was_cut_off() {
+        let folder = Folder::new("bare");
+        let [file, copy, log] =
+            ["store.db", "copy.db", "copy.db-wal"].map(|name| folder.0.join(name));
+        let store = SqliteStore::open(&file).unwrap();
+        std::fs::copy(&file, &copy).unwrap();
+        drop(store);
+        for _ in 0..2 {
+            let opened = SqliteStore::open(&copy).map(|_| ()).unwrap_err();
+            let read = SqliteStore::read(&copy).map(|_| ()).unwrap_err();
+            for refused in [opened, read] {
+                assert!(refused.to_string().contains("its log is missing"), "{refused}");
+            }
+        }
+        std::fs::write(&log, b"").unwrap();
+        let mut store = SqliteStore::open(&copy).unwrap();
+        assert_eq!(store.load().unwrap(), Snapshot::default());
     }
 }

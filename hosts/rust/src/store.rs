@@ -26,8 +26,9 @@ pub trait Store: Send {
     ///
     /// # Errors
     ///
-    /// `Deposed` if somebody else has committed something: nothing is kept. `Unanswered` if it is
-    /// not known whether they are kept. `Failed` if they are not.
+    /// `Deposed` if somebody else has committed something: from then on nothing is kept. A store of
+    /// several machines may have kept them before, if the answer to its first attempt was lost.
+    /// `Unanswered` if it is not known whether they are kept. `Failed` if they are not.
     fn commit(&mut self, changes: &[Change]) -> Result<(), StoreError>;
 
     /// All that this value has loaded and committed, for a copy. What it commits rests on that as

@@ -131,7 +131,8 @@ the epoch is 4294967296 greater than in the backup, so that no client has seen i
         /// The backup. It is only read, and no server may run on it
         file: PathBuf,
         /// The new store: a file, a place in a cluster as <etcd://10.0.0.1:2379/krl/orders>, or a
-        /// database as <postgres://krl@10.0.0.1/orders>. What exists is never replaced
+        /// database as <postgres://krl@10.0.0.1/orders?sslmode=verify-full>. What exists is never
+        /// replaced
         #[arg(long, value_name = "NEW", value_parser = StorePlace::parse)]
         store: StorePlace,
         /// Every client's process has ended
@@ -258,7 +259,8 @@ pub struct ServeOptions {
     pub access: AccessOptions,
     /// What keeps the table: a file of SQLite, which is made if there is none; or a cluster, as
     /// etcd://10.0.0.1:2379,10.0.0.2:2379/krl/orders, over which several servers may run: one
-    /// serves, and the others stand by; or a database, as <postgres://krl@10.0.0.1/orders>
+    /// serves, and the others stand by; or a database, as
+    /// <postgres://krl@10.0.0.1/orders?sslmode=verify-full>
     #[arg(long, env = "KRL_STORE", value_name = "STORE")]
     pub store: Option<String>,
     /// The certificate of the authority that certified the cluster's nodes, as PEM

@@ -4,6 +4,8 @@ use std::fmt;
 use std::fs::{File, OpenOptions, TryLockError};
 use std::io::{self, Read, Seek, SeekFrom, Write};
 use std::path::{Path, PathBuf};
+use std::thread;
+use std::time::{Duration, Instant};
 
 /// The right to serve a store. Another process may take it when this value is gone, or the process
 /// is. The file stays, and says who served last.
@@ -21,6 +23,9 @@ pub enum NotOwned {
     File { path: PathBuf, error: io::Error },
 }
 
+/// How long a server waits for who only looks whether the store is served.
+const LOOKS: Duration = Duration::from_millis(100);
+
 /// The longest line that is read from the file.
 const MAX_LINE: u64 = 1000;
 
@@ -32,7 +37,7 @@ impl Owner {
         let mut options = OpenOptions::new();
         options.read(true).write(true).create(true).truncate(false);
         let mut file = options.open(&path).map_err(fails)?;
-        match file.try_lock() {
+        match lock_within(&file, LOOKS) {
             Ok(()) => {}
             Err(TryLockError::WouldBlock) => {
                 let store = store.to_path_buf();
@@ -42,6 +47,19 @@ impl Owner {
         }
         note(&mut file, address).map_err(fails)?;
         Ok(Owner { _file: file })
+    }
+}
+
+/// Locks the file. Another process may have it for a moment: one that looks who serves.
+fn lock_within(file: &File, patience: Duration) -> Result<(), TryLockError> {
+    let end = Instant::now() + patience;
+    loop {
+        match file.try_lock() {
+            Err(TryLockError::WouldBlock) if Instant::now() < end => {
+                thread::sleep(patience / 20);
+            }
+            ended => return ended,
+        }
     }
 }
 
@@ -111,5 +129,19 @@ mod tests {
         let line = std::fs::read_to_string(path_of(&store)).unwrap();
         assert_eq!(line, format!("process {}, at x\n", std::process::id()));
         assert!(Owner::take(&folder.path().join("none/krl.db"), &"x").is_err());
+    }
+
+    #[test]
+    fn who_only_looks_is_waited_for() {
+        let folder = tempfile::tempdir().unwrap();
+        let path = folder.path().join("krl.db.lock");
+        let (file, looks) = (File::create(&path).unwrap(), File::open(&path).unwrap());
+        looks.lock_shared().unwrap();
+        assert!(matches!(file.try_lock(), Err(TryLockError::WouldBlock)));
+        thread::scope(|scope| {
+            let locked = scope.spawn(|| lock_within(&file, Duration::from_secs(60)));
+            looks.unlock().unwrap();
+            locked.join().unwrap().unwrap();
+        });
     }
 }

@@ -5,8 +5,8 @@ use crate::owner::Owner;
 use crate::role::Role;
 use crate::settings::{Settings, StatusAddress, StorePlace};
 use crate::{reload, stand_by, status_port};
-use krl::{Access, Listener, ServeError, Server, SqliteStore, Store};
-use krl_postgres::PostgresStore;
+use krl::{Access, Listener, Seldom, ServeError, Server, SqliteStore, Store, StoreError};
+use krl_postgres::{PostgresAddress, PostgresStore};
 use sd_notify::NotifyState;
 use signal_hook::consts::{SIGINT, SIGTERM};
 use signal_hook::flag::{register, register_conditional_shutdown};
@@ -19,7 +19,7 @@ use std::process::ExitCode;
 use std::sync::Arc;
 use std::sync::atomic::{AtomicBool, AtomicUsize, Ordering};
 use std::thread;
-use std::time::Duration;
+use std::time::{Duration, Instant};
 
 /// How often the server is asked whether it still runs, and whether it is to stop.
 const LOOK: Duration = Duration::from_millis(20);
@@ -69,8 +69,7 @@ fn run(settings: &Settings) -> Result<(), Box<dyn Error>> {
         StorePlace::File(path) => serve_file(settings, path, &access, &signal, &role)?,
         StorePlace::Etcd(address) => stand_by::run(settings, address, &access, &signal, &role)?,
         StorePlace::Postgres(address) => {
-            let store = PostgresStore::open(address, stand_by::user().as_ref())?;
-            serve_store(settings, store, &access, &signal, &role)?;
+            serve_database(settings, address, &access, &signal, &role)?;
         }
     }
     if let Some(signal) = signal.name() {
@@ -87,11 +86,46 @@ fn serve_file(
     signal: &Signal,
     role: &Role,
 ) -> Result<(), Box<dyn Error>> {
-    let _owner = Owner::take(path, &settings.listen.value)?;
-    let store = SqliteStore::open(path).map_err(|error| {
+    let fails = |error: StoreError| {
         format!("the store {} can't be opened: {}", path.display(), cause(&error))
-    })?;
+    };
+    // Next to a file of another program no lock file is left.
+    SqliteStore::judge_first_bytes(path).map_err(fails)?;
+    let _owner = Owner::take(path, &settings.listen.value)?;
+    let store = SqliteStore::open(path).map_err(fails)?;
     serve_store(settings, store, access, signal, role)
+}
+
+/// Serves what a database has, once it answers.
+fn serve_database(
+    settings: &Settings,
+    address: &PostgresAddress,
+    access: &Access,
+    signal: &Signal,
+    role: &Role,
+) -> Result<(), Box<dyn Error>> {
+    let mut store = PostgresStore::open(address, stand_by::user().as_ref())?;
+    let mut unanswered = Unanswered::default();
+    let answers = store.reach(|why| {
+        unanswered.tell(why);
+        signal.name().is_none()
+    })?;
+    if answers {
+        serve_store(settings, store, access, signal, role)?;
+    }
+    Ok(())
+}
+
+/// Tells the log now and then that the store does not answer.
+#[derive(Debug, Default)]
+pub struct Unanswered(Seldom);
+
+impl Unanswered {
+    pub fn tell(&mut self, why: &str) {
+        if let Some(passed_over) = self.0.lets(Instant::now()) {
+            tracing::warn!(%why, passed_over, "the store does not answer");
+        }
+    }
 }
 
 /// Serves what a store has, until a signal comes. Nothing stands by: who loses the store ends.

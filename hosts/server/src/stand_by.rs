@@ -1,12 +1,12 @@
 //! Servers over a cluster: one serves, and the others stand by.
 use crate::role::Role;
-use crate::serve::{self, Ended, HasFailed, Signal};
+use crate::serve::{self, Ended, HasFailed, Signal, Unanswered};
 use crate::settings::{Key, Settings, key};
-use krl::{Access, Listener, Seldom, ServeError, Store, StoreError};
+use krl::{Access, Listener, ServeError, Store, StoreError};
 use krl_etcd::{Credentials, Election, EtcdAddress, EtcdStore, Standing, Term};
 use std::error::Error;
 use std::path::PathBuf;
-use std::time::{Duration, Instant};
+use std::time::Duration;
 
 /// Stands by, serves, and stands by again, until a signal comes.
 pub fn run(
@@ -21,7 +21,7 @@ pub fn run(
     let lease = settings.election_lease.value.duration();
     let election =
         Election::new(address.clone(), credentials.clone(), &advertised.to_string(), lease)?;
-    let mut unanswered = Seldom::default();
+    let mut unanswered = Unanswered::default();
     loop {
         let mut hears = |standing: Standing<'_>| hear(standing, role, signal, &mut unanswered);
         let Some(term) = election.campaign(&mut hears)? else { return Ok(()) };
@@ -41,14 +41,10 @@ pub fn run(
 }
 
 /// Tells who serves, once, or why nobody knows, now and then; and answers whether to go on.
-fn hear(standing: Standing<'_>, role: &Role, signal: &Signal, unanswered: &mut Seldom) -> bool {
+fn hear(standing: Standing<'_>, role: &Role, signal: &Signal, unanswered: &mut Unanswered) -> bool {
     match standing {
         Standing::StandsBy(leader) if role.stands_by(leader) => serve::stands_by(leader),
-        Standing::Unanswered(why) => {
-            if let Some(passed_over) = unanswered.lets(Instant::now()) {
-                tracing::warn!(%why, passed_over, "the store does not answer");
-            }
-        }
+        Standing::Unanswered(why) => unanswered.tell(why),
         _ => {}
     }
     signal.name().is_none()

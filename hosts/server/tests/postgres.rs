@@ -8,7 +8,9 @@ mod ports;
 use common::{Serving, errors, join, program, run, text};
 use database::Database;
 use krl::{Outcome, Value};
-use std::process::Command;
+use std::io::{BufRead, BufReader};
+use std::process::{Command, Stdio};
+use std::thread;
 
 /// The words of a server over this database.
 fn over(database: &Database) -> Command {
@@ -71,6 +73,49 @@ fn a_backup_becomes_a_store_in_a_database() {
     let client = serving.join(folder.path(), 5);
     assert_eq!(client.read(0..10).unwrap()[0].value, Value::from(7));
     client.leave().unwrap();
+}
+
+/// It is told at once, and a signal is heeded at once.
+#[test]
+fn a_database_that_is_away_is_waited_for_until_a_signal_comes() {
+    let store = format!("postgres://krl@{}/x", ports::free_address().unwrap());
+    let words = ["serve", "--store", &store, "--listen", "127.0.0.1:0", "--status", "off"];
+    let mut command = program();
+    command.args(words).args(["--log-format", "json"]).stderr(Stdio::piped());
+    let mut process = command.spawn().unwrap();
+    let mut lines = BufReader::new(process.stderr.take().unwrap()).lines();
+    let told = lines.find(|line| line.as_ref().unwrap().contains("the store does not answer"));
+    assert!(told.unwrap().unwrap().contains("\"level\":\"WARN\""));
+    let status = Command::new("kill").args(["-TERM", &process.id().to_string()]).status();
+    assert!(status.unwrap().success());
+    assert_eq!(process.wait().unwrap().code(), Some(0));
+    let last = lines.last().unwrap().unwrap();
+    assert!(last.contains("\"stopped\""), "{last}");
+}
+
+#[test]
+fn a_server_waits_for_its_database_as_it_starts() {
+    let Some(mut database) = Database::start() else { return };
+    database.stop();
+    let mut command = over(&database);
+    let serving = thread::scope(|scope| {
+        let serving = scope.spawn(|| Serving::start_by(&mut command));
+        database.start_again();
+        serving.join().unwrap()
+    });
+    serving.signal(&["TERM"]);
+    assert_eq!(serving.ended().status.code(), Some(0));
+}
+
+#[test]
+fn a_plain_connection_over_a_network_has_to_be_asked_for() {
+    let refused = run(&["config", "--store", "postgres://krl@10.0.0.1/krl"]);
+    assert_eq!(refused.status.code(), Some(2), "{}", errors(&refused));
+    assert!(errors(&refused).contains("sslmode=verify-full"), "{}", errors(&refused));
+    for mode in ["disable", "verify-full"] {
+        let place = format!("postgres://krl@10.0.0.1/krl?sslmode={mode}");
+        assert!(run(&["config", "--store", &place]).status.success());
+    }
 }
 
 #[test]

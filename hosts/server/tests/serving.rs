@@ -360,10 +360,40 @@ fn what_is_no_store_is_told() {
         assert_eq!((output.status.code(), text(&output).as_str()), (Some(1), ""));
         assert!(errors(&output).contains(name));
     }
+    assert!(errors(&run(&["check", "none.db"])).contains("there is no such file"));
     let words = ["serve", "--listen", "127.0.0.1:0", "--status", "off", "--store"];
     let output = program().args(words).arg(&file).output().unwrap();
     assert_eq!(output.status.code(), Some(1));
-    assert!(errors(&output).contains("not a database"), "{}", errors(&output));
+    assert!(errors(&output).contains("no database of SQLite"), "{}", errors(&output));
+    assert!(!folder.path().join("text.lock").exists(), "it is left as it was");
+}
+
+#[test]
+fn a_copy_that_lacks_its_log_is_refused() {
+    let folder = tempfile::tempdir().unwrap();
+    let [store, copy] = ["store.db", "copy.db"].map(|name| folder.path().join(name));
+    let serving = Serving::start(&store);
+    let client = serving.join(folder.path(), 3);
+    assert_eq!(client.insert(1, Value::from(1)), Ok(Outcome::Applied));
+    std::fs::copy(&store, &copy).unwrap();
+    assert!(copy.metadata().unwrap().len() > 0);
+    let listen = ["--listen", "127.0.0.1:0", "--status", "off", "--store"];
+    let name = copy.to_str().unwrap();
+    for words in [&["check"][..], &[&["serve"], &listen[..]].concat()] {
+        let output = run(&[words, &[name]].concat());
+        assert_eq!(output.status.code(), Some(1));
+        assert!(errors(&output).contains("its log is missing"), "{}", errors(&output));
+    }
+    client.leave().unwrap();
+}
+
+#[test]
+fn a_store_of_an_unknown_kind_is_a_wrong_word() {
+    for words in [&["serve", "--store", "mysql://x"][..], &["config", "--store", "mysql://x"]] {
+        let output = run(words);
+        assert_eq!(output.status.code(), Some(2), "{}", errors(&output));
+        assert!(errors(&output).contains("or etcd://"), "{}", errors(&output));
+    }
 }
 
 #[test]

@@ -233,3 +233,38 @@ fn what_no_server_commits_is_not_loaded() {
         loaded(&database);
     }
 }
+
+#[test]
+fn a_user_who_may_make_no_tables_serves_from_those_that_are_there() {
+    let Some(database) = Database::start() else { return };
+    let sql = database.connect();
+    sql.run("CREATE ROLE worker LOGIN");
+    let worker = ("worker".to_string(), String::new());
+    let open = || PostgresStore::open(&database.address(), Some(&worker)).unwrap();
+    let error = open().load().unwrap_err().to_string();
+    assert!(error.contains("permission denied"), "{error}");
+    loaded(&database).0.commit(&[Change::Started { epoch: 1 }, REGISTER]).unwrap();
+    sql.run("GRANT USAGE ON SCHEMA krl TO worker");
+    sql.run("GRANT SELECT, INSERT, UPDATE, DELETE ON ALL TABLES IN SCHEMA krl TO worker");
+    let mut store = open();
+    store.load().unwrap();
+    store.commit(&[Change::Started { epoch: 2 }, put(1, 1), Change::Room(Room::MAX)]).unwrap();
+    assert_eq!(value(&database), Some(1.into()));
+}
+
+#[test]
+fn a_database_that_is_away_is_waited_for_until_it_is_not_to_be() {
+    let Some(mut database) = Database::start() else { return };
+    let mut store = PostgresStore::open(&database.address(), None).unwrap();
+    assert!(store.reach(|_| panic!("it answers")).unwrap());
+    database.stop();
+    let mut store = PostgresStore::open(&database.address(), None).unwrap();
+    let mut told = 0;
+    let goes_on = |why: &str| {
+        assert!(why.contains("connect"), "{why}");
+        told += 1;
+        told < 3
+    };
+    assert!(!store.reach(goes_on).unwrap());
+    assert_eq!(told, 3);
+}

@@ -22,6 +22,9 @@ pub struct Database {
     at: SocketAddr,
 }
 
+/// How many statements wait for a lock.
+const WAITING: &str = "SELECT count(*) FROM pg_stat_activity WHERE wait_event_type = 'Lock'";
+
 static COUNT: AtomicU32 = AtomicU32::new(0);
 
 impl Database {
@@ -41,6 +44,13 @@ impl Database {
         Some(started.expect("PostgreSQL ends again and again"))
     }
 
+    /// Starts the server again that was stopped, at the same address and with its data.
+    pub fn start_again(&mut self) {
+        let programs = programs().expect("it was there");
+        let mut command = server(&programs, &self.folder.join("data"), self.at);
+        self.server = command.spawn().unwrap();
+    }
+
     fn start_once(programs: &Path, settings: &[&str]) -> Option<Database> {
         let count = COUNT.fetch_add(1, Ordering::Relaxed);
         let name = format!("krl-postgres-{}-{count}", std::process::id());
@@ -56,11 +66,9 @@ impl Database {
         init.args(["--no-sync", "--encoding", "UTF8", "--locale", "C"]);
         assert!(init.stdout(Stdio::null()).stderr(Stdio::null()).status().unwrap().success());
         let at = ports::free_address().unwrap();
-        let mut command = program(&programs.join("postgres"));
-        command.arg("-D").arg(&data).args(["-h", "127.0.0.1", "-k", ""]);
-        command.args(["-p", &at.port().to_string()]);
+        let mut command = server(programs, &data, at);
         command.args(settings.iter().flat_map(|setting| ["-c", setting]));
-        let server = command.stdout(Stdio::null()).stderr(Stdio::null()).spawn().unwrap();
+        let server = command.spawn().unwrap();
         Database { server, folder, at }.answers()
     }
 
@@ -88,6 +96,20 @@ impl Database {
         address_at(self.at)
     }
 
+    /// A file of the server with these bytes, which it alone may read, for a setting.
+    pub fn file(name: &str, bytes: &[u8]) -> String {
+        let count = COUNT.fetch_add(1, Ordering::Relaxed);
+        let name = format!("krl-postgres-{}-{count}-{name}", std::process::id());
+        let path = std::env::temp_dir().join(name);
+        std::fs::write(&path, bytes).unwrap();
+        let path = path.into_os_string().into_string().unwrap();
+        assert!(Command::new("chmod").args(["600", &path]).status().unwrap().success());
+        if is_root() {
+            assert!(Command::new("chown").args([USER, &path]).status().unwrap().success());
+        }
+        path
+    }
+
     /// The server's own address, for a relay to it.
     pub fn at(&self) -> SocketAddr {
         self.at
@@ -103,10 +125,14 @@ impl Database {
         Sql { client, runtime }
     }
 
-    /// Waits until so many statements wait for a lock.
+    /// Waits until so many statements wait for a lock, or more.
     pub fn wait_for_waiting(&self, count: i64) {
-        let asked = "SELECT count(*) FROM pg_stat_activity WHERE wait_event_type = 'Lock'";
-        self.connect().wait_until(asked, count);
+        self.connect().wait_until(WAITING, |found| found >= count);
+    }
+
+    /// Waits until no statement waits for a lock.
+    pub fn wait_for_none_waiting(&self) {
+        self.connect().wait_until(WAITING, |found| found == 0);
     }
 
     /// Ends the server as an operator does, and waits until it has ended.
@@ -149,12 +175,12 @@ impl Sql {
         self.runtime.block_on(self.client.batch_execute(statements)).unwrap();
     }
 
-    /// Asks again and again until the one number of the answer is this one.
-    pub fn wait_until(&self, asked: &str, expected: i64) {
+    /// Asks again and again until the one number of the answer is as it should be.
+    pub fn wait_until(&self, asked: &str, is_expected: impl Fn(i64) -> bool) {
         let end = Instant::now() + Duration::from_secs(60);
         loop {
             let row = self.runtime.block_on(self.client.query_one(asked, &[])).unwrap();
-            if row.get::<_, i64>(0) == expected {
+            if is_expected(row.get::<_, i64>(0)) {
                 return;
             }
             assert!(Instant::now() < end, "{asked}: {row:?}");
@@ -166,6 +192,15 @@ impl Sql {
 /// The table of the server that is reached there.
 pub fn address_at(at: SocketAddr) -> PostgresAddress {
     format!("postgres://krl@{at}/postgres").parse().unwrap()
+}
+
+/// The server of these data, at this address.
+fn server(programs: &Path, data: &Path, at: SocketAddr) -> Command {
+    let mut command = program(&programs.join("postgres"));
+    command.arg("-D").arg(data).args(["-h", "127.0.0.1", "-k", ""]);
+    command.args(["-p", &at.port().to_string()]);
+    command.stdout(Stdio::null()).stderr(Stdio::null());
+    command
 }
 
 /// The folder of the newest version's programs.

@@ -1,8 +1,9 @@
-//! A relay to the database, which can lose what the database answers.
+//! A relay to a database, which can lose what the database answers, or swallow what comes.
+#![allow(dead_code, reason = "each test uses a part of it")]
 use std::io::{Read, Write};
 use std::net::{Ipv4Addr, Shutdown, SocketAddr, TcpListener, TcpStream};
 use std::sync::Arc;
-use std::sync::atomic::{AtomicBool, AtomicU8, Ordering};
+use std::sync::atomic::{AtomicBool, AtomicU8, AtomicUsize, Ordering};
 use std::thread;
 
 const KEEPS: u8 = 0;
@@ -14,6 +15,10 @@ const LOSES_ALL: u8 = 2;
 struct Shared {
     loses: AtomicU8,
     has_lost: AtomicBool,
+    /// How many connections were made.
+    count: AtomicUsize,
+    /// So many of them, the first ones, swallow what comes.
+    swallow: AtomicUsize,
 }
 
 /// A relay. It ends with the process.
@@ -54,9 +59,30 @@ impl DeafRelay {
     pub fn has_lost(&self) -> bool {
         self.shared.has_lost.load(Ordering::SeqCst)
     }
+
+    /// The connections that there are stay, and pass on nothing any more. New ones pass.
+    pub fn swallow(&self) {
+        self.shared.swallow.store(self.connections(), Ordering::SeqCst);
+    }
+
+    /// How many connections were made.
+    pub fn connections(&self) -> usize {
+        self.shared.count.load(Ordering::SeqCst)
+    }
 }
 
 impl Shared {
+    /// What becomes of bytes of this connection, which are an answer or a question.
+    fn fate(&self, number: usize, is_answer: bool) -> Fate {
+        if number < self.swallow.load(Ordering::SeqCst) {
+            Fate::Swallowed
+        } else if is_answer && self.loses_this() {
+            Fate::Lost
+        } else {
+            Fate::Passes
+        }
+    }
+
     /// Whether an answer that came just now gets lost.
     fn loses_this(&self) -> bool {
         let next =
@@ -70,18 +96,31 @@ impl Shared {
 /// Passes on what either side sends, until one ends.
 fn join(client: TcpStream, server: TcpStream, shared: &Arc<Shared>) {
     let (asks, answers) = (client.try_clone().unwrap(), server.try_clone().unwrap());
-    let shared = Arc::clone(shared);
-    thread::spawn(move || pass(asks, server, || false));
-    thread::spawn(move || pass(answers, client, || shared.loses_this()));
+    let number = shared.count.fetch_add(1, Ordering::SeqCst);
+    let (of_asks, of_answers) = (Arc::clone(shared), Arc::clone(shared));
+    thread::spawn(move || pass(asks, server, || of_asks.fate(number, false)));
+    thread::spawn(move || pass(answers, client, || of_answers.fate(number, true)));
+}
+
+/// What becomes of bytes that came.
+enum Fate {
+    Passes,
+    Swallowed,
+    Lost,
 }
 
 /// Passes bytes on until there are no more, or some get lost. Both connections end then.
-fn pass(mut from: TcpStream, mut to: TcpStream, loses: impl Fn() -> bool) {
+fn pass(mut from: TcpStream, mut to: TcpStream, fate: impl Fn() -> Fate) {
     let mut bytes = [0; 16 * 1024];
     loop {
         let count = from.read(&mut bytes).unwrap_or(0);
-        if count == 0 || loses() || to.write_all(&bytes[..count]).is_err() {
+        if count == 0 {
             break;
+        }
+        match fate() {
+            Fate::Swallowed => {}
+            Fate::Passes if to.write_all(&bytes[..count]).is_ok() => {}
+            Fate::Passes | Fate::Lost => break,
         }
     }
     // One of them may have ended already.

@@ -74,7 +74,8 @@ pub const STORE: Key = Key {
     id: "store",
     default: "krl.db",
     expected: "the path of a file; or etcd:// (etcds:// for TLS), endpoints and a prefix; or \
-               postgres://, a host and a database, without a password",
+               postgres://, a host and a database, without a password, and with \
+               ?sslmode=verify-full, verify-ca, require or disable unless the host is this machine",
 };
 pub const STATUS: Key = Key {
     name: "status",

@@ -102,6 +102,7 @@ pub fn parse_store(text: &str) -> Option<StorePlace> {
     match text.split_once("://") {
         Some(("etcd" | "etcds", _)) => text.parse().ok().map(StorePlace::Etcd),
         Some(("postgres" | "postgresql", _)) => text.parse().ok().map(StorePlace::Postgres),
+        Some((scheme, _)) if scheme.bytes().all(|byte| byte.is_ascii_alphanumeric()) => None,
         _ => (!text.is_empty()).then(|| StorePlace::File(text.into())),
     }
 }
