@@ -33,6 +33,9 @@ const FEWEST_KEYS: usize = 64;
 const LOAD_TIMEOUT: Duration = Duration::from_secs(30);
 const COMMIT_TIMEOUT: Duration = Duration::from_secs(5);
 
+/// How much longer a call may take in all, on a busy machine.
+const LAST_ATTEMPT: Duration = Duration::from_secs(5);
+
 /// A store in etcd, which keeps it on several machines. Any number of servers may open it: one of
 /// them at a time can commit something, the one that loaded and committed last.
 ///
@@ -372,6 +375,10 @@ impl Store for EtcdStore {
         let heads = self.table.starts.iter().map(|(_, head)| *head).chain(self.head);
         let marks = heads.map(|head| Mark { start: head.owner, commits: head.commits });
         Ok(History::new(marks.collect()))
+    }
+
+    fn longest_wait(&self) -> Duration {
+        self.commit_timeout + LAST_ATTEMPT
     }
 }
 

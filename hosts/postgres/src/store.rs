@@ -20,6 +20,9 @@ const CREATE_TIMEOUT: Duration = Duration::from_secs(120);
 const REACH: Duration = Duration::from_secs(1);
 const REACH_PAUSE: Duration = Duration::from_millis(200);
 
+/// How much longer a call may take in all, on a busy machine.
+const LAST_ATTEMPT: Duration = Duration::from_secs(5);
+
 /// A store in a database of PostgreSQL, in its schema `krl`. Any number of servers may open it: one
 /// of them at a time can commit something, the one that loaded and committed last.
 ///
@@ -217,6 +220,10 @@ impl Store for PostgresStore {
         let Head { owner, commits, .. } = self.head;
         let last = (owner != 0).then_some(Mark { start: owner, commits });
         Ok(History::new(self.starts.iter().copied().chain(last).collect()))
+    }
+
+    fn longest_wait(&self) -> Duration {
+        self.commit_timeout + LAST_ATTEMPT
     }
 }
 

@@ -1,7 +1,8 @@
 //! One connection of a server: what has come on it, what its peer is told, and what waits to be
 //! written.
 use crate::access::Entry;
-use crate::frames::{Frames, GULP};
+use crate::connections::closing::CloseReason;
+use crate::frames::{Frames, GULP, HEAD};
 use crate::history::Mark;
 use crate::host_frame::FromServer;
 use crate::identity::Identity;
@@ -50,14 +51,20 @@ enum Unread {
 }
 
 /// What a look at a connection found.
-#[derive(Clone, Copy, Debug, PartialEq, Eq)]
+#[derive(Clone, Debug, PartialEq, Eq)]
 pub(crate) enum Looked {
     /// A frame has come whole.
     Frame,
     /// No frame has come whole yet.
     NoFrame,
-    /// It has ended, or says what no client says.
+    /// A long frame begins, and has to be admitted by its head.
+    Long([u8; HEAD]),
+    /// It has ended.
     Ended,
+    /// It begins a frame that is longer than any message.
+    TooLong,
+    /// The hand-shake of TLS failed, for this reason.
+    NotShaken(String),
 }
 
 /// A connection that is open. Nothing that is done with it waits.
@@ -76,10 +83,12 @@ pub(crate) struct Connection {
     told: Vec<u8>,
     /// None if the peer has not said that it takes host frames.
     host: Option<Host>,
-    /// Nothing more is heard of it, and what waits is the last that is written.
-    is_ended: bool,
+    /// Why nothing more is heard of it: then what waits is the last that is written.
+    ends_for: Option<CloseReason>,
     /// Its client takes the server for what it serves.
     is_let_in: bool,
+    /// The client whose report comes, if one comes that is long.
+    reporter: Option<u8>,
 }
 
 impl Connection {
@@ -102,8 +111,9 @@ impl Connection {
             batch: Batch::NotBegun,
             told: Vec::new(),
             host: None,
-            is_ended: false,
+            ends_for: None,
             is_let_in: false,
+            reporter: None,
         })
     }
 
@@ -122,24 +132,39 @@ impl Connection {
 
     /// Whether a look may find something.
     pub fn is_ready(&self) -> bool {
-        !self.is_ended && (self.unread != Unread::Nothing || !self.incoming.needs_more())
+        self.ends_for.is_none() && (self.unread != Unread::Nothing || !self.incoming.needs_more())
     }
 
     /// Sees whether a frame has come whole, and reads once if none has.
     pub fn look(&mut self, now: Instant) -> Looked {
-        if self.incoming.needs_more() && self.unread != Unread::Nothing && self.read(now).is_err() {
+        let wants_more = self.incoming.needs_more() && self.incoming.long_head().is_none();
+        if wants_more
+            && self.unread != Unread::Nothing
+            && let Err(error) = self.read(now)
+        {
             // The peer hears why, if it can: what is sealed already leaves.
             let _ = self.write(now);
-            return Looked::Ended;
+            return self.why_unread(&error);
+        }
+        if let Some(head) = self.incoming.long_head() {
+            return Looked::Long(head);
         }
         match (self.incoming.is_broken(), self.incoming.needs_more()) {
-            (true, _) => Looked::Ended,
+            (true, _) => Looked::TooLong,
             (false, true) => Looked::NoFrame,
             (false, false) => {
                 self.has_spoken = true;
                 Looked::Frame
             }
         }
+    }
+
+    /// What a read that failed so found.
+    fn why_unread(&self, error: &io::Error) -> Looked {
+        let is_shaking = matches!(&self.entry, Entry::Unknown(session) if session.peer().is_none());
+        // Any other error is the socket's.
+        let is_of_tls = error.kind() == ErrorKind::PermissionDenied;
+        if is_shaking && is_of_tls { Looked::NotShaken(error.to_string()) } else { Looked::Ended }
     }
 
     /// Who is at the other end, as soon as that is known: by a certificate, or by a whole frame of
@@ -214,12 +239,24 @@ impl Connection {
 
     pub fn put_back(&mut self, incoming: Frames) {
         self.incoming = incoming;
+        self.reporter = None;
+    }
+
+    /// The long report of this client, which begins, may come whole.
+    pub fn admit_long(&mut self, client: u8) {
+        self.incoming.admit_long();
+        self.reporter = Some(client);
+    }
+
+    /// The client whose long report comes.
+    pub fn reporter(&self) -> Option<u8> {
+        self.reporter
     }
 
     /// What it has to be watched for. A socket that takes all is not watched for writes: it would
     /// be told each time that the peer reads.
     pub fn watched(&self) -> Watched {
-        match (self.outgoing.is_empty(), self.is_ended) {
+        match (self.outgoing.is_empty(), self.ends_for.is_some()) {
             (true, _) => Watched::Reads,
             (false, false) => Watched::Both,
             (false, true) => Watched::Writes,
@@ -232,9 +269,15 @@ impl Connection {
         self.outgoing.waits()
     }
 
-    /// Hears nothing more of it. It is over when all is written that leaves with the next batch.
-    pub fn end(&mut self) {
-        self.is_ended = true;
+    /// Hears nothing more of it, for this reason. It is over when all is written that leaves with
+    /// the next batch.
+    pub fn end(&mut self, reason: CloseReason) {
+        self.ends_for.get_or_insert(reason);
+    }
+
+    /// Why nothing more is heard of it.
+    pub fn ends_for(&self) -> Option<CloseReason> {
+        self.ends_for
     }
 
     /// Its client takes the server for what it serves.
@@ -247,12 +290,16 @@ impl Connection {
     }
 
     pub fn is_over(&self) -> bool {
-        self.is_ended && self.outgoing.is_empty()
+        self.ends_for.is_some() && self.outgoing.is_empty()
     }
 
     /// Why the connection is closed now, if its peer is silent or takes nothing for too long.
-    pub fn is_dead(&self, now: Instant) -> bool {
-        self.outgoing.is_stuck(now) || now.saturating_duration_since(self.heard) >= SILENCE
+    pub fn why_dead(&self, now: Instant) -> Option<CloseReason> {
+        if self.outgoing.is_stuck(now) {
+            return Some(CloseReason::TakesNothing);
+        }
+        let is_silent = now.saturating_duration_since(self.heard) >= SILENCE;
+        is_silent.then_some(CloseReason::Silent)
     }
 
     /// The peer's host takes host frames, and its Hello is answered so, before all else.
@@ -300,7 +347,7 @@ impl Connection {
         let mut first = Vec::new();
         if let Some(host) = &mut self.host {
             let answer = std::mem::take(&mut host.answer);
-            let news = mark.filter(|_| host.mark != mark && !self.is_ended);
+            let news = mark.filter(|_| host.mark != mark && self.ends_for.is_none());
             if !is_lost {
                 first.extend(answer);
                 first.extend(news.map(|now| FromServer::Mark(now).frame()).unwrap_or_default());

@@ -2,7 +2,7 @@
 //! slow peer stops the others.
 use crate::access::Access;
 use crate::connection::{Connection, Looked};
-use crate::frames::Frames;
+use crate::frames::{Frames, HEAD};
 use crate::history::Mark;
 use crate::host_frame::FromServer;
 use crate::listening::Listening;
@@ -11,9 +11,11 @@ use crate::refusal::Refusal;
 use crate::room::Room;
 use crate::routing::Routes;
 use crate::strangers::Strangers;
-use crate::stream::{Accepted, Listener};
+use crate::stream::{Accepted, Listener, PeerAddress};
+use closing::{CloseReason, Closings};
 use mio::Waker;
 use std::collections::{HashMap, VecDeque};
+use std::fmt::Display;
 use std::io;
 use std::sync::Arc;
 use std::time::{Duration, Instant};
@@ -35,6 +37,7 @@ pub(crate) struct Connections {
     open: HashMap<u64, Peer>,
     strangers: Strangers,
     routes: Routes,
+    closings: Closings,
     /// Those that may have a frame, in the order of their turns. Each is there once.
     ready: VecDeque<u64>,
     /// Those that have something to send. Each is there once.
@@ -46,6 +49,7 @@ pub(crate) struct Connections {
 /// A connection, and where it stands in the lists.
 struct Peer {
     connection: Connection,
+    address: PeerAddress,
     is_in_ready: bool,
     is_in_sending: bool,
     watched: Watched,
@@ -57,6 +61,8 @@ pub(crate) enum Turn {
     Nobody,
     /// This one has no frame now, or is closed.
     Nothing,
+    /// This one begins a long frame with this head, which has to be admitted or broken off.
+    Long(u64, [u8; HEAD]),
     /// This one has a frame, the next of these. They go back by `Connections::put_back`.
     Frame(u64, Frames),
 }
@@ -79,6 +85,7 @@ impl Connections {
             open: HashMap::new(),
             strangers: Strangers::default(),
             routes: Routes::default(),
+            closings: Closings::default(),
             ready: VecDeque::new(),
             sending: Vec::new(),
             next: 0,
@@ -157,6 +164,7 @@ impl Connections {
         self.meet(number);
         match looked {
             Looked::Frame => self.frame(number),
+            Looked::Long(head) => Turn::Long(number, head),
             Looked::NoFrame => {
                 // A hand-shake answers what came.
                 self.write(number);
@@ -164,7 +172,15 @@ impl Connections {
                 Turn::Nothing
             }
             Looked::Ended => {
-                self.close(number);
+                self.close(number, CloseReason::Ended);
+                Turn::Nothing
+            }
+            Looked::TooLong => {
+                self.close(number, CloseReason::FrameTooLong);
+                Turn::Nothing
+            }
+            Looked::NotShaken(error) => {
+                self.close_for(number, CloseReason::HandshakeFailed, &error);
                 Turn::Nothing
             }
         }
@@ -183,19 +199,26 @@ impl Connections {
         }
     }
 
-    fn close(&mut self, number: u64) {
+    fn close(&mut self, number: u64, reason: CloseReason) {
+        self.close_for(number, reason, &"");
+    }
+
+    /// Closes a connection for this reason, of which `why` says more.
+    fn close_for(&mut self, number: u64, reason: CloseReason, why: &dyn Display) {
+        let at = self.at(number);
         if let Some(peer) = self.open.remove(&number) {
             self.poller.remove(peer.connection.stream());
+            self.closings.closed(&at, reason, why);
         }
         self.strangers.closed(number);
         self.routes.close(number);
     }
 
-    /// Hears nothing more of the connection, and closes it when all is written that leaves with the
-    /// next batch.
-    pub fn end(&mut self, number: u64) {
+    /// Hears nothing more of the connection, for this reason, and closes it when all is written that
+    /// leaves with the next batch.
+    pub fn end(&mut self, number: u64, reason: CloseReason) {
         if let Some(peer) = self.in_sending(number) {
-            peer.end();
+            peer.end(reason);
         }
         self.routes.close(number);
     }
@@ -266,21 +289,27 @@ impl Connections {
     /// Writes what the peer takes, and closes the connection if that fails or was the last.
     fn write(&mut self, number: u64) {
         let Some(peer) = self.open.get_mut(&number) else { return };
-        if peer.connection.write(self.now).and_then(|()| peer.watch(number, &self.poller)).is_err()
-            || peer.connection.is_over()
-        {
-            self.close(number);
+        let written = peer.connection.write(self.now);
+        let is_lost = written.and_then(|()| peer.watch(number, &self.poller)).is_err();
+        if is_lost || peer.connection.is_over() {
+            let reason = peer.connection.ends_for().unwrap_or(CloseReason::Ended);
+            self.close(number, reason);
         }
     }
 
     /// Closes the connections whose peers are silent, take nothing, or do not say who they are, for
     /// too long.
     pub fn close_dead(&mut self) {
-        let dead = self.open.iter().filter(|(_, peer)| peer.connection.is_dead(self.now));
-        let dead = dead.map(|(number, _)| *number);
-        let dead: Vec<u64> = dead.chain(self.strangers.late(self.now)).collect();
-        for number in dead {
-            self.close(number);
+        let why_dead = |(number, peer): (&u64, &Peer)| {
+            peer.connection.why_dead(self.now).map(|reason| (*number, reason))
+        };
+        let dead: Vec<_> = self.open.iter().filter_map(why_dead).collect();
+        let late: Vec<u64> = self.strangers.late(self.now).collect();
+        for (number, reason) in dead {
+            self.close(number, reason);
+        }
+        for number in late {
+            self.close(number, CloseReason::StrangerLate);
         }
     }
 
@@ -289,7 +318,7 @@ impl Connections {
     pub fn finish(mut self, until: Instant) {
         let numbers: Vec<u64> = self.open.keys().copied().collect();
         for number in &numbers {
-            self.end(*number);
+            self.end(*number, CloseReason::Ended);
             self.write(*number);
         }
         while !self.open.is_empty() && self.now < until {
@@ -317,11 +346,11 @@ impl Peer {
         longest: usize,
         now: Instant,
     ) -> io::Result<Peer> {
-        let entry = access.enter(&accepted)?;
+        let (entry, address) = (access.enter(&accepted)?, accepted.peer);
         let connection = Connection::new(accepted.stream, entry, longest, now)?;
         poller.add(number, connection.stream())?;
         let watched = Watched::Reads;
-        Ok(Peer { connection, is_in_ready: false, is_in_sending: false, watched })
+        Ok(Peer { connection, address, is_in_ready: false, is_in_sending: false, watched })
     }
 
     /// Watches the connection for what it may do next.
@@ -366,6 +395,8 @@ impl Sending<'_> {
     }
 }
 
+pub(crate) mod closing;
 mod entering;
+mod long_frames;
 #[cfg(test)]
 mod tests;

@@ -10,11 +10,13 @@
 )]
 use crate::address::Address;
 use crate::change::{Change, Record};
+use crate::connections::closing::At;
 use crate::history::Mark;
 use crate::identity::Identity;
 use crate::room_at_start::RoomAtStart;
 use crate::seldom::Seldom;
 use crate::shard_fence::OtherShard;
+use crate::stream::PeerAddress;
 use std::collections::BTreeMap;
 use std::fmt::Display;
 use std::time::Instant;
@@ -39,6 +41,7 @@ pub(crate) struct EventLog {
     other_shards: Seldom,
     strangers: Seldom,
     denials: Seldom,
+    far_ahead: Seldom,
     alarms: Seldom,
     store_alarms: Seldom,
 }
@@ -57,6 +60,7 @@ impl EventLog {
             other_shards: Seldom::default(),
             strangers: Seldom::default(),
             denials: Seldom::default(),
+            far_ahead: Seldom::default(),
             alarms: Seldom::default(),
             store_alarms: Seldom::default(),
         }
@@ -86,10 +90,12 @@ impl EventLog {
     }
 
     /// These changes are committed.
-    pub fn committed(&mut self, changes: &[Change]) {
+    pub fn committed(&mut self, changes: &[Change], at_of: impl Fn(u8) -> Option<At>) {
         for change in changes {
             match *change {
-                Change::Registered { client, incarnation } => self.joined(client, incarnation),
+                Change::Registered { client, incarnation } => {
+                    self.joined(client, incarnation, at_of(client));
+                }
                 Change::Left { client } => self.left(client),
                 Change::Started { .. }
                 | Change::Judged { .. }
@@ -104,7 +110,8 @@ impl EventLog {
         self.evicting.insert(client, successor);
     }
 
-    fn joined(&mut self, client: u8, incarnation: u64) {
+    fn joined(&mut self, client: u8, incarnation: u64, at: Option<At>) {
+        let peer = at.map_or(PeerAddress::Gone, |at| at.peer);
         if self.evicting.get(&client) == Some(&incarnation) {
             let before = self.clients.insert(client, (incarnation, false));
             let evicted = before.map(|(incarnation, _)| incarnation);
@@ -123,10 +130,13 @@ impl EventLog {
                     client,
                     incarnation,
                     before,
+                    %peer,
                     "a client is replaced that had not left: it was started again, or is evicted"
                 );
             }
-            Some((_, true)) | None => tell!(info, client, incarnation, "a client has joined"),
+            Some((_, true)) | None => {
+                tell!(info, client, incarnation, %peer, "a client has joined")
+            }
         }
     }
 
@@ -141,18 +151,25 @@ impl EventLog {
     }
 
     /// The client of a connection takes the server for another shard's, and is closed.
-    pub fn other_shard(&mut self, connection: u64, other: &OtherShard) {
+    pub fn other_shard(&mut self, at: &At, other: &OtherShard) {
         if let Some(passed_over) = self.other_shards.lets(Instant::now()) {
-            tell!(warn, connection, passed_over, "a connection is closed: {other}");
+            tell!(
+                warn,
+                connection = at.connection,
+                peer = %at.peer,
+                passed_over,
+                "a connection is closed: {other}"
+            );
         }
     }
 
     /// A connection said what is no message, and is closed.
-    pub fn bad_message(&mut self, connection: u64, length: usize) {
+    pub fn bad_message(&mut self, at: &At, length: usize) {
         if let Some(passed_over) = self.bad_messages.lets(Instant::now()) {
             tell!(
                 warn,
-                connection,
+                connection = at.connection,
+                peer = %at.peer,
                 length,
                 passed_over,
                 "a connection is closed: it said what is no message"
@@ -161,12 +178,13 @@ impl EventLog {
     }
 
     /// A message names an incarnation that is not the client's.
-    pub fn stranger(&mut self, connection: u64, client: u8, incarnation: u64) {
+    pub fn stranger(&mut self, at: &At, client: u8, incarnation: u64) {
         if let Some(passed_over) = self.strangers.lets(Instant::now()) {
             let registered = self.clients.get(&client).map(|(incarnation, _)| *incarnation);
             tell!(
                 warn,
-                connection,
+                connection = at.connection,
+                peer = %at.peer,
                 client,
                 incarnation,
                 registered,
@@ -176,12 +194,28 @@ impl EventLog {
         }
     }
 
+    /// A client is not registered: its incarnation is too far ahead of this machine's clock.
+    pub fn far_ahead(&mut self, at: &At, client: u8, incarnation: u64) {
+        if let Some(passed_over) = self.far_ahead.lets(Instant::now()) {
+            tell!(
+                warn,
+                connection = at.connection,
+                peer = %at.peer,
+                client,
+                incarnation,
+                passed_over,
+                "a client is not registered: its clock is more than a day ahead of this one"
+            );
+        }
+    }
+
     /// A connection said what its identity may not say, and is closed.
-    pub fn denied(&mut self, connection: u64, identity: &Identity, client: Option<u8>) {
+    pub fn denied(&mut self, at: &At, identity: &Identity, client: Option<u8>) {
         if let Some(passed_over) = self.denials.lets(Instant::now()) {
             tell!(
                 warn,
-                connection,
+                connection = at.connection,
+                peer = %at.peer,
                 %identity,
                 client,
                 passed_over,
@@ -191,11 +225,12 @@ impl EventLog {
     }
 
     /// The store lacks what a client's host has seen of it.
-    pub fn store_alarm(&mut self, connection: u64, seen: Mark) {
+    pub fn store_alarm(&mut self, at: &At, seen: Mark) {
         if let Some(passed_over) = self.store_alarms.lets(Instant::now()) {
             tell!(
                 error,
-                connection,
+                connection = at.connection,
+                peer = %at.peer,
                 ?seen,
                 passed_over,
                 "ALARM: the store lacks what a client has seen: it is an older copy, or another one"
@@ -247,6 +282,28 @@ pub(crate) fn full(seldom: &mut Seldom, open: usize) {
     if let Some(passed_over) = seldom.lets(Instant::now()) {
         tell!(warn, open, passed_over, "a connection is closed: no more may be open");
     }
+}
+
+/// A connection is taken.
+pub(crate) fn opened(at: &At) {
+    tell!(debug, connection = at.connection, peer = %at.peer, "a connection is open");
+}
+
+/// A connection is closed.
+pub(crate) fn closed(at: &At, reason: &str) {
+    tell!(debug, connection = at.connection, peer = %at.peer, reason, "a connection is closed");
+}
+
+/// A connection is closed by the server for a reason that people may have to do something about.
+pub(crate) fn closed_by_server(at: &At, reason: &str, why: &dyn Display, passed_over: u64) {
+    tell!(
+        warn,
+        connection = at.connection,
+        peer = %at.peer,
+        %why,
+        passed_over,
+        "a connection is closed: {reason}"
+    );
 }
 
 /// The system gives no connection just now.

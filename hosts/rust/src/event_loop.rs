@@ -1,6 +1,7 @@
 //! The thread that owns a server and its store: it judges, commits and sends.
 use crate::change::{Change, Record};
 use crate::code::Code;
+use crate::connections::closing::CloseReason;
 use crate::connections::{Connections, Turn};
 use crate::event_log::{self, EventLog};
 use crate::frames;
@@ -196,6 +197,7 @@ impl<S: Store> EventLoop<S> {
         match self.connections.turn() {
             Turn::Nobody => return Ok(false),
             Turn::Nothing => {}
+            Turn::Long(connection, head) => self.judge_long(connection, &head)?,
             Turn::Frame(connection, mut incoming) => {
                 if let Ok(Some(frame)) = incoming.next() {
                     self.hear(connection, frame, changes)?;
@@ -243,12 +245,12 @@ impl<S: Store> EventLoop<S> {
             Ok(change) => change,
             Err(Code::BadMessage) => {
                 self.status.refused += 1;
-                self.log.bad_message(connection, message.len());
+                self.log.bad_message(&self.connections.at(connection), message.len());
                 if message::is_of_another_version(message) {
                     let refusal = Refusal::Version { read: message::VERSION };
                     self.connections.refuse(connection, refusal);
                 }
-                self.connections.end(connection);
+                self.connections.end(connection, CloseReason::BadMessage);
                 return Ok(None);
             }
             Err(Code::Alarm) => {
@@ -278,13 +280,16 @@ impl<S: Store> EventLoop<S> {
         match (sender(record.as_ref(), incarnation), kind_of(message)) {
             (Sender::Registered, _) => {
                 self.open.heard(client, message, self.connections.now(), &self.timings);
+                self.watch.may_change(client);
                 self.connections.route(client, connection);
             }
             // The frame leaves after the change is on the disk, and tells the client that it need
             // not say Bye again.
             (Sender::Left, Kind::Bye) => self.connections.tell(connection, &frames::EMPTY),
             (Sender::Left, _) => {}
-            (Sender::Stranger, _) => self.log.stranger(connection, client, incarnation),
+            (Sender::Stranger, _) => {
+                self.log.stranger(&self.connections.at(connection), client, incarnation);
+            }
         }
         if let Some(refusal) = self.refusal(record.as_ref(), incarnation) {
             self.connections.refuse(connection, refusal);
@@ -343,8 +348,9 @@ impl<S: Store> EventLoop<S> {
                 history.commit();
             }
             self.timings.committed(changes.len(), began);
-            self.log.committed(changes);
+            self.log.committed(changes, |client| self.connections.at_of(client));
             self.count(changes);
+            self.see_members(changes);
         }
         Ok(())
     }
@@ -359,6 +365,7 @@ impl<S: Store> EventLoop<S> {
                 continue;
             }
             self.open.said(client, message, now, &self.timings);
+            self.watch.may_change(client);
             sending.put(client, frame);
             self.status.sent += 1;
         }
@@ -369,6 +376,7 @@ impl<S: Store> EventLoop<S> {
 
 mod greeting;
 mod leases;
+mod long_frames;
 mod looks;
 mod notices;
 mod sharding;

@@ -7,6 +7,13 @@ use std::ops::Range;
 /// The longest message to a server: a report of 65,537 ranges and 65,537 keys has 1,703,996 bytes.
 pub(crate) const LONGEST_TO_SERVER: usize = 1 << 21;
 
+/// The longest message to a server that is no report, and the longest frame of a host: an insert
+/// has 83 bytes. Only a report that the server admits may be longer.
+pub(crate) const LONGEST_SHORT: usize = 1 << 10;
+
+/// The bytes of a message's head: its version, its kind, its client and the incarnation.
+pub(crate) const HEAD: usize = 18;
+
 /// The longest message to a client: a grant of eight holdings has 451 bytes.
 pub(crate) const LONGEST_TO_CLIENT: usize = 1 << 10;
 
@@ -27,7 +34,7 @@ const KEPT: usize = 4 * GULP;
 pub(crate) struct TooLong;
 
 /// The bytes that came and belong to no frame that was taken yet. It grows with what came, never by
-/// a length alone.
+/// a length alone, and beyond `LONGEST_SHORT` only for a frame that was admitted by its head.
 #[derive(Debug, Default)]
 pub(crate) struct Frames {
     /// Room for bytes. What is behind `filled` was zero, or is of frames that were taken: no read
@@ -36,6 +43,8 @@ pub(crate) struct Frames {
     taken: usize,
     filled: usize,
     longest: usize,
+    /// The next frame is long, and was admitted.
+    is_long_admitted: bool,
 }
 
 impl Frames {
@@ -69,6 +78,19 @@ impl Frames {
         }
     }
 
+    /// The head of the next frame, if that is long and waits to be admitted.
+    pub fn long_head(&self) -> Option<[u8; HEAD]> {
+        let (length, rest) = split_length(&self.bytes[self.taken..self.filled])?;
+        let is_long = length > LONGEST_SHORT as u64 && length <= self.longest as u64;
+        let head = rest.first_chunk().filter(|_| is_long && !self.is_long_admitted)?;
+        Some(*head)
+    }
+
+    /// The next frame, which is long, may come whole.
+    pub fn admit_long(&mut self) {
+        self.is_long_admitted = true;
+    }
+
     /// Whether the next frame promises more than a message has.
     pub fn is_broken(&self) -> bool {
         self.whole().is_err()
@@ -83,6 +105,7 @@ impl Frames {
     pub fn next(&mut self) -> Result<Option<&[u8]>, TooLong> {
         let Some(frame) = self.whole()? else { return Ok(None) };
         self.taken = frame.end;
+        self.is_long_admitted = false;
         Ok(Some(&self.bytes[frame]))
     }
 
@@ -94,6 +117,9 @@ impl Frames {
         let length = usize::try_from(length).map_err(|_| TooLong)?;
         if length > self.longest {
             return Err(TooLong);
+        }
+        if length > LONGEST_SHORT && !self.is_long_admitted {
+            return Ok(None);
         }
         let start = self.taken + PREFIX;
         Ok((rest.len() >= length).then_some(start..start + length))
@@ -155,10 +181,30 @@ mod tests {
     }
 
     #[test]
+    fn a_long_frame_has_to_be_admitted_by_its_head() {
+        let long = frame(&[7; LONGEST_SHORT + 1]);
+        let mut frames = Frames::new(1 << 20);
+        frames.fill(&mut &long[..PREFIX + HEAD - 1]).unwrap();
+        assert_eq!((frames.long_head(), frames.needs_more()), (None, true));
+        frames.fill(&mut &long[PREFIX + HEAD - 1..]).unwrap();
+        assert_eq!((frames.long_head(), frames.needs_more()), (Some([7; HEAD]), true));
+        frames.admit_long();
+        assert_eq!((frames.long_head(), frames.needs_more()), (None, false));
+        assert_eq!(frames.next().unwrap().map(<[u8]>::len), Some(LONGEST_SHORT + 1));
+        // It was admitted once.
+        frames.fill(&mut &long[..]).unwrap();
+        assert!(frames.long_head().is_some() && frames.next() == Ok(None));
+        let mut short = Frames::new(1 << 20);
+        short.fill(&mut &frame(&[7; LONGEST_SHORT])[..]).unwrap();
+        assert_eq!((short.long_head(), short.needs_more()), (None, false));
+    }
+
+    #[test]
     fn the_room_of_a_long_frame_is_given_back() {
         let long = frame(&vec![7; 1 << 20]);
         let mut sent = &long[..];
         let mut frames = Frames::new(1 << 20);
+        frames.admit_long();
         while frames.needs_more() {
             assert!(frames.fill(&mut sent).unwrap() <= GULP);
         }

@@ -126,6 +126,7 @@ fn spelled(refusal: Refusal) -> (u8, Vec<u8>) {
         Refusal::Missing(clients) => (4, [clients.bits(), 0]),
         Refusal::LeaseRuns { client, registered } => (5, [client.into(), registered]),
         Refusal::Denied => (6, [0, 0]),
+        Refusal::FarAhead { client, latest } => (8, [client.into(), latest]),
     };
     (tag, numbers.map(u64::to_le_bytes).concat())
 }
@@ -153,6 +154,7 @@ fn refusal(reason: u8, numbers: &[u8]) -> Option<Refusal> {
         5 => Refusal::LeaseRuns { client: u8::try_from(first).ok()?, registered: second },
         6 => Refusal::Denied,
         7 => shard_frame::read_refusal(numbers)?,
+        8 => Refusal::FarAhead { client: u8::try_from(first).ok()?, latest: second },
         _ => return None,
     })
 }
@@ -186,6 +188,7 @@ mod tests {
             Refusal::LeaseRuns { client: 63, registered: 7 },
             Refusal::Denied,
             Refusal::OtherShard(None),
+            Refusal::FarAhead { client: 63, latest: 1 << 61 },
             Refusal::OtherShard(Some(shard())),
         ];
         let shard = FromServer::Shard(shard());
@@ -246,7 +249,7 @@ mod tests {
             }
         }
         assert_eq!(
-            FromServer::read(&[0, 17, 8, 0, 0, 0, 0, 0, 0, 0, 0, 0, 0, 0, 0, 0, 0, 0, 0]),
+            FromServer::read(&[0, 17, 9, 0, 0, 0, 0, 0, 0, 0, 0, 0, 0, 0, 0, 0, 0, 0, 0]),
             None
         );
         assert_eq!(FromServer::read(&[0, 0]), None, "a client's");

@@ -19,6 +19,7 @@
 //! ```
 mod access;
 mod address;
+mod ahead;
 mod backoff;
 mod boot_clock;
 mod builder;
@@ -51,6 +52,7 @@ mod lease_record;
 mod leases;
 mod link;
 mod listening;
+mod liveness;
 mod lock_file;
 mod locks;
 mod map_change;
@@ -112,11 +114,13 @@ pub use builder::ClientBuilder;
 pub use change::{Change, Outcome, Record, Snapshot, Write};
 pub use client::{Client, Pin};
 pub use code::Code;
+pub use connections::closing::ClosedConnections;
 pub use evict::evict;
 pub use history::{History, Mark};
 pub use identity::{BadIdentity, BadTableName, Identity, TableName};
 pub use lease_record::LeaseRecord;
 pub use leases::{BadLeases, Leases};
+pub use liveness::Liveness;
 pub use lock_file::LockFileError;
 pub use locks::{HeldSlot, Locks, LocksError};
 #[cfg(feature = "map-file")]
@@ -146,8 +150,10 @@ pub use sqlite::SqliteStore;
 pub use sqlite_copy::StoreFile;
 pub use status::Status;
 pub use store::{MemoryStore, Store, StoreError};
+#[doc(hidden)]
+pub use strangers::Strangers;
 pub use stream::Listener;
 pub use timings::{Counts, Measured};
 #[cfg(feature = "tls")]
-pub use tls::{TlsConfig, TlsError, TlsSession};
+pub use tls::{Certificate, TlsConfig, TlsError, TlsSession};
 pub use watch::{HeldSlots, Wait};

@@ -12,6 +12,7 @@ pub(crate) const VERSION: u8 = 1;
 pub(crate) mod kind {
     pub(crate) const HELLO: u8 = 0;
     pub(crate) const BYE: u8 = 1;
+    pub(crate) const REPORT: u8 = 2;
     pub(crate) const LOCK: u8 = 3;
     pub(crate) const RELEASE: u8 = 7;
     pub(crate) const GRANT: u8 = 17;
@@ -40,6 +41,12 @@ pub(crate) fn client_of(message: &[u8]) -> Option<u8> {
 /// The number that a message names as its client's.
 pub(crate) fn client_number(message: &[u8]) -> Option<u64> {
     number(message, 2)
+}
+
+/// The client whose report a message is that begins so, and the client's incarnation.
+pub(crate) fn reporter(head: &[u8]) -> Option<(u8, u64)> {
+    let is_report = head.get(..2) == Some(&[VERSION, kind::REPORT]);
+    Some((client_of(head)?, incarnation_of(head)?)).filter(|_| is_report)
 }
 
 /// Whether a string is of another version than the messages that the library reads.

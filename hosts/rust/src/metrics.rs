@@ -27,6 +27,7 @@ fn metrics(status: &Status, measured: &Measured, since_last_turn: Duration) -> S
     page.line(format_args!("krl_build_info{{version=\"{}\"}} 1", env!("CARGO_PKG_VERSION")));
     page.gauges(status, since_last_turn);
     page.counters(status);
+    page.closed_connections(status);
     page.clients(status);
     page.waits(status);
     page.histograms(measured);
@@ -120,6 +121,14 @@ impl Page {
             "Clients that were evicted at their leases' ends",
             status.evicted,
         );
+    }
+
+    fn closed_connections(&mut self, status: &Status) {
+        let name = "krl_connections_closed_total";
+        self.head(name, "counter", "Connections that were closed, by reason");
+        for (reason, count) in status.closed.counts() {
+            self.line(format_args!("{name}{{reason=\"{reason}\"}} {count}"));
+        }
     }
 
     fn clients(&mut self, status: &Status) {
@@ -292,6 +301,6 @@ mod tests {
                 assert!(helped.contains(family(line)), "{line}");
             }
         }
-        assert_eq!(helped.len(), 30);
+        assert_eq!(helped.len(), 31);
     }
 }

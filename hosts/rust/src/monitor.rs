@@ -15,6 +15,7 @@ pub struct Monitor {
     pub(crate) status: Arc<Mutex<Status>>,
     pub(crate) timings: Arc<Timings>,
     pub(crate) requests: Requests,
+    pub(crate) longest_store_wait: Duration,
 }
 
 /// Why a server gave no snapshot.

@@ -43,11 +43,18 @@ pub enum Refusal {
     Denied,
     /// The server serves this shard, or all keys, and the client takes it for another one.
     OtherShard(Option<ShardBounds>),
+    /// The client's incarnation is more than a day ahead of the server's clock.
+    FarAhead {
+        /// The client.
+        client: u8,
+        /// The greatest incarnation that the server registers now.
+        latest: u64,
+    },
 }
 
 impl Refusal {
     /// How many reasons there are.
-    pub(crate) const REASONS: usize = 8;
+    pub(crate) const REASONS: usize = 9;
 
     /// The number of the reason, below [`Refusal::REASONS`].
     pub(crate) fn reason(self) -> usize {
@@ -60,6 +67,7 @@ impl Refusal {
             Refusal::LeaseRuns { .. } => 5,
             Refusal::Denied => 6,
             Refusal::OtherShard(_) => 7,
+            Refusal::FarAhead { .. } => 8,
         }
     }
 }
@@ -147,6 +155,12 @@ impl fmt::Display for Refusal {
             Refusal::OtherShard(None) => {
                 f.write_str("the server serves no shard, and the client takes it for one's")
             }
+            Refusal::FarAhead { client, latest } => write!(
+                f,
+                "the incarnation of client {client} is more than a day ahead of the server's clock, \
+                 which takes {latest} at most: set the clock of the machine that is wrong, and give \
+                 the client a new lock file if it was its own"
+            ),
             Refusal::Missing(clients) => write!(
                 f,
                 "the server waits for the reports of the clients {clients}, or until they are \

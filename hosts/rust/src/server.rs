@@ -10,6 +10,7 @@ use crate::handle::ServerHandle;
 use crate::history::Mark;
 use crate::identity::Identity;
 use crate::leases::LeaseTable;
+use crate::liveness::TimedStore;
 use crate::monitor::Monitor;
 use crate::requests::{Request, Requests};
 use crate::room::Room;
@@ -26,6 +27,7 @@ use std::fmt;
 use std::io;
 use std::sync::{Arc, Mutex, PoisonError};
 use std::thread::{self, JoinHandle};
+use std::time::Duration;
 
 /// A server that runs in a thread of its own. It ends when it is dropped.
 pub struct Server {
@@ -34,6 +36,7 @@ pub struct Server {
     requests: Requests,
     status: Arc<Mutex<Status>>,
     timings: Arc<Timings>,
+    longest_store_wait: Duration,
     thread: Option<JoinHandle<Result<(), ServeError>>>,
 }
 
@@ -152,13 +155,16 @@ impl Server {
         let (rows, records) = (snapshot.rows.len(), &snapshot.records);
         let log = EventLog::started(epoch, &address, rows, records);
         EventLog::has_room(&at_start);
+        let longest_store_wait = store.longest_wait();
+        let store = TimedStore::new(store, Arc::clone(&timings));
         let (stored, heard) = ((store, history), (connections, asked));
         let shared = Arc::clone(&timings);
         let events = EventLoop::new(server, stored, heard, table, shared, epoch, log);
         let events = events.of_shard(shard).of_table(rows, room);
         let thread = thread::Builder::new().name("krl-server".into());
         let thread = thread.spawn(move || events.run_to_the_end(&shown))?;
-        Ok(Server { address, room, requests, status, timings, thread: Some(thread) })
+        let thread = Some(thread);
+        Ok(Server { address, room, requests, status, timings, longest_store_wait, thread })
     }
 
     /// Where it listens.
@@ -173,8 +179,9 @@ impl Server {
         self.room
     }
 
-    /// What it looks like now, or a few milliseconds ago. Who waits for whom is as of 50
-    /// milliseconds ago at most, and what a client holds as of some three seconds ago.
+    /// What it looks like now, or a few milliseconds ago. Who waits for whom, and what a client
+    /// holds, is as of 50 milliseconds ago at most, unless counting a large table takes longer. Of a
+    /// client that has left, or was evicted, nothing is shown.
     #[must_use]
     pub fn status(&self) -> Status {
         self.status.lock().unwrap_or_else(PoisonError::into_inner).clone()
@@ -187,6 +194,7 @@ impl Server {
             status: Arc::clone(&self.status),
             timings: Arc::clone(&self.timings),
             requests: self.requests.clone(),
+            longest_store_wait: self.longest_store_wait,
         }
     }
 

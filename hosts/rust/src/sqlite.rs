@@ -29,6 +29,10 @@ pub struct SqliteStore {
 /// How long it waits for another process that has the file open.
 const TIMEOUT: Duration = Duration::from_millis(200);
 
+/// How long a call may take: a sync of a busy disk, or the reading of the greatest table, takes
+/// seconds.
+const LONGEST_WAIT: Duration = Duration::from_secs(60);
+
 const TABLES: &str = "
     CREATE TABLE IF NOT EXISTS epoch (id INTEGER PRIMARY KEY CHECK (id = 0), epoch INTEGER NOT NULL);
     CREATE TABLE IF NOT EXISTS entry (key INTEGER PRIMARY KEY, value BLOB NOT NULL);
@@ -161,6 +165,10 @@ impl Store for SqliteStore {
             marks.push(mark_of(row)?);
         }
         Ok(History::new(marks))
+    }
+
+    fn longest_wait(&self) -> Duration {
+        LONGEST_WAIT
     }
 }
 

@@ -1,4 +1,5 @@
 //! What an operator sees of a server.
+use crate::connections::closing::ClosedConnections;
 use crate::room::Room;
 use crate::watch::{HeldSlots, Wait};
 use std::fmt;
@@ -33,6 +34,8 @@ pub struct Status {
     pub store_alarms: u64,
     /// The open connections, those of strangers too.
     pub connections: u64,
+    /// How many connections were closed, for each reason.
+    pub closed: ClosedConnections,
     /// The messages that were taken.
     pub taken: u64,
     /// The messages that were sent.

@@ -2,6 +2,7 @@
 use crate::change::{Change, Snapshot};
 use crate::history::History;
 use std::fmt;
+use std::time::Duration;
 
 /// What survives a server.
 ///
@@ -50,6 +51,13 @@ pub trait Store: Send {
     /// If it can't be read.
     fn history(&mut self) -> Result<Option<History>, StoreError> {
         Ok(None)
+    }
+
+    /// The longest that a commit or a snapshot of this store may take, even if it then fails. A
+    /// server that waits longer for its store counts as hung: see
+    /// [`Monitor::liveness`](crate::Monitor::liveness). By default 30 seconds.
+    fn longest_wait(&self) -> Duration {
+        Duration::from_secs(30)
     }
 }
 
@@ -131,5 +139,9 @@ impl Store for Box<dyn Store> {
 
     fn history(&mut self) -> Result<Option<History>, StoreError> {
         (**self).history()
+    }
+
+    fn longest_wait(&self) -> Duration {
+        (**self).longest_wait()
     }
 }

@@ -12,14 +12,14 @@ const MAX_FROM_ONE: usize = 64;
 const MAX_IN_ALL: usize = 128;
 
 /// How long a connection may take to say whose it is. A byte now and then buys no more.
-pub(crate) const PATIENCE: Duration = Duration::from_secs(5);
+pub const PATIENCE: Duration = Duration::from_secs(5);
 
 /// The connections that have not said whose they are, the oldest first, and those that have.
 ///
 /// For one more than there may be **the oldest is closed**, and not the newest refused: a client
 /// says whose it is in a few milliseconds, and gets in beside any number that say nothing.
 #[derive(Debug, Default)]
-pub(crate) struct Strangers {
+pub struct Strangers {
     waiting: VecDeque<Stranger>,
     known: VecDeque<(u64, Identity)>,
 }
@@ -46,13 +46,14 @@ impl Strangers {
     }
 
     /// Whether it has not said whose it is.
+    #[must_use]
     pub fn has(&self, connection: u64) -> bool {
         self.waiting.iter().any(|stranger| stranger.connection == connection)
     }
 
     /// It has said whose it is. It answers which one is to be closed for it, if one is: the oldest
     /// of the same identity.
-    pub fn is_known(&mut self, connection: u64, identity: Identity) -> Option<u64> {
+    pub(crate) fn is_known(&mut self, connection: u64, identity: Identity) -> Option<u64> {
         self.waiting.retain(|stranger| stranger.connection != connection);
         let is_same = |(_, other): &&(u64, Identity)| *other == identity;
         let is_crowded = self.known.iter().filter(is_same).count() >= identity.most_connections();
@@ -68,6 +69,7 @@ impl Strangers {
     }
 
     /// The stranger that has waited longest.
+    #[must_use]
     pub fn oldest(&self) -> Option<u64> {
         self.waiting.front().map(|stranger| stranger.connection)
     }

@@ -1,5 +1,7 @@
 //! Connections over TCP or over a Unix socket.
 use crate::address::Address;
+use crate::unix_peer::user_at;
+use std::fmt;
 use std::fs::{Permissions, set_permissions};
 use std::io::{self, ErrorKind, Read, Write};
 use std::net::{IpAddr, Shutdown, SocketAddr, TcpListener, TcpStream, ToSocketAddrs};
@@ -36,9 +38,39 @@ pub enum Listener {
 #[derive(Debug)]
 pub(crate) struct Accepted {
     pub stream: Stream,
-    /// The address of the peer, if it is of another machine or may be.
-    pub from: Option<IpAddr>,
+    pub peer: PeerAddress,
     pub is_tls: bool,
+}
+
+/// Where the peer of a connection is.
+#[derive(Clone, Copy, Debug, PartialEq, Eq)]
+pub(crate) enum PeerAddress {
+    Tcp(SocketAddr),
+    /// On this machine, by a Unix socket, as this user, if the system says which.
+    Unix(Option<u32>),
+    /// The connection is closed already.
+    Gone,
+}
+
+impl PeerAddress {
+    /// The address of the peer's machine, if it is another one or may be.
+    pub fn machine(self) -> Option<IpAddr> {
+        match self {
+            PeerAddress::Tcp(address) => Some(address.ip()),
+            PeerAddress::Unix(_) | PeerAddress::Gone => None,
+        }
+    }
+}
+
+impl fmt::Display for PeerAddress {
+    fn fmt(&self, f: &mut fmt::Formatter<'_>) -> fmt::Result {
+        match self {
+            PeerAddress::Tcp(address) => address.fmt(f),
+            PeerAddress::Unix(Some(user)) => write!(f, "unix:user={user}"),
+            PeerAddress::Unix(None) => f.write_str("unix:"),
+            PeerAddress::Gone => f.write_str("gone"),
+        }
+    }
 }
 
 impl Listener {
@@ -109,8 +141,9 @@ impl Listener {
             Listener::Tcp(listener) => Accepted::of_tcp(listener.accept()?, false),
             Listener::Tls(listener) => Accepted::of_tcp(listener.accept()?, true),
             Listener::Unix(listener) => {
-                let stream = Stream::Unix(listener.accept()?.0);
-                Ok(Accepted { stream, from: None, is_tls: false })
+                let stream = listener.accept()?.0;
+                let peer = PeerAddress::Unix(user_at(&stream).ok());
+                Ok(Accepted { stream: Stream::Unix(stream), peer, is_tls: false })
             }
         }
     }
@@ -118,7 +151,7 @@ impl Listener {
 
 impl Accepted {
     fn of_tcp((stream, from): (TcpStream, SocketAddr), is_tls: bool) -> io::Result<Accepted> {
-        Ok(Accepted { stream: Stream::of_tcp(stream)?, from: Some(from.ip()), is_tls })
+        Ok(Accepted { stream: Stream::of_tcp(stream)?, peer: PeerAddress::Tcp(from), is_tls })
     }
 }
 

@@ -93,6 +93,11 @@ pub(crate) struct Timings {
     turns: Histogram,
     began: Instant,
     last_turn: AtomicU64,
+    /// When the store was called that has not answered, in milliseconds, plus 1; 0 if there is no
+    /// such call.
+    store_called: AtomicU64,
+    /// When the store answered last.
+    store_answered: AtomicU64,
 }
 
 impl Timings {
@@ -105,6 +110,8 @@ impl Timings {
             turns: Histogram::new(&MICROSECONDS),
             began: Instant::now(),
             last_turn: AtomicU64::new(0),
+            store_called: AtomicU64::new(0),
+            store_answered: AtomicU64::new(0),
         }
     }
 
@@ -124,8 +131,39 @@ impl Timings {
 
     /// How long ago the last turn ended, to a millisecond; if there was none, the server's start.
     pub fn since_last_turn(&self) -> Duration {
-        let last = Duration::from_millis(self.last_turn.load(Ordering::Relaxed));
-        self.began.elapsed().saturating_sub(last)
+        self.since(self.last_turn.load(Ordering::Relaxed))
+    }
+
+    /// The store is called.
+    pub fn store_called(&self) {
+        self.store_called.store(self.now() + 1, Ordering::Relaxed);
+    }
+
+    /// The store has answered.
+    pub fn store_answered(&self) {
+        self.store_answered.store(self.now(), Ordering::Relaxed);
+        // Who sees that it does not wait any more sees when it was answered.
+        self.store_called.store(0, Ordering::Release);
+    }
+
+    /// For how long the store has not answered, if it was called.
+    pub fn waits_for_store(&self) -> Option<Duration> {
+        let called = self.store_called.load(Ordering::Acquire).checked_sub(1)?;
+        Some(self.since(called))
+    }
+
+    /// How long ago the last turn ended, or the store answered last, whichever was later.
+    pub fn since_last_step(&self) -> Duration {
+        self.since_last_turn().min(self.since(self.store_answered.load(Ordering::Relaxed)))
+    }
+
+    /// In milliseconds since the start.
+    fn now(&self) -> u64 {
+        u64::try_from(self.began.elapsed().as_millis()).unwrap_or(u64::MAX - 1)
+    }
+
+    fn since(&self, then: u64) -> Duration {
+        self.began.elapsed().saturating_sub(Duration::from_millis(then))
     }
 
     pub fn read(&self) -> Measured {

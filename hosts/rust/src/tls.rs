@@ -2,9 +2,11 @@
 //!
 //! A session works on memory: what came from the socket is handed to it, and what is to leave is
 //! taken from it. So it never waits, and whoever has the socket decides how to wait for it.
+mod certificate;
 mod config;
 mod pipe;
 
+pub use certificate::Certificate;
 pub use config::{TlsConfig, TlsError};
 
 use crate::frames::{Frames, GULP};
@@ -15,6 +17,7 @@ use openssl::x509::{X509Ref, X509StoreContextRef, X509VerifyResult};
 use pipe::Pipe;
 use std::fmt;
 use std::io::{self, ErrorKind, Read};
+use std::sync::{Arc, OnceLock};
 
 /// The most bytes that come in a hand-shake: a chain of certificates has a few thousand.
 const LONGEST_HANDSHAKE: usize = 1 << 16;
@@ -47,6 +50,26 @@ pub struct TlsSession {
     room: Box<[u8]>,
     /// The other side has said that it ends.
     is_ended: bool,
+    /// Whose certificate was refused.
+    refused: RefusedSubject,
+}
+
+/// The subject of a certificate that was refused.
+#[derive(Clone, Debug, Default)]
+struct RefusedSubject(Arc<OnceLock<String>>);
+
+impl RefusedSubject {
+    fn note(&self, chain: &X509StoreContextRef) {
+        if let Some(certificate) = chain.current_cert() {
+            // The first one that is refused decides.
+            let _ = self.0.set(certificate::shown(certificate.subject_name()));
+        }
+    }
+
+    /// As it stands in a sentence, behind "the other end".
+    fn in_brackets(&self) -> String {
+        self.0.get().map(|subject| format!(" ({subject})")).unwrap_or_default()
+    }
 }
 
 impl TlsSession {
@@ -73,10 +96,15 @@ impl TlsSession {
     pub(crate) fn new(config: &TlsConfig, side: Side) -> io::Result<TlsSession> {
         let mut ssl = Ssl::new(&config.context())?;
         let table = config.table().cloned();
-        let believed = table.clone();
+        let (believed, refused) = (table.clone(), RefusedSubject::default());
+        let noted = refused.clone();
         let mode = SslVerifyMode::PEER | SslVerifyMode::FAIL_IF_NO_PEER_CERT;
         ssl.set_verify_callback(mode, move |is_certified, chain| {
-            is_certified && is_named(chain, side, believed.as_ref())
+            let is_taken = is_certified && is_named(chain, side, believed.as_ref());
+            if !is_taken {
+                noted.note(chain);
+            }
+            is_taken
         });
         let stream = SslStream::new(ssl, Pipe::default())?;
         let mut session = TlsSession {
@@ -88,6 +116,7 @@ impl TlsSession {
             unsealed: Vec::new(),
             room: vec![0; RECORD].into(),
             is_ended: false,
+            refused,
         };
         session.go_on()?;
         Ok(session)
@@ -222,12 +251,15 @@ impl TlsSession {
         let verified = self.stream.ssl().verify_result();
         let alert = error.ssl_error().and_then(alert_of);
         let why = match (verified, alert) {
-            (X509VerifyResult::APPLICATION_VERIFICATION, _) => NO_NAME.to_string(),
+            (X509VerifyResult::APPLICATION_VERIFICATION, _) => {
+                format!("{NO_NAME}{}", self.refused.in_brackets())
+            }
             (_, Some(alert)) => format!("the other end does not take this certificate: {alert}"),
             (X509VerifyResult::OK, None) => format!("TLS failed: {error}"),
             (refused, None) => {
                 let why = refused.error_string();
-                format!("the certificate of the other end is not taken: {why}")
+                let subject = self.refused.in_brackets();
+                format!("the certificate of the other end{subject} is not taken: {why}")
             }
         };
         io::Error::new(ErrorKind::PermissionDenied, why)
@@ -253,9 +285,8 @@ fn is_named(chain: &mut X509StoreContextRef, side: Side, table: Option<&TableNam
 /// Who is at the other end of this side's connection, by its certificate. A server is nobody: it
 /// says nothing as a client.
 fn peer_of(certificate: &X509Ref, side: Side, table: Option<&TableName>) -> Option<Identity> {
-    let names = certificate.subject_alt_names();
-    let names: Vec<&str> = names.iter().flatten().filter_map(|name| name.uri()).collect();
-    let names = names.iter().copied();
+    let names = certificate::names_of(certificate);
+    let names = names.iter().map(String::as_str);
     match side {
         Side::Accepts => Identity::of_names(names, table),
         Side::Connects => Role::is_server(names, table).then(Identity::nobody),

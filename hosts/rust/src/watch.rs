@@ -1,4 +1,5 @@
 //! Who waits, for whom, and for how long.
+use crate::refusal::ClientSet;
 use std::time::{Duration, Instant};
 
 /// The numbers of clients lie below this one.
@@ -59,6 +60,10 @@ struct Seen {
 pub(crate) struct Watch {
     seen: Vec<Seen>,
     holdings: Vec<HeldSlots>,
+    /// The clients that may hold something else than when they were counted.
+    changed: ClientSet,
+    /// Those of them that have joined meanwhile.
+    joined: ClientSet,
     counted: u8,
 }
 
@@ -81,10 +86,38 @@ impl Watch {
             .map_or(now, |seen| seen.since)
     }
 
-    /// The client whose slots are counted next: each in its turn, since counting takes time.
-    pub fn next_counted(&mut self) -> u8 {
-        self.counted = (self.counted + 1) % CLIENTS;
-        self.counted
+    /// What the client holds may change by a message that it has sent, or that is sent to it.
+    pub fn may_change(&mut self, client: u8) {
+        self.changed = self.changed.with(client);
+    }
+
+    /// A new incarnation of the client has joined, and holds nothing yet.
+    pub fn joined(&mut self, client: u8) {
+        self.left(client);
+        self.changed = self.changed.with(client);
+        self.joined = self.joined.with(client);
+    }
+
+    /// The client has left, or was evicted, and holds nothing any more.
+    pub fn left(&mut self, client: u8) {
+        self.holdings.retain(|holding| holding.client != client);
+        self.changed = self.changed.without(client);
+        self.joined = self.joined.without(client);
+    }
+
+    /// The client whose slots are to be counted next, if there is one: first those that have
+    /// joined, and then each in its turn, since counting takes time.
+    pub fn next_to_count(&mut self) -> Option<u8> {
+        let next = (1..=CLIENTS).map(|step| (self.counted + step) % CLIENTS);
+        let next = self
+            .joined
+            .iter()
+            .next()
+            .or_else(|| next.into_iter().find(|client| self.changed.has(*client)))?;
+        self.joined = self.joined.without(next);
+        self.changed = self.changed.without(next);
+        self.counted = next;
+        Some(next)
     }
 
     /// The client holds something of so many slots.
@@ -143,10 +176,29 @@ mod tests {
     }
 
     #[test]
+    fn who_has_joined_is_counted_first_and_then_each_that_changed_in_its_turn() {
+        let mut watch = Watch::default();
+        assert_eq!(watch.next_to_count(), None);
+        for client in [7, 3, 63, 3] {
+            watch.may_change(client);
+        }
+        watch.joined(9);
+        let counted: Vec<_> = std::iter::from_fn(|| watch.next_to_count()).collect();
+        assert_eq!(counted, [9, 63, 3, 7]);
+        watch.may_change(3);
+        watch.may_change(8);
+        assert_eq!((watch.next_to_count(), watch.next_to_count()), (Some(8), Some(3)));
+        watch.counted(3, 7);
+        watch.counted(8, 1);
+        watch.may_change(3);
+        watch.left(3);
+        assert_eq!(watch.holdings(), [HeldSlots { client: 8, slots: 1 }]);
+        assert_eq!(watch.next_to_count(), None);
+    }
+
+    #[test]
     fn holdings_are_by_client() {
         let mut watch = Watch::default();
-        let counted: Vec<_> = (0..CLIENTS).map(|_| watch.next_counted()).collect();
-        assert_eq!((counted[0], counted[62], counted[63]), (1, 63, 0));
         watch.counted(3, 7);
         watch.counted(1, 2);
         watch.counted(3, 8);

@@ -1,5 +1,7 @@
 //! What a monitor sees of a server: its turns, its measurements and its store.
-use krl::{Change, Client, Listener, MemoryStore, Outcome, Server, Snapshot, SnapshotError};
+use krl::{
+    Change, Client, Listener, Liveness, MemoryStore, Outcome, Server, Snapshot, SnapshotError,
+};
 use krl::{Store, StoreError, Value};
 use std::path::PathBuf;
 use std::sync::Arc;
@@ -12,6 +14,7 @@ use std::time::{Duration, Instant};
 struct Hanging {
     store: MemoryStore,
     hangs: Arc<AtomicBool>,
+    longest_wait: Duration,
 }
 
 impl Store for Hanging {
@@ -28,6 +31,10 @@ impl Store for Hanging {
             thread::sleep(Duration::from_millis(1));
         }
         self.store.commit(changes)
+    }
+
+    fn longest_wait(&self) -> Duration {
+        self.longest_wait
     }
 }
 
@@ -46,6 +53,28 @@ fn until(what: &str, mut is_so: impl FnMut() -> bool) {
         assert!(Instant::now() < end, "not within a minute: {what}");
         thread::sleep(Duration::from_millis(5));
     }
+}
+
+/// An idle server asks its store once a second.
+#[test]
+fn a_server_is_alive_for_as_long_as_its_store_may_take() {
+    let hangs = Arc::new(AtomicBool::new(false));
+    let over = |longest_wait| {
+        let hangs = Arc::clone(&hangs);
+        server(Hanging { hangs, longest_wait, ..Hanging::default() })
+    };
+    let (patient, hasty) = (over(Duration::from_secs(3600)), over(Duration::from_millis(1)));
+    hangs.store(true, Ordering::Relaxed);
+    until("the loop waits for its store", || {
+        matches!(patient.monitor().liveness(), Liveness::WaitsForStore { .. })
+    });
+    assert!(patient.monitor().liveness().is_alive());
+    until("the store hangs", || matches!(hasty.monitor().liveness(), Liveness::StoreHangs { .. }));
+    assert!(!hasty.monitor().liveness().is_alive());
+    hangs.store(false, Ordering::Relaxed);
+    until("the loops turn", || {
+        [&patient, &hasty].iter().all(|server| server.monitor().liveness() == Liveness::Turns)
+    });
 }
 
 #[test]
@@ -74,6 +103,25 @@ fn a_commit_that_hangs_shows() {
     let long = u64::try_from(LONG.as_micros() / 2).unwrap();
     assert!(measured.commits.sum >= long && measured.turns.sum >= long, "{measured:?}");
     drop(client);
+    std::fs::remove_file(lock_file).unwrap();
+}
+
+#[test]
+fn a_status_is_of_one_moment() {
+    let server = server(MemoryStore::default());
+    let (monitor, lock_file) = (server.monitor(), lock_file("moment"));
+    for _ in 0..3 {
+        let client = Client::join(server.address(), 5, &lock_file).unwrap();
+        client.read(0..100).unwrap();
+        until("what it holds is shown", || !monitor.status().holdings.is_empty());
+        client.leave().unwrap();
+        until("it is gone", || {
+            let status = monitor.status();
+            let is_gone = status.connected.is_empty();
+            assert!(!is_gone || status.holdings.is_empty(), "{status}");
+            is_gone
+        });
+    }
     std::fs::remove_file(lock_file).unwrap();
 }
 

@@ -116,6 +116,23 @@ fn a_client_of_an_older_incarnation() {
 }
 
 #[test]
+fn a_client_whose_clock_is_far_ahead() {
+    let (server, lock) = (server(MemoryStore::default()), lock_file("ahead"));
+    // Of the year 2046.
+    std::fs::write(&lock, "krl client 03 incarnation 02426388266503144698\n").unwrap();
+    let client = Client::builder(server.address().clone()).number(3).lock_file(&lock);
+    let error = client.timeout(SHORT).join().unwrap_err();
+    let JoinError::Unserved(refusal) = error else { panic!("{error:?}") };
+    assert!(matches!(refusal, Refusal::FarAhead { client: 3, .. }), "{refusal:?}");
+    assert!(refusal.to_string().contains("more than a day ahead of the server's clock"));
+    // The number is not lost.
+    std::fs::remove_file(&lock).unwrap();
+    let client = Client::join(server.address().clone(), 3, &lock).unwrap();
+    client.leave().unwrap();
+    std::fs::remove_file(lock).unwrap();
+}
+
+#[test]
 fn a_client_that_was_replaced() {
     let (server, lock) = (server(MemoryStore::default()), lock_file("replaced"));
     let client = Client::join(server.address().clone(), 3, &lock).unwrap();

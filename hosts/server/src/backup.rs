@@ -1,6 +1,7 @@
 //! A copy of the store of a running server.
 use crate::cause;
 use crate::http::{self, StatusPort};
+use crate::output;
 use hyper::StatusCode;
 use krl::{Monitor, SqliteStore};
 use serde::{Deserialize, Serialize};
@@ -28,10 +29,7 @@ pub fn ask(port: &StatusPort, file: &Path) -> Result<(), Box<dyn Error>> {
     let order = serde_json::to_string(&Order { file })?;
     let reply = http::post(port, PATH, order, TIMEOUT)?;
     match reply.status {
-        StatusCode::CREATED => {
-            print!("{}", reply.text);
-            Ok(())
-        }
+        StatusCode::CREATED => Ok(output::print_done(&reply.text)?),
         _ => Err(format!("no backup: {}", reply.text.trim_end()).into()),
     }
 }

@@ -1,5 +1,6 @@
 //! What a store holds, and whether a server can start on it.
 use crate::cause;
+use crate::output;
 use crate::owner;
 use krl::{Record, SqliteStore};
 use std::error::Error;
@@ -16,22 +17,26 @@ pub fn check(path: &Path) -> Result<ExitCode, Box<dyn Error>> {
     })?;
     let snapshot = &file.snapshot;
     let (gone, there): (Vec<_>, Vec<_>) = snapshot.records.iter().partition(|it| it.left);
-    println!("version: {}", file.version);
-    println!("epoch: {}", snapshot.epoch);
-    println!("rows: {}", snapshot.rows.len());
-    println!("room: {}", snapshot.kept_room().unwrap_or_default());
-    println!("clients that have not left: {}", list(&there));
-    println!("clients that have left: {}", list(&gone));
-    match snapshot.judge() {
-        Ok(()) => {
-            println!("a server can start on it");
-            Ok(ExitCode::SUCCESS)
-        }
-        Err(code) => {
-            println!("no server can start on it: {code}");
-            Ok(ExitCode::FAILURE)
-        }
-    }
+    let (judgment, status) = match snapshot.judge() {
+        Ok(()) => ("a server can start on it".to_string(), ExitCode::SUCCESS),
+        Err(code) => (format!("no server can start on it: {code}"), ExitCode::FAILURE),
+    };
+    output::print(&format!(
+        "version: {}\n\
+         epoch: {}\n\
+         rows: {}\n\
+         room: {}\n\
+         clients that have not left: {}\n\
+         clients that have left: {}\n\
+         {judgment}\n",
+        file.version,
+        snapshot.epoch,
+        snapshot.rows.len(),
+        snapshot.kept_room().unwrap_or_default(),
+        list(&there),
+        list(&gone),
+    ))?;
+    Ok(status)
 }
 
 fn list(records: &[&Record]) -> String {

@@ -1,5 +1,6 @@
 //! Whether a server is well, for those who ask by a command.
 use crate::http::{self, StatusPort};
+use crate::output;
 use crate::pages::{TEXT, WAIT};
 use hyper::StatusCode;
 use std::error::Error;
@@ -26,7 +27,7 @@ impl Asked {
 /// Prints what the server says of itself. The exit status is 1 if it is not as was asked.
 pub fn ask(port: &StatusPort, asked: Asked) -> Result<ExitCode, Box<dyn Error>> {
     let reply = http::get(port, asked.path(), TEXT, WAIT)?;
-    print!("{}", reply.text);
+    output::print(&reply.text)?;
     let is_so = reply.status == StatusCode::OK;
     Ok(if is_so { ExitCode::SUCCESS } else { ExitCode::FAILURE })
 }

@@ -18,6 +18,9 @@ use tokio::time::timeout;
 const TLS: &str = "tls:";
 const PLAIN: &str = "plain:";
 
+/// The host that a request names: one that each status port answers, whatever its name is.
+const NAMED_HOST: &str = "localhost";
+
 /// Any error of a request, which another thread may have.
 type Failure = Box<dyn Error + Send + Sync>;
 
@@ -75,7 +78,7 @@ pub fn get(
     wait: Duration,
 ) -> Result<Reply, Box<dyn Error>> {
     let request = Request::builder().uri(path).header(ACCEPT, accept);
-    ask(port, request.header(HOST, &port.place).body(Body::empty())?, wait)
+    ask(port, request.header(HOST, NAMED_HOST).body(Body::empty())?, wait)
 }
 
 /// Sends JSON to a path.
@@ -85,7 +88,7 @@ pub fn post(
     json: String,
     wait: Duration,
 ) -> Result<Reply, Box<dyn Error>> {
-    let request = Request::builder().method(Method::POST).uri(path).header(HOST, &port.place);
+    let request = Request::builder().method(Method::POST).uri(path).header(HOST, NAMED_HOST);
     ask(port, request.header(CONTENT_TYPE, "application/json").body(json.into())?, wait)
 }
 

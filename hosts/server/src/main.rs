@@ -8,6 +8,8 @@ mod http;
 mod locks;
 mod log;
 mod next_map;
+mod origin;
+mod output;
 mod owner;
 mod pages;
 mod reload;
@@ -20,12 +22,15 @@ mod settings;
 mod stand_by;
 mod status_port;
 mod tls_files;
+mod visitors;
+mod watchdog;
 
 use clap::{ArgMatches, CommandFactory, FromArgMatches};
 use command_line::{Command, CommandLine, ServeOptions, TlsOptions};
 use health::Asked;
 use http::StatusPort;
 use krl::{Servers, ShardBounds, StoreError};
+use output::NotPrinted;
 use settings::{BadSetting, Settings};
 use std::error::Error;
 use std::path::Path;
@@ -41,26 +46,40 @@ fn main() -> ExitCode {
     let options = matches.subcommand().map_or(&matches, |(_, options)| options);
     match run(words.command, options) {
         Ok(status) => status,
-        Err(error) => {
-            eprintln!("krl-server: {}", sentence(error.as_ref()));
-            let is_usage = error.is::<BadSetting>();
-            if is_usage { ExitCode::from(USAGE) } else { ExitCode::FAILURE }
-        }
+        Err(error) => failed(error.as_ref()),
     }
+}
+
+/// Reports why a command has failed, and gives its exit status.
+fn failed(error: &(dyn Error + 'static)) -> ExitCode {
+    let (status, is_news) = match error.downcast_ref::<NotPrinted>() {
+        Some(error) => error.exit_status(),
+        None if error.is::<BadSetting>() => (ExitCode::from(USAGE), true),
+        None => (ExitCode::FAILURE, true),
+    };
+    if is_news {
+        output::report(&sentence(error));
+    }
+    status
 }
 
 fn run(command: Command, matches: &ArgMatches) -> Result<ExitCode, Box<dyn Error>> {
     match command {
         Command::Serve(options) => return Ok(serve::serve(&settings(&options, matches)?)),
-        Command::Config(options) => print!("{}", settings(&options, matches)?),
+        Command::Config(options) => {
+            let settings = settings(&options, matches)?;
+            // What `serve` would refuse is refused here too.
+            settings.access.tls()?;
+            output::print(&settings.to_string())?;
+        }
         Command::Status { address, tls, json } => {
-            print!("{}", pages::fetch(&StatusPort::new(&address, &tls)?, json)?);
+            output::print(&pages::fetch(&StatusPort::new(&address, &tls)?, json)?)?;
         }
         Command::Health { address, tls, ready } => {
             let asked = if ready { Asked::Ready } else { Asked::Alive };
             return health::ask(&StatusPort::new(&address, &tls)?, asked);
         }
-        Command::Locks(options) => print!("{}", locks::ask(&options)?),
+        Command::Locks(options) => output::print(&locks::ask(&options)?)?,
         Command::Evict { address, tls, number, lock_file, shard } => {
             evict((&address, shard), &tls, number, &lock_file)?;
         }
@@ -91,10 +110,10 @@ fn evict(
     number: u8,
     lock_file: &Path,
 ) -> Result<(), Box<dyn Error>> {
-    eprintln!(
-        "krl-server: client {number} must be dead: one that still runs would answer from its \
-         cache what is not so"
-    );
+    output::report(&format!(
+        "client {number} must be dead: one that still runs would answer from its cache what is \
+         not so"
+    ));
     let mut servers: Servers =
         address.parse().map_err(|error| BadSetting::new(format!("'{address}': {error}")))?;
     if let Some(config) = TlsFiles::of(tls)?.read()? {
@@ -104,7 +123,7 @@ fn evict(
         servers = servers.of_shard(shard);
     }
     krl::evict(servers, number, lock_file)?;
-    eprintln!("krl-server: client {number} has left");
+    output::report(&format!("client {number} has left"));
     Ok(())
 }
 

@@ -1,6 +1,6 @@
 //! The map behind a split or a merge, as a file.
 use clap::Args;
-use krl::{Servers, ShardMap, Snapshot};
+use krl::{Servers, Shard, ShardMap, Snapshot};
 use std::error::Error;
 use std::fs::OpenOptions;
 use std::io::Write;
@@ -78,8 +78,8 @@ impl NextMap {
         Ok(NextMap { map, path: path.into() })
     }
 
-    /// Writes the map, and prints by which shard each server has to be started.
-    pub fn write(&self) -> Result<()> {
+    /// Writes the map, and answers by which shard each server has to be started.
+    pub fn write(&self) -> Result<String> {
         let at = self.path.display();
         let written = OpenOptions::new().write(true).create_new(true).open(&self.path);
         let written = written.and_then(|mut file| {
@@ -89,13 +89,13 @@ impl NextMap {
         written.map_err(|error| {
             format!("the stores are as they should be, but the map {at} can't be written: {error}")
         })?;
-        println!("{at}: the next map. Start each server anew by it:");
-        for (place, shard) in self.map.shards().iter().enumerate() {
-            if let Some(bounds) = self.map.bounds_of(place) {
-                println!("    {}: --shard {bounds}", shard.servers);
-            }
-        }
-        Ok(())
+        let shards = self.map.shards().iter().enumerate();
+        let start = |(place, shard): (usize, &Shard)| {
+            let bounds = self.map.bounds_of(place)?;
+            Some(format!("    {}: --shard {bounds}\n", shard.servers))
+        };
+        let starts: String = shards.filter_map(start).collect();
+        Ok(format!("{at}: the next map. Start each server anew by it:\n{starts}"))
     }
 }
 

@@ -2,26 +2,33 @@
 use crate::backup::{self, Order};
 use crate::http::{self, StatusPort};
 use crate::locks::{self, Question};
+use crate::log;
+use crate::origin;
+use crate::reload;
 use crate::role::{Role, State};
+use crate::visitors::Visit;
 use hyper::header::{ACCEPT, ALLOW, CONTENT_TYPE};
 use hyper::{Body, Method, Request, Response, StatusCode};
-use krl::{HeldSlots, Monitor, Status, Wait};
+use krl::{Certificate, HeldSlots, Liveness, Monitor, Status, TlsConfig, Wait};
 use serde_json::json;
+use std::collections::BTreeMap;
 use std::error::Error;
 use std::net::IpAddr;
-use std::time::Duration;
+use std::time::{Duration, SystemTime, UNIX_EPOCH};
+use tokio::time::timeout;
 
 pub const TEXT: &str = "text/plain; charset=utf-8";
 pub const JSON: &str = "application/json";
 const METRICS: &str = "text/plain; version=0.0.4; charset=utf-8";
+const METRICS_PATH: &str = "/metrics";
 
 const PATHS: &str = "there is /healthz, /readyz, /status, /status.json, /locks and /metrics\n";
 
-/// A server whose loop has not turned for so long is not healthy.
-const MAX_TURN: Duration = Duration::from_secs(1);
-
 /// The most bytes of an order.
 const MAX_ORDER: u64 = 1 << 16;
+
+/// How long an order may take to come after its head.
+const BODY: Duration = Duration::from_secs(5);
 
 /// How long a command waits for an answer.
 pub const WAIT: Duration = Duration::from_secs(5);
@@ -54,6 +61,16 @@ pub fn fetch(port: &StatusPort, json: bool) -> Result<String, Box<dyn Error>> {
     Err(format!("{port} is no status port of krl: it answered {}", reply.status).into())
 }
 
+/// What is shown at the status port.
+#[derive(Clone, Debug)]
+pub struct Shown {
+    pub role: Role,
+    /// What the server shows by TLS, if it shows anything.
+    pub certificate: Option<TlsConfig>,
+    /// The name at which the port listens, if it is not an address.
+    pub name: Option<String>,
+}
+
 /// Who asks.
 #[derive(Clone, Copy, Debug, PartialEq, Eq)]
 pub enum Asker {
@@ -64,9 +81,20 @@ pub enum Asker {
 }
 
 /// What a request is answered.
-pub async fn answer(request: Request<Body>, asker: Asker, role: Role) -> Response<Body> {
+pub async fn answer(
+    request: Request<Body>,
+    asker: Asker,
+    shown: Shown,
+    visit: &Visit,
+) -> Response<Body> {
+    if let Some(why) = origin::refusal(request.headers(), asker, shown.name.as_deref()) {
+        return response(Page::text(StatusCode::FORBIDDEN, why));
+    }
     let path = request.uri().path();
-    let state = role.state();
+    let state = shown.role.state();
+    if path == METRICS_PATH && matches!(*request.method(), Method::GET | Method::HEAD) {
+        return response(Page::new(StatusCode::OK, METRICS, metrics(&shown, &state)));
+    }
     let State::Serves { monitor, .. } = state.clone() else {
         return response(without_a_server(path, accepts(&request), &state));
     };
@@ -76,13 +104,13 @@ pub async fn answer(request: Request<Body>, asker: Asker, role: Role) -> Respons
             "a backup is ordered on the server's machine, at a loopback address, or by an operator \
              over TLS\n",
         ),
-        (&Method::POST, backup::PATH) => order(request, monitor).await,
+        (&Method::POST, backup::PATH) => order(request, monitor, visit).await,
         (_, backup::PATH) => return refused_method("POST"),
         (&Method::GET | &Method::HEAD, locks::PATH) => {
             let query = request.uri().query().unwrap_or("");
             locks_page(query, accepts(&request).contains(JSON), monitor).await
         }
-        (&Method::GET | &Method::HEAD, _) => shown(path, accepts(&request), &monitor, &state),
+        (&Method::GET | &Method::HEAD, _) => page(path, accepts(&request), &monitor, &state),
         _ => return refused_method("GET, HEAD"),
     };
     response(page)
@@ -114,7 +142,6 @@ fn without_a_server(path: &str, accepts: &str, state: &State) -> Page {
         "/status" if accepts.contains(JSON) => role_as_json(state),
         "/status" => Page::text(StatusCode::OK, text),
         "/status.json" => role_as_json(state),
-        "/metrics" => Page::new(StatusCode::OK, METRICS, role_as_metrics(state)),
         "/readyz" | locks::PATH | backup::PATH => Page::text(StatusCode::SERVICE_UNAVAILABLE, text),
         _ => Page::text(StatusCode::NOT_FOUND, PATHS),
     }
@@ -131,25 +158,55 @@ fn role_as_json(state: &State) -> Page {
     Page::new(StatusCode::OK, JSON, format!("{text:#}\n"))
 }
 
-fn role_as_metrics(state: &State) -> String {
+/// The figures of the server, if one serves, and those of the process.
+fn metrics(shown: &Shown, state: &State) -> String {
+    let mut text = match state {
+        State::Serves { monitor, .. } => monitor.metrics(),
+        _ => String::new(),
+    };
+    text.push_str(&process_as_metrics(state));
+    if let Some(tls) = &shown.certificate {
+        text.push_str(&certificate_as_metrics(&tls.certificate(), SystemTime::now()));
+    }
+    text
+}
+
+fn certificate_as_metrics(certificate: &Certificate, now: SystemTime) -> String {
+    let now = now.duration_since(UNIX_EPOCH).unwrap_or_default().as_secs();
+    let left = certificate.expires.saturating_sub(i64::try_from(now).unwrap_or(i64::MAX));
+    format!(
+        "# HELP krl_certificate_expires_seconds How long the server's certificate is still valid; \
+         negative once it has expired\n\
+         # TYPE krl_certificate_expires_seconds gauge\n\
+         krl_certificate_expires_seconds {left}\n\
+         # HELP krl_certificate_reloads_refused_total Times that SIGHUP found certificates that can't \
+         be used\n\
+         # TYPE krl_certificate_reloads_refused_total counter\n\
+         krl_certificate_reloads_refused_total {}\n",
+        reload::refused()
+    )
+}
+
+fn process_as_metrics(state: &State) -> String {
     let serves = u8::from(matches!(state, State::Serves { .. }));
     format!(
         "# HELP krl_leader Whether this process serves: 1, or stands by: 0.\n\
          # TYPE krl_leader gauge\n\
-         krl_leader {serves}\n"
+         krl_leader {serves}\n\
+         # HELP krl_log_lost_total Lines of the log that could not be written\n\
+         # TYPE krl_log_lost_total counter\n\
+         krl_log_lost_total {}\n",
+        log::lost()
     )
 }
 
-fn shown(path: &str, accepts: &str, monitor: &Monitor, state: &State) -> Page {
+fn page(path: &str, accepts: &str, monitor: &Monitor, state: &State) -> Page {
     match path {
-        "/healthz" => health(monitor.since_last_turn()),
+        "/healthz" => health(monitor.liveness()),
         "/readyz" => readiness(&monitor.status()),
         "/status" if accepts.contains(JSON) => as_json(&monitor.status(), state),
         "/status" => Page::text(StatusCode::OK, monitor.status().to_string()),
         "/status.json" => as_json(&monitor.status(), state),
-        "/metrics" => {
-            Page::new(StatusCode::OK, METRICS, monitor.metrics() + &role_as_metrics(state))
-        }
         _ => Page::text(StatusCode::NOT_FOUND, PATHS),
     }
 }
@@ -163,14 +220,11 @@ fn may_order(asker: Asker) -> bool {
     }
 }
 
-/// Whether the server's loop turns.
-fn health(since_last_turn: Duration) -> Page {
-    if since_last_turn < MAX_TURN {
-        return Page::text(StatusCode::OK, "ok\n");
-    }
-    let ms = since_last_turn.as_millis();
-    let text = format!("the server's loop last turned {ms} ms ago\n");
-    Page::text(StatusCode::SERVICE_UNAVAILABLE, text)
+/// Whether the server's loop goes on, and if it stands, where.
+fn health(liveness: Liveness) -> Page {
+    let is_alive = liveness.is_alive();
+    let status = if is_alive { StatusCode::OK } else { StatusCode::SERVICE_UNAVAILABLE };
+    Page::text(status, format!("{liveness}\n"))
 }
 
 /// Whether the server answers requests, and if not, for whom it waits.
@@ -228,6 +282,7 @@ fn as_json(status: &Status, state: &State) -> Page {
         "missing": status.missing,
         "connected": status.connected,
         "connections": status.connections,
+        "connections_closed_total": status.closed.counts().collect::<BTreeMap<_, _>>(),
         "waits": status.waits.iter().map(wait_as_json).collect::<Vec<_>>(),
         "holdings": status.holdings.iter().map(holds).collect::<Vec<_>>(),
         "alarms": status.alarms,
@@ -250,7 +305,7 @@ fn as_json(status: &Status, state: &State) -> Page {
 
 /// Takes the order to make a backup. Its kind has to be JSON, which no page of another site can
 /// send without asking first.
-async fn order(request: Request<Body>, monitor: Monitor) -> Page {
+async fn order(request: Request<Body>, monitor: Monitor, visit: &Visit) -> Page {
     let kind = request.headers().get(CONTENT_TYPE).and_then(|value| value.to_str().ok());
     if kind != Some(JSON) {
         return Page::text(StatusCode::UNSUPPORTED_MEDIA_TYPE, format!("an order is {JSON}\n"));
@@ -266,11 +321,21 @@ async fn order(request: Request<Body>, monitor: Monitor) -> Page {
             return Page::text(StatusCode::BAD_REQUEST, text);
         }
     };
+    if !visit.begin_order() {
+        return Page::text(
+            StatusCode::SERVICE_UNAVAILABLE,
+            "other backups are being made: order this one again when they are done\n",
+        );
+    }
     // Files are written in another thread, so that other pages are served meanwhile.
+    let file = order.file.clone();
     let made = tokio::task::spawn_blocking(move || backup::make(&monitor, &order)).await;
     match made {
         Ok(Ok(text)) => Page::text(StatusCode::CREATED, text),
-        Ok(Err(error)) => Page::text(StatusCode::CONFLICT, format!("{error}\n")),
+        Ok(Err(error)) => {
+            tracing::warn!(file = %file.display(), why = %error, "a backup has failed");
+            Page::text(StatusCode::CONFLICT, format!("{error}\n"))
+        }
         Err(_) => Page::text(StatusCode::INTERNAL_SERVER_ERROR, "the backup panicked\n"),
     }
 }
@@ -283,9 +348,12 @@ async fn body(request: Request<Body>) -> Result<hyper::body::Bytes, Page> {
         let text = format!("an order has at most {MAX_ORDER} bytes, and says how many\n");
         return Err(Page::text(StatusCode::PAYLOAD_TOO_LARGE, text));
     }
-    hyper::body::to_bytes(request.into_body())
-        .await
-        .map_err(|error| Page::text(StatusCode::BAD_REQUEST, format!("{error}\n")))
+    let bytes = timeout(BODY, hyper::body::to_bytes(request.into_body()));
+    let bytes = bytes.await.map_err(|_| {
+        let text = format!("the order has to come within {BODY:?} after its head\n");
+        Page::text(StatusCode::REQUEST_TIMEOUT, text)
+    })?;
+    bytes.map_err(|error| Page::text(StatusCode::BAD_REQUEST, format!("{error}\n")))
 }
 
 #[cfg(test)]
@@ -309,11 +377,17 @@ mod tests {
     }
 
     #[test]
-    fn a_loop_that_hangs_is_not_healthy() {
-        assert_eq!(health(Duration::from_millis(999)), Page::text(StatusCode::OK, "ok\n"));
-        let page = health(Duration::from_secs(1));
+    fn a_server_whose_store_hangs_is_not_healthy() {
+        assert_eq!(health(Liveness::Turns), Page::text(StatusCode::OK, "ok\n"));
+        let waited = Duration::from_millis(1500);
+        let page = health(Liveness::WaitsForStore { waited });
+        assert_eq!(page.status, StatusCode::OK);
+        assert_eq!(page.text, "ok: the loop has waited for its store for 1500 ms\n");
+        let page = health(Liveness::StoreHangs { waited, longest: Duration::from_secs(1) });
         assert_eq!(page.status, StatusCode::SERVICE_UNAVAILABLE);
-        assert!(page.text.contains("1000 ms"), "{}", page.text);
+        assert!(page.text.contains("for 1500 ms, which may take 1000 ms at most"), "{}", page.text);
+        let page = health(Liveness::Hangs { since_last_step: waited });
+        assert_eq!(page.status, StatusCode::SERVICE_UNAVAILABLE);
     }
 
     #[test]

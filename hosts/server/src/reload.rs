@@ -1,9 +1,18 @@
 //! Certificates that are read again on SIGHUP.
-use krl::TlsConfig;
+use krl::{Certificate, TlsConfig};
 use signal_hook::consts::SIGHUP;
 use signal_hook::iterator::Signals;
 use std::io;
+use std::sync::atomic::{AtomicU64, Ordering};
 use std::thread;
+
+/// How often they were read again and could not be used.
+static REFUSED: AtomicU64 = AtomicU64::new(0);
+
+/// How often certificates were read again and could not be used, since the start.
+pub fn refused() -> u64 {
+    REFUSED.load(Ordering::Relaxed)
+}
 
 /// Reads them again whenever SIGHUP comes. What can't be used changes nothing. Without certificates
 /// SIGHUP does nothing.
@@ -19,12 +28,22 @@ pub fn start(tls: Option<TlsConfig>) -> io::Result<()> {
 }
 
 fn reload(tls: Option<&TlsConfig>) {
-    match tls.map(TlsConfig::reload) {
-        None => tracing::info!("SIGHUP: there are no certificates to read again"),
-        Some(Ok(())) => tracing::info!("the certificates are read again"),
-        Some(Err(error)) => {
+    let Some(tls) = tls else {
+        tracing::info!("SIGHUP: there are no certificates to read again");
+        return;
+    };
+    match tls.reload() {
+        Ok(()) => tell(tls, "the certificates are read again"),
+        Err(error) => {
+            REFUSED.fetch_add(1, Ordering::Relaxed);
             let why = crate::sentence(&error);
             tracing::error!(why, "the certificates can't be used: the old ones stay");
         }
     }
+}
+
+/// Tells the log which certificate is shown from now on.
+pub fn tell(tls: &TlsConfig, what: &str) {
+    let Certificate { subject, names, expires_at, .. } = tls.certificate();
+    tracing::info!(subject, names = names.join(","), expires = expires_at, "{what}");
 }

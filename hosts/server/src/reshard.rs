@@ -1,6 +1,7 @@
 //! A store that is cut in two, and two that become one, while no server runs on them.
 use crate::cause;
 use crate::next_map::{MergeMap, NextMap, SplitMap};
+use crate::output;
 use crate::owner::Owner;
 use krl::{END, Snapshot, SqliteStore, Store};
 use std::error::Error;
@@ -24,9 +25,15 @@ pub fn split(store: &Path, at: u64, new: &Path, map: &SplitMap) -> Done {
         let (new, store) = (new.display(), store.display());
         format!("{store} has all its rows still: {error}. Remove {new}, and split again")
     })?;
-    println!("{}: {} rows below {at}, epoch {}", store.display(), lower.rows.len(), lower.epoch);
-    println!("{}: {} rows from {at} on, epoch {}", new.display(), upper.rows.len(), upper.epoch);
-    next.as_ref().map_or(Ok(()), NextMap::write)
+    let (below, from) = (lower.rows.len(), upper.rows.len());
+    let done = format!(
+        "{}: {below} rows below {at}, epoch {}\n{}: {from} rows from {at} on, epoch {}\n",
+        store.display(),
+        lower.epoch,
+        new.display(),
+        upper.epoch
+    );
+    tell(&done, next.as_ref())
 }
 
 /// Makes a new store of two. They are only read.
@@ -37,8 +44,16 @@ pub fn merge(lower: &Path, upper: &Path, new: &Path, map: &MergeMap) -> Done {
     let whole = lower.merge(upper)?;
     judge(new, &whole)?;
     create(new, &whole)?;
-    println!("{}: {} rows, epoch {}", new.display(), whole.rows.len(), whole.epoch);
-    next.as_ref().map_or(Ok(()), NextMap::write)
+    let (rows, epoch) = (whole.rows.len(), whole.epoch);
+    tell(&format!("{}: {rows} rows, epoch {epoch}\n", new.display()), next.as_ref())
+}
+
+/// Writes the next map, if there is one, and only then prints what was done.
+fn tell(done: &str, next: Option<&NextMap>) -> Done {
+    let written = next.map_or(Ok(String::new()), NextMap::write);
+    let map = written.as_deref().unwrap_or_default();
+    output::print_done(&format!("{done}{map}"))?;
+    written.map(drop)
 }
 
 /// No server starts on the store while this process has it.

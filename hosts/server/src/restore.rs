@@ -1,5 +1,6 @@
 //! A new store from a backup, for a server that takes up work again.
 use crate::cause;
+use crate::output;
 use crate::owner;
 use crate::settings::{BadSetting, StorePlace};
 use crate::stand_by;
@@ -52,8 +53,11 @@ pub fn restore(backup: &Path, store: &StorePlace, are_stopped: bool) -> Result<(
     };
     made.map_err(|error| cause(&error))?;
     let Snapshot { epoch, rows, records, .. } = snapshot;
-    println!("{store}: {} rows, epoch {epoch} after {before}", rows.len());
-    println!("clients that count as left: {}", records.len());
+    let (rows, records) = (rows.len(), records.len());
+    output::print_done(&format!(
+        "{store}: {rows} rows, epoch {epoch} after {before}\n\
+         clients that count as left: {records}\n"
+    ))?;
     Ok(())
 }
 

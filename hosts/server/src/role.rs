@@ -1,5 +1,5 @@
 //! What a process does just now: it starts, stands by, or serves.
-use krl::Monitor;
+use krl::{Liveness, Monitor};
 use std::fmt;
 use std::sync::{Arc, Mutex, MutexGuard, PoisonError};
 use std::time::{SystemTime, UNIX_EPOCH};
@@ -55,6 +55,12 @@ impl State {
             State::StandsBy { .. } => "stands by",
             State::Serves { .. } => "serves",
         }
+    }
+
+    /// Whether the server's loop goes on, if it serves.
+    pub fn liveness(&self) -> Option<Liveness> {
+        let State::Serves { monitor, .. } = self else { return None };
+        Some(monitor.liveness())
     }
 
     /// Since when it serves, in seconds since 1970.

@@ -1,10 +1,11 @@
 //! A server, from its start until it is told to stop.
 use crate::cause;
 use crate::log;
+use crate::output;
 use crate::owner::Owner;
 use crate::role::Role;
-use crate::settings::{Settings, StatusAddress, StorePlace};
-use crate::{reload, stand_by, status_port};
+use crate::settings::{BadSetting, Settings, StatusAddress, StorePlace};
+use crate::{reload, stand_by, status_port, watchdog};
 use krl::{Access, Listener, Seldom, ServeError, Server, SqliteStore, Store, StoreError};
 use krl_postgres::{PostgresAddress, PostgresStore};
 use sd_notify::NotifyState;
@@ -33,7 +34,13 @@ const OLDER_STORE: u8 = 3;
 
 /// Serves until a signal comes, and then stops in order. What goes wrong is told in the log.
 pub fn serve(settings: &Settings) -> ExitCode {
-    log::start(settings);
+    let _log = match log::start(settings) {
+        Ok(log) => log,
+        Err(error) => {
+            output::report(&format!("there is no thread for the log: {error}"));
+            return ExitCode::FAILURE;
+        }
+    };
     match run(settings) {
         Ok(()) => {
             tracing::info!("stopped");
@@ -51,6 +58,7 @@ pub fn serve(settings: &Settings) -> ExitCode {
 fn exit_status(error: &(dyn Error + 'static)) -> ExitCode {
     match error.downcast_ref() {
         Some(HasFailed(ServeError::OlderStore { .. })) => ExitCode::from(OLDER_STORE),
+        _ if error.is::<BadSetting>() => ExitCode::from(crate::USAGE),
         _ => ExitCode::FAILURE,
     }
 }
@@ -59,7 +67,11 @@ fn run(settings: &Settings) -> Result<(), Box<dyn Error>> {
     let (signal, role) = (Signal::catch()?, Role::default());
     let tls = settings.access.tls()?;
     let access = settings.access.access(tls.as_ref());
+    if let Some(tls) = &tls {
+        reload::tell(tls, "the server shows this certificate");
+    }
     reload::start(tls.clone())?;
+    watchdog::start(role.clone())?;
     if let StatusAddress::At(address) = &settings.status.value {
         let at = status_port::start(address, tls, role.clone())
             .map_err(|error| format!("can't serve the status at {address}: {error}"))?;

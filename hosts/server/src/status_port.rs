@@ -1,35 +1,35 @@
 //! The status port: HTTP in a thread of its own.
 use crate::backup;
-use crate::pages::{self, Asker};
+use crate::pages::{self, Asker, Shown};
 use crate::role::Role;
 use crate::sealed;
+use crate::visitors::{Visit, Visitors};
 use hyper::server::conn::Http;
 use hyper::service::service_fn;
 use hyper::{Body, Request};
 use krl::{Address, Listener, Seldom, TlsConfig, TlsSession};
 use std::convert::Infallible;
 use std::io::{self, ErrorKind};
-use std::net::TcpListener;
+use std::net::{SocketAddr, TcpListener};
 use std::pin::pin;
-use std::sync::atomic::{AtomicBool, Ordering};
 use std::sync::{Arc, Mutex, PoisonError};
 use std::thread;
 use std::time::{Duration, Instant};
 use tokio::io::{AsyncRead, AsyncWrite};
 use tokio::net::TcpStream;
-use tokio::sync::Semaphore;
+use tokio::sync::Notify;
 use tokio::time::{sleep, timeout};
 
-/// The most connections at once. One more waits until another has ended.
-const MAX_CONNECTIONS: usize = 32;
-
-/// How long a peer may take to send the head of its request.
+/// How long a peer may take to send the whole head of its request.
 const HEAD: Duration = Duration::from_secs(5);
+
+/// The most bytes of a head.
+const MAX_HEAD: usize = 1 << 14;
 
 /// How long a hand-shake may take.
 const HANDSHAKE: Duration = Duration::from_secs(5);
 
-/// How long a connection may take in all, unless it orders a backup.
+/// How long a connection may take from its request on, unless its order is carried out.
 const WHOLE: Duration = Duration::from_secs(90);
 
 /// How long to wait before the next try when the system has no room for another connection.
@@ -40,6 +40,7 @@ const PAUSE: Duration = Duration::from_millis(50);
 pub fn start(address: &Address, tls: Option<TlsConfig>, role: Role) -> io::Result<Address> {
     let listener = Listener::bind(address)?;
     let at = listener.address()?;
+    let certificate = tls.clone();
     let (listener, tls) = match (listener, tls) {
         (Listener::Tcp(listener), _) => (listener, None),
         (Listener::Tls(listener), Some(tls)) => (listener, Some(tls)),
@@ -52,8 +53,13 @@ pub fn start(address: &Address, tls: Option<TlsConfig>, role: Role) -> io::Resul
     };
     listener.set_nonblocking(true)?;
     let runtime = tokio::runtime::Builder::new_current_thread().enable_all().build()?;
+    let name = match address {
+        Address::Host(name, _) => Some(name.clone()),
+        _ => None,
+    };
+    let shown = Shown { role, certificate, name };
     let serves = move || {
-        if let Err(error) = runtime.block_on(serve(listener, tls, role)) {
+        if let Err(error) = runtime.block_on(serve(listener, tls, shown)) {
             tracing::error!(%error, "the status port ended");
         }
     };
@@ -65,33 +71,63 @@ fn refused(why: &str) -> io::Error {
     io::Error::new(ErrorKind::InvalidInput, why)
 }
 
-async fn serve(listener: TcpListener, tls: Option<TlsConfig>, role: Role) -> io::Result<()> {
+async fn serve(listener: TcpListener, tls: Option<TlsConfig>, shown: Shown) -> io::Result<()> {
     let listener = tokio::net::TcpListener::from_std(listener)?;
-    let places = Arc::new(Semaphore::new(MAX_CONNECTIONS));
+    let visitors = Visitors::default();
     let refused = Arc::new(Mutex::new(Seldom::default()));
     loop {
-        let Ok(place) = Arc::clone(&places).acquire_owned().await else { return Ok(()) };
         let Ok((stream, peer)) = listener.accept().await else {
             sleep(PAUSE).await;
             continue;
         };
-        let (role, tls, refused) = (role.clone(), tls.clone(), Arc::clone(&refused));
-        tokio::spawn(async move {
-            let _place = place;
-            match tls {
-                None => answer(stream, Asker::Unknown(peer.ip()), role).await,
-                Some(tls) => answer_operator(stream, &tls, role, &refused).await,
-            }
-        });
+        let visit = Arc::new(visitors.accept(peer.ip(), Instant::now()));
+        let asker = Asker::Unknown(peer.ip());
+        let guest = Guest { peer, asker, visit, shown: shown.clone() };
+        tokio::spawn(attend(stream, guest, tls.clone(), Arc::clone(&refused)));
+    }
+}
+
+/// Who is connected, and to what.
+struct Guest {
+    peer: SocketAddr,
+    asker: Asker,
+    visit: Arc<Visit>,
+    shown: Shown,
+}
+
+/// Answers one connection, until it has to be closed for another one.
+async fn attend(
+    stream: TcpStream,
+    guest: Guest,
+    tls: Option<TlsConfig>,
+    refused: Arc<Mutex<Seldom>>,
+) {
+    let visit = Arc::clone(&guest.visit);
+    let answered = async {
+        match tls {
+            None => answer(stream, guest).await,
+            Some(tls) => answer_operator(stream, &tls, guest, &refused).await,
+        }
+    };
+    tokio::select! {
+        () = visit.closed() => {}
+        () = answered => {}
     }
 }
 
 /// Answers by TLS, if an operator is at the other end. Anybody else is closed.
-async fn answer_operator(stream: TcpStream, tls: &TlsConfig, role: Role, refused: &Mutex<Seldom>) {
+async fn answer_operator(
+    stream: TcpStream,
+    tls: &TlsConfig,
+    guest: Guest,
+    refused: &Mutex<Seldom>,
+) {
     let Ok(session) = TlsSession::accept(tls) else { return };
+    let address = guest.peer;
     let why = match timeout(HANDSHAKE, sealed::open(stream, session)).await {
         Ok(Ok((plain, peer))) if peer.is_operator() => {
-            return answer(plain, Asker::Operator, role).await;
+            guest.visit.take_place();
+            return answer(plain, Guest { asker: Asker::Operator, ..guest }).await;
         }
         Ok(Ok((_, peer))) => format!("{peer} is no operator"),
         Ok(Err(error)) => error.to_string(),
@@ -99,27 +135,30 @@ async fn answer_operator(stream: TcpStream, tls: &TlsConfig, role: Role, refused
     };
     let told = refused.lock().unwrap_or_else(PoisonError::into_inner).lets(Instant::now());
     if let Some(passed_over) = told {
-        tracing::warn!(%why, passed_over, "the status port refused a connection");
+        tracing::warn!(peer = %address, %why, passed_over, "the status port refused a connection");
     }
 }
 
-async fn answer(
-    stream: impl AsyncRead + AsyncWrite + Unpin + Send + 'static,
-    asker: Asker,
-    role: Role,
-) {
-    let is_order = AtomicBool::new(false);
+async fn answer(stream: impl AsyncRead + AsyncWrite + Unpin + Send + 'static, guest: Guest) {
+    let Guest { asker, visit, shown, .. } = guest;
+    let has_asked = Notify::new();
     let answer = service_fn(|request: Request<Body>| {
-        is_order.store(request.uri().path() == backup::PATH, Ordering::Relaxed);
-        let role = role.clone();
-        async move { Ok::<_, Infallible>(pages::answer(request, asker, role).await) }
+        visit.take_place();
+        has_asked.notify_one();
+        let (shown, visit) = (shown.clone(), Arc::clone(&visit));
+        async move { Ok::<_, Infallible>(pages::answer(request, asker, shown, &visit).await) }
     });
     let mut http = Http::new();
-    http.http1_only(true).http1_keep_alive(false).http1_header_read_timeout(HEAD);
+    http.http1_only(true).http1_keep_alive(false).max_buf_size(MAX_HEAD);
     let mut served = pin!(http.serve_connection(stream, answer));
+    tokio::select! {
+        _ = &mut served => return,
+        () = sleep(HEAD) => return,
+        () = has_asked.notified() => {}
+    }
     // Who asks and goes away, or takes too long, gets no answer.
     let is_late = timeout(WHOLE, &mut served).await.is_err();
-    if is_late && is_order.load(Ordering::Relaxed) {
+    if is_late && visit.is_ordering() {
         let _ = timeout(backup::TIMEOUT, served).await;
     }
 }

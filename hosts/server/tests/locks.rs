@@ -94,7 +94,7 @@ fn words_that_are_no_question_are_told() {
         let (status, page) = serving.get(path);
         assert!(status == 400 && page.contains(said), "{path}: {status}, {page}");
     }
-    assert_eq!(serving.ask("POST /locks HTTP/1.1\r\nHost: krl\r\n\r\n").0, 405);
+    assert_eq!(serving.ask("POST /locks HTTP/1.1\r\nHost: localhost\r\n\r\n").0, 405);
     let address = serving.status.clone();
     serving.signal(&["TERM"]);
     serving.ended();
@@ -108,7 +108,7 @@ fn all_slots(serving: &Serving, client: u8) -> Vec<(u64, u64)> {
     let (mut slots, mut lo) = (Vec::new(), Some(0));
     while let Some(from) = lo {
         let request = format!(
-            "GET /locks?lo={from}&limit=10000 HTTP/1.1\r\nHost: krl\r\n\
+            "GET /locks?lo={from}&limit=10000 HTTP/1.1\r\nHost: localhost\r\n\
              Accept: application/json\r\n\r\n"
         );
         let (status, page) = serving.ask(&request);

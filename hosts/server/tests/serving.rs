@@ -1,7 +1,10 @@
 //! A server that starts, is looked at, and stops.
 mod common;
 
-use common::{ServiceManager, Serving, errors, join, lock_file, program, run, text, until};
+use common::{
+    ServiceManager, Serving, errors, join, lock_file, program, program_under_watchdog, run, text,
+    until,
+};
 use krl::{Address, END, Outcome, Row, Snapshot, SqliteStore, Value};
 use std::collections::BTreeMap;
 use std::os::unix::process::ExitStatusExt;
@@ -129,7 +132,7 @@ fn pages_of_the_status_port() {
         let (status, text) = serving.get("/status");
         status == 200 && text.starts_with("epoch 1, serving\nconnected: 5 ")
     });
-    let by_accept = "GET /status HTTP/1.1\r\nHost: krl\r\nAccept: application/json\r\n\r\n";
+    let by_accept = "GET /status HTTP/1.1\r\nHost: localhost\r\nAccept: application/json\r\n\r\n";
     for (status, json) in [serving.get("/status.json"), serving.ask(by_accept)] {
         let json: serde_json::Value = serde_json::from_str(&json).unwrap();
         assert_eq!((status, &json["epoch"]), (200, &serde_json::json!(1)));
@@ -137,7 +140,7 @@ fn pages_of_the_status_port() {
     }
     assert_eq!(serving.get("/nothing").0, 404);
     assert_eq!(serving.get("/").0, 404);
-    assert_eq!(serving.ask("POST /status HTTP/1.1\r\nHost: krl\r\n\r\n").0, 405);
+    assert_eq!(serving.ask("POST /status HTTP/1.1\r\nHost: localhost\r\n\r\n").0, 405);
     assert_eq!(serving.get("/backup").0, 405);
     let said = run(&["status", &serving.status]);
     assert!(common::text(&said).starts_with("epoch 1, serving\n"));
@@ -266,7 +269,7 @@ fn a_backup_that_can_not_be_is_told() {
     let order = |kind: &str, body: &str| {
         let length = body.len();
         serving.ask(&format!(
-            "POST /backup HTTP/1.1\r\nHost: krl\r\nContent-Type: {kind}\r\n\
+            "POST /backup HTTP/1.1\r\nHost: localhost\r\nContent-Type: {kind}\r\n\
              Content-Length: {length}\r\n\r\n{body}"
         ))
     };
@@ -407,4 +410,18 @@ fn a_service_manager_is_told() {
     serving.signal(&["TERM"]);
     assert_eq!(manager.next(), ["STOPPING=1"]);
     assert_eq!(serving.ended().status.code(), Some(0));
+}
+
+#[test]
+fn a_watchdog_hears_of_a_server_that_is_alive() {
+    let folder = tempfile::tempdir().unwrap();
+    let (store, manager) = (folder.path().join("krl.db"), ServiceManager::new(folder.path()));
+    let mut command = program_under_watchdog(Duration::from_secs(2));
+    command.arg("serve").arg("--store").arg(&store);
+    let serving = Serving::start_by(manager.runs(&mut command));
+    let mut reports = 0;
+    while reports < 3 {
+        reports += usize::from(manager.next() == ["WATCHDOG=1"]);
+    }
+    drop(serving);
 }

@@ -25,9 +25,30 @@ impl Setup {
     }
 
     fn certify(&self, holders: &[&str]) {
+        self.certify_for("365", holders);
+    }
+
+    /// Makes certificates that are good for so many days.
+    fn certify_for(&self, days: &str, holders: &[&str]) {
         let script = concat!(env!("CARGO_MANIFEST_DIR"), "/../packaging/certificates");
-        let made = Command::new(script).arg(self.path()).args(holders).output().unwrap();
+        let mut command = Command::new(script);
+        let made = command.env("KRL_DAYS", days).arg(self.path()).args(holders).output().unwrap();
         assert!(made.status.success(), "{}", errors(&made));
+    }
+
+    /// Gives what a holder shows another name.
+    fn rename(&self, holder: &str, name: &str) {
+        for kind in ["crt", "key"] {
+            let [from, to] = [holder, name].map(|name| self.file(&format!("{name}.{kind}")));
+            std::fs::rename(from, to).unwrap();
+        }
+    }
+
+    /// Has the server show what another holder shows from the next SIGHUP on.
+    fn show_as_server(&self, holder: &str) {
+        for kind in ["crt", "key"] {
+            self.copy(&format!("{holder}.{kind}"), &format!("server.{kind}"));
+        }
     }
 
     fn path(&self) -> &Path {
@@ -59,7 +80,11 @@ impl Setup {
 
     fn serve_at(&self, listen: &str, words: &[&str]) -> Serving {
         let mut command = self.command_at(listen);
-        Serving::start_by(command.args(words).args(["--status", "tls:127.0.0.1:0"]))
+        command.args(words);
+        if !words.contains(&"--status") {
+            command.args(["--status", "tls:127.0.0.1:0"]);
+        }
+        Serving::start_by(&mut command)
     }
 
     /// The command of a server that listens there.
@@ -214,6 +239,86 @@ fn a_server_over_an_older_store_says_so_once_and_ends_with_status_3() {
     drop(serving);
 }
 
+#[test]
+fn a_certificate_that_no_client_believes_is_refused_at_the_start() {
+    let setup = Setup::new(&["client-3"]);
+    setup.certify_for("-1", &["server"]);
+    setup.rename("server", "expired");
+    setup.certify(&["server"]);
+    let locks = ["pkcs8", "-topk8", "-passout", "pass:phrase", "-in", "server.key", "-out"];
+    let mut openssl = Command::new("openssl");
+    openssl.current_dir(setup.path()).args(locks).arg("locked.key");
+    assert!(openssl.status().unwrap().success());
+    setup.copy("server.crt", "locked.crt");
+    setup.copy("server.crt", "missing.crt");
+    for (holder, why) in [
+        ("expired", "expired.crt (CN=krl server) expired at "),
+        (
+            "client-3",
+            "(CN=krl client-3) does not have the name krl:server, but these: krl:client:3",
+        ),
+        ("locked", "locked.key has a pass phrase"),
+        ("missing", "missing.key can't be read: No such file"),
+    ] {
+        for words in [&["config"][..], &["serve", "--status", "off"]] {
+            let mut command = program();
+            command.args(words).args(setup.shows(holder)).arg("--store").arg(setup.file("krl.db"));
+            let output = command.args(["--listen", "tls:127.0.0.1:0"]).output().unwrap();
+            assert_eq!(output.status.code(), Some(2), "{holder}: {}", errors(&output));
+            assert!(errors(&output).contains(why), "{holder}: {}", errors(&output));
+        }
+    }
+    let named = setup.run_as("server", &["config", "--table", "orders"]);
+    assert!(errors(&named).contains("the name krl:server@orders"), "{}", errors(&named));
+}
+
+#[test]
+fn a_hangup_keeps_a_good_certificate_and_refuses_a_bad_one() {
+    let setup = Setup::new(&["operator", "client-1", "client-2"]);
+    setup.certify_for("-1", &["server"]);
+    setup.rename("server", "expired");
+    setup.certify(&["server"]);
+    let serving = setup.serve_with(&["--status", "127.0.0.1:0"]);
+    let left = serving.sample("krl_certificate_expires_seconds");
+    assert!((360.0..366.0).contains(&(left / 86_400.0)), "{left}");
+    for (holder, refused) in [("expired", 1.0), ("client-1", 2.0)] {
+        setup.show_as_server(holder);
+        serving.signal(&["HUP"]);
+        until("the reload is refused", || {
+            serving.sample("krl_certificate_reloads_refused_total") == refused
+        });
+    }
+    drop(setup.join(&serving, 2).expect("the good one stays"));
+    serving.signal(&["TERM"]);
+    let log = serving.ended().log;
+    let why = |what: &str| {
+        let events = log.iter().filter(|event| {
+            event["message"] == "the certificates can't be used: the old ones stay"
+        });
+        let mut whys = events.filter_map(|event| event["why"].as_str());
+        whys.any(|why| why.contains(what))
+    };
+    assert!(why("expired at"), "{log:?}");
+    assert!(why("does not have the name krl:server"), "{log:?}");
+}
+
+#[test]
+fn a_certificate_that_is_refused_is_logged_with_its_subject() {
+    let setup = Setup::new(&["server"]);
+    setup.certify_for("-1", &["client-3"]);
+    let serving = setup.serve_with(&["--status", "127.0.0.1:0"]);
+    assert!(setup.join(&serving, 3).is_err());
+    let failed = "krl_connections_closed_total{reason=\"handshake_failed\"}";
+    until("it is counted", || serving.sample(failed) > 0.0);
+    serving.signal(&["TERM"]);
+    let log = serving.ended().log;
+    let message = "a connection is closed: the hand-shake of TLS failed";
+    let event = log.iter().find(|event| event["message"] == message).expect(message);
+    let why = event["why"].as_str().unwrap();
+    assert!(why.contains("(CN=krl client-3) is not taken: certificate has expired"), "{why}");
+    assert!(event["peer"].as_str().unwrap().starts_with("127.0.0.1:"), "{event}");
+}
+
 fn ended_within_a_minute(process: &mut Child) -> Option<ExitStatus> {
     let end = Instant::now() + Duration::from_secs(60);
     while Instant::now() < end {
@@ -242,9 +347,8 @@ fn what_is_dangerous_or_half_said_is_refused() {
     let listen = ["serve", "--listen", "tls:127.0.0.1:0", "--status", "off", "--store"];
     let store = setup.file("other.db");
     let words = [&listen[..], &[store.to_str().unwrap()]].concat();
-    let output = run(&words);
-    assert_eq!(output.status.code(), Some(1));
-    assert!(errors(&output).contains("needs a certificate"), "{}", errors(&output));
+    refused(&words, "listen is 'tls:127.0.0.1:0', and TLS needs all of --tls-authority");
+    refused(&["config", "--status", "tls:127.0.0.1:0"], "status is 'tls:127.0.0.1:0', and TLS");
     let half = [&words[..], &[&shows[0], &shows[1]]].concat();
     assert!(errors(&run(&half)).contains("TLS needs all of"), "{}", errors(&run(&half)));
     let users = ["--users", "1001=3,4 1002=operator", "--plain-beyond-loopback"];

@@ -62,7 +62,7 @@ fn a_peer_without_host_frames_hears_none() {
 fn a_host_whose_store_went_back_hears_that_and_no_mark() {
     let (mut connection, mut peer) = connection();
     connection.greet(FromServer::WentBack);
-    connection.end();
+    connection.end(CloseReason::OlderStore);
     send(&mut connection, &[], Some(MARK));
     assert_eq!(heard(&mut connection, &mut peer), FromServer::WentBack.frame());
     assert!(connection.is_over());

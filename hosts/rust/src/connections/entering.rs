@@ -1,5 +1,7 @@
 //! Connections that come: who is at the other end, and who goes for one more.
+use super::closing::{At, CloseReason};
 use super::{Connections, Peer};
+use crate::event_log;
 use crate::identity::Identity;
 use crate::stream::Accepted;
 
@@ -8,22 +10,24 @@ impl Connections {
     pub(super) fn enter(&mut self, accepted: Accepted) {
         if self.listening.is_full(self.open.len()) {
             let Some(stranger) = self.strangers.oldest() else {
+                self.closings.counts.count(CloseReason::Full);
                 self.listening.turn_away(accepted, self.open.len());
                 return;
             };
-            self.close(stranger);
+            self.close(stranger, CloseReason::StrangerCrowded);
         }
         self.open(accepted);
     }
 
     fn open(&mut self, accepted: Accepted) {
-        let (number, from) = (self.next, accepted.from);
+        let (number, address) = (self.next, accepted.peer);
         self.next += 1;
         match Peer::new(accepted, number, &self.poller, &self.access, self.longest, self.now) {
             Ok(peer) => {
+                event_log::opened(&At { connection: number, peer: address });
                 self.open.insert(number, peer);
-                let gone = self.strangers.comes(number, from, self.now);
-                self.close_one(gone);
+                let gone = self.strangers.comes(number, address.machine(), self.now);
+                self.close_one(gone, CloseReason::StrangerCrowded);
             }
             // The system has no room for it: it is closed.
             Err(error) => self.listening.not_taken(&error),
@@ -39,13 +43,13 @@ impl Connections {
         let known = self.open.get(&number).and_then(|peer| peer.connection.known());
         if let Some(identity) = known {
             let gone = self.strangers.is_known(number, identity);
-            self.close_one(gone);
+            self.close_one(gone, CloseReason::IdentityCrowded);
         }
     }
 
-    fn close_one(&mut self, number: Option<u64>) {
+    pub(super) fn close_one(&mut self, number: Option<u64>, reason: CloseReason) {
         if let Some(number) = number {
-            self.close(number);
+            self.close(number, reason);
         }
     }
 

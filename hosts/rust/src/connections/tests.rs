@@ -46,6 +46,7 @@ fn hear(connections: &mut Connections) -> Option<(u64, Vec<u8>)> {
         match connections.turn() {
             Turn::Nobody => drop(connections.wait(Duration::from_millis(20)).unwrap()),
             Turn::Nothing => {}
+            Turn::Long(number, _) => connections.admit_long(number, 3),
             Turn::Frame(number, mut incoming) => {
                 let heard = incoming.next().unwrap().unwrap().to_vec();
                 connections.put_back(number, incoming);
@@ -54,6 +55,12 @@ fn hear(connections: &mut Connections) -> Option<(u64, Vec<u8>)> {
         }
     }
     None
+}
+
+/// How many were closed for this reason.
+fn closed(connections: &Connections, reason: &str) -> u64 {
+    let mut counts = connections.closed().counts();
+    counts.find_map(|(word, count)| (word == reason).then_some(count)).unwrap()
 }
 
 /// Sends a batch of one frame to client 3.
@@ -103,6 +110,30 @@ fn a_frame_longer_than_a_read_is_heard() {
     assert!(heard == Some((number, long)));
     assert_eq!(hear(&mut connections), Some((number, b"short".to_vec())));
     writing.join().unwrap().unwrap();
+}
+
+#[test]
+fn a_client_has_one_long_frame_on_its_way() {
+    let (mut connections, at, _) = connections();
+    let begun = [&(1u64 << 20).to_le_bytes()[..], &[1; 100]].concat();
+    let begin = |connections: &mut Connections| {
+        let (mut stream, number) = peer(connections, at);
+        stream.write_all(&begun).unwrap();
+        loop {
+            match connections.turn() {
+                Turn::Long(found, head) => {
+                    assert_eq!((found, head), (number, [1; HEAD]));
+                    connections.admit_long(number, 3);
+                    return (stream, number);
+                }
+                _ => drop(connections.wait(SOON).unwrap()),
+            }
+        }
+    };
+    let (mut first, _) = begin(&mut connections);
+    let (_second, number) = begin(&mut connections);
+    assert_eq!(first.read(&mut [0]).unwrap(), 0, "it is closed for the second one");
+    assert_eq!(connections.open.keys().copied().collect::<Vec<_>>(), [number]);
 }
 
 #[test]
@@ -200,7 +231,7 @@ fn a_peer_that_was_stuck_gets_what_waited_when_it_reads() {
     while unwritten(&connections, number) {
         connections.wait(SOON).unwrap();
     }
-    connections.end(number);
+    connections.end(number, CloseReason::BadMessage);
     connections.send(None).end();
     assert_eq!(connections.count(), 0);
     assert_eq!(reads.join().unwrap().unwrap() % (8 + (1 << 20)), 0);
@@ -231,6 +262,7 @@ fn one_that_has_said_no_whole_frame_is_closed_in_a_shorter_time() {
     connections.now = Instant::now() + PATIENCE;
     connections.close_dead();
     assert_eq!(connections.count(), 0);
+    assert_eq!(closed(&connections, "stranger_late"), 1);
 }
 
 #[test]
@@ -241,6 +273,7 @@ fn a_stranger_makes_room_for_one_more_and_who_has_spoken_does_not() {
     assert!(hear(&mut connections).is_some());
     let mut streams: Vec<_> = (0..70).map(|_| peer(&mut connections, at)).collect();
     assert_eq!(connections.count(), 1 + 64, "so many strangers are of one network");
+    assert_eq!(closed(&connections, "stranger_crowded"), 6);
     assert!(connections.open.contains_key(&first));
     let (newest, number) = streams.last_mut().unwrap();
     newest.write_all(&frame(b"two")).unwrap();
@@ -254,7 +287,7 @@ fn a_connection_that_ends_gets_its_last_frames_and_is_heard_no_more() {
     stream.write_all(&frame(b"one").repeat(3)).unwrap();
     assert!(hear(&mut connections).is_some());
     connections.tell(number, &frame(b"last"));
-    connections.end(number);
+    connections.end(number, CloseReason::BadMessage);
     assert_eq!(hear(&mut connections), None);
     connections.send(None).end();
     let mut bytes = Vec::new();

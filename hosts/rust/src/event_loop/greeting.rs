@@ -1,5 +1,6 @@
 //! The Hello of a client's host, and what follows if the store lacks what that host has seen.
 use super::{EventLoop, LAST_TURNS};
+use crate::connections::closing::CloseReason;
 use crate::history::Mark;
 use crate::host_frame::FromServer;
 use crate::identity::Identity;
@@ -21,10 +22,10 @@ impl<S: Store> EventLoop<S> {
         // A server behind which another one has started lacks it too, and ends here.
         self.store.commit(&[])?;
         self.status.store_alarms += 1;
-        self.log.store_alarm(connection, lacked);
+        self.log.store_alarm(&self.connections.at(connection), lacked);
         let identity = self.connections.identity(connection);
         self.connections.greet(connection, FromServer::WentBack);
-        self.connections.end(connection);
+        self.connections.end(connection, CloseReason::OlderStore);
         if ends_by_the_word_of(&identity) {
             self.end_in_order(ServeError::OlderStore { identity, seen: lacked });
         }

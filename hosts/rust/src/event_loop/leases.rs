@@ -1,5 +1,6 @@
 //! The leases of a server's clients, as its loop hears of them, stores them and evicts by them.
 use super::EventLoop;
+use crate::ahead;
 use crate::boot_clock::Moment;
 use crate::change::Change;
 use crate::code::Code;
@@ -8,6 +9,7 @@ use crate::message::{self, Timed, client_of, incarnation_of, timed_of};
 use crate::refusal::Refusal;
 use crate::server::ServeError;
 use crate::store::Store;
+use std::time::SystemTime;
 
 impl<S: Store> EventLoop<S> {
     /// Takes a sign. The answer leaves with the batch of this turn, so behind its commit. The host
@@ -25,7 +27,8 @@ impl<S: Store> EventLoop<S> {
     }
 
     /// Whether the library may have the message. A Hello that has to wait for the end of an older
-    /// lease counts as lost, and the client's host is told why.
+    /// lease, or is too far ahead of the server's clock, counts as lost, and the client's host is
+    /// told why.
     pub(super) fn hears(&mut self, connection: u64, message: &[u8]) -> Result<bool, ServeError> {
         let is_hello = timed_of(message) == Timed::Hello;
         let (true, Some(client), Some(incarnation)) =
@@ -33,9 +36,15 @@ impl<S: Store> EventLoop<S> {
         else {
             return Ok(true);
         };
+        let registered = self.leases.registered(client);
+        let latest = ahead::latest(registered, SystemTime::now());
+        if incarnation > latest {
+            self.log.far_ahead(&self.connections.at(connection), client, incarnation);
+            self.connections.refuse(connection, Refusal::FarAhead { client, latest });
+            return Ok(false);
+        }
         let is_heard = self.leases.hears(client, incarnation, now()?);
         if !is_heard {
-            let registered = self.leases.registered(client);
             self.connections.refuse(connection, Refusal::LeaseRuns { client, registered });
         }
         Ok(is_heard)

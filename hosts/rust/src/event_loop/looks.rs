@@ -1,8 +1,12 @@
 //! What a server's loop looks up for others: who waits, and who holds what.
 use super::EventLoop;
+use crate::change::Change;
 use crate::locks::{HeldSlot, Page, Search};
 use crate::store::Store;
-use std::time::Instant;
+use std::time::{Duration, Instant};
+
+/// How long a look goes on to count what clients hold.
+const COUNTS: Duration = Duration::from_millis(2);
 
 impl<S: Store> EventLoop<S> {
     /// Who holds and who waits: a page of what is searched.
@@ -27,13 +31,31 @@ impl<S: Store> EventLoop<S> {
         }
     }
 
-    /// Sees who waits for whom, and how much one client holds, the next in its turn.
+    /// Sees who waits for whom, and how much the clients hold of which that may have changed: at
+    /// least one, and more as long as that takes little time.
     pub(super) fn look(&mut self) {
         self.look_at_waits(self.nudged);
-        let client = self.watch.next_counted();
-        if let Ok(slots) = self.server.held(client) {
-            self.watch.counted(client, slots);
+        let end = Instant::now() + COUNTS;
+        while let Some(client) = self.watch.next_to_count() {
+            if let Ok(slots) = self.server.held(client) {
+                self.watch.counted(client, slots);
+            }
+            if Instant::now() >= end {
+                break;
+            }
         }
         self.status.holdings = self.watch.holdings().to_vec();
+    }
+
+    /// Sees who has joined or left by these changes: what they held is shown no more.
+    pub(super) fn see_members(&mut self, changes: &[Change]) {
+        for change in changes {
+            match *change {
+                Change::Registered { client, .. } => self.watch.joined(client),
+                Change::Left { client } => self.watch.left(client),
+                _ => continue,
+            }
+            self.status.holdings = self.watch.holdings().to_vec();
+        }
     }
 }

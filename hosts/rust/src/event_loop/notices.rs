@@ -1,5 +1,6 @@
 //! What a connection says that people have to hear of.
 use super::EventLoop;
+use crate::connections::closing::CloseReason;
 use crate::host_frame::{FromClient, FromServer};
 use crate::message::client_of;
 use crate::refusal::Refusal;
@@ -10,12 +11,16 @@ impl<S: Store> EventLoop<S> {
     /// peer's host hear of it: the library does not.
     pub(super) fn deny(&mut self, connection: u64, frame: &[u8]) {
         self.status.denied += 1;
-        self.log.denied(connection, &self.connections.identity(connection), client_of(frame));
+        self.log.denied(
+            &self.connections.at(connection),
+            &self.connections.identity(connection),
+            client_of(frame),
+        );
         if let Some(FromClient::Hello(_)) = FromClient::read(frame) {
             self.connections.greet(connection, FromServer::Hello { answers_signs: true });
         }
         self.connections.refuse(connection, Refusal::Denied);
-        self.connections.end(connection);
+        self.connections.end(connection, CloseReason::Denied);
     }
 
     /// A report contradicts what the server knows.

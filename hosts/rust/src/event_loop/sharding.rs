@@ -1,5 +1,6 @@
 //! Whom a server of a shard hears: clients that take it for what it serves.
 use super::EventLoop;
+use crate::connections::closing::CloseReason;
 use crate::host_frame::{self, FromClient, FromServer};
 use crate::lease::Sign;
 use crate::refusal::Refusal;
@@ -36,9 +37,9 @@ impl<S: Store> EventLoop<S> {
                 true
             }
             Err(other) => {
-                self.log.other_shard(connection, &other);
+                self.log.other_shard(&self.connections.at(connection), &other);
                 self.connections.refuse(connection, Refusal::OtherShard(self.shard));
-                self.connections.end(connection);
+                self.connections.end(connection, CloseReason::OtherShard);
                 false
             }
         }

@@ -50,6 +50,7 @@ impl<S: Store> EventLoop<S> {
     pub(super) fn show(&mut self, shown: &Mutex<Status>) {
         self.status.connected = self.connections.clients();
         self.status.connections = self.connections.count() as u64;
+        self.status.closed.clone_from(self.connections.closed());
         self.status.held_back = self.held_back.count();
         self.status.unleased = self.leases.unleased();
         self.status.longest_lease = Duration::from_nanos(self.leases.record().longest);

@@ -218,8 +218,11 @@ fn an_eviction_is_committed_with_its_turn() {
 fn the_greatest_incarnation_is_not_evicted_and_ends_no_server() {
     const GREATEST: u64 = (1 << 63) - 1;
     let (mut events, mut peer, _) = event_loop();
-    let hello = [&HELLO[..18], &GREATEST.to_le_bytes()].concat();
-    peer.write_all(&[sign_of(GREATEST), hello].concat()).unwrap();
+    let hello = [&HELLO[8..18], &GREATEST.to_le_bytes()].concat();
+    // An older server has registered it: this one would not.
+    let registered = events.server.step(&hello).unwrap().unwrap();
+    events.keep(registered, &mut Vec::new()).unwrap();
+    peer.write_all(&sign_of(GREATEST)).unwrap();
     turns_until(&mut events, 1).unwrap();
     let end = Instant::now() + Duration::from_millis(2 * LEASE);
     while Instant::now() < end {

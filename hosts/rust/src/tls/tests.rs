@@ -125,7 +125,9 @@ fn a_key_of_another_certificate_is_refused() {
     let error = mixed.unwrap_err();
     assert!(std::error::Error::source(&error).is_some() && error.to_string().contains(".key"));
     let nowhere = TlsConfig::from_files("nowhere", &three.certificate, &three.key).unwrap_err();
-    assert!(nowhere.to_string().starts_with("nowhere is not the authority"), "{nowhere}");
+    assert_eq!(nowhere.to_string(), "nowhere can't be read");
+    let other = TlsConfig::from_files(&three.key, &three.certificate, &three.key).unwrap_err();
+    assert!(other.to_string().contains(" is not the authority's certificate"), "{other}");
 }
 
 #[test]

@@ -61,8 +61,17 @@ impl AccessSettings {
         })
     }
 
-    /// Refuses an address of plain TCP beyond the loopback that is not allowed.
+    /// Refuses an address of plain TCP beyond the loopback that is not allowed, and one of TLS
+    /// without certificates.
     pub(super) fn check(&self, name: &str, address: &Address) -> Result<(), BadSetting> {
+        if address.is_tls() && !self.has_tls() {
+            return Err(BadSetting::new(format!(
+                "{name} is '{address}', and TLS needs all of {}, {} and {}",
+                key::TLS_AUTHORITY.flag,
+                key::TLS_CERTIFICATE.flag,
+                key::TLS_KEY.flag
+            )));
+        }
         if !address.is_plain_beyond_loopback() || self.plain.value == YesNo::Yes {
             return Ok(());
         }
@@ -73,7 +82,7 @@ impl AccessSettings {
         )))
     }
 
-    /// What the server shows by TLS, if it shows anything.
+    /// What the server shows by TLS, if it shows anything. Clients have to believe it now.
     pub fn tls(&self) -> Result<Option<TlsConfig>, BadSetting> {
         let file = |setting: &Setting<Optional<PathBuf>>| setting.value.0.clone();
         let files = TlsFiles {
@@ -82,7 +91,14 @@ impl AccessSettings {
             key: file(&self.key),
             table: self.table.value.0.clone(),
         };
-        files.read()
+        let for_server =
+            |read: TlsConfig| read.for_server().map_err(|error| BadSetting::new(error.to_string()));
+        files.read()?.map(for_server).transpose()
+    }
+
+    /// Whether all three files of TLS are named.
+    pub(super) fn has_tls(&self) -> bool {
+        [&self.authority, &self.certificate, &self.key].iter().all(|file| file.value.0.is_some())
     }
 
     /// Whom a server lets in that shows this by TLS.

@@ -12,7 +12,19 @@ use std::time::{Duration, Instant};
 
 /// The program, with none of its variables in the environment.
 pub fn program() -> Command {
-    let mut command = Command::new(env!("CARGO_BIN_EXE_krl-server"));
+    without_settings(Command::new(env!("CARGO_BIN_EXE_krl-server")))
+}
+
+/// The program under a watchdog of this length, as a service manager starts it.
+pub fn program_under_watchdog(length: Duration) -> Command {
+    let mut command = without_settings(Command::new("sh"));
+    let exec = "WATCHDOG_PID=$$ exec \"$0\" \"$@\"";
+    command.args(["-c", exec, env!("CARGO_BIN_EXE_krl-server")]);
+    command.env("WATCHDOG_USEC", length.as_micros().to_string());
+    command
+}
+
+fn without_settings(mut command: Command) -> Command {
     for (name, _) in std::env::vars().filter(|(name, _)| name.starts_with("KRL_")) {
         command.env_remove(name);
     }
@@ -126,7 +138,7 @@ impl Serving {
 
     /// The status and the body of a page.
     pub fn get(&self, path: &str) -> (u16, String) {
-        self.ask(&format!("GET {path} HTTP/1.1\r\nHost: krl\r\n\r\n"))
+        self.ask(&format!("GET {path} HTTP/1.1\r\nHost: localhost\r\n\r\n"))
     }
 
     pub fn ask(&self, request: &str) -> (u16, String) {

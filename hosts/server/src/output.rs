@@ -1,0 +1,58 @@
+//! What a command prints.
+use std::error::Error;
+use std::fmt;
+use std::io::{self, ErrorKind, Write};
+use std::process::ExitCode;
+
+/// The exit status of a command that nobody reads any more, as of one that SIGPIPE ended.
+const BROKEN_PIPE: u8 = 128 + 13;
+
+/// Standard output can't be written.
+#[derive(Debug)]
+pub struct NotPrinted {
+    error: io::Error,
+    /// What the command should do is done all the same.
+    is_done: bool,
+}
+
+/// Prints what a command has found.
+pub fn print(text: &str) -> Result<(), NotPrinted> {
+    write(text).map_err(|error| NotPrinted { error, is_done: false })
+}
+
+/// Prints what a command has done.
+pub fn print_done(text: &str) -> Result<(), NotPrinted> {
+    write(text).map_err(|error| NotPrinted { error, is_done: true })
+}
+
+fn write(text: &str) -> io::Result<()> {
+    let mut output = io::stdout().lock();
+    output.write_all(text.as_bytes())?;
+    output.flush()
+}
+
+/// Writes a line to standard error. If that can't be written, nobody can be told.
+pub fn report(text: &str) {
+    let _ = writeln!(io::stderr(), "krl-server: {text}");
+}
+
+impl NotPrinted {
+    /// The exit status, and whether to report why: that nobody reads the output is no news.
+    pub fn exit_status(&self) -> (ExitCode, bool) {
+        match self.error.kind() {
+            ErrorKind::BrokenPipe => (ExitCode::from(BROKEN_PIPE), false),
+            _ => (ExitCode::FAILURE, true),
+        }
+    }
+}
+
+impl fmt::Display for NotPrinted {
+    fn fmt(&self, f: &mut fmt::Formatter<'_>) -> fmt::Result {
+        if self.is_done {
+            f.write_str("it is done, but ")?;
+        }
+        write!(f, "standard output can't be written: {}", self.error)
+    }
+}
+
+impl Error for NotPrinted {}
