@@ -31,8 +31,9 @@ printed as u64: and a number if it has eight bytes, else as hex: and digits.
 The client's number: one process at a time is the client of a number, from 0
 to 63. Without --number the first free one from 63 down to 56 is taken, so
 eight commands run at once. Lock files in $XDG_STATE_HOME/krl, or
-~/.local/state/krl, tell which are free. So keep these eight numbers for one
-user of one machine, and give --number, or KRL_NUMBER, to others, as 40-47.
+~/.local/state/krl, tell which are free on this machine to this user. If the
+server tells that another user or machine has a number, the next one is tried
+after a second: give --number, or KRL_NUMBER, to each of them, as 40-47.
 
 A table of several servers is named by --map FILE, or KRL_MAP, in place of
 --server. The file has a line version = N, and for each shard a table [[shard]]
@@ -45,8 +46,9 @@ Exit status:
   0    it is done
   1    it was refused (there is such a row, there is none, the table is full)
   2    a word can't be understood
-  3    the server did not answer in time
-  4    the client could not join
+  3    the server did not answer in time, or its answer was lost: a write may
+       have been applied
+  4    the client could not join, or has no right to what it asks
   125  hold: the range was lost before the command had ended; 126: the command
        can't be run; 127: there is no such command; else the command's status
   130  Ctrl-C ended it (watch: 0)
@@ -127,7 +129,7 @@ pub struct Options {
         global = true,
         env = "KRL_TIMEOUT",
         value_name = "TIME",
-        default_value = "10s",
+        default_value = "15s",
         value_parser = humantime::parse_duration
     )]
     pub timeout: Duration,

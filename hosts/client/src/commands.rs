@@ -5,7 +5,7 @@ use crate::output::Printer;
 use crate::session::Session;
 use crate::signals::Signals;
 use crate::{holding, pinging, watching, words};
-use krl::{Outcome, Row};
+use krl::{Outcome, Row, ShardRefused};
 
 /// What commands run with.
 pub struct Context<'c> {
@@ -43,21 +43,22 @@ impl Context<'_> {
     }
 
     fn insert(&self, row: &Row) -> Result<(), Failure> {
-        let outcome = self.session.table.insert(row)?;
+        let outcome = self.session.table.insert(row);
         self.judged(outcome, row.key)
     }
 
     fn put(&self, row: &Row) -> Result<(), Failure> {
-        let outcome = self.session.table.put(row.key, row.value)?;
+        let outcome = self.session.table.put(row.key, row.value);
         self.judged(outcome, row.key)
     }
 
     fn delete(&self, key: u64) -> Result<(), Failure> {
-        let outcome = self.session.table.delete(key)?;
+        let outcome = self.session.table.delete(key);
         self.judged(outcome, key)
     }
 
-    fn judged(&self, outcome: Outcome, key: u64) -> Result<(), Failure> {
+    fn judged(&self, outcome: Result<Outcome, ShardRefused>, key: u64) -> Result<(), Failure> {
+        let outcome = outcome.map_err(|refused| Failure::of_write(refused, key))?;
         self.printer.outcome(outcome)?;
         match outcome {
             Outcome::Applied => Ok(()),

@@ -1,5 +1,5 @@
 //! Why a command did not do what it should, and the exit status that tells it.
-use krl::{JoinError, LockFileError, Refused, ShardRefused};
+use krl::{JoinError, LockFileError, Refusal, Refused, ShardRefused};
 use std::fmt;
 use std::io;
 use std::process::ExitStatus;
@@ -16,9 +16,9 @@ pub enum Failure {
     Refused(String),
     /// A word that can't be understood.
     Usage(String),
-    /// The server did not answer in time.
+    /// The server did not answer in time, or its answer is lost: a write may have been applied.
     NoAnswer(String),
-    /// The client could not join.
+    /// The client could not join, or has no right to what it asks.
     NotJoined(String),
     /// The output can't be written.
     Output(io::Error),
@@ -88,9 +88,17 @@ impl From<Refused> for Failure {
                     .into(),
             ),
             Refused::Unserved(why) => Failure::NoAnswer(why.to_string()),
-            Refused::OtherShard(other) => Failure::NotJoined(other.to_string()),
+            Refused::StoreWentBack | Refused::LeaseEnded | Refused::Stopped => {
+                Failure::NoAnswer(refused.to_string())
+            }
+            Refused::TurnedAway | Refused::OtherShard(_) => Failure::NotJoined(refused.to_string()),
             Refused::BadRange | Refused::BadKey => Failure::Usage(refused.to_string()),
-            other => Failure::Refused(other.to_string()),
+            Refused::Pinned | Refused::TooManyPins | Refused::OutOfMemory | Refused::Other(_) => {
+                Failure::Refused(refused.to_string())
+            }
+            // One that a later release of the library adds.
+            unknown if unknown.is_unknown_outcome() => Failure::NoAnswer(unknown.to_string()),
+            unknown => Failure::Refused(unknown.to_string()),
         }
     }
 }
@@ -102,6 +110,17 @@ impl From<ShardRefused> for Failure {
 }
 
 impl Failure {
+    /// A write of this key that was not answered by an outcome.
+    pub fn of_write(refused: ShardRefused, key: u64) -> Failure {
+        let is_unknown = refused.refused.is_unknown_outcome();
+        match Failure::from(refused) {
+            Failure::NoAnswer(why) if is_unknown => Failure::NoAnswer(format!(
+                "{why}; the write may have been applied: read the key {key}"
+            )),
+            failure => failure,
+        }
+    }
+
     /// The same failure, at this shard of the table, if it has some.
     pub fn at_shard(self, shard: Option<usize>) -> Failure {
         let Some(shard) = shard else { return self };
@@ -128,6 +147,12 @@ impl Failure {
                  misses after a restart, which its status page tells, or know a later client of \
                  number {number}"
             )),
+            JoinError::Unserved(
+                why @ (Refusal::LeaseRuns { .. } | Refusal::Incarnation { .. }),
+            ) => Failure::NoAnswer(format!(
+                "number {number} is in use: give another one by --number, or wait if its process \
+                 is gone. Told by the server: {why}"
+            )),
             JoinError::Unserved(why) => Failure::NoAnswer(why.to_string()),
             JoinError::LockFile(LockFileError::Taken) => Failure::NotJoined(format!(
                 "another process is the client of number {number}: give this one another --number"
@@ -153,7 +178,6 @@ pub fn sentence(error: &dyn std::error::Error) -> String {
 #[cfg(test)]
 mod tests {
     use super::*;
-    use krl::Refusal;
 
     #[test]
     fn each_failure_has_its_status() {
@@ -161,8 +185,6 @@ mod tests {
         assert_eq!(Failure::Refused(String::new()).status(), 1);
         assert_eq!(Failure::Usage(String::new()).status(), 2);
         assert_eq!(Failure::from(Refused::TimedOut).status(), 3);
-        assert_eq!(Failure::from(Refused::BadRange).status(), 2);
-        assert_eq!(Failure::from(Refused::Pinned).status(), 1);
         assert_eq!(of_kind(io::ErrorKind::BrokenPipe), 141);
         assert_eq!(of_kind(io::ErrorKind::StorageFull), 1);
         let server = "127.0.0.1:1".parse().unwrap();
@@ -174,5 +196,29 @@ mod tests {
         assert_eq!(Failure::of_join(JoinError::BadNumber, 64, &server).status(), 4);
         let taken = JoinError::LockFile(LockFileError::Taken);
         assert_eq!(Failure::of_join(taken, 1, &server).status(), 4);
+    }
+
+    #[test]
+    fn each_reason_has_its_status_and_a_write_is_told_if_it_may_be_applied() {
+        let full = Refusal::Full { connections: 256 };
+        for (refused, status) in [
+            (Refused::TimedOut, 3),
+            (Refused::Unserved(full), 3),
+            (Refused::StoreWentBack, 3),
+            (Refused::LeaseEnded, 3),
+            (Refused::Stopped, 3),
+            (Refused::TurnedAway, 4),
+            (Refused::BadRange, 2),
+            (Refused::BadKey, 2),
+            (Refused::Pinned, 1),
+            (Refused::TooManyPins, 1),
+            (Refused::OutOfMemory, 1),
+        ] {
+            assert_eq!(Failure::from(refused).status(), status, "{refused:?}");
+            let written = Failure::of_write(refused.into(), 15);
+            assert_eq!(written.status(), status, "{refused:?}");
+            let is_told = written.to_string().ends_with("may have been applied: read the key 15");
+            assert_eq!(is_told, status == 3, "{written}");
+        }
     }
 }

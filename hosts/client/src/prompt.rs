@@ -5,10 +5,15 @@ use crate::session;
 use clap::Parser;
 use rustyline::Editor;
 use rustyline::error::ReadlineError;
-use std::io::{self, BufRead, IsTerminal};
+use std::fmt::Display;
+use std::io::{self, BufRead, IsTerminal, Read};
 use std::path::PathBuf;
 
 const PROMPT: &str = "krl> ";
+
+/// The longest line, in bytes. What is longer is no command: it may be another file, or an endless
+/// one.
+const LONGEST_LINE: usize = 4096;
 
 /// Runs a command of a line.
 pub type Run<'r> = dyn FnMut(&Command) -> Result<u8, Failure> + 'r;
@@ -26,9 +31,9 @@ pub fn run(run: &mut Run<'_>) -> Result<u8, Failure> {
 }
 
 /// Runs the lines until the first one that fails, whose status is the answer.
-fn run_lines(lines: impl BufRead, run: &mut Run<'_>) -> Result<u8, Failure> {
-    for (place, line) in (1..).zip(lines.lines()) {
-        let line = line.map_err(|error| Failure::Usage(format!("line {place}: {error}")))?;
+fn run_lines(mut lines: impl BufRead, run: &mut Run<'_>) -> Result<u8, Failure> {
+    for place in 1.. {
+        let Some(line) = read_line(&mut lines, place)? else { break };
         let status = match parse(&line) {
             Ok(Told::Nothing) => 0,
             Ok(Told::Quit) => return Ok(0),
@@ -47,6 +52,32 @@ fn run_lines(lines: impl BufRead, run: &mut Run<'_>) -> Result<u8, Failure> {
         }
     }
     Ok(0)
+}
+
+/// The next line without its end, or `None` if there is none. No more of it is read than a line may
+/// have.
+fn read_line(lines: &mut impl BufRead, place: u64) -> Result<Option<String>, Failure> {
+    let told = |why: &dyn Display| Failure::Usage(format!("line {place}: {why}"));
+    let mut line = Vec::new();
+    // One byte more, and the end of the line.
+    let longest = LONGEST_LINE as u64 + 2;
+    if lines.by_ref().take(longest).read_until(b'\n', &mut line).map_err(|error| told(&error))? == 0
+    {
+        return Ok(None);
+    }
+    let line = line.strip_suffix(b"\n").unwrap_or(&line);
+    let line = line.strip_suffix(b"\r").unwrap_or(line);
+    refuse_long(line.len()).map_err(|failure| told(&failure))?;
+    String::from_utf8(line.into()).map(Some).map_err(|error| told(&error))
+}
+
+/// Refuses a line of so many bytes if it is too long.
+fn refuse_long(length: usize) -> Result<(), Failure> {
+    if length <= LONGEST_LINE {
+        return Ok(());
+    }
+    let why = format!("the line is longer than {LONGEST_LINE} bytes, and no command is so long");
+    Err(Failure::Usage(why))
 }
 
 /// Runs what is typed, until it is `quit` or Ctrl-D.
@@ -94,6 +125,7 @@ fn history() -> Option<PathBuf> {
 
 /// The words of a line are those of a shell: quotes keep spaces.
 fn parse(line: &str) -> Result<Told, Failure> {
+    refuse_long(line.len())?;
     let words = shlex::split(line)
         .ok_or_else(|| Failure::Usage(format!("a quote is not closed: {line}")))?;
     if words.is_empty() {
@@ -139,5 +171,32 @@ mod tests {
         assert_eq!(run_text("get 5\nget 'a\nget 6\n"), (2, 1));
         assert_eq!(run_text("take 5\nget 6\n"), (2, 0));
         assert_eq!(run_text("help\nget 6\n"), (0, 1));
+        assert_eq!(run_text("get 5\r\nget 6"), (0, 2));
+    }
+
+    /// Bytes without an end of a line, of which it knows how many were read.
+    struct Endless(usize);
+
+    impl Read for Endless {
+        fn read(&mut self, bytes: &mut [u8]) -> io::Result<usize> {
+            self.0 += bytes.len();
+            assert!(self.0 < 1 << 20, "it reads on and on");
+            bytes.fill(b' ');
+            Ok(bytes.len())
+        }
+    }
+
+    #[test]
+    fn a_long_line_is_refused_and_not_read_to_its_end() {
+        let line = |length: usize| format!("get 5{}", " ".repeat(length - 5));
+        assert_eq!(run_text(&line(LONGEST_LINE)), (0, 1));
+        let told = |lines: &mut dyn BufRead| {
+            let ended = run_lines(lines, &mut |_| Ok(0)).unwrap_err();
+            (ended.status(), ended.to_string())
+        };
+        let expected = "line 1: the line is longer than 4096 bytes, and no command is so long";
+        let expected = (2, expected.to_string());
+        assert_eq!(told(&mut line(LONGEST_LINE + 1).as_bytes()), expected);
+        assert_eq!(told(&mut io::BufReader::new(Endless(0))), expected);
     }
 }

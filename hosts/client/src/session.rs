@@ -4,12 +4,16 @@ use crate::failure::Failure;
 use crate::place::Place;
 use crate::table::Table;
 use crate::waiting::told_if_long;
-use krl::{Client, JoinError, LockFileError, Servers, ShardJoinError, ShardMap, ShardedClient};
+use krl::{Client, JoinError, LockFileError, Refusal, ShardJoinError, ShardedClient};
+use std::collections::VecDeque;
 use std::env;
 use std::fs::DirBuilder;
 use std::os::unix::fs::DirBuilderExt;
 use std::path::{Path, PathBuf};
 use std::time::{Duration, Instant};
+
+/// How long a number of several is tried that another process has, as the server tells.
+const IN_USE: Duration = Duration::from_secs(1);
 
 /// A client that has joined.
 pub struct Session {
@@ -34,15 +38,25 @@ impl Session {
         sessions.pop().ok_or_else(|| none_is_free(options))
     }
 
-    /// Joins so many clients, the greatest free numbers first.
+    /// Joins so many clients, the greatest free numbers first. Those that other users or machines
+    /// have come last.
     pub fn join_some(options: &Options, count: usize) -> Result<Vec<Session>, Failure> {
         let (place, files) = (Place::of(options)?, LockFiles::of(options)?);
-        let mut sessions = Vec::new();
-        for number in options.number.0.clone().rev() {
-            if sessions.len() == count {
-                break;
+        let (mut sessions, mut in_use) = (Vec::new(), VecDeque::new());
+        let mut numbers = options.number.0.clone().rev();
+        while sessions.len() < count
+            && let Some(number) = numbers.next()
+        {
+            match try_number(options, &place, number, &files)? {
+                Tried::Joined(session) => sessions.push(session),
+                Tried::Taken => {}
+                Tried::InUse => in_use.push_back(number),
             }
-            sessions.extend(join_as(options, &place, number, &files)?);
+        }
+        while sessions.len() < count
+            && let Some(number) = in_use.pop_front()
+        {
+            sessions.push(join_as(options, &place, number, &files, options.timeout)?);
         }
         if sessions.len() < count { Err(none_is_free(options)) } else { Ok(sessions) }
     }
@@ -59,53 +73,78 @@ impl Session {
     }
 }
 
-/// The client of this number, or `None` if another process is it and there is a choice.
+/// What came of a number that is one of several.
+enum Tried {
+    Joined(Session),
+    /// Another process of this user has it.
+    Taken,
+    /// The server tells that another user or machine has it.
+    InUse,
+}
+
+/// Joins as the client of this number. If there is a choice, it leaves a number that another process
+/// has.
+fn try_number(
+    options: &Options,
+    place: &Place,
+    number: u8,
+    files: &LockFiles,
+) -> Result<Tried, Failure> {
+    if options.number.only().is_some() {
+        return join_as(options, place, number, files, options.timeout).map(Tried::Joined);
+    }
+    match join_table(options, place, number, files, IN_USE) {
+        Ok(session) => Ok(Tried::Joined(session)),
+        Err(ShardJoinError { error: JoinError::LockFile(LockFileError::Taken), .. }) => {
+            Ok(Tried::Taken)
+        }
+        Err(ShardJoinError {
+            error: JoinError::Unserved(Refusal::LeaseRuns { .. } | Refusal::Incarnation { .. }),
+            ..
+        }) => Ok(Tried::InUse),
+        Err(error) => Err(not_joined(options, place, number, error)),
+    }
+}
+
+/// Joins as the client of this number, and waits so long for another process that has it.
 fn join_as(
     options: &Options,
     place: &Place,
     number: u8,
     files: &LockFiles,
-) -> Result<Option<Session>, Failure> {
-    let begun = Instant::now();
-    let joined = match place {
-        Place::One(servers) => join_one(options, servers, number, files),
-        Place::Sharded(map) => join_sharded(options, map, number, files),
+    if_in_use: Duration,
+) -> Result<Session, Failure> {
+    join_table(options, place, number, files, if_in_use)
+        .map_err(|error| not_joined(options, place, number, error))
+}
+
+fn not_joined(options: &Options, place: &Place, number: u8, error: ShardJoinError) -> Failure {
+    let ShardJoinError { shard, error, .. } = error;
+    let server = place.servers_of(shard).unwrap_or(&options.server);
+    Failure::of_join(error, number, server).at_shard(shard)
+}
+
+fn join_table(
+    options: &Options,
+    place: &Place,
+    number: u8,
+    files: &LockFiles,
+    if_in_use: Duration,
+) -> Result<Session, ShardJoinError> {
+    let (begun, timeout) = (Instant::now(), options.timeout);
+    let table = match place {
+        Place::One(servers) => {
+            let builder = Client::builder(servers).number(number).timeout(timeout);
+            let builder = builder.wait_if_in_use(if_in_use);
+            builder.lock_file(files.of_number(number)).join()?.into()
+        }
+        Place::Sharded(map) => {
+            let builder = ShardedClient::builder(map.clone()).number(number).timeout(timeout);
+            let builder = builder.wait_if_in_use(if_in_use);
+            builder.lock_folder(files.folder()).join()?.into()
+        }
     };
-    match joined {
-        Ok(table) => {
-            let (place, joined_in) = (place.clone(), begun.elapsed());
-            Ok(Some(Session { table, place, number, joined_in }))
-        }
-        Err(ShardJoinError { error: JoinError::LockFile(LockFileError::Taken), .. })
-            if options.number.only().is_none() =>
-        {
-            Ok(None)
-        }
-        Err(ShardJoinError { shard, error, .. }) => {
-            let server = place.servers_of(shard).unwrap_or(&options.server);
-            Err(Failure::of_join(error, number, server).at_shard(shard))
-        }
-    }
-}
-
-fn join_one(
-    options: &Options,
-    servers: &Servers,
-    number: u8,
-    files: &LockFiles,
-) -> Result<Table, ShardJoinError> {
-    let builder = Client::builder(servers).number(number).timeout(options.timeout);
-    Ok(builder.lock_file(files.of_number(number)).join()?.into())
-}
-
-fn join_sharded(
-    options: &Options,
-    map: &ShardMap,
-    number: u8,
-    files: &LockFiles,
-) -> Result<Table, ShardJoinError> {
-    let builder = ShardedClient::builder(map.clone()).number(number).timeout(options.timeout);
-    Ok(builder.lock_folder(files.folder()).join()?.into())
+    Ok(Session { table, place: place.clone(), number, joined_in: begun.elapsed() })
 }
 
 fn none_is_free(options: &Options) -> Failure {

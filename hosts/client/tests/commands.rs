@@ -2,10 +2,11 @@
 mod support;
 
 use krl::{Outcome, Value};
+use nix::sys::signal::Signal;
 use std::io::Read;
 use std::process::Stdio;
 use std::time::{Duration, Instant};
-use support::{Ended, World, wait_for};
+use support::{Ended, LONG, World, signal, wait_for};
 
 fn ended(status: i32, out: &str, errors: &str) -> Ended {
     Ended { status, out: out.into(), errors: errors.into() }
@@ -209,6 +210,26 @@ fn the_greatest_free_number_is_taken() {
     support::signal(&first, nix::sys::signal::Signal::SIGTERM);
     first.wait().unwrap();
     assert_eq!(number("56-63"), (0, "63".into()));
+}
+
+#[test]
+fn a_number_that_another_user_has_is_told_and_the_next_one_is_tried() {
+    let world = World::leased("users", 4 * LONG);
+    let mut hold = world.spawn(&["hold", "10", "20", "--", "sleep", "60"]);
+    world.wait_until_held(63);
+    let other = World::folder_of("other-user");
+    let run = |words: &[&str]| -> Ended {
+        world.command(words).env("XDG_STATE_HOME", &other).output().unwrap().into()
+    };
+    let pinged = run(&["--format", "json", "--timeout", "25s", "ping"]);
+    assert_eq!(pinged.status, 0, "{pinged:?}");
+    assert!(pinged.out.contains(r#""client":62"#), "{pinged:?}");
+    let told = run(&["--number", "63", "--timeout", "2s", "get", "1"]);
+    assert_eq!(told.status, 3, "{told:?}");
+    assert!(told.errors.starts_with("krl-client: number 63 is in use: give another"), "{told:?}");
+    signal(&hold, Signal::SIGTERM);
+    hold.wait().unwrap();
+    std::fs::remove_dir_all(other).unwrap();
 }
 
 #[test]

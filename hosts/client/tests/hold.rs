@@ -3,10 +3,11 @@ mod support;
 
 use krl::{Outcome, Value};
 use nix::sys::signal::Signal;
+use std::net::TcpListener;
 use std::path::Path;
 use std::thread;
 use std::time::Duration;
-use support::{Ended, World, signal, wait_for};
+use support::{Ended, LONG, World, signal, wait_for};
 
 #[test]
 fn the_status_is_the_commands() {
@@ -24,6 +25,20 @@ fn the_status_is_the_commands() {
     assert_eq!(status(&["/dev/null"]).0, 126);
     let ended = world.run(&["hold", "1..9", "--update", "--", "echo", "--update", "-x"]);
     assert_eq!((ended.status, ended.out.as_str()), (0, "--update -x\n"));
+}
+
+#[test]
+fn a_start_in_vain_does_not_make_the_next_one_wait_for_the_lease() {
+    let world = World::leased("vain", 4 * LONG);
+    let mut killed = world.spawn(&["hold", "0", "100", "--", "sleep", "60"]);
+    world.wait_until_held(63);
+    signal(&killed, Signal::SIGKILL);
+    killed.wait().unwrap();
+    let nobody = TcpListener::bind("127.0.0.1:0").unwrap().local_addr().unwrap().to_string();
+    let vain = world.run(&["--server", &nobody, "--timeout", "300ms", "get", "15"]);
+    assert_eq!(vain.status, 3, "{vain:?}");
+    let ended = world.run(&["--timeout", "30s", "insert", "15", "a"]);
+    assert_eq!((ended.status, ended.out.as_str()), (0, "applied\n"), "{ended:?}");
 }
 
 #[test]

@@ -37,20 +37,23 @@ struct Certified {
     world: World,
     three: Shown,
     four: Shown,
+    operator: Shown,
 }
 
 impl Certified {
     fn new(name: &str) -> Certified {
         let folder = World::folder_of(name);
         let script = concat!(env!("CARGO_MANIFEST_DIR"), "/../packaging/certificates");
-        let holders = ["server", "client-3", "client-4"];
+        let holders = ["server", "client-3", "client-4", "operator"];
         let made = Command::new(script).arg(&folder).args(holders).output().unwrap();
         assert!(made.status.success(), "{made:?}");
         let access = Access::new().tls(Shown::of(&folder, "server").config());
         let listener = Listener::bind(&"tls:127.0.0.1:0".parse().unwrap()).unwrap();
         let server = Server::builder(listener, MemoryStore::default()).access(access);
-        let [three, four] = ["client-3", "client-4"].map(|holder| Shown::of(&folder, holder));
-        Certified { world: World { server: server.start().unwrap(), folder }, three, four }
+        let [three, four, operator] =
+            ["client-3", "client-4", "operator"].map(|holder| Shown::of(&folder, holder));
+        let world = World { server: server.start().unwrap(), folder };
+        Certified { world, three, four, operator }
     }
 
     /// The program as client 3, with these words.
@@ -105,6 +108,17 @@ fn a_certificate_of_another_number_is_told_in_a_sentence() {
     assert_eq!((status, out.as_str()), (4, ""), "{errors}");
     assert!(errors.contains("no right to the client's number"), "{errors}");
     assert_eq!(errors.lines().count(), 1, "{errors}");
+}
+
+#[test]
+fn an_operator_has_no_right_to_rows() {
+    let certified = Certified::new("tls-operator");
+    for command in [["get", "15"].as_slice(), &["insert", "15", "a"]] {
+        let words = [&certified.operator.words()[..], &["--number", "3"], command].concat();
+        let Ended { status, out, errors } = certified.world.run(&words);
+        assert_eq!((status, out.as_str()), (4, ""), "{errors}");
+        assert!(errors.contains("gives no right to the client"), "{errors}");
+    }
 }
 
 #[test]

@@ -52,9 +52,6 @@ class RulesTest(unittest.TestCase):
     def test_leave(self) -> None:
         self.play("leave")
 
-    def test_without_host_frames(self) -> None:
-        self.play("without_host_frames")
-
     def test_no_message(self) -> None:
         self.play("no_message")
 

@@ -22,8 +22,9 @@ impl Backoff {
         Backoff { pause: FIRST, longest: FIRST.max(LONGEST / servers) }
     }
 
-    /// The server has said something: the next pause is the first one again. A connection alone
-    /// says nothing: a server that has no room for it takes it and ends it.
+    /// The client has accepted a message of the server: the next pause is the first one again. A
+    /// connection alone is no reason, since a server that has no room takes it and ends it. Nor is
+    /// a message that ends the connection, as one of another version.
     pub fn reset(&mut self) {
         self.pause = FIRST;
     }

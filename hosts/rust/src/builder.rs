@@ -7,8 +7,24 @@ use crate::tls::TlsConfig;
 use std::path::PathBuf;
 use std::time::Duration;
 
-/// How long a client waits for an answer, unless it is told otherwise.
-pub(crate) const TIMEOUT: Duration = Duration::from_secs(10);
+/// How long a client waits for an answer by default. It is longer than a server waits by default for
+/// a client that was killed: a lease of ten seconds and a quarter.
+pub(crate) const TIMEOUT: Duration = Duration::from_secs(15);
+
+/// How long a client waits.
+#[derive(Clone, Copy, Debug)]
+pub(crate) struct Waits {
+    /// For any answer.
+    pub timeout: Duration,
+    /// For its number, if the server tells that another process has it.
+    pub if_in_use: Duration,
+}
+
+impl Waits {
+    pub fn by_default() -> Waits {
+        Waits { timeout: TIMEOUT, if_in_use: Duration::MAX }
+    }
+}
 
 /// What a client is told before it joins: its servers, its number and its lock file, and how long
 /// its calls wait. The number and the lock file have to be said.
@@ -18,12 +34,12 @@ pub struct ClientBuilder {
     servers: Servers,
     number: Option<u8>,
     lock_file: Option<PathBuf>,
-    timeout: Duration,
+    waits: Waits,
 }
 
 impl ClientBuilder {
     pub(crate) fn new(servers: Servers) -> ClientBuilder {
-        ClientBuilder { servers, number: None, lock_file: None, timeout: TIMEOUT }
+        ClientBuilder { servers, number: None, lock_file: None, waits: Waits::by_default() }
     }
 
     /// The client's number, from 0 to 63. One process at a time may be the client of a number.
@@ -50,10 +66,18 @@ impl ClientBuilder {
         self
     }
 
-    /// How long `join` and each later call wait for an answer: ten seconds if this is not called,
-    /// and a year at most.
+    /// How long `join` and each later call wait for an answer: fifteen seconds by default, and a
+    /// year at most.
     pub fn timeout(mut self, timeout: Duration) -> ClientBuilder {
-        self.timeout = timeout;
+        self.waits.timeout = timeout;
+        self
+    }
+
+    /// How long `join` waits for its number if the server tells that another process has it: until
+    /// the timeout by default. Then it ends with `Unserved`. Who has several numbers tries the next
+    /// one after a moment.
+    pub fn wait_if_in_use(mut self, wait: Duration) -> ClientBuilder {
+        self.waits.if_in_use = wait;
         self
     }
 
@@ -65,6 +89,6 @@ impl ClientBuilder {
     pub fn join(self) -> Result<Client, JoinError> {
         let number = self.number.ok_or(JoinError::Incomplete("a number"))?;
         let lock_file = self.lock_file.ok_or(JoinError::Incomplete("a lock file"))?;
-        Client::start(self.servers, number, &lock_file, self.timeout, Errand::Work)
+        Client::start(self.servers, number, &lock_file, self.waits, Errand::Work)
     }
 }

@@ -1,5 +1,6 @@
 //! What carries frames between a client and its server: a stream, and TLS if the address says so.
 use crate::address::Address;
+use crate::connect_fault::NotTaken;
 use crate::frames::Frames;
 use crate::stream::Stream;
 use crate::tls::{Side, TlsConfig, TlsSession};
@@ -109,7 +110,7 @@ fn without_certificate(address: &Address) -> io::Error {
         "{address} is an address of TLS: the client needs a certificate, its key, and that of the \
          authority, and the feature `tls`"
     );
-    io::Error::new(ErrorKind::PermissionDenied, why)
+    NotTaken(why).into()
 }
 
 fn lock<T>(mutex: &Mutex<T>) -> MutexGuard<'_, T> {

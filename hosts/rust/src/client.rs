@@ -1,12 +1,14 @@
 //! A client over a network.
-use crate::builder::{ClientBuilder, TIMEOUT};
+use crate::builder::{ClientBuilder, Waits};
 use crate::change::{Outcome, Write};
 use crate::client_handle::ClientHandle;
+use crate::connect_fault::{NotTaken, Rejection};
 use crate::jobs::{Asked, Jobs};
 use crate::lease::Older;
 use crate::link::Link;
 use crate::lock_file::LockFile;
 use crate::range::keys_of;
+use crate::refusal::Refusal;
 use crate::refused::{JoinError, Refused};
 use crate::row::{END, Row, Value};
 use crate::servers::Servers;
@@ -31,8 +33,8 @@ const MAX_CLIENTS: u8 = 64;
 ///
 /// If the server's store went back, since an older copy of it was brought back, the client drops its
 /// cache as if it had crashed, and joins anew: [`Refused::StoreWentBack`] tells who waits just then.
-/// Until it has joined, `cached` answers `None`, and other calls wait. A store without a history,
-/// and a server without host frames, tell nothing of it.
+/// Until it has joined, `cached` answers `None`, and other calls wait. A store without a history
+/// tells nothing of it.
 ///
 /// A server with leases lets the client answer from its cache only for so long after its last word.
 /// When its lease ends the client drops its cache and joins anew, as above: only a write that is on
@@ -60,7 +62,7 @@ pub struct Pin<'c> {
 impl Client {
     /// Joins the server as the client of this number. `lock_file` is the file of this number on
     /// this machine: it keeps a second process off the number. Two machines have to have different
-    /// numbers. It waits ten seconds for an answer.
+    /// numbers. It waits fifteen seconds for an answer.
     ///
     /// # Errors
     ///
@@ -73,7 +75,8 @@ impl Client {
         number: u8,
         lock_file: impl AsRef<Path>,
     ) -> Result<Client, JoinError> {
-        Client::start(servers.into(), number, lock_file.as_ref(), TIMEOUT, Errand::Work)
+        let (waits, lock_file) = (Waits::by_default(), lock_file.as_ref());
+        Client::start(servers.into(), number, lock_file, waits, Errand::Work)
     }
 
     /// Says more of a client before it joins: how long its calls wait.
@@ -97,17 +100,16 @@ impl Client {
         servers: Servers,
         number: u8,
         lock_file: &Path,
-        timeout: Duration,
+        waits: Waits,
         errand: Errand,
     ) -> Result<Client, JoinError> {
         if number >= MAX_CLIENTS {
             return Err(JoinError::BadNumber);
         }
-        // The incarnation is on the disk before the Hello leaves.
-        let (lock_file, incarnation) = LockFile::take(lock_file, number)?;
-        let older = match errand {
-            Errand::Work => lock_file.older(),
-            Errand::Evict => Older::Vouched,
+        let (mut lock_file, incarnation) = LockFile::take(lock_file, number)?;
+        let (incarnation, older) = match errand {
+            Errand::Work => (incarnation, lock_file.older()),
+            Errand::Evict { above } => (lock_file.rise_above(above), Older::Vouched),
         };
         let handle = ClientHandle::open_behind(number, incarnation, older);
         let handle = handle.map_err(Refused::from)?;
@@ -115,9 +117,15 @@ impl Client {
         let run = Arc::clone(&link);
         let thread = thread::Builder::new().name(format!("krl-client-{number}"));
         let thread = thread.spawn(move || run.run()).map_err(JoinError::NoThread)?;
-        let timeout = AtomicU64::new(nanoseconds(timeout));
+        let timeout = AtomicU64::new(nanoseconds(waits.timeout));
         let client = Client { number, link, thread: Some(thread), timeout };
-        match client.ask(Jobs::join) {
+        let begun = Instant::now();
+        let gives_up = |refusal| match errand {
+            Errand::Work => begun.elapsed() >= waits.if_in_use && is_in_use(refusal),
+            // A greater incarnation is taken then.
+            Errand::Evict { .. } => matches!(refusal, Refusal::Incarnation { .. }),
+        };
+        match client.link.join(client.timeout(), gives_up) {
             Ok(()) => Ok(client),
             Err(refused) => Err(client.not_joined(refused)),
         }
@@ -126,13 +134,16 @@ impl Client {
     /// Ends a client that has not joined: it says Bye, and waits for nothing.
     fn not_joined(mut self, refused: Refused) -> JoinError {
         let fault = self.link.take_fault();
-        let turned_away = self.link.turned_away();
+        let rejection = self.link.rejection();
         let _ = self.end(Duration::ZERO);
         match refused {
             Refused::TimedOut => JoinError::NoAnswer(fault),
             Refused::Unserved(refusal) => JoinError::Unserved(refusal),
             Refused::OtherShard(other) => JoinError::OtherShard(other),
-            Refused::TurnedAway => JoinError::TurnedAway(turned_away.unwrap_or_default()),
+            Refused::TurnedAway => JoinError::TurnedAway(match rejection {
+                Some(Rejection::NotTaken(NotTaken(why))) => why,
+                _ => String::new(),
+            }),
             refused => JoinError::Refused(refused),
         }
     }
@@ -155,7 +166,7 @@ impl Client {
     /// # Errors
     ///
     /// `BadRange` if the range begins above its end, or ends above 2^63; `TimedOut` or `Unserved`;
-    /// `StoreWentBack`; `OutOfMemory`; `Stopped`.
+    /// `TurnedAway` or `OtherShard`; `StoreWentBack`; `OutOfMemory`; `Stopped`.
     pub fn read(&self, keys: impl RangeBounds<u64>) -> Result<Vec<Row>, Refused> {
         let keys = keys_of(&keys)?;
         match self.cached(keys.clone()) {
@@ -170,7 +181,7 @@ impl Client {
     ///
     /// `BadKey` for a key of 2^63 - 1 or more; `TimedOut`, `Unserved`, `StoreWentBack` or `Stopped`:
     /// then the table may have changed or may still change; `LeaseEnded`: then it may have changed;
-    /// `OutOfMemory`.
+    /// `TurnedAway` or `OtherShard`: the write was not sent and changes nothing; `OutOfMemory`.
     pub fn insert(&self, key: u64, value: Value) -> Result<Outcome, Refused> {
         self.write(Write::Insert(Row { key, value }))
     }
@@ -242,7 +253,8 @@ impl Client {
     /// # Errors
     ///
     /// `BadRange` if the range begins above its end, or ends above 2^63; `Pinned` if it meets a
-    /// pin; `TimedOut` or `Unserved`; `StoreWentBack`; `OutOfMemory`; `Stopped`.
+    /// pin; `TimedOut` or `Unserved`; `TurnedAway` or `OtherShard`; `StoreWentBack`; `OutOfMemory`;
+    /// `Stopped`.
     pub fn forget(&self, keys: impl RangeBounds<u64>) -> Result<(), Refused> {
         let keys = keys_of(&keys)?;
         if keys.is_empty() { Ok(()) } else { self.ask(|jobs| jobs.forget(keys)) }
@@ -252,8 +264,8 @@ impl Client {
     ///
     /// # Errors
     ///
-    /// `TimedOut` or `Unserved`, `Stopped`: other clients may wait for what this one held then,
-    /// until it is evicted.
+    /// `TimedOut` or `Unserved`, `TurnedAway` or `OtherShard`, `Stopped`: other clients may wait for
+    /// what this one held then, until it is evicted.
     pub fn leave(mut self) -> Result<(), Refused> {
         let timeout = self.timeout();
         self.end(timeout)
@@ -314,12 +326,21 @@ impl Pin<'_> {
     }
 }
 
+/// Whether the server tells that another process has the client's number, or had it and may still
+/// answer.
+fn is_in_use(refusal: Refusal) -> bool {
+    matches!(refusal, Refusal::LeaseRuns { .. } | Refusal::Incarnation { .. })
+}
+
 /// What a client joins for.
 #[derive(Clone, Copy, Debug, PartialEq, Eq)]
 pub(crate) enum Errand {
     Work,
-    /// To end an older incarnation of which the operator says that no process is left.
-    Evict,
+    /// To end an older incarnation of which the operator says that no process is left, by one that
+    /// is greater than this too.
+    Evict {
+        above: u64,
+    },
 }
 
 fn nanoseconds(timeout: Duration) -> u64 {

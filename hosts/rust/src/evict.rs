@@ -1,5 +1,5 @@
 //! The operator's eviction of a client.
-use crate::builder::TIMEOUT;
+use crate::builder::Waits;
 use crate::client::{Client, Errand};
 use crate::refusal::Refusal;
 use crate::refused::JoinError;
@@ -15,10 +15,11 @@ const LEASE_ENDS: Duration = Duration::from_secs(60);
 /// old one, and then Bye.
 ///
 /// A client that has a lease is evicted when that ends: for this it waits a minute at most. While
-/// the client lives, its lease does not end, and it is not evicted. **The process of a client without
-/// a lease has to be dead.** One that still runs may go on to answer from its cache what is not so
-/// any more. On the client's own machine its lock file shows that it is; elsewhere nobody but the
-/// operator can know.
+/// the client lives, its lease does not end, and it is not evicted. If the server knows a greater
+/// incarnation than the clock gives, as of a machine whose clock was ahead, the next one above that
+/// is taken. **The process of a client without a lease has to be dead.** One that still runs may go
+/// on to answer from its cache what is not so any more. On the client's own machine its lock file
+/// shows that it is; elsewhere nobody but the operator can know.
 ///
 /// # Errors
 ///
@@ -30,11 +31,15 @@ pub fn evict(
     lock_file: impl AsRef<Path>,
 ) -> Result<(), JoinError> {
     let (servers, end) = (servers.into(), Instant::now() + LEASE_ENDS);
-    let start =
-        || Client::start(servers.clone(), number, lock_file.as_ref(), TIMEOUT, Errand::Evict);
+    let (waits, lock_file, mut above) = (Waits::by_default(), lock_file.as_ref(), 0);
     loop {
-        match start() {
-            Ok(client) => return client.leave().map_err(|_| JoinError::NoAnswer(None)),
+        match Client::start(servers.clone(), number, lock_file, waits, Errand::Evict { above }) {
+            Ok(client) => return client.leave().map_err(JoinError::Refused),
+            Err(JoinError::Unserved(Refusal::Incarnation { registered, .. }))
+                if registered > above =>
+            {
+                above = registered;
+            }
             Err(error) if end <= Instant::now() || !is_early(&error) => return Err(error),
             Err(_) => {}
         }

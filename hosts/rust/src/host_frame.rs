@@ -20,6 +20,8 @@ pub(crate) enum FromClient {
     Hello(Option<Mark>),
     /// It takes the server for this shard's.
     Shard(ShardBounds),
+    /// The same, with numbers that are no shard's. No host says it.
+    NoShard,
 }
 
 /// What the host of a server says, and only to a host that has said Hello.
@@ -55,6 +57,9 @@ impl FromClient {
             FromClient::Shard(shard) => {
                 framed(&[HOST, FromClient::SHARD], &shard_frame::spelled_bytes(Some(shard)))
             }
+            FromClient::NoShard => {
+                framed(&[HOST, FromClient::SHARD], &shard_frame::spelled_bytes(None))
+            }
         }
     }
 
@@ -63,7 +68,7 @@ impl FromClient {
         match frame {
             [HOST, FromClient::HELLO, seen @ ..] => Some(FromClient::Hello(mark(seen))),
             [HOST, FromClient::SHARD, shard @ ..] => {
-                shard_frame::read(shard).map(FromClient::Shard)
+                Some(shard_frame::read(shard).map_or(FromClient::NoShard, FromClient::Shard))
             }
             _ => None,
         }
@@ -215,8 +220,10 @@ mod tests {
             let hello = FromClient::Hello(seen);
             assert_eq!(FromClient::read(&body(&hello.frame())), Some(hello));
         }
-        let named = FromClient::Shard(shard());
-        assert_eq!(FromClient::read(&body(&named.frame())), Some(named));
+        for named in [FromClient::Shard(shard()), FromClient::NoShard] {
+            assert_eq!(FromClient::read(&body(&named.frame())), Some(named));
+        }
+        assert_eq!(FromClient::read(&[0, 2, 5]), Some(FromClient::NoShard));
     }
 
     #[test]

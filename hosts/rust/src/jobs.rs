@@ -70,6 +70,13 @@ enum Job {
     Leave(Reply<()>),
 }
 
+/// Whether a write was sent for a job, which the server may have applied.
+#[derive(Clone, Copy, Debug, PartialEq, Eq)]
+pub(crate) enum WasSent {
+    Yes,
+    No,
+}
+
 /// Whether a job may ask for a lock just now.
 ///
 /// While messages that came are still unread it may not: a callback among them would be obeyed too
@@ -204,14 +211,20 @@ impl Jobs {
         Asked { id: self.next, answer }
     }
 
-    /// Nobody waits for the job any more.
-    pub fn abandon(&mut self, job: JobId) {
-        self.written.take_if(|written| written.id == job);
+    /// Whether the job is a write that was sent and is not answered.
+    pub fn is_sent(&self, job: JobId) -> bool {
+        self.written.as_ref().is_some_and(|written| written.id == job)
+    }
+
+    /// Nobody waits for the job any more. It answers whether a write was sent for it.
+    pub fn abandon(&mut self, job: JobId) -> WasSent {
+        let written = self.written.take_if(|written| written.id == job);
         self.watched.retain(|watched| watched.id != job);
         let place = self.open.iter().position(|(id, _)| *id == job);
         if let Some((_, Job::Hold(taking, _))) = place.map(|place| self.open.remove(place)) {
             self.give_up(&taking);
         }
+        if written.is_some() { WasSent::Yes } else { WasSent::No }
     }
 
     /// The client's thread has ended: no job goes on, and whoever waits for one hears that.

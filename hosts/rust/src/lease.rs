@@ -116,11 +116,6 @@ impl Lease {
         Arc::clone(&self.end)
     }
 
-    /// Whether a sign was said of this incarnation.
-    pub fn has_signed(&self) -> bool {
-        self.last.is_some()
-    }
-
     /// How often a sign is due if nothing else is said, or `None` if the lease does not end.
     pub fn pace(&self) -> Option<Duration> {
         match self.state.length {

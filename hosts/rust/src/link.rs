@@ -4,9 +4,9 @@ use crate::backoff::Backoff;
 use crate::carrier::Carrier;
 use crate::client_handle::Cache;
 use crate::code::Code;
+use crate::connect_fault::{ConnectFault, Rejections};
 use crate::event_log;
 use crate::frames::{Frames, LONGEST_TO_CLIENT};
-use crate::greeting::{Greeting, Heard};
 use crate::history::Mark;
 use crate::host_frame;
 use crate::jobs::{Asking, BUSY_TICK, IDLE_TICK, Jobs};
@@ -15,7 +15,7 @@ use crate::message::epoch_of;
 use crate::refusal::Refusal;
 use crate::refused::Refused;
 use crate::servers::Servers;
-use crate::shard_fence::{Fence, OtherShard};
+use crate::shard_fence::Fence;
 use crate::silence::{Silence, Silent};
 use crate::writer::{ATTEMPT, Writer, Written};
 use std::convert::Infallible;
@@ -46,10 +46,8 @@ pub(crate) struct Link {
     fault: Mutex<Option<io::Error>>,
     /// Why the server does not serve the client, as it told last, and when.
     refusal: Mutex<Option<(Refusal, Instant)>>,
-    /// Why this side has no right to the client, if the server turned it away last.
-    turned_away: Mutex<Option<String>>,
-    /// The shards of the two sides, if it did so for that.
-    other_shard: Mutex<Option<OtherShard>>,
+    /// How the last connections ended, as far as one side rejected the other.
+    rejections: Mutex<Rejections>,
     /// How much the client has seen of the server's store.
     seen: Mutex<Option<Mark>>,
     /// The greatest epoch that a server has said.
@@ -64,6 +62,15 @@ enum Thread {
     Runs,
     IsToEnd,
     HasEnded,
+}
+
+/// What came on a connection.
+#[derive(Clone, Copy, Debug, Default, PartialEq, Eq)]
+struct Heard {
+    /// A message that the library has accepted.
+    message: bool,
+    /// That the server's store went back.
+    went_back: bool,
 }
 
 /// One connection, while it lasts.
@@ -92,8 +99,7 @@ impl Link {
             changed: Condvar::new(),
             fault: Mutex::default(),
             refusal: Mutex::default(),
-            turned_away: Mutex::default(),
-            other_shard: Mutex::default(),
+            rejections: Mutex::default(),
             seen: Mutex::default(),
             epoch: AtomicU64::new(0),
             lock_file: Mutex::new(lock_file),
@@ -152,35 +158,32 @@ impl Link {
     /// Keeps the connection until the client ends.
     pub fn run(&self) {
         let _ended = Ended(self);
-        let (mut backoff, mut greeting) =
-            (Backoff::among(self.servers.count()), Greeting::default());
+        let mut backoff = Backoff::among(self.servers.count());
         for place in 0.. {
             if !self.runs() {
                 return;
             }
             let address = self.servers.at(place);
-            let served = self.connect(address, &greeting).map(|connected| self.serve(connected));
+            let served = self.connect(address).map(|connected| self.serve(connected));
             self.writer.close();
             self.jobs().disconnect();
-            let fault = match served {
-                Ok(Served { heard, end }) => {
-                    greeting.note(heard);
-                    // A client that has to begin anew does so at once.
-                    if heard.message || heard.went_back {
-                        backoff.reset();
-                    }
-                    end
-                }
-                Err(error) => error,
-            };
-            event_log::disconnected(address, &fault);
-            if fault.kind() == ErrorKind::PermissionDenied {
-                *lock(&self.other_shard) = OtherShard::of_fault(&fault);
-                *lock(&self.turned_away) = Some(fault.to_string());
+            let Served { heard, end } =
+                served.unwrap_or_else(|end| Served { heard: Heard::default(), end });
+            let fault = ConnectFault::from(end);
+            // A client that has to begin anew does so at once.
+            if heard.went_back || heard.message && fault.rejection().is_none() {
+                backoff.reset();
             }
-            *lock(&self.fault) = Some(fault);
+            self.note(address, fault);
             self.rest(backoff.pause());
         }
+    }
+
+    /// The connection to this address has ended, or could not be made.
+    fn note(&self, address: &Address, fault: ConnectFault) {
+        event_log::disconnected(address, &fault);
+        lock(&self.rejections).note(&fault);
+        *lock(&self.fault) = Some(fault.into());
     }
 
     fn runs(&self) -> bool {
@@ -195,19 +198,17 @@ impl Link {
         drop(waited.unwrap_or_else(PoisonError::into_inner));
     }
 
-    fn connect<'l>(&self, address: &'l Address, greeting: &Greeting) -> io::Result<Connected<'l>> {
-        // What a server serves is heard by host frames alone.
-        let shard = self.servers.shard();
-        let is_asked = greeting.is_said() || shard.is_some();
-        self.begin_anew_if_due(is_asked)?;
+    fn connect<'l>(&self, address: &'l Address) -> io::Result<Connected<'l>> {
+        self.begin_anew_if_due()?;
         let carrier = Carrier::connect(address, self.servers.tls(), CONNECT)?;
         carrier.set_timeouts(IDLE_TICK, ATTEMPT)?;
-        let first = self.greeting(is_asked)?;
+        self.keep_incarnation()?;
+        let first = self.greeting()?;
         self.writer.open(carrier.try_clone()?, first);
         *lock(&self.fault) = None;
         event_log::connected(address);
-        let silence = Silence::new(Instant::now(), is_asked);
-        let (heard, fence) = (Heard::default(), Fence::new(shard));
+        let silence = Silence::new(Instant::now(), self.servers.count());
+        let (heard, fence) = (Heard::default(), Fence::new(self.servers.shard()));
         Ok(Connected { address, carrier, heard, silence, fence })
     }
 
@@ -229,7 +230,7 @@ impl Link {
             match connected.carrier.fill(&mut frames) {
                 Ok(0) => return Err(ErrorKind::UnexpectedEof.into()),
                 Ok(_) => connected.silence.heard(Instant::now()),
-                Err(error) if is_silence(error.kind()) => self.look_for_another(connected)?,
+                Err(error) if is_silence(error.kind()) => self.look_at_silence(connected)?,
                 Err(error) => return Err(error),
             }
             self.hear_all(&mut frames, connected)?;
@@ -261,33 +262,30 @@ impl Link {
         }
     }
 
-    /// Asks a server that is silent whether it is there, and leaves it if it is not, if there are
-    /// others.
-    fn look_for_another(&self, connected: &mut Connected<'_>) -> io::Result<()> {
-        if !self.servers.are_several() {
-            return Ok(());
-        }
+    /// Asks a server that is silent whether it is there, and leaves the connection if no answer
+    /// comes.
+    fn look_at_silence(&self, connected: &mut Connected<'_>) -> io::Result<()> {
         match connected.silence.look(Instant::now()) {
-            Silent::No => {}
-            Silent::Ask => self.writer.put(|frames| frames.extend_from_slice(&self.hello())),
+            Silent::No => Ok(()),
+            Silent::Ask => {
+                self.writer.put(|frames| frames.extend_from_slice(&self.hello()));
+                Ok(())
+            }
             Silent::Leave => {
-                let why = "the server is silent, and there are others";
-                return Err(io::Error::new(ErrorKind::TimedOut, why));
+                Err(io::Error::new(ErrorKind::TimedOut, "the server was asked, and is silent"))
             }
         }
-        Ok(())
     }
 
     /// Gives the client what came.
     fn hear_all(&self, frames: &mut Frames, connected: &mut Connected<'_>) -> io::Result<()> {
         while let Ok(Some(frame)) = frames.next() {
             if host_frame::is_of_host(frame) {
-                connected.heard.host_frame = true;
                 self.hear_host(frame, connected)?;
             } else {
-                connected.heard.message = true;
-                *lock(&self.turned_away) = None;
                 self.jobs().hear(frame).map_err(bad_message)?;
+                connected.heard.message = true;
+                lock(&self.rejections).accept();
                 self.compare_epochs(frame)?;
             }
         }

@@ -1,4 +1,8 @@
 //! The lock file of a client number: one process at a time, and greater incarnations.
+//!
+//! The file has the last incarnation that may have been said to a server. One that reached no server
+//! leaves the file as it was: the next one then knows the incarnation that a server may still know,
+//! and that no process of it is left.
 use crate::lease::Older;
 use std::fmt;
 use std::fs::{File, OpenOptions, TryLockError};
@@ -12,9 +16,11 @@ use std::time::{SystemTime, UNIX_EPOCH};
 pub(crate) struct LockFile {
     file: File,
     number: u8,
-    /// The last incarnation that was given.
+    /// The incarnation of now.
     incarnation: u64,
-    /// The one before it, or 0.
+    /// The last one that may have been said to a server, or 0. It is in the file.
+    kept: u64,
+    /// The last one before that of now which may have been said to a server, or 0.
     before: u64,
 }
 
@@ -36,7 +42,8 @@ const FORM: &str = "krl client 00 incarnation 00000000000000000000\n";
 
 impl LockFile {
     /// Takes the file for the client of this number, makes it if there is none, and gives the
-    /// client's incarnation: greater than every one before. It is on the disk when this returns.
+    /// client's incarnation: greater than every one that was said before. [`LockFile::keep`] has to
+    /// come before this one is said.
     ///
     /// The incarnation is the time in nanoseconds, or one more than the last one if the clock
     /// went back. So it rises even if the file was lost.
@@ -48,26 +55,42 @@ impl LockFile {
             Err(TryLockError::WouldBlock) => return Err(LockFileError::Taken),
             Err(TryLockError::Error(error)) => return Err(error.into()),
         }
-        let mut lock = LockFile { file, number, incarnation: 0, before: 0 };
-        lock.incarnation = lock.last()?;
-        let incarnation = lock.renew()?;
+        let mut lock = LockFile { file, number, incarnation: 0, kept: 0, before: 0 };
+        lock.kept = lock.last()?;
+        lock.incarnation = lock.kept;
         sync_folder_of(path)?;
+        let incarnation = lock.renew();
         Ok((lock, incarnation))
     }
 
-    /// Gives the client another incarnation, greater than every one before. It is on the disk when
-    /// this returns.
-    pub fn renew(&mut self) -> io::Result<u64> {
-        self.before = self.incarnation;
+    /// Gives the client another incarnation, greater than every one before.
+    pub fn renew(&mut self) -> u64 {
+        self.before = self.kept;
         self.incarnation = now().max(self.incarnation + 1);
+        self.incarnation
+    }
+
+    /// Has the client's incarnation be greater than this one too, and gives it.
+    pub fn rise_above(&mut self, other: u64) -> u64 {
+        self.incarnation = self.incarnation.max(other.saturating_add(1));
+        self.incarnation
+    }
+
+    /// Has the incarnation of now on the disk when it returns: from then on it may be said.
+    pub fn keep(&mut self) -> io::Result<()> {
+        if self.kept == self.incarnation {
+            return Ok(());
+        }
         self.file.seek(SeekFrom::Start(0))?;
         self.file.write_all(line(self.number, self.incarnation).as_bytes())?;
         self.file.sync_all()?;
-        Ok(self.incarnation)
+        self.kept = self.incarnation;
+        Ok(())
     }
 
     /// What is known of older incarnations: no process of the last one before is left, since whoever
-    /// has the file alone runs as this client.
+    /// has the file alone runs as this client. It is the one that a server knows, unless that was
+    /// not reached from this machine.
     pub fn older(&self) -> Older {
         if self.before == 0 { Older::Unknown } else { Older::IsOver(self.before) }
     }
@@ -153,7 +176,8 @@ mod tests {
     #[test]
     fn one_holder_and_rising_incarnations() {
         let path = path("rising");
-        let (held, first) = LockFile::take(&path, 3).unwrap();
+        let (mut held, first) = LockFile::take(&path, 3).unwrap();
+        held.keep().unwrap();
         assert_eq!(held.older(), Older::Unknown);
         assert!(matches!(LockFile::take(&path, 3), Err(LockFileError::Taken)));
         drop(held);
@@ -163,12 +187,32 @@ mod tests {
         drop(held);
         let far = i64::MAX as u64 - 5;
         std::fs::write(&path, line(3, far)).unwrap();
-        assert_eq!(LockFile::take(&path, 3).unwrap().1, far + 1);
+        let (mut held, first) = LockFile::take(&path, 3).unwrap();
+        assert_eq!((first, held.older()), (far + 1, Older::IsOver(far)));
+        held.keep().unwrap();
         assert_eq!(std::fs::read_to_string(&path).unwrap(), line(3, far + 1));
-        let mut held = LockFile::take(&path, 3).unwrap().0;
-        assert_eq!([held.renew().unwrap(), held.renew().unwrap()], [far + 3, far + 4]);
-        assert_eq!(std::fs::read_to_string(&path).unwrap(), line(3, far + 4));
-        assert_eq!(held.older(), Older::IsOver(far + 3));
+        assert_eq!([held.renew(), held.renew()], [far + 2, far + 3]);
+        assert_eq!(held.older(), Older::IsOver(far + 1));
+        held.keep().unwrap();
+        assert_eq!(std::fs::read_to_string(&path).unwrap(), line(3, far + 3));
+        assert_eq!((held.renew(), held.older()), (far + 4, Older::IsOver(far + 3)));
+        std::fs::remove_file(&path).unwrap();
+    }
+
+    #[test]
+    fn an_incarnation_that_was_never_said_leaves_no_trace() {
+        let path = path("vain");
+        let (mut said, first) = LockFile::take(&path, 3).unwrap();
+        said.keep().unwrap();
+        drop(said);
+        // Two starts that reach no server.
+        drop(LockFile::take(&path, 3).unwrap());
+        drop(LockFile::take(&path, 3).unwrap());
+        let (mut held, last) = LockFile::take(&path, 3).unwrap();
+        assert_eq!(held.older(), Older::IsOver(first));
+        assert_eq!(std::fs::read_to_string(&path).unwrap(), line(3, first));
+        held.keep().unwrap();
+        assert_eq!(std::fs::read_to_string(&path).unwrap(), line(3, last));
         std::fs::remove_file(&path).unwrap();
     }
 

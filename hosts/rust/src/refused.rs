@@ -16,12 +16,15 @@ pub enum Refused {
     TimedOut,
     /// The same, and the server has told just before why it does not serve the client.
     Unserved(Refusal),
-    /// The same, and this side of the connection has no right to the client: the two sides don't
-    /// take each other's certificates, or the certificate or the user is not that of the client's
-    /// number. It comes at once if the client has one server.
+    /// This side of the connection has no right to the client: the two sides don't take each
+    /// other's certificates, or the certificate or the user is not that of the client's number. If
+    /// the client has one server, this comes as soon as two connections in a row have ended for it,
+    /// and otherwise at the timeout. A write was not sent, and changes nothing: one that was sent
+    /// waits for its answer until the timeout, and ends with `TimedOut` then.
     TurnedAway,
-    /// The same, and the server serves another shard than the client takes it for, or by another
-    /// map. It comes at once if the client has one server.
+    /// The server serves another shard than the client takes it for, or by another map. It comes
+    /// when `TurnedAway` does. A write was not sent, and changes nothing: one that was sent ends
+    /// with `Unserved`, and this reason, at the same moment.
     OtherShard(OtherShard),
     /// The server's store lacks what this client has seen of it: it is an older copy, or another
     /// store. The client has dropped its cache and its pins, and joins anew. A write may have
@@ -67,15 +70,39 @@ pub enum JoinError {
     Unserved(Refusal),
     /// This side of the connection has no right to the client, for this reason: the two sides don't
     /// take each other's certificates, or the certificate or the user is not that of the client's
-    /// number. It comes at once if the client has one server.
+    /// number. If the client has one server, it comes as soon as two connections in a row have ended
+    /// for it.
     TurnedAway(String),
-    /// The server serves another shard than the client takes it for, or by another map. It comes at
-    /// once if the client has one server.
+    /// The server serves another shard than the client takes it for, or by another map. If the
+    /// client has one server, it comes as soon as two connections in a row have ended for it.
     OtherShard(OtherShard),
     /// The system has no thread for the client's connection.
     NoThread(io::Error),
     /// The client refused to start.
     Refused(Refused),
+}
+
+impl Refused {
+    /// Whether a write that ended so may have been applied, or may still be: a read of the key tells.
+    /// After any other error the write changes nothing.
+    #[must_use]
+    pub fn is_unknown_outcome(&self) -> bool {
+        match self {
+            Refused::TimedOut
+            | Refused::Unserved(_)
+            | Refused::StoreWentBack
+            | Refused::LeaseEnded
+            | Refused::Stopped => true,
+            Refused::TurnedAway
+            | Refused::OtherShard(_)
+            | Refused::BadRange
+            | Refused::BadKey
+            | Refused::Pinned
+            | Refused::TooManyPins
+            | Refused::OutOfMemory
+            | Refused::Other(_) => false,
+        }
+    }
 }
 
 impl From<Code> for Refused {

@@ -11,7 +11,8 @@ use std::str::FromStr;
 ///
 /// A client goes to the next one if it can't connect, if its connection ends, if the server is
 /// silent for a second though it was asked, and if a server is of an older epoch than one that the
-/// client has heard.
+/// client has heard. With one address it connects again to that, and waits five seconds for a server
+/// that is silent.
 #[derive(Clone, Debug, PartialEq, Eq)]
 pub struct Servers {
     first: Address,

@@ -66,13 +66,6 @@ impl Fence {
     }
 }
 
-impl OtherShard {
-    /// The one with which a connection has ended, if it has ended so.
-    pub(crate) fn of_fault(fault: &io::Error) -> Option<OtherShard> {
-        fault.get_ref()?.downcast_ref().copied()
-    }
-}
-
 impl From<OtherShard> for io::Error {
     fn from(other: OtherShard) -> io::Error {
         io::Error::new(ErrorKind::PermissionDenied, other)
@@ -167,8 +160,5 @@ mod tests {
         assert!(said(Some("0..9@3"), Some("0..9@2")).contains("started by an older map"));
         assert!(said(Some("0..9@3"), None).contains("has to be started as that shard's"));
         assert!(said(None, Some("0..9@3")).contains("the client needs a map"));
-        let fault = io::Error::from(OtherShard { expected: None, served: None });
-        assert_eq!(OtherShard::of_fault(&fault).map(|other| other.served), Some(None));
-        assert_eq!(OtherShard::of_fault(&io::Error::other("no")), None);
     }
 }

@@ -64,7 +64,7 @@ pub struct ShardStatus {
 
 impl ShardedClient {
     /// Joins all shards of the map as the client of this number. The lock files are in the folder,
-    /// one for each shard and number. It waits ten seconds for an answer.
+    /// one for each shard and number. It waits fifteen seconds for an answer.
     ///
     /// # Errors
     ///

@@ -1,5 +1,5 @@
 //! How a sharded client is told to join.
-use crate::builder::TIMEOUT;
+use crate::builder::Waits;
 use crate::client::{Client, Errand};
 use crate::refused::JoinError;
 use crate::shard_map::{Shard, ShardMap};
@@ -18,14 +18,14 @@ pub struct ShardedBuilder {
     map: ShardMap,
     number: Option<u8>,
     lock_folder: Option<PathBuf>,
-    timeout: Duration,
+    waits: Waits,
 }
 
 type Joined = Result<Client, JoinError>;
 
 impl ShardedBuilder {
     pub(crate) fn new(map: ShardMap) -> ShardedBuilder {
-        ShardedBuilder { map, number: None, lock_folder: None, timeout: TIMEOUT }
+        ShardedBuilder { map, number: None, lock_folder: None, waits: Waits::by_default() }
     }
 
     /// The client's number at each shard, from 0 to 63.
@@ -40,10 +40,19 @@ impl ShardedBuilder {
         self
     }
 
-    /// How long `join` and each later call wait for an answer: ten seconds if this is not called,
-    /// and a year at most.
+    /// How long `join` and each later call wait for an answer: fifteen seconds by default, and a
+    /// year at most.
     pub fn timeout(mut self, timeout: Duration) -> ShardedBuilder {
-        self.timeout = timeout;
+        self.waits.timeout = timeout;
+        self
+    }
+
+    /// How long `join` waits for its number if a server tells that another process has it, as
+    /// [`ClientBuilder::wait_if_in_use`] says.
+    ///
+    /// [`ClientBuilder::wait_if_in_use`]: crate::ClientBuilder::wait_if_in_use
+    pub fn wait_if_in_use(mut self, wait: Duration) -> ShardedBuilder {
+        self.waits.if_in_use = wait;
         self
     }
 
@@ -61,10 +70,9 @@ impl ShardedBuilder {
         let joined: Vec<Joined> = thread::scope(|scope| {
             let shards = self.map.shards().iter();
             let joining = shards.enumerate().map(|(place, shard)| {
-                let (lock_file, timeout) = (lock_file(folder, shard, number), self.timeout);
+                let (lock_file, waits) = (lock_file(folder, shard, number), self.waits);
                 let servers = self.map.servers_of(place, shard);
-                let join =
-                    move || Client::start(servers, number, &lock_file, timeout, Errand::Work);
+                let join = move || Client::start(servers, number, &lock_file, waits, Errand::Work);
                 thread::Builder::new().spawn_scoped(scope, join)
             });
             let joining: Vec<_> = joining.collect();

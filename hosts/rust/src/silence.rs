@@ -1,11 +1,22 @@
-//! Whether a server that a client could leave for another one still answers.
+//! Whether a server still answers on a connection, or the client has to make another one.
 use std::time::{Duration, Instant};
 
-/// A server that has said nothing for so long is asked.
-const ASK: Duration = Duration::from_millis(250);
+/// How long a server may be silent.
+#[derive(Clone, Copy, Debug, PartialEq, Eq)]
+struct Patience {
+    /// After so long it is asked.
+    ask: Duration,
+    /// After so long it is left, though it was asked.
+    leave: Duration,
+}
 
-/// A server that has said nothing for so long, though it was asked, is left.
-const LEAVE: Duration = Duration::from_secs(1);
+/// There are other servers, and one of them may serve.
+const AMONG_SEVERAL: Patience =
+    Patience { ask: Duration::from_millis(250), leave: Duration::from_secs(1) };
+
+/// There is one address, which is often that of a proxy or of an address translator: it may have
+/// lost the connection, and take another one. A server that is only slow loses nothing by it.
+const ALONE: Patience = Patience { ask: Duration::from_secs(1), leave: Duration::from_secs(5) };
 
 /// What to do about a server that is silent.
 #[derive(Clone, Copy, Debug, PartialEq, Eq)]
@@ -20,16 +31,17 @@ pub(crate) enum Silent {
 /// How long a server has been silent on one connection.
 #[derive(Clone, Copy, Debug)]
 pub(crate) struct Silence {
+    patience: Patience,
     heard: Instant,
     asked: Instant,
-    /// Whether it has been asked in a way that every server answers, or ends the connection for.
-    is_asked: bool,
 }
 
 impl Silence {
-    /// A connection that is new, and on which the server is asked or not.
-    pub fn new(now: Instant, is_asked: bool) -> Silence {
-        Silence { heard: now, asked: now, is_asked }
+    /// A new connection to one of so many servers, which begins with a question: each server answers
+    /// it, or ends the connection.
+    pub fn new(now: Instant, servers: usize) -> Silence {
+        let patience = if servers > 1 { AMONG_SEVERAL } else { ALONE };
+        Silence { patience, heard: now, asked: now }
     }
 
     /// Something came.
@@ -38,12 +50,11 @@ impl Silence {
     }
 
     pub fn look(&mut self, now: Instant) -> Silent {
+        let Patience { ask, leave } = self.patience;
         let silent = now.saturating_duration_since(self.heard);
-        if !self.is_asked || silent < ASK {
-            Silent::No
-        } else if silent >= LEAVE {
+        if silent >= leave {
             Silent::Leave
-        } else if now.saturating_duration_since(self.asked) >= ASK {
+        } else if silent >= ask && now.saturating_duration_since(self.asked) >= ask {
             self.asked = now;
             Silent::Ask
         } else {
@@ -60,9 +71,7 @@ mod tests {
     fn a_silent_server_is_asked_and_then_left() {
         let start = Instant::now();
         let at = |milliseconds| start + Duration::from_millis(milliseconds);
-        let mut without = Silence::new(start, false);
-        assert_eq!(without.look(at(5000)), Silent::No, "nobody knows whether it would answer");
-        let mut silence = Silence::new(start, true);
+        let mut silence = Silence::new(start, 2);
         silence.heard(at(5000));
         assert_eq!(silence.look(at(5249)), Silent::No);
         assert_eq!(silence.look(at(5250)), Silent::Ask);
@@ -71,5 +80,16 @@ mod tests {
         silence.heard(at(5600));
         assert_eq!(silence.look(at(5700)), Silent::No);
         assert_eq!(silence.look(at(6600)), Silent::Leave);
+    }
+
+    #[test]
+    fn the_only_server_is_given_more_time() {
+        let start = Instant::now();
+        let at = |milliseconds| start + Duration::from_millis(milliseconds);
+        let mut silence = Silence::new(start, 1);
+        assert_eq!(silence.look(at(999)), Silent::No);
+        assert_eq!(silence.look(at(1000)), Silent::Ask);
+        assert_eq!(silence.look(at(4999)), Silent::Ask);
+        assert_eq!(silence.look(at(5000)), Silent::Leave);
     }
 }

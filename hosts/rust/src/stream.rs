@@ -1,6 +1,7 @@
 //! Connections over TCP or over a Unix socket.
 use crate::address::Address;
 use crate::unix_peer::user_at;
+use socket2::{Domain, SockAddr, SockRef, Socket, TcpKeepalive, Type};
 use std::fmt;
 use std::fs::{Permissions, set_permissions};
 use std::io::{self, ErrorKind, Read, Write};
@@ -9,8 +10,6 @@ use std::os::fd::{AsRawFd, RawFd};
 use std::os::unix::fs::{FileTypeExt, PermissionsExt};
 use std::os::unix::net::{UnixListener, UnixStream};
 use std::path::Path;
-use std::sync::mpsc::channel;
-use std::thread;
 use std::time::Duration;
 
 /// How long a server may take to show that it listens at a Unix socket.
@@ -21,6 +20,13 @@ const OWN: u32 = 0o600;
 
 /// The mode if other users may connect: who they are decides what they may say.
 const OTHERS_TOO: u32 = 0o666;
+
+/// When the system asks whether the machine of a silent peer is there, and how often before it ends
+/// the connection: after a minute in all.
+const KEEPALIVE: TcpKeepalive = TcpKeepalive::new()
+    .with_time(Duration::from_secs(30))
+    .with_interval(Duration::from_secs(10))
+    .with_retries(3);
 
 /// A socket that takes connections.
 #[derive(Debug)]
@@ -93,7 +99,7 @@ impl Listener {
                 TcpListener::bind((name.as_str(), *port)).map(Listener::Tls)
             }
             Address::Unix(path) => {
-                if is_socket(path) && is_abandoned(&probe(path)) {
+                if is_socket(path) && is_abandoned(&connect_to_path(path, PROBE)) {
                     std::fs::remove_file(path)?;
                 }
                 let listener = UnixListener::bind(path)?;
@@ -168,21 +174,24 @@ fn is_socket(path: &Path) -> bool {
     path.metadata().is_ok_and(|file| file.file_type().is_socket())
 }
 
-/// Connects to a Unix socket, in a thread of its own: a server that takes no connection just now
-/// would hold it up for as long as it likes.
-fn probe(path: &Path) -> io::Result<()> {
-    let (told, outcome) = channel();
-    let path = path.to_path_buf();
-    thread::Builder::new().name("krl-probe".into()).spawn(move || {
-        // Nobody hears it that comes too late.
-        let _ = told.send(UnixStream::connect(path).map(drop));
-    })?;
-    outcome.recv_timeout(PROBE).unwrap_or_else(|_| Err(ErrorKind::TimedOut.into()))
+/// Connects to a Unix socket. A server that takes no connection just now does not hold it up for
+/// longer.
+fn connect_to_path(path: &Path, wait: Duration) -> io::Result<UnixStream> {
+    let socket = Socket::new(Domain::UNIX, Type::STREAM, None)?;
+    // The system waits no longer for room in the queue of the listener than for room to write.
+    socket.set_write_timeout(Some(wait))?;
+    match socket.connect(&SockAddr::unix(path)?) {
+        Ok(()) => Ok(socket.into()),
+        Err(error) if error.kind() == ErrorKind::WouldBlock => {
+            Err(io::Error::new(ErrorKind::TimedOut, "the server takes no connection"))
+        }
+        Err(error) => Err(error),
+    }
 }
 
 /// Whether a connect shows that nobody listens at a Unix socket any more. A missing right or a
 /// server that is slow does not show it.
-fn is_abandoned(connected: &io::Result<()>) -> bool {
+fn is_abandoned<T>(connected: &io::Result<T>) -> bool {
     connected.as_ref().is_err_and(|error| error.kind() == ErrorKind::ConnectionRefused)
 }
 
@@ -216,12 +225,13 @@ impl Stream {
                 let connected = connect_to_one((name.as_str(), *port).to_socket_addrs()?, wait);
                 Stream::of_tcp(connected?)
             }
-            Address::Unix(path) => UnixStream::connect(path).map(Stream::Unix),
+            Address::Unix(path) => connect_to_path(path, wait).map(Stream::Unix),
         }
     }
 
     fn of_tcp(stream: TcpStream) -> io::Result<Stream> {
         stream.set_nodelay(true)?;
+        SockRef::from(&stream).set_tcp_keepalive(&KEEPALIVE)?;
         Ok(Stream::Tcp(stream))
     }
 
@@ -321,10 +331,12 @@ impl Write for Stream {
 #[cfg(test)]
 mod tests {
     use super::*;
+    use std::time::Instant;
 
     #[test]
     fn only_a_refused_connect_shows_that_nobody_listens() {
-        assert!(is_abandoned(&Err(ErrorKind::ConnectionRefused.into())));
+        let failed = |kind: ErrorKind| io::Result::<()>::Err(kind.into());
+        assert!(is_abandoned(&failed(ErrorKind::ConnectionRefused)));
         assert!(!is_abandoned(&Ok(())));
         for kind in [
             ErrorKind::PermissionDenied,
@@ -333,7 +345,7 @@ mod tests {
             ErrorKind::NotFound,
             ErrorKind::Other,
         ] {
-            assert!(!is_abandoned(&Err(kind.into())), "{kind}");
+            assert!(!is_abandoned(&failed(kind)), "{kind}");
         }
     }
 
@@ -348,6 +360,34 @@ mod tests {
         assert_eq!(refused.kind(), ErrorKind::ConnectionRefused);
         let nobody = connect_to_one(std::iter::empty(), PROBE).unwrap_err();
         assert_eq!(nobody.kind(), ErrorKind::NotFound);
+    }
+
+    #[test]
+    fn a_unix_server_that_takes_no_connection_holds_nobody_up() {
+        let path = std::env::temp_dir().join(format!("krl-stream-full-{}", std::process::id()));
+        let listener = Socket::new(Domain::UNIX, Type::STREAM, None).unwrap();
+        listener.bind(&SockAddr::unix(&path).unwrap()).unwrap();
+        listener.listen(0).unwrap();
+        let (wait, begun) = (Duration::from_millis(50), Instant::now());
+        // Some find room in the queue.
+        let connect = || connect_to_path(&path, wait);
+        let waiting: Vec<UnixStream> = std::iter::from_fn(|| connect().ok()).take(100).collect();
+        assert!(waiting.len() < 100);
+        assert_eq!(connect().unwrap_err().kind(), ErrorKind::TimedOut);
+        assert!(begun.elapsed() < Duration::from_secs(10), "{:?}", begun.elapsed());
+        std::fs::remove_file(path).unwrap();
+    }
+
+    #[test]
+    fn the_system_asks_after_the_machine_of_a_silent_peer() {
+        let listener = TcpListener::bind("127.0.0.1:0").unwrap();
+        let address = Address::Tcp(listener.local_addr().unwrap());
+        let Stream::Tcp(ours) = Stream::connect(&address, PROBE).unwrap() else { unreachable!() };
+        let theirs = Listener::from(listener).accept().unwrap().stream;
+        let Stream::Tcp(theirs) = theirs else { unreachable!() };
+        for stream in [ours, theirs] {
+            assert!(SockRef::from(&stream).keepalive().unwrap());
+        }
     }
 
     #[test]

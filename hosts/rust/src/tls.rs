@@ -9,12 +9,14 @@ mod pipe;
 pub use certificate::Certificate;
 pub use config::{TlsConfig, TlsError};
 
+use crate::connect_fault::NotTaken;
 use crate::frames::{Frames, GULP};
 use crate::identity::{Identity, Role, TableName};
 use openssl::error::ErrorStack;
 use openssl::ssl::{Error, ErrorCode, Ssl, SslStream, SslVerifyMode};
 use openssl::x509::{X509Ref, X509StoreContextRef, X509VerifyResult};
 use pipe::Pipe;
+use std::ffi::c_ulong;
 use std::fmt;
 use std::io::{self, ErrorKind, Read};
 use std::sync::{Arc, OnceLock};
@@ -24,6 +26,17 @@ const LONGEST_HANDSHAKE: usize = 1 << 16;
 
 /// How much is opened at once: a record.
 const RECORD: usize = 1 << 14;
+
+/// Which bits of a code of OpenSSL are its reason, as far as alerts need them.
+const REASON: c_ulong = 0xfff;
+
+/// The reason of an alert is its number behind this one.
+const ALERTS: c_ulong = 1000;
+
+/// The alerts of TLS about a certificate: `handshake_failure`, which stands for a name that does not
+/// count, those from `bad_certificate` to `certificate_unknown`, `unknown_ca`, `access_denied` and
+/// `certificate_required`.
+const ABOUT_CERTIFICATES: [c_ulong; 9] = [40, 42, 43, 44, 45, 46, 48, 49, 116];
 
 /// Which side of a connection this one is.
 #[derive(Clone, Copy, Debug, PartialEq, Eq)]
@@ -153,8 +166,9 @@ impl TlsSession {
     ///
     /// # Errors
     ///
-    /// `PermissionDenied`, with a sentence, if one side does not take the other's certificate or the
-    /// bytes are none of TLS 1.3. What is to be written still tells the other side.
+    /// `PermissionDenied`, with a sentence, if one side does not take the other's certificate;
+    /// `InvalidData` if the bytes are none of TLS 1.3, or the other side ended the session for
+    /// another reason. What is to be written still tells the other side.
     pub fn open(&mut self, sealed: &[u8]) -> io::Result<Vec<u8>> {
         self.shake(sealed)?;
         if self.peer.is_some() { self.open_records() } else { Ok(Vec::new()) }
@@ -168,7 +182,7 @@ impl TlsSession {
         }
         self.shaken += sealed.len();
         if self.shaken > LONGEST_HANDSHAKE {
-            return Err(denied("the hand-shake does not end"));
+            return Err(io::Error::new(ErrorKind::InvalidData, "the hand-shake does not end"));
         }
         self.go_on()
     }
@@ -228,9 +242,9 @@ impl TlsSession {
 
     /// Who the certificate of the other side says that it is.
     fn find_peer(&self) -> io::Result<Identity> {
-        let certificate = self.stream.ssl().peer_certificate().ok_or(denied(NO_NAME))?;
+        let certificate = self.stream.ssl().peer_certificate().ok_or_else(|| not_taken(NO_NAME))?;
         let found = peer_of(&certificate, self.side, self.table.as_ref());
-        found.ok_or_else(|| denied(NO_NAME))
+        found.ok_or_else(|| not_taken(NO_NAME))
     }
 
     fn open_records(&mut self) -> io::Result<Vec<u8>> {
@@ -250,19 +264,22 @@ impl TlsSession {
     fn refused(&self, error: &Error) -> io::Error {
         let verified = self.stream.ssl().verify_result();
         let alert = error.ssl_error().and_then(alert_of);
-        let why = match (verified, alert) {
+        let subject = self.refused.in_brackets();
+        match (verified, alert) {
             (X509VerifyResult::APPLICATION_VERIFICATION, _) => {
-                format!("{NO_NAME}{}", self.refused.in_brackets())
+                not_taken(&format!("{NO_NAME}{subject}"))
             }
-            (_, Some(alert)) => format!("the other end does not take this certificate: {alert}"),
-            (X509VerifyResult::OK, None) => format!("TLS failed: {error}"),
+            (_, Some(alert)) => {
+                not_taken(&format!("the other end does not take this certificate: {alert}"))
+            }
+            (X509VerifyResult::OK, None) => {
+                io::Error::new(ErrorKind::InvalidData, format!("TLS failed: {error}"))
+            }
             (refused, None) => {
                 let why = refused.error_string();
-                let subject = self.refused.in_brackets();
-                format!("the certificate of the other end{subject} is not taken: {why}")
+                not_taken(&format!("the certificate of the other end{subject} is not taken: {why}"))
             }
-        };
-        io::Error::new(ErrorKind::PermissionDenied, why)
+        }
     }
 }
 
@@ -293,13 +310,21 @@ fn peer_of(certificate: &X509Ref, side: Side, table: Option<&TableName>) -> Opti
     }
 }
 
-/// What the other side has told before it ended the connection, if it has told anything.
+/// The alert by which the other side has refused this certificate, if it has. One about something
+/// else, such as an internal error, says nothing of the certificate.
 fn alert_of(errors: &ErrorStack) -> Option<&'static str> {
-    errors.errors().iter().find_map(|error| error.reason().filter(|why| why.contains("alert")))
+    let refused = errors.errors().iter().find(|error| is_about_certificate(error.code()));
+    refused.map(|error| error.reason().unwrap_or("an alert"))
 }
 
-fn denied(why: &str) -> io::Error {
-    io::Error::new(ErrorKind::PermissionDenied, why)
+/// Whether OpenSSL's code is that of an alert about a certificate.
+fn is_about_certificate(code: c_ulong) -> bool {
+    let reason = code & REASON;
+    ABOUT_CERTIFICATES.iter().any(|alert| reason == ALERTS + alert)
+}
+
+fn not_taken(why: &str) -> io::Error {
+    NotTaken(why.into()).into()
 }
 
 /// Puts what came behind the frames.

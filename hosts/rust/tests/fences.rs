@@ -2,12 +2,13 @@
 mod peer;
 
 use krl::{Change, Client, JoinError, MemoryStore, Outcome, Refused, ServeError, Server};
-use krl::{OtherShard, Row, Shard, ShardBounds, ShardMap, ShardedClient, Value, evict};
+use krl::{OtherShard, Refusal, Row, Shard, ShardBounds, ShardMap, ShardedClient, Value, evict};
 use peer::{HELLO, Peer, frame};
 use std::io::{Read, Write};
 use std::net::{SocketAddr, TcpListener, TcpStream};
 use std::num::NonZeroU64;
 use std::path::PathBuf;
+use std::sync::mpsc::{Receiver, Sender, channel};
 use std::thread;
 use std::time::{Duration, Instant};
 
@@ -115,6 +116,15 @@ fn the_library_hears_nothing_before_the_shard_was_said() {
         peer.say(&speech);
         assert_eq!(peer.hear(LONG), [&HOST_ANSWER[..], &refused].concat());
     }
+    // A Shard that names none is refused, also by a server of all keys.
+    let whole = self::server(None);
+    let all_keys = [&[27, 0, 0, 0, 0, 0, 0, 0, 0, 17, 7][..], &[0; 24]].concat();
+    for (server, refused) in [(&server, &refused), (&whole, &all_keys)] {
+        let mut peer = Peer::new(server);
+        peer.say(&HOST_HELLO);
+        peer.say(&[&[26, 0, 0, 0, 0, 0, 0, 0, 0, 2][..], &[0; 24]].concat());
+        assert_eq!(peer.hear(LONG), [&HOST_ANSWER[..], refused].concat());
+    }
     let mut silent = Peer::new(&server);
     silent.say(&frame(HELLO, 3, 1, &[]));
     assert_eq!(silent.hear(LONG), [], "its host takes no host frames");
@@ -131,37 +141,41 @@ fn next_frame(stream: &mut TcpStream) -> Option<Vec<u8>> {
     Some(frame)
 }
 
-/// A server that answers signs and knows nothing of shards. It gives all that its first client says.
-fn heedless_server() -> (SocketAddr, thread::JoinHandle<Vec<Vec<u8>>>) {
+/// A server that answers signs and knows nothing of shards, and the frames that its clients say.
+fn heedless_server() -> (SocketAddr, Receiver<Vec<u8>>) {
     let listener = TcpListener::bind("127.0.0.1:0").unwrap();
-    let address = listener.local_addr().unwrap();
-    let heard = thread::spawn(move || {
-        let (mut stream, mut heard) = (listener.accept().unwrap().0, Vec::new());
-        stream.write_all(&HOST_ANSWER).unwrap();
-        while let Some(frame) = next_frame(&mut stream) {
-            if frame.starts_with(&[0, 1]) {
-                let (incarnation, moment) = (&frame[10..18], &frame[18..26]);
-                let kind = [26, 0, 0, 0, 0, 0, 0, 0, 0, 20];
-                let terms = [&kind[..], incarnation, moment, &u64::MAX.to_le_bytes()].concat();
-                let _ = stream.write_all(&terms);
-            }
-            heard.push(frame);
+    let (address, (tell, said)) = (listener.local_addr().unwrap(), channel());
+    thread::spawn(move || {
+        for stream in listener.incoming().flatten() {
+            heed_no_shard(stream, &tell);
         }
-        heard
     });
-    (address, heard)
+    (address, said)
+}
+
+fn heed_no_shard(mut stream: TcpStream, tell: &Sender<Vec<u8>>) {
+    let _ = stream.write_all(&HOST_ANSWER);
+    while let Some(frame) = next_frame(&mut stream) {
+        if frame.starts_with(&[0, 1]) {
+            let (incarnation, moment) = (&frame[10..18], &frame[18..26]);
+            let kind = [26, 0, 0, 0, 0, 0, 0, 0, 0, 20];
+            let terms = [&kind[..], incarnation, moment, &u64::MAX.to_le_bytes()].concat();
+            let _ = stream.write_all(&terms);
+        }
+        let _ = tell.send(frame);
+    }
 }
 
 #[test]
 fn a_client_says_nothing_of_the_library_to_a_server_that_confirms_no_shard() {
     let folder = Folder::new("heedless");
-    let (address, heard) = heedless_server();
+    let (address, said) = heedless_server();
     let servers = krl::Servers::from(address).of_shard(bounds("0..9@3"));
     let builder = Client::builder(servers).number(3).lock_file(folder.0.join("client.lock"));
     let refused = builder.timeout(LONG).join().unwrap_err();
     let JoinError::OtherShard(other) = &refused else { panic!("{refused:?}") };
     assert_eq!((other.expected, other.served), (Some(bounds("0..9@3")), None));
-    let heard = heard.join().unwrap();
+    let heard: Vec<Vec<u8>> = said.try_iter().collect();
     assert!(heard.iter().all(|frame| frame.starts_with(&[0])), "{heard:?}");
     assert!(heard[1].starts_with(&[0, 2, 0, 0, 0, 0, 0, 0, 0, 0, 9]), "{heard:?}");
 }
@@ -189,12 +203,14 @@ fn who_has_an_old_map_behind_a_split_writes_to_no_side_of_it() {
     let lower = start(&address, store(lower), Some("0..40@2")).unwrap();
     let upper = start("127.0.0.1:0", store(upper), Some("40..@2")).unwrap();
     let new_map = map(2, &[(0, &lower), (40, &upper)]);
-    for key in [10, 60] {
-        let refused = old.insert(key, Value::from(2)).unwrap_err();
-        let Refused::OtherShard(other) = refused.refused else { panic!("{refused:?}") };
-        assert_eq!((refused.shard, other.served), (Some(0), Some(bounds("0..40@2"))));
-        assert!(refused.to_string().contains("has to be loaded anew"), "{refused}");
-    }
+    // The client holds what it needs for this one, and so it may have reached the server before.
+    let unknown = old.insert(10, Value::from(2)).unwrap_err();
+    let reason = Refusal::OtherShard(Some(bounds("0..40@2")));
+    assert_eq!((unknown.shard, unknown.refused), (Some(0), Refused::Unserved(reason)));
+    let refused = old.insert(60, Value::from(2)).unwrap_err();
+    let Refused::OtherShard(other) = refused.refused else { panic!("{refused:?}") };
+    assert_eq!((refused.shard, other.served), (Some(0), Some(bounds("0..40@2"))));
+    assert!(refused.to_string().contains("has to be loaded anew"), "{refused}");
     let new = join(&new_map, 2).unwrap();
     assert_eq!(new.read(..), Ok(vec![Row { key: 50, value: Value::from(1) }]));
     assert_eq!(new.insert(60, Value::from(3)), Ok(Outcome::Applied));

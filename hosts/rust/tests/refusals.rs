@@ -1,10 +1,9 @@
 //! A server tells why it does not serve a client, to hosts that take host frames.
 mod peer;
 
-use krl::{Change, Client, JoinError, MemoryStore, Refusal, Refused, Server, Value};
+use krl::{Change, Client, JoinError, MemoryStore, Refusal, Refused, Server, Value, evict};
 use peer::{HELLO, Peer, frame, incarnation};
-use std::io::{self, Read, Write};
-use std::net::{SocketAddr, TcpListener, TcpStream};
+use std::net::TcpListener;
 use std::path::PathBuf;
 use std::thread;
 use std::time::Duration;
@@ -133,6 +132,17 @@ fn a_client_whose_clock_is_far_ahead() {
 }
 
 #[test]
+fn an_operator_evicts_a_client_whose_clock_was_ahead() {
+    let mut store = MemoryStore::default();
+    let registered = 1 << 62;
+    store.snapshot.apply(&Change::Registered { client: 3, incarnation: registered });
+    let (server, lock) = (server(store), lock_file("ahead"));
+    evict(server.address().clone(), 3, &lock).unwrap();
+    assert_eq!(incarnation(&lock), registered + 1);
+    std::fs::remove_file(lock).unwrap();
+}
+
+#[test]
 fn a_client_that_was_replaced() {
     let (server, lock) = (server(MemoryStore::default()), lock_file("replaced"));
     let client = Client::join(server.address().clone(), 3, &lock).unwrap();
@@ -155,42 +165,5 @@ fn a_server_that_misses_reports() {
         Err(error) => error.to_string(),
     };
     assert!(told.contains("waits for the reports of the clients 3, 7,"), "{told}");
-    std::fs::remove_file(lock).unwrap();
-}
-
-/// A way to the server that ends each connection on which a host frame comes, as a server without
-/// host frames does.
-fn without_host_frames(server: &Server) -> SocketAddr {
-    let listener = TcpListener::bind("127.0.0.1:0").unwrap();
-    let (address, to) = (listener.local_addr().unwrap(), server.address().to_string());
-    thread::spawn(move || {
-        for peer in listener.incoming() {
-            let (peer, to) = (peer.unwrap(), to.clone());
-            thread::spawn(move || forward(peer, &to));
-        }
-    });
-    address
-}
-
-fn forward(mut peer: TcpStream, to: &str) -> io::Result<()> {
-    let mut first = [0; 9];
-    peer.read_exact(&mut first)?;
-    if first[8] == 0 {
-        return Ok(());
-    }
-    let mut server = TcpStream::connect(to)?;
-    server.write_all(&first)?;
-    let (mut from, mut back) = (server.try_clone()?, peer.try_clone()?);
-    thread::spawn(move || io::copy(&mut from, &mut back));
-    io::copy(&mut peer, &mut server).map(drop)
-}
-
-#[test]
-fn a_client_goes_on_with_a_server_without_host_frames() {
-    let (server, lock) = (server(MemoryStore::default()), lock_file("old"));
-    let client = Client::join(without_host_frames(&server), 3, &lock).unwrap();
-    client.insert(1, Value::from(1)).unwrap();
-    assert_eq!(server.status().refused, 0);
-    client.leave().unwrap();
     std::fs::remove_file(lock).unwrap();
 }

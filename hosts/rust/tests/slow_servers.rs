@@ -1,7 +1,7 @@
 //! Clients of servers that do not answer, take nothing, or end each connection.
 use krl::{Client, JoinError, MemoryStore, Outcome, Refused, Server, Value};
 use std::io::{Read, Write};
-use std::net::{SocketAddr, TcpListener, TcpStream};
+use std::net::{Shutdown, SocketAddr, TcpListener, TcpStream};
 use std::path::PathBuf;
 use std::sync::Arc;
 use std::sync::atomic::{AtomicBool, Ordering};
@@ -26,23 +26,28 @@ fn fails_to_join(server: SocketAddr, name: &str, timeout: Duration) -> (JoinErro
     (joined.expect_err("there is no such server"), took)
 }
 
-/// A server that takes each connection and ends it, and when it did.
-fn closes_all() -> (SocketAddr, Receiver<Instant>) {
+/// A server that takes each connection, says this on it and ends it, and when it did.
+fn ends_all(says: &'static [u8]) -> (SocketAddr, Receiver<Instant>) {
     let listener = TcpListener::bind("127.0.0.1:0").unwrap();
     let (address, (told, times)) = (listener.local_addr().unwrap(), channel());
     thread::spawn(move || {
-        for stream in listener.incoming() {
-            drop(stream);
+        for mut stream in listener.incoming().flatten() {
             let _ = told.send(Instant::now());
+            thread::spawn(move || {
+                let _ = stream.write_all(says);
+                let _ = stream.shutdown(Shutdown::Write);
+                // A connection that ends with something unread loses what was said on it.
+                let _ = stream.read_to_end(&mut Vec::new());
+            });
         }
     });
     (address, times)
 }
 
-#[test]
-fn a_server_that_ends_each_connection_is_asked_once_a_second() {
-    let (address, times) = closes_all();
-    let (error, took) = fails_to_join(address, "closes", Duration::from_secs(6));
+/// A client asks a server that says this on each connection no more than once a second.
+fn is_asked_once_a_second(name: &str, says: &'static [u8]) {
+    let (address, times) = ends_all(says);
+    let (error, took) = fails_to_join(address, name, Duration::from_secs(6));
     assert!(took < Duration::from_secs(6) + LATE, "{took:?}");
     assert!(matches!(error, JoinError::NoAnswer(Some(_))), "{error:?}");
     let times: Vec<Instant> = times.try_iter().collect();
@@ -50,6 +55,16 @@ fn a_server_that_ends_each_connection_is_asked_once_a_second() {
     let pauses: Vec<Duration> = times.windows(2).map(|pair| pair[1] - pair[0]).collect();
     // Each is told a little late on a busy machine.
     assert!(pauses[pauses.len() - 2..].iter().all(|pause| pause.as_millis() >= 800), "{pauses:?}");
+}
+
+#[test]
+fn a_server_that_ends_each_connection_is_asked_once_a_second() {
+    is_asked_once_a_second("closes", &[]);
+}
+
+#[test]
+fn a_server_of_another_version_is_asked_once_a_second() {
+    is_asked_once_a_second("version", &[2, 0, 0, 0, 0, 0, 0, 0, 2, 8]);
 }
 
 #[test]

@@ -5,7 +5,7 @@ use crate::host_frame::{self, FromClient, FromServer};
 use crate::lease::Sign;
 use crate::refusal::Refusal;
 use crate::shard_bounds::ShardBounds;
-use crate::shard_fence;
+use crate::shard_fence::{self, OtherShard};
 use crate::store::Store;
 
 impl<S: Store> EventLoop<S> {
@@ -18,11 +18,18 @@ impl<S: Store> EventLoop<S> {
     /// Whether a frame is heard further. A message and a sign are heard behind the word of the client's
     /// host that it takes the server for what it serves, or at a server of all keys.
     pub(super) fn lets_in(&mut self, connection: u64, frame: &[u8]) -> bool {
-        if let Some(FromClient::Shard(expected)) = FromClient::read(frame) {
-            if self.compare(connection, Some(expected)) {
-                self.connections.tell(connection, &FromServer::Shard(expected).frame());
+        match FromClient::read(frame) {
+            Some(FromClient::Shard(expected)) => {
+                if self.compare(connection, Some(expected)) {
+                    self.connections.tell(connection, &FromServer::Shard(expected).frame());
+                }
+                return false;
             }
-            return false;
+            Some(FromClient::NoShard) => {
+                self.refuse(connection, OtherShard { expected: None, served: self.shard });
+                return false;
+            }
+            Some(FromClient::Hello(_)) | None => {}
         }
         let is_free = host_frame::is_of_host(frame) && Sign::read(frame).is_none();
         is_free || self.connections.is_let_in(connection) || self.compare(connection, None)
@@ -37,11 +44,15 @@ impl<S: Store> EventLoop<S> {
                 true
             }
             Err(other) => {
-                self.log.other_shard(&self.connections.at(connection), &other);
-                self.connections.refuse(connection, Refusal::OtherShard(self.shard));
-                self.connections.end(connection, CloseReason::OtherShard);
+                self.refuse(connection, other);
                 false
             }
         }
+    }
+
+    fn refuse(&mut self, connection: u64, other: OtherShard) {
+        self.log.other_shard(&self.connections.at(connection), &other);
+        self.connections.refuse(connection, Refusal::OtherShard(self.shard));
+        self.connections.end(connection, CloseReason::OtherShard);
     }
 }

@@ -103,11 +103,6 @@ impl Jobs {
         frames.extend(sign.map(Sign::frame).unwrap_or_default());
     }
 
-    /// Whether a sign was said of the incarnation.
-    pub fn has_signed(&self) -> bool {
-        self.client.lease().has_signed()
-    }
-
     /// How long the thread of the connection may sleep, as far as signs are due.
     pub fn longest_sleep(&self) -> Option<Duration> {
         self.client.lease().pace()

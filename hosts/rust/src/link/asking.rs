@@ -1,6 +1,8 @@
 //! What callers ask of a client, and how they wait for the answer.
 use super::{HINT, Link, lock};
-use crate::jobs::{Asked, Jobs};
+use crate::connect_fault::Rejection;
+use crate::jobs::{Asked, JobId, Jobs, WasSent};
+use crate::refusal::Refusal;
 use crate::refused::Refused;
 use crate::writer::Written;
 use std::sync::MutexGuard;
@@ -21,6 +23,19 @@ impl Link {
         self.wait(asked, pace, end)
     }
 
+    /// Waits until the client has joined, for the timeout at most, and no longer once the server
+    /// tells a reason for which the caller gives up.
+    pub fn join(
+        &self,
+        timeout: Duration,
+        gives_up: impl Fn(Refusal) -> bool,
+    ) -> Result<(), Refused> {
+        let end = Instant::now() + timeout;
+        let asked = self.begin(Jobs::join);
+        let pace = self.jobs().pace();
+        self.wait_unless(asked, pace, end, || self.hint().is_some_and(&gives_up))
+    }
+
     /// Asks for something, and waits for nothing.
     pub fn begin<T>(&self, ask: impl FnOnce(&mut Jobs) -> Asked<T>) -> Asked<T> {
         let mut jobs = self.jobs();
@@ -37,20 +52,33 @@ impl Link {
 
     /// Waits for the answer until the deadline, and says again what is asked as soon as this has
     /// passed.
-    fn wait<T>(&self, asked: Asked<T>, mut pace: Duration, end: Instant) -> Result<T, Refused> {
+    fn wait<T>(&self, asked: Asked<T>, pace: Duration, end: Instant) -> Result<T, Refused> {
+        self.wait_unless(asked, pace, end, || false)
+    }
+
+    /// The same, and gives up before the deadline if that is so.
+    fn wait_unless<T>(
+        &self,
+        asked: Asked<T>,
+        mut pace: Duration,
+        end: Instant,
+        gives_up: impl Fn() -> bool,
+    ) -> Result<T, Refused> {
         let Asked { id, answer } = asked;
         loop {
             let left = end.saturating_duration_since(Instant::now());
             match answer.recv_timeout(left.min(pace)) {
                 Ok(answered) => return answered,
                 Err(RecvTimeoutError::Disconnected) => return Err(Refused::Stopped),
-                Err(RecvTimeoutError::Timeout) if left > pace && !self.is_hopeless() => {
+                Err(RecvTimeoutError::Timeout)
+                    if left > pace && !self.is_hopeless(id) && !gives_up() =>
+                {
                     pace = self.say_again();
                 }
                 Err(RecvTimeoutError::Timeout) => {
-                    self.jobs().abandon(id);
+                    let was_sent = self.jobs().abandon(id);
                     // It may have come meanwhile.
-                    return answer.try_recv().unwrap_or_else(|_| Err(self.timed_out()));
+                    return answer.try_recv().unwrap_or_else(|_| Err(self.timed_out(was_sent)));
                 }
             }
         }
@@ -66,25 +94,41 @@ impl Link {
         pace
     }
 
-    /// Whether the only server there is has turned this side away.
-    fn is_hopeless(&self) -> bool {
-        !self.servers.are_several() && lock(&self.turned_away).is_some()
+    /// Whether the job can't be done, since the only server there is rejects this side again and
+    /// again. A write that was sent may be done already: its answer is awaited until the deadline,
+    /// unless the server has told that it serves another shard.
+    fn is_hopeless(&self, job: JobId) -> bool {
+        if self.servers.are_several() || !lock(&self.rejections).are_final() {
+            return false;
+        }
+        match self.rejection() {
+            Some(Rejection::OtherShard(_)) => true,
+            _ => !self.jobs().is_sent(job),
+        }
     }
 
-    /// Why this side has no right to the client, if it was turned away last.
-    pub fn turned_away(&self) -> Option<String> {
-        lock(&self.turned_away).clone()
+    /// Why the last connection was rejected, if it was and the server does not take this side now.
+    pub fn rejection(&self) -> Option<Rejection> {
+        lock(&self.rejections).last().cloned()
     }
 
-    /// That no answer came in time, with the reason if the server tells one.
-    fn timed_out(&self) -> Refused {
-        if lock(&self.turned_away).is_some() {
-            return lock(&self.other_shard).map_or(Refused::TurnedAway, Refused::OtherShard);
+    /// That no answer came in time, with the reason if the server tells one. Of a write that was
+    /// sent nothing more is known.
+    fn timed_out(&self, was_sent: WasSent) -> Refused {
+        match (self.rejection(), was_sent) {
+            (Some(Rejection::NotTaken(_)), WasSent::No) => return Refused::TurnedAway,
+            (Some(Rejection::OtherShard(other)), WasSent::No) => return Refused::OtherShard(other),
+            (Some(Rejection::OtherShard(other)), WasSent::Yes) => {
+                return Refused::Unserved(Refusal::OtherShard(other.served));
+            }
+            _ => {}
         }
-        match *lock(&self.refusal) {
-            Some((refusal, told)) if told.elapsed() < HINT => Refused::Unserved(refusal),
-            _ => Refused::TimedOut,
-        }
+        self.hint().map_or(Refused::TimedOut, Refused::Unserved)
+    }
+
+    /// Why the server does not serve the client, if it has told so just before.
+    fn hint(&self) -> Option<Refusal> {
+        lock(&self.refusal).filter(|(_, told)| told.elapsed() < HINT).map(|(refusal, _)| refusal)
     }
 
     /// Sends what the client says, as far as the connection takes it at once. What can't be sent is

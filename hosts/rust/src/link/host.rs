@@ -2,6 +2,7 @@
 use super::{Connected, Link, lock};
 use crate::address::Address;
 use crate::client_handle::ClientHandle;
+use crate::connect_fault::NotTaken;
 use crate::event_log;
 use crate::host_frame::{FromClient, FromServer};
 use crate::jobs::Dropped;
@@ -22,15 +23,11 @@ impl Link {
         frames
     }
 
-    /// What a connection begins with. To a server that takes no host frames that is nothing, and it
-    /// has no leases.
-    pub(super) fn greeting(&self, is_asked: bool) -> io::Result<Vec<u8>> {
-        if is_asked {
-            let sign = self.jobs().greet()?;
-            return Ok([self.hello(), sign.frame()].concat());
-        }
-        self.jobs().go_without_terms()?;
-        Ok(Vec::new())
+    /// What each connection begins with. A connection that ends before anything has come tells
+    /// nothing of its server: one without this would be one without a lease.
+    pub(super) fn greeting(&self) -> io::Result<Vec<u8>> {
+        let sign = self.jobs().greet()?;
+        Ok([self.hello(), sign.frame()].concat())
     }
 
     /// Says the greeting again, if it has not been answered for long.
@@ -51,7 +48,7 @@ impl Link {
             Some(FromServer::Refused(refusal)) => {
                 *lock(&self.refusal) = Some((refusal, Instant::now()));
                 if refusal == Refusal::Denied {
-                    return Err(io::Error::new(ErrorKind::PermissionDenied, refusal.to_string()));
+                    return Err(NotTaken(refusal.to_string()).into());
                 }
             }
             Some(FromServer::Mark(mark)) => *lock(&self.seen) = Some(mark),
@@ -87,25 +84,28 @@ impl Link {
         io::Error::other(Refused::StoreWentBack)
     }
 
+    /// Has the incarnation on the disk before anything of it leaves. A client whose number is free
+    /// again says nothing more.
+    pub(super) fn keep_incarnation(&self) -> io::Result<()> {
+        let mut lock_file = lock(&self.lock_file);
+        let file = lock_file.as_mut().ok_or(ErrorKind::Interrupted)?;
+        file.keep().map_err(|error| {
+            io::Error::new(error.kind(), format!("the lock file can't be written: {error}"))
+        })
+    }
+
     /// Gives a client that has dropped all, or whose lease has ended, a greater incarnation, under
     /// which it joins anew.
-    ///
-    /// So does an incarnation that has signed, before it speaks to a server that takes no host
-    /// frames: a server that has heard the sign would evict it by its terms, which it has not heard.
-    pub(super) fn begin_anew_if_due(&self, is_asked: bool) -> io::Result<()> {
+    pub(super) fn begin_anew_if_due(&self) -> io::Result<()> {
         let mut jobs = self.jobs();
         jobs.end_lease_if_over();
-        if !is_asked && jobs.has_signed() {
-            jobs.drop_all(Dropped::LeaseEnded);
-        }
         if !jobs.is_void() {
             return Ok(());
         }
         drop(jobs);
         let mut lock_file = lock(&self.lock_file);
         let Some(file) = &mut *lock_file else { return Err(ErrorKind::Interrupted.into()) };
-        // The incarnation is on the disk before the Hello leaves.
-        let incarnation = file.renew()?;
+        let incarnation = file.renew();
         let client = ClientHandle::open_behind(file.number(), incarnation, file.older());
         self.jobs().begin_anew(client.map_err(io::Error::other)?);
         event_log::began_anew(file.number(), incarnation);

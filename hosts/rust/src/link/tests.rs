@@ -46,7 +46,7 @@ fn nothing_is_taken_behind_the_word_that_the_store_went_back() {
     let behind = FromServer::Mark(Mark { start: 2, commits: 1 });
     theirs.write_all(&[FromServer::WentBack.frame(), behind.frame()].concat()).unwrap();
     let mut frames = Frames::new(LONGEST_TO_CLIENT);
-    let silence = Silence::new(Instant::now(), false);
+    let silence = Silence::new(Instant::now(), 1);
     let (address, carrier) = (link.servers.at(0), Carrier::from(Stream::Unix(ours)));
     let mut connected =
         Connected { address, carrier, heard: Heard::default(), silence, fence: Fence::new(None) };
@@ -73,25 +73,4 @@ fn callers_hear_that_the_thread_has_panicked() {
     assert!(link.has_ended(Instant::now()));
     let later = link.ask(Instant::now() + 50 * SHORT, |jobs| jobs.read(0..9));
     assert_eq!(later, Err(Refused::Stopped));
-}
-
-#[test]
-fn an_incarnation_that_has_signed_speaks_to_no_server_without_signs() {
-    let path = std::env::temp_dir().join(format!("krl-link-{}.lock", std::process::id()));
-    let (lock_file, first) = LockFile::take(&path, 1).unwrap();
-    let jobs = Jobs::new(ClientHandle::open(1, first).unwrap());
-    let link = Link::new("unix:nowhere".parse().unwrap(), jobs, Some(lock_file));
-    let begins = |is_asked| {
-        link.begin_anew_if_due(is_asked).unwrap();
-        let greeting = link.greeting(is_asked).unwrap();
-        (link.jobs().incarnation(), !greeting.is_empty())
-    };
-    assert_eq!(begins(false), (first, false), "it has said no sign");
-    assert_eq!(link.jobs().lease_left(), None);
-    assert_eq!(begins(true), (first, true));
-    // A server that heard the sign would evict it by terms that it has not heard.
-    let (second, greets) = begins(false);
-    assert!(second > first && !greets);
-    assert_eq!(begins(true), (second, true));
-    std::fs::remove_file(path).unwrap();
 }

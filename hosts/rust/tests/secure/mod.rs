@@ -27,6 +27,11 @@ impl Setup {
         self.authority.certify(&self.folder, names, 5)
     }
 
+    /// The same, good for so many days.
+    pub fn certify_for(&self, names: &[&str], days: i64) -> Files {
+        self.authority.certify(&self.folder, names, days)
+    }
+
     /// What a holder of these names shows.
     pub fn config(&self, names: &[&str]) -> TlsConfig {
         self.config_for(names, 5)
@@ -34,7 +39,7 @@ impl Setup {
 
     /// The same, good for so many days.
     pub fn config_for(&self, names: &[&str], days: i64) -> TlsConfig {
-        config(&self.authority.certify(&self.folder, names, days))
+        config(&self.certify_for(names, days))
     }
 
     /// One that the other authority certified, and that believes this one.
