@@ -11,6 +11,7 @@
 //! krl_drive haste FOLDER                                          measures a hasty client's neighbour
 //! krl_drive strangers                                             connects what is no client
 //! krl_drive reports                                               reports in the worst orders
+//! krl_drive large-stores FOLDER                                  fills stores of the greatest room
 //! krl_drive strings COUNT CHANGED                                 hands strings to both decoders
 //! krl_drive bench FOLDER                                          takes measurements
 //! krl_drive lease-costs FOLDER                                    measures what leases cost
@@ -40,6 +41,7 @@ mod gateway;
 mod haste;
 mod history;
 mod kill;
+mod large_stores;
 mod lease_costs;
 mod leases;
 mod log;
@@ -120,6 +122,7 @@ fn run(words: &[&str]) -> Found {
         }
         ["strangers"] => strangers::run(),
         ["reports"] => long_reports::run(),
+        ["large-stores", folder] => large_stores::run(Path::new(folder)),
         ["strings", count, changed] => strings::run(count.parse()?, changed.parse()?),
         ["haste", folder] => haste::run(Path::new(folder)),
         ["bench", folder] => bench::run(Path::new(folder)),

@@ -14,6 +14,11 @@ use std::time::{Duration, Instant};
 const CONNECT: Duration = Duration::from_millis(500);
 const ATTEMPT: Duration = Duration::from_secs(1);
 
+/// How long for a call of which the request or the answer may be large, and what a large request
+/// has.
+const LARGE_ATTEMPT: Duration = Duration::from_secs(5);
+const LARGE_BYTES: usize = 1 << 16;
+
 /// The pause before the next attempt: the first one, and the longest.
 const PAUSE: Duration = Duration::from_millis(10);
 const LONGEST_PAUSE: Duration = Duration::from_millis(200);
@@ -140,7 +145,11 @@ impl Etcd {
             request = request.set("Authorization", token);
         }
         let unknown = |why: String| Attempt::from(Failure::Unknown(format!("{endpoint}: {why}")));
-        match request.send_string(&body.to_string()) {
+        let text = body.to_string();
+        if text.len() > LARGE_BYTES || body.get("rangeEnd").is_some() {
+            request = request.timeout(LARGE_ATTEMPT);
+        }
+        match request.send_string(&text) {
             Ok(answer) => serde_json::from_reader(answer.into_reader().take(LONGEST_ANSWER))
                 .map_err(|error| unknown(error.to_string())),
             Err(ureq::Error::Status(status, answer)) => {

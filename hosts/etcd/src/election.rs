@@ -291,6 +291,16 @@ mod tests {
         Election::new(address.clone(), Credentials::default(), advertised, LEASE).unwrap()
     }
 
+    /// Does this in the cluster.
+    fn set(cluster: &Cluster, operation: &serde_json::Value) {
+        cluster.ask("kv/txn", &json!({"success": [operation]}));
+    }
+
+    /// Puts a server in the place that keeps it, whatever the machine is busy with.
+    fn occupy(cluster: &Cluster, address: &EtcdAddress) {
+        set(cluster, &request::put(&key(address), b"one"));
+    }
+
     /// How many entries the log of the node has.
     fn log_entries(cluster: &Cluster) -> u64 {
         number_of(&cluster.ask("maintenance/status", &json!({}))["raftIndex"])
@@ -308,7 +318,7 @@ mod tests {
     fn a_server_that_stands_by_writes_nothing() {
         let Some(cluster) = Cluster::start() else { return };
         let address = cluster.address("idle");
-        let term = election(&address, "one").campaign(|_| true).unwrap().unwrap();
+        occupy(&cluster, &address);
         let (looks, goes_on) = (AtomicU32::new(0), AtomicBool::new(true));
         thread::scope(|scope| {
             let other = scope.spawn(|| {
@@ -328,14 +338,13 @@ mod tests {
             goes_on.store(false, Ordering::SeqCst);
             assert!(other.join().unwrap().unwrap().is_none());
         });
-        drop(term);
     }
 
     #[test]
     fn a_server_stands_by_over_a_cluster_that_hangs_for_longer_than_a_lease() {
         let Some(cluster) = Cluster::start() else { return };
         let address = cluster.address("hangs");
-        let term = election(&address, "one").campaign(|_| true).unwrap().unwrap();
+        occupy(&cluster, &address);
         let (looks, unanswered) = (AtomicU32::new(0), AtomicU32::new(0));
         thread::scope(|scope| {
             let other = scope.spawn(|| {
@@ -351,10 +360,12 @@ mod tests {
             });
             wait_until(|| looks.load(Ordering::SeqCst) > 0);
             cluster.signal("-STOP");
-            // The lease of the one that serves runs out meanwhile, and any that the other one has.
+            // Each takes as long as a lease.
             wait_until(|| unanswered.load(Ordering::SeqCst) > 1);
             cluster.signal("-CONT");
-            drop(term);
+            let before = looks.load(Ordering::SeqCst);
+            wait_until(|| looks.load(Ordering::SeqCst) > before);
+            set(&cluster, &request::delete(&key(&address)));
             assert!(other.join().unwrap().unwrap().is_some(), "it has the place at last");
         });
     }

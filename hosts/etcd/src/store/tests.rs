@@ -350,9 +350,9 @@ fn a_store_has_more_buckets_once_its_room_is_raised() {
     let (mut next, found) = loaded(&address);
     assert_eq!(found, expected);
     assert_eq!(next.history().unwrap(), store.history().unwrap());
-    let write = Change::Room(Room::MAX);
-    store.commit(&[write]).unwrap();
-    expected.apply(&write);
+    let further = Change::Room(Room::of(200_000).unwrap());
+    store.commit(&[further]).unwrap();
+    expected.apply(&further);
     assert!(is_deposed(&next.commit(&[])), "it read before more buckets were added");
     assert_eq!(loaded(&address).1, expected);
 }
