@@ -51,7 +51,7 @@ Exit status:
   4    the client could not join, or has no right to what it asks
   125  hold: the range was lost before the command had ended; 126: the command
        can't be run; 127: there is no such command; else the command's status
-  130  Ctrl-C ended it (watch: 0)
+  130  Ctrl-C ended it (watch and bench: 0)
 
 Examples:
   krl-client insert 15 one
@@ -61,7 +61,7 @@ Examples:
   krl-client hold 10..20 --update -- ./rebuild.sh
   krl-client bench --clients 4 --seconds 5";
 
-/// Reads, writes, watches and holds ranges of a krl server, or of the servers of a map.
+/// Read, write, watch and hold ranges of a krl server, or of the servers of a map.
 #[derive(Debug, Parser)]
 #[command(name = "krl-client", version, after_help = HELP, disable_help_subcommand = true)]
 pub struct Arguments {
@@ -73,6 +73,7 @@ pub struct Arguments {
 
 /// What holds for every command.
 #[derive(Clone, Debug, Args)]
+#[command(next_help_heading = "Options of every command")]
 pub struct Options {
     /// Where the server listens: 127.0.0.1:7400, tls:db1:7400, or unix: and a path. Commas stand
     /// between several
@@ -198,7 +199,7 @@ pub struct Line {
 pub enum LineCommand {
     #[command(flatten)]
     Command(Command),
-    /// Ends the prompt
+    /// End the prompt
     #[command(alias = "exit")]
     Quit,
 }
@@ -207,49 +208,49 @@ pub enum LineCommand {
 pub enum Command {
     #[command(flatten)]
     Client(ClientCommand),
-    /// Measures a server with clients of its own, on keys that have no row
+    /// Measure a server with clients of its own, on keys that have no row
     Bench(BenchWords),
 }
 
 /// A command of one client.
 #[derive(Debug, Subcommand)]
 pub enum ClientCommand {
-    /// Prints the row of a key
+    /// Print the row of a key
     Get {
         /// The key
         key: String,
     },
-    /// Prints the rows of a range
+    /// Print the rows of a range
     Scan {
         #[command(flatten)]
         range: RangeWords,
     },
-    /// Makes a new row; refused if there is one
+    /// Make a new row; refused if there is one
     Insert {
         #[command(flatten)]
         row: RowWords,
     },
-    /// Gives a row another value; refused if there is none
+    /// Give a row another value; refused if there is none
     Put {
         #[command(flatten)]
         row: RowWords,
     },
-    /// Deletes a row; refused if there is none
+    /// Delete a row; refused if there is none
     Delete {
         /// The key
         key: String,
     },
-    /// Tells how long each server takes to answer: it reads the greatest key there
+    /// Tell how long each server takes to answer: it reads the greatest key there
     Ping,
-    /// Prints a range, and again whenever it changes, until Ctrl-C
+    /// Print a range, and again whenever it changes, until Ctrl-C
     Watch {
         #[command(flatten)]
         range: RangeWords,
-        /// Ends after so many changes
+        /// End after so many changes
         #[arg(long, value_name = "N")]
         count: Option<u64>,
     },
-    /// Holds a range while a command runs: nobody changes it meanwhile
+    /// Hold a range while a command runs: nobody changes it meanwhile
     Hold {
         #[command(flatten)]
         range: RangeWords,

@@ -6,8 +6,9 @@ mod workload;
 use crate::arguments::{BenchWords, Options};
 use crate::failure::Failure;
 use crate::session::Session;
-use crate::signals::{Signals, Taken};
+use crate::signals::{FAREWELL, Signals, Taken};
 use crate::table::Table;
+use crate::waiting::tell_at_terminal;
 use krl::{END, Outcome, Row};
 use rand::SeedableRng;
 use rand::rngs::StdRng;
@@ -26,7 +27,8 @@ pub fn run(options: &Options, words: &BenchWords, signals: &Signals) -> Result<u
     }
     let taken = signals.to_loop();
     let ended = measure_all(&sessions, &keys, words, &taken);
-    sessions.into_iter().for_each(Session::leave);
+    let timeout = if taken.is_ended() { FAREWELL } else { options.timeout };
+    Session::leave_all(sessions, timeout);
     let (measured, took) = ended?;
     report::print(options.format(), words, &measured, took)?;
     match measured.failed {
@@ -76,8 +78,15 @@ fn measure_all(
     let maker = maker.ok_or_else(|| Failure::Usage("a benchmark needs a client".into()))?;
     refuse_rows(maker, keys)?;
     let mut made = keys.start..keys.start;
-    let measured = make_rows(maker, keys, words.value_size, &mut made, signals)
-        .and_then(|()| measure(sessions, keys, words, signals));
+    tell_at_terminal(&format!("makes {} rows", words.keys));
+    let measured = make_rows(maker, keys, words.value_size, &mut made, signals).and_then(|()| {
+        tell_at_terminal(&format!("measures for {} s", words.warm_up + words.seconds));
+        measure(sessions, keys, words, signals)
+    });
+    if signals.is_ended() {
+        maker.set_timeout(FAREWELL.min(maker.timeout()));
+    }
+    tell_at_terminal("deletes the rows");
     let deleted = delete_rows(maker, made);
     let measured = measured?;
     deleted?;

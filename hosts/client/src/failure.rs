@@ -1,4 +1,5 @@
 //! Why a command did not do what it should, and the exit status that tells it.
+use crate::output;
 use krl::{JoinError, LockFileError, Refusal, Refused, ShardRefused};
 use std::fmt;
 use std::io;
@@ -49,7 +50,7 @@ impl Failure {
     pub fn tell(&self) {
         match self {
             Failure::Output(error) if error.kind() == io::ErrorKind::BrokenPipe => {}
-            failure => eprintln!("krl-client: {failure}"),
+            failure => output::tell(&failure.to_string()),
         }
     }
 }

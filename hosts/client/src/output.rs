@@ -64,6 +64,11 @@ impl Printer {
     }
 }
 
+/// Tells the user a sentence, on standard error. If nobody takes it, the exit status tells enough.
+pub fn tell(sentence: &str) {
+    let _ = writeln!(io::stderr(), "krl-client: {sentence}");
+}
+
 /// Prints a text, whole and at once.
 pub fn print(text: &str) -> Result<(), Failure> {
     let mut out = io::stdout().lock();

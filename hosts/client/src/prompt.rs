@@ -1,6 +1,7 @@
 //! Commands that are read line by line: from a terminal with a history, or from a pipe or a file.
 use crate::arguments::{Command, Line, LineCommand};
 use crate::failure::Failure;
+use crate::output;
 use crate::session;
 use clap::Parser;
 use rustyline::Editor;
@@ -47,7 +48,7 @@ fn run_lines(mut lines: impl BufRead, run: &mut Run<'_>) -> Result<u8, Failure> 
             }
         };
         if status != 0 {
-            eprintln!("krl-client: line {place} ended with status {status}: {line}");
+            output::tell(&format!("line {place} ended with status {status}: {line}"));
             return Ok(status);
         }
     }
@@ -106,7 +107,7 @@ fn run_prompt(run: &mut Run<'_>) -> Result<u8, Failure> {
     if let Some(history) = &history
         && let Err(error) = editor.save_history(history)
     {
-        eprintln!("krl-client: the history can't be saved: {error}");
+        output::tell(&format!("the history can't be saved: {error}"));
     }
     ended
 }
@@ -114,7 +115,7 @@ fn run_prompt(run: &mut Run<'_>) -> Result<u8, Failure> {
 fn tell(ended: Result<u8, Failure>) {
     match ended {
         Ok(0) => {}
-        Ok(status) => eprintln!("krl-client: the command ended with status {status}"),
+        Ok(status) => output::tell(&format!("the command ended with status {status}")),
         Err(failure) => failure.tell(),
     }
 }

@@ -1,6 +1,7 @@
 //! A client that has joined: its number, its lock file, and how it leaves.
 use crate::arguments::Options;
 use crate::failure::Failure;
+use crate::output::tell;
 use crate::place::Place;
 use crate::table::Table;
 use crate::waiting::told_if_long;
@@ -10,6 +11,7 @@ use std::env;
 use std::fs::DirBuilder;
 use std::os::unix::fs::DirBuilderExt;
 use std::path::{Path, PathBuf};
+use std::thread;
 use std::time::{Duration, Instant};
 
 /// How long a number of several is tried that another process has, as the server tells.
@@ -63,12 +65,27 @@ impl Session {
 
     /// Gives all back. If the server does not answer, it tells what others may notice.
     pub fn leave(self) {
-        if self.table.depart(self.table.timeout()).is_err() {
-            eprintln!(
-                "krl-client: the server did not hear that client {} left: others may wait for what \
-                 it held until a client of its number joins again",
-                self.number
-            );
+        let timeout = self.table.timeout();
+        Session::leave_all(vec![self], timeout);
+    }
+
+    /// The same for several at once.
+    pub fn leave_all(sessions: Vec<Session>, timeout: Duration) {
+        let unheard: Vec<String> = thread::scope(|scope| {
+            let leave = |session: Session| {
+                let is_unheard = session.table.depart(timeout).is_err();
+                is_unheard.then_some(session.number.to_string())
+            };
+            let leaving = sessions.into_iter().map(|it| scope.spawn(move || leave(it)));
+            let leaving: Vec<_> = leaving.collect();
+            leaving.into_iter().filter_map(|left| left.join().ok().flatten()).collect()
+        });
+        if !unheard.is_empty() {
+            tell(&format!(
+                "the server did not hear that client {} left: others may wait for what it held \
+                 until a client of its number joins again",
+                unheard.join(", ")
+            ));
         }
     }
 }

@@ -12,8 +12,8 @@ use std::sync::{Arc, Mutex, MutexGuard, PoisonError};
 use std::thread;
 use std::time::{Duration, Instant};
 
-/// How long a process that a signal ends waits until its clients' Byes are kept.
-const FAREWELL: Duration = Duration::from_secs(1);
+/// How long a process that a signal ends waits for each thing that it still has to do.
+pub const FAREWELL: Duration = Duration::from_secs(1);
 
 /// Who takes the signals.
 #[derive(Clone, Copy, Debug)]

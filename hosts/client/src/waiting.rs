@@ -1,4 +1,5 @@
 //! What a user at a terminal hears while the program waits.
+use crate::output::tell;
 use std::io::{self, IsTerminal};
 use std::sync::mpsc::{RecvTimeoutError, channel};
 use std::thread;
@@ -16,11 +17,18 @@ pub fn told_if_long<T>(waits_for: impl FnOnce() -> String + Send, does: impl FnO
     thread::scope(|scope| {
         scope.spawn(move || {
             if ended.recv_timeout(LONG) == Err(RecvTimeoutError::Timeout) {
-                eprintln!("krl-client: {}", waits_for());
+                tell(&waits_for());
             }
         });
         let done = does();
         drop(ends);
         done
     })
+}
+
+/// Tells a user at a terminal what the program does now.
+pub fn tell_at_terminal(what: &str) {
+    if io::stderr().is_terminal() {
+        tell(what);
+    }
 }

@@ -1,8 +1,12 @@
 //! A benchmark measures, leaves no rows, and touches nobody's rows.
+#[path = "../../rust/tests/relay/mod.rs"]
+mod relay;
 mod support;
 
-use krl::Value;
+use krl::{Address, Value};
 use nix::sys::signal::Signal;
+use relay::{Plan, Relay};
+use std::time::{Duration, Instant};
 use support::{Ended, World, signal, wait_for};
 
 const WORDS: [&str; 13] = [
@@ -87,6 +91,26 @@ fn nothing_of_the_warm_up_is_counted() {
         assert_eq!((&said[kind]["calls"], &said["failed"]), (&0.into(), &0.into()), "{said}");
     }
     assert_eq!(world.prints(&["scan", ".."]), "", "its rows are gone");
+}
+
+#[test]
+fn a_signal_ends_it_soon_though_the_server_is_away() {
+    let world = World::new("away");
+    let Address::Tcp(server) = *world.server.address() else { panic!("it listens elsewhere") };
+    let relay = Relay::to(server);
+    let at = relay.at().to_string();
+    let words = ["--server", &at, "--timeout", "3s", "bench", "--clients", "8"];
+    let program = world.spawn(&[&words[..], &["--warm-up", "3600", "--keys", "20"]].concat());
+    wait_for("it writes, after its inserts", || world.server.status().commits > 60);
+    relay.plan(vec![Plan::Swallow; 1000]);
+    relay.swallow();
+    signal(&program, Signal::SIGTERM);
+    let begun = Instant::now();
+    let ended = Ended::from(program.wait_with_output().unwrap());
+    // A call that waits has three seconds, and the clients do not leave one after the other.
+    assert!(begun.elapsed() < Duration::from_secs(20), "{:?}", begun.elapsed());
+    assert_eq!(ended.status, 3, "{ended:?}");
+    assert!(ended.errors.contains("the server did not hear that client 63, 62, "), "{ended:?}");
 }
 
 #[test]

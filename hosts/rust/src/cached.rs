@@ -1,12 +1,13 @@
 //! Reads of a client's cache. Any number of threads make them at once, and they take no lock.
 use crate::client::Client;
 use crate::client_handle::Scan;
+use crate::code::Code;
 use crate::range::keys_of;
 use crate::row::Row;
 use std::cell::Cell;
 use std::ops::{Range, RangeBounds};
 
-/// A thread keeps room for so many rows.
+/// Room for so many rows is kept for the next scan.
 const MAX_KEPT: usize = 1 << 12;
 
 thread_local! {
@@ -54,6 +55,22 @@ impl Client {
     }
 }
 
+/// A copy of the rows of a scan. A long answer takes the room itself.
+pub(crate) fn copied(room: &mut Vec<Row>) -> Result<Vec<Row>, Code> {
+    if room.len() > MAX_KEPT {
+        return Ok(std::mem::take(room));
+    }
+    let mut rows = Vec::new();
+    rows.try_reserve_exact(room.len()).map_err(|_| Code::OutOfMemory)?;
+    rows.extend_from_slice(room);
+    Ok(rows)
+}
+
+/// The room as the next scan finds it: what a long one took is given back.
+pub(crate) fn kept(room: Vec<Row>) -> Vec<Row> {
+    if room.capacity() > MAX_KEPT { Vec::new() } else { room }
+}
+
 /// Lends the room of this thread. Who asks for it once more meanwhile gets another one, and so does
 /// a thread that ends.
 pub(crate) fn with_room<T>(work: impl FnOnce(&mut Vec<Row>) -> T) -> T {
@@ -63,4 +80,25 @@ pub(crate) fn with_room<T>(work: impl FnOnce(&mut Vec<Row>) -> T) -> T {
         let _ = ROOM.try_with(|kept| kept.set(room));
     }
     done
+}
+
+#[cfg(test)]
+mod tests {
+    use super::*;
+    use crate::row::Value;
+
+    fn rows(count: usize) -> Vec<Row> {
+        (0u64..).map(|key| Row { key, value: Value::from(key) }).take(count).collect()
+    }
+
+    #[test]
+    fn the_room_of_a_long_answer_is_not_kept() {
+        for count in [0, 5, MAX_KEPT, MAX_KEPT + 1] {
+            let mut room = rows(count);
+            assert_eq!(copied(&mut room), Ok(rows(count)));
+            assert_eq!(room.is_empty(), count == 0 || count > MAX_KEPT, "{count}");
+            assert!(kept(rows(count)).capacity() <= MAX_KEPT);
+        }
+        assert_eq!(kept(rows(5)).capacity(), rows(5).capacity());
+    }
 }

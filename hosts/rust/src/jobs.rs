@@ -7,6 +7,7 @@ mod pinning;
 mod watched;
 mod writing;
 
+use crate::cached::{copied, kept};
 use crate::change::{Outcome, Write};
 use crate::client_handle::{Cache, ClientHandle, Mode, Scan};
 use crate::code::Code;
@@ -349,12 +350,12 @@ impl Jobs {
     fn try_read(&mut self, id: JobId, keys: &Range<u64>) -> Result<Option<Vec<Row>>, Code> {
         let mut room = std::mem::take(&mut self.room);
         let rows = match self.client.scan(keys, &mut room) {
-            Ok(Scan::Rows) => Ok(Some(room.clone())),
+            Ok(Scan::Rows) => copied(&mut room).map(Some),
             Ok(Scan::Miss(point)) => self.ask(id, point..keys.end, Mode::RangeSS).map(|_| None),
             Ok(Scan::Pending | Scan::Ended) => Ok(None),
             Err(code) => Err(code),
         };
-        self.room = room;
+        self.room = kept(room);
         rows
     }
 

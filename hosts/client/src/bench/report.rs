@@ -56,7 +56,8 @@ fn text(words: &BenchWords, measured: &Measured, took: Duration) -> String {
     line("", ["calls", "a second", "p50", "p99", "p99.9", "max"].map(Into::into));
     for (name, _, times) in kinds(measured) {
         let [p50, p99, p999] = QUANTILES.map(|(of_thousand, _)| times.quantile(of_thousand));
-        let [p50, p99, p999, max] = [p50, p99, p999, times.max()].map(|it| format!("{it:.1?}"));
+        let shown = |time| if times.count() == 0 { "-".into() } else { format!("{time:.1?}") };
+        let [p50, p99, p999, max] = [p50, p99, p999, times.max()].map(shown);
         let rate = format!("{:.1}", rate(times.count(), took));
         line(name, [times.count().to_string(), rate, p50, p99, p999, max]);
     }

@@ -1,5 +1,6 @@
 //! Ranges whose changes a caller waits for.
 use super::{Asked, JobId, Jobs, Reply};
+use crate::cached::kept;
 use crate::client_handle::Scan;
 use crate::code::Code;
 use crate::refused::Refused;
@@ -69,7 +70,7 @@ impl Jobs {
             Ok(Scan::Pending) => true,
             _ => false,
         };
-        self.room = room;
+        self.room = kept(room);
         is_known
     }
 }
