@@ -6,11 +6,13 @@ ghost use Rattle.std.specs.List.{AllByRecursion};
 ghost use Rattle.krl_server.specs.StateMeaning.{meaning};
 ghost use Rattle.krl_server.specs.Steps.{start};
 ghost use Rattle.krl_embed.specs.Replies.{code_of};
+ghost use Rattle.krl_embed.specs.Notes.{opening};
 ghost use Rattle.krl_embed.specs.Opening.{parts, place_said, refused_code, MayOpen};
 ghost use Rattle.krl_embed.specs.Opening.{RefusesKept, RefusesOpening, RefusesRecords};
 ghost use Rattle.krl_embed.specs.Records.{AreRows, is_record, record_of};
 
 use crate::code::Code;
+use crate::notes::Notes;
 use crate::records::{RecordRow, push_record};
 use crate::reply::Reply;
 use crate::rows::{Row, entries_of};
@@ -120,14 +122,20 @@ fn start_with(
     }
 }
 
-/// Why no server starts if there is no memory for it.
-pub(crate) fn no_memory(room: usize) -> Reply
-    ensures { (epoch : ℕ) (entries : List Row) (records : List RecordRow)
-        → RefusesOpening room epoch entries records result }
+/// The notes of a server that is about to start with room for so many entries: its opening is
+/// reported. Or why none starts.
+pub(crate) fn notes_at_start(alloc: Global, room: usize) -> Result<Notes, Reply>
+    ensures notes { IfOk result (λ n. n ≡ opening) }
+    ensures why { IfErr result
+        (λ refused. (epoch : ℕ) (entries : List Row) (records : List RecordRow)
+        → RefusesOpening room epoch entries records refused) }
 {
     match Room::new(room) {
-        Some(_) => Reply::of(Code::OutOfMemory),
-        None => Reply::of(Code::BadRoom),
+        Some(_) => match Notes::opening(alloc) {
+            Ok(notes) => Ok(notes),
+            Err(_) => Err(Reply::of(Code::OutOfMemory)),
+        },
+        None => Err(Reply::of(Code::BadRoom)),
     }
 }
 

@@ -12,8 +12,7 @@ use crate::code::Code;
 use crate::endpoint::{Endpoint, Role};
 use crate::frames::Frames;
 use crate::handle::{Handle, put, take};
-use crate::notes::Notes;
-use crate::opening::{no_memory, start};
+use crate::opening::{notes_at_start, start};
 use crate::records::RecordRow;
 use crate::reply::Reply;
 use crate::rows::Row;
@@ -40,9 +39,9 @@ pub extern "C" fn krl_server_open(
         return Reply::of(Code::OpenAlready);
     }
     // Before the server: to give it up here would have it on the stack once more.
-    let notes = match Notes::opening(alloc) {
+    let notes = match notes_at_start(alloc, room) {
         Ok(notes) => notes,
-        Err(_) => return no_memory(room),
+        Err(reply) => return reply,
     };
     let server = match start(alloc, room, epoch, entries, records) {
         Ok(server) => server,

@@ -163,7 +163,8 @@ impl Connection {
     fn why_unread(&self, error: &io::Error) -> Looked {
         let is_shaking = matches!(&self.entry, Entry::Unknown(session) if session.peer().is_none());
         // Any other error is the socket's.
-        let is_of_tls = matches!(error.kind(), ErrorKind::PermissionDenied | ErrorKind::InvalidData);
+        let is_of_tls =
+            matches!(error.kind(), ErrorKind::PermissionDenied | ErrorKind::InvalidData);
         if is_shaking && is_of_tls { Looked::NotShaken(error.to_string()) } else { Looked::Ended }
     }
 
