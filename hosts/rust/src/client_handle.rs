@@ -65,6 +65,8 @@ pub(crate) struct ClientHandle {
     lease: Lease,
     /// A call was made since the last `take`, and may have said something.
     has_spoken: bool,
+    /// Its incarnation is on the disk. Until then nothing of it may be said.
+    is_kept: bool,
 }
 
 /// What an incarnation knows, and the end of its lease.
@@ -121,31 +123,47 @@ impl ClientHandle {
         ClientHandle::of(Handle::closed(), Lease::new(0, 0, Older::Unknown))
     }
 
-    /// One whose host knows nothing of older incarnations.
+    /// One whose host knows nothing of older incarnations, and has kept this one.
     #[cfg(test)]
     pub fn open(number: u8, incarnation: u64) -> Result<ClientHandle, Code> {
-        ClientHandle::open_behind(number, incarnation, Older::Unknown)
+        let mut client = ClientHandle::open_behind(number, incarnation, Older::Unknown)?;
+        client.confirm()?;
+        Ok(client)
     }
 
-    /// One whose host knows so much of older incarnations.
+    /// One whose host knows so much of older incarnations. It says nothing before
+    /// [`ClientHandle::confirm`].
     pub fn open_behind(number: u8, incarnation: u64, older: Older) -> Result<ClientHandle, Code> {
         let mut handle = Handle::closed();
         // SAFETY: the handle stays in its place, and `&mut` gives it to this call alone.
         done(unsafe { ffi::krl_client_open(handle.raw(), number.into(), incarnation) })?;
-        // The incarnation is on the disk.
-        handle.confirm(1)?;
         Ok(ClientHandle::of(handle, Lease::new(number, incarnation, older)))
+    }
+
+    /// Whether the incarnation is on the disk.
+    pub fn is_kept(&self) -> bool {
+        self.is_kept
+    }
+
+    /// Confirms that the incarnation is on the disk: from now on it may be said.
+    pub fn confirm(&mut self) -> Result<(), Code> {
+        if !self.is_kept {
+            self.handle.change(|it| it.handle.confirm(1))?;
+            self.is_kept = true;
+        }
+        Ok(())
     }
 
     fn of(handle: Handle, lease: Lease) -> ClientHandle {
         let incarnation = Incarnation { handle, end: lease.end() };
-        ClientHandle { handle: Owner::new(incarnation), lease, has_spoken: true }
+        ClientHandle { handle: Owner::new(incarnation), lease, has_spoken: true, is_kept: false }
     }
 
     /// Becomes another client. What was cached from this one is cached from the other one.
     pub fn replace(&mut self, mut other: ClientHandle) {
         other.handle.change(|other| self.handle.change(|handle| mem::swap(handle, other)));
         self.lease = other.lease;
+        self.is_kept = other.is_kept;
         self.has_spoken = true;
     }
 
@@ -262,8 +280,9 @@ impl ClientHandle {
     }
 
     /// Appends what waits to be sent, as frames. If nothing can wait, nobody's scan is held up.
+    /// Nothing leaves before the incarnation is kept.
     pub fn take(&mut self, frames: &mut Vec<u8>) -> Result<(), Code> {
-        if self.has_spoken {
+        if self.has_spoken && self.is_kept {
             self.handle.change(|it| it.handle.take(frames))?;
             self.has_spoken = false;
         }

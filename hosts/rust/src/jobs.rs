@@ -292,8 +292,11 @@ impl Jobs {
     }
 
     /// Says again what is not answered. A tick for which there is no memory is a message that is
-    /// lost.
+    /// lost. Before the incarnation is kept nothing can leave, and nothing more has to wait.
     pub fn tick(&mut self) {
+        if !self.client.is_kept() {
+            return;
+        }
         let _ = match self.stage {
             Stage::Here | Stage::Returning => self.client.tick(),
             Stage::Leaving => self.client.leave(),

@@ -17,6 +17,20 @@ struct Judged {
     wrong: u64,
 }
 
+#[test]
+fn nothing_is_said_before_the_incarnation_is_kept() {
+    let mut client = ClientHandle::open_behind(3, 7, Older::Unknown).unwrap();
+    let mut frames = Vec::new();
+    client.take(&mut frames).unwrap();
+    assert!(!client.is_kept() && frames.is_empty());
+    client.confirm().unwrap();
+    client.take(&mut frames).unwrap();
+    assert_eq!(crate::frames::split(&frames).count(), 1, "its Hello");
+    client.confirm().unwrap();
+    client.take(&mut frames).unwrap();
+    assert_eq!(crate::frames::split(&frames).count(), 1, "and only once");
+}
+
 /// Four threads scan the last row, which the other client takes and gives back. If it holds the row
 /// during all of a scan, the scan has to miss. `has_row` scans, and `follow` is called each time
 /// before the row is given back.

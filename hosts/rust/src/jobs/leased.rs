@@ -1,6 +1,7 @@
 //! The lease of a client: what it may say, its signs, and how it ends.
 use super::{Dropped, Jobs, Stage};
 use crate::boot_clock::Moment;
+use crate::code::Code;
 use crate::lease::{Company, Sign};
 use crate::leases::Answer;
 use std::io::{self, ErrorKind};
@@ -26,6 +27,11 @@ impl Jobs {
         let sign = self.client.lease_mut().greet(now).ok_or(ErrorKind::Interrupted)?;
         self.speech = Speech::AwaitsTerms(now);
         Ok(sign)
+    }
+
+    /// The incarnation is on the disk, so it may be said.
+    pub fn confirm_incarnation(&mut self) -> Result<(), Code> {
+        self.client.confirm()
     }
 
     /// The greeting again, if it has not been answered for long.

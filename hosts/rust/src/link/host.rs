@@ -91,7 +91,8 @@ impl Link {
         let file = lock_file.as_mut().ok_or(ErrorKind::Interrupted)?;
         file.keep().map_err(|error| {
             io::Error::new(error.kind(), format!("the lock file can't be written: {error}"))
-        })
+        })?;
+        self.jobs().confirm_incarnation().map_err(io::Error::other)
     }
 
     /// Gives a client that has dropped all, or whose lease has ended, a greater incarnation, under

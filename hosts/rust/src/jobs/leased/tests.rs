@@ -123,7 +123,9 @@ fn a_write_on_its_way_ends_and_other_jobs_go_on() {
     world.clients[0].end_lease_if_over();
     assert_eq!(write.answer.try_recv(), Ok(Err(Refused::LeaseEnded)));
     assert!(read.answer.try_recv().is_err() && later.answer.try_recv().is_err());
-    world.clients[0].begin_anew(ClientHandle::open_behind(0, 2, Older::IsOver(1)).unwrap());
+    let mut next = ClientHandle::open_behind(0, 2, Older::IsOver(1)).unwrap();
+    next.confirm().unwrap();
+    world.clients[0].begin_anew(next);
     assert_eq!(world.clients[0].incarnation(), 2);
     lease_for(&mut world.clients[0], LONG);
     world.clients[0].tick();
