@@ -82,7 +82,9 @@ fn is_right(
     let (begun, mut expected) = (Instant::now(), full.clone());
     for batch in batches() {
         store.commit(&batch)?;
-        batch.iter().for_each(|change| expected.apply(change));
+        for change in &batch {
+            expected.apply(change);
+        }
     }
     println!("{name}: {BATCHES} batches of {BATCH} writes in {:.1?}", begun.elapsed());
     drop(store);
