@@ -322,7 +322,10 @@ fi
 case "$#:${1-}" in
 0:) [ -n "$asked" ] || { help >&2; exit 2; } ;;
 *:--help | *:-h | 1:help) help; exit 0 ;;
-1:doctor) exec "$top/hosts/packaging/requirements" doctor ;;
+*:doctor)
+    [ $# = 1 ] || refuse "unexpected argument '$2' found"
+    exec "$top/hosts/packaging/requirements" doctor
+    ;;
 esac
 case ${1-} in
 serve | client) ;;

@@ -38,8 +38,21 @@ REASONS = (
     "Denied",
     "OtherShard",
 )
-HOST_KINDS = {"Hello": 16, "Refused": 17, "Mark": 18, "WentBack": 19, "Shard": 22}
+HOST_KINDS = {
+    "Hello": 16,
+    "Refused": 17,
+    "Mark": 18,
+    "WentBack": 19,
+    "Terms": 20,
+    "Ended": 21,
+    "Shard": 22,
+}
 SHARD = ("first", "end", "version")
+SIGN = ("client", "incarnation", "moment", "length", "older")
+NUMBERS = {"Shard": SHARD, "Terms": ("incarnation", "moment", "length"), "Ended": ("incarnation",)}
+"""The numbers of eight bytes of which a frame of a server's host consists."""
+AT_ANY_TIME = ("Ack", "Sign")
+"""What a client may say at any time, and is passed over unless it is expected."""
 
 
 class Failed(Exception):
@@ -54,8 +67,11 @@ def fail(why: str) -> NoReturn:
 def host_frame(said: dict[str, Any]) -> bytes:
     """A frame of a server's host."""
     head = bytes([0, HOST_KINDS[said["host"]]])
-    if said["host"] == "Shard":
-        return head + b"".join(said[name].to_bytes(8, "little") for name in SHARD)
+    if said["host"] in NUMBERS:
+        names = NUMBERS[said["host"]]
+        return head + b"".join(said[name].to_bytes(8, "little") for name in names)
+    if said["host"] == "Hello":
+        return head + bytes([1] if said.get("signs") else [])
     if said["host"] == "Refused":
         # What a shard refuses has a third number.
         numbers = [said[name] for name in ("first", "second", "version") if name in said]
@@ -68,13 +84,19 @@ def read_frame(frame: bytes) -> dict[str, Any]:
     """What a client says."""
     if frame[:2] == b"\0\0":
         return {"host": "Hello", "mark": frame[2:].hex() or None}
-    if frame[:2] == b"\0\2":
-        numbers = (int.from_bytes(frame[at : at + 8], "little") for at in (2, 10, 18))
-        return {"host": "Shard", **dict(zip(SHARD, numbers, strict=True))}
+    for kind, name, fields in ((1, "Sign", SIGN), (2, "Shard", SHARD)):
+        if frame[:2] == bytes([0, kind]):
+            numbers = (int.from_bytes(frame[at : at + 8], "little") for at in range(2, 42, 8))
+            return {"host": name, **dict(zip(fields, numbers))}
     try:
         return decode(frame)
     except (ValueError, IndexError, KeyError) as error:
         fail(f"the client says what is no message: {frame.hex()}: {error}")
+
+
+def name_of(said: dict[str, Any]) -> str:
+    """The name of a message or of a frame of a host."""
+    return str(said.get("kind") or said.get("host"))
 
 
 class Peer:
@@ -102,16 +124,17 @@ class Peer:
         length = int.from_bytes(self._receive(LENGTH), "little")
         return self._receive(length)
 
-    def next(self, wants_ack: bool) -> dict[str, Any]:
-        """What the client says next, and has not said on this connection before. An Ack may come at
-        any time."""
+    def next(self, wanted: str) -> dict[str, Any]:
+        """What the client says next, and has not said on this connection before. What it may say at
+        any time is passed over unless that is wanted."""
         end = time.monotonic() + PATIENCE
         while time.monotonic() < end:
             frame = self.frame()
             said = read_frame(frame)
             is_new = frame not in self._heard
             self._heard.add(frame)
-            if is_new and (wants_ack or said.get("kind") != "Ack"):
+            name = name_of(said)
+            if is_new and (name == wanted or name not in AT_ANY_TIME):
                 return said
         fail(f"the client says nothing new for {PATIENCE} seconds")
 
@@ -191,10 +214,23 @@ class Play:
         return self._peer or fail("the script has no connection")
 
     def _expect(self, pattern: dict[str, Any]) -> None:
-        said = self._connected.next(wants_ack=pattern.get("kind") == "Ack")
-        if said.get("kind") == "Hello":
+        said = self._connected.next(name_of(pattern))
+        if "incarnation" in said and name_of(said) in ("Hello", "Sign"):
             self._names["incarnation"] = said["incarnation"]
         self._compare(pattern, said)
+
+    def _until(self, pattern: dict[str, Any]) -> None:
+        """What comes is passed over until it fits. The client may connect again meanwhile."""
+        end = time.monotonic() + PATIENCE
+        while time.monotonic() < end:
+            try:
+                said = self._connected.next(name_of(pattern))
+            except (EOFError, ConnectionError):
+                self._connection(True)
+                continue
+            if self._fits(pattern, said):
+                return
+        fail(f"the client does not say it in {PATIENCE} seconds")
 
     def _again(self, pattern: dict[str, Any]) -> None:
         if not any(self._fits(pattern, said) for said in self._connected.repeats()):
@@ -220,7 +256,7 @@ class Play:
         if not said:
             return b""
         if "host" in said:
-            return host_frame(said)
+            return host_frame({key: self._meant(word, None) for key, word in said.items()})
         head = {"client": NUMBER, "incarnation": "$incarnation"}
         return encode({key: self._meant(word, None) for key, word in {**head, **said}.items()})
 

@@ -13,6 +13,7 @@
 //! krl_drive reports                                               reports in the worst orders
 //! krl_drive large-stores FOLDER                                  fills stores of the greatest room
 //! krl_drive strings COUNT CHANGED                                 hands strings to both decoders
+//! krl_drive conform ADDRESS NUMBER LOCK_FILE SECONDS              is a client for hosts/conformance
 //! krl_drive bench FOLDER                                          takes measurements
 //! krl_drive lease-costs FOLDER                                    measures what leases cost
 //! krl_drive stores FOLDER ROUNDS                                  measures stores beside each other
@@ -30,6 +31,7 @@ mod bench_stores;
 mod certificates;
 mod clients;
 mod cluster;
+mod conform;
 #[path = "../../postgres/tests/database/mod.rs"]
 mod database;
 mod delayed;
@@ -125,6 +127,9 @@ fn run(words: &[&str]) -> Found {
         ["large-stores", folder] => large_stores::run(Path::new(folder)),
         ["strings", count, changed] => strings::run(count.parse()?, changed.parse()?),
         ["haste", folder] => haste::run(Path::new(folder)),
+        ["conform", address, number, lock_file, seconds] => {
+            conform::run(address, number, lock_file, seconds)
+        }
         ["bench", folder] => bench::run(Path::new(folder)),
         ["lease-costs", folder] => lease_costs::run(Path::new(folder)),
         ["stores", folder, rounds] => bench_stores::run(Path::new(folder), rounds.parse()?),

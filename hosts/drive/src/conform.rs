@@ -1,0 +1,102 @@
+//! The client of the Rust host, as `hosts/conformance/README.md` wants a client: it does what each
+//! line of its input says, and prints a line for each.
+use crate::Found;
+use krl::{Address, Client, Outcome, Refused, Row, Value};
+use std::error::Error;
+use std::io::BufRead;
+use std::num::ParseIntError;
+use std::ops::Range;
+use std::time::Duration;
+
+/// What is printed of a call.
+type Told = Result<String, Refused>;
+
+/// Joins, and does what the lines of standard input say until it is to leave.
+pub fn run(address: &str, number: &str, lock_file: &str, seconds: &str) -> Found {
+    let address: Address = address.parse()?;
+    let timeout = Duration::from_secs_f64(seconds.parse()?);
+    let builder = Client::builder(address).number(number.parse()?).lock_file(lock_file);
+    let client = builder.timeout(timeout).join()?;
+    println!("{{\"incarnation\": {}}}", client.incarnation());
+    if answer_lines(&client)? {
+        tell(client.leave().map(|()| "{}".into()));
+    }
+    Ok(true)
+}
+
+/// Answers each line, and says whether one of them was to leave.
+fn answer_lines(client: &Client) -> Result<bool, Box<dyn Error>> {
+    let mut pins = Vec::new();
+    for line in std::io::stdin().lock().lines() {
+        let line = line?;
+        let words: Vec<&str> = words_of(&line).collect();
+        match *words {
+            ["leave"] => return Ok(true),
+            ["pin", start, stop] => {
+                tell(
+                    client.pin(keys(start, stop)?).map(|pin| pins.push(pin)).map(|()| "{}".into()),
+                );
+            }
+            ["unpin"] => {
+                drop(pins.pop());
+                tell(Ok("{}".into()));
+            }
+            _ => tell(answer(client, &words)?),
+        }
+    }
+    Ok(false)
+}
+
+/// The words of a line such as `["put", 10, "31"]`, in which no word has a comma or a quote.
+fn words_of(line: &str) -> impl Iterator<Item = &str> {
+    let within = line.trim().trim_start_matches('[').trim_end_matches(']');
+    within.split(',').map(|word| word.trim().trim_matches('"'))
+}
+
+fn answer(client: &Client, words: &[&str]) -> Result<Told, Box<dyn Error>> {
+    Ok(match *words {
+        ["read", start, stop] => client.read(keys(start, stop)?).map(|rows| told(Some(rows))),
+        ["cached", start, stop] => Ok(told(client.cached(keys(start, stop)?))),
+        ["insert", key, value] => client.insert(key.parse()?, value_of(value)?).map(outcome),
+        ["put", key, value] => client.put(key.parse()?, value_of(value)?).map(outcome),
+        ["delete", key] => client.delete(key.parse()?).map(outcome),
+        ["forget", start, stop] => client.forget(keys(start, stop)?).map(|()| "{}".into()),
+        _ => return Err(format!("no call of a client: {words:?}").into()),
+    })
+}
+
+fn keys(start: &str, stop: &str) -> Result<Range<u64>, ParseIntError> {
+    Ok(start.parse()?..stop.parse()?)
+}
+
+fn tell(told: Told) {
+    let line = told.unwrap_or_else(|refused| {
+        let text = format!("{refused:?}");
+        let name = text.split('(').next().unwrap_or_default();
+        format!("{{\"error\": \"{name}\"}}")
+    });
+    println!("{line}");
+}
+
+fn told(rows: Option<Vec<Row>>) -> String {
+    let Some(rows) = rows else { return "{\"rows\": null}".into() };
+    let rows: Vec<String> = rows.iter().map(row).collect();
+    format!("{{\"rows\": [{}]}}", rows.join(", "))
+}
+
+fn row(row: &Row) -> String {
+    let digits = row.value.as_bytes().iter().map(|byte| format!("{byte:02x}"));
+    format!("[{}, \"{}\"]", row.key, digits.collect::<String>())
+}
+
+fn outcome(outcome: Outcome) -> String {
+    format!("{{\"outcome\": \"{outcome:?}\"}}")
+}
+
+/// The value of hexadecimal digits.
+fn value_of(digits: &str) -> Result<Value, Box<dyn Error>> {
+    let bytes: Result<Vec<u8>, _> = (0..digits.len() / 2)
+        .map(|at| u8::from_str_radix(&digits[2 * at..2 * at + 2], 16))
+        .collect();
+    Value::new(&bytes?).ok_or_else(|| "a value has at most 32 bytes".into())
+}
