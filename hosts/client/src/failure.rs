@@ -165,12 +165,15 @@ impl Failure {
     }
 }
 
-/// An error and what caused it, as one line.
+/// An error and what caused it, as one line. Some errors tell their causes themselves.
 pub fn sentence(error: &dyn std::error::Error) -> String {
     let mut text = error.to_string();
     let mut cause = error.source();
     while let Some(error) = cause {
-        text = format!("{text}: {error}");
+        let why = error.to_string();
+        if !text.contains(&why) {
+            text = format!("{text}: {why}");
+        }
         cause = error.source();
     }
     text
@@ -179,6 +182,13 @@ pub fn sentence(error: &dyn std::error::Error) -> String {
 #[cfg(test)]
 mod tests {
     use super::*;
+
+    #[test]
+    fn a_cause_is_told_once() {
+        let told = krl::ShardMap::from_file("/nowhere/map.toml").map_err(|error| sentence(&error));
+        let told = told.unwrap_err();
+        assert_eq!(told.matches("No such file").count(), 1, "{told}");
+    }
 
     #[test]
     fn each_failure_has_its_status() {

@@ -68,12 +68,16 @@ fn rows_that_are_there_are_left_alone() {
 fn a_warm_up_is_no_part_of_the_time() {
     let world = World::new("warm");
     let words = ["bench", "--json", "--warm-up", "1", "--seconds", "1", "--keys", "20"];
-    let said = world.prints(&[&words[..], &["--value-size", "32"]].concat());
+    let said = world.prints(&[&words[..], &["--value-size", "32", "--rate", "40"]].concat());
     let said: serde_json::Value = serde_json::from_str(&said).unwrap();
     // With the warm-up there are two seconds, and a busy machine adds to both.
     assert!(said["seconds"].as_f64().unwrap() >= 1.0, "{said}");
     assert_eq!((&said["warm_up_seconds"], &said["value_size"]), (&1.into(), &32.into()), "{said}");
-    assert_eq!(said["failed"], 0, "{said}");
+    assert_eq!((&said["failed"], &said["rate"]), (&0.into(), &40.into()), "{said}");
+    let calls = |kind: &str| said[kind]["calls"].as_u64().unwrap();
+    let calls = calls("cached_scans") + calls("reads_that_asked") + calls("writes");
+    let most = 40.0 * said["seconds"].as_f64().unwrap() + 1.0;
+    assert!(calls > 0 && f64::from(u32::try_from(calls).unwrap()) <= most, "{said}");
 }
 
 #[test]
@@ -116,7 +120,8 @@ fn a_signal_ends_it_soon_though_the_server_is_away() {
 #[test]
 fn what_a_benchmark_cannot_do_is_a_usage() {
     let world = World::new("usage");
-    let cases: [(&[&str], &str); 14] = [
+    let cases: [(&[&str], &str); 15] = [
+        (&["--rate", "0"], "0 is not in 1..=1000000"),
         (&["--clients", "0"], "0 is not in 1..=64"),
         (&["--clients", "65"], "65 is not in 1..=64"),
         (&["--clients", "9"], "9 clients need as many numbers, and 56 to 63 are 8"),

@@ -94,8 +94,8 @@ impl Rejections {
         }
     }
 
-    /// The server has said a message of the library, so it takes this side. It may still reject what
-    /// this side says next, which then follows the rejections before it.
+    /// The server has answered a sign or said a message of the library, so it takes this side. It
+    /// may still reject what this side says next, which then follows the rejections before it.
     pub fn accept(&mut self) {
         self.is_accepted = true;
     }

@@ -61,6 +61,13 @@ pub struct BenchWords {
         value_parser = clap::value_parser!(u64).range(1..=65_536)
     )]
     pub rows: u64,
+    /// At most so many calls a second, of all threads together: as many as they can by default
+    #[arg(
+        long,
+        value_name = "N",
+        value_parser = clap::value_parser!(u32).range(1..=1_000_000)
+    )]
+    pub rate: Option<u32>,
     /// Bytes of each value
     #[arg(
         long,

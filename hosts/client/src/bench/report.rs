@@ -74,6 +74,7 @@ fn json(words: &BenchWords, measured: &Measured, took: Duration) -> Json {
         "reads_percent": words.mix.reads,
         "rows": words.rows,
         "keys": words.keys,
+        "rate": words.rate,
         "skew": skew(words.skew),
         "value_size": words.value_size,
         "failed": measured.failed,

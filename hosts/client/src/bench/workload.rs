@@ -10,6 +10,7 @@ use rand::SeedableRng;
 use rand::distributions::{Distribution, WeightedIndex};
 use rand::rngs::StdRng;
 use std::ops::Range;
+use std::thread;
 use std::time::{Duration, Instant};
 
 /// What was measured.
@@ -88,9 +89,38 @@ impl Places {
     }
 }
 
+/// A thread that waits for its next call looks so often whether it is to end.
+const LOOK: Duration = Duration::from_millis(50);
+
+/// When a thread that keeps to a rate makes its next call.
+#[derive(Clone, Copy, Debug)]
+struct Pace {
+    every: Duration,
+    next: Instant,
+}
+
+impl Pace {
+    /// That of one of so many threads which make so many calls a second together. It begins at a
+    /// random moment, so that they do not call all at once.
+    fn of(rate: u32, threads: u32, random: &mut impl Rng) -> Pace {
+        let every = Duration::from_secs(threads.into()) / rate;
+        Pace { every, next: Instant::now() + every.mul_f64(random.r#gen()) }
+    }
+
+    /// How long to wait until the next call, which is due then.
+    fn wait(&mut self, now: Instant) -> Option<Duration> {
+        if now < self.next {
+            return Some(self.next - now);
+        }
+        self.next = now + self.every;
+        None
+    }
+}
+
 /// A thread of a client.
 pub struct Worker {
     table: Table,
+    pace: Option<Pace>,
     keys: Range<u64>,
     places: Places,
     mix: Mix,
@@ -105,14 +135,17 @@ pub struct Worker {
 
 impl Worker {
     pub fn new(table: Table, keys: &Range<u64>, words: &BenchWords) -> Result<Worker, Failure> {
+        let mut random = StdRng::from_entropy();
+        let threads = u32::from(words.clients) * u32::from(words.threads);
         Ok(Worker {
             table,
+            pace: words.rate.map(|rate| Pace::of(rate, threads, &mut random)),
             keys: keys.clone(),
             places: Places::of(words.skew, words.keys)?,
             mix: words.mix,
             rows: words.rows,
             value_size: words.value_size,
-            random: StdRng::from_entropy(),
+            random,
             room: Vec::new(),
             measured: Measured::default(),
         })
@@ -124,6 +157,10 @@ impl Worker {
             let now = Instant::now();
             if now >= span.end || signals.is_ended() {
                 return std::mem::take(&mut self.measured);
+            }
+            if let Some(wait) = self.pace.as_mut().and_then(|pace| pace.wait(now)) {
+                thread::sleep(wait.min(LOOK));
+                continue;
             }
             let counted = span.counts(now);
             let place = self.places.next(&mut self.random);
@@ -172,6 +209,16 @@ mod tests {
             counts[usize::try_from(places.next(&mut random)).unwrap()] += 1;
         }
         counts
+    }
+
+    #[test]
+    fn a_pace_is_kept_and_what_was_missed_is_not_made_up_for() {
+        let mut pace = Pace::of(50, 100, &mut StdRng::seed_from_u64(1));
+        assert_eq!(pace.every, Duration::from_secs(2));
+        let late = pace.next + Duration::from_secs(9);
+        assert_eq!(pace.wait(late), None);
+        assert_eq!(pace.wait(late), Some(pace.every));
+        assert_eq!(pace.wait(late + pace.every), None);
     }
 
     #[test]

@@ -65,6 +65,8 @@ impl Link {
             None => {
                 if let Some(answer) = Answer::read(frame) {
                     connected.fence.passes()?;
+                    // Who may not sign for the client is denied in place of that.
+                    lock(&self.rejections).accept();
                     self.jobs().hear_answer(answer)?;
                 }
             }
