@@ -135,7 +135,7 @@ impl EventLog {
                 );
             }
             Some((_, true)) | None => {
-                tell!(info, client, incarnation, %peer, "a client has joined")
+                tell!(info, client, incarnation, %peer, "a client has joined");
             }
         }
     }

@@ -71,6 +71,8 @@ pub(crate) struct EventLoop<S> {
     nudged: Instant,
     /// When the store was asked last.
     asked_store: Instant,
+    /// It was asked in this turn, since a client has seen what it lacks.
+    has_asked_store: bool,
     /// The server is to end, and goes on until then at most.
     until: Option<Instant>,
     /// Why it is to end, if nobody has told it to.
@@ -110,6 +112,7 @@ impl<S: Store> EventLoop<S> {
             is_stale: false,
             nudged: now,
             asked_store: now,
+            has_asked_store: false,
             until: None,
             failure: None,
             timings,
@@ -147,6 +150,7 @@ impl<S: Store> EventLoop<S> {
     /// whether to go on.
     fn turn(&mut self) -> Result<bool, ServeError> {
         let was_stopped = self.until.is_some();
+        self.has_asked_store = false;
         let began = self.connections.wait(self.longest_wait())?;
         self.answer_requests();
         let (mut changes, mut looks) = (Vec::new(), 0);

@@ -10,7 +10,7 @@ use std::time::Duration;
 
 /// The longest turn of a loop that does not wait for its store. Judging the longest report takes
 /// some seconds.
-const LONGEST_TURN: Duration = Duration::from_secs(30);
+pub(crate) const LONGEST_TURN: Duration = Duration::from_secs(30);
 
 /// A shorter wait for the store is not worth a word.
 const SHORT_WAIT: Duration = Duration::from_secs(1);

@@ -1,11 +1,14 @@
 //! Who holds which slots of a server's table, and who waits there.
-use crate::monitor::Monitor;
+use crate::monitor::{BUSY, Monitor};
 use crate::range::keys_of;
-use crate::requests::Request;
+use crate::requests::{Request, Unanswered};
 use crate::watch::{CLIENTS, Wait};
 use std::fmt;
 use std::ops::{Range, RangeBounds};
-use std::sync::mpsc::sync_channel;
+use std::time::Duration;
+
+/// How long a page of the answer may take: the server's loop may wait for its store meanwhile.
+const LONGEST_WAIT: Duration = Duration::from_secs(10);
 
 /// The most slots that a server tells at once.
 const PAGE: usize = 1024;
@@ -45,6 +48,8 @@ pub struct Locks {
 pub enum LocksError {
     /// The server has ended, or ends before its turn comes to this.
     Ended,
+    /// The server's loop did not come to it in time: it is busy, or hangs.
+    Busy,
     /// The range begins above its end, or ends above 2^63.
     BadRange,
 }
@@ -80,7 +85,7 @@ impl Monitor {
     /// # Errors
     ///
     /// `BadRange` if the range begins above its end or ends above 2^63; `Ended` if the server has
-    /// ended.
+    /// ended; `Busy` if its loop does not answer within ten seconds.
     pub fn locks(&self, points: impl RangeBounds<u64>, most: usize) -> Result<Locks, LocksError> {
         let points = keys_of(&points).map_err(|_| LocksError::BadRange)?;
         let most = most.max(CLIENTS.into());
@@ -98,9 +103,11 @@ impl Monitor {
     }
 
     fn page(&self, search: Search) -> Result<Page, LocksError> {
-        let (reply, answer) = sync_channel(1);
-        self.requests.ask(Request::Locks(search, reply)).map_err(|_| LocksError::Ended)?;
-        answer.recv().map_err(|_| LocksError::Ended)
+        let answered = self.requests.answer(|reply| Request::Locks(search, reply), LONGEST_WAIT);
+        answered.map_err(|why| match why {
+            Unanswered::Ended => LocksError::Ended,
+            Unanswered::Busy => LocksError::Busy,
+        })
     }
 }
 
@@ -155,6 +162,7 @@ impl fmt::Display for LocksError {
     fn fmt(&self, f: &mut fmt::Formatter<'_>) -> fmt::Result {
         f.write_str(match self {
             LocksError::Ended => "the server has ended",
+            LocksError::Busy => BUSY,
             LocksError::BadRange => {
                 "a range begins at its end or below it, and ends at 2^63 at most"
             }
@@ -167,7 +175,6 @@ impl std::error::Error for LocksError {}
 #[cfg(test)]
 mod tests {
     use super::*;
-    use std::time::Duration;
 
     fn slot(client: u8, lo: u64, hi: u64) -> HeldSlot {
         HeldSlot { lo, hi, client, mode: "RangeS-S" }

@@ -1,13 +1,16 @@
 //! What a server lets other threads see of it while it runs.
 use crate::change::Snapshot;
-use crate::requests::{Request, Requests};
+use crate::liveness::LONGEST_TURN;
+use crate::requests::{Request, Requests, Unanswered};
 use crate::status::Status;
 use crate::store::StoreError;
 use crate::timings::{Measured, Timings};
 use std::fmt;
-use std::sync::mpsc::sync_channel;
 use std::sync::{Arc, Mutex, PoisonError};
 use std::time::Duration;
+
+/// What is said of a server whose loop does not answer.
+pub(crate) const BUSY: &str = "the server's loop did not answer in time: it is busy, or hangs";
 
 /// A view of a server that may live in another thread, and longer than the server.
 #[derive(Clone)]
@@ -24,6 +27,8 @@ pub struct Monitor {
 pub enum SnapshotError {
     /// The server has ended, or ends before its turn comes to this.
     Ended,
+    /// The server's loop did not come to it in time: it is busy, or hangs.
+    Busy,
     /// The store failed. The server goes on.
     Store(StoreError),
 }
@@ -54,11 +59,13 @@ impl Monitor {
     ///
     /// # Errors
     ///
-    /// `Ended` if the server has ended; `Store` if its store can't read what it keeps.
+    /// `Ended` if the server has ended; `Busy` if its loop does not answer within 30 seconds and
+    /// twice the longest wait for its store; `Store` if its store can't read what it keeps.
     pub fn snapshot(&self) -> Result<Snapshot, SnapshotError> {
-        let (reply, answer) = sync_channel(1);
-        self.requests.ask(Request::Snapshot(reply)).map_err(|_| SnapshotError::Ended)?;
-        answer.recv().map_err(|_| SnapshotError::Ended)?.map_err(SnapshotError::Store)
+        // The call before it, and its own.
+        let longest = 2 * self.longest_store_wait + LONGEST_TURN;
+        let answered = self.requests.answer(Request::Snapshot, longest);
+        answered.map_err(SnapshotError::from)?.map_err(SnapshotError::Store)
     }
 }
 
@@ -68,10 +75,20 @@ impl fmt::Debug for Monitor {
     }
 }
 
+impl From<Unanswered> for SnapshotError {
+    fn from(why: Unanswered) -> SnapshotError {
+        match why {
+            Unanswered::Ended => SnapshotError::Ended,
+            Unanswered::Busy => SnapshotError::Busy,
+        }
+    }
+}
+
 impl fmt::Display for SnapshotError {
     fn fmt(&self, f: &mut fmt::Formatter<'_>) -> fmt::Result {
         match self {
             SnapshotError::Ended => f.write_str("the server has ended"),
+            SnapshotError::Busy => f.write_str(BUSY),
             SnapshotError::Store(error) => error.fmt(f),
         }
     }
@@ -80,7 +97,7 @@ impl fmt::Display for SnapshotError {
 impl std::error::Error for SnapshotError {
     fn source(&self) -> Option<&(dyn std::error::Error + 'static)> {
         match self {
-            SnapshotError::Ended => None,
+            SnapshotError::Ended | SnapshotError::Busy => None,
             SnapshotError::Store(error) => Some(error),
         }
     }

@@ -12,7 +12,7 @@ use crate::identity::Identity;
 use crate::leases::LeaseTable;
 use crate::liveness::TimedStore;
 use crate::monitor::Monitor;
-use crate::requests::{Request, Requests};
+use crate::requests::Requests;
 use crate::room::Room;
 use crate::room_at_start::RoomAtStart;
 use crate::server_builder::{Options, ServerBuilder};
@@ -234,8 +234,7 @@ impl Server {
     }
 
     fn ask_to_stop(&self) {
-        // One that does not hear it has ended already.
-        let _ = self.requests.ask(Request::Stop);
+        self.requests.stop();
     }
 
     /// Waits until the server has ended, and its address is free.

@@ -1,5 +1,6 @@
 //! The words of the command line.
 use crate::next_map::{MergeMap, SplitMap};
+use crate::pages::{JSON, TEXT};
 use crate::settings::StorePlace;
 use clap::{Args, Parser, Subcommand, ValueEnum};
 use std::path::PathBuf;
@@ -10,6 +11,7 @@ use std::path::PathBuf;
     name = "krl-server",
     version,
     arg_required_else_help = true,
+    max_term_width = 100,
     after_help = STATUSES,
     after_long_help = MORE
 )]
@@ -23,13 +25,15 @@ const STATUSES: &str = "\
 Exit statuses:
   0  it is done; a server that was told to stop has stopped in order
   1  it failed, and standard error says why
-  2  the command line, the environment or the configuration file is wrong";
+  2  the command line, the environment, the configuration file or a certificate is wrong
+  3  the store of a server lacks what a client has seen of it: see docs/STORES.md";
 
 const MORE: &str = "\
 Exit statuses:
   0  it is done; a server that was told to stop has stopped in order
   1  it failed, and standard error says why
-  2  the command line, the environment or the configuration file is wrong
+  2  the command line, the environment, the configuration file or a certificate is wrong
+  3  the store of a server lacks what a client has seen of it: see docs/STORES.md
 
 Examples:
   krl-server serve
@@ -56,13 +60,12 @@ pub enum Command {
     /// Print what a server shows of itself
     Status {
         /// The server's status port, with tls: before it if it serves by TLS
-        #[arg(default_value = crate::settings::STATUS)]
+        #[arg(env = "KRL_STATUS", default_value = crate::settings::STATUS)]
         address: String,
         #[command(flatten)]
         tls: TlsOptions,
-        /// Print it as JSON
-        #[arg(long)]
-        json: bool,
+        #[command(flatten)]
+        format: FormatOptions,
     },
     /// Ask whether a server is alive, or whether it is ready: the exit status says so
     #[command(long_about = "\
@@ -72,7 +75,7 @@ It is 0 if that is so, and 1 if not, or if the server gives no answer within fiv
 that stands by, or waits for reports of clients, is alive and not ready.")]
     Health {
         /// The server's status port, with tls: before it if it serves by TLS
-        #[arg(default_value = crate::settings::STATUS)]
+        #[arg(env = "KRL_STATUS", default_value = crate::settings::STATUS)]
         address: String,
         #[command(flatten)]
         tls: TlsOptions,
@@ -192,16 +195,41 @@ pub struct LocksOptions {
     /// One past the last point of the range: 9223372036854775808 at most
     pub hi: Option<u64>,
     /// The server's status port, with tls: before it if it serves by TLS
-    #[arg(long, value_name = "ADDRESS", default_value = crate::settings::STATUS)]
+    #[arg(
+        long,
+        env = "KRL_STATUS",
+        value_name = "ADDRESS",
+        default_value = crate::settings::STATUS
+    )]
     pub status: String,
     #[command(flatten)]
     pub tls: TlsOptions,
     /// The most slots that are printed: 64 to 10000
     #[arg(long, value_name = "COUNT", default_value_t = crate::locks::LIMIT)]
     pub limit: usize,
-    /// How they are printed
+    #[command(flatten)]
+    pub format: FormatOptions,
+}
+
+/// How an answer is printed.
+#[derive(Args, Clone, Copy, Debug)]
+pub struct FormatOptions {
+    /// How the answer is printed
     #[arg(long, value_enum, default_value_t = Format::Text)]
-    pub format: Format,
+    format: Format,
+    /// The same as --format json
+    #[arg(long)]
+    json: bool,
+}
+
+impl FormatOptions {
+    /// The kind of page that is asked for.
+    pub fn kind(self) -> &'static str {
+        match (self.json, self.format) {
+            (false, Format::Text) => TEXT,
+            (true, _) | (_, Format::Json) => JSON,
+        }
+    }
 }
 
 /// What is shown by TLS, and whom it believes.

@@ -1,6 +1,6 @@
 //! One request to a status port.
 use crate::command_line::TlsOptions;
-use crate::sealed;
+use crate::sealed::{self, Opened};
 use crate::settings::{BadSetting, STATUS};
 use crate::tls_files::TlsFiles;
 use hyper::client::conn;
@@ -97,8 +97,18 @@ fn ask(port: &StatusPort, request: Request<Body>, wait: Duration) -> Result<Repl
     let answered = runtime.block_on(async { timeout(wait, exchange(port, request)).await });
     let reply = answered
         .map_err(|_| format!("the status port {port} gave no answer within {wait:?}"))?
-        .map_err(|error| format!("the status port {port} gave no answer: {error}"))?;
+        .map_err(|error| {
+            format!("the status port {port} gave no answer: {error}{}", hint(&error))
+        })?;
     Ok(reply)
+}
+
+/// What may be wrong if a connection is closed without an answer.
+fn hint(error: &Failure) -> &'static str {
+    let is_closed = error
+        .downcast_ref::<hyper::Error>()
+        .is_some_and(|error| error.is_incomplete_message() || error.is_closed());
+    if is_closed { ": is it the port of clients, or one of TLS?" } else { "" }
 }
 
 async fn exchange(port: &StatusPort, request: Request<Body>) -> Result<Reply, Failure> {
@@ -106,7 +116,9 @@ async fn exchange(port: &StatusPort, request: Request<Body>) -> Result<Reply, Fa
     match &port.tls {
         None => talk(socket, request).await,
         Some(tls) => {
-            let (plain, _) = sealed::open(socket, TlsSession::connect(tls)?).await?;
+            let Opened { plain, sealed, .. } =
+                sealed::open(socket, TlsSession::connect(tls)?).await?;
+            tokio::spawn(sealed.carry());
             talk(plain, request).await
         }
     }

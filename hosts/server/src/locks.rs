@@ -1,7 +1,7 @@
 //! Who holds what: the question, its answer as text and as JSON, and the command that asks.
-use crate::command_line::{Format, LocksOptions};
+use crate::command_line::LocksOptions;
 use crate::http::{self, StatusPort};
-use crate::pages::{self, JSON, TEXT};
+use crate::pages;
 use crate::settings::BadSetting;
 use form_urlencoded::parse;
 use hyper::StatusCode;
@@ -75,11 +75,11 @@ impl Question {
     pub fn as_json(&self, locks: &Locks) -> String {
         let held = |slot: &HeldSlot| {
             let HeldSlot { lo, hi, mode, client } = slot;
-            json!({ "lo": lo, "hi": hi, "mode": mode, "client": client })
+            json!({ "lo": lo, "hi": end_as_json(*hi), "mode": mode, "client": client })
         };
         let text = json!({
             "lo": self.points.start,
-            "hi": self.points.end,
+            "hi": end_as_json(self.points.end),
             "locks": locks.held.iter().map(held).collect::<Vec<_>>(),
             "waits": locks.waits.iter().map(pages::wait_as_json).collect::<Vec<_>>(),
             "next": locks.next,
@@ -106,6 +106,12 @@ impl Question {
     }
 }
 
+/// The end of a range in JSON. That of the whole table, 2^63, is null: it is above the integers of
+/// many readers.
+pub fn end_as_json(end: u64) -> Option<u64> {
+    (end < TOP).then_some(end)
+}
+
 fn number<N: std::str::FromStr>(name: &str, value: &str) -> Result<N, String> {
     value.parse().map_err(|_| format!("{name} is '{value}': it has to be a number from 0 on"))
 }
@@ -128,10 +134,7 @@ fn waiting(wait: &Wait) -> String {
 pub fn ask(options: &LocksOptions) -> Result<String, Box<dyn Error>> {
     let question = Question::of_words(options)?;
     let port = StatusPort::new(&options.status, &options.tls)?;
-    let kind = match options.format {
-        Format::Text => TEXT,
-        Format::Json => JSON,
-    };
+    let kind = options.format.kind();
     let reply = http::get(&port, &question.path(), kind, WAIT)?;
     match reply.status {
         StatusCode::OK => Ok(reply.text),
@@ -212,7 +215,7 @@ mod tests {
     fn json() {
         let text = question(0..20, 64).as_json(&Locks { next: Some(7), ..locks() });
         let value: serde_json::Value = serde_json::from_str(&text).unwrap();
-        assert_eq!(value["locks"][1], json!({ "lo": 11, "hi": TOP, "mode": "X", "client": 2 }));
+        assert_eq!(value["locks"][1], json!({ "lo": 11, "hi": null, "mode": "X", "client": 2 }));
         assert_eq!(value["waits"][0]["hi"], 20);
         assert_eq!((&value["next"], &value["is_of_one_moment"]), (&json!(7), &json!(true)));
         assert_eq!((&value["lo"], &value["hi"]), (&json!(0), &json!(20)));

@@ -72,8 +72,8 @@ fn run(command: Command, matches: &ArgMatches) -> Result<ExitCode, Box<dyn Error
             settings.access.tls()?;
             output::print(&settings.to_string())?;
         }
-        Command::Status { address, tls, json } => {
-            output::print(&pages::fetch(&StatusPort::new(&address, &tls)?, json)?)?;
+        Command::Status { address, tls, format } => {
+            output::print(&pages::fetch(&StatusPort::new(&address, &tls)?, format)?)?;
         }
         Command::Health { address, tls, ready } => {
             let asked = if ready { Asked::Ready } else { Asked::Alive };

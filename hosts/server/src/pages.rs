@@ -1,5 +1,6 @@
 //! What the status port answers.
 use crate::backup::{self, Order};
+use crate::command_line::FormatOptions;
 use crate::http::{self, StatusPort};
 use crate::locks::{self, Question};
 use crate::log;
@@ -9,7 +10,7 @@ use crate::role::{Role, State};
 use crate::visitors::Visit;
 use hyper::header::{ACCEPT, ALLOW, CONTENT_TYPE};
 use hyper::{Body, Method, Request, Response, StatusCode};
-use krl::{Certificate, HeldSlots, Liveness, Monitor, Status, TlsConfig, Wait};
+use krl::{Certificate, HeldSlots, Identity, Liveness, Monitor, Status, TlsConfig, Wait};
 use serde_json::json;
 use std::collections::BTreeMap;
 use std::error::Error;
@@ -52,13 +53,13 @@ impl Page {
 }
 
 /// The status of the server whose status port this is.
-pub fn fetch(port: &StatusPort, json: bool) -> Result<String, Box<dyn Error>> {
-    let kind = if json { JSON } else { TEXT };
-    let reply = http::get(port, "/status", kind, WAIT)?;
-    if reply.status == StatusCode::OK {
-        return Ok(reply.text);
+pub fn fetch(port: &StatusPort, format: FormatOptions) -> Result<String, Box<dyn Error>> {
+    let reply = http::get(port, "/status", format.kind(), WAIT)?;
+    match reply.status {
+        StatusCode::OK => Ok(reply.text),
+        StatusCode::FORBIDDEN => Err(format!("{port} refuses: {}", reply.text.trim_end()).into()),
+        status => Err(format!("{port} is no status port of krl: it answered {status}").into()),
     }
-    Err(format!("{port} is no status port of krl: it answered {}", reply.status).into())
 }
 
 /// What is shown at the status port.
@@ -114,6 +115,13 @@ pub async fn answer(
         _ => return refused_method("GET, HEAD"),
     };
     response(page)
+}
+
+/// What is answered to one who has shown a certificate, and not an operator's.
+pub fn refused(peer: Identity) -> Response<Body> {
+    let text =
+        format!("this port is for operators only, and this certificate is of the client {peer}\n");
+    response(Page::text(StatusCode::FORBIDDEN, text))
 }
 
 fn accepts(request: &Request<Body>) -> &str {
@@ -261,7 +269,7 @@ pub fn wait_as_json(wait: &Wait) -> serde_json::Value {
     json!({
         "client": wait.client,
         "point": wait.point,
-        "hi": wait.hi,
+        "hi": locks::end_as_json(wait.hi),
         "mode": wait.mode,
         "waited_seconds": wait.waited.as_secs_f64(),
         "waits_for": wait.waits_for,

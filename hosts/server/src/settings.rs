@@ -191,6 +191,7 @@ impl Settings {
     /// Refuses what is told to be dangerous and was not allowed.
     fn check(&self) -> Result<(), BadSetting> {
         self.access.check(key::LISTEN.name, &self.listen.value)?;
+        self.access.check_users(&self.listen.value)?;
         match &self.status.value {
             StatusAddress::At(address) => self.access.check(key::STATUS.name, address),
             StatusAddress::Off => Ok(()),

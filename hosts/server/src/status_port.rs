@@ -2,12 +2,12 @@
 use crate::backup;
 use crate::pages::{self, Asker, Shown};
 use crate::role::Role;
-use crate::sealed;
+use crate::sealed::{self, Opened, Sealed};
 use crate::visitors::{Visit, Visitors};
 use hyper::server::conn::Http;
 use hyper::service::service_fn;
 use hyper::{Body, Request};
-use krl::{Address, Listener, Seldom, TlsConfig, TlsSession};
+use krl::{Address, Identity, Listener, Seldom, TlsConfig, TlsSession};
 use std::convert::Infallible;
 use std::io::{self, ErrorKind};
 use std::net::{SocketAddr, TcpListener};
@@ -31,6 +31,9 @@ const HANDSHAKE: Duration = Duration::from_secs(5);
 
 /// How long a connection may take from its request on, unless its order is carried out.
 const WHOLE: Duration = Duration::from_secs(90);
+
+/// How long the last bytes of an answer by TLS may take to leave.
+const LAST_WRITES: Duration = Duration::from_secs(5);
 
 /// How long to wait before the next try when the system has no room for another connection.
 const PAUSE: Duration = Duration::from_millis(50);
@@ -125,18 +128,47 @@ async fn answer_operator(
     let Ok(session) = TlsSession::accept(tls) else { return };
     let address = guest.peer;
     let why = match timeout(HANDSHAKE, sealed::open(stream, session)).await {
-        Ok(Ok((plain, peer))) if peer.is_operator() => {
+        Ok(Ok(Opened { plain, peer, sealed })) => {
+            if !peer.is_operator() {
+                tell_refused(address, &format!("{peer} is no operator"), refused);
+                return carry(sealed, refuse(plain, peer)).await;
+            }
             guest.visit.take_place();
-            return answer(plain, Guest { asker: Asker::Operator, ..guest }).await;
+            return carry(sealed, answer(plain, Guest { asker: Asker::Operator, ..guest })).await;
         }
-        Ok(Ok((_, peer))) => format!("{peer} is no operator"),
         Ok(Err(error)) => error.to_string(),
         Err(_) => return,
     };
+    tell_refused(address, &why, refused);
+}
+
+/// Tells the log who was refused, now and then.
+fn tell_refused(address: SocketAddr, why: &str, refused: &Mutex<Seldom>) {
     let told = refused.lock().unwrap_or_else(PoisonError::into_inner).lets(Instant::now());
     if let Some(passed_over) = told {
         tracing::warn!(peer = %address, %why, passed_over, "the status port refused a connection");
     }
+}
+
+/// Carries what is answered at the plain end, and then the last of it, if the peer takes that in
+/// time.
+async fn carry(sealed: Sealed, answers: impl Future<Output = ()>) {
+    let mut carries = pin!(sealed.carry());
+    tokio::select! {
+        // A connection that is lost fails the answer.
+        _ = &mut carries => {}
+        () = answers => {
+            let _ = timeout(LAST_WRITES, carries).await;
+        }
+    }
+}
+
+/// Answers who has shown a certificate, and not an operator's, that it is refused.
+async fn refuse(stream: impl AsyncRead + AsyncWrite + Unpin + Send + 'static, peer: Identity) {
+    let answer = service_fn(|_| async move { Ok::<_, Infallible>(pages::refused(peer)) });
+    let mut http = Http::new();
+    http.http1_only(true).http1_keep_alive(false).max_buf_size(MAX_HEAD);
+    let _ = timeout(HEAD, http.serve_connection(stream, answer)).await;
 }
 
 async fn answer(stream: impl AsyncRead + AsyncWrite + Unpin + Send + 'static, guest: Guest) {

@@ -36,6 +36,20 @@ fn defaults() {
 }
 
 #[test]
+fn help_fits_into_a_page_and_has_each_exit_status() {
+    for words in [&["--help"][..], &["serve", "--help"], &["status", "-h"]] {
+        let help = text(&run(words));
+        // Wrapped at 100, and an [env: ..] may pass that.
+        let widest = help.lines().map(|line| line.chars().count()).max();
+        assert!(widest.is_some_and(|widest| widest <= 110), "{words:?}: {widest:?}");
+    }
+    let help = text(&run(&["--help"]));
+    for status in 0..=3 {
+        assert!(help.contains(&format!("\n  {status}  ")), "{status}: {help}");
+    }
+}
+
+#[test]
 fn a_flag_comes_before_the_environment_and_that_before_the_file() {
     let folder = tempfile::tempdir().unwrap();
     let path = file(

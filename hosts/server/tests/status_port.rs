@@ -157,3 +157,18 @@ fn a_web_page_of_another_site_reads_and_orders_nothing() {
     assert_eq!(orders(at, ""), 201);
     assert!(copy.exists());
 }
+
+#[test]
+fn the_port_of_clients_is_no_status_port_and_the_status_port_is_taken_from_the_environment() {
+    let folder = tempfile::tempdir().unwrap();
+    let serving = serve(&folder);
+    let output = run(&["status", &serving.address.to_string()]);
+    assert_eq!(output.status.code(), Some(1));
+    assert!(errors(&output).contains("is it the port of clients"), "{}", errors(&output));
+    for words in [&["status", "--json"][..], &["health"], &["locks", "--json"]] {
+        let output = program().args(words).env("KRL_STATUS", &serving.status).output().unwrap();
+        assert_eq!(output.status.code(), Some(0), "{words:?}: {}", errors(&output));
+        let printed = String::from_utf8(output.stdout).unwrap();
+        assert_eq!(printed.starts_with('{'), words.len() > 1, "{words:?}: {printed}");
+    }
+}

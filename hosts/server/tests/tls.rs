@@ -7,7 +7,7 @@ use std::fs::File;
 use std::io::{Read, Write};
 use std::net::TcpStream;
 use std::path::{Path, PathBuf};
-use std::process::{Child, Command, ExitStatus, Output};
+use std::process::{Child, Command, ExitStatus, Output, Stdio};
 use std::thread;
 use std::time::{Duration, Instant};
 
@@ -128,8 +128,12 @@ fn operators_alone_see_the_status_and_order_backups() {
     let backup = setup.file("backup.db");
     let ordered = setup.run_as("operator", &["backup", at, backup.to_str().unwrap()]);
     assert!(ordered.status.success() && backup.exists(), "{}", errors(&ordered));
-    let refused = setup.run_as("client-3", &["status", at]);
-    assert_eq!(refused.status.code(), Some(1), "{}", errors(&refused));
+    for words in [&["status", at][..], &["locks", "--status", at], &["backup", at, "no.db"]] {
+        let refused = setup.run_as("client-3", words);
+        assert_eq!(refused.status.code(), Some(1), "{}", errors(&refused));
+        let told = "for operators only, and this certificate is of the client 3";
+        assert!(errors(&refused).contains(told), "{words:?}: {}", errors(&refused));
+    }
     let refused = run(&["status", at]);
     assert_eq!(refused.status.code(), Some(2));
     assert!(errors(&refused).contains("needs --tls-authority"), "{}", errors(&refused));
@@ -285,7 +289,7 @@ fn a_hangup_keeps_a_good_certificate_and_refuses_a_bad_one() {
         setup.show_as_server(holder);
         serving.signal(&["HUP"]);
         until("the reload is refused", || {
-            serving.sample("krl_certificate_reloads_refused_total") == refused
+            serving.sample("krl_certificate_reloads_refused_total") >= refused
         });
     }
     drop(setup.join(&serving, 2).expect("the good one stays"));
@@ -307,7 +311,12 @@ fn a_certificate_that_is_refused_is_logged_with_its_subject() {
     let setup = Setup::new(&["server"]);
     setup.certify_for("-1", &["client-3"]);
     let serving = setup.serve_with(&["--status", "127.0.0.1:0"]);
-    assert!(setup.join(&serving, 3).is_err());
+    let file = |name: &str| setup.file(name).into_os_string();
+    let mut shakes = Command::new("openssl");
+    shakes.args(["s_client", "-connect", &serving.address.to_string()["tls:".len()..], "-cert"]);
+    shakes.arg(file("client-3.crt")).arg("-key").arg(file("client-3.key"));
+    // It is refused, before or after it has ended its side.
+    drop(shakes.stdin(Stdio::null()).output().unwrap());
     let failed = "krl_connections_closed_total{reason=\"handshake_failed\"}";
     until("it is counted", || serving.sample(failed) > 0.0);
     serving.signal(&["TERM"]);
@@ -353,9 +362,11 @@ fn what_is_dangerous_or_half_said_is_refused() {
     assert!(errors(&run(&half)).contains("TLS needs all of"), "{}", errors(&run(&half)));
     let users = ["--users", "1001=3,4 1002=operator", "--plain-beyond-loopback"];
     let words = [&["config", "--listen", "plain:10.0.0.5:7400"][..], &users].concat();
+    refused(&words, "users counts only if listen is an address that begins with unix:");
+    let words = [&["config", "--listen", "unix:/run/krl/krl.sock"][..], &users].concat();
     let printed = text(&run(&words));
     for line in [
-        "listen = \"plain:10.0.0.5:7400\" # from the flag --listen",
+        "listen = \"unix:/run/krl/krl.sock\" # from the flag --listen",
         "users = \"1001=3,4 1002=operator\" # from the flag --users",
         "plain-beyond-loopback = \"yes\" # from the flag --plain-beyond-loopback",
     ] {

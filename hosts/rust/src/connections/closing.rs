@@ -132,6 +132,7 @@ impl Closings {
 }
 
 /// A connection, as the log names it.
+#[cfg_attr(not(feature = "tracing"), allow(dead_code, reason = "only the log reads it"))]
 #[derive(Clone, Copy, Debug)]
 pub(crate) struct At {
     pub connection: u64,
@@ -167,7 +168,7 @@ mod tests {
             assert_eq!(reason as usize, place);
             counts.count(reason);
         }
-        let mut words: Vec<_> = counts.counts().map(|(word, count)| (word, count)).collect();
+        let mut words: Vec<_> = counts.counts().collect();
         assert!(words.iter().all(|(_, count)| *count == 1));
         words.sort_unstable();
         words.dedup();

@@ -16,9 +16,4 @@ impl Connections {
             self.line_up(number);
         }
     }
-
-    /// Closes a connection that begins a frame which is longer than it may be.
-    pub fn break_off(&mut self, number: u64) {
-        self.close(number, CloseReason::FrameTooLong);
-    }
 }

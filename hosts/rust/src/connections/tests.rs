@@ -115,10 +115,10 @@ fn a_frame_longer_than_a_read_is_heard() {
 #[test]
 fn a_client_has_one_long_frame_on_its_way() {
     let (mut connections, at, _) = connections();
-    let begun = [&(1u64 << 20).to_le_bytes()[..], &[1; 100]].concat();
+    let half = [&(1u64 << 20).to_le_bytes()[..], &[1; 100]].concat();
     let begin = |connections: &mut Connections| {
         let (mut stream, number) = peer(connections, at);
-        stream.write_all(&begun).unwrap();
+        stream.write_all(&half).unwrap();
         loop {
             match connections.turn() {
                 Turn::Long(found, head) => {

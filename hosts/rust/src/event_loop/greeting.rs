@@ -19,8 +19,12 @@ impl<S: Store> EventLoop<S> {
             self.connections.greet(connection, FromServer::Hello { answers_signs: true });
             return Ok(());
         };
-        // A server behind which another one has started lacks it too, and ends here.
-        self.store.commit(&[])?;
+        // A server behind which another one has started lacks it too, and ends here. The store is
+        // asked once in a turn, however many say so.
+        if !self.has_asked_store {
+            self.store.commit(&[])?;
+            self.has_asked_store = true;
+        }
         self.status.store_alarms += 1;
         self.log.store_alarm(&self.connections.at(connection), lacked);
         let identity = self.connections.identity(connection);

@@ -3,6 +3,7 @@ use crate::access::Access;
 use crate::address::Address;
 use crate::boot_clock::Moment;
 use crate::change::Snapshot;
+use crate::history::Mark;
 use crate::lease::Older;
 use crate::lease_record::LeaseRecord;
 use crate::leases::{Answer, Leases};
@@ -91,6 +92,23 @@ fn nothing_leaves_before_the_commit() {
     }
     assert_eq!(heard.lock().unwrap()[..], [0]);
     assert!(peer.read(&mut [0; 64]).unwrap() > 0, "it leaves in the same turn");
+}
+
+#[test]
+fn a_turn_asks_the_store_once_for_all_who_have_seen_another_one() {
+    let (mut events, peer, heard) = event_loop();
+    let at = peer.peer_addr().unwrap();
+    let others = (0..2).map(|_| TcpStream::connect(at).unwrap());
+    let mut peers: Vec<TcpStream> = others.chain([peer]).collect();
+    let hello = FromClient::Hello(Some(Mark { start: 7, commits: 1 })).frame();
+    for peer in &mut peers {
+        peer.write_all(&hello).unwrap();
+    }
+    while events.status.store_alarms < 3 {
+        assert!(events.turn().unwrap());
+    }
+    // It may have been asked once more, as it is each second.
+    assert!((1..=2).contains(&heard.lock().unwrap().len()));
 }
 
 #[test]

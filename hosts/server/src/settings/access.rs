@@ -82,6 +82,18 @@ impl AccessSettings {
         )))
     }
 
+    /// Refuses users that no address lets in: the system tells them over a Unix socket only.
+    pub(super) fn check_users(&self, listen: &Address) -> Result<(), BadSetting> {
+        if self.users.value.0.is_none() || matches!(listen, Address::Unix(_)) {
+            return Ok(());
+        }
+        Err(BadSetting::new(format!(
+            "{} counts only if {} is an address that begins with unix:, and it is '{listen}'",
+            key::USERS.name,
+            key::LISTEN.name
+        )))
+    }
+
     /// What the server shows by TLS, if it shows anything. Clients have to believe it now.
     pub fn tls(&self) -> Result<Option<TlsConfig>, BadSetting> {
         let file = |setting: &Setting<Optional<PathBuf>>| setting.value.0.clone();
