@@ -284,11 +284,12 @@ mod tests {
     use crate::cluster::Cluster;
     use std::sync::atomic::{AtomicBool, AtomicU32, Ordering};
 
-    const LEASE: Duration = Duration::from_secs(2);
+    /// Each call of the cluster has so long.
+    const LEASE: Duration = Duration::from_secs(30);
     const LONG: Duration = Duration::from_secs(60);
 
-    fn election(address: &EtcdAddress, advertised: &str) -> Election {
-        Election::new(address.clone(), Credentials::default(), advertised, LEASE).unwrap()
+    fn election(address: &EtcdAddress, lease: Duration) -> Election {
+        Election::new(address.clone(), Credentials::default(), "other", lease).unwrap()
     }
 
     /// Does this in the cluster.
@@ -320,14 +321,15 @@ mod tests {
         let address = cluster.address("idle");
         occupy(&cluster, &address);
         let (looks, goes_on) = (AtomicU32::new(0), AtomicBool::new(true));
+        let begun = Instant::now();
         thread::scope(|scope| {
             let other = scope.spawn(|| {
-                election(&address, "other").campaign(|standing| {
+                election(&address, LEASE).campaign(|standing| {
                     looks.fetch_add(
                         u32::from(standing == Standing::StandsBy("one")),
                         Ordering::SeqCst,
                     );
-                    goes_on.load(Ordering::SeqCst)
+                    goes_on.load(Ordering::SeqCst) && begun.elapsed() < 3 * LONG
                 })
             });
             wait_until(|| looks.load(Ordering::SeqCst) > 0);
@@ -346,16 +348,17 @@ mod tests {
         let address = cluster.address("hangs");
         occupy(&cluster, &address);
         let (looks, unanswered) = (AtomicU32::new(0), AtomicU32::new(0));
+        let begun = Instant::now();
         thread::scope(|scope| {
             let other = scope.spawn(|| {
-                election(&address, "other").campaign(|standing| {
+                election(&address, SHORTEST).campaign(|standing| {
                     looks.fetch_add(
                         u32::from(standing == Standing::StandsBy("one")),
                         Ordering::SeqCst,
                     );
                     let is_unanswered = matches!(standing, Standing::Unanswered(_));
                     unanswered.fetch_add(u32::from(is_unanswered), Ordering::SeqCst);
-                    true
+                    begun.elapsed() < 3 * LONG
                 })
             });
             wait_until(|| looks.load(Ordering::SeqCst) > 0);
@@ -373,7 +376,7 @@ mod tests {
     #[test]
     fn a_lease_that_the_cluster_has_lost_is_asked_for_again() {
         let Some(cluster) = Cluster::start() else { return };
-        let election = election(&cluster.address("lost"), "one");
+        let election = election(&cluster.address("lost"), LEASE);
         let mut etcd = Etcd::new(&election.address, &election.credentials).unwrap();
         let lost = || Lease { id: "4711".to_string(), alive: Instant::now() };
         let mut kept = Some(lost());
@@ -387,7 +390,7 @@ mod tests {
     #[test]
     fn a_place_that_was_taken_by_an_attempt_without_an_answer_is_ones_own() {
         let Some(cluster) = Cluster::start() else { return };
-        let election = election(&cluster.address("own"), "one");
+        let election = election(&cluster.address("own"), LEASE);
         let mut etcd = Etcd::new(&election.address, &election.credentials).unwrap();
         let lease = election.try_once(&mut etcd, &mut None, &mut |_| true).unwrap().unwrap();
         let mut kept = Some(Lease { id: lease.id.clone(), alive: lease.alive });

@@ -298,7 +298,7 @@ impl EtcdStore {
         while self.table.buckets.count() < wanted {
             let (from, number) = (self.table.buckets.splits_next(), self.table.buckets.count());
             let bytes = self.table.buckets.get(from).map_or(0, bucket::length);
-            if !part.has_room_for(KEYS_OF_A_CHANGE, bytes) {
+            if !part.is_empty() && !part.has_room_for(KEYS_OF_A_CHANGE, bytes) {
                 break;
             }
             if self.table.buckets.add() {

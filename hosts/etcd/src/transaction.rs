@@ -80,6 +80,11 @@ impl Part {
         self.buckets.insert(number, bucket::length(rows));
     }
 
+    /// Whether it sets no bucket.
+    pub fn is_empty(&self) -> bool {
+        self.buckets.is_empty()
+    }
+
     /// The numbers of the buckets that it sets.
     pub fn buckets(&self) -> impl Iterator<Item = usize> {
         self.buckets.keys().copied()
