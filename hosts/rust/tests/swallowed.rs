@@ -84,9 +84,9 @@ fn a_client_leaves_a_connection_that_swallows_from_its_first_byte() {
 #[test]
 fn connections_that_end_before_anything_comes_cost_no_lease() {
     let world = World::new("ends", Some(2 * LONG));
-    world.relay.plan([Plan::End; 4]);
+    world.relay.plan([Plan::End; 2]);
     let client = world.join();
     assert!(client.lease_left().is_some_and(|left| left > Duration::ZERO));
-    assert_eq!(world.relay.count(), 5);
+    assert_eq!(world.relay.count(), 3);
     assert_eq!(world.server.status().connections, 1);
 }
