@@ -214,8 +214,8 @@ impl Connections {
         self.routes.close(number);
     }
 
-    /// Hears nothing more of the connection, for this reason, and closes it when all is written that
-    /// leaves with the next batch.
+    /// Hears nothing more of the connection, for this reason, and closes it when all is written
+    /// that leaves with the next batch.
     pub fn end(&mut self, number: u64, reason: CloseReason) {
         if let Some(peer) = self.in_sending(number) {
             peer.end(reason);

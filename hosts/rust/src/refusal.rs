@@ -157,9 +157,9 @@ impl fmt::Display for Refusal {
             }
             Refusal::FarAhead { client, latest } => write!(
                 f,
-                "the incarnation of client {client} is more than a day ahead of the server's clock, \
-                 which takes {latest} at most: set the clock of the machine that is wrong, and give \
-                 the client a new lock file if it was its own"
+                "the incarnation of client {client} is more than a day ahead of the server's \
+                 clock, which takes {latest} at most: set the clock of the machine that is wrong, \
+                 and give the client a new lock file if it was its own"
             ),
             Refusal::Missing(clients) => write!(
                 f,

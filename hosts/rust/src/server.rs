@@ -180,8 +180,8 @@ impl Server {
     }
 
     /// What it looks like now, or a few milliseconds ago. Who waits for whom, and what a client
-    /// holds, is as of 50 milliseconds ago at most, unless counting a large table takes longer. Of a
-    /// client that has left, or was evicted, nothing is shown.
+    /// holds, is as of 50 milliseconds ago at most, unless counting a large table takes longer. Of
+    /// a client that has left, or was evicted, nothing is shown.
     #[must_use]
     pub fn status(&self) -> Status {
         self.status.lock().unwrap_or_else(PoisonError::into_inner).clone()

@@ -187,8 +187,8 @@ fn certificate_as_metrics(certificate: &Certificate, now: SystemTime) -> String 
          negative once it has expired\n\
          # TYPE krl_certificate_expires_seconds gauge\n\
          krl_certificate_expires_seconds {left}\n\
-         # HELP krl_certificate_reloads_refused_total Times that SIGHUP found certificates that can't \
-         be used\n\
+         # HELP krl_certificate_reloads_refused_total How often SIGHUP found certificates that \
+         can't be used\n\
          # TYPE krl_certificate_reloads_refused_total counter\n\
          krl_certificate_reloads_refused_total {}\n",
         reload::refused()

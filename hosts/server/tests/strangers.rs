@@ -2,7 +2,7 @@
 mod common;
 
 use common::{Serving, join, program, until};
-use krl::{Outcome, Value};
+use krl::{Address, Outcome, Value};
 use std::io::{Read, Write};
 use std::net::TcpStream;
 use std::path::Path;
@@ -129,4 +129,27 @@ fn strangers_at_the_status_port_take_little_and_leave_it() {
     let left = held(&serving).saturating_sub(before);
     assert!(left < 8 * MIB, "{left} bytes are left of them");
     until("it answers", || serving.get("/healthz").0 == 200);
+}
+
+#[test]
+fn a_client_whose_report_is_long_is_served_after_a_restart() {
+    const ROWS: u64 = 500;
+    let folder = tempfile::tempdir().unwrap();
+    let store = folder.path().join("krl.db");
+    let at: Address = format!("unix:{}", folder.path().join("socket").display()).parse().unwrap();
+    let serving = Serving::start_at(&store, &at);
+    let client = serving.join(folder.path(), 3);
+    for key in 0..ROWS {
+        assert_eq!(client.insert(key, Value::from(key)), Ok(Outcome::Applied));
+    }
+    assert_eq!(client.read(0..ROWS).unwrap().len() as u64, ROWS);
+    serving.signal(&["KILL"]);
+    serving.ended();
+    let serving = Serving::start_at(&store, &at);
+    // It waits for the report, and then for what the client gives back.
+    let other = serving.join(folder.path(), 4);
+    assert_eq!(other.put(7, Value::from(8)), Ok(Outcome::Applied));
+    assert_eq!(client.read(7..8).unwrap()[0].value, Value::from(8));
+    let too_long = "krl_connections_closed_total{reason=\"frame_too_long\"}";
+    assert!(serving.sample(too_long) < 1.0);
 }

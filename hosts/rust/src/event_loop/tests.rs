@@ -239,6 +239,7 @@ fn the_greatest_incarnation_is_not_evicted_and_ends_no_server() {
     let hello = [&HELLO[8..18], &GREATEST.to_le_bytes()].concat();
     // An older server has registered it: this one would not.
     let registered = events.server.step(&hello).unwrap().unwrap();
+    events.server.confirm(&[registered]).unwrap();
     events.keep(registered, &mut Vec::new()).unwrap();
     peer.write_all(&sign_of(GREATEST)).unwrap();
     turns_until(&mut events, 1).unwrap();

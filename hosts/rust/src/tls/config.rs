@@ -87,8 +87,8 @@ impl TlsConfig {
     }
 
     /// For a server, whose certificate clients believe now: it is valid, and names a server of the
-    /// table. [`TlsConfig::for_table`] has to come before. From now on [`TlsConfig::reload`] refuses
-    /// any other certificate.
+    /// table. [`TlsConfig::for_table`] has to come before. From now on [`TlsConfig::reload`]
+    /// refuses any other certificate.
     ///
     /// # Errors
     ///
@@ -104,8 +104,8 @@ impl TlsConfig {
     ///
     /// # Errors
     ///
-    /// Those of [`TlsConfig::from_files`], and of [`TlsConfig::for_server`] if that was called: then
-    /// all stays as it was.
+    /// Those of [`TlsConfig::from_files`], and of [`TlsConfig::for_server`] if that was called:
+    /// then all stays as it was.
     pub fn reload(&self) -> Result<(), TlsError> {
         let loaded = self.shared.files.read()?;
         if self.is_of_server {
