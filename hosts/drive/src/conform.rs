@@ -3,7 +3,7 @@
 use crate::Found;
 use krl::{Address, Client, Outcome, Refused, Row, Value};
 use std::error::Error;
-use std::io::BufRead;
+use std::io::{BufRead, Write};
 use std::num::ParseIntError;
 use std::ops::Range;
 use std::time::Duration;
@@ -17,7 +17,7 @@ pub fn run(address: &str, number: &str, lock_file: &str, seconds: &str) -> Found
     let timeout = Duration::from_secs_f64(seconds.parse()?);
     let builder = Client::builder(address).number(number.parse()?).lock_file(lock_file);
     let client = builder.timeout(timeout).join()?;
-    println!("{{\"incarnation\": {}}}", client.incarnation());
+    print("{\"epoch\": null}");
     if answer_lines(&client)? {
         tell(client.leave().map(|()| "{}".into()));
     }
@@ -75,7 +75,12 @@ fn tell(told: Told) {
         let name = text.split('(').next().unwrap_or_default();
         format!("{{\"error\": \"{name}\"}}")
     });
-    println!("{line}");
+    print(&line);
+}
+
+/// Prints a line. A kit that has seen enough reads no more.
+fn print(line: &str) {
+    let _ = writeln!(std::io::stdout(), "{line}");
 }
 
 fn told(rows: Option<Vec<Row>>) -> String {
