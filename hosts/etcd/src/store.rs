@@ -29,7 +29,10 @@ const KEYS_OF_A_CHANGE: usize = 2;
 const PAGE_BYTES: usize = 1 << 20;
 const FEWEST_KEYS: usize = 64;
 
-/// How long a load goes on to ask, and how long a commit, by default.
+/// A load is tried so often, if what it reads is compacted away.
+const LOADS: u32 = 4;
+
+/// How long a load goes on to ask for one part, and how long a commit, by default.
 const LOAD_TIMEOUT: Duration = Duration::from_secs(30);
 const COMMIT_TIMEOUT: Duration = Duration::from_secs(5);
 
@@ -122,9 +125,9 @@ impl EtcdStore {
         format!("{}/{name}", self.prefix)
     }
 
-    fn load_once(&mut self, end: Instant) -> Result<Snapshot, Failure> {
-        transaction::probe(&mut self.etcd, &self.prefix, end)?;
-        let pairs = self.all_pairs(end)?;
+    fn load_once(&mut self) -> Result<Snapshot, Failure> {
+        transaction::probe(&mut self.etcd, &self.prefix, Instant::now() + self.load_timeout)?;
+        let pairs = self.all_pairs()?;
         let head = pairs.iter().find(|(name, _)| name == "head");
         let head = head.map(|(name, text)| parse_head(name, text)).transpose()?;
         let salt = head.map_or_else(draw_salt, |head| Ok(head.salt))?;
@@ -136,7 +139,7 @@ impl EtcdStore {
     }
 
     /// All that is stored, as it was at one moment: names behind the prefix, with their values.
-    fn all_pairs(&mut self, end: Instant) -> Result<Vec<(String, Vec<u8>)>, Failure> {
+    fn all_pairs(&mut self) -> Result<Vec<(String, Vec<u8>)>, Failure> {
         let folder = self.key("");
         // What begins with the folder comes before what begins with the byte behind the slash.
         let last = format!("{}0", self.prefix);
@@ -144,7 +147,7 @@ impl EtcdStore {
         let mut limit = FEWEST_KEYS;
         loop {
             let asked = request::range(&from, last.as_bytes(), limit, revision);
-            let page = self.etcd.call("kv/range", &asked, end)?;
+            let page = self.etcd.call("kv/range", &asked, Instant::now() + self.load_timeout)?;
             if revision == 0 {
                 revision = request::number_of(&page["header"]["revision"]);
             }
@@ -283,11 +286,11 @@ impl EtcdStore {
 
     /// Adds buckets until there are as many as the room wants. Each part of them is a transaction,
     /// which sets their number with their rows. If a server ends meanwhile, the next one goes on.
-    fn grow(&mut self, end: Instant) -> Result<(), StoreError> {
+    fn grow(&mut self) -> Result<(), StoreError> {
         let wanted = bucket::count_for(self.table.room.unwrap_or_default());
         while self.next.buckets < wanted {
             let part = self.add_buckets(wanted);
-            self.send(&part, end)?;
+            self.send(&part, Instant::now() + self.load_timeout)?;
         }
         Ok(())
     }
@@ -320,19 +323,20 @@ impl Store for EtcdStore {
             Some(ended) => return Err(ended.error()),
             None => return Err(StoreError::says("the store has been loaded already")),
         }
-        let end = Instant::now() + self.load_timeout;
-        loop {
-            match self.load_once(end) {
+        for _ in 1..LOADS {
+            match self.load_once() {
+                // The revision that was read was compacted away meanwhile.
+                Err(Failure::Refused(why)) if why.contains("compacted") => {}
+                Err(failure) => return Err(failure.into()),
                 Ok(snapshot) => {
                     self.ended = None;
                     return Ok(snapshot);
                 }
-                // The revision that was read was compacted away meanwhile.
-                Err(Failure::Refused(why)) if why.contains("compacted") && Instant::now() < end => {
-                }
-                Err(failure) => return Err(failure.into()),
             }
         }
+        let snapshot = self.load_once()?;
+        self.ended = None;
+        Ok(snapshot)
     }
 
     /// Each transaction sets 120 keys and 1 MiB at most. If the changes set more, they are committed
@@ -358,7 +362,7 @@ impl Store for EtcdStore {
         // A store of the first form stays as it is until its room is raised.
         let is_raised = changes.iter().any(|change| matches!(change, Change::Room(_)));
         if is_raised || self.next.buckets > bucket::FEWEST {
-            self.grow(Instant::now() + self.load_timeout)?;
+            self.grow()?;
         }
         Ok(())
     }

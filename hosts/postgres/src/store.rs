@@ -12,7 +12,7 @@ use std::time::{Duration, Instant};
 use tokio_postgres::Row;
 
 /// How long a load goes on to ask, how long a commit by default, and how long what makes a store.
-const LOAD_TIMEOUT: Duration = Duration::from_secs(30);
+const LOAD_TIMEOUT: Duration = Duration::from_secs(60);
 const COMMIT_TIMEOUT: Duration = Duration::from_secs(5);
 const CREATE_TIMEOUT: Duration = Duration::from_secs(120);
 
