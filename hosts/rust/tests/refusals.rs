@@ -136,7 +136,7 @@ fn an_operator_evicts_a_client_whose_clock_was_ahead() {
     let mut store = MemoryStore::default();
     let registered = 1 << 62;
     store.snapshot.apply(&Change::Registered { client: 3, incarnation: registered });
-    let (server, lock) = (server(store), lock_file("ahead"));
+    let (server, lock) = (server(store), lock_file("evicted"));
     evict(server.address().clone(), 3, &lock).unwrap();
     assert_eq!(incarnation(&lock), registered + 1);
     std::fs::remove_file(lock).unwrap();
