@@ -88,6 +88,7 @@ class Reason(IntEnum):
     FULL = 3
     MISSING = 4
     OTHER_SHARD = 7
+    FAR_AHEAD = 8
 
 
 @dataclass(frozen=True)
@@ -127,6 +128,12 @@ class Refusal:
             return (
                 f"the server serves the keys from {self.first} on below {self.second} alone, and "
                 "this client is one of all keys"
+            )
+        if self.reason is Reason.FAR_AHEAD:
+            return (
+                f"incarnation {self.second} is the greatest that the server registers now for "
+                f"client {self.first}: this machine's clock is more than a day ahead of the "
+                "server's, or the lock file was written under such a clock"
             )
         if self.reason is Reason.FULL:
             return f"the server has all its connections, which are {self.first}"

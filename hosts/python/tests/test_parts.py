@@ -53,6 +53,7 @@ class HostFramesTest(unittest.TestCase):
         refused = bytes([0, 17, 2, 3, 0, 0, 0, 0, 0, 0, 0, 2, 1, 0, 0, 0, 0, 0, 0])
         self.assertEqual(read(refused), Refusal(Reason.INCARNATION, 3, 258))
         self.assertEqual(read(refused + b"more"), Refusal(Reason.INCARNATION, 3, 258))
+        self.assertIn("client 3: this machine's clock", str(Refusal(Reason.FAR_AHEAD, 3, 258)))
         mark = Mark(range(24))
         self.assertEqual(read(b"\0\x12" + mark + b"more"), mark)
         self.assertEqual(read(b"\0\x10"), Kind.HELLO)
