@@ -33,12 +33,22 @@ const TIMEOUT: Duration = Duration::from_millis(200);
 /// seconds.
 const LONGEST_WAIT: Duration = Duration::from_secs(60);
 
+/// The page size of new stores, in bytes. A commit writes each page that it changes whole, and a
+/// write changes two: one of rows and one of records. SQLite's own 4,096 bytes take a commit a tenth
+/// longer, and 512 save next to nothing more.
+const PAGE_SIZE: i64 = 1024;
+
+/// How long the log may grow, in bytes, before its pages are copied into the file: as long as with
+/// SQLite's own page size and limit.
+const LOG: i64 = 1000 * 4096;
+
 const TABLES: &str = "
     CREATE TABLE IF NOT EXISTS epoch (id INTEGER PRIMARY KEY CHECK (id = 0), epoch INTEGER NOT NULL);
     CREATE TABLE IF NOT EXISTS entry (key INTEGER PRIMARY KEY, value BLOB NOT NULL);
     CREATE TABLE IF NOT EXISTS record (
         place INTEGER PRIMARY KEY, client INTEGER NOT NULL UNIQUE, incarnation INTEGER NOT NULL,
-        last INTEGER NOT NULL, outcome INTEGER NOT NULL, has_left INTEGER NOT NULL);
+        last INTEGER NOT NULL, outcome INTEGER NOT NULL, has_left INTEGER NOT NULL,
+        commits INTEGER NOT NULL DEFAULT 0);
     CREATE TABLE IF NOT EXISTS start (
         place INTEGER PRIMARY KEY, bits BLOB NOT NULL UNIQUE, commits INTEGER NOT NULL);
     CREATE TABLE IF NOT EXISTS lease (
@@ -51,17 +61,12 @@ const TABLES: &str = "
 const EPOCH: &str = "UPDATE epoch SET epoch = ?1 WHERE id = 0";
 
 // A record that is there keeps its place: the records are in order of first registration.
-const REGISTER: &str =
-    "INSERT INTO record (client, incarnation, last, outcome, has_left) VALUES (?1, ?2, 0, 0, 0)
-    ON CONFLICT (client) DO UPDATE SET incarnation = ?2, last = 0, outcome = 0, has_left = 0";
-const LEAVE: &str = "UPDATE record SET has_left = 1 WHERE client = ?1";
-const JUDGE: &str = "UPDATE record SET last = ?2, outcome = ?3 WHERE client = ?1";
-
-const START: &str = "INSERT INTO start (bits, commits) VALUES (randomblob(16), 0)";
-const COUNT: &str =
-    "UPDATE start SET commits = commits + 1 WHERE place = (SELECT max(place) FROM start)";
-
-const LAST: &str = "SELECT bits, commits FROM start ORDER BY place DESC LIMIT 1";
+const REGISTER: &str = "INSERT INTO record (client, incarnation, last, outcome, has_left, commits)
+    VALUES (?1, ?2, 0, 0, 0, ?3)
+    ON CONFLICT (client) DO UPDATE
+    SET incarnation = ?2, last = 0, outcome = 0, has_left = 0, commits = ?3";
+const LEAVE: &str = "UPDATE record SET has_left = 1, commits = ?2 WHERE client = ?1";
+const JUDGE: &str = "UPDATE record SET last = ?2, outcome = ?3, commits = ?4 WHERE client = ?1";
 
 // `unleased` has the bit of value 2^n for client n, as a number with a sign.
 const LEASE: &str = "UPDATE lease SET longest = ?1, unleased = ?2 WHERE id = 0";
@@ -99,7 +104,7 @@ impl SqliteStore {
         let (last, transaction) = (self.last, self.begin()?);
         is_own(&transaction, last)?;
         run(&transaction, DELETE_FROM, params![signed(key)?])?;
-        self.last = finish(transaction)?;
+        self.last = finish(transaction, last, &[])?;
         Ok(())
     }
 
@@ -118,24 +123,43 @@ impl SqliteStore {
         if found == Found::Bare && !had_log {
             return Err(StoreError::says(sqlite_version::BARE));
         }
+        if found == Found::New {
+            set_page_size(&connection)?;
+        }
         let mode: String =
             connection.query_row("PRAGMA journal_mode = WAL", [], |row| row.get(0))?;
         if mode != "wal" {
             return Err(StoreError::says("SQLite gives no WAL mode for this file"));
         }
         connection.pragma_update(None, "synchronous", "FULL")?;
+        limit_log(&connection)?;
         if found != Found::Current {
             prepare(&connection)?;
         }
-        let last = last_mark(&connection)?;
+        let last = progress::last_mark(&connection)?;
         Ok(SqliteStore { connection, last })
     }
+}
+
+/// Gives a file that has nothing yet the page size of a new store.
+pub(crate) fn set_page_size(connection: &Connection) -> Result<(), StoreError> {
+    Ok(connection.pragma_update(None, "page_size", PAGE_SIZE)?)
+}
+
+/// The page size of the file, in bytes.
+pub(crate) fn page_size(connection: &Connection) -> Result<i64, StoreError> {
+    Ok(connection.query_row("PRAGMA page_size", [], |row| row.get(0))?)
+}
+
+fn limit_log(connection: &Connection) -> Result<(), StoreError> {
+    let pages = LOG / page_size(connection)?;
+    Ok(connection.query_row(&format!("PRAGMA wal_autocheckpoint = {pages}"), [], |_| Ok(()))?)
 }
 
 impl Store for SqliteStore {
     fn load(&mut self) -> Result<Snapshot, StoreError> {
         let transaction = self.connection.transaction()?;
-        self.last = last_mark(&transaction)?;
+        self.last = progress::last_mark(&transaction)?;
         load(&transaction)
     }
 
@@ -145,11 +169,8 @@ impl Store for SqliteStore {
         if changes.is_empty() {
             return Ok(());
         }
-        changes.iter().try_for_each(|change| commit_one(&transaction, change))?;
-        if changes.iter().any(|change| matches!(change, Change::Started { .. })) {
-            run(&transaction, START, &[])?;
-        }
-        self.last = finish(transaction)?;
+        progress::begin(&transaction, last, changes)?;
+        self.last = finish(transaction, last, changes)?;
         Ok(())
     }
 
@@ -158,13 +179,7 @@ impl Store for SqliteStore {
     }
 
     fn history(&mut self) -> Result<Option<History>, StoreError> {
-        let mut starts =
-            self.connection.prepare("SELECT bits, commits FROM start ORDER BY place")?;
-        let (mut rows, mut marks) = (starts.query([])?, Vec::new());
-        while let Some(row) = rows.next()? {
-            marks.push(mark_of(row)?);
-        }
-        Ok(History::new(marks))
+        progress::history(&self.connection)
     }
 
     fn longest_wait(&self) -> Duration {
@@ -172,37 +187,33 @@ impl Store for SqliteStore {
     }
 }
 
-/// Counts the batch, commits it, and says how far the store has come by it.
-fn finish(transaction: Transaction<'_>) -> Result<Option<Mark>, StoreError> {
-    run(&transaction, COUNT, &[])?;
-    let last = last_mark(&transaction)?;
+/// Commits the changes as one batch, and answers how far the store has come by it.
+fn finish(
+    transaction: Transaction<'_>,
+    last: Option<Mark>,
+    changes: &[Change],
+) -> Result<Option<Mark>, StoreError> {
+    let number = progress::next_number(last, changes);
+    let batch = signed(number)?;
+    changes.iter().try_for_each(|change| commit_one(&transaction, change, batch))?;
+    let last = progress::finish(&transaction, last, changes, number)?;
     transaction.commit()?;
     Ok(last)
 }
 
 /// Refuses what rests on another state of the store than this one.
 fn is_own(transaction: &Transaction<'_>, last: Option<Mark>) -> Result<(), StoreError> {
-    match last_mark(transaction)? {
+    match progress::last_mark(transaction)? {
         found if found == last => Ok(()),
         found => Err(StoreError::Deposed(format!("{found:?}, and not {last:?}"))),
     }
-}
-
-/// How far the store has come, unless no server has started on it.
-fn last_mark(connection: &Connection) -> Result<Option<Mark>, StoreError> {
-    let mut last = connection.prepare_cached(LAST)?;
-    let mut rows = last.query([])?;
-    rows.next()?.map(mark_of).transpose()
-}
-
-fn mark_of(row: &SqlRow<'_>) -> Result<Mark, StoreError> {
-    Ok(Mark { start: u128::from_le_bytes(row.get(0)?), commits: positive(row.get(1)?)? })
 }
 
 /// Gives the file the tables of a store, and the marks of this version, all or none.
 pub(crate) fn prepare(connection: &Connection) -> Result<(), StoreError> {
     let transaction = connection.unchecked_transaction()?;
     transaction.execute_batch(TABLES)?;
+    progress::add_commits(&transaction)?;
     sqlite_version::mark(&transaction)?;
     Ok(transaction.commit()?)
 }
@@ -263,38 +274,49 @@ fn lease_record(connection: &Connection) -> Result<LeaseRecord, StoreError> {
 /// Gives a file that has the tables of a store and no more all of the snapshot.
 pub(crate) fn save(connection: &mut Connection, snapshot: &Snapshot) -> Result<(), StoreError> {
     let transaction = connection.transaction()?;
-    commit_one(&transaction, &Change::Started { epoch: snapshot.epoch })?;
+    let keep = |change: &Change| commit_one(&transaction, change, NOT_COUNTED);
+    keep(&Change::Started { epoch: snapshot.epoch })?;
     for (key, value) in &snapshot.rows {
         commit_write(&transaction, &Write::Insert(Row { key: *key, value: *value }))?;
     }
     for record in &snapshot.records {
         save_record(&transaction, record)?;
     }
-    commit_one(&transaction, &Change::Leased(snapshot.leases))?;
+    keep(&Change::Leased(snapshot.leases))?;
     if let Some(room) = snapshot.room {
-        commit_one(&transaction, &Change::Room(room))?;
+        keep(&Change::Room(room))?;
     }
     Ok(transaction.commit()?)
 }
 
+/// What is written before a server has started is of no batch.
+const NOT_COUNTED: i64 = 0;
+
 fn save_record(transaction: &Transaction<'_>, record: &Record) -> Result<(), StoreError> {
     let Record { client, incarnation, last, left } = *record;
-    run(transaction, REGISTER, params![client, signed(incarnation)?])?;
+    run(transaction, REGISTER, params![client, signed(incarnation)?, NOT_COUNTED])?;
     if let Some((number, outcome)) = last {
-        run(transaction, JUDGE, params![client, signed(number)?, outcome.tag()])?;
+        let judged = params![client, signed(number)?, outcome.tag(), NOT_COUNTED];
+        run(transaction, JUDGE, judged)?;
     }
-    if left { run(transaction, LEAVE, params![client]) } else { Ok(()) }
+    if left { run(transaction, LEAVE, params![client, NOT_COUNTED]) } else { Ok(()) }
 }
 
-fn commit_one(transaction: &Transaction<'_>, change: &Change) -> Result<(), StoreError> {
+/// Makes one change of the batch of this number.
+fn commit_one(
+    transaction: &Transaction<'_>,
+    change: &Change,
+    batch: i64,
+) -> Result<(), StoreError> {
     match change {
         Change::Started { epoch } => run(transaction, EPOCH, params![signed(*epoch)?]),
         Change::Registered { client, incarnation } => {
-            run(transaction, REGISTER, params![client, signed(*incarnation)?])
+            run(transaction, REGISTER, params![client, signed(*incarnation)?, batch])
         }
-        Change::Left { client } => run(transaction, LEAVE, params![client]),
+        Change::Left { client } => run(transaction, LEAVE, params![client, batch]),
         Change::Judged { client, number, write, outcome } => {
-            run(transaction, JUDGE, params![client, signed(*number)?, outcome.tag()])?;
+            let judged = params![client, signed(*number)?, outcome.tag(), batch];
+            run(transaction, JUDGE, judged)?;
             match outcome {
                 Outcome::Applied => commit_write(transaction, write),
                 _ => Ok(()),
@@ -364,5 +386,6 @@ impl From<rusqlite::Error> for StoreError {
     }
 }
 
+mod progress;
 #[cfg(test)]
 mod tests;

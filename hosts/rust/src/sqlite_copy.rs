@@ -18,6 +18,8 @@ mod part;
 pub struct StoreFile {
     /// The version of its tables: 0 in a file of before there were versions.
     pub version: i64,
+    /// The size of its pages, in bytes.
+    pub page_size: i64,
     /// All that was kept.
     pub snapshot: Snapshot,
 }
@@ -36,7 +38,8 @@ impl SqliteStore {
             Found::Older(version) => version,
             Found::Current => VERSION,
         };
-        Ok(StoreFile { version, snapshot: sqlite::load(&connection)? })
+        let page_size = sqlite::page_size(&connection)?;
+        Ok(StoreFile { version, page_size, snapshot: sqlite::load(&connection)? })
     }
 
     /// Looks at the first bytes of the file, and opens nothing by SQLite: so it does not matter
@@ -129,6 +132,7 @@ fn exists(path: &Path) -> StoreError {
 
 fn write(path: &Path, snapshot: &Snapshot) -> Result<(), StoreError> {
     let mut connection = Connection::open(path)?;
+    sqlite::set_page_size(&connection)?;
     sqlite::prepare(&connection)?;
     sqlite::save(&mut connection, snapshot)?;
     connection.close().map_err(|(_, error)| error.into())
@@ -206,7 +210,7 @@ pub(crate) mod tests {
         SqliteStore::create(&file, &snapshot()).unwrap();
         assert_eq!(folder.names(), ["copy.db"]);
         assert_eq!(file.metadata().unwrap().permissions().mode() & 0o777, 0o600);
-        let expected = StoreFile { version: 4, snapshot: snapshot() };
+        let expected = StoreFile { version: 5, page_size: 1024, snapshot: snapshot() };
         assert_eq!(SqliteStore::read(&file).unwrap(), expected);
         assert_eq!(folder.names(), ["copy.db"]);
         assert_eq!(SqliteStore::open(&file).unwrap().load().unwrap(), snapshot());
@@ -284,10 +288,15 @@ pub(crate) mod tests {
             (1, "DROP TABLE lease; DROP TABLE start;"),
             (2, "DROP TABLE lease;"),
             (3, "UPDATE lease SET longest = 0, unleased = -1;"),
+            (4, "UPDATE lease SET longest = 0, unleased = -1;"),
         ] {
             let file = folder.0.join(format!("{version}.db"));
             SqliteStore::create(&file, &snapshot()).unwrap();
-            let older = format!("DROP TABLE room; {marks} PRAGMA user_version = {version};");
+            let room = if version < 4 { "DROP TABLE room;" } else { "DELETE FROM room;" };
+            let older = format!(
+                "ALTER TABLE record DROP COLUMN commits; {room} {marks}
+                PRAGMA user_version = {version};"
+            );
             let before = Snapshot { leases: LeaseRecord::UNKNOWN, room: None, ..snapshot() };
             Connection::open(&file).unwrap().execute_batch(&older).unwrap();
             let version_of = |file| SqliteStore::read(file).map(|it| it.version).unwrap();
@@ -301,7 +310,7 @@ pub(crate) mod tests {
             drop(store);
             let expected = Snapshot { epoch: 8, ..before };
             assert_eq!(SqliteStore::read(&file).unwrap().snapshot, expected);
-            assert_eq!(version_of(&file), 4);
+            assert_eq!(version_of(&file), VERSION);
         }
     }
 
@@ -310,11 +319,11 @@ pub(crate) mod tests {
         let folder = Folder::new("newer");
         let file = folder.0.join("new.db");
         SqliteStore::create(&file, &snapshot()).unwrap();
-        Connection::open(&file).unwrap().execute_batch("PRAGMA user_version = 5").unwrap();
+        Connection::open(&file).unwrap().execute_batch("PRAGMA user_version = 6").unwrap();
         let before = std::fs::read(&file).unwrap();
         for refused in [SqliteStore::read(&file).map(drop), SqliteStore::open(&file).map(drop)] {
             let refused = refused.unwrap_err().to_string();
-            assert!(refused.contains("version 5, and"), "{refused}");
+            assert!(refused.contains("version 6, and"), "{refused}");
         }
         assert_eq!(std::fs::read(&file).unwrap(), before);
         assert_eq!(folder.names(), ["new.db"]);

@@ -23,6 +23,7 @@ pub fn check(path: &Path) -> Result<ExitCode, Box<dyn Error>> {
     };
     output::print(&format!(
         "version: {}\n\
+         page size: {} bytes\n\
          epoch: {}\n\
          rows: {}\n\
          room: {}\n\
@@ -30,6 +31,7 @@ pub fn check(path: &Path) -> Result<ExitCode, Box<dyn Error>> {
          clients that have left: {}\n\
          {judgment}\n",
         file.version,
+        file.page_size,
         snapshot.epoch,
         snapshot.rows.len(),
         snapshot.kept_room().unwrap_or_default(),

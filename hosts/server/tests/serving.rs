@@ -248,7 +248,12 @@ fn is_moment(file: &Path, least: u64, most: u64) {
     let check = run(&["check", file.to_str().unwrap()]);
     assert_eq!(check.status.code(), Some(0), "{}", errors(&check));
     let said = text(&check);
-    for line in [&format!("rows: {rows}"), "epoch: 1", "clients that have not left: 9"] {
+    for line in [
+        &format!("rows: {rows}"),
+        "page size: 1024 bytes",
+        "epoch: 1",
+        "clients that have not left: 9",
+    ] {
         assert!(said.lines().any(|it| it == line), "no {line} in {said}");
     }
 }

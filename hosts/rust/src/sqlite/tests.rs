@@ -75,6 +75,95 @@ fn each_start_and_each_batch_is_counted() {
 }
 
 #[test]
+fn a_batch_of_any_kind_is_counted_once_and_an_earlier_start_keeps_its_count() {
+    let folder = std::env::temp_dir().join(format!("krl-counts-{}", std::process::id()));
+    std::fs::create_dir_all(&folder).unwrap();
+    let file = folder.join("table.db");
+    let mut store = SqliteStore::open(&file).unwrap();
+    let mut marks = Vec::new();
+    for batch in [&changes()[..1], &changes()[1..4], &changes()[11..12], &changes()[4..6]] {
+        store.commit(batch).unwrap();
+        let mark = store.history().unwrap().unwrap().mark().unwrap();
+        assert_eq!(progress::last_mark(&store.connection).unwrap(), Some(mark));
+        assert_eq!(store.last, Some(mark), "what it knows is what the file has");
+        marks.push(mark);
+    }
+    assert_eq!(marks.iter().map(|mark| mark.commits).collect::<Vec<_>>(), [1, 2, 3, 4]);
+    // The records count from 0 again, and nothing of the first start is forgotten.
+    store.commit(&[Change::Started { epoch: 2 }]).unwrap();
+    let counted: u64 = store
+        .connection
+        .query_row("SELECT max(commits) FROM record", [], |row| row.get(0))
+        .unwrap();
+    assert_eq!(counted, 0);
+    let history = store.history().unwrap().unwrap();
+    assert!(marks.iter().all(|mark| history.has(*mark)));
+    assert!(!history.has(Mark { commits: 5, ..marks[0] }));
+    assert_eq!(history.mark().unwrap().commits, 1);
+    std::fs::remove_dir_all(&folder).unwrap();
+}
+
+#[test]
+fn a_store_of_version_4_goes_on_to_count_where_it_was() {
+    let folder = std::env::temp_dir().join(format!("krl-version-4-{}", std::process::id()));
+    std::fs::create_dir_all(&folder).unwrap();
+    let file = folder.join("table.db");
+    let mut store = SqliteStore::open(&file).unwrap();
+    store.commit(&changes()[..1]).unwrap();
+    let started = store.history().unwrap().unwrap().mark().unwrap();
+    store
+        .connection
+        .execute_batch(
+            "UPDATE start SET commits = 7; ALTER TABLE record DROP COLUMN commits;
+            PRAGMA user_version = 4;",
+        )
+        .unwrap();
+    drop(store);
+    let mut store = SqliteStore::open(&file).unwrap();
+    let mark = |store: &mut SqliteStore| store.history().unwrap().unwrap().mark().unwrap();
+    assert_eq!(mark(&mut store), Mark { commits: 7, ..started });
+    store.commit(&changes()[1..2]).unwrap();
+    assert_eq!(mark(&mut store), Mark { commits: 8, ..started });
+    std::fs::remove_dir_all(&folder).unwrap();
+}
+
+#[test]
+fn a_write_changes_two_pages_of_a_new_store() {
+    let folder = std::env::temp_dir().join(format!("krl-pages-{}", std::process::id()));
+    std::fs::create_dir_all(&folder).unwrap();
+    let file = folder.join("table.db");
+    let mut store = SqliteStore::open(&file).unwrap();
+    assert_eq!(page_size(&store.connection).unwrap(), PAGE_SIZE);
+    store.commit(&changes()[..4]).unwrap();
+    let log = sqlite_copy::beside(&file, "-wal");
+    let length = || log.metadata().unwrap().len();
+    let before = length();
+    let write = Write::Put(row(10, b"more"));
+    let judged = Change::Judged { client: 9, number: 2, write, outcome: Outcome::Applied };
+    store.commit(&[judged]).unwrap();
+    // In front of each page the log has a header of 24 bytes.
+    assert_eq!(length() - before, 2 * (24 + PAGE_SIZE.cast_unsigned()));
+    std::fs::remove_dir_all(&folder).unwrap();
+}
+
+#[test]
+fn an_older_store_keeps_its_page_size() {
+    let folder = std::env::temp_dir().join(format!("krl-page-size-{}", std::process::id()));
+    std::fs::create_dir_all(&folder).unwrap();
+    let file = folder.join("table.db");
+    let connection = Connection::open(&file).unwrap();
+    connection.pragma_update(None, "page_size", 4096).unwrap();
+    prepare(&connection).unwrap();
+    drop(connection);
+    let mut store = SqliteStore::open(&file).unwrap();
+    store.commit(&changes()).unwrap();
+    assert_eq!(page_size(&store.connection).unwrap(), 4096);
+    drop(store);
+    assert_eq!(SqliteStore::read(&file).unwrap().page_size, 4096);
+    std::fs::remove_dir_all(&folder).unwrap();
+}
+
+#[test]
 fn a_value_commits_nothing_behind_another_one() {
     let folder = std::env::temp_dir().join(format!("krl-behind-{}", std::process::id()));
     std::fs::create_dir_all(&folder).unwrap();
