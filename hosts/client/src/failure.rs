@@ -94,9 +94,11 @@ impl From<Refused> for Failure {
             }
             Refused::TurnedAway | Refused::OtherShard(_) => Failure::NotJoined(refused.to_string()),
             Refused::BadRange | Refused::BadKey => Failure::Usage(refused.to_string()),
-            Refused::Pinned | Refused::TooManyPins | Refused::OutOfMemory | Refused::Other(_) => {
-                Failure::Refused(refused.to_string())
-            }
+            Refused::Pinned
+            | Refused::PinIsVoid
+            | Refused::TooManyPins
+            | Refused::OutOfMemory
+            | Refused::Other(_) => Failure::Refused(refused.to_string()),
             // One that a later release of the library adds.
             unknown if unknown.is_unknown_outcome() => Failure::NoAnswer(unknown.to_string()),
             unknown => Failure::Refused(unknown.to_string()),
@@ -222,6 +224,7 @@ mod tests {
             (Refused::BadRange, 2),
             (Refused::BadKey, 2),
             (Refused::Pinned, 1),
+            (Refused::PinIsVoid, 1),
             (Refused::TooManyPins, 1),
             (Refused::OutOfMemory, 1),
         ] {

@@ -14,7 +14,10 @@ from ._library import ClientState, Code, Handle, Held, Reply, library
 _ROW = struct.Struct("<QQ32s")
 _LOCK_WAITING = 1
 _LOCK_ABSENT = 3
+_RANGE_S = 1
 _RANGE_X = 3
+_KEY_S = 1
+_KEY_U = 2
 _KEY_X = 3
 
 
@@ -27,6 +30,10 @@ class Mode(IntEnum):
     """To read entries and the gaps below them."""
     RANGE_I_N = 6
     """To insert into a gap."""
+    RANGE_I_S = 7
+    """To insert into a gap, and to read the entry at its end."""
+    RANGE_X_S = 10
+    """To read a gap and insert into it, and to read the entry at its end."""
     RANGE_X_X = 12
     """To read and change all."""
 
@@ -124,6 +131,11 @@ class CodeError(Exception):
         return kinds.get(self.code, errors.Refused(str(self)))
 
 
+def pin_is_void() -> errors.PinIsVoid:
+    """What the caller of a write hears whose pin no longer holds."""
+    return errors.PinIsVoid("the pin that the write is bound to is void: the write was not made")
+
+
 def store_went_back() -> errors.StoreWentBack:
     """What those are told who wait when the store went back."""
     return errors.StoreWentBack(
@@ -215,9 +227,26 @@ class ClientHandle:
 
     def has_all(self, point: int) -> bool:
         """Whether no other client may read or change the gap at this point, nor the entry there."""
+        held = self._held(point)
+        return bool(held.range == _RANGE_X and held.key == _KEY_X)
+
+    def reads_gap(self, point: int) -> bool:
+        """Whether the client reads the gap at this point."""
+        return bool(self._held(point).range in (_RANGE_S, _RANGE_X))
+
+    def reads_entry(self, key: int) -> bool:
+        """Whether the client reads the entry of this key, and another client may have it for an
+        update."""
+        return bool(self._held(key).key == _KEY_S)
+
+    def may_update(self, key: int) -> bool:
+        """Whether the client holds the entry of this key so that it alone may change it next."""
+        return bool(self._held(key).key >= _KEY_U)
+
+    def _held(self, point: int) -> Held:
         held = self._calls.krl_client_held(self._at, point)
         assert isinstance(held, Held)
-        return held.range == _RANGE_X and held.key == _KEY_X
+        return held
 
     def status(self) -> Status:
         """What the client shows of itself."""

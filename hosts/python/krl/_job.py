@@ -7,7 +7,7 @@ from abc import ABC, abstractmethod
 from enum import Enum, auto
 from typing import TYPE_CHECKING, Generic, TypeVar
 
-from ._handle import CodeError, Mode, Outcome, Range, Rows
+from ._handle import CodeError, Mode, Outcome, Range, Rows, pin_is_void
 from ._library import Code
 
 if TYPE_CHECKING:
@@ -115,14 +115,19 @@ class WriteKind(Enum):
 
 class Write(Asked[Outcome]):
     """Changes a row: asks for the lock that this needs, and writes. If the server judges that the
-    client did not hold what the write needs, it does both again."""
+    client did not hold what the write needs, it does both again. One that is bound to a pin is
+    sent while the pin holds, or never."""
 
-    def __init__(self, kind: WriteKind, key: int, value: bytes = b"") -> None:
+    def __init__(
+        self, kind: WriteKind, key: int, value: bytes = b"", pin: int | None = None
+    ) -> None:
         super().__init__()
         self._kind = kind
         self._key = key
         self._value = value
         self._number = 0
+        self.pin = pin
+        """The pin that the write is bound to."""
 
     def advance(self, jobs: Jobs) -> bool:
         if jobs.is_sent(self):
@@ -133,11 +138,14 @@ class Write(Asked[Outcome]):
                 return self._give(outcome)
         if self._kind is WriteKind.PUT and jobs.is_told_absent(self):
             return self._give(Outcome.ABSENT)
+        if not jobs.may_write(self):
+            self.fail(pin_is_void())
+            return True
         try:
             self._number = self._send(jobs)
         except CodeError as error:
             return self._is_absent_or_asks(jobs, error)
-        jobs.sent(self)
+        jobs.sent(self, self._number)
         return False
 
     def _send(self, jobs: Jobs) -> int:
@@ -154,14 +162,14 @@ class Write(Asked[Outcome]):
             raise error
         key = self._key
         if self._kind is WriteKind.INSERT:
-            jobs.ask(self, Range(key, key + 1), Mode.RANGE_I_N)
+            jobs.ask_to_change(self, Range(key, key + 1), Mode.RANGE_I_N)
         elif self._kind is WriteKind.PUT:
-            jobs.ask(self, Range(key, key + 1), Mode.X)
+            jobs.ask_to_change(self, Range(key, key + 1), Mode.X)
         elif jobs.is_empty_at(key):
             return self._give(Outcome.ABSENT)
         else:
             # It takes the entry and the gap behind it. The second slot is asked for by itself if
             # it was not free.
             first = key + 1 if jobs.client.has_all(key) else key
-            jobs.ask(self, Range(first, key + 2), Mode.RANGE_X_X)
+            jobs.ask_to_change(self, Range(first, key + 2), Mode.RANGE_X_X)
         return False

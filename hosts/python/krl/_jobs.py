@@ -8,10 +8,21 @@ from __future__ import annotations
 from enum import Enum, auto
 
 from ._crossed import Crossed
-from ._handle import ClientHandle, CodeError, Miss, Mode, Outcome, Range, Rows, store_went_back
+from ._handle import (
+    ClientHandle,
+    CodeError,
+    Miss,
+    Mode,
+    Outcome,
+    Range,
+    Rows,
+    pin_is_void,
+    store_went_back,
+)
 from ._job import Job, Join, Leave, Write
 from ._library import Code
 from ._pins import Pins
+from ._yielding import Narrowed, slot_only_read
 from .errors import Closed, Refused, Stopped
 
 # The kinds of messages that a host looks for.
@@ -49,11 +60,18 @@ class Jobs:
         """The job for which the last lock was asked."""
         self._asked = Range(0, 0)
         """The keys of that lock."""
+        self._yielded: Range | None = None
+        """What was given back just before that lock was asked for."""
+        self._narrowed = Narrowed()
         self._crossed = Crossed()
         self._may_ask = True
         self._pins = Pins()
         self._owed: list[Range] = []
         """What was called back while it was pinned, and is no more."""
+        self._unpinned: list[int] = []
+        """Pins that their callers gave up, and that stay until a write is judged."""
+        self._bound: tuple[int, int] | None = None
+        """The pin of the last write that was sent and is bound to one, and that write's number."""
         self._first_pin = 0
         """The name of the first pin of the client of now. Those before were another one's."""
         self._next_pin = 0
@@ -64,6 +82,9 @@ class Jobs:
         """Begins a job."""
         if self.stage is Stage.ENDED:
             job.fail(self._ended())
+            return
+        if isinstance(job, Write) and not self.may_write(job):
+            job.fail(pin_is_void())
             return
         if isinstance(job, Leave):
             self._leave()
@@ -100,7 +121,7 @@ class Jobs:
     def are_open(self) -> bool:
         """Whether something is asked that the server has not answered."""
         is_leaving = self.stage in (Stage.RETURNING, Stage.LEAVING)
-        return bool(self._open or self._owed) or is_leaving
+        return bool(self._open or self._owed or self._unpinned) or is_leaving
 
     def cached(self, keys: Range) -> Rows | None:
         """The rows, if the cache has the range."""
@@ -125,12 +146,28 @@ class Jobs:
         return pin
 
     def unpin(self, pin: int) -> None:
-        """Frees a pin, and gives back what was called back meanwhile."""
+        """Frees a pin, and gives back what was called back meanwhile. If a write that is bound to
+        the pin is not judged, the pin stays until it is: the server may still make that write."""
         if pin < self._first_pin or self.stage is not Stage.HERE:
+            return
+        if self._awaits_a_write_of(pin):
+            self._unpinned.append(pin)
             return
         self.client.unpin(pin - self._first_pin)
         self._owed += self._pins.remove(pin)
         self._give_back()
+
+    def _awaits_a_write_of(self, pin: int) -> bool:
+        """Whether a write that is bound to the pin was sent and is not judged, also if nobody waits
+        for it any more."""
+        status = self.client.status()
+        return self._bound == (pin, status.number) and status.outcome is None
+
+    def _free_unpinned(self) -> None:
+        """Frees the pins that stayed for a write that is judged by now."""
+        unpinned, self._unpinned = self._unpinned, []
+        for pin in unpinned:
+            self.unpin(pin)
 
     def hear(self, message: bytes) -> None:
         """Gives the client a message, and goes on with its jobs at once: a callback behind it may
@@ -181,6 +218,9 @@ class Jobs:
             # Without memory the message is as good as lost, and one that has left hears nothing.
             if error.code not in (Code.OUT_OF_MEMORY, Code.GONE):
                 raise
+        span = _called_back(message)
+        if span is not None:
+            self._narrowed.note(self.client, span)
 
     def tick(self) -> None:
         """Says again what is not answered. Without memory for that the tick is as good as lost."""
@@ -188,6 +228,7 @@ class Jobs:
             if self.stage is Stage.LEAVING:
                 self.client.leave()
             elif self.stage in (Stage.HERE, Stage.RETURNING):
+                self._yield_again()
                 self.client.tick()
         except CodeError:
             pass
@@ -209,6 +250,7 @@ class Jobs:
         # A write that was judged ends before another one takes its place.
         if self._written is not None:
             self._advance_one(self._written)
+        self._free_unpinned()
         for job in list(self._open):
             self._advance_one(job)
         self._give_back()
@@ -252,7 +294,34 @@ class Jobs:
             if error.code not in (Code.BUSY, Code.NOT_JOINED):
                 raise
         else:
-            self._asker, self._asked = job, keys
+            self._asker, self._asked, self._yielded = job, keys, None
+
+    def ask_to_change(self, job: Job, keys: Range, mode: Mode) -> None:
+        """Asks for a lock with which the client may change something, if it may ask just now. What
+        the client only reads of the first slot it gives back before, unless it is pinned: the
+        release and the request leave together."""
+        status = self.client.status()
+        if not self._may_ask or status.is_waiting:
+            return
+        read = slot_only_read(self.client, self._narrowed, keys.start, mode)
+        if read is None or self._pins.meet(read.span):
+            self.ask(job, keys, mode)
+        # The server passes over a release that leaves while a push is on its way.
+        elif not status.awaits_a_push():
+            if self.try_forget(read.span):
+                self.ask(job, keys, read.joined_with(mode))
+                self._yielded = read.span
+
+    def _yield_again(self) -> None:
+        """Gives back again what the client gave back before the request that waits. A connection
+        that has ended may have lost the release, and the request is said again on the next one."""
+        if self._yielded is None or not self.client.status().is_waiting:
+            return
+        try:
+            self.client.forget(self._yielded)
+        except CodeError:
+            # Who has pinned there meanwhile waits where the request stands.
+            pass
 
     def is_told_absent(self, job: Job) -> bool:
         """Whether the server said that there is no entry for the lock that the job asked for."""
@@ -261,13 +330,25 @@ class Jobs:
         self._asker = None
         return True
 
+    def may_write(self, write: Write) -> bool:
+        """Whether the client may send the write just now. It is asked each time before one is
+        sent. Another client may have written since the pin became void, and the caller decided by
+        what the pin kept."""
+        return write.pin is None or (not self.is_void and self._holds_pin(write.pin))
+
+    def _holds_pin(self, pin: int) -> bool:
+        """Whether the pin is one of the client of now that its caller still has."""
+        return self._pins.has(pin) and pin not in self._unpinned
+
     def is_sent(self, write: Write) -> bool:
         """Whether the write is on its way."""
         return self._written is write
 
-    def sent(self, write: Write) -> None:
-        """The write is on its way: the client has one at most."""
+    def sent(self, write: Write, number: int) -> None:
+        """The write of this number is on its way: the client has one at most."""
         self._written = write
+        if write.pin is not None:
+            self._bound = (write.pin, number)
 
     def judged(self, write: Write, number: int) -> Outcome | None:
         """How the write of this number was judged, if it was. Then another one may be sent."""
@@ -326,11 +407,16 @@ class Jobs:
             self.stage = Stage.RETURNING
         self._pins, self._owed, self._crossed = Pins(), [], Crossed()
         self._first_pin = self._next_pin
-        self._asker = self._written = None
+        written, self._asker, self._written = self._written, None, None
+        self._yielded = self._bound = None
+        self._narrowed = Narrowed()
+        self._unpinned.clear()
         for job in list(self._open):
-            if not isinstance(job, (Join, Leave)):
-                self._open.remove(job)
-                job.fail(store_went_back())
+            if isinstance(job, (Join, Leave)):
+                continue
+            self._open.remove(job)
+            is_not_made = isinstance(job, Write) and job is not written and not self.may_write(job)
+            job.fail(pin_is_void() if is_not_made else store_went_back())
 
     def begin_anew(self, client: ClientHandle) -> None:
         """Goes on as a client of a greater incarnation, which has not joined yet."""

@@ -28,6 +28,10 @@ class Pins:
         """The range is pinned."""
         self._pins[pin] = _Pinned(keys)
 
+    def has(self, pin: int) -> bool:
+        """Whether there is a pin of this name."""
+        return pin in self._pins
+
     def note(self, span: Range) -> None:
         """The span was called back. Each pin that meets it remembers it."""
         for pin in self._pins.values():
@@ -43,7 +47,11 @@ class Pins:
         """Whether a span that was called back meets no pin any more. Else the pins that it meets
         remember it."""
         self.note(span)
-        return not any(pin.keys.meets(span) for pin in self._pins.values())
+        return not self.meet(span)
+
+    def meet(self, span: Range) -> bool:
+        """Whether the span meets a pin."""
+        return any(pin.keys.meets(span) for pin in self._pins.values())
 
 
 def _remember(called: list[Range], span: Range) -> None:

@@ -9,7 +9,7 @@ import weakref
 from types import TracebackType
 
 from ._address import addresses_of
-from ._handle import ClientHandle, CodeError, Outcome, Range, Row, Rows
+from ._handle import ClientHandle, CodeError, Outcome, Range, Row, Rows, pin_is_void
 from ._job import Forget, Join, Leave, Read, Write, WriteKind
 from ._jobs import Jobs
 from ._link import Link
@@ -31,11 +31,42 @@ _MAX_SECONDS = 365 * 24 * 3600.0
 
 class Pin:
     """A pinned range: no other client takes away what the client holds of it, until it is freed,
-    by ``free`` or at the end of a ``with``. If the server's store goes back the pin is void."""
+    by ``free`` or at the end of a ``with``. If the server's store goes back the pin is void.
 
-    def __init__(self, link: Link, pin: int) -> None:
-        self._link = link
+    Whoever decides what to write by what is pinned writes by the pin's own calls: they make the
+    write while the pin holds, or never. The calls of the client go on after the store went back,
+    when another client may have written in between. If such a write is not answered when the pin is
+    freed, other clients wait for the range until it is judged."""
+
+    def __init__(self, client: Client, pin: int) -> None:
+        self._client = client
+        self._link = client._link
         self._pin: int | None = pin
+
+    def insert(self, key: int, value: bytes) -> Outcome:
+        """Inserts a row while the pin holds, or never, and answers what ``Client.insert`` does. The
+        key may lie outside the pinned range.
+
+        Raises ``PinIsVoid`` if the pin is free, or no longer held when the write could be sent: the
+        write changes nothing. Otherwise it raises what ``Client.insert`` raises.
+        """
+        return self._write(WriteKind.INSERT, key, _value_of(value))
+
+    def put(self, key: int, value: bytes) -> Outcome:
+        """Gives a row another value while the pin holds, or never, and answers what ``Client.put``
+        does. It raises what ``insert`` raises."""
+        return self._write(WriteKind.PUT, key, _value_of(value))
+
+    def delete(self, key: int) -> Outcome:
+        """Deletes a row while the pin holds, or never, and answers what ``Client.delete`` does. It
+        raises what ``insert`` raises."""
+        return self._write(WriteKind.DELETE, key, b"")
+
+    def _write(self, kind: WriteKind, key: int, value: bytes) -> Outcome:
+        if self._pin is None:
+            raise pin_is_void()
+        write = Write(kind, _key_of(key), value, self._pin)
+        return self._link.ask(write, self._client.timeout)
 
     def free(self) -> None:
         """Frees the range, and gives back what other clients called back meanwhile. Of one that is
@@ -162,7 +193,7 @@ class Client:
             raise BadRange(f"a pin's range is not empty: its start is below its stop, not {start}")
         try:
             with self._link.lock:
-                return Pin(self._link, self._link.jobs.pin(keys))
+                return Pin(self, self._link.jobs.pin(keys))
         except CodeError as error:
             raise error.refused() from None
 

@@ -75,6 +75,10 @@ class TooManyPins(Refused):
     """The client has eight pins."""
 
 
+class PinIsVoid(Refused):
+    """The write was bound to a pin that is free or void: it was not made, and changes nothing."""
+
+
 class OutOfMemory(Refused, MemoryError):
     """Memory was refused. Nothing has changed."""
 

@@ -83,6 +83,18 @@ class CallsTest(Served):
         self.assertEqual(other.put(10, b"3"), Outcome.APPLIED)
         self.assertIsNone(one.cached(5, 15))
 
+    def test_a_write_that_is_bound_to_a_pin_is_made_while_the_pin_holds_or_never(self) -> None:
+        one, other = self.join(0), self.join(1)
+        with one.pin(5, 15) as pin:
+            self.assertEqual(pin.insert(10, b"1"), Outcome.APPLIED)
+            self.assertEqual(pin.put(10, b"2"), Outcome.APPLIED)
+            self.assertEqual(pin.delete(30), Outcome.ABSENT)
+            with self.assertRaises(krl.BadKey):
+                pin.put(-1, b"")
+        with self.assertRaises(krl.PinIsVoid):
+            pin.put(10, b"3")
+        self.assertEqual(other.read(0, 20), [Row(10, b"2")])
+
     def test_there_are_eight_pins(self) -> None:
         client = self.join(0)
         pins = [client.pin(place, place + 1) for place in range(8)]
@@ -162,6 +174,25 @@ class ServersTest(Served):
         krl.join(self.address, 7, self.lock_file(7), PATIENCE).read()
         gc.collect()
         self.assertEqual(self.join(0).insert(5, b"1"), Outcome.APPLIED)
+
+    def test_a_write_is_bound_to_no_pin_of_before_the_store_went_back(self) -> None:
+        client = self.join(0)
+        client.insert(10, b"1")
+        pin = client.pin(5, 15)
+        self.assertEqual(pin.put(10, b"2"), Outcome.APPLIED)
+        self.assertEqual(client.read(5, 15), [Row(10, b"2")])
+        self.stop()
+        self.server = self.start("older.db")
+        until(lambda: client.cached(5, 15) is None)
+        with self.assertRaises(krl.PinIsVoid):
+            pin.insert(10, b"3")
+        self.assertEqual(client.read(0, 20), [])
+        with client.pin(5, 15) as later:
+            self.assertEqual(later.insert(10, b"4"), Outcome.APPLIED)
+        with self.assertRaises(krl.PinIsVoid):
+            pin.insert(11, b"5")
+        pin.free()
+        self.assertEqual(client.read(0, 20), [Row(10, b"4")])
 
     def test_a_store_that_went_back_is_noticed(self) -> None:
         client, other = self.join(0), self.join(1)

@@ -16,6 +16,7 @@ from krl._library import VERSION, fits, spelled
 from krl._lock_file import LockFile
 from krl._pacing import Backoff, Epochs, Greeting, Heard, Silence, Silent
 from krl._pins import Pins
+from krl._yielding import farthest
 
 from .serving import in_child
 
@@ -36,6 +37,14 @@ class FramesTest(unittest.TestCase):
         self.assertEqual(next(taken), b"one")
         with self.assertRaisesRegex(TooLong, "1025 bytes"):
             next(taken)
+
+
+class YieldingTest(unittest.TestCase):
+    def test_the_greatest_distance_that_is_reached_is_found(self) -> None:
+        for limit in (0, 1, 2, 7, 8, 1000, (1 << 63) - 1):
+            for greatest in (0, 1, 2, 3, 6, 7, 8, 500, 1000, 1 << 62):
+                found = farthest(limit, lambda distance, greatest=greatest: distance <= greatest)
+                self.assertEqual(found, min(limit, greatest))
 
 
 class VersionTest(unittest.TestCase):

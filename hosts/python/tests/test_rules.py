@@ -40,6 +40,9 @@ class RulesTest(unittest.TestCase):
     def test_absent(self) -> None:
         self.play("absent")
 
+    def test_read_before_a_write(self) -> None:
+        self.play("read_before_a_write")
+
     def test_report(self) -> None:
         self.play("report")
 

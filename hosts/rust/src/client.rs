@@ -7,6 +7,7 @@ use crate::jobs::{Asked, Jobs};
 use crate::lease::Older;
 use crate::link::Link;
 use crate::lock_file::LockFile;
+use crate::pin::Pin;
 use crate::range::keys_of;
 use crate::refusal::Refusal;
 use crate::refused::{JoinError, Refused};
@@ -49,14 +50,6 @@ pub struct Client {
     thread: Option<JoinHandle<()>>,
     /// In nanoseconds.
     timeout: AtomicU64,
-}
-
-/// A pinned range: no other client takes away what the client holds of it, as long as this lives. If
-/// the server's store goes back, or the client's lease ends, the pin is void: [`Client`] says more.
-#[must_use = "the range is free again as soon as this is dropped"]
-pub struct Pin<'c> {
-    link: &'c Link,
-    id: u64,
 }
 
 impl Client {
@@ -205,10 +198,19 @@ impl Client {
     }
 
     fn write(&self, write: Write) -> Result<Outcome, Refused> {
+        self.ask_to_write(write, Jobs::write)
+    }
+
+    /// Asks for a write, if its key may be one.
+    pub(crate) fn ask_to_write(
+        &self,
+        write: Write,
+        ask: impl FnOnce(&mut Jobs, Write) -> Asked<Outcome>,
+    ) -> Result<Outcome, Refused> {
         if write.key() >= END {
             return Err(Refused::BadKey);
         }
-        self.ask(|jobs| jobs.write(write))
+        self.ask(|jobs| ask(jobs, write))
     }
 
     /// Pins the range: what the client holds of it, or is granted while the pin lives, no callback
@@ -230,7 +232,7 @@ impl Client {
     }
 
     pub(crate) fn pin_of(&self, id: u64) -> Pin<'_> {
-        Pin { link: &self.link, id }
+        Pin::new(self, id)
     }
 
     /// The client's incarnation, of which the next one is greater: each end of a lease begins another
@@ -297,32 +299,10 @@ impl fmt::Debug for Client {
     }
 }
 
-impl fmt::Debug for Pin<'_> {
-    fn fmt(&self, f: &mut fmt::Formatter<'_>) -> fmt::Result {
-        f.debug_struct("Pin").field("id", &self.id).finish_non_exhaustive()
-    }
-}
-
 impl Drop for Client {
     fn drop(&mut self) {
         let _ = self.end(FAREWELL);
         self.link.free_number();
-    }
-}
-
-impl Drop for Pin<'_> {
-    fn drop(&mut self) {
-        self.link.jobs().unpin(self.id);
-        self.link.flush();
-    }
-}
-
-impl Pin<'_> {
-    /// Whether no other client has taken what was held of the range. Who has to know asks **behind**
-    /// the work: the answer is that of one moment of this call.
-    #[must_use]
-    pub fn holds(&self) -> bool {
-        self.link.jobs().holds_pin(self.id)
     }
 }
 

@@ -23,6 +23,10 @@ pub(crate) enum Mode {
     RangeSU = 5,
     /// To insert into a gap.
     RangeIN = 6,
+    /// To insert into a gap, and to read the entry at its end.
+    RangeIS = 7,
+    /// To read a gap and insert into it, and to read the entry at its end.
+    RangeXS = 10,
     /// To read and change all.
     RangeXX = 12,
 }
@@ -227,6 +231,15 @@ impl ClientHandle {
         self.handle.get().scan(keys, rows)
     }
 
+    /// What the client knows of these keys, by now and for its own use: the end of its lease is not
+    /// looked at. The rows take the place of those that are there, and are `TooShort` if they are
+    /// more than the room that there is.
+    pub fn known(&self, keys: &Range<u64>, rows: &mut Vec<Row>) -> Result<Scan, Code> {
+        rows.clear();
+        let reply = self.handle.get().handle.scan_once(keys, rows)?;
+        found(reply)
+    }
+
     pub fn forget(&mut self, keys: &Range<u64>) -> Result<(), Code> {
         // SAFETY: `call` gives the handle to this call alone.
         self.call(|handle| unsafe { ffi::krl_client_forget(handle, keys.start, keys.end) })
@@ -255,6 +268,19 @@ impl ClientHandle {
         const U: u32 = 2;
         let held = self.handle.get().handle.held(key);
         code(held.reply) == Code::Done && held.key >= U
+    }
+
+    /// Whether the client reads the gap at this point.
+    pub fn reads_gap(&self, point: u64) -> bool {
+        const S: u32 = 1;
+        const X: u32 = 3;
+        matches!(self.handle.get().handle.held(point).range, S | X)
+    }
+
+    /// Whether the client reads the entry of this key, and another client may have it for an update.
+    pub fn reads_entry(&self, key: u64) -> bool {
+        const S: u32 = 1;
+        self.handle.get().handle.held(key).key == S
     }
 
     pub fn status(&self) -> Result<Shown, Code> {
@@ -303,6 +329,16 @@ impl Incarnation {
     }
 }
 
+/// What the library found by a scan.
+fn found(reply: ffi::Reply) -> Result<Scan, Code> {
+    match code(reply) {
+        Code::Done => Ok(Scan::Rows),
+        Code::Miss => Ok(Scan::Miss(reply.detail)),
+        Code::Pending => Ok(Scan::Pending),
+        refused => Err(refused),
+    }
+}
+
 /// What the scan found, if the lease holds behind it.
 fn found_by_lease(
     scan: impl FnOnce() -> Result<Scan, Code>,
@@ -325,12 +361,7 @@ impl Handle {
             rows.try_reserve_exact(count(reply)?).map_err(|_| Code::OutOfMemory)?;
             reply = self.scan_once(keys, rows)?;
         }
-        match code(reply) {
-            Code::Done => Ok(Scan::Rows),
-            Code::Miss => Ok(Scan::Miss(reply.detail)),
-            Code::Pending => Ok(Scan::Pending),
-            refused => Err(refused),
-        }
+        found(reply)
     }
 
     /// Scans into the room that there is behind the rows.

@@ -1,11 +1,13 @@
 //! What a client has been asked to do, as far as it has come.
 mod anew;
+mod bound;
 mod crossed;
 mod hold;
 mod leased;
 mod pinning;
 mod watched;
 mod writing;
+mod yielding;
 
 use crate::cached::{copied, kept};
 use crate::change::{Outcome, Write};
@@ -20,12 +22,14 @@ use std::sync::mpsc::{Receiver, SyncSender, sync_channel};
 use std::time::{Duration, Instant};
 
 pub(crate) use anew::Dropped;
+use bound::{Bound, Wanted};
 use crossed::Crossed;
 use hold::Taking;
 pub(crate) use hold::{Held, Purpose};
 use leased::Speech;
 use watched::Watched;
 use writing::Written;
+use yielding::Narrowed;
 
 /// How often a client says again what is not answered, and how often it says that it is there.
 pub(crate) const BUSY_TICK: Duration = Duration::from_millis(20);
@@ -65,7 +69,7 @@ impl<T> Reply<T> {
 enum Job {
     Join(Reply<()>),
     Read(Range<u64>, Reply<Vec<Row>>),
-    Write(Write, Reply<Outcome>),
+    Write(Wanted, Reply<Outcome>),
     Forget(Range<u64>, Reply<()>),
     Hold(Taking, Reply<Held>),
     Leave(Reply<()>),
@@ -117,12 +121,18 @@ pub(crate) struct Jobs {
     asker: Option<JobId>,
     /// The points of that lock.
     asked: Range<u64>,
+    /// What was given back just before that lock was asked for.
+    yielded: Option<Range<u64>>,
+    narrowed: Narrowed,
     crossed: Crossed,
     asking: Asking,
     room: Vec<Row>,
     /// None if a tick is due.
     ticked: Option<Instant>,
     pins: Pins,
+    /// Pins that their callers gave up, and that stay until a write is judged.
+    unpinned: Vec<u64>,
+    bound: Option<Bound>,
     /// What was called back while it was pinned, and is no more.
     owed: Vec<Range<u64>>,
     stage: Stage,
@@ -151,11 +161,15 @@ impl Jobs {
             next: 0,
             asker: None,
             asked: 0..0,
+            yielded: None,
+            narrowed: Narrowed::default(),
             crossed: Crossed::default(),
             asking: Asking::Allowed,
             room: Vec::with_capacity(64),
             ticked: None,
             pins: Pins::default(),
+            unpinned: Vec::new(),
+            bound: None,
             owed: Vec::new(),
             stage: Stage::Here,
             void: None,
@@ -176,7 +190,7 @@ impl Jobs {
     }
 
     pub fn write(&mut self, write: Write) -> Asked<Outcome> {
-        self.add(|reply| Job::Write(write, reply))
+        self.add(|reply| Job::Write(Wanted::free(write), reply))
     }
 
     /// Gives back a range that is not empty.
@@ -238,7 +252,10 @@ impl Jobs {
 
     /// Whether something is asked that the server has not answered.
     pub fn are_open(&self) -> bool {
-        let is_asked = !self.open.is_empty() || self.written.is_some() || !self.owed.is_empty();
+        let is_asked = !self.open.is_empty()
+            || self.written.is_some()
+            || !self.owed.is_empty()
+            || !self.unpinned.is_empty();
         is_asked || matches!(self.stage, Stage::Returning | Stage::Leaving)
     }
 
@@ -298,7 +315,10 @@ impl Jobs {
             return;
         }
         let _ = match self.stage {
-            Stage::Here | Stage::Returning => self.client.tick(),
+            Stage::Here | Stage::Returning => {
+                self.yield_again();
+                self.client.tick()
+            }
             Stage::Leaving => self.client.leave(),
             Stage::Gone | Stage::Ended => Ok(()),
         };
@@ -316,6 +336,7 @@ impl Jobs {
             }
             self.end_written(&shown);
         }
+        self.free_unpinned();
         for (id, job) in std::mem::take(&mut self.open) {
             if let Some(job) = self.advance_one(id, job) {
                 self.open.push((id, job));
@@ -336,7 +357,7 @@ impl Jobs {
                 let rows = self.try_read(id, &keys);
                 reply.give(rows).map(|reply| Job::Read(keys, reply))
             }
-            Job::Write(write, reply) => self.advance_write(id, write, reply),
+            Job::Write(wanted, reply) => self.advance_write(id, wanted, reply),
             Job::Forget(keys, reply) => {
                 let is_done = self.try_forget(&keys);
                 let done = is_done.map(|is_done| is_done.then_some(()));
@@ -370,6 +391,7 @@ impl Jobs {
         match self.client.lock(points.clone(), mode) {
             Ok(()) => {
                 (self.asker, self.asked) = (Some(id), points);
+                self.yielded = None;
                 Ok(true)
             }
             Err(Code::Busy | Code::NotJoined) => Ok(false),

@@ -25,6 +25,11 @@ impl Pins {
         self.pins.push(Pinned { id, keys, called: Vec::new() });
     }
 
+    /// Whether there is a pin of this name.
+    pub fn has(&self, id: u64) -> bool {
+        self.pins.iter().any(|pin| pin.id == id)
+    }
+
     /// The span was called back. Each pin that meets it remembers it.
     pub fn note(&mut self, span: &Range<u64>) {
         for pin in self.pins.iter_mut().filter(|pin| meet(&pin.keys, span)) {

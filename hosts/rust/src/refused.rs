@@ -34,6 +34,9 @@ pub enum Refused {
     /// time. The client has dropped its cache and its pins, and joins anew. The table has changed or
     /// not, and this write changes it no more: a read of the key knows.
     LeaseEnded,
+    /// The write was bound to a pin, and the pin is void: since it was taken, the client's lease has
+    /// ended or the server's store went back. The write was not made, and changes nothing.
+    PinIsVoid,
     /// The client's own thread has ended by a panic: it answers nothing more but from its cache. A
     /// write that was not answered may have changed the table.
     Stopped,
@@ -98,6 +101,7 @@ impl Refused {
             | Refused::BadRange
             | Refused::BadKey
             | Refused::Pinned
+            | Refused::PinIsVoid
             | Refused::TooManyPins
             | Refused::OutOfMemory
             | Refused::Other(_) => false,
@@ -137,6 +141,9 @@ impl fmt::Display for Refused {
             Refused::LeaseEnded => f.write_str(
                 "the client's lease has ended, since no terms of the server came in time: the client \
                  has dropped its cache and its pins, and joins anew",
+            ),
+            Refused::PinIsVoid => f.write_str(
+                "the pin that the write is bound to is void: the write was not made",
             ),
             Refused::Stopped => f.write_str("the client's thread has panicked"),
             Refused::BadRange => f.write_str(

@@ -1,9 +1,10 @@
 //! A client of several servers, each of which has a part of the keys.
 use crate::change::Outcome;
-use crate::client::{Client, FAREWELL, Pin};
+use crate::client::{Client, FAREWELL};
 use crate::jobs::{Asked, Held, Jobs, Purpose};
 use crate::one_moment::{self, Known};
 use crate::partition::Part;
+use crate::pin::Pin;
 use crate::range::keys_of;
 use crate::refused::Refused;
 use crate::row::{Row, Value};
@@ -36,10 +37,15 @@ pub struct ShardedClient {
 /// A pinned range of several shards: no other client takes away what the client holds of it, as long
 /// as this lives. If a server's store goes back, or the lease there ends, the pin is void at that
 /// shard: [`Client`] says more.
+///
+/// Its writes are bound to it as those of [`Pin`] are, each at the shard of its key: if such a write
+/// is made, then before any other client changed what was pinned at that shard.
 #[derive(Debug)]
 #[must_use = "the range is free again as soon as this is dropped"]
 pub struct ShardedPin<'c> {
-    pins: Vec<Pin<'c>>,
+    map: &'c ShardMap,
+    /// With the shard of each.
+    pins: Vec<(usize, Pin<'c>)>,
 }
 
 impl ShardedPin<'_> {
@@ -47,7 +53,48 @@ impl ShardedPin<'_> {
     /// [`Pin::holds`] answers.
     #[must_use]
     pub fn holds(&self) -> bool {
-        self.pins.iter().all(Pin::holds)
+        self.pins.iter().all(|(_, pin)| pin.holds())
+    }
+
+    /// Inserts a row while the pin holds at the shard of the key, or never, as [`Pin::insert`] does.
+    ///
+    /// # Errors
+    ///
+    /// Those of [`Pin::insert`], with the shard; `PinIsVoid` also if no part of the pinned range is
+    /// at the shard of the key.
+    pub fn insert(&self, key: u64, value: Value) -> Result<Outcome, ShardRefused> {
+        self.at(key, |pin| pin.insert(key, value))
+    }
+
+    /// Gives a row another value while the pin holds at the shard of the key, or never, as
+    /// [`Pin::put`] does.
+    ///
+    /// # Errors
+    ///
+    /// Those of [`ShardedPin::insert`].
+    pub fn put(&self, key: u64, value: Value) -> Result<Outcome, ShardRefused> {
+        self.at(key, |pin| pin.put(key, value))
+    }
+
+    /// Deletes a row while the pin holds at the shard of the key, or never, as [`Pin::delete`] does.
+    ///
+    /// # Errors
+    ///
+    /// Those of [`ShardedPin::insert`].
+    pub fn delete(&self, key: u64) -> Result<Outcome, ShardRefused> {
+        self.at(key, |pin| pin.delete(key))
+    }
+
+    /// Makes a call by the pin at the shard of the key.
+    fn at(
+        &self,
+        key: u64,
+        call: impl FnOnce(&Pin<'_>) -> Result<Outcome, Refused>,
+    ) -> Result<Outcome, ShardRefused> {
+        let shard = self.map.shard_of(key)?;
+        let pin = self.pins.iter().find(|(other, _)| *other == shard);
+        let (_, pin) = pin.ok_or(ShardRefused::at(shard)(Refused::PinIsVoid))?;
+        call(pin).map_err(ShardRefused::at(shard))
     }
 }
 
@@ -205,7 +252,8 @@ impl ShardedClient {
             let pins = parts.iter().map(|part| self.take_one(part, purpose, end));
             let pins = pins.collect::<Result<Vec<_>, _>>()?;
             if self.is_known(parts, &mut rows) {
-                return Ok((rows, ShardedPin { pins }));
+                let pins = parts.iter().map(|part| part.shard).zip(pins).collect();
+                return Ok((rows, ShardedPin { map: &self.map, pins }));
             }
             // Another thread of this client writes there, or a server's store went back.
             drop(pins);
@@ -253,6 +301,18 @@ impl ShardedClient {
         keys: impl RangeBounds<u64>,
     ) -> Result<(Vec<Row>, ShardedPin<'_>), ShardRefused> {
         self.take(&self.parts_to_pin(&keys)?, Purpose::Update, self.end_of_call())
+    }
+
+    /// The same to write without asking for more, as [`Client::pin_for_write`] does.
+    ///
+    /// # Errors
+    ///
+    /// Those of [`ShardedClient::pin_for_read`].
+    pub fn pin_for_write(
+        &self,
+        keys: impl RangeBounds<u64>,
+    ) -> Result<(Vec<Row>, ShardedPin<'_>), ShardRefused> {
+        self.take(&self.parts_to_pin(&keys)?, Purpose::Write, self.end_of_call())
     }
 
     /// Pins the range, when the client holds all of it: **it waits, other than [`Client::pin`]**.

@@ -1,8 +1,9 @@
 //! What a client shows beside its rows, and what it does beside reading and writing: pins that
 //! wait, changes, its epoch, and leaving while others use it.
-use crate::client::{Client, Pin};
+use crate::client::Client;
 use crate::code::Code;
 use crate::jobs::{Held, Jobs, Purpose};
+use crate::pin::Pin;
 use crate::range::keys_of;
 use crate::refused::Refused;
 use crate::row::Row;
@@ -35,12 +36,21 @@ impl Client {
     }
 
     /// The same, and no other client pins an overlapping range for an update while the pin lives:
-    /// the client holds the entries of the range, and the slot behind them, in the mode U. So of
-    /// two who pin for an update and then write, one waits before it has pinned what both want.
+    /// the client holds the entries of the range, and the slot after them, in the mode U. So of
+    /// two clients that pin for an update and then write, one waits before it has pinned what both
+    /// want. That also holds if both have read the range before: what the client only reads, it
+    /// gives back before it asks to change it. Until the call returns, [`Client::cached`] may
+    /// therefore answer `None` for a range that it knew.
     ///
-    /// Two ranges that meet the same gap between two rows count as overlapping. A writer that does
-    /// not pin may still stand in front of this client's write, which then waits until it times
-    /// out.
+    /// Two ranges that meet the same gap between two rows count as overlapping. A client that has
+    /// pinned a part of the range by [`Client::pin_for_read`] or [`Client::pin`] keeps what it
+    /// reads there: if two such clients then pin it for an update, or write there, each may wait
+    /// for the other one until it times out.
+    ///
+    /// Who decides by these rows what to write writes by [`Pin::put`], [`Pin::insert`] and
+    /// [`Pin::delete`]. A client has one request for a lock at a time: if several threads pin and
+    /// write through one client, they should take turns or pin by [`Client::pin_for_write`], or two
+    /// such processes may wait for one another.
     ///
     /// # Errors
     ///
@@ -50,6 +60,25 @@ impl Client {
         keys: impl RangeBounds<u64>,
     ) -> Result<(Vec<Row>, Pin<'_>), Refused> {
         self.hold(&keys, Purpose::Update)
+    }
+
+    /// The same, and no other client reads the range either while the pin lives: the client holds
+    /// its entries and gaps, and the slot after them, in the mode `RangeX-X`. So a write in the
+    /// range asks for no lock any more. That is for several threads that pin and write through one
+    /// client: a write waits for no request of another thread, and no two such processes wait for
+    /// one another. Other clients that read the range wait from this call until the pin is dropped.
+    ///
+    /// A delete needs the gap after its key too: to delete the last key of a range without a
+    /// request, pin one key more.
+    ///
+    /// # Errors
+    ///
+    /// Those of [`Client::pin_for_read`].
+    pub fn pin_for_write(
+        &self,
+        keys: impl RangeBounds<u64>,
+    ) -> Result<(Vec<Row>, Pin<'_>), Refused> {
+        self.hold(&keys, Purpose::Write)
     }
 
     fn hold(

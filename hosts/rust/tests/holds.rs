@@ -132,6 +132,38 @@ fn those_who_pin_for_update_and_write_do_not_block_one_another() {
     assert_eq!(maker.read(15..16), Ok(vec![row(15, u64::from(CLIENTS) * TURNS)]));
 }
 
+/// Each reads the row before it pins it for an update or changes it without a pin. What it reads puts
+/// it in front of nobody, so none waits for ever.
+#[test]
+fn those_who_read_before_they_pin_for_update_do_not_block_one_another() {
+    const PINNING: u8 = 2;
+    const WRITING: u8 = 2;
+    const TURNS: u64 = 25;
+    let world = World::new("readers");
+    world.insert_rows([9, 15]);
+    let pins_and_adds_one = |client: &Client| {
+        client.read(0..30).unwrap();
+        let (rows, pin) = client.pin_for_update(15..16).unwrap();
+        let count = u64::from_be_bytes(rows[0].value.as_ref().try_into().unwrap());
+        assert_eq!(pin.put(15, Value::from(count + 1)), Ok(Outcome::Applied));
+        drop(pin);
+    };
+    let writes = |client: &Client, turn: u64| {
+        client.read(0..30).unwrap();
+        assert_eq!(client.put(15, Value::from(turn)), Ok(Outcome::Applied));
+    };
+    thread::scope(|scope| {
+        for number in 1..=PINNING {
+            let client = world.join(number);
+            scope.spawn(move || (0..TURNS).for_each(|_| pins_and_adds_one(&client)));
+        }
+        for number in PINNING + 1..=PINNING + WRITING {
+            let client = world.join(number);
+            scope.spawn(move || (0..TURNS).for_each(|turn| writes(&client, turn)));
+        }
+    });
+}
+
 /// Each waits for the other one's pin. The one that hears first that its time is over has written
 /// nothing, and both go on when the pins are gone.
 #[test]

@@ -166,6 +166,22 @@ fn a_range_that_is_pinned_does_not_change_at_any_shard() {
     drop(pin);
 }
 
+#[test]
+fn a_write_is_bound_to_the_pin_at_the_shard_of_its_key() {
+    let world = World::new("bound");
+    world.insert_rows([10, 300]);
+    let client = world.join(1);
+    let (_, pin) = client.pin_for_update(0..400).unwrap();
+    assert_eq!(pin.put(10, Value::from(1)), Ok(Outcome::Applied));
+    assert_eq!(pin.insert(200, Value::from(2)), Ok(Outcome::Applied));
+    assert_eq!(pin.delete(300), Ok(Outcome::Applied));
+    drop(pin);
+    let (rows, pin) = client.pin_for_update(0..50).unwrap();
+    assert_eq!(rows, [row(10, 1)]);
+    assert_eq!(pin.put(200, Value::from(3)).unwrap_err().refused, Refused::PinIsVoid);
+    assert_eq!(client.read(0..400), Ok(vec![row(10, 1), row(200, 2)]));
+}
+
 /// A client that waits for a point has pinned nothing from there on: so nobody who has that point
 /// waits for the client.
 #[test]

@@ -1,6 +1,7 @@
 //! A client whose server's store went back, or whose lease has ended: it drops what it knows, and
 //! begins anew.
 use super::crossed::Crossed;
+use super::yielding::Narrowed;
 use super::{Asking, Job, Jobs, Stage};
 use crate::client_handle::ClientHandle;
 use crate::pins::Pins;
@@ -64,12 +65,17 @@ impl Jobs {
         }
         self.pins = Pins::default();
         self.first_pin = self.next_pin;
+        self.unpinned.clear();
+        self.bound = None;
         self.owed.clear();
         self.crossed = Crossed::default();
         self.asker = None;
+        self.yielded = None;
+        self.narrowed = Narrowed::default();
         if let Some(written) = self.written.take() {
             written.refuse(why.refused());
         }
+        self.end_unbound_writes();
         for (id, job) in std::mem::take(&mut self.open) {
             self.open.extend(job.behind(why).map(|job| (id, job)));
         }

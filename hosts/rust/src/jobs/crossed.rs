@@ -48,9 +48,9 @@ impl Jobs {
     pub(super) fn step(&mut self, message: &[u8]) -> Result<(), Code> {
         if let Some(span) = called_back(message) {
             if self.shows(Shown::awaits_a_push) {
-                self.crossed.note(span, message);
+                self.crossed.note(span.clone(), message);
             }
-            return give(&mut self.client, message);
+            return self.give_callback(&span, message);
         }
         let was_waiting = self.shows(|shown| shown.is_waiting);
         give(&mut self.client, message)?;
@@ -58,8 +58,14 @@ impl Jobs {
     }
 
     /// Whether this is so of the client, if it is still there.
-    fn shows(&self, is_so: impl FnOnce(&Shown) -> bool) -> bool {
+    pub(super) fn shows(&self, is_so: impl FnOnce(&Shown) -> bool) -> bool {
         self.client.status().is_ok_and(|shown| is_so(&shown))
+    }
+
+    fn give_callback(&mut self, span: &Range<u64>, message: &[u8]) -> Result<(), Code> {
+        give(&mut self.client, message)?;
+        self.note_narrowed(span);
+        Ok(())
     }
 
     /// Takes the callbacks again, and for the last time if no other push may be on its way.
@@ -67,11 +73,12 @@ impl Jobs {
         if was_waiting && !self.shows(|shown| shown.is_waiting) {
             self.crossed.leave_out(&self.asked);
         }
-        for Callback { message, .. } in &self.crossed.callbacks {
-            give(&mut self.client, message)?;
+        let callbacks = std::mem::take(&mut self.crossed.callbacks);
+        for Callback { span, message } in &callbacks {
+            self.give_callback(span, message)?;
         }
-        if !self.shows(Shown::awaits_a_push) {
-            self.crossed.callbacks.clear();
+        if self.shows(Shown::awaits_a_push) {
+            self.crossed.callbacks = callbacks;
         }
         Ok(())
     }

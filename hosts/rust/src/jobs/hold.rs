@@ -8,8 +8,12 @@ use std::ops::Range;
 /// What a range is held for.
 #[derive(Clone, Copy, Debug, PartialEq, Eq)]
 pub(crate) enum Purpose {
+    /// Others may read and pin the range too.
     Read,
+    /// Others may read the range, and nobody else may change it next.
     Update,
+    /// Nobody else has anything of the range, so a write in it asks for nothing more.
+    Write,
 }
 
 /// The rows of a range that is held, and its pin.
@@ -39,13 +43,6 @@ impl Taking {
     pub(super) fn begun_again(self) -> Taking {
         let Taking { keys, purpose, .. } = self;
         Taking { next: keys.start, keys, purpose, pin: None, asked: None }
-    }
-
-    fn mode(&self) -> Mode {
-        match self.purpose {
-            Purpose::Read => Mode::RangeSS,
-            Purpose::Update => Mode::RangeSU,
-        }
     }
 }
 
@@ -90,7 +87,7 @@ impl Jobs {
         };
         let held = match taking.purpose {
             Purpose::Read => known,
-            Purpose::Update => self.held_for_update(taking, known, granted)?,
+            Purpose::Update | Purpose::Write => self.held_to_change(taking, known, granted)?,
         };
         self.pin_to(taking, held)?;
         if let Some(pin) = taking.pin
@@ -99,17 +96,17 @@ impl Jobs {
         {
             return Ok(Some(Held { rows, pin }));
         }
-        if self.ask(id, held..taking.keys.end, taking.mode())? {
+        if self.ask_for_more(id, held..taking.keys.end, taking.purpose)? {
             taking.asked = Some(held);
         }
         Ok(None)
     }
 
-    /// How far the range is held for an update, below the first point that is not known.
+    /// How far the range is held to change it, below the first point that is not known.
     ///
     /// The client shows what it holds of an entry, and so of each row. What it holds of the slot
     /// behind the last row shows by a grant alone that begins behind that row.
-    fn held_for_update(
+    fn held_to_change(
         &mut self,
         taking: &Taking,
         known: u64,
@@ -124,13 +121,30 @@ impl Jobs {
         };
         let mut held = taking.next;
         for row in &rows {
-            if !self.client.may_update(row.key) {
+            let is_held = match taking.purpose {
+                Purpose::Write => self.client.has_all(row.key),
+                Purpose::Read | Purpose::Update => self.client.may_update(row.key),
+            };
+            if !is_held {
                 return Ok(held);
             }
             held = row.key + 1;
         }
         let is_end_held = granted == Some(held) && known == taking.keys.end;
         Ok(if is_end_held { taking.keys.end } else { held })
+    }
+
+    fn ask_for_more(
+        &mut self,
+        id: JobId,
+        points: Range<u64>,
+        purpose: Purpose,
+    ) -> Result<bool, Code> {
+        match purpose {
+            Purpose::Read => self.ask(id, points, Mode::RangeSS),
+            Purpose::Update => self.ask_to_change(id, points, Mode::RangeSU),
+            Purpose::Write => self.ask_to_change(id, points, Mode::RangeXX),
+        }
     }
 
     /// Pins the range below this point.

@@ -128,9 +128,10 @@ impl Jobs {
         }
     }
 
-    /// Whether the pin is one of the client of now, and its lease holds.
+    /// Whether the pin is one of the client of now that its caller still has, and its lease holds.
     pub fn holds_pin(&self, id: u64) -> bool {
-        !self.is_void() && id >= self.first_pin && self.holds_lease()
+        let is_there = self.pins.has(id) && !self.unpinned.contains(&id);
+        is_there && !self.is_void() && self.holds_lease()
     }
 }
 

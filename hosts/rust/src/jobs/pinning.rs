@@ -21,8 +21,24 @@ impl Jobs {
         Ok(id)
     }
 
-    /// Frees a pin, and gives back what was called back meanwhile.
+    /// Frees a pin, and gives back what was called back meanwhile. If a write that is bound to the
+    /// pin is not judged, the pin stays until it is: the server may still make that write.
     pub fn unpin(&mut self, id: u64) {
+        if self.awaits_a_write_of(id) {
+            self.unpinned.push(id);
+        } else {
+            self.free_pin(id);
+        }
+    }
+
+    /// Frees the pins that stayed for a write that is judged by now.
+    pub(super) fn free_unpinned(&mut self) {
+        for id in std::mem::take(&mut self.unpinned) {
+            self.unpin(id);
+        }
+    }
+
+    fn free_pin(&mut self, id: u64) {
         // One that the client had before it began anew is gone.
         let Some(pin) = id.checked_sub(self.first_pin) else { return };
         // The pin is there, and a client that has left has none.

@@ -1,4 +1,5 @@
 //! Writes: the locks that each needs, and how it was judged.
+use super::bound::Wanted;
 use super::{Job, JobId, Jobs, Reply};
 use crate::change::{Outcome, Write};
 use crate::client_handle::{Mode, Scan, Shown};
@@ -8,7 +9,7 @@ use crate::refused::Refused;
 /// The write that is on its way. A client has one at most.
 pub(super) struct Written {
     pub id: JobId,
-    write: Write,
+    wanted: Wanted,
     number: u64,
     reply: Reply<Outcome>,
 }
@@ -31,12 +32,12 @@ impl Jobs {
     pub(super) fn end_written(&mut self, shown: &Shown) {
         let Some(outcome) = shown.outcome else { return };
         let judged = self.written.take_if(|written| written.number == shown.number);
-        let Some(Written { id, write, reply, .. }) = judged else { return };
+        let Some(Written { id, wanted, reply, .. }) = judged else { return };
         if outcome == Outcome::NotHeld {
             // The table was the server's to judge by: the client asks for what it lacks, and writes
             // again.
             let place = self.open.partition_point(|(other, _)| *other < id);
-            self.open.insert(place, (id, Job::Write(write, reply)));
+            self.open.insert(place, (id, Job::Write(wanted, reply)));
         } else {
             reply.end(Ok(outcome));
         }
@@ -45,12 +46,19 @@ impl Jobs {
     pub(super) fn advance_write(
         &mut self,
         id: JobId,
-        write: Write,
+        wanted: Wanted,
         reply: Reply<Outcome>,
     ) -> Option<Job> {
-        match self.try_write(id, &write) {
-            Ok(Step::Waits) => return Some(Job::Write(write, reply)),
-            Ok(Step::Sent(number)) => self.written = Some(Written { id, write, number, reply }),
+        if !self.may_write(wanted.bond) {
+            reply.end(Err(Refused::PinIsVoid));
+            return None;
+        }
+        match self.try_write(id, &wanted.write) {
+            Ok(Step::Waits) => return Some(Job::Write(wanted, reply)),
+            Ok(Step::Sent(number)) => {
+                self.note_bond(wanted.bond, number);
+                self.written = Some(Written { id, wanted, number, reply });
+            }
             Ok(Step::Known(outcome)) => reply.end(Ok(outcome)),
             Err(code) => reply.end(Err(code.into())),
         }
@@ -88,7 +96,7 @@ impl Jobs {
             Write::Delete(_) if self.client.has_all(key) => (key + 1..key + 2, Mode::RangeXX),
             Write::Delete(_) => (key..key + 2, Mode::RangeXX),
         };
-        self.ask(id, points, mode)?;
+        self.ask_to_change(id, points, mode)?;
         Ok(Step::Waits)
     }
 

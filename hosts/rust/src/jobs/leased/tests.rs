@@ -204,3 +204,79 @@ fn signs_ride_on_messages_and_go_alone_when_they_must() {
     });
     assert_eq!(said, [0, 0, 1, 1]);
 }
+
+#[test]
+fn a_write_that_is_bound_to_a_pin_is_made_while_the_pin_holds_or_never() {
+    let mut world = World::new();
+    assert_eq!(world.write(0, Write::Insert(row(10, 1))), Outcome::Applied);
+    let pin = world.clients[0].pin(0..20).unwrap();
+    let kept = world.clients[0].write_under(pin, Write::Put(row(10, 2)));
+    world.settle();
+    assert_eq!(kept.answer.try_recv(), Ok(Ok(Outcome::Applied)));
+    // The lease ends with one write on its way, and with another one that waits for its answer.
+    let sent = world.clients[0].write_under(pin, Write::Put(row(10, 3)));
+    let waits = world.clients[0].write_under(pin, Write::Insert(row(11, 3)));
+    let free = world.clients[0].write(Write::Insert(row(12, 3)));
+    let lost = world.said(0);
+    assert!(!lost.is_empty());
+    lease_for(&mut world.clients[0], u64::try_from(SHORT.as_nanos()).unwrap());
+    sleep(2 * SHORT);
+    let void = world.clients[0].write_under(pin, Write::Put(row(10, 4)));
+    assert_eq!(sent.answer.try_recv(), Ok(Err(Refused::LeaseEnded)));
+    assert_eq!(waits.answer.try_recv(), Ok(Err(Refused::PinIsVoid)));
+    assert_eq!(void.answer.try_recv(), Ok(Err(Refused::PinIsVoid)));
+    world.clients[0].begin_anew(ClientHandle::open_behind(0, 2, Older::IsOver(1)).unwrap());
+    world.clients[0].confirm_incarnation().unwrap();
+    lease_for(&mut world.clients[0], LONG);
+    world.clients[0].tick();
+    world.settle();
+    assert_eq!(free.answer.try_recv(), Ok(Ok(Outcome::Applied)), "it is bound to nothing");
+    let late = world.clients[0].write_under(pin, Write::Put(row(10, 5)));
+    world.settle();
+    assert_eq!(late.answer.try_recv(), Ok(Err(Refused::PinIsVoid)));
+    assert_eq!(world.read(1, 0..20), [row(10, 2), row(12, 3)]);
+}
+
+#[test]
+fn a_write_that_is_bound_to_a_pin_ends_with_it_if_the_store_goes_back() {
+    let mut world = World::new();
+    let pin = world.clients[0].pin(0..20).unwrap();
+    let waits = world.clients[0].write_under(pin, Write::Insert(row(10, 1)));
+    world.said(0);
+    world.clients[0].drop_all(super::super::Dropped::StoreWentBack);
+    assert_eq!(waits.answer.try_recv(), Ok(Err(Refused::PinIsVoid)));
+    let void = world.clients[0].write_under(pin, Write::Insert(row(10, 2)));
+    assert_eq!(void.answer.try_recv(), Ok(Err(Refused::PinIsVoid)));
+}
+
+#[test]
+fn a_pin_stays_until_a_write_that_is_bound_to_it_is_judged() {
+    let mut world = World::new();
+    for key in [10, 15] {
+        assert_eq!(world.write(0, Write::Insert(row(key, 1))), Outcome::Applied);
+    }
+    let pin = world.clients[0].pin(0..20).unwrap();
+    let put = world.clients[0].write_under(pin, Write::Put(row(10, 2)));
+    let late = world.said(0);
+    assert_eq!(world.clients[0].abandon(put.id), super::super::WasSent::Yes);
+    world.clients[0].unpin(pin);
+    assert!(!world.clients[0].holds_pin(pin) && world.clients[0].are_open());
+    let other = world.clients[1].write(Write::Put(row(15, 3)));
+    world.settle();
+    assert!(other.answer.try_recv().is_err(), "the first write may still be made");
+    world.tell_server(&late);
+    world.settle();
+    assert_eq!(other.answer.try_recv(), Ok(Ok(Outcome::Applied)));
+    assert_eq!(world.read(1, 0..20), [row(10, 2), row(15, 3)]);
+}
+
+#[test]
+fn a_write_is_bound_to_no_pin_that_is_gone() {
+    let mut world = World::new();
+    let pin = world.clients[0].pin(0..20).unwrap();
+    world.clients[0].unpin(pin);
+    let late = world.clients[0].write_under(pin, Write::Insert(row(10, 1)));
+    world.settle();
+    assert_eq!(late.answer.try_recv(), Ok(Err(Refused::PinIsVoid)));
+    assert_eq!(world.read(1, 0..20), []);
+}
