@@ -1,4 +1,5 @@
 //! Reads of a client's cache. Any number of threads make them at once, and they take no lock.
+use crate::boot_clock::Moment;
 use crate::client::Client;
 use crate::client_handle::Scan;
 use crate::code::Code;
@@ -51,7 +52,7 @@ impl Client {
     }
 
     fn is_cached(&self, keys: &Range<u64>, rows: &mut Vec<Row>) -> bool {
-        keys.is_empty() || self.link.cache().scan(keys, rows) == Ok(Scan::Rows)
+        keys.is_empty() || self.link.cache().scan(keys, rows, Moment::now) == Ok(Scan::Rows)
     }
 }
 

@@ -2,6 +2,7 @@
 use crate::builder::{ClientBuilder, Waits};
 use crate::change::{Outcome, Write};
 use crate::client_handle::ClientHandle;
+use crate::clocks::Now;
 use crate::connect_fault::{NotTaken, Rejection};
 use crate::jobs::{Asked, Jobs};
 use crate::lease::Older;
@@ -106,7 +107,7 @@ impl Client {
         };
         let handle = ClientHandle::open_behind(number, incarnation, older);
         let handle = handle.map_err(Refused::from)?;
-        let link = Arc::new(Link::new(servers, Jobs::new(handle), Some(lock_file)));
+        let link = Arc::new(Link::new(servers, Jobs::new(handle, Now::read()), Some(lock_file)));
         let run = Arc::clone(&link);
         let thread = thread::Builder::new().name(format!("krl-client-{number}"));
         let thread = thread.spawn(move || run.run()).map_err(JoinError::NoThread)?;

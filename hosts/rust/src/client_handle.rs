@@ -1,6 +1,7 @@
 //! A safe owner of a client's handle, and those who scan its cache at the same time.
 use crate::boot_clock::Moment;
 use crate::change::{Outcome, Write};
+use crate::clocks::Now;
 use crate::code::Code;
 use crate::ffi;
 use crate::gate::{Owner, Reader, Reading};
@@ -87,9 +88,15 @@ pub(crate) struct HeldCache<'c>(Reading<'c, Incarnation>);
 
 impl Cache {
     /// Scans the cache into `rows`, in place of what they are. Nothing is sent. It waits for one
-    /// call of the client at most, which takes microseconds.
-    pub fn scan(&self, keys: &Range<u64>, rows: &mut Vec<Row>) -> Result<Scan, Code> {
-        self.0.read(|incarnation| incarnation.scan(keys, rows))
+    /// call of the client at most, which takes microseconds. The clock of leases is read after the
+    /// rows.
+    pub fn scan(
+        &self,
+        keys: &Range<u64>,
+        rows: &mut Vec<Row>,
+        clock: impl FnOnce() -> io::Result<Moment>,
+    ) -> Result<Scan, Code> {
+        self.0.read(|incarnation| incarnation.scan(keys, rows, clock))
     }
 
     /// Keeps the cache as it is, as long as the answer lives: the client takes no message and no
@@ -108,9 +115,15 @@ impl Cache {
 }
 
 impl HeldCache<'_> {
-    /// Scans the cache, and puts the rows behind those that are there.
-    pub fn scan_behind(&self, keys: &Range<u64>, rows: &mut Vec<Row>) -> Result<Scan, Code> {
-        self.0.scan_behind(keys, rows)
+    /// Scans the cache, and puts the rows behind those that are there. The clock of leases is read
+    /// after them.
+    pub fn scan_behind(
+        &self,
+        keys: &Range<u64>,
+        rows: &mut Vec<Row>,
+        clock: impl FnOnce() -> io::Result<Moment>,
+    ) -> Result<Scan, Code> {
+        self.0.scan_behind(keys, rows, clock)
     }
 }
 
@@ -226,9 +239,10 @@ impl ClientHandle {
         Ok(self.status()?.number)
     }
 
-    /// Scans the cache into `rows`, in place of what they are. Nothing is sent, and nothing waits.
-    pub fn scan(&self, keys: &Range<u64>, rows: &mut Vec<Row>) -> Result<Scan, Code> {
-        self.handle.get().scan(keys, rows)
+    /// Scans the cache as it is at this moment into `rows`, in place of what they are. Nothing is
+    /// sent, and nothing waits. No call of the client was made since that moment.
+    pub fn scan(&self, keys: &Range<u64>, rows: &mut Vec<Row>, now: Now) -> Result<Scan, Code> {
+        self.handle.get().scan(keys, rows, || now.boot())
     }
 
     /// What the client knows of these keys, by now and for its own use: the end of its lease is not
@@ -317,15 +331,25 @@ impl ClientHandle {
 }
 
 impl Incarnation {
-    fn scan(&self, keys: &Range<u64>, rows: &mut Vec<Row>) -> Result<Scan, Code> {
+    fn scan(
+        &self,
+        keys: &Range<u64>,
+        rows: &mut Vec<Row>,
+        clock: impl FnOnce() -> io::Result<Moment>,
+    ) -> Result<Scan, Code> {
         rows.clear();
-        self.scan_behind(keys, rows)
+        self.scan_behind(keys, rows, clock)
     }
 
     /// The rows come behind those that are there. The clock is read behind them all: rows are handed
     /// over only if the lease holds then.
-    fn scan_behind(&self, keys: &Range<u64>, rows: &mut Vec<Row>) -> Result<Scan, Code> {
-        found_by_lease(|| self.handle.scan_behind(keys, rows), &self.end, Moment::now)
+    fn scan_behind(
+        &self,
+        keys: &Range<u64>,
+        rows: &mut Vec<Row>,
+        clock: impl FnOnce() -> io::Result<Moment>,
+    ) -> Result<Scan, Code> {
+        found_by_lease(|| self.handle.scan_behind(keys, rows), &self.end, clock)
     }
 }
 

@@ -135,11 +135,15 @@ impl Connection {
         self.ends_for.is_none() && (self.unread != Unread::Nothing || !self.incoming.needs_more())
     }
 
+    /// Whether a look reads.
+    pub fn has_to_read(&self) -> bool {
+        let wants_more = self.incoming.needs_more() && self.incoming.long_head().is_none();
+        wants_more && self.unread != Unread::Nothing
+    }
+
     /// Sees whether a frame has come whole, and reads once if none has.
     pub fn look(&mut self, now: Instant) -> Looked {
-        let wants_more = self.incoming.needs_more() && self.incoming.long_head().is_none();
-        if wants_more
-            && self.unread != Unread::Nothing
+        if self.has_to_read()
             && let Err(error) = self.read(now)
         {
             // The peer hears why, if it can: what is sealed already leaves.

@@ -1,6 +1,7 @@
 //! The connections of a server. Its one thread reads and writes them all, and waits for none: so no
 //! slow peer stops the others.
 use crate::access::Access;
+use crate::clocks::Now;
 use crate::connection::{Connection, Looked};
 use crate::frames::{Frames, HEAD};
 use crate::history::Mark;
@@ -43,7 +44,8 @@ pub(crate) struct Connections {
     /// Those that have something to send. Each is there once.
     sending: Vec<u64>,
     next: u64,
-    now: Instant,
+    /// After all that has come was read.
+    now: Now,
 }
 
 /// A connection, and where it stands in the lists.
@@ -89,7 +91,7 @@ impl Connections {
             ready: VecDeque::new(),
             sending: Vec::new(),
             next: 0,
-            now: Instant::now(),
+            now: Now::read(),
         };
         Ok((connections, waker))
     }
@@ -97,10 +99,10 @@ impl Connections {
     /// Waits until there is something to do, but not longer than this, and says when that was. It
     /// writes what peers take of what was sent, and takes new connections. It fails if no
     /// connection can be taken any more.
-    pub fn wait(&mut self, longest: Duration) -> io::Result<Instant> {
-        let is_busy = !self.ready.is_empty() || self.listening.is_ready(self.now);
+    pub fn wait(&mut self, longest: Duration) -> io::Result<Now> {
+        let is_busy = !self.ready.is_empty() || self.listening.is_ready(self.now.monotonic);
         self.poller.wait(if is_busy { Duration::ZERO } else { longest })?;
-        self.now = Instant::now();
+        self.now = Now::read();
         let ready: Vec<Ready> = self.poller.ready().collect();
         for it in ready {
             match it {
@@ -113,18 +115,18 @@ impl Connections {
         Ok(self.now)
     }
 
-    /// When the last wait ended.
-    pub fn now(&self) -> Instant {
+    /// The moment by which what has come is judged: it is not before any of it came.
+    pub fn now(&self) -> Now {
         self.now
     }
 
     /// Takes new connections, a few at once.
     fn accept(&mut self) -> io::Result<()> {
         for _ in 0..MAX_TAKEN {
-            if !self.listening.is_ready(self.now) {
+            if !self.listening.is_ready(self.now.monotonic) {
                 break;
             }
-            if let Some(accepted) = self.listening.take(self.now)? {
+            if let Some(accepted) = self.listening.take(self.now.monotonic)? {
                 self.enter(accepted);
             }
         }
@@ -160,7 +162,11 @@ impl Connections {
         if !peer.connection.is_ready() {
             return Turn::Nothing;
         }
-        let looked = peer.connection.look(self.now);
+        let reads = peer.connection.has_to_read();
+        let looked = peer.connection.look(self.now.monotonic);
+        if reads {
+            self.now = Now::read();
+        }
         self.meet(number);
         match looked {
             Looked::Frame => self.frame(number),
@@ -208,7 +214,7 @@ impl Connections {
         let at = self.at(number);
         if let Some(peer) = self.open.remove(&number) {
             self.poller.remove(peer.connection.stream());
-            self.closings.closed(&at, reason, why);
+            self.closings.closed(&at, reason, why, self.now.monotonic);
         }
         self.strangers.closed(number);
         self.routes.close(number);
@@ -232,7 +238,7 @@ impl Connections {
 
     /// Tells the peer's host why its client is not served.
     pub fn refuse(&mut self, number: u64, refusal: Refusal) {
-        let now = self.now;
+        let now = self.now.monotonic;
         if let Some(peer) = self.in_sending(number) {
             peer.refuse(refusal, now);
         }
@@ -289,7 +295,7 @@ impl Connections {
     /// Writes what the peer takes, and closes the connection if that fails or was the last.
     fn write(&mut self, number: u64) {
         let Some(peer) = self.open.get_mut(&number) else { return };
-        let written = peer.connection.write(self.now);
+        let written = peer.connection.write(self.now.monotonic);
         let is_lost = written.and_then(|()| peer.watch(number, &self.poller)).is_err();
         if is_lost || peer.connection.is_over() {
             let reason = peer.connection.ends_for().unwrap_or(CloseReason::Ended);
@@ -300,11 +306,12 @@ impl Connections {
     /// Closes the connections whose peers are silent, take nothing, or do not say who they are, for
     /// too long.
     pub fn close_dead(&mut self) {
+        let now = self.now.monotonic;
         let why_dead = |(number, peer): (&u64, &Peer)| {
-            peer.connection.why_dead(self.now).map(|reason| (*number, reason))
+            peer.connection.why_dead(now).map(|reason| (*number, reason))
         };
         let dead: Vec<_> = self.open.iter().filter_map(why_dead).collect();
-        let late: Vec<u64> = self.strangers.late(self.now).collect();
+        let late: Vec<u64> = self.strangers.late(now).collect();
         for (number, reason) in dead {
             self.close(number, reason);
         }
@@ -321,12 +328,12 @@ impl Connections {
             self.end(*number, CloseReason::Ended);
             self.write(*number);
         }
-        while !self.open.is_empty() && self.now < until {
-            let left = until.saturating_duration_since(self.now);
+        while !self.open.is_empty() && self.now.monotonic < until {
+            let left = until.saturating_duration_since(self.now.monotonic);
             if self.poller.wait(left).is_err() {
                 return;
             }
-            self.now = Instant::now();
+            self.now = Now::read();
             let ready: Vec<Ready> = self.poller.ready().collect();
             for it in ready {
                 if let Ready::Connection(number, Readiness { writes: true, .. }) = it {

@@ -1,5 +1,6 @@
 //! The thread that owns a server and its store: it judges, commits and sends.
 use crate::change::{Change, Record};
+use crate::clocks::Now;
 use crate::code::Code;
 use crate::connections::closing::CloseReason;
 use crate::connections::{Connections, Turn};
@@ -8,10 +9,10 @@ use crate::frames;
 use crate::handle::ServerHandle;
 use crate::held_back::HeldBack;
 use crate::history::History;
-use crate::host_frame::{self, FromClient};
-use crate::lease::Sign;
+use crate::host_frame::FromClient;
+use crate::incoming::Incoming;
 use crate::leases::LeaseTable;
-use crate::message::{self, Kind, client_number, client_of, incarnation_of, kind_of};
+use crate::message::{self, Head, Kind, Message};
 use crate::refusal::{ClientSet, Refusal};
 use crate::requests::Request;
 use crate::routing::{Sender, sender};
@@ -36,6 +37,9 @@ const NUDGE: Duration = Duration::from_millis(50);
 
 /// How often a server that commits nothing asks whether the store is still its own.
 const ASKS_STORE: Duration = Duration::from_secs(1);
+
+/// How long a turn counts what clients hold.
+const COUNTS: Duration = Duration::from_millis(2);
 
 /// How long a turn looks up who holds what, if somebody asks.
 const LOOKS: Duration = Duration::from_millis(10);
@@ -95,7 +99,7 @@ impl<S: Store> EventLoop<S> {
         epoch: u64,
         log: EventLog,
     ) -> EventLoop<S> {
-        let now = Instant::now();
+        let now = connections.now().monotonic;
         EventLoop {
             server,
             store,
@@ -158,13 +162,16 @@ impl<S: Store> EventLoop<S> {
             looks += 1;
         }
         self.nudge(began, &mut changes)?;
+        if self.nudged == began.monotonic {
+            self.count_held();
+        }
         self.ask_store(began)?;
         self.commit(&changes)?;
         self.send()?;
         self.turned = Instant::now();
-        self.timings.turned(began, self.turned);
+        self.timings.turned(began.monotonic, self.turned);
         // What came before the stop is seen by the wait behind it.
-        Ok(self.until.is_none_or(|until| !was_stopped || looks > 0 && began < until))
+        Ok(self.until.is_none_or(|until| !was_stopped || looks > 0 && began.monotonic < until))
     }
 
     /// How long to wait if nothing comes.
@@ -189,7 +196,8 @@ impl<S: Store> EventLoop<S> {
                 }
                 Request::Locks(search, reply) => {
                     let end = *looks_end.get_or_insert_with(|| Instant::now() + LOOKS);
-                    let _ = reply.send(self.look_up(search, end));
+                    let (now, is_late) = (self.connections.now(), || Instant::now() >= end);
+                    let _ = reply.send(self.look_up(search, now, is_late));
                 }
                 Request::Stop => self.until = Some(Instant::now() + LAST_TURNS),
             }
@@ -204,7 +212,7 @@ impl<S: Store> EventLoop<S> {
             Turn::Long(connection, head) => self.judge_long(connection, &head)?,
             Turn::Frame(connection, mut incoming) => {
                 if let Ok(Some(frame)) = incoming.next() {
-                    self.hear(connection, frame, changes)?;
+                    self.hear(connection, frame, self.connections.now(), changes)?;
                 }
                 self.connections.put_back(connection, incoming);
             }
@@ -217,40 +225,46 @@ impl<S: Store> EventLoop<S> {
         &mut self,
         connection: u64,
         frame: &[u8],
+        now: Now,
         changes: &mut Vec<Change>,
     ) -> Result<(), ServeError> {
-        if !self.connections.identity(connection).may_say(frame) {
-            self.deny(connection, frame);
+        let frame = Incoming::read(frame);
+        if !self.connections.identity(connection).may_say(&frame) {
+            self.deny(connection, &frame);
             return Ok(());
         }
-        if !self.lets_in(connection, frame) {
+        if !self.lets_in(connection, &frame) {
             return Ok(());
         }
-        if !host_frame::is_of_host(frame) {
-            let change = self.judge(connection, frame)?;
-            return change.map_or(Ok(()), |change| self.keep(change, changes));
-        }
-        if let Some(FromClient::Hello(seen)) = FromClient::read(frame) {
-            self.greet(connection, seen)
-        } else if let Some(sign) = Sign::read(frame) {
-            self.hear_sign(connection, sign)
-        } else {
-            Ok(())
+        match frame {
+            Incoming::Message(message) => {
+                let change = self.judge(connection, message, now)?;
+                change.map_or(Ok(()), |change| self.keep(change, now, changes))
+            }
+            Incoming::Host(Some(FromClient::Hello(seen))) => self.greet(connection, seen, now),
+            Incoming::Sign(sign) => self.hear_sign(connection, sign, now),
+            Incoming::Host(_) => Ok(()),
         }
     }
 
     /// Gives the server one message, and says what has to be kept. A string that is no message ends
     /// its connection.
-    fn judge(&mut self, connection: u64, message: &[u8]) -> Result<Option<Change>, ServeError> {
-        if !self.hears(connection, message)? {
+    fn judge(
+        &mut self,
+        connection: u64,
+        message: Message<'_>,
+        now: Now,
+    ) -> Result<Option<Change>, ServeError> {
+        if !self.hears(connection, message.head(), now)? {
             return Ok(None);
         }
-        let change = match self.server.step(message) {
+        let change = match self.server.step(message.bytes()) {
             Ok(change) => change,
             Err(Code::BadMessage) => {
                 self.status.refused += 1;
-                self.log.bad_message(&self.connections.at(connection), message.len());
-                if message::is_of_another_version(message) {
+                let length = message.bytes().len();
+                self.log.bad_message(&self.connections.at(connection), length);
+                if message.is_of_another_version() {
                     let refusal = Refusal::Version { read: message::VERSION };
                     self.connections.refuse(connection, refusal);
                 }
@@ -271,19 +285,17 @@ impl<S: Store> EventLoop<S> {
     }
 
     /// Takes the connection for that of the client that the message names, if it is the client's.
-    fn route(&mut self, connection: u64, message: &[u8]) -> Result<(), ServeError> {
-        let (Some(number), Some(incarnation)) = (client_number(message), incarnation_of(message))
-        else {
-            return Ok(());
-        };
-        let Some(client) = client_of(message) else {
+    fn route(&mut self, connection: u64, message: Message<'_>) -> Result<(), ServeError> {
+        let Some(Head { kind, number, incarnation }) = message.head() else { return Ok(()) };
+        let Some(client) = message.client() else {
             self.connections.refuse(connection, Refusal::ClientNumber { number });
             return Ok(());
         };
         let record = self.server.record(client).map_err(ServeError::Refused)?;
-        match (sender(record.as_ref(), incarnation), kind_of(message)) {
+        match (sender(record.as_ref(), incarnation), kind) {
             (Sender::Registered, _) => {
-                self.open.heard(client, message, self.connections.now(), &self.timings);
+                let now = self.connections.now().monotonic;
+                self.open.heard(client, message, now, &self.timings);
                 self.watch.may_change(client);
                 self.connections.route(client, connection);
             }
@@ -313,28 +325,35 @@ impl<S: Store> EventLoop<S> {
         }
     }
 
-    fn nudge(&mut self, now: Instant, changes: &mut Vec<Change>) -> Result<(), ServeError> {
-        if now.saturating_duration_since(self.nudged) < NUDGE {
+    fn nudge(&mut self, now: Now, changes: &mut Vec<Change>) -> Result<(), ServeError> {
+        if now.monotonic.saturating_duration_since(self.nudged) < NUDGE {
             return Ok(());
         }
-        self.nudged = now;
+        self.nudged = now.monotonic;
         self.connections.close_dead();
         for client in self.connections.clients() {
             // A nudge for which there is no memory is a message that is lost.
             let _ = self.server.nudge(client);
         }
-        self.look();
-        self.evict_silent(changes)
+        self.look_at_waits(now);
+        self.evict_silent(now, changes)
+    }
+
+    /// Counts how much the clients hold of which that may have changed: of one at least, and of more
+    /// as long as that takes little time.
+    fn count_held(&mut self) {
+        let end = Instant::now() + COUNTS;
+        while self.count_next() && Instant::now() < end {}
     }
 
     /// Asks now and then whether the store is still this server's. One behind which another server
     /// has started would find that at its next commit, and its clients might wait for it until
     /// then.
-    fn ask_store(&mut self, now: Instant) -> Result<(), ServeError> {
-        if now.saturating_duration_since(self.asked_store) < ASKS_STORE {
+    fn ask_store(&mut self, now: Now) -> Result<(), ServeError> {
+        if now.monotonic.saturating_duration_since(self.asked_store) < ASKS_STORE {
             return Ok(());
         }
-        self.asked_store = now;
+        self.asked_store = now.monotonic;
         Ok(self.store.commit(&[])?)
     }
 
@@ -351,7 +370,7 @@ impl<S: Store> EventLoop<S> {
             if let Some(history) = &mut self.history {
                 history.commit();
             }
-            self.timings.committed(changes.len(), began);
+            self.timings.committed(changes.len(), began.elapsed());
             self.log.committed(changes, |client| self.connections.at_of(client));
             self.count(changes);
             self.see_members(changes);
@@ -364,8 +383,9 @@ impl<S: Store> EventLoop<S> {
         let now = if length > 0 { Instant::now() } else { self.turned };
         let mut sending = self.connections.send(self.history.as_ref().and_then(History::mark));
         for (message, frame) in frames::split(&self.frames[..length]) {
-            let Some(client) = client_of(message) else { continue };
-            if kind_of(message) == Kind::Push && self.held_back.holds(client, message, now) {
+            let message = Message::read(message);
+            let Some(client) = message.client() else { continue };
+            if message.kind().is_push() && self.held_back.holds(client, message.bytes(), now) {
                 continue;
             }
             self.open.said(client, message, now, &self.timings);

@@ -1,7 +1,6 @@
 //! Who is at the other end of a connection, and what it may say.
-use crate::host_frame;
-use crate::lease::Sign;
-use crate::message::client_of;
+use crate::incoming::Incoming;
+use crate::message::Message;
 use crate::refusal::ClientSet;
 use std::fmt;
 use std::str::FromStr;
@@ -10,9 +9,6 @@ use std::str::FromStr;
 const CLIENT: &str = "krl:client:";
 const OPERATOR: &str = "krl:operator";
 const SERVER: &str = "krl:server";
-
-/// The kinds of the messages that end a client: Hello, Bye, Report and Ack.
-const OF_AN_END: [u8; 4] = [0, 1, 2, 8];
 
 /// How many connections an identity may have at once, for each client of it.
 const CONNECTIONS_PER_CLIENT: usize = 4;
@@ -97,21 +93,21 @@ impl Identity {
     /// Whether it may say this frame: one that names a client of its own, or, if it is an operator,
     /// one that ends a client. Whoever may say anything may say a host's Hello, which names no
     /// client. Only who may say all may say a string that names no client: such a string is judged.
-    pub(crate) fn may_say(&self, frame: &[u8]) -> bool {
-        if host_frame::is_of_host(frame) {
-            return self.may_say_as_host(frame);
+    ///
+    /// A frame of a host that says nothing known may be said: it is passed over.
+    pub(crate) fn may_say(&self, frame: &Incoming<'_>) -> bool {
+        match frame {
+            Incoming::Message(message) => self.may_say_message(message),
+            Incoming::Sign(sign) => self.is_operator || self.is_client(sign.client),
+            Incoming::Host(_) => *self != Identity::nobody(),
         }
-        let Some(client) = client_of(frame) else { return *self == Identity::everybody() };
-        let is_of_an_end = frame.get(1).is_some_and(|kind| OF_AN_END.contains(kind));
-        self.is_client(client) || self.is_operator && is_of_an_end
     }
 
-    /// A frame of a host that says nothing known may be said: it is passed over.
-    fn may_say_as_host(&self, frame: &[u8]) -> bool {
-        match Sign::read(frame) {
-            Some(sign) => self.is_operator || self.is_client(sign.client),
-            None => *self != Identity::nobody(),
-        }
+    /// The same of a message, or of the head of one.
+    pub(crate) fn may_say_message(&self, message: &Message<'_>) -> bool {
+        let Some(client) = message.client() else { return *self == Identity::everybody() };
+        let is_of_an_end = message.kind().is_of_an_end();
+        self.is_client(client) || self.is_operator && is_of_an_end
     }
 
     /// How many connections it may have at once.
@@ -224,10 +220,14 @@ mod tests {
     use super::*;
     use crate::boot_clock::Moment;
     use crate::host_frame::FromClient;
-    use crate::lease::Older;
+    use crate::lease::{Older, Sign};
 
     fn message(kind: u8, client: u8) -> Vec<u8> {
         [&[1, kind, client][..], &[0; 15]].concat()
+    }
+
+    fn may_say(identity: &Identity, frame: &[u8]) -> bool {
+        identity.may_say(&Incoming::read(frame))
     }
 
     fn of(names: &[&str], table: Option<&str>) -> Option<Identity> {
@@ -240,9 +240,9 @@ mod tests {
         let found = of(&["krl:client:3", "https://x", "krl:client:63"], None).unwrap();
         assert_eq!("3,63".parse(), Ok(found));
         assert_eq!(found.to_string(), "3,63");
-        assert!(found.may_say(&message(4, 3)) && found.may_say(&message(0, 63)));
-        assert!(!found.may_say(&message(0, 4)) && !found.may_say(&message(0, 64)));
-        assert!(!found.may_say(&[]) && !found.may_say(&[1, 0, 3]));
+        assert!(may_say(&found, &message(4, 3)) && may_say(&found, &message(0, 63)));
+        assert!(!may_say(&found, &message(0, 4)) && !may_say(&found, &message(0, 64)));
+        assert!(!may_say(&found, &[]) && !may_say(&found, &[1, 0, 3]));
         assert_eq!(found.most_connections(), 8);
     }
 
@@ -250,7 +250,7 @@ mod tests {
     fn an_operator_ends_clients_and_does_no_more() {
         let found = of(&["krl:operator"], None).unwrap();
         for kind in 0..=8 {
-            assert_eq!(found.may_say(&message(kind, 9)), matches!(kind, 0 | 1 | 2 | 8), "{kind}");
+            assert_eq!(may_say(&found, &message(kind, 9)), matches!(kind, 0 | 1 | 2 | 8), "{kind}");
         }
         assert_eq!(found.to_string(), "operator");
     }
@@ -264,11 +264,11 @@ mod tests {
         };
         let three = of(&["krl:client:3"], None).unwrap();
         let operator = of(&["krl:operator"], None).unwrap();
-        assert!(three.may_say(&hello[8..]) && operator.may_say(&hello[8..]));
-        assert!(three.may_say(&sign(3)[8..]) && !three.may_say(&sign(4)[8..]));
-        assert!(operator.may_say(&sign(4)[8..]));
+        assert!(may_say(&three, &hello[8..]) && may_say(&operator, &hello[8..]));
+        assert!(may_say(&three, &sign(3)[8..]) && !may_say(&three, &sign(4)[8..]));
+        assert!(may_say(&operator, &sign(4)[8..]));
         for said in [&hello[8..], &sign(3)[8..], &message(0, 3)[..]] {
-            assert!(!Identity::nobody().may_say(said), "{said:?}");
+            assert!(!may_say(&Identity::nobody(), said), "{said:?}");
         }
     }
 
@@ -276,7 +276,7 @@ mod tests {
     fn only_who_may_say_all_says_what_names_no_client() {
         let three = of(&["krl:client:3"], None).unwrap();
         for said in [&[][..], &[1], &[1, 0, 3], &[9; 40], &message(0, 64)] {
-            assert!(!three.may_say(said) && Identity::everybody().may_say(said), "{said:?}");
+            assert!(!may_say(&three, said) && may_say(&Identity::everybody(), said), "{said:?}");
         }
     }
 

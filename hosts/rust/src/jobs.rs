@@ -12,8 +12,9 @@ mod yielding;
 use crate::cached::{copied, kept};
 use crate::change::{Outcome, Write};
 use crate::client_handle::{Cache, ClientHandle, Mode, Scan};
+use crate::clocks::Now;
 use crate::code::Code;
-use crate::message::called_back;
+use crate::message::Message;
 use crate::pins::Pins;
 use crate::refused::Refused;
 use crate::row::Row;
@@ -107,9 +108,11 @@ enum Stage {
     Ended,
 }
 
-/// The client and its jobs. Each call of it takes microseconds, and none waits.
+/// The client and its jobs. Each call of it takes microseconds, and none waits or reads a clock: what
+/// is decided by a clock is decided by the moment that [`Jobs::at`] was given last.
 pub(crate) struct Jobs {
     client: ClientHandle,
+    now: Now,
     /// In the order in which they came.
     open: Vec<(JobId, Job)>,
     written: Option<Written>,
@@ -149,8 +152,9 @@ pub(crate) struct Jobs {
 }
 
 impl Jobs {
-    pub fn new(client: ClientHandle) -> Jobs {
+    pub fn new(client: ClientHandle, now: Now) -> Jobs {
         Jobs {
+            now,
             incarnation: client.lease().incarnation(),
             speech: Speech::Free,
             client,
@@ -177,6 +181,13 @@ impl Jobs {
             first_pin: 0,
             next_pin: 0,
         }
+    }
+
+    /// The client at this moment, which is not before the last one. Whoever makes a call of the
+    /// client gives it the moment first, read after all that the call takes has come.
+    pub fn at(&mut self, now: Now) -> &mut Jobs {
+        self.now = now;
+        self
     }
 
     /// Waits until the server has said its epoch.
@@ -279,7 +290,8 @@ impl Jobs {
                 self.stage = Stage::Gone;
             }
         } else {
-            if let Some(span) = called_back(message) {
+            let message = Message::read(message);
+            if let Some(span) = message.called_back() {
                 self.pins.note(&span);
             }
             self.step(message)?;
@@ -300,7 +312,8 @@ impl Jobs {
     }
 
     /// Ticks, if the last tick is long enough ago.
-    pub fn tick_if_due(&mut self, now: Instant) {
+    pub fn tick_if_due(&mut self) {
+        let now = self.now.monotonic;
         let is_due = |ticked| now.saturating_duration_since(ticked) >= self.pace();
         if self.ticked.is_none_or(is_due) {
             self.ticked = Some(now);
@@ -373,7 +386,7 @@ impl Jobs {
 
     fn try_read(&mut self, id: JobId, keys: &Range<u64>) -> Result<Option<Vec<Row>>, Code> {
         let mut room = std::mem::take(&mut self.room);
-        let rows = match self.client.scan(keys, &mut room) {
+        let rows = match self.client.scan(keys, &mut room, self.now) {
             Ok(Scan::Rows) => copied(&mut room).map(Some),
             Ok(Scan::Miss(point)) => self.ask(id, point..keys.end, Mode::RangeSS).map(|_| None),
             Ok(Scan::Pending | Scan::Ended) => Ok(None),

@@ -28,6 +28,7 @@ mod carrier;
 mod change;
 mod client;
 mod client_handle;
+mod clocks;
 mod code;
 mod connect_fault;
 mod connection;
@@ -44,6 +45,7 @@ mod history;
 mod host_frame;
 #[cfg_attr(not(any(feature = "tls", test)), expect(dead_code, reason = "TLS alone reads names"))]
 mod identity;
+mod incoming;
 mod jobs;
 mod judged;
 mod lease;

@@ -3,6 +3,7 @@ use crate::address::Address;
 use crate::backoff::Backoff;
 use crate::carrier::Carrier;
 use crate::client_handle::Cache;
+use crate::clocks::Now;
 use crate::code::Code;
 use crate::connect_fault::{ConnectFault, Rejections};
 use crate::event_log;
@@ -11,7 +12,7 @@ use crate::history::Mark;
 use crate::host_frame;
 use crate::jobs::{Asking, BUSY_TICK, IDLE_TICK, Jobs};
 use crate::lock_file::LockFile;
-use crate::message::epoch_of;
+use crate::message::Message;
 use crate::refusal::Refusal;
 use crate::refused::Refused;
 use crate::servers::Servers;
@@ -116,8 +117,11 @@ impl Link {
         &self.cache
     }
 
+    /// The jobs as they are now. The clocks are read when nobody else has them.
     pub fn jobs(&self) -> MutexGuard<'_, Jobs> {
-        lock(&self.jobs)
+        let mut jobs = lock(&self.jobs);
+        jobs.at(Now::read());
+        jobs
     }
 
     /// Why there is no connection just now, if there is none. It is said once.
@@ -247,7 +251,7 @@ impl Link {
             return Err(io::Error::other(Refused::LeaseEnded));
         }
         jobs.advance(Asking::Allowed);
-        jobs.tick_if_due(Instant::now());
+        jobs.tick_if_due();
         Ok(self.send(jobs))
     }
 
@@ -295,7 +299,7 @@ impl Link {
     /// Leaves a server that is of an older epoch than one that the client has heard, if there are
     /// others: it may go on for ever, and the one that serves waits for the client's report.
     fn compare_epochs(&self, message: &[u8]) -> io::Result<()> {
-        let Some(epoch) = epoch_of(message) else { return Ok(()) };
+        let Some(epoch) = Message::read(message).epoch() else { return Ok(()) };
         let known = self.epoch.fetch_max(epoch, Ordering::Relaxed);
         if epoch >= known || !self.servers.are_several() {
             return Ok(());

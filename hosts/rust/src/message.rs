@@ -1,107 +1,159 @@
-//! The fields of messages that a host looks at. `docs/WIRE.md` has the table.
-
+//! What a host reads of the library's messages: the one place that knows where their fields stand.
+//! `docs/WIRE.md` has the table.
 use std::ops::Range;
 
-/// Where a Lock and a Grant have the number of their request: behind the head and two numbers.
+const KIND_AT: usize = 1;
+const CLIENT_AT: usize = 2;
+const INCARNATION_AT: usize = 10;
+
+/// Where a message to a client has its epoch, after its head.
+const EPOCH_AT: usize = 18;
+
+/// Where a callback has the points that it calls back: from the first number to the second.
+const SPAN_AT: [usize; 2] = [26, 34];
+
+/// Where a Lock and a Grant have the number of their request: after the head and two numbers.
 const REQUEST_AT: usize = 34;
 
 /// The version of the messages that the library reads.
 pub(crate) const VERSION: u8 = 1;
 
-/// The kinds of messages that a host looks for, in a message's second byte.
+/// The bytes of the kinds that a host looks for.
 pub(crate) mod kind {
     pub(crate) const HELLO: u8 = 0;
     pub(crate) const BYE: u8 = 1;
     pub(crate) const REPORT: u8 = 2;
     pub(crate) const LOCK: u8 = 3;
     pub(crate) const RELEASE: u8 = 7;
+    pub(crate) const ACK: u8 = 8;
     pub(crate) const GRANT: u8 = 17;
     pub(crate) const ABSENT: u8 = 18;
     pub(crate) const ANSWER: u8 = 19;
     pub(crate) const CALLBACK: u8 = 20;
 }
 
-/// Where a message's kind stands.
-const KIND_AT: usize = 1;
-
-/// What a message is about, as far as a host cares.
+/// What kind of message it is, as far as a host cares.
 #[derive(Clone, Copy, Debug, PartialEq, Eq)]
 pub(crate) enum Kind {
-    Bye,
-    Push,
-    Other,
-}
-
-/// The client that a message names, if it is one.
-pub(crate) fn client_of(message: &[u8]) -> Option<u8> {
-    let client = u8::try_from(client_number(message)?).ok()?;
-    (client < 64).then_some(client)
-}
-
-/// The number that a message names as its client's.
-pub(crate) fn client_number(message: &[u8]) -> Option<u64> {
-    number(message, 2)
-}
-
-/// The client whose report a message is that begins so, and the client's incarnation.
-pub(crate) fn reporter(head: &[u8]) -> Option<(u8, u64)> {
-    let is_report = head.get(..2) == Some(&[VERSION, kind::REPORT]);
-    Some((client_of(head)?, incarnation_of(head)?)).filter(|_| is_report)
-}
-
-/// Whether a string is of another version than the messages that the library reads.
-pub(crate) fn is_of_another_version(message: &[u8]) -> bool {
-    message.first().is_some_and(|version| *version != VERSION)
-}
-
-/// The incarnation of the client that a message names.
-pub(crate) fn incarnation_of(message: &[u8]) -> Option<u64> {
-    number(message, 10)
-}
-
-/// The epoch that a message to a client is of.
-pub(crate) fn epoch_of(message: &[u8]) -> Option<u64> {
-    number(message, 18)
-}
-
-/// The points that a message to a client calls back, if it is a callback.
-pub(crate) fn called_back(message: &[u8]) -> Option<Range<u64>> {
-    if message.get(KIND_AT) != Some(&kind::CALLBACK) {
-        return None;
-    }
-    Some(number(message, 26)?..number(message, 34)?)
-}
-
-/// What the message is about. Only of messages that the library wrote or took.
-pub(crate) fn kind_of(message: &[u8]) -> Kind {
-    match message.get(KIND_AT) {
-        Some(&kind::BYE) => Kind::Bye,
-        Some(&(kind::GRANT | kind::ABSENT | kind::ANSWER)) => Kind::Push,
-        _ => Kind::Other,
-    }
-}
-
-/// The messages between which a server measures time.
-#[derive(Clone, Copy, Debug, PartialEq, Eq)]
-pub(crate) enum Timed {
     Hello,
-    Lock { request: u64 },
+    Bye,
+    Report,
+    Lock,
     Release,
-    Grant { request: u64 },
+    Ack,
+    Grant,
+    Absent,
+    Answer,
     Callback,
     Other,
 }
 
-/// What the message is, as far as a server measures time by it. Only of messages that the library
-/// wrote or took.
-pub(crate) fn timed_of(message: &[u8]) -> Timed {
-    match (message.get(KIND_AT), number(message, REQUEST_AT)) {
-        (Some(&kind::HELLO), _) => Timed::Hello,
-        (Some(&kind::LOCK), Some(request)) => Timed::Lock { request },
-        (Some(&kind::RELEASE), _) => Timed::Release,
-        (Some(&kind::GRANT), Some(request)) => Timed::Grant { request },
-        (Some(&kind::CALLBACK), _) => Timed::Callback,
-        _ => Timed::Other,
+/// What each message begins with.
+#[derive(Clone, Copy, Debug, PartialEq, Eq)]
+pub(crate) struct Head {
+    pub kind: Kind,
+    /// The number that the message names as its client's. It may be none.
+    pub number: u64,
+    pub incarnation: u64,
+}
+
+/// A string that may be a message, and its head.
+#[derive(Clone, Copy, Debug)]
+pub(crate) struct Message<'m> {
+    bytes: &'m [u8],
+    head: Option<Head>,
+}
+
+impl Kind {
+    fn of(byte: u8) -> Kind {
+        match byte {
+            kind::HELLO => Kind::Hello,
+            kind::BYE => Kind::Bye,
+            kind::REPORT => Kind::Report,
+            kind::LOCK => Kind::Lock,
+            kind::RELEASE => Kind::Release,
+            kind::ACK => Kind::Ack,
+            kind::GRANT => Kind::Grant,
+            kind::ABSENT => Kind::Absent,
+            kind::ANSWER => Kind::Answer,
+            kind::CALLBACK => Kind::Callback,
+            _ => Kind::Other,
+        }
+    }
+
+    /// Whether a client acknowledges it.
+    pub fn is_push(self) -> bool {
+        matches!(self, Kind::Grant | Kind::Absent | Kind::Answer)
+    }
+
+    /// Whether it may be a part of the end of a client.
+    pub fn is_of_an_end(self) -> bool {
+        matches!(self, Kind::Hello | Kind::Bye | Kind::Report | Kind::Ack)
+    }
+}
+
+impl Head {
+    fn read(bytes: &[u8]) -> Option<Head> {
+        let (kind, number) = (Kind::of(*bytes.get(KIND_AT)?), number(bytes, CLIENT_AT)?);
+        Some(Head { kind, number, incarnation: self::number(bytes, INCARNATION_AT)? })
+    }
+
+    /// The client that the message names, if it is one.
+    pub fn client(self) -> Option<u8> {
+        u8::try_from(self.number).ok().filter(|client| *client < 64)
+    }
+}
+
+impl<'m> Message<'m> {
+    pub fn read(bytes: &'m [u8]) -> Message<'m> {
+        Message { bytes, head: Head::read(bytes) }
+    }
+
+    pub fn bytes(&self) -> &'m [u8] {
+        self.bytes
+    }
+
+    /// What it begins with, or `None` of a string that is too short for a message.
+    pub fn head(&self) -> Option<Head> {
+        self.head
+    }
+
+    /// The client that it names, if it is one.
+    pub fn client(&self) -> Option<u8> {
+        self.head?.client()
+    }
+
+    pub fn kind(&self) -> Kind {
+        self.head.map_or(Kind::Other, |head| head.kind)
+    }
+
+    /// Whether it is of another version than the messages that the library reads.
+    pub fn is_of_another_version(&self) -> bool {
+        self.bytes.first().is_some_and(|version| *version != VERSION)
+    }
+
+    /// The client whose report it is, and the client's incarnation.
+    pub fn reporter(&self) -> Option<(u8, u64)> {
+        let head = self.head.filter(|head| head.kind == Kind::Report)?;
+        let reporter = Some((head.client()?, head.incarnation));
+        reporter.filter(|_| !self.is_of_another_version())
+    }
+
+    /// The epoch that a message to a client is of.
+    pub fn epoch(&self) -> Option<u64> {
+        number(self.bytes, EPOCH_AT)
+    }
+
+    /// The points that a message to a client calls back, if it is a callback.
+    pub fn called_back(&self) -> Option<Range<u64>> {
+        let [start, end] = SPAN_AT.map(|at| number(self.bytes, at));
+        Some(start?..end?).filter(|_| self.kind() == Kind::Callback)
+    }
+
+    /// The number of the request of a Lock or a Grant.
+    pub fn request(&self) -> Option<u64> {
+        let has_one = matches!(self.kind(), Kind::Lock | Kind::Grant);
+        number(self.bytes, REQUEST_AT).filter(|_| has_one)
     }
 }
 
@@ -110,7 +162,7 @@ fn number(message: &[u8], at: usize) -> Option<u64> {
     Some(u64::from_le_bytes(*bytes))
 }
 
-/// What a host says to the library to evict a client: the Hello and the Bye of the next incarnation.
+/// What a host gives the library to evict a client: the Hello and the Bye of the next incarnation.
 pub(crate) fn eviction(client: u8, successor: u64) -> [Vec<u8>; 2] {
     [kind::HELLO, kind::BYE].map(|kind| {
         let numbers = [u64::from(client).to_le_bytes(), successor.to_le_bytes()];
@@ -153,27 +205,27 @@ pub(crate) mod tests {
 
     #[test]
     fn requests_have_their_numbers() {
-        assert_eq!(timed_of(&lock(3, 5)), Timed::Lock { request: 5 });
-        assert_eq!(timed_of(&grant(3, 5)), Timed::Grant { request: 5 });
-        assert_eq!(timed_of(&callback(3)), Timed::Callback);
-        assert_eq!(timed_of(&release(3)), Timed::Release);
-        assert_eq!(timed_of(&hello(3)), Timed::Hello);
-        assert_eq!(timed_of(&message(8, &[3, 2, 1, 4])), Timed::Other);
-        assert_eq!(timed_of(&lock(3, 5)[..40]), Timed::Other);
+        let request = |bytes: &[u8]| Message::read(bytes).request();
+        assert_eq!((request(&lock(3, 5)), request(&grant(3, 6))), (Some(5), Some(6)));
+        for other in [callback(3), release(3), hello(3), message(kind::ACK, &[3, 2, 1, 4, 5])] {
+            assert_eq!(request(&other), None, "{other:?}");
+        }
+        assert_eq!(request(&lock(3, 5)[..40]), None);
     }
 
     #[test]
     fn short_strings_have_no_fields() {
         for kind in 0..=255 {
             for length in 0..60 {
-                let mut message = vec![1, kind];
-                message.resize(length.max(2), 0xff);
-                let _ = kind_of(&message);
-                assert_eq!(client_of(&message), None);
+                let mut bytes = vec![1, kind];
+                bytes.resize(length.max(2), 0xff);
+                let message = Message::read(&bytes);
+                let _ = (message.epoch(), message.called_back(), message.request());
+                assert_eq!(message.client(), None);
             }
         }
-        assert_eq!(kind_of(&[]), Kind::Other);
-        assert_eq!(incarnation_of(&[1; 17]), None);
+        assert_eq!(Message::read(&[]).kind(), Kind::Other);
+        assert_eq!(Message::read(&[1; 17]).head(), None);
     }
 
     #[test]
@@ -185,24 +237,30 @@ pub(crate) mod tests {
 
     #[test]
     fn a_callback_has_its_span() {
-        let mut message = vec![1, kind::CALLBACK];
-        for number in [3u64, 2, 1, 100, 200] {
-            message.extend_from_slice(&number.to_le_bytes());
+        let mut bytes = message(kind::CALLBACK, &[3, 2, 1, 100, 200]);
+        bytes.push(0);
+        assert_eq!(Message::read(&bytes).called_back(), Some(100..200));
+        assert_eq!(Message::read(&bytes).epoch(), Some(1));
+        assert_eq!(Message::read(&bytes[..40]).called_back(), None);
+        bytes[KIND_AT] = kind::GRANT;
+        assert_eq!(Message::read(&bytes).called_back(), None);
+    }
+
+    #[test]
+    fn only_a_report_has_a_reporter() {
+        let head = |version, kind| [&[version][..], &message(kind, &[3, 7])[1..]].concat();
+        assert_eq!(Message::read(&head(1, kind::REPORT)).reporter(), Some((3, 7)));
+        for (version, kind) in [(1, 0), (1, 1), (1, 3), (1, 8), (0, 2), (2, 2)] {
+            assert_eq!(Message::read(&head(version, kind)).reporter(), None, "{version} {kind}");
         }
-        message.push(0);
-        assert_eq!(called_back(&message), Some(100..200));
-        assert_eq!(epoch_of(&message), Some(1));
-        assert_eq!(called_back(&message[..40]), None);
-        message[KIND_AT] = kind::GRANT;
-        assert_eq!(called_back(&message), None);
+        assert_eq!(Message::read(&message(kind::REPORT, &[64, 7])).reporter(), None);
     }
 
     #[test]
     fn fields_stand_in_their_places() {
-        let mut bye = vec![1, kind::BYE];
-        bye.extend_from_slice(&3u64.to_le_bytes());
-        bye.extend_from_slice(&(1u64 << 60).to_le_bytes());
-        assert_eq!(kind_of(&bye), Kind::Bye);
-        assert_eq!((client_of(&bye), incarnation_of(&bye)), (Some(3), Some(1 << 60)));
+        let bye = message(kind::BYE, &[3, 1 << 60]);
+        let head = Head { kind: Kind::Bye, number: 3, incarnation: 1 << 60 };
+        assert_eq!(Message::read(&bye).head(), Some(head));
+        assert_eq!((head.client(), Head { number: 64, ..head }.client()), (Some(3), None));
     }
 }

@@ -1,4 +1,5 @@
 //! Scans of several caches at one moment.
+use crate::boot_clock::Moment;
 use crate::client_handle::{Cache, HeldCache, Scan};
 use crate::row::Row;
 use std::ops::Range;
@@ -26,7 +27,7 @@ fn scan_and_do(known: &[Known<'_>], rows: &mut Vec<Row>, mut between: impl FnMut
         if place > 0 {
             between();
         }
-        if held[place].scan_behind(keys, rows) != Ok(Scan::Rows) {
+        if held[place].scan_behind(keys, rows, Moment::now) != Ok(Scan::Rows) {
             return false;
         }
     }

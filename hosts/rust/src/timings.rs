@@ -1,7 +1,7 @@
 //! How long things take in a server, as histograms.
 //!
 //! A measurement costs one increment of an atomic in the server's thread, and no memory.
-use crate::message::{Timed, timed_of};
+use crate::message::{Kind, Message};
 use crate::watch::CLIENTS;
 use std::sync::atomic::{AtomicU64, Ordering};
 use std::time::{Duration, Instant};
@@ -115,9 +115,9 @@ impl Timings {
         }
     }
 
-    /// The store has made a commit of so many changes, which began then.
-    pub fn committed(&self, changes: usize, began: Instant) {
-        self.commits.add_time(began.elapsed());
+    /// The store has made a commit of so many changes, which took so long.
+    pub fn committed(&self, changes: usize, time: Duration) {
+        self.commits.add_time(time);
         self.commit_changes.add(changes as u64);
     }
 
@@ -201,37 +201,37 @@ impl Open {
     }
 
     /// A message of the client was taken.
-    pub fn heard(&mut self, client: u8, message: &[u8], now: Instant, timings: &Timings) {
+    pub fn heard(&mut self, client: u8, message: Message<'_>, now: Instant, timings: &Timings) {
         let place = usize::from(client);
-        match timed_of(message) {
+        match (message.kind(), message.request()) {
             // Only a request that is new begins: a client repeats one that is not answered, and a
             // repeat may come after the grant.
-            Timed::Lock { request } if request != self.last_request[place] => {
+            (Kind::Lock, Some(request)) if request != self.last_request[place] => {
                 self.last_request[place] = request;
                 self.asked[place] = Some(Asked { request, since: now });
             }
-            Timed::Release => {
+            (Kind::Release, _) => {
                 if let Some(since) = self.called_back[place].take() {
                     timings.releases.add_time(now.saturating_duration_since(since));
                 }
             }
             // What an earlier incarnation asked, or was told to give back, is over.
-            Timed::Hello => self.forget(place),
+            (Kind::Hello, _) => self.forget(place),
             _ => {}
         }
     }
 
     /// A message to the client leaves.
-    pub fn said(&mut self, client: u8, message: &[u8], now: Instant, timings: &Timings) {
+    pub fn said(&mut self, client: u8, message: Message<'_>, now: Instant, timings: &Timings) {
         let place = usize::from(client);
-        match timed_of(message) {
-            Timed::Grant { request } => {
+        match (message.kind(), message.request()) {
+            (Kind::Grant, Some(request)) => {
                 if let Some(asked) = self.asked[place].take_if(|it| it.request == request) {
                     timings.grants.add_time(now.saturating_duration_since(asked.since));
                 }
             }
             // A callback that is said again is as old as it was.
-            Timed::Callback => {
+            (Kind::Callback, _) => {
                 self.called_back[place].get_or_insert(now);
             }
             _ => {}
@@ -267,13 +267,13 @@ mod tests {
     #[test]
     fn a_request_lasts_from_its_first_message_to_its_grant() {
         let (timings, mut open, start) = (Timings::new(), Open::new(), Instant::now());
-        open.heard(3, &lock(3, 5), start, &timings);
-        open.heard(3, &lock(3, 5), start + MS, &timings);
-        open.said(3, &grant(3, 4), start + 2 * MS, &timings);
-        open.said(4, &grant(4, 5), start + 2 * MS, &timings);
+        open.heard(3, Message::read(&lock(3, 5)), start, &timings);
+        open.heard(3, Message::read(&lock(3, 5)), start + MS, &timings);
+        open.said(3, Message::read(&grant(3, 4)), start + 2 * MS, &timings);
+        open.said(4, Message::read(&grant(4, 5)), start + 2 * MS, &timings);
         assert_eq!(timings.read().grants.count, 0);
-        open.said(3, &grant(3, 5), start + 7 * MS, &timings);
-        open.said(3, &grant(3, 5), start + 9 * MS, &timings);
+        open.said(3, Message::read(&grant(3, 5)), start + 7 * MS, &timings);
+        open.said(3, Message::read(&grant(3, 5)), start + 9 * MS, &timings);
         let grants = timings.read().grants;
         assert_eq!((grants.count, grants.sum), (1, 7_000));
     }
@@ -281,28 +281,28 @@ mod tests {
     #[test]
     fn a_late_repeat_of_a_request_is_no_new_one() {
         let (timings, mut open, start) = (Timings::new(), Open::new(), Instant::now());
-        open.heard(3, &lock(3, 5), start, &timings);
-        open.said(3, &grant(3, 5), start + MS, &timings);
-        open.heard(3, &lock(3, 5), start + 2 * MS, &timings);
-        open.said(3, &grant(3, 5), start + 9 * MS, &timings);
+        open.heard(3, Message::read(&lock(3, 5)), start, &timings);
+        open.said(3, Message::read(&grant(3, 5)), start + MS, &timings);
+        open.heard(3, Message::read(&lock(3, 5)), start + 2 * MS, &timings);
+        open.said(3, Message::read(&grant(3, 5)), start + 9 * MS, &timings);
         assert_eq!(timings.read().grants.count, 1);
         // Another incarnation counts its requests anew.
-        open.heard(3, &hello(3), start, &timings);
-        open.heard(3, &lock(3, 5), start, &timings);
-        open.said(3, &grant(3, 5), start + MS, &timings);
+        open.heard(3, Message::read(&hello(3)), start, &timings);
+        open.heard(3, Message::read(&lock(3, 5)), start, &timings);
+        open.said(3, Message::read(&grant(3, 5)), start + MS, &timings);
         assert_eq!(timings.read().grants.count, 2);
     }
 
     #[test]
     fn a_callback_lasts_until_the_next_release() {
         let (timings, mut open, start) = (Timings::new(), Open::new(), Instant::now());
-        open.heard(3, &release(3), start, &timings);
-        open.said(3, &callback(3), start, &timings);
-        open.said(3, &callback(3), start + 3 * MS, &timings);
-        open.heard(4, &release(4), start + 4 * MS, &timings);
+        open.heard(3, Message::read(&release(3)), start, &timings);
+        open.said(3, Message::read(&callback(3)), start, &timings);
+        open.said(3, Message::read(&callback(3)), start + 3 * MS, &timings);
+        open.heard(4, Message::read(&release(4)), start + 4 * MS, &timings);
         assert_eq!(timings.read().releases.count, 0);
-        open.heard(3, &release(3), start + 5 * MS, &timings);
-        open.heard(3, &release(3), start + 6 * MS, &timings);
+        open.heard(3, Message::read(&release(3)), start + 5 * MS, &timings);
+        open.heard(3, Message::read(&release(3)), start + 6 * MS, &timings);
         let releases = timings.read().releases;
         assert_eq!((releases.count, releases.sum), (1, 5_000));
     }
@@ -314,7 +314,7 @@ mod tests {
         assert!(timings.since_last_turn() >= 20 * MS);
         timings.turned(Instant::now(), Instant::now());
         assert!(timings.since_last_turn() < 20 * MS);
-        timings.committed(3, Instant::now());
+        timings.committed(3, 5 * MS);
         let measured = timings.read();
         assert_eq!((measured.turns.count, measured.commits.count), (1, 1));
         assert_eq!((measured.commit_changes.count, measured.commit_changes.sum), (1, 3));

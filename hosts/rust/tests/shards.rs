@@ -168,7 +168,7 @@ fn a_range_that_is_pinned_does_not_change_at_any_shard() {
 
 #[test]
 fn a_write_is_bound_to_the_pin_at_the_shard_of_its_key() {
-    let world = World::new("bound");
+    let world = World::new("bound_writes");
     world.insert_rows([10, 300]);
     let client = world.join(1);
     let (_, pin) = client.pin_for_update(0..400).unwrap();

@@ -1,6 +1,8 @@
 //! How many scans of one client many threads make, beside a mutex. `bench/readers/run.sh` runs it.
 use super::world::{ROWS, STEP, Scanned, World, are_rows};
 use super::{ClientHandle, Scan};
+use crate::boot_clock::Moment;
+use crate::clocks::Now;
 use crate::row::Row;
 use std::ops::Range;
 use std::sync::atomic::{AtomicU32, Ordering};
@@ -119,11 +121,13 @@ fn many_readers() {
     let rounds = std::env::var("KRL_ROUNDS").map_or(100, |rounds| rounds.parse().unwrap());
     let mut gated = World::new(|client| client);
     let cache = gated.scanned.cache();
-    let by_gate = |keys: &Range<u64>, rows: &mut Vec<Row>| cache.scan(keys, rows) == Ok(Scan::Rows);
+    let by_gate = |keys: &Range<u64>, rows: &mut Vec<Row>| {
+        cache.scan(keys, rows, Moment::now) == Ok(Scan::Rows)
+    };
     let mut locked = World::new(|client: ClientHandle| Arc::new(Mutex::new(client)));
-    let client = Arc::clone(&locked.scanned);
+    let (client, now) = (Arc::clone(&locked.scanned), Now::read());
     let by_mutex = |keys: &Range<u64>, rows: &mut Vec<Row>| {
-        client.lock().unwrap().scan(keys, rows) == Ok(Scan::Rows)
+        client.lock().unwrap().scan(keys, rows, now) == Ok(Scan::Rows)
     };
     println!(
         "| rows | callbacks | threads | mutex, k/s | gate, k/s | gate / mutex | gate / its 1 |"

@@ -105,7 +105,8 @@ fn has_last(scan: impl FnOnce(&mut Vec<Row>) -> Result<Scan, Code>) -> bool {
 fn no_scan_has_what_another_client_holds_alone() {
     let mut world = World::new(|client| client);
     let cache = world.scanned.cache();
-    let judged = judge(&mut world, || has_last(|rows| cache.scan(&LAST, rows)), |_| {});
+    let judged =
+        judge(&mut world, || has_last(|rows| cache.scan(&LAST, rows, Moment::now)), |_| {});
     let Judged { callbacks, scans, wrong } = judged;
     println!("{callbacks} callbacks, {scans} scans while the row was taken, {wrong} with the row");
     assert!(wrong == 0 && scans > 0, "{judged:?}");
@@ -119,7 +120,9 @@ fn the_judge_tells_scans_that_see_too_long_what_was_given_up() {
     let judged = judge(
         &mut world,
         || copy.swap(true, Ordering::SeqCst),
-        |client| copy.store(has_last(|rows| client.scan(&LAST, rows)), Ordering::SeqCst),
+        |client| {
+            copy.store(has_last(|rows| client.scan(&LAST, rows, Now::read())), Ordering::SeqCst);
+        },
     );
     assert!(judged.wrong > 0, "{judged:?}");
 }
@@ -135,10 +138,13 @@ fn a_release_leaves_when_the_scans_have_ended_that_see_what_it_gives_up() {
     thread::scope(|scope| {
         scope.spawn(move || {
             cache.0.read(|handle| {
-                assert!(has_last(|rows| handle.scan(&LAST, rows)));
+                assert!(has_last(|rows| handle.scan(&LAST, rows, Moment::now)));
                 tell_in.send(()).unwrap();
                 go.recv().unwrap();
-                assert!(has_last(|rows| handle.scan(&LAST, rows)), "given up around a reader");
+                assert!(
+                    has_last(|rows| handle.scan(&LAST, rows, Moment::now)),
+                    "given up around a reader"
+                );
             });
         });
         is_in.recv().unwrap();
@@ -156,18 +162,18 @@ fn a_release_leaves_when_the_scans_have_ended_that_see_what_it_gives_up() {
         assert!(!release.join().unwrap().is_empty());
         assert!(has_waited, "it left before the reader");
     });
-    assert!(!has_last(|rows| world.scanned.scan(&LAST, rows)));
+    assert!(!has_last(|rows| world.scanned.scan(&LAST, rows, Now::read())));
 }
 
 #[test]
 fn what_was_cached_goes_with_the_client() {
     let mut world = World::new(|client| client);
     let cache = world.scanned.cache();
-    assert!(has_last(|rows| cache.scan(&LAST, rows)));
+    assert!(has_last(|rows| cache.scan(&LAST, rows, Moment::now)));
     world.scanned.replace(ClientHandle::closed());
-    assert_eq!(cache.scan(&LAST, &mut Vec::new()), Err(Code::Closed));
+    assert_eq!(cache.scan(&LAST, &mut Vec::new(), Moment::now), Err(Code::Closed));
     world.scanned.replace(ClientHandle::open(0, 2).unwrap());
-    assert_eq!(cache.scan(&LAST, &mut Vec::new()), Ok(Scan::Miss(LAST.start)));
+    assert_eq!(cache.scan(&LAST, &mut Vec::new(), Moment::now), Ok(Scan::Miss(LAST.start)));
     let mut frames = Vec::new();
     world.scanned.take(&mut frames).unwrap();
     assert!(!frames.is_empty(), "it says Hello");
@@ -178,13 +184,13 @@ fn a_scan_makes_the_room_that_it_needs() {
     let world = World::new(|client| client);
     let mut rows = vec![Row::default(); 3];
     for keys in [LAST, ALL, 0..LAST.start, LAST] {
-        assert_eq!(world.scanned.scan(&keys, &mut rows), Ok(Scan::Rows));
+        assert_eq!(world.scanned.scan(&keys, &mut rows, Now::read()), Ok(Scan::Rows));
         assert!(are_rows(&rows, &keys));
     }
-    assert_eq!(world.scanned.scan(&(5..6), &mut rows), Ok(Scan::Rows));
+    assert_eq!(world.scanned.scan(&(5..6), &mut rows, Now::read()), Ok(Scan::Rows));
     assert!(rows.is_empty());
     let reversed = Range { start: 6, end: 5 };
-    assert_eq!(world.scanned.scan(&reversed, &mut rows), Err(Code::BadSpan));
+    assert_eq!(world.scanned.scan(&reversed, &mut rows, Now::read()), Err(Code::BadSpan));
 }
 
 #[test]

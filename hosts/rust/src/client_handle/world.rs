@@ -1,9 +1,10 @@
 //! A server and two clients of the library in one process, whose messages are handed over at once.
 use super::{ClientHandle, Mode, Scan};
 use crate::change::{Change, Snapshot};
+use crate::clocks::Now;
 use crate::frames::split;
 use crate::handle::ServerHandle;
-use crate::message::client_of;
+use crate::message::Message;
 use crate::room::Room;
 use crate::row::{Row, Value};
 use std::ops::Range;
@@ -61,7 +62,7 @@ impl<S: Scanned> World<S> {
     fn read_all(&mut self) {
         let mut rows = Vec::new();
         while let Scan::Miss(point) =
-            self.scanned.change(|client| client.scan(&ALL, &mut rows)).unwrap()
+            self.scanned.change(|client| client.scan(&ALL, &mut rows, Now::read())).unwrap()
         {
             self.scanned.change(|client| client.lock(point..ALL.end, Mode::RangeSS)).unwrap();
             self.settle();
@@ -78,7 +79,7 @@ impl<S: Scanned> World<S> {
                 return;
             }
             for (message, _) in split(&self.frames) {
-                match client_of(message) {
+                match Message::read(message).client() {
                     Some(0) => self.scanned.change(|client| client.step(message)).unwrap(),
                     _ => self.other.step(message).unwrap(),
                 }
@@ -120,7 +121,7 @@ impl<S: Scanned> World<S> {
         self.hear_clients();
         self.hear_server();
         let (callback, _) = split(&self.frames).next().expect("a callback");
-        assert_eq!(client_of(callback), Some(0));
+        assert_eq!(Message::read(callback).client(), Some(0));
         callback.to_vec()
     }
 

@@ -119,12 +119,12 @@ pub(super) struct Closings {
 
 impl Closings {
     /// A connection is closed. `why` says more.
-    pub fn closed(&mut self, at: &At, reason: CloseReason, why: &dyn fmt::Display) {
+    pub fn closed(&mut self, at: &At, reason: CloseReason, why: &dyn fmt::Display, now: Instant) {
         self.counts.count(reason);
         event_log::closed(at, reason.word());
         if let Some(news) = reason.news() {
             let seldom = &mut self.seldom[reason as usize];
-            if let Some(passed_over) = seldom.lets(Instant::now()) {
+            if let Some(passed_over) = seldom.lets(now) {
                 event_log::closed_by_server(at, news, why, passed_over);
             }
         }

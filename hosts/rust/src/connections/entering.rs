@@ -22,11 +22,12 @@ impl Connections {
     fn open(&mut self, accepted: Accepted) {
         let (number, address) = (self.next, accepted.peer);
         self.next += 1;
-        match Peer::new(accepted, number, &self.poller, &self.access, self.longest, self.now) {
+        let now = self.now.monotonic;
+        match Peer::new(accepted, number, &self.poller, &self.access, self.longest, now) {
             Ok(peer) => {
                 event_log::opened(&At { connection: number, peer: address });
                 self.open.insert(number, peer);
-                let gone = self.strangers.comes(number, address.machine(), self.now);
+                let gone = self.strangers.comes(number, address.machine(), now);
                 self.close_one(gone, CloseReason::StrangerCrowded);
             }
             // The system has no room for it: it is closed.

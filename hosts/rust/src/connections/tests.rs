@@ -214,7 +214,7 @@ fn a_peer_that_takes_nothing_stops_nobody_and_costs_a_bounded_room() {
     connections.wait(Duration::from_millis(200)).unwrap();
     assert!(begun.elapsed() >= Duration::from_millis(200));
     // After its time it is closed, and the other one is not.
-    connections.now = Instant::now() + STALL;
+    connections.now = Now::read().after(STALL);
     connections.close_dead();
     assert_eq!((connections.count(), connections.open.contains_key(&other)), (1, true));
 }
@@ -243,10 +243,10 @@ fn a_silent_peer_is_closed_in_its_time() {
     let (mut silent, _) = peer(&mut connections, at);
     silent.write_all(&frame(b"one")).unwrap();
     assert!(hear(&mut connections).is_some());
-    connections.now = Instant::now() + LONG / 2;
+    connections.now = Now::read().after(LONG / 2);
     connections.close_dead();
     assert_eq!(connections.count(), 1);
-    connections.now = Instant::now() + LONG;
+    connections.now = Now::read().after(LONG);
     connections.close_dead();
     assert_eq!(connections.count(), 0);
 }
@@ -259,7 +259,7 @@ fn one_that_has_said_no_whole_frame_is_closed_in_a_shorter_time() {
     assert_eq!(hear(&mut connections), None);
     connections.close_dead();
     assert_eq!(connections.count(), 1);
-    connections.now = Instant::now() + PATIENCE;
+    connections.now = Now::read().after(PATIENCE);
     connections.close_dead();
     assert_eq!(connections.count(), 0);
     assert_eq!(closed(&connections, "stranger_late"), 1);

@@ -1,12 +1,12 @@
 //! The Hello of a client's host, and what follows if the store lacks what that host has seen.
 use super::{EventLoop, LAST_TURNS};
+use crate::clocks::Now;
 use crate::connections::closing::CloseReason;
 use crate::history::Mark;
 use crate::host_frame::FromServer;
 use crate::identity::Identity;
 use crate::server::ServeError;
 use crate::store::Store;
-use std::time::Instant;
 
 impl<S: Store> EventLoop<S> {
     /// Answers the Hello of a client's host, which has seen so much of the store.
@@ -14,7 +14,12 @@ impl<S: Store> EventLoop<S> {
     /// If the store lacks that, people are told too, and nothing more is heard of the connection:
     /// its client knows what is not so, and what it says is lost as if it had crashed. Then the
     /// server ends, unless a stranger may have said so.
-    pub(super) fn greet(&mut self, connection: u64, seen: Option<Mark>) -> Result<(), ServeError> {
+    pub(super) fn greet(
+        &mut self,
+        connection: u64,
+        seen: Option<Mark>,
+        now: Now,
+    ) -> Result<(), ServeError> {
         let Some(lacked) = seen.filter(|seen| !self.has(*seen)) else {
             self.connections.greet(connection, FromServer::Hello { answers_signs: true });
             return Ok(());
@@ -31,7 +36,7 @@ impl<S: Store> EventLoop<S> {
         self.connections.greet(connection, FromServer::WentBack);
         self.connections.end(connection, CloseReason::OlderStore);
         if ends_by_the_word_of(&identity) {
-            self.end_in_order(ServeError::OlderStore { identity, seen: lacked });
+            self.end_in_order(ServeError::OlderStore { identity, seen: lacked }, now);
         }
         Ok(())
     }
@@ -43,8 +48,8 @@ impl<S: Store> EventLoop<S> {
     }
 
     /// Ends as a server that is told to stop, with the first such error.
-    fn end_in_order(&mut self, error: ServeError) {
-        self.until.get_or_insert_with(|| Instant::now() + LAST_TURNS);
+    fn end_in_order(&mut self, error: ServeError, now: Now) {
+        self.until.get_or_insert(now.monotonic + LAST_TURNS);
         self.failure.get_or_insert(error);
     }
 }

@@ -3,20 +3,25 @@ use super::EventLoop;
 use crate::ahead;
 use crate::boot_clock::Moment;
 use crate::change::Change;
+use crate::clocks::Now;
 use crate::code::Code;
 use crate::lease::Sign;
-use crate::message::{self, Timed, client_of, incarnation_of, timed_of};
+use crate::message::{self, Head, Kind};
 use crate::refusal::Refusal;
 use crate::server::ServeError;
 use crate::store::Store;
-use std::time::SystemTime;
 
 impl<S: Store> EventLoop<S> {
-    /// Takes a sign. The answer leaves with the batch of this turn, so behind its commit. The host
+    /// Takes a sign, which has come by now. The answer leaves with the batch of this turn, so behind its commit. The host
     /// of an incarnation that has ended is told why.
-    pub(super) fn hear_sign(&mut self, connection: u64, sign: Sign) -> Result<(), ServeError> {
+    pub(super) fn hear_sign(
+        &mut self,
+        connection: u64,
+        sign: Sign,
+        now: Now,
+    ) -> Result<(), ServeError> {
         self.status.signs += 1;
-        let Some(answer) = self.leases.sign(sign, now()?) else { return Ok(()) };
+        let Some(answer) = self.leases.sign(sign, boot(now)?) else { return Ok(()) };
         let (client, registered) = (sign.client, self.leases.registered(sign.client));
         if registered > sign.incarnation {
             self.connections.refuse(connection, Refusal::Incarnation { client, registered });
@@ -29,21 +34,23 @@ impl<S: Store> EventLoop<S> {
     /// Whether the library may have the message. A Hello that has to wait for the end of an older
     /// lease, or is too far ahead of the server's clock, counts as lost, and the client's host is
     /// told why.
-    pub(super) fn hears(&mut self, connection: u64, message: &[u8]) -> Result<bool, ServeError> {
-        let is_hello = timed_of(message) == Timed::Hello;
-        let (true, Some(client), Some(incarnation)) =
-            (is_hello, client_of(message), incarnation_of(message))
-        else {
-            return Ok(true);
-        };
+    pub(super) fn hears(
+        &mut self,
+        connection: u64,
+        head: Option<Head>,
+        now: Now,
+    ) -> Result<bool, ServeError> {
+        let hello = head.filter(|head| head.kind == Kind::Hello);
+        let hello = hello.and_then(|head| Some((head.client()?, head.incarnation)));
+        let Some((client, incarnation)) = hello else { return Ok(true) };
         let registered = self.leases.registered(client);
-        let latest = ahead::latest(registered, SystemTime::now());
+        let latest = ahead::latest(registered, now.wall);
         if incarnation > latest {
             self.log.far_ahead(&self.connections.at(connection), client, incarnation);
             self.connections.refuse(connection, Refusal::FarAhead { client, latest });
             return Ok(false);
         }
-        let is_heard = self.leases.hears(client, incarnation, now()?);
+        let is_heard = self.leases.hears(client, incarnation, boot(now)?);
         if !is_heard {
             self.connections.refuse(connection, Refusal::LeaseRuns { client, registered });
         }
@@ -57,12 +64,13 @@ impl<S: Store> EventLoop<S> {
     pub(super) fn keep(
         &mut self,
         change: Change,
+        now: Now,
         changes: &mut Vec<Change>,
     ) -> Result<(), ServeError> {
         match change {
             Change::Registered { client, incarnation } => {
                 let before = self.leases.record();
-                let record = self.leases.register(client, incarnation, now()?);
+                let record = self.leases.register(client, incarnation, boot(now)?);
                 if record != before {
                     changes.push(Change::Leased(record));
                 }
@@ -75,12 +83,15 @@ impl<S: Store> EventLoop<S> {
     }
 
     /// Evicts each client whose lease has ended, and stores less of leases if less is enough now.
-    pub(super) fn evict_silent(&mut self, changes: &mut Vec<Change>) -> Result<(), ServeError> {
-        let now = now()?;
-        for (client, incarnation) in self.leases.to_evict(now) {
-            self.evict(client, incarnation, changes)?;
+    pub(super) fn evict_silent(
+        &mut self,
+        now: Now,
+        changes: &mut Vec<Change>,
+    ) -> Result<(), ServeError> {
+        for (client, incarnation) in self.leases.to_evict(boot(now)?) {
+            self.evict(client, incarnation, now, changes)?;
         }
-        changes.extend(self.leases.revise(now).map(Change::Leased));
+        changes.extend(self.leases.revise(boot(now)?).map(Change::Leased));
         Ok(())
     }
 
@@ -89,6 +100,7 @@ impl<S: Store> EventLoop<S> {
         &mut self,
         client: u8,
         incarnation: u64,
+        now: Now,
         changes: &mut Vec<Change>,
     ) -> Result<(), ServeError> {
         let Some(successor) = incarnation.checked_add(1) else { return Ok(()) };
@@ -99,7 +111,7 @@ impl<S: Store> EventLoop<S> {
                 Ok(None) => {}
                 Ok(Some(change)) => {
                     self.status.evicted += u64::from(matches!(change, Change::Left { .. }));
-                    self.keep(change, changes)?;
+                    self.keep(change, now, changes)?;
                 }
                 // A later nudge comes back to it. There is none greater than the greatest
                 // incarnation, which a stranger may take: it can't be evicted.
@@ -111,6 +123,7 @@ impl<S: Store> EventLoop<S> {
     }
 }
 
-fn now() -> Result<Moment, ServeError> {
-    Moment::now().map_err(ServeError::Clock)
+/// The clock by which leases run.
+fn boot(now: Now) -> Result<Moment, ServeError> {
+    now.boot().map_err(ServeError::Clock)
 }

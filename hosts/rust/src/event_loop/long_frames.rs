@@ -4,7 +4,8 @@ use crate::change::Record;
 use crate::connections::closing::CloseReason;
 use crate::frames::HEAD;
 use crate::identity::Identity;
-use crate::message::reporter;
+use crate::incoming::Incoming;
+use crate::message::Message;
 use crate::routing::{Sender, sender};
 use crate::server::ServeError;
 use crate::store::Store;
@@ -18,12 +19,12 @@ impl<S: Store> EventLoop<S> {
         connection: u64,
         head: &[u8; HEAD],
     ) -> Result<(), ServeError> {
-        let identity = self.connections.identity(connection);
-        if !identity.may_say(head) {
-            self.deny(connection, head);
+        let (identity, frame) = (self.connections.identity(connection), Incoming::read(head));
+        if !identity.may_say(&frame) {
+            self.deny(connection, &frame);
             return Ok(());
         }
-        let Some((client, incarnation)) = reporter(head) else {
+        let Some((client, incarnation)) = Message::read(head).reporter() else {
             self.break_off(connection);
             return Ok(());
         };
@@ -68,15 +69,5 @@ mod tests {
         assert!(!may_be(8, &three, Some(&record)), "another incarnation");
         assert!(!may_be(7, &three, None));
         assert!(!may_be(7, &three, Some(&Record { left: true, ..record })));
-    }
-
-    #[test]
-    fn only_a_report_begins_as_one() {
-        let numbers = [3u64.to_le_bytes(), 7u64.to_le_bytes()];
-        let head = |version, kind| [&[version, kind][..], numbers.as_flattened()].concat();
-        assert_eq!(reporter(&head(1, 2)), Some((3, 7)));
-        for (version, kind) in [(1, 0), (1, 1), (1, 3), (1, 8), (0, 2), (2, 2)] {
-            assert_eq!(reporter(&head(version, kind)), None, "{version} {kind}");
-        }
     }
 }

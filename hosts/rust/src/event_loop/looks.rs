@@ -1,19 +1,20 @@
 //! What a server's loop looks up for others: who waits, and who holds what.
 use super::EventLoop;
 use crate::change::Change;
+use crate::clocks::Now;
 use crate::locks::{HeldSlot, Page, Search};
 use crate::store::Store;
-use std::time::{Duration, Instant};
-
-/// How long a look goes on to count what clients hold.
-const COUNTS: Duration = Duration::from_millis(2);
 
 impl<S: Store> EventLoop<S> {
-    /// Who holds and who waits: a page of what is searched.
-    pub(super) fn look_up(&mut self, mut search: Search, end: Instant) -> Page {
-        self.look_at_waits(Instant::now());
-        let held =
-            search.page(|client, from| self.next_held(client, from), || Instant::now() >= end);
+    /// Who holds and who waits: a page of what is searched, or less if it is late.
+    pub(super) fn look_up(
+        &mut self,
+        mut search: Search,
+        now: Now,
+        is_late: impl FnMut() -> bool,
+    ) -> Page {
+        self.look_at_waits(now);
+        let held = search.page(|client, from| self.next_held(client, from), is_late);
         Page { held, waits: self.status.waits.clone(), rest: search }
     }
 
@@ -25,26 +26,22 @@ impl<S: Store> EventLoop<S> {
         }
     }
 
-    fn look_at_waits(&mut self, now: Instant) {
+    /// Sees who waits for whom.
+    pub(super) fn look_at_waits(&mut self, now: Now) {
         if let Ok(waiting) = self.server.waiting() {
-            self.status.waits = self.watch.waits(waiting, now);
+            self.status.waits = self.watch.waits(waiting, now.monotonic);
         }
     }
 
-    /// Sees who waits for whom, and how much the clients hold of which that may have changed: at
-    /// least one, and more as long as that takes little time.
-    pub(super) fn look(&mut self) {
-        self.look_at_waits(self.nudged);
-        let end = Instant::now() + COUNTS;
-        while let Some(client) = self.watch.next_to_count() {
-            if let Ok(slots) = self.server.held(client) {
-                self.watch.counted(client, slots);
-            }
-            if Instant::now() >= end {
-                break;
-            }
+    /// Counts how much one of the clients holds of which that may have changed. It answers whether
+    /// there was one.
+    pub(super) fn count_next(&mut self) -> bool {
+        let Some(client) = self.watch.next_to_count() else { return false };
+        if let Ok(slots) = self.server.held(client) {
+            self.watch.counted(client, slots);
         }
         self.status.holdings = self.watch.holdings().to_vec();
+        true
     }
 
     /// Sees who has joined or left by these changes: what they held is shown no more.

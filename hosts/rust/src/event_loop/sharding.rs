@@ -1,8 +1,8 @@
 //! Whom a server of a shard hears: clients that take it for what it serves.
 use super::EventLoop;
 use crate::connections::closing::CloseReason;
-use crate::host_frame::{self, FromClient, FromServer};
-use crate::lease::Sign;
+use crate::host_frame::{FromClient, FromServer};
+use crate::incoming::Incoming;
 use crate::refusal::Refusal;
 use crate::shard_bounds::ShardBounds;
 use crate::shard_fence::{self, OtherShard};
@@ -17,22 +17,23 @@ impl<S: Store> EventLoop<S> {
 
     /// Whether a frame is heard further. A message and a sign are heard behind the word of the client's
     /// host that it takes the server for what it serves, or at a server of all keys.
-    pub(super) fn lets_in(&mut self, connection: u64, frame: &[u8]) -> bool {
-        match FromClient::read(frame) {
-            Some(FromClient::Shard(expected)) => {
+    pub(super) fn lets_in(&mut self, connection: u64, frame: &Incoming<'_>) -> bool {
+        match *frame {
+            Incoming::Host(Some(FromClient::Shard(expected))) => {
                 if self.compare(connection, Some(expected)) {
                     self.connections.tell(connection, &FromServer::Shard(expected).frame());
                 }
-                return false;
+                false
             }
-            Some(FromClient::NoShard) => {
+            Incoming::Host(Some(FromClient::NoShard)) => {
                 self.refuse(connection, OtherShard { expected: None, served: self.shard });
-                return false;
+                false
             }
-            Some(FromClient::Hello(_)) | None => {}
+            Incoming::Host(Some(FromClient::Hello(_)) | None) => true,
+            Incoming::Message(_) | Incoming::Sign(_) => {
+                self.connections.is_let_in(connection) || self.compare(connection, None)
+            }
         }
-        let is_free = host_frame::is_of_host(frame) && Sign::read(frame).is_none();
-        is_free || self.connections.is_let_in(connection) || self.compare(connection, None)
     }
 
     /// Lets the connection in if its client takes the server for what it serves, and else ends it. It

@@ -4,7 +4,7 @@ use crate::address::Address;
 use crate::boot_clock::Moment;
 use crate::change::Snapshot;
 use crate::history::Mark;
-use crate::lease::Older;
+use crate::lease::{Older, Sign};
 use crate::lease_record::LeaseRecord;
 use crate::leases::{Answer, Leases};
 use crate::refusal::ClientSet;
@@ -240,7 +240,7 @@ fn the_greatest_incarnation_is_not_evicted_and_ends_no_server() {
     // An older server has registered it: this one would not.
     let registered = events.server.step(&hello).unwrap().unwrap();
     events.server.confirm(&[registered]).unwrap();
-    events.keep(registered, &mut Vec::new()).unwrap();
+    events.keep(registered, Now::read(), &mut Vec::new()).unwrap();
     peer.write_all(&sign_of(GREATEST)).unwrap();
     turns_until(&mut events, 1).unwrap();
     let end = Instant::now() + Duration::from_millis(2 * LEASE);

@@ -8,7 +8,7 @@
 use super::Jobs;
 use crate::client_handle::{ClientHandle, Shown};
 use crate::code::Code;
-use crate::message::{Kind, called_back, kind_of};
+use crate::message::Message;
 use std::ops::Range;
 
 /// So many callbacks are taken again. A server has one for each client that waits, and 64 clients.
@@ -45,16 +45,16 @@ impl Crossed {
 
 impl Jobs {
     /// Gives the client a message, and behind a push the callbacks that may have crossed it.
-    pub(super) fn step(&mut self, message: &[u8]) -> Result<(), Code> {
-        if let Some(span) = called_back(message) {
+    pub(super) fn step(&mut self, message: Message<'_>) -> Result<(), Code> {
+        if let Some(span) = message.called_back() {
             if self.shows(Shown::awaits_a_push) {
-                self.crossed.note(span.clone(), message);
+                self.crossed.note(span.clone(), message.bytes());
             }
-            return self.give_callback(&span, message);
+            return self.give_callback(&span, message.bytes());
         }
         let was_waiting = self.shows(|shown| shown.is_waiting);
-        give(&mut self.client, message)?;
-        if kind_of(message) == Kind::Push { self.call_back_again(was_waiting) } else { Ok(()) }
+        give(&mut self.client, message.bytes())?;
+        if message.kind().is_push() { self.call_back_again(was_waiting) } else { Ok(()) }
     }
 
     /// Whether this is so of the client, if it is still there.

@@ -80,7 +80,7 @@ impl Jobs {
         // A grant is looked at once: a callback may come behind it.
         let granted = if is_granted { taking.asked.take() } else { None };
         let mut rows = Vec::new();
-        let known = match self.client.scan(&taking.keys, &mut rows)? {
+        let known = match self.client.scan(&taking.keys, &mut rows, self.now)? {
             Scan::Rows => taking.keys.end,
             Scan::Miss(point) => point,
             Scan::Pending | Scan::Ended => return Ok(None),
@@ -116,7 +116,7 @@ impl Jobs {
             return Ok(taking.next);
         }
         let mut rows = Vec::new();
-        let Scan::Rows = self.client.scan(&(taking.next..known), &mut rows)? else {
+        let Scan::Rows = self.client.scan(&(taking.next..known), &mut rows, self.now)? else {
             return Ok(taking.next);
         };
         let mut held = taking.next;

@@ -23,7 +23,7 @@ pub(super) enum Speech {
 impl Jobs {
     /// The sign with which a connection begins. Until its answer comes, the library says nothing.
     pub fn greet(&mut self) -> io::Result<Sign> {
-        let now = Moment::now()?;
+        let now = self.now.boot()?;
         let sign = self.client.lease_mut().greet(now).ok_or(ErrorKind::Interrupted)?;
         self.speech = Speech::AwaitsTerms(now);
         Ok(sign)
@@ -37,7 +37,7 @@ impl Jobs {
     /// The greeting again, if it has not been answered for long.
     pub fn greet_again_if_due(&mut self) -> Option<Sign> {
         let Speech::AwaitsTerms(greeted) = self.speech else { return None };
-        let now = Moment::now().ok().filter(|now| now.since(greeted) >= GREETS_AGAIN)?;
+        let now = self.now.boot().ok().filter(|now| now.since(greeted) >= GREETS_AGAIN)?;
         let sign = self.client.lease_mut().greet_again(now)?;
         self.speech = Speech::AwaitsTerms(now);
         Some(sign)
@@ -45,7 +45,7 @@ impl Jobs {
 
     /// The connection is one on which the server answers no signs.
     pub fn go_without_terms(&mut self) -> io::Result<()> {
-        let now = Moment::now()?;
+        let now = self.now.boot()?;
         self.client.lease_mut().go_without_terms(now);
         self.speak();
         Ok(())
@@ -56,13 +56,13 @@ impl Jobs {
         self.client.lease_mut().disconnect();
     }
 
-    /// Takes what the server's host answers to a sign. The clock is read behind it.
+    /// Takes what the server's host answers to a sign. The client's moment is one after it has come.
     ///
     /// An incarnation that has ended while it says Bye has left: the Bye is kept, or it was evicted.
     pub fn hear_answer(&mut self, answer: Answer) -> io::Result<()> {
         match answer {
             Answer::Granted(grant) => {
-                if self.client.lease_mut().take(grant, Moment::now()?) {
+                if self.client.lease_mut().take(grant, self.now.boot()?) {
                     self.speak();
                 }
             }
@@ -88,9 +88,8 @@ impl Jobs {
         }
     }
 
-    /// Whether the lease holds, by a look at the clock just now.
     fn holds_lease(&self) -> bool {
-        self.client.lease().end().allows(Moment::now)
+        self.client.lease().end().allows(|| self.now.boot())
     }
 
     /// Appends what the client says, and a sign if one is due. What may not be said is lost, and so
@@ -104,8 +103,8 @@ impl Jobs {
         }
         let is_alone = frames.len() == before;
         let company = if is_alone { Company::Nothing } else { Company::Messages };
-        let sign =
-            Moment::now().ok().and_then(|now| self.client.lease_mut().sign_due(now, company));
+        let now = self.now.boot().ok();
+        let sign = now.and_then(|now| self.client.lease_mut().sign_due(now, company));
         frames.extend(sign.map(Sign::frame).unwrap_or_default());
     }
 
@@ -122,7 +121,7 @@ impl Jobs {
     /// How long the client may answer from its cache if no terms come any more, or `None` if for
     /// ever.
     pub fn lease_left(&self) -> Option<Duration> {
-        match Moment::now() {
+        match self.now.boot() {
             Ok(now) if !self.is_void() => self.client.lease().left(now),
             _ => Some(Duration::ZERO),
         }

@@ -1,5 +1,6 @@
 use super::world::{World, row};
 use super::*;
+use crate::boot_clock::Moment;
 
 #[test]
 fn each_job_has_its_answer() {
@@ -82,14 +83,14 @@ fn a_cache_knows_nothing_of_what_was_dropped() {
     let cache = world.clients[0].cache();
     let (keys, mut rows) = (0..30, Vec::new());
     world.read(0, keys.clone());
-    assert_eq!(cache.scan(&keys, &mut rows), Ok(Scan::Rows));
+    assert_eq!(cache.scan(&keys, &mut rows, Moment::now), Ok(Scan::Rows));
     world.clients[0].drop_all(Dropped::StoreWentBack);
-    assert_eq!(cache.scan(&keys, &mut rows), Err(Code::Closed));
+    assert_eq!(cache.scan(&keys, &mut rows, Moment::now), Err(Code::Closed));
     world.clients[0].begin_anew(ClientHandle::open(0, 2).unwrap());
-    assert_eq!(cache.scan(&keys, &mut rows), Ok(Scan::Miss(0)));
+    assert_eq!(cache.scan(&keys, &mut rows, Moment::now), Ok(Scan::Miss(0)));
     world.settle();
     world.read(0, keys.clone());
-    assert_eq!(cache.scan(&keys, &mut rows), Ok(Scan::Rows));
+    assert_eq!(cache.scan(&keys, &mut rows, Moment::now), Ok(Scan::Rows));
 }
 
 #[test]

@@ -65,7 +65,7 @@ impl Jobs {
     /// answered it has learnt nothing else.
     fn knows(&mut self, keys: &Range<u64>, rows: &[Row]) -> bool {
         let mut room = std::mem::take(&mut self.room);
-        let is_known = match self.client.scan(keys, &mut room) {
+        let is_known = match self.client.scan(keys, &mut room, self.now) {
             Ok(Scan::Rows) => room == rows,
             Ok(Scan::Pending) => true,
             _ => false,

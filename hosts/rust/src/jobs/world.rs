@@ -2,12 +2,14 @@
 use super::{Asking, Jobs};
 use crate::change::{Change, Outcome, Snapshot, Write};
 use crate::client_handle::{ClientHandle, Scan};
+use crate::clocks::Now;
 use crate::frames::split;
 use crate::handle::ServerHandle;
-use crate::message::client_of;
+use crate::message::Message;
 use crate::room::Room;
 use crate::row::{Row, Value};
 use std::ops::Range;
+use std::time::Duration;
 
 /// A server and two clients of it.
 pub(crate) struct World {
@@ -26,7 +28,8 @@ impl World {
         let (mut server, epoch) =
             ServerHandle::open(&Snapshot::default(), Room::default()).unwrap();
         server.confirm(&[Change::Started { epoch }]).unwrap();
-        let clients = [0, 1].map(|number| Jobs::new(ClientHandle::open(number, 1).unwrap()));
+        let clients =
+            [0, 1].map(|number| Jobs::new(ClientHandle::open(number, 1).unwrap(), Now::read()));
         let mut world = World { server, clients };
         let joined = [0, 1].map(|place: usize| world.clients[place].join());
         assert!(joined.iter().all(|joined| joined.answer.try_recv().is_err()), "too early");
@@ -61,7 +64,7 @@ impl World {
     pub fn tell_clients(&mut self) -> usize {
         let said = self.said_by_server();
         for message in &said {
-            let client = usize::from(client_of(message).unwrap());
+            let client = usize::from(Message::read(message).client().unwrap());
             self.clients[client].hear(message).unwrap();
         }
         said.len()
@@ -95,8 +98,15 @@ impl World {
     }
 
     pub fn is_cached(&mut self, client: usize, keys: Range<u64>) -> bool {
-        self.clients[client].cache().scan(&keys, &mut Vec::new()) == Ok(Scan::Rows)
+        let jobs = &self.clients[client];
+        jobs.cache().scan(&keys, &mut Vec::new(), || jobs.now.boot()) == Ok(Scan::Rows)
     }
+}
+
+/// So much time passes for the client.
+pub(crate) fn pass(jobs: &mut Jobs, time: Duration) {
+    let later = jobs.now.after(time);
+    jobs.at(later);
 }
 
 pub(crate) fn row(key: u64, number: u64) -> Row {

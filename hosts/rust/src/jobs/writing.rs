@@ -102,6 +102,6 @@ impl Jobs {
 
     fn is_empty_at(&mut self, key: u64) -> bool {
         let mut rows = Vec::new();
-        self.client.scan(&(key..key + 1), &mut rows) == Ok(Scan::Rows) && rows.is_empty()
+        self.client.scan(&(key..key + 1), &mut rows, self.now) == Ok(Scan::Rows) && rows.is_empty()
     }
 }

@@ -88,7 +88,7 @@ impl Link {
     /// sleep. It answers when that is due again.
     fn say_again(&self) -> Duration {
         let mut jobs = self.jobs();
-        jobs.tick_if_due(Instant::now());
+        jobs.tick_if_due();
         let pace = jobs.pace();
         self.send(jobs);
         pace

@@ -1,5 +1,6 @@
 //! What callers share with the thread of the connection.
 use super::*;
+use crate::boot_clock::Moment;
 use crate::client_handle::{ClientHandle, Scan};
 use crate::host_frame::FromServer;
 use crate::stream::Stream;
@@ -10,7 +11,7 @@ use std::os::unix::net::UnixStream;
 const SHORT: Duration = Duration::from_millis(100);
 
 fn link() -> Link {
-    let jobs = Jobs::new(ClientHandle::open(1, 1).unwrap());
+    let jobs = Jobs::new(ClientHandle::open(1, 1).unwrap(), Now::read());
     Link::new("unix:nowhere".parse().unwrap(), jobs, None)
 }
 
@@ -32,7 +33,7 @@ fn a_peer_that_takes_nothing_holds_no_call_beyond_its_deadline() {
         }
         let begun = Instant::now();
         for _ in 0..1000 {
-            let found = link.cache().scan(&(0..9), &mut Vec::new());
+            let found = link.cache().scan(&(0..9), &mut Vec::new(), Moment::now);
             assert_eq!(found, Ok(Scan::Miss(0)));
         }
         assert!(begun.elapsed() < STALL / 2, "a look into the cache waits for no stream");

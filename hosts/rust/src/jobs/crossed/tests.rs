@@ -4,7 +4,7 @@ use super::*;
 use crate::change::{Outcome, Write};
 use crate::jobs::world::{World, row};
 use crate::jobs::{Asked, Asking};
-use crate::message::client_of;
+use crate::message::Message;
 use crate::message::kind::{LOCK, RELEASE};
 
 const HASTY: usize = 0;
@@ -42,7 +42,7 @@ fn trip(world: &mut World, mut hasten: impl FnMut(&mut World)) -> Vec<u8> {
         world.tell_server(said);
     }
     for message in world.said_by_server() {
-        let client = usize::from(client_of(&message).unwrap());
+        let client = usize::from(Message::read(&message).client().unwrap());
         world.clients[client].hear(&message).unwrap();
         world.clients[client].advance(Asking::Allowed);
         hasten(world);

@@ -1,40 +1,39 @@
-use super::super::world::{World, messages, row};
+use super::super::world::{World, messages, pass, row};
 use super::super::{Asking, Code};
 use super::*;
 use crate::change::{Outcome, Write};
 use crate::client_handle::{ClientHandle, Scan};
+use crate::clocks::Now;
 use crate::lease::{FOR_EVER, Grant, Older};
 use crate::refused::Refused;
-use std::thread::sleep;
 
 const LONG: u64 = 60_000_000_000;
 const SHORT: Duration = Duration::from_millis(30);
 
-/// A lease in nanoseconds, and the parts of it behind which a sign rides on messages and goes alone.
-const LEASE: u64 = 3_000_000_000;
-const RIDES: u64 = 6;
-const GOES_ALONE: u64 = 3;
+/// A lease, and the longest times after which a sign does not yet ride on messages and go alone.
+const LEASE: Duration = Duration::from_secs(3);
+const RIDES_NOT: Duration = Duration::from_nanos(499_999_999);
+const GOES_NOT_ALONE: Duration = Duration::from_nanos(999_999_999);
+
+const NANOSECOND: Duration = Duration::from_nanos(1);
 
 fn granted(sign: Sign, length: u64) -> Answer {
     Answer::Granted(Grant { incarnation: sign.incarnation, stamp: sign.stamp, length })
 }
 
-/// Greets, and takes terms of this length.
-fn lease_for(jobs: &mut Jobs, length: u64) {
-    let sign = jobs.greet().unwrap();
-    jobs.hear_answer(granted(sign, length)).unwrap();
+fn client() -> Jobs {
+    Jobs::new(ClientHandle::open(0, 1).unwrap(), Now::read())
 }
 
-/// What this comes to if it takes less than so many nanoseconds: what it shows holds for so long
-/// alone. On a busy machine it may take longer, and is done again.
-fn within<T>(nanoseconds: u64, mut act: impl FnMut() -> T) -> T {
-    loop {
-        let begun = Moment::now().unwrap();
-        let shown = act();
-        if Moment::now().unwrap().since(begun) < nanoseconds {
-            return shown;
-        }
-    }
+fn nanoseconds(time: Duration) -> u64 {
+    u64::try_from(time.as_nanos()).unwrap()
+}
+
+/// Greets, and takes terms of this length.
+fn lease_for(jobs: &mut Jobs, length: u64) {
+    pass(jobs, NANOSECOND);
+    let sign = jobs.greet().unwrap();
+    jobs.hear_answer(granted(sign, length)).unwrap();
 }
 
 /// A world in which client 0 reads a range by a lease that has ended.
@@ -42,14 +41,14 @@ fn ended() -> World {
     let mut world = World::new();
     assert_eq!(world.write(1, Write::Insert(row(10, 1))), Outcome::Applied);
     world.read(0, 0..20);
-    lease_for(&mut world.clients[0], u64::try_from(SHORT.as_nanos()).unwrap());
-    sleep(2 * SHORT);
+    lease_for(&mut world.clients[0], nanoseconds(SHORT));
+    pass(&mut world.clients[0], SHORT);
     world
 }
 
 #[test]
 fn nothing_of_the_library_is_said_before_the_terms() {
-    let mut jobs = Jobs::new(ClientHandle::open(0, 1).unwrap());
+    let mut jobs = client();
     let said = |jobs: &mut Jobs| messages(|frames| jobs.take(frames));
     let sign = jobs.greet().unwrap();
     jobs.tick();
@@ -60,6 +59,7 @@ fn nothing_of_the_library_is_said_before_the_terms() {
     assert_eq!(said(&mut jobs).len(), 1, "its Hello");
     assert!(jobs.lease_left().unwrap() > Duration::from_secs(50));
     // Another connection, and the terms of the one before.
+    pass(&mut jobs, NANOSECOND);
     jobs.greet().unwrap();
     jobs.hear_answer(granted(sign, LONG)).unwrap();
     jobs.tick();
@@ -68,14 +68,11 @@ fn nothing_of_the_library_is_said_before_the_terms() {
 
 #[test]
 fn a_greeting_that_is_lost_is_said_again_and_each_is_answered() {
-    let (mut jobs, first, again) = within(GREETS_AGAIN, || {
-        let mut jobs = Jobs::new(ClientHandle::open(0, 1).unwrap());
-        let first = jobs.greet().unwrap();
-        let again = jobs.greet_again_if_due();
-        (jobs, first, again)
-    });
-    assert_eq!(again, None);
-    sleep(Duration::from_nanos(GREETS_AGAIN));
+    let mut jobs = client();
+    let first = jobs.greet().unwrap();
+    pass(&mut jobs, Duration::from_nanos(GREETS_AGAIN - 1));
+    assert_eq!(jobs.greet_again_if_due(), None);
+    pass(&mut jobs, NANOSECOND);
     let second = jobs.greet_again_if_due().unwrap();
     assert!(second.stamp > first.stamp);
     jobs.hear_answer(granted(first, LONG)).unwrap();
@@ -85,13 +82,15 @@ fn a_greeting_that_is_lost_is_said_again_and_each_is_answered() {
 
 #[test]
 fn a_server_without_signs_grants_for_ever_who_has_no_terms() {
-    let mut jobs = Jobs::new(ClientHandle::open(0, 1).unwrap());
+    let mut jobs = client();
     jobs.greet().unwrap();
     jobs.go_without_terms().unwrap();
     assert_eq!((jobs.speech, jobs.lease_left()), (Speech::Free, None));
+    pass(&mut jobs, NANOSECOND);
     assert_eq!(jobs.greet().unwrap().length, FOR_EVER, "the next server is told so");
     // Terms that end are lived by, whatever another server says.
     lease_for(&mut jobs, LONG);
+    pass(&mut jobs, NANOSECOND);
     jobs.greet().unwrap();
     jobs.go_without_terms().unwrap();
     assert!(jobs.lease_left().is_some_and(|left| left > Duration::ZERO));
@@ -100,12 +99,13 @@ fn a_server_without_signs_grants_for_ever_who_has_no_terms() {
 #[test]
 fn behind_the_end_nothing_is_answered_said_or_taken() {
     let mut world = ended();
-    let cache = world.clients[0].cache();
-    assert_eq!(cache.scan(&(0..20), &mut Vec::new()), Ok(Scan::Ended));
+    let (cache, now) = (world.clients[0].cache(), world.clients[0].now);
+    let scan = || cache.scan(&(0..20), &mut Vec::new(), || now.boot());
+    assert_eq!(scan(), Ok(Scan::Ended));
     world.clients[0].tick();
     assert_eq!(world.said(0).len(), 0);
     assert!(world.clients[0].hear(&[]).is_ok() && world.clients[0].is_void());
-    assert_eq!(cache.scan(&(0..20), &mut Vec::new()), Err(Code::Closed));
+    assert_eq!(scan(), Err(Code::Closed));
     assert_eq!(world.clients[0].lease_left(), Some(Duration::ZERO));
 }
 
@@ -118,8 +118,8 @@ fn a_write_on_its_way_ends_and_other_jobs_go_on() {
         (world.clients[0].read(0..50), world.clients[0].write(Write::Insert(row(11, 3))));
     let lost = world.said(0);
     assert!(!lost.is_empty());
-    lease_for(&mut world.clients[0], u64::try_from(SHORT.as_nanos()).unwrap());
-    sleep(2 * SHORT);
+    lease_for(&mut world.clients[0], nanoseconds(SHORT));
+    pass(&mut world.clients[0], SHORT);
     world.clients[0].end_lease_if_over();
     assert_eq!(write.answer.try_recv(), Ok(Err(Refused::LeaseEnded)));
     assert!(read.answer.try_recv().is_err() && later.answer.try_recv().is_err());
@@ -141,8 +141,8 @@ fn a_pin_holds_as_long_as_the_lease() {
     world.read(0, 0..20);
     let pin = world.clients[0].pin(0..20).unwrap();
     assert!(world.clients[0].holds_pin(pin));
-    lease_for(&mut world.clients[0], u64::try_from(SHORT.as_nanos()).unwrap());
-    sleep(2 * SHORT);
+    lease_for(&mut world.clients[0], nanoseconds(SHORT));
+    pass(&mut world.clients[0], SHORT);
     assert!(!world.clients[0].holds_pin(pin));
     assert_eq!(world.clients[0].pin(0..20), Err(Refused::LeaseEnded));
     world.clients[0].begin_anew(ClientHandle::open(0, 2).unwrap());
@@ -172,37 +172,21 @@ fn signs(jobs: &mut Jobs) -> usize {
     said.iter().filter(|frame| Sign::read(frame).is_some()).count()
 }
 
-/// A client that has just said a sign, and how many it says with the message behind that.
-fn just_signed() -> (Jobs, usize) {
-    within(LEASE / RIDES, || {
-        let mut jobs = Jobs::new(ClientHandle::open(0, 1).unwrap());
-        lease_for(&mut jobs, LEASE);
-        jobs.tick();
-        let riding = signs(&mut jobs);
-        (jobs, riding)
-    })
-}
-
-/// The same client when a sign may ride and does not go alone yet, and how many it says alone.
-fn may_ride() -> (Jobs, [usize; 2]) {
-    within(LEASE / GOES_ALONE, || {
-        let (mut jobs, riding) = just_signed();
-        sleep(Duration::from_nanos(LEASE / RIDES));
-        let alone = signs(&mut jobs);
-        (jobs, [riding, alone])
-    })
-}
-
 #[test]
 fn signs_ride_on_messages_and_go_alone_when_they_must() {
-    let said = within(LEASE, || {
-        let (mut jobs, [too_early, alone_too_early]) = may_ride();
-        jobs.tick();
-        let riding = signs(&mut jobs);
-        sleep(Duration::from_nanos(LEASE / GOES_ALONE));
-        [too_early, alone_too_early, riding, signs(&mut jobs)]
-    });
-    assert_eq!(said, [0, 0, 1, 1]);
+    let mut jobs = client();
+    lease_for(&mut jobs, nanoseconds(LEASE));
+    pass(&mut jobs, RIDES_NOT);
+    jobs.tick();
+    assert_eq!(signs(&mut jobs), 0, "too early, with messages");
+    pass(&mut jobs, NANOSECOND);
+    assert_eq!(signs(&mut jobs), 0, "too early, alone");
+    jobs.tick();
+    assert_eq!(signs(&mut jobs), 1);
+    pass(&mut jobs, GOES_NOT_ALONE);
+    assert_eq!(signs(&mut jobs), 0);
+    pass(&mut jobs, NANOSECOND);
+    assert_eq!(signs(&mut jobs), 1);
 }
 
 #[test]
@@ -219,8 +203,8 @@ fn a_write_that_is_bound_to_a_pin_is_made_while_the_pin_holds_or_never() {
     let free = world.clients[0].write(Write::Insert(row(12, 3)));
     let lost = world.said(0);
     assert!(!lost.is_empty());
-    lease_for(&mut world.clients[0], u64::try_from(SHORT.as_nanos()).unwrap());
-    sleep(2 * SHORT);
+    lease_for(&mut world.clients[0], nanoseconds(SHORT));
+    pass(&mut world.clients[0], SHORT);
     let void = world.clients[0].write_under(pin, Write::Put(row(10, 4)));
     assert_eq!(sent.answer.try_recv(), Ok(Err(Refused::LeaseEnded)));
     assert_eq!(waits.answer.try_recv(), Ok(Err(Refused::PinIsVoid)));
