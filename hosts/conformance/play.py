@@ -37,6 +37,8 @@ REASONS = (
     "LeaseRuns",
     "Denied",
     "OtherShard",
+    "FarAhead",
+    "OtherStore",
 )
 HOST_KINDS = {
     "Hello": 16,

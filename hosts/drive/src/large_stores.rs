@@ -53,7 +53,8 @@ pub fn run(folder: &Path) -> Found {
 fn full() -> Snapshot {
     let row = |place: u64| (STEP * place, value_of(place, 0));
     let rows = (0..Room::MAX.rows() as u64).map(row).collect();
-    Snapshot { epoch: 1, rows, room: Some(Room::MAX), ..Snapshot::default() }
+    let (room, first_start) = (Some(Room::MAX), Some(7));
+    Snapshot { epoch: 1, rows, room, first_start, ..Snapshot::default() }
 }
 
 /// A value of 32 bytes for the key of this place, by what wrote it.

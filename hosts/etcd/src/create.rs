@@ -55,8 +55,14 @@ fn table_of(snapshot: &Snapshot, salt: u64) -> Table {
         records: snapshot.records.clone(),
         leases: snapshot.leases,
         room: snapshot.room,
-        starts: Vec::new(),
+        starts: snapshot.first_start.map(first_start).into_iter().collect(),
     }
+}
+
+/// What keeps the first start of the store that was copied. No batch that was committed since is
+/// here: who has seen more than that start finds an older store.
+fn first_start(first_start: u128) -> (u64, Head) {
+    (0, Head { owner: first_start, ..Head::EMPTY })
 }
 
 impl Place<'_> {
@@ -79,7 +85,7 @@ impl Place<'_> {
         }
         let mut operations = vec![request::put(&self.key("head"), self.mark.as_bytes())];
         if left.is_some() {
-            let folders = ["bucket", "client", "lease", "room"];
+            let folders = ["bucket", "client", "lease", "room", "start"];
             operations.extend(folders.map(|name| request::delete_all(&self.key(name))));
         }
         self.transaction(left.as_deref(), &operations)
@@ -127,7 +133,8 @@ impl Place<'_> {
         let clients = table.records.iter();
         let clients = clients.filter_map(|record| table.set_record(self.prefix, record.client));
         let others = [Some(table.set_leases(self.prefix)), table.set_room(self.prefix)];
-        buckets.chain(clients).chain(others.into_iter().flatten()).collect()
+        let others = others.into_iter().flatten().chain(table.set_starts(self.prefix));
+        buckets.chain(clients).chain(others).collect()
     }
 }
 
@@ -149,6 +156,7 @@ mod tests {
         create(&address, &credentials, &Snapshot::default()).unwrap();
         assert!(earlier.set(&[set]).is_err());
         let mut store = crate::EtcdStore::open(&address, &credentials).unwrap();
-        assert_eq!(krl::Store::load(&mut store).unwrap(), Snapshot::default());
+        let loaded = krl::Store::load(&mut store).unwrap();
+        assert_eq!(Snapshot { first_start: None, ..loaded }, Snapshot::default());
     }
 }

@@ -6,7 +6,8 @@
 //! PREFIX/client/03     the record of a client
 //! PREFIX/lease         what is known of leases
 //! PREFIX/room          the greatest room of a server, as a number of rows
-//! PREFIX/start/7       the head as the server of epoch 7 left it
+//! PREFIX/start/7       the head as the server of epoch 7 left it; in a copy of another store,
+//!                      start/0 has that one's first start
 //! PREFIX/active        the address of the server that serves, with a lease: no promise rests on it
 //! ```
 use crate::address::{Credentials, EtcdAddress};
@@ -135,7 +136,7 @@ impl EtcdStore {
         self.head = head;
         let (epoch, owner) = (head.map_or(0, |head| head.epoch), draw_owner()?);
         self.next = Head { epoch, owner, salt, buckets: self.table.buckets.count(), ..Head::EMPTY };
-        Ok(self.table.snapshot(epoch))
+        Ok(self.table.snapshot(epoch, head))
     }
 
     /// All that is stored, as it was at one moment: names behind the prefix, with their values.
@@ -371,7 +372,7 @@ impl Store for EtcdStore {
     fn snapshot(&mut self) -> Result<Snapshot, StoreError> {
         match &self.ended {
             Some(ended) => Err(ended.error()),
-            None => Ok(self.table.snapshot(self.next.epoch)),
+            None => Ok(self.table.snapshot(self.next.epoch, self.head)),
         }
     }
 

@@ -14,6 +14,8 @@ pub(crate) struct Table {
     pub records: Vec<Record>,
     pub leases: LeaseRecord,
     pub room: Option<Room>,
+    /// By epoch. A copy of another store has that one's first start at epoch 0, in which no server
+    /// starts.
     pub starts: Vec<(u64, Head)>,
 }
 
@@ -55,10 +57,13 @@ impl Table {
         has_rows || !self.records.is_empty() || !self.starts.is_empty() || self.room.is_some()
     }
 
-    pub fn snapshot(&self, epoch: u64) -> Snapshot {
+    /// The table as a snapshot, under this head.
+    pub fn snapshot(&self, epoch: u64, head: Option<Head>) -> Snapshot {
         let rows = self.buckets.iter().flatten().map(|(key, value)| (*key, *value)).collect();
         let (records, leases, room) = (self.records.clone(), self.leases, self.room);
-        Snapshot { epoch, rows, records, leases, room }
+        let first = self.starts.first().map(|(_, head)| *head).or(head);
+        let first_start = first.map(|head| head.owner);
+        Snapshot { epoch, rows, records, leases, room, first_start }
     }
 
     pub fn note_record(&mut self, change: &Change) {
@@ -83,6 +88,13 @@ impl Table {
 
     pub fn set_room(&self, prefix: &str) -> Option<Set> {
         Some(Set { key: format!("{prefix}/room"), value: self.room?.to_string().into() })
+    }
+
+    pub fn set_starts(&self, prefix: &str) -> impl Iterator<Item = Set> {
+        self.starts.iter().map(move |(epoch, head)| Set {
+            key: format!("{prefix}/start/{epoch}"),
+            value: head.to_string().into(),
+        })
     }
 
     fn parse_bucket(&mut self, name: &str, number: &str, value: &[u8]) -> Result<(), Failure> {

@@ -30,6 +30,8 @@ pub(crate) struct Batch {
     pub room: Option<Room>,
     /// A server starts: the head of the one before is kept.
     pub starts: bool,
+    /// The first start of the store that is copied.
+    pub first_start: Option<u128>,
 }
 
 impl Batch {
@@ -59,7 +61,8 @@ impl Batch {
     /// All that the snapshot has, for an empty database.
     pub fn of_all(snapshot: &Snapshot) -> Batch {
         let (leases, room) = (Some(snapshot.leases), snapshot.room);
-        let mut batch = Batch { leases, room, ..Batch::default() };
+        let first_start = snapshot.first_start;
+        let mut batch = Batch { leases, room, first_start, ..Batch::default() };
         snapshot.rows.iter().for_each(|(key, value)| batch.put(*key, *value));
         (0..).zip(&snapshot.records).for_each(|(place, record)| batch.set_record(place, record));
         batch

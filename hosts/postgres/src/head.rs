@@ -19,9 +19,9 @@ pub(crate) struct Head {
 }
 
 impl Head {
-    /// The owner as it is stored: 32 hexadecimal digits.
+    /// The owner as it is stored.
     pub fn owner_text(&self) -> String {
-        format!("{:032x}", self.owner)
+        owner_text(self.owner)
     }
 
     /// The head of a row of `epoch, owner, transaction, commits, format`, if it is one that a
@@ -37,6 +37,11 @@ impl Head {
             commits: number(3)?,
         })
     }
+}
+
+/// The bits of a start as they are stored: 32 hexadecimal digits.
+pub(crate) fn owner_text(owner: u128) -> String {
+    format!("{owner:032x}")
 }
 
 impl fmt::Display for Head {

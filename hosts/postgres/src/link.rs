@@ -1,6 +1,6 @@
 //! A connection to the database, which is made anew when it ends.
 use crate::batch::Batch;
-use crate::head::Head;
+use crate::head::{Head, owner_text};
 use crate::security::Tls;
 use crate::sql;
 use std::fmt;
@@ -214,7 +214,8 @@ async fn commit(
     let leases = batch.leases.unwrap_or_default();
     let (longest, unleased) = (leases.longest.cast_signed(), leases.unleased.bits().cast_signed());
     let room = batch.room.and_then(|room| i64::try_from(room.rows()).ok());
-    let values: [&(dyn ToSql + Sync); 22] = [
+    let first_start = batch.first_start.map(owner_text);
+    let values: [&(dyn ToSql + Sync); 23] = [
         &epoch,
         &owner,
         &transaction,
@@ -237,6 +238,7 @@ async fn commit(
         &longest,
         &unleased,
         &room,
+        &first_start,
     ];
     let count: i64 = session.client.query_one(&session.commit, &values).await?.try_get(0)?;
     // An attempt whose answer was lost may have set it. Then the replicas may still lack it.

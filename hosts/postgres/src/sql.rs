@@ -58,6 +58,9 @@ pub(crate) const COMMIT: &str = "
         WHERE epoch = $5 AND owner = $6 AND transaction = $7 AND commits = $8 RETURNING 1),
     past AS (
         INSERT INTO krl.start SELECT $5, $6, $8 WHERE $9 AND EXISTS (SELECT FROM fence)),
+    first AS (
+        INSERT INTO krl.start SELECT 0, $23::text, 0
+        WHERE $23::text IS NOT NULL AND EXISTS (SELECT FROM fence)),
     puts AS (
         INSERT INTO krl.entry SELECT * FROM unnest($10::bigint[], $11::bytea[])
         WHERE EXISTS (SELECT FROM fence)

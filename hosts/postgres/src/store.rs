@@ -163,6 +163,17 @@ impl PostgresStore {
         Ok(())
     }
 
+    fn whole_history(&self) -> Option<History> {
+        let Head { owner, commits, .. } = self.head;
+        let last = (owner != 0).then_some(Mark { start: owner, commits });
+        History::new(self.starts.iter().copied().chain(last).collect())
+    }
+
+    fn whole_snapshot(&self) -> Snapshot {
+        let first_start = self.whole_history().and_then(|history| history.first_start());
+        Snapshot { first_start, ..self.snapshot.clone() }
+    }
+
     /// Nothing is committed any more, even if the database comes back.
     fn end(&mut self, ended: Ended) -> StoreError {
         self.ended.insert(ended).error()
@@ -180,7 +191,7 @@ impl Store for PostgresStore {
         }
         self.load_once(Instant::now() + LOAD_TIMEOUT)?;
         self.ended = None;
-        Ok(self.snapshot.clone())
+        Ok(self.whole_snapshot())
     }
 
     fn commit(&mut self, changes: &[Change]) -> Result<(), StoreError> {
@@ -212,14 +223,12 @@ impl Store for PostgresStore {
     fn snapshot(&mut self) -> Result<Snapshot, StoreError> {
         match &self.ended {
             Some(ended) => Err(ended.error()),
-            None => Ok(self.snapshot.clone()),
+            None => Ok(self.whole_snapshot()),
         }
     }
 
     fn history(&mut self) -> Result<Option<History>, StoreError> {
-        let Head { owner, commits, .. } = self.head;
-        let last = (owner != 0).then_some(Mark { start: owner, commits });
-        Ok(History::new(self.starts.iter().copied().chain(last).collect()))
+        Ok(self.whole_history())
     }
 
     fn longest_wait(&self) -> Duration {
@@ -261,7 +270,8 @@ fn snapshot(loaded: &Loaded, epoch: u64) -> Result<Snapshot, Failure> {
     let rows = loaded.entries.iter().map(entry).collect::<Result<_, _>>()?;
     let records = loaded.clients.iter().map(record).collect::<Result<_, _>>()?;
     let room = loaded.room.as_ref().map(room).transpose()?;
-    Ok(Snapshot { epoch, rows, records, leases: leases(&loaded.leases)?, room })
+    let leases = leases(&loaded.leases)?;
+    Ok(Snapshot { epoch, rows, records, leases, room, first_start: None })
 }
 
 fn entry(row: &Row) -> Result<(u64, Value), Failure> {

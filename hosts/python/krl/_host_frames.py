@@ -9,7 +9,11 @@ from ._frames import framed
 from .errors import Reason, Refusal
 
 _HOST = 0
+
+# A mark, and with it the bits of the store's first start. A server of an earlier release sends the
+# mark without them.
 _MARK_BYTES = 24
+_MARK_BYTES_WITH_FIRST_START = 40
 
 # The kinds of frames: of a client's host, and of a server's.
 _CLIENT_HELLO = 0
@@ -27,7 +31,8 @@ class Kind(Enum):
 
 
 class Mark(bytes):
-    """How far a server's store has come: 24 bytes, which the client's host only gives back."""
+    """Which store a server's is, and how far it has come: 40 bytes, or 24 of a server of an earlier
+    release. The client's host only gives them back."""
 
 
 FromServer = Union[Kind, Refusal, Mark, None]
@@ -54,7 +59,8 @@ def read(frame: bytes) -> FromServer:
     if kind == _REFUSED:
         return _refusal(rest)
     if kind == _MARK and len(rest) >= _MARK_BYTES:
-        return Mark(rest[:_MARK_BYTES])
+        has_first_start = len(rest) >= _MARK_BYTES_WITH_FIRST_START
+        return Mark(rest[: _MARK_BYTES_WITH_FIRST_START if has_first_start else _MARK_BYTES])
     if kind == _WENT_BACK:
         return Kind.WENT_BACK
     return None

@@ -17,7 +17,6 @@ from ._handle import (
     Range,
     Rows,
     pin_is_void,
-    store_went_back,
 )
 from ._job import Job, Join, Leave, Write
 from ._library import Code
@@ -393,12 +392,12 @@ class Jobs:
             # Without memory the next call comes back to it. One that has left owes nothing.
             return error.code != Code.OUT_OF_MEMORY
 
-    # A store that went back.
+    # A store that went back, or another one.
 
-    def drop_all(self) -> None:
-        """The server's store went back: the client drops all that it holds and knows, as if it had
-        crashed. It answers, says and takes nothing until it begins anew. The jobs that are open
-        end, but those that join and leave."""
+    def drop_all(self, why: Refused) -> None:
+        """The server's store went back, or is another one: the client drops all that it holds and
+        knows, as if it had crashed. It answers, says and takes nothing until it begins anew. The
+        jobs that are open end by this error, but those that join and leave."""
         if self.stage in (Stage.GONE, Stage.ENDED):
             return
         self.is_void = True
@@ -416,7 +415,7 @@ class Jobs:
                 continue
             self._open.remove(job)
             is_not_made = isinstance(job, Write) and job is not written and not self.may_write(job)
-            job.fail(pin_is_void() if is_not_made else store_went_back())
+            job.fail(pin_is_void() if is_not_made else why)
 
     def begin_anew(self, client: ClientHandle) -> None:
         """Goes on as a client of a greater incarnation, which has not joined yet."""

@@ -10,7 +10,7 @@ import logging
 import threading
 import time
 from collections.abc import Sequence
-from typing import TypeVar
+from typing import NoReturn, TypeVar
 
 from . import _host_frames
 from ._address import Address
@@ -21,8 +21,8 @@ from ._host_frames import Kind, Mark
 from ._job import Asked, Leave
 from ._jobs import Jobs
 from ._lock_file import LockFile
-from ._pacing import Backoff, Epochs, Greeting, Heard, Silence, Silent
-from .errors import LockFileError, Refusal, Stopped, TimedOut, Unserved
+from ._pacing import Backoff, Epochs, Heard, Silence, Silent
+from .errors import LockFileError, Reason, Refusal, Stopped, TimedOut, Unserved
 
 T = TypeVar("T")
 
@@ -131,27 +131,23 @@ class Link:
             self._lock_file.close()
 
     def _keep_connected(self) -> None:
-        backoff, greeting, place = Backoff(len(self._servers)), Greeting(), 0
+        backoff, place = Backoff(len(self._servers)), 0
         while self._runs():
-            address = self._servers[place % len(self._servers)]
-            heard = self._connect(address, greeting.is_said())
-            if heard is not None:
-                greeting.note(heard)
-                # A client that has to begin anew does so at once.
-                if heard.message or heard.went_back:
-                    backoff.reset()
+            heard = self._connect(self._servers[place % len(self._servers)])
+            # A client that has to begin anew does so at once.
+            if heard.message or heard.went_back:
+                backoff.reset()
             self._rest(backoff.pause())
             place += 1
 
-    def _connect(self, address: Address, is_greeted: bool) -> Heard | None:
-        """Makes a connection, and says what came on it until it ended; or ``None`` if there is
-        none, which says nothing of what a server there would take."""
+    def _connect(self, address: Address) -> Heard:
+        """Makes a connection, and says what came on it until it ended."""
         try:
             connection = Connection(address.connect(), self._wake)
         except OSError as error:
             self._lose(address, error)
-            return None
-        return self._serve(connection, address, is_greeted)
+            return Heard()
+        return self._serve(connection, address)
 
     def _lose(self, address: Address, error: OSError) -> None:
         self.fault = error
@@ -174,16 +170,14 @@ class Link:
             return not self._is_to_end
         return not self.jobs.has_left() and time.monotonic() < self._farewell
 
-    def _serve(self, connection: Connection, address: Address, is_greeted: bool) -> Heard:
+    def _serve(self, connection: Connection, address: Address) -> Heard:
         """Takes what comes on a connection until it ends, and says what it was."""
         heard = Heard()
         self.fault, self._connection = None, connection
-        if is_greeted:
-            connection.put(_host_frames.hello(self._seen))
+        connection.put(_host_frames.hello(self._seen))
         try:
             self._begin_anew()
-            servers = len(self._servers)
-            self._turns(connection, heard, Silence(time.monotonic(), is_greeted, servers))
+            self._turns(connection, heard, Silence(time.monotonic(), len(self._servers)))
         except OSError as error:
             self._lose(address, error)
         finally:
@@ -227,6 +221,9 @@ class Link:
                 if _host_frames.is_of_host(frame):
                     heard.host_frame = True
                     self._hear_host(frame, heard)
+                elif not heard.host_frame:
+                    # It may serve a store that went back: only the answer to the Hello tells.
+                    raise Ended("the server has not answered the Hello of this client's host")
                 else:
                     heard.message = True
                     with self.lock:
@@ -242,10 +239,13 @@ class Link:
             raise Ended(f"the server is of epoch {epoch}, and another one of a greater one")
 
     def _hear_host(self, frame: bytes, heard: Heard) -> None:
-        """Takes what the server's host says beneath the messages. If the store went back, the
-        connection ends with that; and if another process is this client, the client does."""
+        """Takes what the server's host says beneath the messages. If the store went back, or is
+        another one, the connection ends with that; and if another process is this client, the
+        client does."""
         said = _host_frames.read(frame)
         if isinstance(said, Refusal):
+            if said.reason is Reason.OTHER_STORE:
+                self._leave_other_store(said)
             self._refusal = said, time.monotonic()
             if said.is_of_a_later(self._lock_file.number, self._lock_file.incarnation):
                 raise Stopped(f"the client has stopped, and its cache is dropped: {said}")
@@ -261,10 +261,27 @@ class Link:
         answered, and no message that rests on it is said or taken: another connection has another
         incarnation."""
         with self.lock:
-            self.jobs.drop_all()
+            self.jobs.drop_all(store_went_back())
         self._seen = None
         self._epochs.forget()
         LOG.warning("the server's store went back: the cache is dropped")
+
+    def _leave_other_store(self, refusal: Refusal) -> NoReturn:
+        """The server serves another store than the one that the client has seen. From here on
+        nothing that the client knows of that one is answered.
+
+        The client keeps the mark, and so stays refused: without one it would join the other table,
+        and its callers would not notice. One that has not joined since it dropped all has nothing
+        to drop: no attempt to connect uses up an incarnation."""
+        with self.lock:
+            has_joined = self.jobs.has_joined()
+            if has_joined:
+                self.jobs.drop_all(Unserved(refusal))
+        if has_joined:
+            LOG.warning("the server serves another store: the cache is dropped")
+        # Callers hear of it once nothing is answered from the old cache.
+        self._refusal = refusal, time.monotonic()
+        raise Ended(str(refusal))
 
     def _begin_anew(self) -> None:
         """Gives a client that has dropped all a greater incarnation, under which it joins anew."""

@@ -8,7 +8,6 @@ from enum import Enum, auto
 
 _FIRST = 0.005
 _LONGEST = 1.0
-_PATIENCE = 2
 _ASK_AMONG_SEVERAL, _LEAVE_AMONG_SEVERAL = 0.25, 1.0
 _ASK_ALONE, _LEAVE_ALONE = 1.0, 5.0
 
@@ -39,33 +38,8 @@ class Heard:
 
     message: bool = False
     host_frame: bool = False
+    """The server's host has answered the Hello of this one."""
     went_back: bool = False
-
-    def anything(self) -> bool:
-        """Whether anything came."""
-        return self.message or self.host_frame or self.went_back
-
-
-class Greeting:
-    """Whether the host says Hello on the next connection.
-
-    Once the server's host has answered, it always does. Before that, after two connections that
-    ended without an answer, one is made without Hello: the server may be one without host frames.
-    """
-
-    def __init__(self) -> None:
-        self._is_known = False
-        self._unanswered = 0
-
-    def is_said(self) -> bool:
-        """Whether the next connection begins with the host's Hello."""
-        return self._is_known or self._unanswered < _PATIENCE
-
-    def note(self, heard: Heard) -> None:
-        """The connection has ended."""
-        is_unanswered = self.is_said() and not heard.anything()
-        self._unanswered = self._unanswered + 1 if is_unanswered else 0
-        self._is_known |= heard.host_frame
 
 
 class Silent(Enum):
@@ -80,10 +54,9 @@ class Silence:
     """How long a server has been silent on one connection. A connection to the only server is left
     later: it may swallow what is said, and another one to the same address be answered."""
 
-    def __init__(self, now: float, is_asked: bool, servers: int) -> None:
+    def __init__(self, now: float, servers: int) -> None:
         self._heard = now
         self._asked = now
-        self._is_asked = is_asked
         self._ask, self._leave = _ASK_ALONE, _LEAVE_ALONE
         if servers > 1:
             self._ask, self._leave = _ASK_AMONG_SEVERAL, _LEAVE_AMONG_SEVERAL
@@ -93,9 +66,9 @@ class Silence:
         self._heard = now
 
     def look(self, now: float) -> Silent:
-        """What to do now. A server that was not greeted may not answer, and is not left."""
+        """What to do now."""
         silent = now - self._heard
-        if not self._is_asked or silent < self._ask:
+        if silent < self._ask:
             return Silent.NO
         if silent >= self._leave:
             return Silent.LEAVE

@@ -285,7 +285,7 @@ def _say_bye() -> None:
 
 
 def join(
-    servers: str, number: int, lock_file: str | os.PathLike[str], timeout: float = 10.0
+    servers: str, number: int, lock_file: str | os.PathLike[str], timeout: float = 15.0
 ) -> Client:
     """Joins the server as the client of this number, from 0 to 63.
 

@@ -93,6 +93,7 @@ class Reason(IntEnum):
     MISSING = 4
     OTHER_SHARD = 7
     FAR_AHEAD = 8
+    OTHER_STORE = 9
 
 
 @dataclass(frozen=True)
@@ -138,6 +139,12 @@ class Refusal:
                 f"incarnation {self.second} is the greatest that the server registers now for "
                 f"client {self.first}: this machine's clock is more than a day ahead of the "
                 "server's, or the lock file was written under such a clock"
+            )
+        if self.reason is Reason.OTHER_STORE:
+            return (
+                "the server serves another store than the one that the client has seen: the address "
+                "is that of another table, or a new store has replaced that one; if that was meant, "
+                "start the client's process again"
             )
         if self.reason is Reason.FULL:
             return f"the server has all its connections, which are {self.first}"

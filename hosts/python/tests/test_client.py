@@ -5,6 +5,7 @@ from __future__ import annotations
 import gc
 import os
 import resource
+import shutil
 import socket
 import subprocess
 import sys
@@ -17,9 +18,14 @@ from pathlib import Path
 from unittest import mock
 
 import krl
-from krl import END, TOP, Outcome, Row
+from krl import END, TOP, Outcome, Reason, Row
+from krl._address import addresses_of
+from krl._frames import framed
+from krl._handle import ClientHandle
 from krl._host_frames import hello
-from krl._link import LOG
+from krl._jobs import Jobs
+from krl._link import LOG, Link
+from krl._lock_file import LockFile
 
 from .serving import PATIENCE, Relay, Served, in_child, until
 
@@ -196,17 +202,41 @@ class ServersTest(Served):
 
     def test_a_store_that_went_back_is_noticed(self) -> None:
         client, other = self.join(0), self.join(1)
+        self.stop()
+        for end in ("", "-wal"):
+            shutil.copy(self.folder / f"store.db{end}", self.folder / f"older.db{end}")
+        self.server = self.start()
         client.insert(10, b"1")
         self.assertEqual(client.read(0, 20), [Row(10, b"1")])
         self.assertEqual(other.read(0, 5), [])
         self.stop()
-        # Another store stands for an older one: it lacks all that the clients have seen.
         self.server = self.start("older.db")
         until(lambda: client.cached(0, 20) is None and other.cached(0, 5) is None)
         self.assertEqual(client.read(0, 20), [])
         self.assertEqual(client.insert(10, b"2"), Outcome.APPLIED)
         self.assertEqual(other.read(0, 20), [Row(10, b"2")])
 
+    def test_another_store_is_noticed_and_not_joined(self) -> None:
+        client = self.join(0)
+        client.insert(10, b"1")
+        self.assertEqual(client.read(0, 20), [Row(10, b"1")])
+        self.stop()
+        self.server = self.start("other.db")
+        until(lambda: client.cached(0, 20) is None)
+        client.timeout = 0.5
+
+        def is_refused() -> bool:
+            with self.assertRaises(krl.TimedOut) as raised:
+                client.read(0, 20)
+            error = raised.exception
+            return isinstance(error, krl.Unserved) and error.refusal.reason is Reason.OTHER_STORE
+
+        until(is_refused)
+        self.assertEqual(self.join(1).read(0, 20), [], "the server goes on")
+        self.stop()
+        self.server = self.start()
+        client.timeout = PATIENCE
+        self.assertEqual(client.read(0, 20), [Row(10, b"1")], "it has kept its mark")
 
     def test_a_process_that_was_replaced_answers_nothing(self) -> None:
         first, other = self.join(0), self.join(1)
@@ -222,9 +252,6 @@ class ServersTest(Served):
         self.assertEqual(second.read(0, 20), [Row(10, b"2")])
 
     def test_a_connection_that_swallows_is_left(self) -> None:
-        # The relay ends a connection at once while there is no server. Two of those, and the client
-        # takes the server for one that knows no Hello and is not asked.
-        self.join(1)
         relay = Relay(self.folder, self.address)
         self.addCleanup(relay.close)
         with mock.patch.multiple("krl._pacing", _ASK_ALONE=0.1, _LEAVE_ALONE=0.5):
@@ -284,25 +311,30 @@ class ConnectingTest(unittest.TestCase):
         self.addCleanup(folder.cleanup)
         self.folder = Path(folder.name)
 
-    def test_attempts_that_fail_say_nothing_of_the_server(self) -> None:
-        path = str(self.folder / "socket")
-        attempts: list[OSError] = []
+    def test_a_server_that_does_not_answer_the_hello_is_left_and_greeted_again(self) -> None:
+        ends: list[str] = []
+        epoch = bytes.fromhex("0110030000000000000002000000000000000100000000000000")
+        with socket.socket(socket.AF_UNIX) as listener:
+            listener.settimeout(PATIENCE)
+            listener.bind(str(self.folder / "socket"))
+            listener.listen()
+            with mock.patch.object(LOG, "debug", lambda *words: ends.append(str(words[-1]))):
+                self.connect(f"unix:{self.folder / 'socket'}")
+                for attempt in range(1, 4):
+                    with listener.accept()[0] as peer:
+                        peer.settimeout(PATIENCE)
+                        self.assertEqual(peer.recv(10, socket.MSG_WAITALL), hello(None))
+                        peer.sendall(framed(epoch))
+                        until(lambda: len(ends) >= attempt)
+        self.assertEqual(
+            ends[:3], 3 * ["the server has not answered the Hello of this client's host"]
+        )
 
-        def join() -> None:
-            with self.assertRaises(krl.JoinError):
-                krl.join(f"unix:{path}", 0, self.folder / "lock", 2)
-
-        with mock.patch.object(LOG, "debug", lambda *words: attempts.append(words[-1])):
-            joins = threading.Thread(target=join)
-            joins.start()
-            until(lambda: len(attempts) > 4)
-            with socket.socket(socket.AF_UNIX) as listener:
-                listener.bind(path)
-                listener.listen()
-                with listener.accept()[0] as peer:
-                    self.assertEqual(peer.recv(10), hello(None))
-                    joins.join()
-
+    def connect(self, address: str) -> None:
+        """Connects a client to the address, and waits for no answer."""
+        held = LockFile(self.folder / "lock", 0)
+        link = Link(addresses_of(address), Jobs(ClientHandle(0, held.renew())), held)
+        self.addCleanup(link.end, PATIENCE)
 
     def test_a_process_with_many_files_connects_again(self) -> None:
         soft, hard = resource.getrlimit(resource.RLIMIT_NOFILE)

@@ -14,7 +14,7 @@ from krl._handle import Range
 from krl._host_frames import Kind, Mark, hello, is_of_host, read
 from krl._library import VERSION, fits, spelled
 from krl._lock_file import LockFile
-from krl._pacing import Backoff, Epochs, Greeting, Heard, Silence, Silent
+from krl._pacing import Backoff, Epochs, Silence, Silent
 from krl._pins import Pins
 from krl._yielding import farthest
 
@@ -65,6 +65,11 @@ class HostFramesTest(unittest.TestCase):
         self.assertIn("client 3: this machine's clock", str(Refusal(Reason.FAR_AHEAD, 3, 258)))
         mark = Mark(range(24))
         self.assertEqual(read(b"\0\x12" + mark + b"more"), mark)
+        whole_mark = Mark(range(40))
+        self.assertEqual(read(b"\0\x12" + whole_mark + b"more"), whole_mark)
+        other_store = Refusal(Reason.OTHER_STORE, 0, 0)
+        self.assertEqual(read(b"\0\x11\x09" + bytes(16)), other_store)
+        self.assertIn("another store", str(other_store))
         self.assertEqual(read(b"\0\x10"), Kind.HELLO)
         self.assertEqual(read(b"\0\x13"), Kind.WENT_BACK)
         self.assertEqual(hello(None), bytes([2, 0, 0, 0, 0, 0, 0, 0, 0, 0]))
@@ -166,30 +171,15 @@ class PacingTest(unittest.TestCase):
         among_four = Backoff(4)
         self.assertLessEqual(max(among_four.pause() for _ in range(20)), 0.25 * 1.25)
 
-    def said(self, *connections: Heard) -> bool:
-        greeting = Greeting()
-        for heard in connections:
-            greeting.note(heard)
-        return greeting.is_said()
-
-    def test_a_server_without_host_frames_gets_a_connection_without_hello(self) -> None:
-        nothing, message, host_frame = Heard(), Heard(message=True), Heard(host_frame=True)
-        self.assertTrue(self.said() and self.said(nothing))
-        self.assertFalse(self.said(nothing, nothing))
-        self.assertTrue(self.said(nothing, nothing, message))
-        self.assertTrue(self.said(nothing, message, nothing))
-        self.assertTrue(self.said(host_frame, nothing, nothing, nothing))
-
     def test_a_silent_server_is_asked_and_then_left(self) -> None:
-        silence = Silence(0, is_asked=True, servers=2)
+        silence = Silence(0, servers=2)
         silence.heard(5)
         looks = [silence.look(at) for at in (5.2, 5.25, 5.3, 5.5, 6.0)]
         asked = [Silent.NO, Silent.ASK, Silent.NO, Silent.ASK, Silent.LEAVE]
         self.assertEqual(looks, asked)
-        self.assertEqual(Silence(0, is_asked=False, servers=2).look(5), Silent.NO)
 
     def test_a_silent_connection_to_the_only_server_is_left_later(self) -> None:
-        silence = Silence(0, is_asked=True, servers=1)
+        silence = Silence(0, servers=1)
         looks = [silence.look(at) for at in (0.9, 1.0, 1.5, 2.0, 4.9, 5.0)]
         asked = [Silent.NO, Silent.ASK, Silent.NO, Silent.ASK, Silent.ASK, Silent.LEAVE]
         self.assertEqual(looks, asked)

@@ -52,6 +52,9 @@ class RulesTest(unittest.TestCase):
     def test_went_back(self) -> None:
         self.play("went_back")
 
+    def test_other_store(self) -> None:
+        self.play("other_store")
+
     def test_leave(self) -> None:
         self.play("leave")
 

@@ -110,6 +110,9 @@ pub struct Snapshot {
     /// The greatest room that a server had over it. A store that no server has served keeps none, and
     /// one of before it was kept neither.
     pub room: Option<Room>,
+    /// The bits of the first start of a server over the store, if there was one and the store keeps
+    /// its history. A copy has the same: by them an older copy is told from another store.
+    pub first_start: Option<u128>,
 }
 
 impl Snapshot {

@@ -38,6 +38,10 @@ const MAX_CLIENTS: u8 = 64;
 /// Until it has joined, `cached` answers `None`, and other calls wait. A store without a history
 /// tells nothing of it.
 ///
+/// If the server serves another store than the one that the client has seen, the client drops its
+/// cache too, and calls that wait just then end with `Unserved` by [`Refusal::OtherStore`]. It joins
+/// anew when it finds a server of its own store, and no other one.
+///
 /// A server with leases lets the client answer from its cache only for so long after its last word.
 /// When its lease ends the client drops its cache and joins anew, as above: only a write that is on
 /// its way is told so, by [`Refused::LeaseEnded`], and all other calls go on.
@@ -225,7 +229,7 @@ impl Client {
     /// # Errors
     ///
     /// `BadRange` if the range is empty, begins above its end, or ends above 2^63; `TooManyPins`;
-    /// `StoreWentBack` or `LeaseEnded` while the client joins anew.
+    /// `StoreWentBack`, `LeaseEnded` or `Unserved` while the client joins anew.
     pub fn pin(&self, keys: impl RangeBounds<u64>) -> Result<Pin<'_>, Refused> {
         let keys = keys_of(&keys)?;
         let id = self.link.jobs().pin(keys)?;

@@ -3,7 +3,7 @@
 use crate::access::Entry;
 use crate::connections::closing::CloseReason;
 use crate::frames::{Frames, GULP, HEAD};
-use crate::history::Mark;
+use crate::history::Seen;
 use crate::host_frame::FromServer;
 use crate::identity::Identity;
 use crate::outgoing::Outgoing;
@@ -29,7 +29,7 @@ struct Host {
     /// The answer to its Hello, which leaves before all else.
     answer: Vec<u8>,
     /// How far the store had come, as it was told last.
-    mark: Option<Mark>,
+    seen: Option<Seen>,
 }
 
 /// What becomes of the frames that leave together.
@@ -327,23 +327,23 @@ impl Connection {
     }
 
     /// Puts a frame of the server into the batch. So far has the store come.
-    pub fn say(&mut self, frame: &[u8], mark: Option<Mark>) {
-        self.begin_batch(mark);
+    pub fn say(&mut self, frame: &[u8], seen: Option<Seen>) {
+        self.begin_batch(seen);
         if self.batch == Batch::Begun {
             self.put(frame);
         }
     }
 
     /// Ends the batch, which has what was told even if nothing was said.
-    pub fn end_batch(&mut self, mark: Option<Mark>) {
-        self.begin_batch(mark);
+    pub fn end_batch(&mut self, seen: Option<Seen>) {
+        self.begin_batch(seen);
         self.batch = Batch::NotBegun;
     }
 
     /// Begins a batch, unless so much waits already that the peer seems stuck: then it is lost. To a
     /// host it says before all else how far the store has come, if that is news. A connection that
     /// ends serves no client, and is told nothing of the store.
-    fn begin_batch(&mut self, mark: Option<Mark>) {
+    fn begin_batch(&mut self, seen: Option<Seen>) {
         if self.batch != Batch::NotBegun {
             return;
         }
@@ -352,11 +352,11 @@ impl Connection {
         let mut first = Vec::new();
         if let Some(host) = &mut self.host {
             let answer = std::mem::take(&mut host.answer);
-            let news = mark.filter(|_| host.mark != mark && self.ends_for.is_none());
+            let news = seen.filter(|_| host.seen != seen && self.ends_for.is_none());
             if !is_lost {
                 first.extend(answer);
                 first.extend(news.map(|now| FromServer::Mark(now).frame()).unwrap_or_default());
-                host.mark = mark;
+                host.seen = seen;
             }
         }
         if !is_lost {

@@ -4,7 +4,7 @@ use crate::access::Access;
 use crate::clocks::Now;
 use crate::connection::{Connection, Looked};
 use crate::frames::{Frames, HEAD};
-use crate::history::Mark;
+use crate::history::Seen;
 use crate::host_frame::FromServer;
 use crate::listening::Listening;
 use crate::poller::{Poller, Readiness, Ready, Watched};
@@ -288,8 +288,8 @@ impl Connections {
 
     /// Begins to send: what was told, and behind it what the server says. So far has the store
     /// come. Nothing that was not committed may be sent.
-    pub fn send(&mut self, mark: Option<Mark>) -> Sending<'_> {
-        Sending { connections: self, mark }
+    pub fn send(&mut self, seen: Option<Seen>) -> Sending<'_> {
+        Sending { connections: self, seen }
     }
 
     /// Writes what the peer takes, and closes the connection if that fails or was the last.
@@ -374,7 +374,7 @@ impl Peer {
 /// What leaves together, after a commit.
 pub(crate) struct Sending<'a> {
     connections: &'a mut Connections,
-    mark: Option<Mark>,
+    seen: Option<Seen>,
 }
 
 impl Sending<'_> {
@@ -383,18 +383,18 @@ impl Sending<'_> {
     pub fn put(&mut self, client: u8, frame: &[u8]) {
         let Some(number) = self.connections.routes.of(client) else { return };
         if let Some(connection) = self.connections.in_sending(number) {
-            connection.say(frame, self.mark);
+            connection.say(frame, self.seen);
         }
     }
 
     /// Writes it all, as far as the peers take it at once.
     pub fn end(self) {
-        let Sending { connections, mark } = self;
+        let Sending { connections, seen } = self;
         let mut sending = std::mem::take(&mut connections.sending);
         for number in sending.drain(..) {
             if let Some(peer) = connections.open.get_mut(&number) {
                 peer.is_in_sending = false;
-                peer.connection.end_batch(mark);
+                peer.connection.end_batch(seen);
                 connections.write(number);
             }
         }

@@ -39,6 +39,7 @@ pub(crate) struct EventLog {
     missing: Vec<u8>,
     bad_messages: Seldom,
     other_shards: Seldom,
+    other_stores: Seldom,
     strangers: Seldom,
     denials: Seldom,
     far_ahead: Seldom,
@@ -58,6 +59,7 @@ impl EventLog {
             missing: Vec::new(),
             bad_messages: Seldom::default(),
             other_shards: Seldom::default(),
+            other_stores: Seldom::default(),
             strangers: Seldom::default(),
             denials: Seldom::default(),
             far_ahead: Seldom::default(),
@@ -209,6 +211,19 @@ impl EventLog {
         }
     }
 
+    /// A client has seen another store, and is refused.
+    pub fn other_store(&mut self, at: &At) {
+        if let Some(passed_over) = self.other_stores.lets(Instant::now()) {
+            tell!(
+                warn,
+                connection = at.connection,
+                peer = %at.peer,
+                passed_over,
+                "a client is refused: it has seen another store than this one"
+            );
+        }
+    }
+
     /// A connection said what its identity may not say, and is closed.
     pub fn denied(&mut self, at: &At, identity: &Identity, client: Option<u8>) {
         if let Some(passed_over) = self.denials.lets(Instant::now()) {
@@ -259,6 +274,16 @@ pub(crate) fn store_went_back(server: &Address) {
         %server,
         "ALARM: the server's store lacks what this client has seen of it: the client drops its \
          cache and joins anew"
+    );
+}
+
+/// A client has heard that its server serves another store.
+pub(crate) fn store_is_another_one(server: &Address) {
+    tell!(
+        error,
+        %server,
+        "the server serves another store than the one that this client has seen: the client drops \
+         its cache, and is not served"
     );
 }
 

@@ -381,7 +381,7 @@ impl<S: Store> EventLoop<S> {
     fn send(&mut self) -> Result<(), ServeError> {
         let length = self.server.take(&mut self.frames).map_err(ServeError::Refused)?;
         let now = if length > 0 { Instant::now() } else { self.turned };
-        let mut sending = self.connections.send(self.history.as_ref().and_then(History::mark));
+        let mut sending = self.connections.send(self.history.as_ref().and_then(History::seen));
         for (message, frame) in frames::split(&self.frames[..length]) {
             let message = Message::read(message);
             let Some(client) = message.client() else { continue };

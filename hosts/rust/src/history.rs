@@ -1,4 +1,4 @@
-//! Whether a store has what somebody has seen of it, or is a copy from before.
+//! Whether a store has what somebody has seen of one, is a copy from before, or is another store.
 use std::fmt;
 
 /// How far a store had come at one moment.
@@ -9,6 +9,28 @@ pub struct Mark {
     pub start: u128,
     /// How many batches were committed since, that of the start among them.
     pub commits: u64,
+}
+
+/// How much somebody has seen of a store.
+#[derive(Clone, Copy, Debug, PartialEq, Eq)]
+pub(crate) struct Seen {
+    /// How far the store had come.
+    pub mark: Mark,
+    /// The bits of the store's first start, which all copies of it share. A host of an earlier
+    /// release does not send them.
+    pub first_start: Option<u128>,
+}
+
+/// What a store is to somebody who has seen so much of one.
+#[derive(Clone, Copy, Debug, PartialEq, Eq)]
+pub(crate) enum Comparison {
+    /// It has all of that.
+    HasAll,
+    /// It lacks some of that: it is an older copy. If the first start of one of them is not known, it
+    /// may also be another store.
+    Lacks,
+    /// It is another store.
+    OtherStore,
 }
 
 /// The past of a store: each start of a server on it, in order, and how many batches were committed
@@ -29,6 +51,29 @@ impl History {
     #[must_use]
     pub fn mark(&self) -> Option<Mark> {
         self.starts.last().copied()
+    }
+
+    /// The bits of the store's first start.
+    #[must_use]
+    pub fn first_start(&self) -> Option<u128> {
+        self.starts.first().map(|first| first.start)
+    }
+
+    /// What a client sees of the store now.
+    pub(crate) fn seen(&self) -> Option<Seen> {
+        self.mark().map(|mark| Seen { mark, first_start: self.first_start() })
+    }
+
+    /// What the store is to a client that has seen so much of one. Whether a server serves the
+    /// client, refuses it, or ends rests on this alone.
+    pub(crate) fn compare(&self, seen: Seen) -> Comparison {
+        if self.has(seen.mark) {
+            return Comparison::HasAll;
+        }
+        match (self.first_start(), seen.first_start) {
+            (Some(own), Some(other)) if own != other => Comparison::OtherStore,
+            _ => Comparison::Lacks,
+        }
     }
 
     /// One more batch is committed.
@@ -92,5 +137,34 @@ mod tests {
         assert_eq!(History::new(Vec::new()), None);
         let other = History::new(vec![mark(1, 100)]).unwrap();
         assert!(!other.has(mark(2, 1)) && !other.has(mark(0, 0)));
+    }
+
+    #[test]
+    fn another_store_is_told_from_an_older_copy_by_the_first_start() {
+        let seen = |start, commits, first_start| Seen { mark: mark(start, commits), first_start };
+        let store = History::new(vec![mark(7, 5), mark(3, 2)]).unwrap();
+        assert_eq!(store.seen(), Some(seen(3, 2, Some(7))));
+        for (what, expected) in [
+            (seen(3, 2, Some(7)), Comparison::HasAll),
+            (seen(7, 1, Some(7)), Comparison::HasAll),
+            (seen(3, 3, Some(7)), Comparison::Lacks),
+            (seen(9, 1, Some(7)), Comparison::Lacks),
+            (seen(9, 1, Some(9)), Comparison::OtherStore),
+            (seen(9, 1, Some(3)), Comparison::OtherStore),
+            (seen(3, 2, None), Comparison::HasAll),
+            (seen(9, 1, None), Comparison::Lacks),
+        ] {
+            assert_eq!(store.compare(what), expected, "{what:?}");
+        }
+    }
+
+    #[test]
+    fn a_restored_store_is_an_older_copy_of_the_one_that_was_backed_up() {
+        let seen = |start, commits| Seen { mark: mark(start, commits), first_start: Some(7) };
+        let restored = History::new(vec![mark(7, 0), mark(20, 4)]).unwrap();
+        for later in [seen(7, 1), seen(3, 9)] {
+            assert_eq!(restored.compare(later), Comparison::Lacks);
+        }
+        assert_eq!(restored.compare(seen(20, 4)), Comparison::HasAll);
     }
 }

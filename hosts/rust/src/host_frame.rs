@@ -2,7 +2,7 @@
 //! the messages. `docs/WIRE.md` has the table.
 //!
 //! The first byte of a host frame is 0. No message of the library begins so: its version is 1.
-use crate::history::Mark;
+use crate::history::{Mark, Seen};
 use crate::refusal::{ClientSet, Refusal};
 use crate::shard_bounds::ShardBounds;
 use crate::shard_frame;
@@ -17,7 +17,7 @@ const ANSWERS_SIGNS: u8 = 1;
 pub(crate) enum FromClient {
     /// It takes host frames, and has seen so much of the store, if anything. This is the first
     /// frame of its connection.
-    Hello(Option<Mark>),
+    Hello(Option<Seen>),
     /// It takes the server for this shard's.
     Shard(ShardBounds),
     /// The same, with numbers that are no shard's. No host says it.
@@ -32,7 +32,7 @@ pub(crate) enum FromServer {
     /// It does not serve the client, for this reason.
     Refused(Refusal),
     /// So much is on the disk. It leaves before the messages that rest on it.
-    Mark(Mark),
+    Mark(Seen),
     /// The store lacks what the client's host has seen of it.
     WentBack,
     /// It serves this shard, as the client's host has said.
@@ -52,7 +52,7 @@ impl FromClient {
     pub fn frame(self) -> Vec<u8> {
         match self {
             FromClient::Hello(seen) => {
-                framed(&[HOST, FromClient::HELLO], &seen.map(spelled_mark).unwrap_or_default())
+                framed(&[HOST, FromClient::HELLO], &seen.map(spelled_seen).unwrap_or_default())
             }
             FromClient::Shard(shard) => {
                 framed(&[HOST, FromClient::SHARD], &shard_frame::spelled_bytes(Some(shard)))
@@ -66,7 +66,7 @@ impl FromClient {
     /// What the frame says, or `None` if it is of another kind: then it says nothing.
     pub fn read(frame: &[u8]) -> Option<FromClient> {
         match frame {
-            [HOST, FromClient::HELLO, seen @ ..] => Some(FromClient::Hello(mark(seen))),
+            [HOST, FromClient::HELLO, seen @ ..] => Some(FromClient::Hello(read_seen(seen))),
             [HOST, FromClient::SHARD, shard @ ..] => {
                 Some(shard_frame::read(shard).map_or(FromClient::NoShard, FromClient::Shard))
             }
@@ -93,7 +93,7 @@ impl FromServer {
                 let (reason, numbers) = spelled(refusal);
                 framed(&[HOST, FromServer::REFUSED, reason], &numbers)
             }
-            FromServer::Mark(mark) => framed(&[HOST, FromServer::MARK], &spelled_mark(mark)),
+            FromServer::Mark(seen) => framed(&[HOST, FromServer::MARK], &spelled_seen(seen)),
             FromServer::WentBack => framed(&[HOST, FromServer::WENT_BACK], &[]),
             FromServer::Shard(shard) => {
                 framed(&[HOST, FromServer::SHARD], &shard_frame::spelled_bytes(Some(shard)))
@@ -110,7 +110,7 @@ impl FromServer {
             [HOST, FromServer::REFUSED, reason, numbers @ ..] => {
                 refusal(*reason, numbers).map(FromServer::Refused)
             }
-            [HOST, FromServer::MARK, numbers @ ..] => mark(numbers).map(FromServer::Mark),
+            [HOST, FromServer::MARK, seen @ ..] => read_seen(seen).map(FromServer::Mark),
             [HOST, FromServer::WENT_BACK, ..] => Some(FromServer::WentBack),
             [HOST, FromServer::SHARD, shard @ ..] => {
                 shard_frame::read(shard).map(FromServer::Shard)
@@ -132,18 +132,25 @@ fn spelled(refusal: Refusal) -> (u8, Vec<u8>) {
         Refusal::LeaseRuns { client, registered } => (5, [client.into(), registered]),
         Refusal::Denied => (6, [0, 0]),
         Refusal::FarAhead { client, latest } => (8, [client.into(), latest]),
+        Refusal::OtherStore => (9, [0, 0]),
     };
     (tag, numbers.map(u64::to_le_bytes).concat())
 }
 
-fn spelled_mark(Mark { start, commits }: Mark) -> Vec<u8> {
-    [&start.to_le_bytes()[..], &commits.to_le_bytes()].concat()
+fn spelled_seen(seen: Seen) -> Vec<u8> {
+    let Seen { mark: Mark { start, commits }, first_start } = seen;
+    let mut bytes = [&start.to_le_bytes()[..], &commits.to_le_bytes()].concat();
+    bytes.extend(first_start.map(u128::to_le_bytes).into_iter().flatten());
+    bytes
 }
 
-fn mark(bytes: &[u8]) -> Option<Mark> {
+/// A host of an earlier release sends the mark without the first start.
+fn read_seen(bytes: &[u8]) -> Option<Seen> {
     let (start, rest) = bytes.split_first_chunk()?;
-    let (commits, _) = rest.split_first_chunk()?;
-    Some(Mark { start: u128::from_le_bytes(*start), commits: u64::from_le_bytes(*commits) })
+    let (commits, rest) = rest.split_first_chunk()?;
+    let first_start = rest.first_chunk().map(|bits| u128::from_le_bytes(*bits));
+    let (start, commits) = (u128::from_le_bytes(*start), u64::from_le_bytes(*commits));
+    Some(Seen { mark: Mark { start, commits }, first_start })
 }
 
 fn refusal(reason: u8, numbers: &[u8]) -> Option<Refusal> {
@@ -160,6 +167,7 @@ fn refusal(reason: u8, numbers: &[u8]) -> Option<Refusal> {
         6 => Refusal::Denied,
         7 => shard_frame::read_refusal(numbers)?,
         8 => Refusal::FarAhead { client: u8::try_from(first).ok()?, latest: second },
+        9 => Refusal::OtherStore,
         _ => return None,
     })
 }
@@ -176,7 +184,9 @@ mod tests {
     use crate::frames::split;
 
     const HELLO: FromServer = FromServer::Hello { answers_signs: true };
-    const MARK: Mark = Mark { start: 1 << 127 | 5, commits: 258 };
+    const SEEN: Seen =
+        Seen { mark: Mark { start: 1 << 127 | 5, commits: 258 }, first_start: Some(3 << 120 | 7) };
+    const SEEN_EARLIER: Seen = Seen { first_start: None, ..SEEN };
 
     fn shard() -> ShardBounds {
         "5..258@7".parse().unwrap()
@@ -194,10 +204,11 @@ mod tests {
             Refusal::Denied,
             Refusal::OtherShard(None),
             Refusal::FarAhead { client: 63, latest: 1 << 61 },
+            Refusal::OtherStore,
             Refusal::OtherShard(Some(shard())),
         ];
         let shard = FromServer::Shard(shard());
-        let others = [HELLO, FromServer::Mark(MARK), FromServer::WentBack, shard];
+        let others = [HELLO, FromServer::Mark(SEEN), FromServer::WentBack, shard];
         refusals.map(FromServer::Refused).into_iter().chain(others).collect()
     }
 
@@ -216,10 +227,12 @@ mod tests {
             // A later release may say more behind it.
             assert_eq!(FromServer::read(&[&body[..], b"more"].concat()), Some(said));
         }
-        for seen in [None, Some(MARK)] {
+        for seen in [None, Some(SEEN), Some(SEEN_EARLIER)] {
             let hello = FromClient::Hello(seen);
             assert_eq!(FromClient::read(&body(&hello.frame())), Some(hello));
         }
+        let mark = FromServer::Mark(SEEN_EARLIER);
+        assert_eq!(FromServer::read(&body(&mark.frame())), Some(mark));
         for named in [FromClient::Shard(shard()), FromClient::NoShard] {
             assert_eq!(FromClient::read(&body(&named.frame())), Some(named));
         }
@@ -233,9 +246,12 @@ mod tests {
         assert_eq!(body(&refused.frame()), bytes);
         assert_eq!(FromClient::Hello(None).frame(), [2, 0, 0, 0, 0, 0, 0, 0, 0, 0]);
         let marked = [5, 0, 0, 0, 0, 0, 0, 0, 0, 0, 0, 0, 0, 0, 0, 128, 2, 1, 0, 0, 0, 0, 0, 0];
-        assert_eq!(body(&FromServer::Mark(MARK).frame()), [&[0, 18][..], &marked].concat());
-        let seen = FromClient::Hello(Some(MARK));
-        assert_eq!(body(&seen.frame()), [&[0, 0][..], &marked].concat());
+        let first = [7, 0, 0, 0, 0, 0, 0, 0, 0, 0, 0, 0, 0, 0, 0, 3];
+        let marked_in = |seen| body(&FromServer::Mark(seen).frame());
+        assert_eq!(marked_in(SEEN), [&[0, 18][..], &marked, &first].concat());
+        assert_eq!(marked_in(SEEN_EARLIER), [&[0, 18][..], &marked].concat());
+        let seen = FromClient::Hello(Some(SEEN));
+        assert_eq!(body(&seen.frame()), [&[0, 0][..], &marked, &first].concat());
         assert_eq!(body(&HELLO.frame()), [0, 16, 1]);
         let older = FromServer::Hello { answers_signs: false };
         assert_eq!((body(&older.frame()), FromServer::read(&[0, 16])), (vec![0, 16], Some(older)));
@@ -250,13 +266,17 @@ mod tests {
     fn what_is_cut_off_or_unknown_says_nothing() {
         for said in said() {
             let body = body(&said.frame());
-            let shortest = if said == HELLO { 2 } else { body.len() };
+            let shortest = match said {
+                HELLO => 2,
+                FromServer::Mark(_) => 26,
+                _ => body.len(),
+            };
             for length in 0..shortest {
                 assert_eq!(FromServer::read(&body[..length]), None);
             }
         }
         assert_eq!(
-            FromServer::read(&[0, 17, 9, 0, 0, 0, 0, 0, 0, 0, 0, 0, 0, 0, 0, 0, 0, 0, 0]),
+            FromServer::read(&[0, 17, 10, 0, 0, 0, 0, 0, 0, 0, 0, 0, 0, 0, 0, 0, 0, 0, 0]),
             None
         );
         assert_eq!(FromServer::read(&[0, 0]), None, "a client's");

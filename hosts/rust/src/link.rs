@@ -8,7 +8,7 @@ use crate::code::Code;
 use crate::connect_fault::{ConnectFault, Rejections};
 use crate::event_log;
 use crate::frames::{Frames, LONGEST_TO_CLIENT};
-use crate::history::Mark;
+use crate::history::Seen;
 use crate::host_frame;
 use crate::jobs::{Asking, BUSY_TICK, IDLE_TICK, Jobs};
 use crate::lock_file::LockFile;
@@ -50,7 +50,7 @@ pub(crate) struct Link {
     /// How the last connections ended, as far as one side rejected the other.
     rejections: Mutex<Rejections>,
     /// How much the client has seen of the server's store.
-    seen: Mutex<Option<Mark>>,
+    seen: Mutex<Option<Seen>>,
     /// The greatest epoch that a server has said.
     epoch: AtomicU64,
     /// None once the client is gone.

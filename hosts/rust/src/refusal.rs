@@ -3,7 +3,8 @@ use crate::shard_bounds::ShardBounds;
 use std::fmt;
 
 /// Why a server does not serve a client. It is a hint for people: the library's rules don't rest
-/// on it, and a server of another kind may say none.
+/// on it, and a server of another kind may say none. Only [`Refusal::OtherStore`] is more: a client
+/// that hears it drops its cache.
 #[derive(Clone, Copy, Debug, PartialEq, Eq)]
 #[non_exhaustive]
 pub enum Refusal {
@@ -50,11 +51,14 @@ pub enum Refusal {
         /// The greatest incarnation that the server registers now.
         latest: u64,
     },
+    /// The client has seen another store than the one that the server serves: its address is that
+    /// of another table, or a new store has replaced that one.
+    OtherStore,
 }
 
 impl Refusal {
     /// How many reasons there are.
-    pub(crate) const REASONS: usize = 9;
+    pub(crate) const REASONS: usize = 10;
 
     /// The number of the reason, below [`Refusal::REASONS`].
     pub(crate) fn reason(self) -> usize {
@@ -68,6 +72,7 @@ impl Refusal {
             Refusal::Denied => 6,
             Refusal::OtherShard(_) => 7,
             Refusal::FarAhead { .. } => 8,
+            Refusal::OtherStore => 9,
         }
     }
 }
@@ -160,6 +165,11 @@ impl fmt::Display for Refusal {
                 "the incarnation of client {client} is more than a day ahead of the server's \
                  clock, which takes {latest} at most: set the clock of the machine that is wrong, \
                  and give the client a new lock file if it was its own"
+            ),
+            Refusal::OtherStore => f.write_str(
+                "the server serves another store than the one that the client has seen: the address \
+                 is that of another table, or a new store has replaced that one; if that was meant, \
+                 start the client's process again",
             ),
             Refusal::Missing(clients) => write!(
                 f,

@@ -1,6 +1,5 @@
 //! What survives of a shard that is cut in two, or of two shards that become one.
 use crate::change::{Record, Snapshot};
-use std::collections::BTreeMap;
 use std::fmt;
 
 /// What makes no shard out of two.
@@ -27,9 +26,10 @@ impl Snapshot {
     }
 
     /// Cuts it in two: the rows below the key, and those from it on. Both keep the epoch, the records,
-    /// what is known of leases and the room. A server can start on either only if it can start on this,
-    /// and a client may be told of the cut only if all have left before: else one would go on to answer
-    /// for both halves.
+    /// what is known of leases and the room. The lower one keeps the first start; the upper one is a
+    /// new store, on which no server has started. A server can start on either only if it can start on
+    /// this, and a client may be told of the cut only if all have left before: else one would go on to
+    /// answer for both halves.
     #[must_use]
     pub fn split(mut self, at: u64) -> (Snapshot, Snapshot) {
         let upper = Snapshot { rows: self.rows.split_off(&at), ..self.without_rows() };
@@ -38,8 +38,8 @@ impl Snapshot {
 
     /// Makes one of this, whose keys are all lower, and of another one. Its epoch is the greater
     /// one, so that no client has joined a later one, and so are each client's incarnation, the longest
-    /// lease and the room. The clients are in the order of this one's records, and behind them those
-    /// that only the other one has.
+    /// lease and the room. It is a new store, on which no server has started. The clients are in the
+    /// order of this one's records, and after them those that only the other one has.
     ///
     /// # Errors
     ///
@@ -54,6 +54,7 @@ impl Snapshot {
         self.room = self.kept_room().max(upper.kept_room());
         self.epoch = self.epoch.max(upper.epoch);
         self.leases = self.leases.with_those_of(upper.leases);
+        self.first_start = None;
         self.rows.extend(upper.rows);
         for record in upper.records {
             self.merge_record(record);
@@ -71,7 +72,7 @@ impl Snapshot {
 
     fn without_rows(&self) -> Snapshot {
         let Snapshot { epoch, ref records, leases, room, .. } = *self;
-        Snapshot { epoch, records: records.clone(), leases, room, rows: BTreeMap::new() }
+        Snapshot { epoch, records: records.clone(), leases, room, ..Snapshot::default() }
     }
 }
 
@@ -141,6 +142,14 @@ mod tests {
         let new = Snapshot::default();
         assert_eq!(lower.merge(new.clone()).unwrap().room, room(100));
         assert_eq!(new.clone().merge(new).unwrap().room, None);
+    }
+
+    #[test]
+    fn the_lower_half_is_the_store_and_the_others_are_new_ones() {
+        let whole = Snapshot { first_start: Some(7), ..snapshot(1, &[1, 5], &[]) };
+        let (lower, upper) = whole.split(5);
+        assert_eq!((lower.first_start, upper.first_start), (Some(7), None));
+        assert_eq!(lower.merge(upper).unwrap().first_start, None);
     }
 
     #[test]

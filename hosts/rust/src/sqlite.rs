@@ -67,6 +67,10 @@ const REGISTER: &str = "INSERT INTO record (client, incarnation, last, outcome, 
     SET incarnation = ?2, last = 0, outcome = 0, has_left = 0, commits = ?3";
 const LEAVE: &str = "UPDATE record SET has_left = 1, commits = ?2 WHERE client = ?1";
 const JUDGE: &str = "UPDATE record SET last = ?2, outcome = ?3, commits = ?4 WHERE client = ?1";
+// The first start of the store of which this one is a copy. It has no commits here: to a client that
+// has seen some, the copy is an older store.
+const FIRST_START: &str = "INSERT INTO start (bits, commits) VALUES (?1, 0)";
+const FIRST: &str = "SELECT bits FROM start ORDER BY place LIMIT 1";
 
 // `unleased` has the bit of value 2^n for client n, as a number with a sign.
 const LEASE: &str = "UPDATE lease SET longest = ?1, unleased = ?2 WHERE id = 0";
@@ -237,6 +241,7 @@ pub(crate) fn load(connection: &Connection) -> Result<Snapshot, StoreError> {
     }
     snapshot.leases = lease_record(connection)?;
     snapshot.room = kept_room(connection)?;
+    snapshot.first_start = first_start(connection)?;
     Ok(snapshot)
 }
 
@@ -245,6 +250,15 @@ fn has_table(connection: &Connection, name: &str) -> Result<bool, StoreError> {
     let named = "SELECT count(*) FROM sqlite_master WHERE type = 'table' AND name = ?1";
     let tables: i64 = connection.query_row(named, [name], |row| row.get(0))?;
     Ok(tables > 0)
+}
+
+/// The bits of the first start of a server, if the file keeps one.
+fn first_start(connection: &Connection) -> Result<Option<u128>, StoreError> {
+    if !has_table(connection, "start")? {
+        return Ok(None);
+    }
+    let first = connection.query_row(FIRST, [], |row| row.get(0));
+    Ok(first.optional()?.map(u128::from_le_bytes))
 }
 
 /// The greatest room that a server had, if the file keeps one.
@@ -276,6 +290,9 @@ pub(crate) fn save(connection: &mut Connection, snapshot: &Snapshot) -> Result<(
     let transaction = connection.transaction()?;
     let keep = |change: &Change| commit_one(&transaction, change, NOT_COUNTED);
     keep(&Change::Started { epoch: snapshot.epoch })?;
+    if let Some(first_start) = snapshot.first_start {
+        run(&transaction, FIRST_START, params![first_start.to_le_bytes()])?;
+    }
     for (key, value) in &snapshot.rows {
         commit_write(&transaction, &Write::Insert(Row { key: *key, value: *value }))?;
     }

@@ -63,8 +63,9 @@ impl SqliteStore {
     /// It is written under a name of its own first, next to it; what calls that were cut off have
     /// left under such a name is removed.
     ///
-    /// The new store has no history: to a client that has seen something of another one, it is a
-    /// store that went back.
+    /// Of a history the new store has only the snapshot's first start: to a client that has seen the
+    /// store of the snapshot, it is one that went back. Without a first start it is another store to
+    /// each client that has seen one.
     ///
     /// # Errors
     ///
@@ -156,6 +157,7 @@ impl From<io::Error> for StoreError {
 pub(crate) mod tests {
     use super::*;
     use crate::change::{Change, Outcome, Record};
+    use crate::history::Comparison;
     use crate::lease_record::LeaseRecord;
     use crate::room::Room;
     use crate::row::Value;
@@ -200,6 +202,7 @@ pub(crate) mod tests {
             ],
             leases: LeaseRecord { longest: 12, unleased: [2, 9].into_iter().collect() },
             room: Room::of(1_000_000).ok(),
+            first_start: Some(1 << 127 | 5),
         }
     }
 
@@ -214,6 +217,29 @@ pub(crate) mod tests {
         assert_eq!(SqliteStore::read(&file).unwrap(), expected);
         assert_eq!(folder.names(), ["copy.db"]);
         assert_eq!(SqliteStore::open(&file).unwrap().load().unwrap(), snapshot());
+    }
+
+    #[test]
+    fn a_copy_has_the_first_start_and_lacks_what_came_after_it() {
+        let folder = Folder::new("first-start");
+        let [file, copy] = ["store.db", "copy.db"].map(|name| folder.0.join(name));
+        let mut store = SqliteStore::open(&file).unwrap();
+        for epoch in [1, 2] {
+            store.commit(&[Change::Started { epoch }]).unwrap();
+        }
+        let history = store.history().unwrap().unwrap();
+        let snapshot = store.snapshot().unwrap();
+        assert_eq!(snapshot.first_start, history.first_start());
+        SqliteStore::create(&copy, &snapshot).unwrap();
+        let mut copied = SqliteStore::open(&copy).unwrap();
+        copied.commit(&[Change::Started { epoch: 9 }]).unwrap();
+        let of_copy = copied.history().unwrap().unwrap();
+        assert_eq!(of_copy.compare(history.seen().unwrap()), Comparison::Lacks);
+        assert_eq!(of_copy.first_start(), history.first_start());
+        let mut other = SqliteStore::open(folder.0.join("other.db")).unwrap();
+        other.commit(&[Change::Started { epoch: 1 }]).unwrap();
+        let of_other = other.history().unwrap().unwrap();
+        assert_eq!(of_other.compare(history.seen().unwrap()), Comparison::OtherStore);
     }
 
     #[test]
@@ -283,12 +309,12 @@ pub(crate) mod tests {
     #[test]
     fn an_older_store_is_read_as_it_is_and_raised_when_it_is_opened() {
         let folder = Folder::new("older");
-        for (version, marks) in [
-            (0, "DROP TABLE lease; DROP TABLE start; PRAGMA application_id = 0;"),
-            (1, "DROP TABLE lease; DROP TABLE start;"),
-            (2, "DROP TABLE lease;"),
-            (3, "UPDATE lease SET longest = 0, unleased = -1;"),
-            (4, "UPDATE lease SET longest = 0, unleased = -1;"),
+        for (version, marks, first_start) in [
+            (0, "DROP TABLE lease; DROP TABLE start; PRAGMA application_id = 0;", None),
+            (1, "DROP TABLE lease; DROP TABLE start;", None),
+            (2, "DROP TABLE lease;", snapshot().first_start),
+            (3, "UPDATE lease SET longest = 0, unleased = -1;", snapshot().first_start),
+            (4, "UPDATE lease SET longest = 0, unleased = -1;", snapshot().first_start),
         ] {
             let file = folder.0.join(format!("{version}.db"));
             SqliteStore::create(&file, &snapshot()).unwrap();
@@ -297,18 +323,23 @@ pub(crate) mod tests {
                 "ALTER TABLE record DROP COLUMN commits; {room} {marks}
                 PRAGMA user_version = {version};"
             );
-            let before = Snapshot { leases: LeaseRecord::UNKNOWN, room: None, ..snapshot() };
+            let leases = LeaseRecord::UNKNOWN;
+            let before = Snapshot { leases, room: None, first_start, ..snapshot() };
             Connection::open(&file).unwrap().execute_batch(&older).unwrap();
             let version_of = |file| SqliteStore::read(file).map(|it| it.version).unwrap();
             assert_eq!([version_of(&file), version_of(&file)], [version, version]);
             assert_eq!(SqliteStore::read(&file).unwrap().snapshot, before);
             let mut store = SqliteStore::open(&file).unwrap();
             assert_eq!(store.load().unwrap(), before);
-            assert_eq!(store.history().unwrap(), None, "no server has started on it since");
+            let first_of = |store: &mut SqliteStore| {
+                store.history().unwrap().and_then(|history| history.first_start())
+            };
+            assert_eq!(first_of(&mut store), first_start);
             store.commit(&[Change::Started { epoch: 8 }]).unwrap();
-            assert!(store.history().unwrap().is_some());
+            let first = first_of(&mut store);
+            assert!(first.is_some() && (first == first_start || first_start.is_none()));
             drop(store);
-            let expected = Snapshot { epoch: 8, ..before };
+            let expected = Snapshot { epoch: 8, first_start: first, ..before };
             assert_eq!(SqliteStore::read(&file).unwrap().snapshot, expected);
             assert_eq!(version_of(&file), VERSION);
         }

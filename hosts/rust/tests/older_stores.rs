@@ -102,6 +102,20 @@ fn a_server_over_an_older_copy_ends_and_serves_when_it_is_started_again() {
 }
 
 #[test]
+fn a_server_over_a_restored_backup_is_one_over_an_older_store() {
+    let mut place = Place::new("restored-backup", 74);
+    let client = place.client_of_a_later_store(3);
+    let backup = SqliteStore::read(place.file("copy.db")).unwrap().snapshot;
+    SqliteStore::create(place.file("restored.db"), &backup).unwrap();
+    place.copy("restored.db", "table.db");
+    ends_by_the_word_of(3, place.serve());
+    assert!(wait_until(|| client.cached(1..2).is_none()), "it was told");
+    let server = place.serve();
+    assert_eq!(client.read(1..2), Ok(vec![row(1)]), "it has joined anew");
+    server.stop().unwrap();
+}
+
+#[test]
 fn the_right_store_is_served_after_a_server_over_the_wrong_one_has_ended() {
     let mut place = Place::new("right-store", 72);
     let client = place.client_of_a_later_store(3);

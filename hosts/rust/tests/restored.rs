@@ -295,3 +295,28 @@ fn nothing_is_taken_of_a_connection_whose_host_has_seen_more() {
     assert!(wait_until(|| server.status().store_alarms == 1), "{}", server.status());
     assert_eq!(server.status().taken, 0, "the library's Hello is lost");
 }
+
+/// A Refused by the reason 9, which has no numbers.
+const OTHER_STORE: [u8; 11] = [19, 0, 0, 0, 0, 0, 0, 0, 0, 17, 9];
+
+#[test]
+fn nothing_is_taken_of_a_connection_whose_host_has_seen_another_store() {
+    let place = Place::new("other");
+    let listener = std::net::TcpListener::bind("127.0.0.1:0").unwrap();
+    let store = SqliteStore::open(place.folder.join("table.db")).unwrap();
+    let server = Server::start(listener, store).unwrap();
+    let body = [&[0, 0][..], &[5; 16], &1u64.to_le_bytes(), &[7; 16]].concat();
+    let seen = [&(body.len() as u64).to_le_bytes()[..], &body].concat();
+    let mut peer = Peer::new(&server);
+    peer.say(&[seen, frame(HELLO, 3, 1, &[])].concat());
+    let begun = Instant::now();
+    assert_eq!(peer.hear(Duration::from_secs(10)), [&OTHER_STORE[..], &[0; 16]].concat());
+    assert!(begun.elapsed() < Duration::from_secs(5), "the connection ends");
+    assert_eq!(server.status().taken, 0, "the library's Hello is lost");
+    // A client that has seen no store is served after it.
+    let client = place.join(server.address().clone(), 4);
+    assert_eq!(client.insert(1, Value::from(1)), Ok(Outcome::Applied));
+    let status = server.status();
+    assert_eq!((status.store_alarms, status.alarms_raised), (0, 0), "{status}");
+    server.stop().unwrap();
+}

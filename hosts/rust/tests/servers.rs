@@ -113,7 +113,7 @@ fn a_client_joins_by_a_name_of_the_host() {
     std::fs::remove_file(lock).unwrap();
 }
 
-/// A store whose history has one start, and that another server may have taken over.
+/// A store whose last start is this one, and that another server may have taken over.
 struct Behind {
     store: MemoryStore,
     start: u128,
@@ -137,7 +137,7 @@ impl Store for Behind {
     }
 
     fn history(&mut self) -> Result<Option<History>, StoreError> {
-        Ok(History::new(vec![Mark { start: self.start, commits: 1 }]))
+        Ok(History::new([7, self.start].map(|start| Mark { start, commits: 1 }).to_vec()))
     }
 }
 

@@ -53,9 +53,14 @@ fn apply(snapshot: &mut Snapshot, changes: &[Change]) {
     }
 }
 
+/// The snapshot without the first start, which the store draws.
+fn table(snapshot: Snapshot) -> Snapshot {
+    Snapshot { first_start: None, ..snapshot }
+}
+
 fn loaded(address: &EtcdAddress) -> (EtcdStore, Snapshot) {
     let mut store = open(address);
-    let snapshot = store.load().unwrap();
+    let snapshot = table(store.load().unwrap());
     (store, snapshot)
 }
 
@@ -73,7 +78,7 @@ fn what_is_loaded_is_what_was_committed() {
         assert_eq!(snapshot, expected);
         store.commit(&[change]).unwrap();
         expected.apply(&change);
-        assert_eq!(store.snapshot().unwrap(), expected, "{change:?}");
+        assert_eq!(table(store.snapshot().unwrap()), expected, "{change:?}");
         assert_eq!(loaded(&address).1, expected, "{change:?}");
     }
     let address = cluster.address("at-once");
@@ -206,6 +211,9 @@ fn a_history_has_each_start() {
         let history = store.history().unwrap().unwrap();
         assert_eq!(history.mark().map(|mark| mark.commits), Some(2));
         assert!(marks.iter().all(|mark| history.has(*mark)));
+        let first_start = marks.first().map(|mark: &Mark| mark.start);
+        assert_eq!(history.first_start(), first_start);
+        assert_eq!(store.snapshot().unwrap().first_start, first_start);
     }
 }
 
@@ -237,14 +245,21 @@ fn what_no_server_commits_is_not_loaded() {
 fn a_copy_becomes_a_store_of_its_own() {
     let Some(cluster) = Cluster::start() else { return };
     let (address, credentials) = (cluster.address("copy"), Credentials::default());
-    let mut snapshot = Snapshot::default();
+    let first_start = 1 << 127 | 5;
+    let mut snapshot = Snapshot { first_start: Some(first_start), ..Snapshot::default() };
     apply(&mut snapshot, &changes());
     snapshot.rows.extend((0..500).map(|key| (key, key.into())));
     EtcdStore::create(&address, &credentials, &snapshot).unwrap();
     let (mut store, found) = loaded(&address);
-    assert_eq!(found, snapshot);
+    assert_eq!(found, table(snapshot.clone()));
     assert!(EtcdStore::create(&address, &credentials, &snapshot).is_err(), "it is there already");
     store.commit(&[Change::Started { epoch: 3 }]).unwrap();
+    let history = store.history().unwrap().unwrap();
+    assert_eq!(history.first_start(), Some(first_start));
+    assert_eq!(store.snapshot().unwrap().first_start, Some(first_start));
+    let later = Mark { start: first_start, commits: 1 };
+    assert!(!history.has(later), "who has seen that finds an older store");
+    assert_eq!(loaded(&address).0.history().unwrap(), Some(history));
 }
 
 /// Puts these keys, whatever is there.
@@ -260,7 +275,13 @@ fn a_place_that_was_not_finished_is_no_store_and_is_taken() {
     let Some(cluster) = Cluster::start() else { return };
     let (address, credentials) = (cluster.address("begun"), Credentials::default());
     let mut store = open(&address);
-    let left = [("head", "unfinished 00"), ("bucket/0001", "x"), ("client/64", "y"), ("room", "3")];
+    let left = [
+        ("head", "unfinished 00"),
+        ("bucket/0001", "x"),
+        ("client/64", "y"),
+        ("room", "3"),
+        ("start/0", "z"),
+    ];
     let set = |(name, value): (&str, &str)| Set { key: store.key(name), value: value.into() };
     let sets = left.map(set);
     put_keys(&mut store, &sets);

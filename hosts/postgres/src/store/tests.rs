@@ -49,9 +49,14 @@ fn apply(snapshot: &mut Snapshot, changes: &[Change]) {
     }
 }
 
+/// The snapshot without the first start, which the store draws.
+fn table(snapshot: Snapshot) -> Snapshot {
+    Snapshot { first_start: None, ..snapshot }
+}
+
 fn loaded(database: &Database) -> (PostgresStore, Snapshot) {
     let mut store = PostgresStore::open(&database.address(), None).unwrap();
-    let snapshot = store.load().unwrap();
+    let snapshot = table(store.load().unwrap());
     (store, snapshot)
 }
 
@@ -72,7 +77,7 @@ fn what_is_loaded_is_what_was_committed() {
         assert_eq!(snapshot, expected);
         store.commit(&[change]).unwrap();
         expected.apply(&change);
-        assert_eq!(store.snapshot().unwrap(), expected, "{change:?}");
+        assert_eq!(table(store.snapshot().unwrap()), expected, "{change:?}");
         assert_eq!(store.history().unwrap(), loaded(&database).0.history().unwrap());
     }
     let (mut store, _) = loaded(&database);
@@ -139,6 +144,9 @@ fn a_history_has_each_start() {
         let history = store.history().unwrap().unwrap();
         assert_eq!(history.mark().map(|mark| mark.commits), Some(2));
         assert!(marks.iter().all(|mark| history.has(*mark)));
+        let first_start = marks.first().map(|mark: &Mark| mark.start);
+        assert_eq!(history.first_start(), first_start);
+        assert_eq!(store.snapshot().unwrap().first_start, first_start);
     }
 }
 
@@ -185,15 +193,22 @@ fn a_database_that_is_not_there_is_told() {
 #[test]
 fn a_copy_becomes_a_store_of_its_own() {
     let Some(database) = Database::start() else { return };
-    let mut snapshot = Snapshot::default();
+    let first_start = 1 << 127 | 5;
+    let mut snapshot = Snapshot { first_start: Some(first_start), ..Snapshot::default() };
     apply(&mut snapshot, &changes());
     snapshot.rows.extend((0..500).map(|key| (key, key.into())));
     PostgresStore::create(&database.address(), None, &snapshot).unwrap();
     let (mut store, found) = loaded(&database);
-    assert_eq!(found, snapshot);
+    assert_eq!(found, table(snapshot.clone()));
     let again = PostgresStore::create(&database.address(), None, &snapshot);
     assert!(again.unwrap_err().to_string().contains("already"));
     store.commit(&[Change::Started { epoch: 3 }]).unwrap();
+    let history = store.history().unwrap().unwrap();
+    assert_eq!(history.first_start(), Some(first_start));
+    assert_eq!(store.snapshot().unwrap().first_start, Some(first_start));
+    let later = Mark { start: first_start, commits: 1 };
+    assert!(!history.has(later), "who has seen that finds an older store");
+    assert_eq!(loaded(&database).0.history().unwrap(), Some(history));
 }
 
 #[test]

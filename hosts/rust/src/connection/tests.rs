@@ -1,5 +1,6 @@
 use super::*;
 use crate::frames::LONGEST_TO_SERVER;
+use crate::history::Mark;
 use std::io::Write;
 use std::os::unix::net::UnixStream;
 use std::sync::mpsc::channel;
@@ -7,7 +8,7 @@ use std::thread;
 
 const HELLO: FromServer = FromServer::Hello { answers_signs: true };
 
-const MARK: Mark = Mark { start: 7, commits: 3 };
+const SEEN: Seen = Seen { mark: Mark { start: 7, commits: 3 }, first_start: Some(5) };
 
 fn connection() -> (Connection, UnixStream) {
     let (ours, theirs) = UnixStream::pair().unwrap();
@@ -16,9 +17,9 @@ fn connection() -> (Connection, UnixStream) {
     (Connection::new(Stream::Unix(ours), entry, LONGEST_TO_SERVER, Instant::now()).unwrap(), theirs)
 }
 
-fn send(connection: &mut Connection, frame: &[u8], mark: Option<Mark>) {
-    connection.say(frame, mark);
-    connection.end_batch(mark);
+fn send(connection: &mut Connection, frame: &[u8], seen: Option<Seen>) {
+    connection.say(frame, seen);
+    connection.end_batch(seen);
     connection.write(Instant::now()).unwrap();
 }
 
@@ -41,12 +42,12 @@ fn a_host_hears_of_itself_then_of_the_store_and_then_all_else() {
     let (mut connection, mut peer) = connection();
     connection.tell(b"told");
     connection.greet(HELLO);
-    send(&mut connection, b"said", Some(MARK));
+    send(&mut connection, b"said", Some(SEEN));
     let hello = HELLO.frame();
-    let news = FromServer::Mark(MARK).frame();
+    let news = FromServer::Mark(SEEN).frame();
     assert_eq!(heard(&mut connection, &mut peer), [&hello[..], &news, b"told", b"said"].concat());
     // What it knows is not told again.
-    send(&mut connection, b"said", Some(MARK));
+    send(&mut connection, b"said", Some(SEEN));
     assert_eq!(heard(&mut connection, &mut peer), b"said");
 }
 
@@ -54,7 +55,7 @@ fn a_host_hears_of_itself_then_of_the_store_and_then_all_else() {
 fn a_peer_without_host_frames_hears_none() {
     let (mut connection, mut peer) = connection();
     connection.refuse(Refusal::Version { read: 1 }, Instant::now());
-    send(&mut connection, b"said", Some(MARK));
+    send(&mut connection, b"said", Some(SEEN));
     assert_eq!(heard(&mut connection, &mut peer), b"said");
 }
 
@@ -63,7 +64,7 @@ fn a_host_whose_store_went_back_hears_that_and_no_mark() {
     let (mut connection, mut peer) = connection();
     connection.greet(FromServer::WentBack);
     connection.end(CloseReason::OlderStore);
-    send(&mut connection, &[], Some(MARK));
+    send(&mut connection, &[], Some(SEEN));
     assert_eq!(heard(&mut connection, &mut peer), FromServer::WentBack.frame());
     assert!(connection.is_over());
 }
@@ -76,11 +77,11 @@ fn a_batch_that_is_lost_is_lost_whole() {
         send(&mut connection, &[0; 1 << 12], None);
     }
     connection.tell(b"lost");
-    send(&mut connection, b"lost", Some(MARK));
+    send(&mut connection, b"lost", Some(SEEN));
     let before = heard(&mut connection, &mut peer);
     assert!(!before.ends_with(b"lost"));
-    send(&mut connection, b"said", Some(MARK));
-    let news = FromServer::Mark(MARK).frame();
+    send(&mut connection, b"said", Some(SEEN));
+    let news = FromServer::Mark(SEEN).frame();
     assert_eq!(heard(&mut connection, &mut peer), [&news[..], b"said"].concat());
 }
 

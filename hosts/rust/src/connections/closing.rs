@@ -35,12 +35,14 @@ pub(crate) enum CloseReason {
     OtherShard,
     /// Its client has seen what the store lacks.
     OlderStore,
+    /// Its client has seen another store.
+    OtherStore,
     /// There was no room for it.
     Full,
 }
 
 impl CloseReason {
-    const ALL: [CloseReason; 14] = [
+    const ALL: [CloseReason; 15] = [
         CloseReason::Ended,
         CloseReason::Silent,
         CloseReason::TakesNothing,
@@ -54,6 +56,7 @@ impl CloseReason {
         CloseReason::Denied,
         CloseReason::OtherShard,
         CloseReason::OlderStore,
+        CloseReason::OtherStore,
         CloseReason::Full,
     ];
 
@@ -73,6 +76,7 @@ impl CloseReason {
             CloseReason::Denied => "denied",
             CloseReason::OtherShard => "other_shard",
             CloseReason::OlderStore => "older_store",
+            CloseReason::OtherStore => "other_store",
             CloseReason::Full => "full",
         }
     }

@@ -1,29 +1,55 @@
-//! The Hello of a client's host, and what follows if the store lacks what that host has seen.
+//! The Hello of a client's host, and what follows if the store lacks what that host has seen, or is
+//! another one.
 use super::{EventLoop, LAST_TURNS};
 use crate::clocks::Now;
 use crate::connections::closing::CloseReason;
-use crate::history::Mark;
+use crate::history::{Comparison, Mark, Seen};
 use crate::host_frame::FromServer;
 use crate::identity::Identity;
+use crate::refusal::Refusal;
 use crate::server::ServeError;
 use crate::store::Store;
 
 impl<S: Store> EventLoop<S> {
-    /// Answers the Hello of a client's host, which has seen so much of the store.
-    ///
-    /// If the store lacks that, people are told too, and nothing more is heard of the connection:
-    /// its client knows what is not so, and what it says is lost as if it had crashed. Then the
-    /// server ends, unless a stranger may have said so.
+    /// Answers the Hello of a client's host, which has seen so much of a store.
     pub(super) fn greet(
         &mut self,
         connection: u64,
-        seen: Option<Mark>,
+        seen: Option<Seen>,
         now: Now,
     ) -> Result<(), ServeError> {
-        let Some(lacked) = seen.filter(|seen| !self.has(*seen)) else {
-            self.connections.greet(connection, FromServer::Hello { answers_signs: true });
-            return Ok(());
-        };
+        match seen.map(|seen| (seen.mark, self.compare_store(seen))) {
+            None | Some((_, Comparison::HasAll)) => self.greet_back(connection),
+            Some((_, Comparison::OtherStore)) => self.refuse_other_store(connection),
+            Some((lacked, Comparison::Lacks)) => {
+                return self.alarm_older_store(connection, lacked, now);
+            }
+        }
+        Ok(())
+    }
+
+    fn greet_back(&mut self, connection: u64) {
+        self.connections.greet(connection, FromServer::Hello { answers_signs: true });
+    }
+
+    /// Refuses a client that has seen another store: its address is wrong, or a new store has
+    /// replaced that one. This server's store is none the worse for it, so the server goes on.
+    /// Nothing more is heard of the connection: what the client knows is of another table.
+    fn refuse_other_store(&mut self, connection: u64) {
+        self.log.other_store(&self.connections.at(connection));
+        self.connections.greet(connection, FromServer::Refused(Refusal::OtherStore));
+        self.connections.end(connection, CloseReason::OtherStore);
+    }
+
+    /// The store is an older copy. People are told too, and nothing more is heard of the
+    /// connection: its client knows what is not so, and what it says is lost as if it had crashed.
+    /// Then the server ends, unless a stranger may have said so.
+    fn alarm_older_store(
+        &mut self,
+        connection: u64,
+        lacked: Mark,
+        now: Now,
+    ) -> Result<(), ServeError> {
         // A server behind which another one has started lacks it too, and ends here. The store is
         // asked once in a turn, however many say so.
         if !self.has_asked_store {
@@ -41,10 +67,10 @@ impl<S: Store> EventLoop<S> {
         Ok(())
     }
 
-    /// Whether the store has all that was seen. One without a history told nobody a mark: whoever
-    /// has one has seen another store.
-    fn has(&self, seen: Mark) -> bool {
-        self.history.as_ref().is_some_and(|history| history.has(seen))
+    /// What the store is to a client that has seen so much. One without a history has told nobody a
+    /// mark, and so lacks each.
+    fn compare_store(&self, seen: Seen) -> Comparison {
+        self.history.as_ref().map_or(Comparison::Lacks, |history| history.compare(seen))
     }
 
     /// Ends as a server that is told to stop, with the first such error.

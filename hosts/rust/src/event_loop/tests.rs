@@ -3,7 +3,7 @@ use crate::access::Access;
 use crate::address::Address;
 use crate::boot_clock::Moment;
 use crate::change::Snapshot;
-use crate::history::Mark;
+use crate::history::{Mark, Seen};
 use crate::lease::{Older, Sign};
 use crate::lease_record::LeaseRecord;
 use crate::leases::{Answer, Leases};
@@ -100,7 +100,8 @@ fn a_turn_asks_the_store_once_for_all_who_have_seen_another_one() {
     let at = peer.peer_addr().unwrap();
     let others = (0..2).map(|_| TcpStream::connect(at).unwrap());
     let mut peers: Vec<TcpStream> = others.chain([peer]).collect();
-    let hello = FromClient::Hello(Some(Mark { start: 7, commits: 1 })).frame();
+    let seen = Seen { mark: Mark { start: 7, commits: 1 }, first_start: None };
+    let hello = FromClient::Hello(Some(seen)).frame();
     for peer in &mut peers {
         peer.write_all(&hello).unwrap();
     }

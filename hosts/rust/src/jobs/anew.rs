@@ -1,16 +1,18 @@
-//! A client whose server's store went back, or whose lease has ended: it drops what it knows, and
-//! begins anew.
+//! A client whose server's store went back or is another one, or whose lease has ended: it drops
+//! what it knows, and begins anew.
 use super::crossed::Crossed;
 use super::yielding::Narrowed;
 use super::{Asking, Job, Jobs, Stage};
 use crate::client_handle::ClientHandle;
 use crate::pins::Pins;
+use crate::refusal::Refusal;
 use crate::refused::Refused;
 
 /// Why a client has dropped all.
 #[derive(Clone, Copy, Debug, PartialEq, Eq)]
 pub(crate) enum Dropped {
     StoreWentBack,
+    OtherStore,
     LeaseEnded,
 }
 
@@ -19,6 +21,7 @@ impl Dropped {
     pub fn refused(self) -> Refused {
         match self {
             Dropped::StoreWentBack => Refused::StoreWentBack,
+            Dropped::OtherStore => Refused::Unserved(Refusal::OtherStore),
             Dropped::LeaseEnded => Refused::LeaseEnded,
         }
     }
@@ -26,14 +29,15 @@ impl Dropped {
 
 impl Job {
     /// What becomes of a job that is open as the client drops all. Behind the end of a lease it goes
-    /// on from its start. If the store went back, only those go on that join and leave.
+    /// on from its start. If the store went back or is another one, only those go on that join and
+    /// leave.
     fn behind(self, why: Dropped) -> Option<Job> {
         match (self, why) {
             (Job::Hold(taking, reply), Dropped::LeaseEnded) => {
                 Some(Job::Hold(taking.begun_again(), reply))
             }
             (job @ (Job::Join(_) | Job::Leave(_)), _) | (job, Dropped::LeaseEnded) => Some(job),
-            (job, Dropped::StoreWentBack) => {
+            (job, Dropped::StoreWentBack | Dropped::OtherStore) => {
                 job.refuse(why.refused());
                 None
             }
@@ -91,8 +95,12 @@ impl Jobs {
     /// Whether a client that leaves has to join first, since the server may know it by an older
     /// incarnation alone.
     pub(super) fn has_to_return(&self) -> bool {
-        let has_joined = self.client.status().is_ok_and(|shown| shown.epoch > 0);
-        self.is_void() || self.has_begun_anew && !has_joined
+        self.is_void() || self.has_begun_anew && !self.has_joined()
+    }
+
+    /// Whether the client has joined since it began, or began anew: otherwise it knows nothing.
+    pub fn has_joined(&self) -> bool {
+        self.client.status().is_ok_and(|shown| shown.epoch > 0)
     }
 
     /// Goes on as a client of a greater incarnation, which has not joined yet.

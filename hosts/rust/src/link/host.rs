@@ -45,13 +45,16 @@ impl Link {
             Some(FromServer::Refused(Refusal::OtherShard(served))) => {
                 return Err(connected.fence.is_refused(served).into());
             }
+            Some(FromServer::Refused(Refusal::OtherStore)) => {
+                return Err(self.leave_other_store(connected.address));
+            }
             Some(FromServer::Refused(refusal)) => {
                 *lock(&self.refusal) = Some((refusal, Instant::now()));
                 if refusal == Refusal::Denied {
                     return Err(NotTaken(refusal.to_string()).into());
                 }
             }
-            Some(FromServer::Mark(mark)) => *lock(&self.seen) = Some(mark),
+            Some(FromServer::Mark(seen)) => *lock(&self.seen) = Some(seen),
             Some(FromServer::WentBack) => {
                 connected.heard.went_back = true;
                 return Err(self.drop_all(connected.address));
@@ -84,6 +87,33 @@ impl Link {
         self.epoch.store(0, Ordering::Relaxed);
         event_log::store_went_back(address);
         io::Error::other(Refused::StoreWentBack)
+    }
+
+    /// The server serves another store than the one that the client has seen. From here on nothing
+    /// that the client knows of that one is answered: it may be gone. It answers by what the
+    /// connection ends with.
+    ///
+    /// The client keeps the mark, and so stays refused: without one it would join the other table,
+    /// and its callers would not notice. One that has not joined since it dropped all has nothing
+    /// to drop, and its calls wait for the right store: no attempt to connect uses up an
+    /// incarnation.
+    fn leave_other_store(&self, address: &Address) -> io::Error {
+        if self.drops_for_other_store() {
+            event_log::store_is_another_one(address);
+        }
+        // Callers hear of it once nothing is answered from the old cache.
+        *lock(&self.refusal) = Some((Refusal::OtherStore, Instant::now()));
+        io::Error::other(Refusal::OtherStore.to_string())
+    }
+
+    /// Whether the client had something to drop.
+    fn drops_for_other_store(&self) -> bool {
+        let mut jobs = self.jobs();
+        let has_joined = jobs.has_joined();
+        if has_joined {
+            jobs.drop_all(Dropped::OtherStore);
+        }
+        has_joined
     }
 
     /// Has the incarnation on the disk before anything of it leaves. A client whose number is free

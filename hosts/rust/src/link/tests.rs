@@ -2,6 +2,7 @@
 use super::*;
 use crate::boot_clock::Moment;
 use crate::client_handle::{ClientHandle, Scan};
+use crate::history::Mark;
 use crate::host_frame::FromServer;
 use crate::stream::Stream;
 use crate::writer::STALL;
@@ -13,6 +14,28 @@ const SHORT: Duration = Duration::from_millis(100);
 fn link() -> Link {
     let jobs = Jobs::new(ClientHandle::open(1, 1).unwrap(), Now::read());
     Link::new("unix:nowhere".parse().unwrap(), jobs, None)
+}
+
+fn seen(start: u128, commits: u64) -> Seen {
+    Seen { mark: Mark { start, commits }, first_start: Some(start) }
+}
+
+/// A connection to the server over this stream.
+fn connected(link: &Link, stream: UnixStream) -> Connected<'_> {
+    Connected {
+        address: link.servers.at(0),
+        carrier: Carrier::from(Stream::Unix(stream)),
+        heard: Heard::default(),
+        silence: Silence::new(Instant::now(), 1),
+        fence: Fence::new(None),
+    }
+}
+
+/// Hears what has come on the connection.
+fn hears(link: &Link, connected: &mut Connected<'_>) -> io::Result<()> {
+    let mut frames = Frames::new(LONGEST_TO_CLIENT);
+    connected.carrier.fill(&mut frames)?;
+    link.hear_all(&mut frames, connected)
 }
 
 #[test]
@@ -43,19 +66,29 @@ fn a_peer_that_takes_nothing_holds_no_call_beyond_its_deadline() {
 #[test]
 fn nothing_is_taken_behind_the_word_that_the_store_went_back() {
     let (link, (ours, mut theirs)) = (link(), UnixStream::pair().unwrap());
-    *lock(&link.seen) = Some(Mark { start: 1, commits: 9 });
-    let behind = FromServer::Mark(Mark { start: 2, commits: 1 });
+    *lock(&link.seen) = Some(seen(1, 9));
+    let behind = FromServer::Mark(seen(2, 1));
     theirs.write_all(&[FromServer::WentBack.frame(), behind.frame()].concat()).unwrap();
-    let mut frames = Frames::new(LONGEST_TO_CLIENT);
-    let silence = Silence::new(Instant::now(), 1);
-    let (address, carrier) = (link.servers.at(0), Carrier::from(Stream::Unix(ours)));
-    let mut connected =
-        Connected { address, carrier, heard: Heard::default(), silence, fence: Fence::new(None) };
-    connected.carrier.fill(&mut frames).unwrap();
-    let end = link.hear_all(&mut frames, &mut connected).unwrap_err();
+    let mut connected = connected(&link, ours);
+    let end = hears(&link, &mut connected).unwrap_err();
     assert!(end.to_string().contains("went back"), "{end}");
     assert!(link.jobs().is_void() && connected.heard.went_back);
     assert_eq!(*lock(&link.seen), None);
+}
+
+#[test]
+fn a_client_that_is_refused_for_another_store_keeps_its_mark_and_its_incarnation() {
+    let (link, (ours, mut theirs)) = (link(), UnixStream::pair().unwrap());
+    *lock(&link.seen) = Some(seen(1, 9));
+    let frames = [FromServer::Refused(Refusal::OtherStore), FromServer::Mark(seen(2, 1))];
+    theirs.write_all(&frames.map(FromServer::frame).concat()).unwrap();
+    let mut connected = connected(&link, ours);
+    let end = hears(&link, &mut connected).unwrap_err();
+    assert!(end.to_string().contains("another store"), "{end}");
+    assert_eq!(*lock(&link.seen), Some(seen(1, 9)), "what comes after the refusal is not taken");
+    assert!(!link.jobs().is_void(), "it has not joined, and has nothing to drop");
+    let told = *lock(&link.refusal);
+    assert_eq!(told.map(|(refusal, _)| refusal), Some(Refusal::OtherStore));
 }
 
 #[test]

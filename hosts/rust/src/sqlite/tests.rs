@@ -30,6 +30,11 @@ fn changes() -> Vec<Change> {
     ]
 }
 
+/// What the store has, but for its first start, which it draws.
+fn table(store: &mut SqliteStore) -> Snapshot {
+    Snapshot { first_start: None, ..store.load().unwrap() }
+}
+
 #[test]
 fn what_is_loaded_is_what_was_kept() {
     let folder = std::env::temp_dir().join(format!("krl-sqlite-{}", std::process::id()));
@@ -40,11 +45,11 @@ fn what_is_loaded_is_what_was_kept() {
     for change in changes() {
         SqliteStore::open(&file).unwrap().commit(&[change]).unwrap();
         expected.apply(&change);
-        assert_eq!(SqliteStore::open(&file).unwrap().load().unwrap(), expected, "{change:?}");
+        assert_eq!(table(&mut SqliteStore::open(&file).unwrap()), expected, "{change:?}");
     }
     let mut at_once = SqliteStore::open(folder.join("other.db")).unwrap();
     at_once.commit(&changes()).unwrap();
-    assert_eq!(at_once.load().unwrap(), expected);
+    assert_eq!(table(&mut at_once), expected);
     assert!(SqliteStore::open(folder.join("other.db")).is_err(), "one process at a time");
     std::fs::remove_dir_all(&folder).unwrap();
 }
@@ -67,6 +72,7 @@ fn each_start_and_each_batch_is_counted() {
     let second = history.mark().unwrap();
     assert_eq!(second.commits, 1);
     assert_ne!(second.start, first.start);
+    assert_eq!(store.load().unwrap().first_start, Some(first.start));
     assert!(history.has(first) && !history.has(Mark { commits: 3, ..first }));
     let bad = Change::Registered { client: 1, incarnation: u64::MAX };
     assert!(store.commit(&[bad]).is_err());
@@ -186,7 +192,7 @@ fn a_value_commits_nothing_behind_another_one() {
     for change in &kept {
         expected.apply(change);
     }
-    assert_eq!(open().load().unwrap(), expected);
+    assert_eq!(table(&mut open()), expected);
     std::fs::remove_dir_all(&folder).unwrap();
 }
 
