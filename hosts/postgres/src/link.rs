@@ -294,6 +294,19 @@ mod tests {
     use super::*;
 
     #[test]
+    fn each_attempt_has_a_part_of_the_time() {
+        const TIME: Duration = Duration::from_secs(3600);
+        let mut link = Link::new(Config::new(), None).unwrap();
+        let mut attempts = Vec::new();
+        let done = link.again(Instant::now() + TIME, |_, end| {
+            attempts.push(end.saturating_duration_since(Instant::now()));
+            if attempts.len() > 1 { Ok(()) } else { Err(Failure::Unknown("it is silent".into())) }
+        });
+        assert!(done.is_ok() && attempts.len() == 2);
+        assert!(attempts.iter().all(|time| *time <= TIME / ATTEMPTS), "{attempts:?}");
+    }
+
+    #[test]
     fn some_errors_leave_open_what_was_done() {
         let open = ["08006", "40001", "53300", "57P01", "57P03", "25006"];
         assert!(open.iter().all(|code| leaves_it_open(&SqlState::from_code(code))));

@@ -95,6 +95,24 @@ fn a_server_that_takes_nothing_holds_no_call_beyond_its_timeout() {
     }
 }
 
+#[test]
+fn an_incarnation_is_in_the_lock_file_before_it_is_said() {
+    let listener = TcpListener::bind("127.0.0.1:0").unwrap();
+    let (address, lock) = (listener.local_addr().unwrap(), lock_file("kept"));
+    let client = Client::builder(address).number(5).lock_file(&lock);
+    thread::scope(|scope| {
+        scope.spawn(|| client.timeout(Duration::from_millis(300)).join());
+        let (mut stream, _) = listener.accept().unwrap();
+        // A Hello, and a sign with the client's number and its incarnation.
+        let mut said = [0; 60];
+        stream.read_exact(&mut said).unwrap();
+        let incarnation = u64::from_le_bytes(said[28..36].try_into().unwrap());
+        let kept = std::fs::read_to_string(&lock).unwrap();
+        assert_eq!(kept, format!("krl client 05 incarnation {incarnation:020}\n"));
+    });
+    std::fs::remove_file(lock).unwrap();
+}
+
 /// A network between a client and its server that hands nothing over while it is frozen.
 fn network(server: SocketAddr) -> (SocketAddr, Arc<AtomicBool>) {
     let listener = TcpListener::bind("127.0.0.1:0").unwrap();

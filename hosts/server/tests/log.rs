@@ -33,9 +33,12 @@ impl Deaf {
         Deaf { folder, process, status }
     }
 
-    fn serves_a_client(&self) {
+    fn serves_a_client(&mut self) {
         let path = self.folder.path();
-        until("it listens", || path.join("socket").exists());
+        until("it listens", || {
+            assert_eq!(self.process.try_wait().unwrap(), None, "the server has ended");
+            path.join("socket").exists()
+        });
         let address: Address = unix(path).parse().unwrap();
         let client = join(&address, path, 3);
         assert_eq!(client.insert(1, Value::from(1)), Ok(Outcome::Applied));
@@ -76,7 +79,7 @@ fn full() -> File {
 
 #[test]
 fn a_server_whose_log_is_on_a_full_disk_goes_on_and_counts() {
-    let server = Deaf::start(full());
+    let mut server = Deaf::start(full());
     server.serves_a_client();
     until("lost lines are counted", || server.lost_lines() > 0);
     server.ends_in_order();
@@ -86,7 +89,7 @@ fn a_server_whose_log_is_on_a_full_disk_goes_on_and_counts() {
 fn a_server_whose_log_has_lost_its_reader_goes_on() {
     let (reader, writer) = std::io::pipe().unwrap();
     drop(reader);
-    let server = Deaf::start(writer);
+    let mut server = Deaf::start(writer);
     server.serves_a_client();
     until("lost lines are counted", || server.lost_lines() > 0);
     server.ends_in_order();
@@ -100,7 +103,7 @@ fn a_server_whose_log_nobody_reads_goes_on() {
     fills.args(["if=/dev/zero", "of=/dev/stdout", "oflag=nonblock", "bs=1", "count=10000000"]);
     let filled = fills.stdout(writer.try_clone().unwrap()).stderr(Stdio::null()).status();
     assert!(!filled.unwrap().success(), "the pipe is full");
-    let server = Deaf::start(writer);
+    let mut server = Deaf::start(writer);
     server.serves_a_client();
     server.ends_in_order();
     drop(reader);

@@ -369,6 +369,7 @@ fn a_store_has_more_buckets_once_its_room_is_raised() {
     apply(&mut expected, &raised);
     assert_eq!(store.next.buckets, bucket::count_for(room));
     let (mut next, found) = loaded(&address);
+    assert_eq!(found.rows.len(), expected.rows.len(), "no row is lost that moves");
     assert_eq!(found, expected);
     assert_eq!(next.history().unwrap(), store.history().unwrap());
     let further = Change::Room(Room::of(200_000).unwrap());

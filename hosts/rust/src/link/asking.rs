@@ -144,3 +144,32 @@ impl Link {
         self.writer.write()
     }
 }
+
+#[cfg(test)]
+mod tests {
+    use super::*;
+    use crate::client_handle::ClientHandle;
+    use crate::connect_fault::{ConnectFault, NotTaken};
+    use crate::shard_fence::OtherShard;
+
+    /// Why a job ends that was sent or not, if the last connection ended with this.
+    fn ended(fault: &ConnectFault, was_sent: WasSent) -> Refused {
+        let jobs = Jobs::new(ClientHandle::open(1, 1).unwrap());
+        let link = Link::new("unix:nowhere".parse().unwrap(), jobs, None);
+        lock(&link.rejections).note(fault);
+        link.timed_out(was_sent)
+    }
+
+    #[test]
+    fn a_write_that_was_sent_may_be_applied_whatever_rejects_the_client() {
+        let not_taken = ConnectFault::NotTaken(NotTaken("the certificate has expired".into()));
+        let other = OtherShard { expected: None, served: None };
+        let other_shard = ConnectFault::OtherShard(other);
+        assert_eq!(ended(&not_taken, WasSent::No), Refused::TurnedAway);
+        assert_eq!(ended(&other_shard, WasSent::No), Refused::OtherShard(other));
+        for fault in [not_taken, other_shard] {
+            let refused = ended(&fault, WasSent::Yes);
+            assert!(refused.is_unknown_outcome(), "{refused:?}");
+        }
+    }
+}
