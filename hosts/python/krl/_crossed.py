@@ -9,6 +9,8 @@ the release again then, and this time it names that push.
 
 from __future__ import annotations
 
+from collections.abc import Callable
+
 from ._handle import Range
 
 _MAX = 64
@@ -26,11 +28,17 @@ class Crossed:
         if span in self._callbacks or len(self._callbacks) < _MAX:
             self._callbacks[span] = message
 
-    def leave_out(self, keys: Range) -> None:
-        """A lock of these keys was answered behind the callbacks: what it gave is not given back
-        for them. Who waited there before was served before, or the server calls back again."""
+    def leave_out(self, keys: Range, holds: Callable[[int], bool]) -> None:
+        """A lock of these keys was answered after the callbacks: what it gave is not given back for
+        them. Who waited there before was served before, or the server calls back again.
+
+        The lock may not have given all that was asked for. Where the client holds nothing, the
+        server may still count what the callback took, and would put the next request in front of
+        others."""
         self._callbacks = {
-            span: message for span, message in self._callbacks.items() if not span.meets(keys)
+            span: message
+            for span, message in self._callbacks.items()
+            if not (span.meets(keys) and holds(max(span.start, keys.start)))
         }
 
     def messages(self) -> list[bytes]:

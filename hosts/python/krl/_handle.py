@@ -225,6 +225,11 @@ class ClientHandle:
         """Frees a pin."""
         self._done(self._calls.krl_client_unpin(self._at, pin))
 
+    def holds(self, point: int) -> bool:
+        """Whether the client holds anything at this point."""
+        held = self._held(point)
+        return bool(held.range or held.key)
+
     def has_all(self, point: int) -> bool:
         """Whether no other client may read or change the gap at this point, nor the entry there."""
         held = self._held(point)

@@ -204,7 +204,7 @@ class Jobs:
         """Takes the callbacks again that may have crossed the push that has come, and for the last
         time if no other push may be on its way."""
         if was_waiting and not self.client.status().is_waiting:
-            self._crossed.leave_out(self._asked)
+            self._crossed.leave_out(self._asked, self.client.holds)
         for message in self._crossed.messages():
             self._give(message)
         if not self.client.status().awaits_a_push():

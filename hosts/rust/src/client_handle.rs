@@ -270,6 +270,12 @@ impl ClientHandle {
         self.call(|handle| unsafe { ffi::krl_client_unpin(handle, pin) }).map(drop)
     }
 
+    /// Whether the client holds anything at this point.
+    pub fn holds(&self, point: u64) -> bool {
+        let held = self.handle.get().handle.held(point);
+        held.range > 0 || held.key > 0
+    }
+
     /// Whether no other client may read or change the gap at this point, nor the entry there.
     pub fn has_all(&self, point: u64) -> bool {
         const X: u32 = 3;

@@ -35,11 +35,17 @@ impl Crossed {
         }
     }
 
-    /// A lock of these points was answered behind the callbacks: what it gave is not given back for
+    /// A lock of these points was answered after the callbacks: what it gave is not given back for
     /// them. Who waited there before was served before, or the server calls back again.
-    fn leave_out(&mut self, points: &Range<u64>) {
-        self.callbacks
-            .retain(|Callback { span, .. }| span.end <= points.start || points.end <= span.start);
+    ///
+    /// The lock may not have given all that was asked for. Where the client holds nothing, the server
+    /// may still count what the callback took, and would put the next request in front of others.
+    fn leave_out(&mut self, points: &Range<u64>, holds: impl Fn(u64) -> bool) {
+        let is_given = |span: &Range<u64>| {
+            let first = span.start.max(points.start);
+            first < span.end.min(points.end) && holds(first)
+        };
+        self.callbacks.retain(|Callback { span, .. }| !is_given(span));
     }
 }
 
@@ -71,7 +77,8 @@ impl Jobs {
     /// Takes the callbacks again, and for the last time if no other push may be on its way.
     fn call_back_again(&mut self, was_waiting: bool) -> Result<(), Code> {
         if was_waiting && !self.shows(|shown| shown.is_waiting) {
-            self.crossed.leave_out(&self.asked);
+            let client = &self.client;
+            self.crossed.leave_out(&self.asked, |point| client.holds(point));
         }
         let callbacks = std::mem::take(&mut self.crossed.callbacks);
         for Callback { span, message } in &callbacks {

@@ -133,6 +133,6 @@ fn so_many_callbacks_are_remembered_at_most() {
         crossed.note(span(place), &[]);
     }
     assert_eq!(crossed.callbacks.len(), MAX_CALLBACKS);
-    crossed.leave_out(&(0..2));
+    crossed.leave_out(&(0..2), |_| true);
     assert_eq!(crossed.callbacks.len(), MAX_CALLBACKS - 1);
 }

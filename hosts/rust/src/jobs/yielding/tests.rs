@@ -112,6 +112,44 @@ fn who_puts_a_row_that_is_not_there_gives_nothing_back() {
     assert!(world.is_cached(1, 0..20));
 }
 
+/// A delete asks for two slots, and is given the first one. A callback of the second one came before
+/// that, and the release was lost: the server still counts the client as a reader there.
+#[test]
+fn who_was_called_back_before_a_grant_waits_behind_the_one_that_writes_too() {
+    let mut world = read_by_both();
+    assert_eq!(world.write(0, Write::Insert(row(7, 1))), Outcome::Applied);
+    for client in [0, 1] {
+        world.read(client, 0..20);
+    }
+    let held = world.clients[0].hold(10..11, Purpose::Update);
+    world.settle();
+    let pin = held.answer.try_recv().unwrap().unwrap().pin;
+    let delete = world.clients[1].write(Write::Delete(7));
+    let asked = world.said(1);
+    let put = world.clients[0].write(Write::Put(row(10, 2)));
+    let said = world.said(0);
+    world.tell_server(&said);
+    let callback = world.said_by_server();
+    // Client 0 gives back the first slot, so the server grants it.
+    world.tell_server(&asked);
+    world.tell_clients();
+    let said = world.said(0);
+    world.tell_server(&said);
+    let grant = world.said_by_server();
+    for message in callback.iter().chain(&grant) {
+        world.clients[1].hear(message).unwrap();
+        let said = world.said(1);
+        world.tell_server(&said);
+    }
+    world.clients[1].advance(Asking::Allowed);
+    world.settle();
+    assert_eq!(put.answer.try_recv(), Ok(Ok(Outcome::Applied)));
+    assert!(delete.answer.try_recv().is_err(), "the gap is pinned");
+    world.clients[0].unpin(pin);
+    world.settle();
+    assert_eq!(delete.answer.try_recv(), Ok(Ok(Outcome::Applied)));
+}
+
 #[test]
 fn a_release_that_is_lost_is_said_again_with_the_request() {
     let mut world = read_by_both();
