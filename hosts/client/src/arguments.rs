@@ -263,6 +263,21 @@ pub enum ClientCommand {
     },
 }
 
+impl ClientCommand {
+    /// The keys that it needs.
+    pub fn keys(&self) -> Result<Range<u64>, Failure> {
+        let one = |key: u64| key..key + 1;
+        match self {
+            ClientCommand::Get { key } | ClientCommand::Delete { key } => words::key(key).map(one),
+            ClientCommand::Insert { row } | ClientCommand::Put { row } => row.key().map(one),
+            ClientCommand::Scan { range }
+            | ClientCommand::Watch { range, .. }
+            | ClientCommand::Hold { range, .. } => range.range(),
+            ClientCommand::Ping => Ok(words::ALL),
+        }
+    }
+}
+
 /// A range in one word or two.
 #[derive(Clone, Debug, Args)]
 pub struct RangeWords {
@@ -292,6 +307,12 @@ pub struct RowWords {
 }
 
 impl RowWords {
+    /// The key, whatever the value is.
+    fn key(&self) -> Result<u64, Failure> {
+        let (key, _) = self.first.split_once('=').unwrap_or((&self.first, ""));
+        words::key(if self.second.is_some() { &self.first } else { key })
+    }
+
     pub fn row(&self, values: ValueForm) -> Result<krl::Row, Failure> {
         let (key, value) = match &self.second {
             Some(value) => (self.first.as_str(), value.as_str()),

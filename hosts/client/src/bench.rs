@@ -21,7 +21,7 @@ use workload::{Measured, Span, Worker, random_value};
 pub fn run(options: &Options, words: &BenchWords, signals: &Signals) -> Result<u8, Failure> {
     let keys = keys_of(words)?;
     refuse_clients(options, words)?;
-    let sessions = Session::join_some(options, usize::from(words.clients))?;
+    let sessions = Session::join_some(options, &keys, usize::from(words.clients))?;
     for session in &sessions {
         signals.ends(&session.table);
     }

@@ -23,6 +23,7 @@ use crate::output::Printer;
 use crate::session::Session;
 use crate::signals::Signals;
 use clap::Parser;
+use std::ops::Range;
 use std::process::ExitCode;
 
 fn main() -> ExitCode {
@@ -40,7 +41,7 @@ fn run(arguments: &Arguments) -> Result<u8, Failure> {
     if let Some(Command::Bench(words)) = &arguments.command {
         return bench::run(options, words, &signals);
     }
-    let session = Session::join(options)?;
+    let session = Session::join(options, &keys_of(arguments.command.as_ref())?)?;
     signals.ends(&session.table);
     let context = Context { session: &session, printer: Printer::of(options), signals: &signals };
     let ended = match &arguments.command {
@@ -49,6 +50,14 @@ fn run(arguments: &Arguments) -> Result<u8, Failure> {
     };
     session.leave();
     ended
+}
+
+/// The keys that the command needs. The prompt may need any.
+fn keys_of(command: Option<&Command>) -> Result<Range<u64>, Failure> {
+    match command {
+        Some(Command::Client(command)) => command.keys(),
+        Some(Command::Bench(_)) | None => Ok(words::ALL),
+    }
 }
 
 fn run_one(command: &Command, options: &Options, context: &Context<'_>) -> Result<u8, Failure> {

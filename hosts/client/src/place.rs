@@ -3,12 +3,14 @@ use crate::arguments::Options;
 use crate::failure::{Failure, sentence};
 use krl::{END, Servers, Shard, ShardMap};
 use std::fmt;
+use std::ops::Range;
 
 /// Where a table is.
 #[derive(Clone, Debug)]
 pub enum Place {
     One(Servers),
-    Sharded(ShardMap),
+    /// The servers of a map, of which only those are joined that have some of these keys.
+    Sharded(ShardMap, Range<u64>),
 }
 
 /// One server of a table, and a point that it has.
@@ -22,7 +24,7 @@ pub struct Station<'p> {
 
 impl Place {
     /// The place that the options say: a map comes before a server.
-    pub fn of(options: &Options) -> Result<Place, Failure> {
+    pub fn of(options: &Options, keys: Range<u64>) -> Result<Place, Failure> {
         match &options.map {
             None => Ok(Place::One(options.with_tls(options.server.clone())?)),
             Some(path) => {
@@ -30,7 +32,7 @@ impl Place {
                     let why = sentence(&error);
                     Failure::Usage(format!("the map {} can't be used: {why}", path.display()))
                 })?;
-                Ok(Place::Sharded(with_tls(&map, options)?))
+                Ok(Place::Sharded(with_tls(&map, options)?, keys))
             }
         }
     }
@@ -39,7 +41,7 @@ impl Place {
     pub fn stations(&self) -> Vec<Station<'_>> {
         match self {
             Place::One(servers) => vec![Station { shard: None, servers, point: END - 1 }],
-            Place::Sharded(map) => {
+            Place::Sharded(map, _) => {
                 let ends = map.shards().iter().skip(1).map(|next| next.first);
                 let stations = map.shards().iter().enumerate().zip(ends.chain([END]));
                 stations.map(|((shard, it), end)| station(shard, it, end)).collect()
@@ -51,7 +53,7 @@ impl Place {
     pub fn servers_of(&self, shard: Option<usize>) -> Option<&Servers> {
         match self {
             Place::One(servers) => Some(servers),
-            Place::Sharded(map) => Some(&map.shards().get(shard?)?.servers),
+            Place::Sharded(map, _) => Some(&map.shards().get(shard?)?.servers),
         }
     }
 
@@ -59,7 +61,7 @@ impl Place {
     pub fn full(&self, key: u64) -> String {
         match self {
             Place::One(_) => "the table has all the rows that its server has room for".into(),
-            Place::Sharded(map) => {
+            Place::Sharded(map, _) => {
                 let shard = map.shard_of(key).map_or(String::new(), |shard| shard.to_string());
                 format!(
                     "shard {shard} has all the rows that its server has room for: it has to be split"

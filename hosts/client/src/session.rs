@@ -9,6 +9,7 @@ use krl::{Client, JoinError, LockFileError, Refusal, ShardJoinError, ShardedClie
 use std::collections::VecDeque;
 use std::env;
 use std::fs::DirBuilder;
+use std::ops::Range;
 use std::os::unix::fs::DirBuilderExt;
 use std::path::{Path, PathBuf};
 use std::thread;
@@ -28,7 +29,8 @@ pub struct Session {
 
 impl Session {
     /// Joins by the greatest number of the options that is free.
-    pub fn join(options: &Options) -> Result<Session, Failure> {
+    /// It joins only the shards that have some of these keys.
+    pub fn join(options: &Options, keys: &Range<u64>) -> Result<Session, Failure> {
         let waits_for = || {
             let (timeout, server) = (humantime::format_duration(options.timeout), &options.server);
             match &options.map {
@@ -36,14 +38,18 @@ impl Session {
                 Some(map) => format!("waiting for the servers of {}", map.display()),
             }
         };
-        let mut sessions = told_if_long(waits_for, || Session::join_some(options, 1))?;
+        let mut sessions = told_if_long(waits_for, || Session::join_some(options, keys, 1))?;
         sessions.pop().ok_or_else(|| none_is_free(options))
     }
 
     /// Joins so many clients, the greatest free numbers first. Those that other users or machines
     /// have come last.
-    pub fn join_some(options: &Options, count: usize) -> Result<Vec<Session>, Failure> {
-        let (place, files) = (Place::of(options)?, LockFiles::of(options)?);
+    pub fn join_some(
+        options: &Options,
+        keys: &Range<u64>,
+        count: usize,
+    ) -> Result<Vec<Session>, Failure> {
+        let (place, files) = (Place::of(options, keys.clone())?, LockFiles::of(options)?);
         let (mut sessions, mut in_use) = (Vec::new(), VecDeque::new());
         let mut numbers = options.number.0.clone().rev();
         while sessions.len() < count
@@ -155,9 +161,9 @@ fn join_table(
             let builder = builder.wait_if_in_use(if_in_use);
             builder.lock_file(files.of_number(number)).join()?.into()
         }
-        Place::Sharded(map) => {
+        Place::Sharded(map, keys) => {
             let builder = ShardedClient::builder(map.clone()).number(number).timeout(timeout);
-            let builder = builder.wait_if_in_use(if_in_use);
+            let builder = builder.wait_if_in_use(if_in_use).keys(keys.clone());
             builder.lock_folder(files.folder()).join()?.into()
         }
     };

@@ -9,6 +9,9 @@ const TOP: u64 = END + 1;
 
 const MAX_NUMBER: u8 = 63;
 
+/// All keys.
+pub const ALL: Range<u64> = 0..TOP;
+
 /// A key: 0 to 2^63 - 2.
 pub fn key(word: &str) -> Result<u64, Failure> {
     point(word).filter(|key| *key < END).ok_or_else(|| {

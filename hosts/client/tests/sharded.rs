@@ -64,6 +64,30 @@ fn each_row_is_at_the_server_of_its_key_and_a_scan_has_all() {
 }
 
 #[test]
+fn a_command_joins_only_the_shards_of_its_keys() {
+    let shards = Shards::new("joins");
+    for row in ["5=a", "300=d"] {
+        assert_eq!(shards.prints(&["insert", row]), "applied\n");
+    }
+    let Shards { world, upper, map } = shards;
+    upper.stop().unwrap();
+    let run =
+        |words: &[&str]| world.run(&[&["--map", map.as_str(), "--timeout", "60s"], words].concat());
+    for (words, printed) in [
+        (&["scan", "0", "100"][..], "5=a\n"),
+        (&["get", "5"], "5=a\n"),
+        (&["put", "5=b"], "applied\n"),
+        (&["hold", "0", "50", "--", "echo", "held"], "held\n"),
+        (&["delete", "5"], "applied\n"),
+    ] {
+        let ended = run(words);
+        assert_eq!((ended.status, ended.out.as_str()), (0, printed), "{words:?}: {}", ended.errors);
+    }
+    let ended = world.run(&["--map", &map, "--timeout", "1s", "scan", "0", "101"]);
+    assert_eq!(ended.status, 3, "the shard of 100 is down: {}", ended.errors);
+}
+
+#[test]
 fn each_server_is_pinged() {
     let shards = Shards::new("pings");
     let said = shards.prints(&["ping"]);

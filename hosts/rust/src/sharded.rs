@@ -30,7 +30,10 @@ use std::time::{Duration, Instant};
 #[derive(Debug)]
 pub struct ShardedClient {
     map: ShardMap,
-    /// In the order of the shards. None are left once the client has left.
+    /// The first shard that it has joined.
+    first: usize,
+    /// Those of this shard and of the next ones, in their order. None are left once the client has
+    /// left.
     clients: Vec<Client>,
 }
 
@@ -124,17 +127,35 @@ impl ShardedClient {
         ShardedClient::builder(map).number(number).lock_folder(lock_folder.as_ref()).join()
     }
 
-    /// Says more of a client before it joins: how long its calls wait.
+    /// Says more of a client before it joins: how long its calls wait, and for which keys it is.
     pub fn builder(map: ShardMap) -> ShardedBuilder {
         ShardedBuilder::new(map)
     }
 
-    pub(crate) fn of(map: ShardMap, clients: Vec<Client>) -> ShardedClient {
-        ShardedClient { map, clients }
+    /// A client of so many shards, from this one on.
+    pub(crate) fn of(map: ShardMap, first: usize, clients: Vec<Client>) -> ShardedClient {
+        ShardedClient { map, first, clients }
     }
 
-    pub(crate) fn clients(&self) -> &[Client] {
-        &self.clients
+    /// The shards that it has joined, each with its client.
+    pub(crate) fn clients(&self) -> impl Iterator<Item = (usize, &Client)> {
+        (self.first..).zip(&self.clients)
+    }
+
+    /// That of a shard which it has joined.
+    pub(crate) fn client(&self, shard: usize) -> &Client {
+        &self.clients[shard - self.first]
+    }
+
+    fn has_joined(&self, shard: usize) -> bool {
+        shard.checked_sub(self.first).is_some_and(|place| place < self.clients.len())
+    }
+
+    /// What each shard has of the range, if all these shards are joined.
+    pub(crate) fn parts(&self, keys: impl RangeBounds<u64>) -> Result<Vec<Part>, Refused> {
+        let parts = self.map.parts(keys)?;
+        let are_joined = parts.iter().all(|part| self.has_joined(part.shard));
+        are_joined.then_some(parts).ok_or(Refused::BadRange)
     }
 
     /// The map.
@@ -143,7 +164,7 @@ impl ShardedClient {
         &self.map
     }
 
-    /// What the client shows of each shard, in their order.
+    /// What the client shows of each shard that it has joined, in their order.
     #[must_use]
     pub fn status(&self) -> Vec<ShardStatus> {
         let status = |client: &Client| ShardStatus {
@@ -176,7 +197,7 @@ impl ShardedClient {
     ///
     /// Those of [`Client::read`], with the shard.
     pub fn read(&self, keys: impl RangeBounds<u64>) -> Result<Vec<Row>, ShardRefused> {
-        let parts = self.map.parts(keys)?;
+        let parts = self.parts(keys)?;
         let end = self.end_of_call();
         let mut rows = Vec::new();
         while !self.is_known(&parts, &mut rows) {
@@ -204,7 +225,7 @@ impl ShardedClient {
     pub(crate) fn is_known(&self, parts: &[Part], rows: &mut Vec<Row>) -> bool {
         rows.clear();
         let known = |Part { shard, keys }: &Part| Known {
-            cache: self.clients[*shard].link.cache(),
+            cache: self.client(*shard).link.cache(),
             keys: keys.clone(),
         };
         one_moment::scan(&parts.iter().map(known).collect::<Vec<_>>(), rows)
@@ -225,12 +246,12 @@ impl ShardedClient {
         ask: impl Fn(&mut Jobs, &Range<u64>) -> Asked<T>,
     ) -> Result<Vec<T>, ShardRefused> {
         let begin = |part: &Part| {
-            let link = &self.clients[part.shard].link;
+            let link = &self.client(part.shard).link;
             (part.shard, link.begin(|jobs| ask(jobs, &part.keys)))
         };
         let asked: Vec<_> = parts.iter().map(begin).collect();
         let finish = |(shard, asked): (usize, Asked<T>)| {
-            self.clients[shard].link.finish(asked, end).map_err(ShardRefused::at(shard))
+            self.client(shard).link.finish(asked, end).map_err(ShardRefused::at(shard))
         };
         let answered: Vec<_> = asked.into_iter().map(finish).collect();
         answered.into_iter().collect()
@@ -269,7 +290,7 @@ impl ShardedClient {
         purpose: Purpose,
         end: Instant,
     ) -> Result<Pin<'_>, ShardRefused> {
-        let client = &self.clients[*shard];
+        let client = self.client(*shard);
         let held = client.link.ask(end, |jobs| jobs.hold(keys.clone(), purpose));
         let Held { pin, .. } = held.map_err(ShardRefused::at(*shard))?;
         Ok(client.pin_of(pin))
@@ -331,7 +352,7 @@ impl ShardedClient {
         if keys.is_empty() {
             return Err(Refused::BadRange.into());
         }
-        Ok(self.map.parts_of(&keys)?)
+        Ok(self.parts(keys)?)
     }
 
     /// Inserts a row. The outcome is `Applied`, `Exists`, or `Full` if the key's shard is full.
@@ -368,7 +389,10 @@ impl ShardedClient {
         call: impl FnOnce(&Client) -> Result<Outcome, Refused>,
     ) -> Result<Outcome, ShardRefused> {
         let shard = self.map.shard_of(key)?;
-        call(&self.clients[shard]).map_err(ShardRefused::at(shard))
+        if !self.has_joined(shard) {
+            return Err(Refused::BadKey.into());
+        }
+        call(self.client(shard)).map_err(ShardRefused::at(shard))
     }
 
     /// Gives back what the client holds of the range, at all shards at once.
@@ -378,7 +402,7 @@ impl ShardedClient {
     /// Those of [`Client::forget`], with the first shard that refused. The others have done it.
     pub fn forget(&self, keys: impl RangeBounds<u64>) -> Result<(), ShardRefused> {
         let forget = |jobs: &mut Jobs, keys: &Range<u64>| jobs.forget(keys.clone());
-        self.ask_all(&self.map.parts(keys)?, self.end_of_call(), forget).map(drop)
+        self.ask_all(&self.parts(keys)?, self.end_of_call(), forget).map(drop)
     }
 
     /// Leaves all shards at once, and waits until each server has kept that.
@@ -396,7 +420,7 @@ impl ShardedClient {
         let clients = std::mem::take(&mut self.clients);
         let leaving: Vec<_> = clients.iter().map(|client| client.link.begin(Jobs::leave)).collect();
         let mut left = Ok(());
-        for (shard, (mut client, leaving)) in clients.into_iter().zip(leaving).enumerate() {
+        for (shard, (mut client, leaving)) in (self.first..).zip(clients.into_iter().zip(leaving)) {
             let answered = client.link.finish(leaving, end).map_err(ShardRefused::at(shard));
             left = left.and(answered);
             // It has waited by now.

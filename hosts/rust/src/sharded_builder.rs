@@ -2,9 +2,11 @@
 use crate::builder::Waits;
 use crate::client::{Client, Errand};
 use crate::refused::JoinError;
+use crate::row::END;
 use crate::shard_map::{Shard, ShardMap};
 use crate::sharded::ShardedClient;
 use crate::sharded_refused::ShardJoinError;
+use std::ops::Range;
 use std::panic::resume_unwind;
 use std::path::{Path, PathBuf};
 use std::thread::{self, ScopedJoinHandle};
@@ -18,6 +20,7 @@ pub struct ShardedBuilder {
     map: ShardMap,
     number: Option<u8>,
     lock_folder: Option<PathBuf>,
+    keys: Range<u64>,
     waits: Waits,
 }
 
@@ -25,7 +28,8 @@ type Joined = Result<Client, JoinError>;
 
 impl ShardedBuilder {
     pub(crate) fn new(map: ShardMap) -> ShardedBuilder {
-        ShardedBuilder { map, number: None, lock_folder: None, waits: Waits::by_default() }
+        let (number, lock_folder, waits) = (None, None, Waits::by_default());
+        ShardedBuilder { map, number, lock_folder, keys: 0..END + 1, waits }
     }
 
     /// The client's number at each shard, from 0 to 63.
@@ -37,6 +41,14 @@ impl ShardedBuilder {
     /// The folder of the lock files, one for each shard and number. It has to be there.
     pub fn lock_folder(mut self, path: impl Into<PathBuf>) -> ShardedBuilder {
         self.lock_folder = Some(path.into());
+        self
+    }
+
+    /// The keys for which the client is: all of them by default. It joins only the shards that have
+    /// some of these keys, so that a server of another shard may be down. A call with keys of a shard
+    /// that it has not joined is refused by `BadRange` or `BadKey`.
+    pub fn keys(mut self, keys: Range<u64>) -> ShardedBuilder {
+        self.keys = keys;
         self
     }
 
@@ -56,20 +68,21 @@ impl ShardedBuilder {
         self
     }
 
-    /// Joins all shards at once. If one does not answer, the others are left again.
+    /// Joins all shards of its keys at once. If one does not answer, the others are left again.
     ///
     /// # Errors
     ///
-    /// `Incomplete` if the number or the folder was not said; else those of [`Client::join`], with
-    /// the shard.
+    /// `Incomplete` if the number or the folder was not said, or no shard has any of the keys; else
+    /// those of [`Client::join`], with the shard.
     pub fn join(self) -> Result<ShardedClient, ShardJoinError> {
         let of_none = |error| ShardJoinError { shard: None, error };
         let number = self.number.ok_or(of_none(JoinError::Incomplete("a number")))?;
         let missing = of_none(JoinError::Incomplete("a folder of lock files"));
         let folder = self.lock_folder.as_deref().ok_or(missing)?;
+        let places = self.places().ok_or(of_none(JoinError::Incomplete("keys of a shard")))?;
         let joined: Vec<Joined> = thread::scope(|scope| {
-            let shards = self.map.shards().iter();
-            let joining = shards.enumerate().map(|(place, shard)| {
+            let joining = places.clone().map(|place| {
+                let shard = &self.map.shards()[place];
                 let (lock_file, waits) = (lock_file(folder, shard, number), self.waits);
                 let servers = self.map.servers_of(place, shard);
                 let join = move || Client::start(servers, number, &lock_file, waits, Errand::Work);
@@ -79,7 +92,7 @@ impl ShardedBuilder {
             joining.into_iter().map(wait).collect()
         });
         let (mut clients, mut failed) = (Vec::new(), None);
-        for (shard, joined) in joined.into_iter().enumerate() {
+        for (shard, joined) in places.clone().zip(joined) {
             match joined {
                 Ok(client) => clients.push(client),
                 Err(error) => {
@@ -87,8 +100,14 @@ impl ShardedBuilder {
                 }
             }
         }
-        let client = ShardedClient::of(self.map, clients);
+        let client = ShardedClient::of(self.map, places.start, clients);
         failed.map_or(Ok(client), Err)
+    }
+
+    /// The shards that have some of the keys. They lie next to one another.
+    fn places(&self) -> Option<Range<usize>> {
+        let parts = self.map.parts(self.keys.clone()).ok()?;
+        Some(parts.first()?.shard..parts.last()?.shard + 1)
     }
 }
 

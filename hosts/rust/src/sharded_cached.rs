@@ -17,7 +17,7 @@ impl ShardedClient {
     /// nothing.
     #[must_use]
     pub fn cached_into(&self, keys: impl RangeBounds<u64>, rows: &mut Vec<Row>) -> bool {
-        self.map().parts(keys).is_ok_and(|parts| self.is_known(&parts, rows))
+        self.parts(keys).is_ok_and(|parts| self.is_known(&parts, rows))
     }
 
     /// The same, and `visit` gets each row, in key order. It answers whether the caches know the

@@ -23,7 +23,7 @@ impl ShardedClient {
         rows: &[Row],
         timeout: Duration,
     ) -> bool {
-        let Ok(parts) = self.map().parts(keys) else { return true };
+        let Ok(parts) = self.parts(keys) else { return true };
         if parts.is_empty() {
             return true;
         }
@@ -31,14 +31,14 @@ impl ShardedClient {
         let (told, change) = sync_channel(parts.len());
         let watch = |Part { shard, keys }: &Part| {
             let known = rows.iter().filter(|row| keys.contains(&row.key)).copied().collect();
-            let mut jobs = self.clients()[*shard].link.jobs();
+            let mut jobs = self.client(*shard).link.jobs();
             (*shard, jobs.watch_and_tell(keys.clone(), known, told.clone()))
         };
         let watched: Vec<_> = parts.iter().map(watch).collect();
         drop(told);
         let is_known = change.recv_timeout(timeout.min(MAX_WAIT)) == Err(RecvTimeoutError::Timeout);
         for (shard, job) in watched {
-            self.clients()[shard].link.jobs().abandon(job);
+            self.client(shard).link.jobs().abandon(job);
         }
         !is_known
     }
@@ -51,10 +51,10 @@ impl ShardedClient {
     /// Those of [`ShardedClient::leave`].
     pub fn depart(&self, timeout: Duration) -> Result<(), ShardRefused> {
         let end = Instant::now() + timeout.min(MAX_WAIT);
-        let leave = |client: &crate::Client| client.link.begin(Jobs::leave);
-        let leaving: Vec<_> = self.clients().iter().map(leave).collect();
+        let leaving: Vec<_> =
+            self.clients().map(|(_, client)| client.link.begin(Jobs::leave)).collect();
         let mut left = Ok(());
-        for ((shard, client), leaving) in self.clients().iter().enumerate().zip(leaving) {
+        for ((shard, client), leaving) in self.clients().zip(leaving) {
             let answered = client.link.finish(leaving, end).map_err(ShardRefused::at(shard));
             left = left.and(answered);
         }

@@ -3,10 +3,10 @@ use crate::address::Address;
 use crate::unix_peer::user_at;
 use socket2::{Domain, SockAddr, SockRef, Socket, TcpKeepalive, Type};
 use std::fmt;
-use std::fs::{Permissions, set_permissions};
+use std::fs::{File, Permissions, set_permissions};
 use std::io::{self, ErrorKind, Read, Write};
 use std::net::{IpAddr, Shutdown, SocketAddr, TcpListener, TcpStream, ToSocketAddrs};
-use std::os::fd::{AsRawFd, RawFd};
+use std::os::fd::{AsRawFd, OwnedFd, RawFd};
 use std::os::unix::fs::{FileTypeExt, PermissionsExt};
 use std::os::unix::net::{UnixListener, UnixStream};
 use std::path::Path;
@@ -21,12 +21,21 @@ const OWN: u32 = 0o600;
 /// The mode if other users may connect: who they are decides what they may say.
 const OTHERS_TOO: u32 = 0o666;
 
+/// How many connections the system keeps at a Unix socket until they are taken, as the standard
+/// library has it.
+const BACKLOG: i32 = 128;
+
 /// When the system asks whether the machine of a silent peer is there, and how often before it ends
 /// the connection: after a minute in all.
 const KEEPALIVE: TcpKeepalive = TcpKeepalive::new()
     .with_time(Duration::from_secs(30))
     .with_interval(Duration::from_secs(10))
     .with_retries(3);
+
+/// After how long the system ends a connection on which the peer's machine acknowledges nothing, even
+/// one that this process has closed. Without it the system tries for a quarter of an hour, and does
+/// not ask meanwhile.
+const UNACKNOWLEDGED: Duration = Duration::from_secs(60);
 
 /// A socket that takes connections.
 #[derive(Debug)]
@@ -102,7 +111,8 @@ impl Listener {
                 if is_socket(path) && is_abandoned(&connect_to_path(path, PROBE)) {
                     std::fs::remove_file(path)?;
                 }
-                let listener = UnixListener::bind(path)?;
+                let listener = listen_for_own(path)?;
+                // The umask may have taken rights from the user too.
                 set_permissions(path, Permissions::from_mode(OWN))?;
                 Ok(Listener::Unix(listener))
             }
@@ -170,6 +180,18 @@ impl AsRawFd for Listener {
     }
 }
 
+/// Listens at the path. From the first moment on the file grants nothing to other users, whatever the
+/// umask: the system takes the mode that the socket has before.
+fn listen_for_own(path: &Path) -> io::Result<UnixListener> {
+    let listener = UnixListener::from(Socket::new(Domain::UNIX, Type::STREAM, None)?);
+    let file = File::from(OwnedFd::from(listener.try_clone()?));
+    file.set_permissions(Permissions::from_mode(OWN))?;
+    let socket = SockRef::from(&listener);
+    socket.bind(&SockAddr::unix(path)?)?;
+    socket.listen(BACKLOG)?;
+    Ok(listener)
+}
+
 fn is_socket(path: &Path) -> bool {
     path.metadata().is_ok_and(|file| file.file_type().is_socket())
 }
@@ -231,7 +253,9 @@ impl Stream {
 
     fn of_tcp(stream: TcpStream) -> io::Result<Stream> {
         stream.set_nodelay(true)?;
-        SockRef::from(&stream).set_tcp_keepalive(&KEEPALIVE)?;
+        let socket = SockRef::from(&stream);
+        socket.set_tcp_keepalive(&KEEPALIVE)?;
+        socket.set_tcp_user_timeout(Some(UNACKNOWLEDGED))?;
         Ok(Stream::Tcp(stream))
     }
 
@@ -379,15 +403,27 @@ mod tests {
     }
 
     #[test]
-    fn the_system_asks_after_the_machine_of_a_silent_peer() {
+    fn the_system_ends_a_connection_to_a_machine_that_is_away() {
         let listener = TcpListener::bind("127.0.0.1:0").unwrap();
         let address = Address::Tcp(listener.local_addr().unwrap());
         let Stream::Tcp(ours) = Stream::connect(&address, PROBE).unwrap() else { unreachable!() };
         let theirs = Listener::from(listener).accept().unwrap().stream;
         let Stream::Tcp(theirs) = theirs else { unreachable!() };
         for stream in [ours, theirs] {
-            assert!(SockRef::from(&stream).keepalive().unwrap());
+            let socket = SockRef::from(&stream);
+            assert!(socket.keepalive().unwrap());
+            assert_eq!(socket.tcp_user_timeout().unwrap(), Some(UNACKNOWLEDGED));
         }
+    }
+
+    #[test]
+    fn a_unix_socket_is_its_users_alone_from_the_first_moment_on() {
+        let path = std::env::temp_dir().join(format!("krl-stream-mode-{}", std::process::id()));
+        let listener = listen_for_own(&path).unwrap();
+        let mode = path.metadata().unwrap().permissions().mode() & 0o777;
+        assert_eq!(mode & !OWN, 0, "{mode:o}");
+        drop(listener);
+        std::fs::remove_file(path).unwrap();
     }
 
     #[test]

@@ -131,6 +131,28 @@ fn errors_tell_the_shard() {
 }
 
 #[test]
+fn a_client_of_some_keys_joins_their_shards_alone() {
+    let mut world = World::new("keys");
+    world.insert_rows([10, 300]);
+    world.servers.remove(0).stop().unwrap();
+    let builder = ShardedClient::builder(world.map.clone()).number(1).timeout(LONG);
+    let client = builder.lock_folder(&world.folder).keys(200..301).join().unwrap();
+    assert_eq!(client.read(BOUND..), Ok(vec![row(300, 300)]));
+    assert_eq!(client.cached(200..), Some(vec![row(300, 300)]));
+    assert_eq!(client.put(300, Value::from(1)), Ok(Outcome::Applied));
+    assert_eq!(client.status().len(), 1);
+    assert_eq!(client.read(99..), Err(Refused::BadRange.into()));
+    assert_eq!(client.forget(..), Err(Refused::BadRange.into()));
+    assert_eq!(client.pin(0..5).map(drop), Err(Refused::BadRange.into()));
+    assert_eq!(client.cached(0..5), None);
+    assert_eq!(client.put(99, Value::from(1)), Err(Refused::BadKey.into()));
+    client.leave().unwrap();
+    let builder = ShardedClient::builder(world.map.clone()).number(1);
+    let error = builder.lock_folder(&world.folder).keys(5..5).join().unwrap_err();
+    assert!(matches!(error.error, JoinError::Incomplete(_)), "{error}");
+}
+
+#[test]
 fn a_number_that_is_taken_at_one_shard_is_not_joined() {
     let world = World::new("number");
     let first = world.join(1);

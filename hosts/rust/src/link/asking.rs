@@ -149,12 +149,13 @@ impl Link {
 mod tests {
     use super::*;
     use crate::client_handle::ClientHandle;
+    use crate::clocks::Now;
     use crate::connect_fault::{ConnectFault, NotTaken};
     use crate::shard_fence::OtherShard;
 
     /// Why a job ends that was sent or not, if the last connection ended with this.
     fn ended(fault: &ConnectFault, was_sent: WasSent) -> Refused {
-        let jobs = Jobs::new(ClientHandle::open(1, 1).unwrap());
+        let jobs = Jobs::new(ClientHandle::open(1, 1).unwrap(), Now::read());
         let link = Link::new("unix:nowhere".parse().unwrap(), jobs, None);
         lock(&link.rejections).note(fault);
         link.timed_out(was_sent)
