@@ -155,11 +155,13 @@ fn failures_name_the_shard_and_what_is_expected() {
     let ended = shards.run(&["--lock-file", "a", "--number", "3", "get", "5"]);
     assert_eq!(ended.status, 2);
     assert!(ended.errors.contains("--lock-file does not go with --map"), "{ended:?}");
-    let words = ["--map", &shards.map, "--timeout", "3s", "get", "5"];
     shards.upper.stop().unwrap();
-    let ended = shards.world.run(&words);
+    let timed = |key| ["--map", &shards.map, "--timeout", "3s", "get", key];
+    let ended = shards.world.run(&timed("105"));
     assert_eq!(ended.status, 3);
     assert!(ended.errors.contains("krl-client: shard 1: "), "{ended:?}");
+    // The other shard's keys need only its server.
+    assert_eq!(shards.world.run(&timed("5")).status, 1);
 }
 
 #[test]
@@ -171,8 +173,8 @@ fn another_map_is_refused_and_says_what_to_do() {
     let old = old.to_str().unwrap();
     let ended = shards.world.run(&["--map", old, "insert", "60=a"]);
     assert_eq!(ended.status, 4);
-    let expected = "shard 0: the client of number 63 can't join: the client takes the server for \
-                    0..50@1, and it serves 0..100@1: ";
+    let expected = "shard 1: the client of number 63 can't join: the client takes the server for \
+                    50..@1, and it serves 100..@1: ";
     assert!(ended.errors.contains(expected), "{ended:?}");
     let ended = shards.world.run(&["insert", "60=a"]);
     assert_eq!(ended.status, 4);

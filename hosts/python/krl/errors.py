@@ -91,6 +91,7 @@ class Reason(IntEnum):
     INCARNATION = 2
     FULL = 3
     MISSING = 4
+    LEASE_RUNS = 5
     OTHER_SHARD = 7
     FAR_AHEAD = 8
     OTHER_STORE = 9
@@ -128,6 +129,11 @@ class Refusal:
                 f"the server knows incarnation {self.second} of client {self.first}, which is "
                 "greater: another process is that client, it was evicted, or its lock file was "
                 "lost under a clock that is behind"
+            )
+        if self.reason is Reason.LEASE_RUNS:
+            return (
+                f"the server waits for incarnation {self.second} of client {self.first}: another "
+                "process is that client, or was and its lease has not ended"
             )
         if self.reason is Reason.OTHER_SHARD:
             return (

@@ -75,14 +75,18 @@ class Relay:
         """The connections of now pass nothing on any more."""
         self._swallows |= set(self._open)
 
-    def close(self) -> None:
-        """Ends all connections."""
-        self._listener.close()
-        for stream in self._open:
+    def cut(self) -> None:
+        """Ends the connections that there are. Another one may be made."""
+        for stream in list(self._open):
             try:
                 stream.shutdown(socket.SHUT_RDWR)
             except OSError:
                 pass  # The peer has gone.
+
+    def close(self) -> None:
+        """Ends all connections."""
+        self._listener.close()
+        self.cut()
 
     def _accept(self) -> None:
         while True:

@@ -30,6 +30,14 @@ from krl._lock_file import LockFile
 from .serving import PATIENCE, Relay, Served, in_child, until
 
 
+def connect(address: str, lock_file: Path, test: unittest.TestCase) -> Link:
+    """Connects client 0 to the address until the test ends, and waits for no answer."""
+    held = LockFile(lock_file, 0)
+    link = Link(addresses_of(address), Jobs(ClientHandle(0, held.renew())), held)
+    test.addCleanup(link.end, PATIENCE)
+    return link
+
+
 class CallsTest(Served):
     def test_each_call_answers_what_it_says(self) -> None:
         client = self.join(0)
@@ -183,6 +191,7 @@ class ServersTest(Served):
 
     def test_a_write_is_bound_to_no_pin_of_before_the_store_went_back(self) -> None:
         client = self.join(0)
+        self._keep_an_older_copy()
         client.insert(10, b"1")
         pin = client.pin(5, 15)
         self.assertEqual(pin.put(10, b"2"), Outcome.APPLIED)
@@ -200,12 +209,16 @@ class ServersTest(Served):
         pin.free()
         self.assertEqual(client.read(0, 20), [Row(10, b"4")])
 
-    def test_a_store_that_went_back_is_noticed(self) -> None:
-        client, other = self.join(0), self.join(1)
+    def _keep_an_older_copy(self) -> None:
+        """Copies the store as it is now, for a server that starts on an older one."""
         self.stop()
         for end in ("", "-wal"):
             shutil.copy(self.folder / f"store.db{end}", self.folder / f"older.db{end}")
         self.server = self.start()
+
+    def test_a_store_that_went_back_is_noticed(self) -> None:
+        client, other = self.join(0), self.join(1)
+        self._keep_an_older_copy()
         client.insert(10, b"1")
         self.assertEqual(client.read(0, 20), [Row(10, b"1")])
         self.assertEqual(other.read(0, 5), [])
@@ -238,13 +251,30 @@ class ServersTest(Served):
         client.timeout = PATIENCE
         self.assertEqual(client.read(0, 20), [Row(10, b"1")], "it has kept its mark")
 
-    def test_a_process_that_was_replaced_answers_nothing(self) -> None:
-        first, other = self.join(0), self.join(1)
-        other.insert(10, b"1")
+    def test_a_second_process_replaces_no_process_that_speaks(self) -> None:
+        first = self.join(0)
+        first.insert(10, b"1")
+        second = connect(self.address, self.folder / "another.lock", self)
+        until(lambda: second._refusal is not None)
+        self.assertEqual(second._refusal[0].reason, Reason.LEASE_RUNS)
+        self.assertFalse(second.jobs.has_joined())
         self.assertEqual(first.read(0, 20), [Row(10, b"1")])
-        # Another lock file, as two folders have it, keeps no second process off the number.
+
+    def test_a_process_that_was_replaced_answers_nothing(self) -> None:
+        other = self.join(1)
+        other.insert(10, b"1")
+        relay = Relay(self.folder, self.address)
+        self.addCleanup(relay.close)
+        with mock.patch("krl._pacing._LEAVE_ALONE", 3600):
+            first = krl.join(relay.address, 0, self.lock_file(0), PATIENCE)
+        self.addCleanup(self._leave, first)
+        self.assertEqual(first.read(0, 20), [Row(10, b"1")])
+        # Nothing of the first one comes to the server. Another lock file, as two folders have it,
+        # keeps no second process off the number then.
+        relay.swallow()
         second = krl.join(self.address, 0, self.folder / "another.lock", PATIENCE)
         self.addCleanup(self._leave, second)
+        relay.cut()
         until(lambda: first.cached(0, 20) is None)
         with self.assertRaisesRegex(krl.Stopped, "another process is that client"):
             first.read(0, 20)
@@ -319,7 +349,7 @@ class ConnectingTest(unittest.TestCase):
             listener.bind(str(self.folder / "socket"))
             listener.listen()
             with mock.patch.object(LOG, "debug", lambda *words: ends.append(str(words[-1]))):
-                self.connect(f"unix:{self.folder / 'socket'}")
+                connect(f"unix:{self.folder / 'socket'}", self.folder / "lock", self)
                 for attempt in range(1, 4):
                     with listener.accept()[0] as peer:
                         peer.settimeout(PATIENCE)
@@ -329,12 +359,6 @@ class ConnectingTest(unittest.TestCase):
         self.assertEqual(
             ends[:3], 3 * ["the server has not answered the Hello of this client's host"]
         )
-
-    def connect(self, address: str) -> None:
-        """Connects a client to the address, and waits for no answer."""
-        held = LockFile(self.folder / "lock", 0)
-        link = Link(addresses_of(address), Jobs(ClientHandle(0, held.renew())), held)
-        self.addCleanup(link.end, PATIENCE)
 
     def test_a_process_with_many_files_connects_again(self) -> None:
         soft, hard = resource.getrlimit(resource.RLIMIT_NOFILE)

@@ -63,6 +63,7 @@ class HostFramesTest(unittest.TestCase):
         self.assertEqual(read(refused), Refusal(Reason.INCARNATION, 3, 258))
         self.assertEqual(read(refused + b"more"), Refusal(Reason.INCARNATION, 3, 258))
         self.assertIn("client 3: this machine's clock", str(Refusal(Reason.FAR_AHEAD, 3, 258)))
+        self.assertIn("another process is that client", str(Refusal(Reason.LEASE_RUNS, 3, 258)))
         mark = Mark(range(24))
         self.assertEqual(read(b"\0\x12" + mark + b"more"), mark)
         whole_mark = Mark(range(40))
@@ -79,7 +80,7 @@ class HostFramesTest(unittest.TestCase):
 
     def test_what_is_not_known_is_passed_over(self) -> None:
         short = (b"\0", b"\0\x12short", b"\0\x11\x02short")
-        for frame in (*short, b"\0\x14", b"\0\x11\x05" + bytes(16)):
+        for frame in (*short, b"\0\x14", b"\0\x11\xff" + bytes(16)):
             self.assertIsNone(read(frame), frame)
 
     def test_a_later_incarnation_of_ones_own_number_counts(self) -> None:

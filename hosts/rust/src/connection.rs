@@ -303,8 +303,12 @@ impl Connection {
         if self.outgoing.is_stuck(now) {
             return Some(CloseReason::TakesNothing);
         }
-        let is_silent = now.saturating_duration_since(self.heard) >= SILENCE;
-        is_silent.then_some(CloseReason::Silent)
+        (self.silent_for(now) >= SILENCE).then_some(CloseReason::Silent)
+    }
+
+    /// How long nothing has come.
+    pub fn silent_for(&self, now: Instant) -> Duration {
+        now.saturating_duration_since(self.heard)
     }
 
     /// The peer's host takes host frames, and its Hello is answered so, before all else.

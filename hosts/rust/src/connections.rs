@@ -25,6 +25,10 @@ use std::time::{Duration, Instant};
 /// closed as it comes.
 pub(crate) const MAX_CONNECTIONS: usize = 256;
 
+/// A client speaks on a connection on which something has come within this time: each ticks more
+/// often, several times a second.
+const SPEAKS: Duration = Duration::from_secs(2);
+
 /// The most connections that are taken between two turns.
 const MAX_TAKEN: usize = 32;
 
@@ -275,6 +279,16 @@ impl Connections {
     /// From now on the client's messages go to this connection.
     pub fn route(&mut self, client: u8, number: u64) {
         self.routes.set(client, number);
+    }
+
+    /// Whether something has come from the client just now, on another connection than this one.
+    pub fn speaks_elsewhere(&self, client: u8, number: u64) -> bool {
+        let other = self.routes.of(client).filter(|other| *other != number);
+        let other = other.and_then(|other| self.open.get(&other));
+        other.is_some_and(|peer| {
+            // What came while the server was busy has not been read yet.
+            peer.connection.is_ready() || peer.connection.silent_for(self.now.monotonic) < SPEAKS
+        })
     }
 
     /// The clients that are connected, by number.

@@ -222,6 +222,14 @@ impl LeaseTable {
         })
     }
 
+    /// Whether this incarnation would replace another one, of which nothing but its start shows that it
+    /// is over: no sign of this one has come.
+    pub fn replaces_unsigned(&self, client: u8, incarnation: u64) -> bool {
+        let Some(known) = self.known.get(usize::from(client)) else { return false };
+        let replaces = known.present.is_some_and(|it| it.incarnation < incarnation);
+        replaces && known.older_than(incarnation).is_none()
+    }
+
     /// Which older incarnation is known to be over, or 0, and whether somebody vouches for all.
     ///
     /// If the server has no leases, or the host has signed nothing, that is today's rule: who starts

@@ -32,7 +32,8 @@ pub enum Refusal {
     },
     /// The server recovers, and waits for the reports of these clients.
     Missing(ClientSet),
-    /// An older incarnation of the client may still answer from its cache: its lease has not ended.
+    /// An older incarnation of the client may still answer from its cache: its lease has not ended,
+    /// or it speaks, and no sign of the newer one has come.
     LeaseRuns {
         /// The client.
         client: u8,

@@ -5,7 +5,6 @@ use krl::{Change, Client, JoinError, MemoryStore, Refusal, Refused, Server, Valu
 use peer::{HELLO, Peer, frame, incarnation};
 use std::net::TcpListener;
 use std::path::PathBuf;
-use std::thread;
 use std::time::Duration;
 
 /// The Hello of a host, and the answer to it.
@@ -146,12 +145,13 @@ fn an_operator_evicts_a_client_whose_clock_was_ahead() {
 fn a_client_that_was_replaced() {
     let (server, lock) = (server(MemoryStore::default()), lock_file("replaced"));
     let client = Client::join(server.address().clone(), 3, &lock).unwrap();
-    let registered = incarnation(&lock) + 1;
-    Peer::new(&server).say(&frame(HELLO, 3, registered, &[]));
-    thread::sleep(SHORT);
+    let evicting = lock_file("replacing");
+    evict(server.address().clone(), 3, &evicting).unwrap();
+    let registered = incarnation(&evicting);
     client.set_timeout(Duration::from_millis(1500));
     let expected = Refused::Unserved(Refusal::Incarnation { client: 3, registered });
     assert_eq!(client.insert(1, Value::from(1)), Err(expected));
+    std::fs::remove_file(evicting).unwrap();
     std::fs::remove_file(lock).unwrap();
 }
 

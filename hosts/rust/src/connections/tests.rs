@@ -84,6 +84,27 @@ fn stuff(connections: &mut Connections, number: u64) {
 }
 
 #[test]
+fn a_client_speaks_until_it_has_been_silent_for_two_seconds() {
+    let (mut connections, at, _waker) = connections();
+    let (mut stream, number) = peer(&mut connections, at);
+    assert!(!connections.speaks_elsewhere(3, number + 1), "it is nobody's connection");
+    connections.route(3, number);
+    let heard = connections.now;
+    assert!(connections.speaks_elsewhere(3, number + 1));
+    assert!(!connections.speaks_elsewhere(3, number), "that is its own connection");
+    connections.now = heard.after(SPEAKS / 2);
+    assert!(connections.speaks_elsewhere(3, number + 1));
+    connections.now = heard.after(SPEAKS);
+    assert!(!connections.speaks_elsewhere(3, number + 1));
+    stream.write_all(&frame(b"tick")).unwrap();
+    connections.wait(SOON).unwrap();
+    connections.now = heard.after(SPEAKS);
+    assert!(connections.speaks_elsewhere(3, number + 1), "it has not been read");
+    connections.close(number, CloseReason::Ended);
+    assert!(!connections.speaks_elsewhere(3, number + 1), "its connection has ended");
+}
+
+#[test]
 fn a_frame_that_comes_in_pieces_is_heard_when_it_is_whole() {
     let (mut connections, at, _) = connections();
     let (mut stream, number) = peer(&mut connections, at);

@@ -12,8 +12,8 @@ use crate::server::ServeError;
 use crate::store::Store;
 
 impl<S: Store> EventLoop<S> {
-    /// Takes a sign, which has come by now. The answer leaves with the batch of this turn, so behind its commit. The host
-    /// of an incarnation that has ended is told why.
+    /// Takes a sign, which has come by now. The answer leaves with the batch of this turn, so after its
+    /// commit. The host of an incarnation that has ended learns why.
     pub(super) fn hear_sign(
         &mut self,
         connection: u64,
@@ -31,9 +31,8 @@ impl<S: Store> EventLoop<S> {
         Ok(())
     }
 
-    /// Whether the library may have the message. A Hello that has to wait for the end of an older
-    /// lease, or is too far ahead of the server's clock, counts as lost, and the client's host is
-    /// told why.
+    /// Whether the library may have the message. A Hello that has to wait for an older incarnation, or
+    /// is too far ahead of the server's clock, counts as lost, and the client's host is told why.
     pub(super) fn hears(
         &mut self,
         connection: u64,
@@ -50,11 +49,22 @@ impl<S: Store> EventLoop<S> {
             self.connections.refuse(connection, Refusal::FarAhead { client, latest });
             return Ok(false);
         }
-        let is_heard = self.leases.hears(client, incarnation, boot(now)?);
+        let has_ended = self.leases.hears(client, incarnation, boot(now)?);
+        let is_heard = has_ended && !self.replaces_one_that_speaks(connection, client, incarnation);
         if !is_heard {
             self.connections.refuse(connection, Refusal::LeaseRuns { client, registered });
         }
         Ok(is_heard)
+    }
+
+    /// Whether this incarnation, of which no sign has come, would replace one that still speaks.
+    ///
+    /// Who starts a client vouches that the one before is over. Two processes with two lock files of
+    /// one number show that it is not: the older one would answer from its cache until it hears of
+    /// the newer one.
+    fn replaces_one_that_speaks(&self, connection: u64, client: u8, incarnation: u64) -> bool {
+        self.leases.replaces_unsigned(client, incarnation)
+            && self.connections.speaks_elsewhere(client, connection)
     }
 
     /// Takes a change into those that this turn commits.

@@ -95,6 +95,26 @@ fn nothing_leaves_before_the_commit() {
 }
 
 #[test]
+fn a_client_that_speaks_is_not_replaced_by_one_that_says_no_sign() {
+    let (mut events, mut peer, _) = event_loop();
+    peer.write_all(&HELLO).unwrap();
+    while events.status.taken == 0 {
+        assert!(events.turn().unwrap());
+    }
+    let other_connection = u64::MAX;
+    let hello = [&HELLO[8..18], &2u64.to_le_bytes()].concat();
+    let head = Message::read(&hello).head();
+    let now = events.connections.now();
+    assert!(!events.hears(other_connection, head, now).unwrap());
+    drop(peer);
+    while !events.connections.clients().is_empty() {
+        assert!(events.turn().unwrap());
+    }
+    let now = events.connections.now();
+    assert!(events.hears(other_connection, head, now).unwrap(), "its connection has ended");
+}
+
+#[test]
 fn a_turn_asks_the_store_once_for_all_who_have_seen_another_one() {
     let (mut events, peer, heard) = event_loop();
     let at = peer.peer_addr().unwrap();

@@ -149,6 +149,18 @@ fn a_second_process_waits_until_the_first_has_ended() {
 }
 
 #[test]
+fn who_says_no_sign_replaces_unsigned() {
+    let mut table = table(record(10, 0), Some(ten()));
+    assert!(table.replaces_unsigned(3, 8));
+    assert!(!table.replaces_unsigned(3, 7), "it is the registered one");
+    assert!(!table.replaces_unsigned(4, 8), "that client has left");
+    assert!(!table.replaces_unsigned(9, 1), "nobody has been that client");
+    table.sign(sign(3, 8, 0), at(1));
+    assert!(!table.replaces_unsigned(3, 8), "its lease decides");
+    assert!(table.replaces_unsigned(3, 9));
+}
+
+#[test]
 fn who_is_known_says_hello_again() {
     let mut table = table(record(10, 0), Some(ten()));
     assert!(table.hears(3, 7, at(1)));
