@@ -1,6 +1,6 @@
 //! The map behind a split or a merge, as a file.
 use clap::Args;
-use krl::{Servers, Shard, ShardMap, Snapshot};
+use krl::{Address, Servers, Shard, ShardMap, Snapshot};
 use std::error::Error;
 use std::fs::OpenOptions;
 use std::io::Write;
@@ -50,6 +50,8 @@ impl SplitMap {
             return Ok(None);
         };
         let map = read(path)?;
+        refuse_server_of_map(&map, servers)?;
+        refuse_empty_store(&map, at, store)?;
         refuse_other_store(&map, at, store)?;
         let next = map.split(at, servers.clone()).map_err(|error| no_map(path, at, &error))?;
         NextMap::new(next, new).map(Some)
@@ -106,6 +108,33 @@ fn read(path: &Path) -> Result<ShardMap> {
 
 fn no_map(path: &Path, at: u64, error: &dyn Error) -> Box<dyn Error> {
     format!("{} and a shard from {at} on give no next map: {error}", path.display()).into()
+}
+
+/// Refuses a server that has a shard in the map already: a server has one.
+fn refuse_server_of_map(map: &ShardMap, servers: &Servers) -> Result<()> {
+    let has = |shard: &Shard, address: &Address| shard.servers.iter().any(|it| it == address);
+    for address in servers.iter() {
+        if let Some(shard) = map.shards().iter().position(|shard| has(shard, address)) {
+            return Err(format!(
+                "the server {address} has shard {shard} in the map: the new store needs one of its own"
+            )
+            .into());
+        }
+    }
+    Ok(())
+}
+
+/// Refuses a store without rows, if it might be that of another shard: its rows would show which.
+fn refuse_empty_store(map: &ShardMap, point: u64, store: &Snapshot) -> Result<()> {
+    if map.shards().len() == 1 || !store.rows.is_empty() {
+        return Ok(());
+    }
+    let shard = map.shard_of(point)?;
+    Err(format!(
+        "the store has no rows, so nothing shows that it is the one of shard {shard} in the map: leave \
+         out --map, and write the next map by hand"
+    )
+    .into())
 }
 
 /// Refuses a store with a key that the shard of this point does not have.

@@ -164,13 +164,19 @@ fn a_split_and_a_merge_write_the_next_map() {
     let upper_shard = "\n[[shard]]\nfirst = 1001\nservers = \"127.0.0.1:2\"\n";
     assert_eq!(std::fs::read_to_string(&next).unwrap(), text_of(2) + upper_shard);
     // The store that is named is that of the other shard.
-    let refused = run(&["split", &upper, "500", &whole, "--map", &next, "--new-map", &last]
-        .iter()
-        .copied()
-        .chain(["--servers", "127.0.0.1:3"])
-        .collect::<Vec<_>>());
-    assert_eq!(refused.status.code(), Some(1));
-    assert!(errors(&refused).contains("not one of shard 0 in the map"), "{}", errors(&refused));
+    let empty = path("empty.db");
+    SqliteStore::create(&empty, &Snapshot::default()).unwrap();
+    for (cut, servers, why) in [
+        (&upper, "127.0.0.1:3", "not one of shard 0 in the map"),
+        (&store, "127.0.0.1:2", "the server 127.0.0.1:2 has shard 1 in the map"),
+        (&empty, "127.0.0.1:3", "nothing shows that it is the one of shard 0"),
+    ] {
+        let map = ["--map", &next, "--new-map", &last, "--servers", servers];
+        let refused = run(&[&["split", cut, "500", &whole], &map[..]].concat());
+        assert_eq!(refused.status.code(), Some(1), "{why}");
+        assert!(errors(&refused).contains(why), "{}", errors(&refused));
+        assert!(![&whole, &last].iter().any(|path| Path::new(path).exists()), "{why}");
+    }
     let merge = ["merge", &store, &upper, &whole, "--map", &next, "--new-map", &last, "--at"];
     let refused = run(&[&merge[..], &["1000"]].concat());
     assert_eq!(refused.status.code(), Some(1), "no shard begins there");
