@@ -245,7 +245,7 @@ class ClientHandle:
         return bool(self._held(key).key == _KEY_S)
 
     def may_update(self, key: int) -> bool:
-        """Whether the client holds the entry of this key so that it alone may change it next."""
+        """Whether the client holds the entry of this key so that only it may change it next."""
         return bool(self._held(key).key >= _KEY_U)
 
     def _held(self, point: int) -> Held:

@@ -396,7 +396,7 @@ class Jobs:
 
     def drop_all(self, why: Refused) -> None:
         """The server's store went back, or is another one: the client drops all that it holds and
-        knows, as if it had crashed. It answers, says and takes nothing until it begins anew. The
+        knows, as if it had crashed. It answers, sends and takes nothing until it begins again. The
         jobs that are open end by this error, but those that join and leave."""
         if self.stage in (Stage.GONE, Stage.ENDED):
             return

@@ -134,14 +134,14 @@ class Link:
         backoff, place = Backoff(len(self._servers)), 0
         while self._runs():
             heard = self._connect(self._servers[place % len(self._servers)])
-            # A client that has to begin anew does so at once.
+            # A client that has to begin again does so at once.
             if heard.message or heard.went_back:
                 backoff.reset()
             self._rest(backoff.pause())
             place += 1
 
     def _connect(self, address: Address) -> Heard:
-        """Makes a connection, and says what came on it until it ended."""
+        """Makes a connection, and returns what came on it until it ended."""
         try:
             connection = Connection(address.connect(), self._wake)
         except OSError as error:
@@ -239,7 +239,7 @@ class Link:
             raise Ended(f"the server is of epoch {epoch}, and another one of a greater one")
 
     def _hear_host(self, frame: bytes, heard: Heard) -> None:
-        """Takes what the server's host says beneath the messages. If the store went back, or is
+        """Takes what the server's host sends beneath the messages. If the store went back, or is
         another one, the connection ends with that; and if another process is this client, the
         client does."""
         said = _host_frames.read(frame)

@@ -40,7 +40,7 @@ const MAX_CLIENTS: u8 = 64;
 ///
 /// If the server serves another store than the one that the client has seen, the client drops its
 /// cache too, and calls that wait just then end with `Unserved` by [`Refusal::OtherStore`]. It joins
-/// anew when it finds a server of its own store, and no other one.
+/// again when it finds a server of its own store, and no other one.
 ///
 /// A server with leases lets the client answer from its cache only for so long after its last word.
 /// When its lease ends the client drops its cache and joins anew, as above: only a write that is on

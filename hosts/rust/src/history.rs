@@ -65,7 +65,7 @@ impl History {
     }
 
     /// What the store is to a client that has seen so much of one. Whether a server serves the
-    /// client, refuses it, or ends rests on this alone.
+    /// client, refuses it, or ends rests on this only.
     pub(crate) fn compare(&self, seen: Seen) -> Comparison {
         if self.has(seen.mark) {
             return Comparison::HasAll;

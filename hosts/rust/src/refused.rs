@@ -14,9 +14,9 @@ pub enum Refused {
     /// seen. A write may have changed the table or may still change it: the client goes on to ask
     /// for it, until it is answered or the client is gone.
     TimedOut,
-    /// The same, and the server has told just before why it does not serve the client. If it serves
+    /// The same, and the server has just reported why it does not serve the client. If it serves
     /// another store than the one that the client has seen, a call that waits ends so at once: the
-    /// client has dropped its cache and its pins, and joins anew when it finds its own store.
+    /// client has dropped its cache and its pins, and joins again when it finds its own store.
     Unserved(Refusal),
     /// This side of the connection has no right to the client: the two sides don't take each
     /// other's certificates, or the certificate or the user is not that of the client's number. If

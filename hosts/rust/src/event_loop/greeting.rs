@@ -41,8 +41,8 @@ impl<S: Store> EventLoop<S> {
         self.connections.end(connection, CloseReason::OtherStore);
     }
 
-    /// The store is an older copy. People are told too, and nothing more is heard of the
-    /// connection: its client knows what is not so, and what it says is lost as if it had crashed.
+    /// The store is an older copy. People learn of it too, and nothing more is heard of the
+    /// connection: its client knows what is not so, and what it sends is lost as if it had crashed.
     /// Then the server ends, unless a stranger may have said so.
     fn alarm_older_store(
         &mut self,

@@ -32,7 +32,7 @@ impl<S: Store> EventLoop<S> {
     }
 
     /// Whether the library may have the message. A Hello that has to wait for an older incarnation, or
-    /// is too far ahead of the server's clock, counts as lost, and the client's host is told why.
+    /// is too far ahead of the server's clock, counts as lost, and the client's host learns why.
     pub(super) fn hears(
         &mut self,
         connection: u64,
