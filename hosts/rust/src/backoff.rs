@@ -13,13 +13,16 @@ const LONGEST: Duration = Duration::from_secs(1);
 pub(crate) struct Backoff {
     pause: Duration,
     longest: Duration,
+    /// What the next chance is drawn from. It is never 0.
+    state: u64,
 }
 
 impl Backoff {
-    /// Pauses between attempts at so many servers in turn.
-    pub fn among(servers: usize) -> Backoff {
+    /// Pauses between attempts at so many servers in turn, each drawn by the seed. Two clients should
+    /// have different seeds: see [`seed`].
+    pub fn among(servers: usize, seed: u64) -> Backoff {
         let servers = u32::try_from(servers.max(1)).unwrap_or(u32::MAX);
-        Backoff { pause: FIRST, longest: FIRST.max(LONGEST / servers) }
+        Backoff { pause: FIRST, longest: FIRST.max(LONGEST / servers), state: seed.max(1) }
     }
 
     /// The client has accepted a message of the server: the next pause is the first one again. A
@@ -33,14 +36,21 @@ impl Backoff {
     pub fn pause(&mut self) -> Duration {
         let pause = self.pause;
         self.pause = self.longest.min(2 * pause);
-        pause + pause.mul_f64(chance() / 4.0)
+        pause + pause.mul_f64(self.chance() / 4.0)
+    }
+
+    /// A number from 0 to 1.
+    fn chance(&mut self) -> f64 {
+        self.state ^= self.state << 13;
+        self.state ^= self.state >> 7;
+        self.state ^= self.state << 17;
+        f64::from(u32::try_from(self.state >> 32).unwrap_or(u32::MAX)) / f64::from(u32::MAX)
     }
 }
 
-/// A number from 0 to 1. The standard library seeds its hashes by chance.
-fn chance() -> f64 {
-    let drawn = RandomState::new().build_hasher().finish();
-    f64::from(u32::try_from(drawn >> 32).unwrap_or(u32::MAX)) / f64::from(u32::MAX)
+/// A seed by chance. The standard library seeds its hashes so.
+pub(crate) fn seed() -> u64 {
+    RandomState::new().build_hasher().finish()
 }
 
 #[cfg(test)]
@@ -49,7 +59,7 @@ mod tests {
 
     #[test]
     fn pauses_double_until_a_second_and_differ_by_a_quarter() {
-        let mut backoff = Backoff::among(1);
+        let mut backoff = Backoff::among(1, seed());
         let mut least = FIRST;
         for _ in 0..20 {
             let pause = backoff.pause();
@@ -59,7 +69,7 @@ mod tests {
         assert_eq!(least, LONGEST);
         backoff.reset();
         assert!(backoff.pause() < 2 * FIRST);
-        let mut among_four = Backoff::among(4);
+        let mut among_four = Backoff::among(4, 0);
         let longest = (0..20).map(|_| among_four.pause()).max().unwrap();
         assert!(longest <= (LONGEST / 4).mul_f64(1.25), "{longest:?}");
     }

@@ -14,7 +14,8 @@ const HANDSHAKE: Duration = Duration::from_secs(3);
 /// How much is read at once of a hand-shake.
 const GULP: usize = 1 << 14;
 
-/// One end of a connection, of which two threads may have one each: one reads, and one writes.
+/// One end of a connection, of which two threads may have one each: one reads, and one writes. None
+/// of them waits for the other side.
 ///
 /// The session is locked while it works on memory, and never while a stream is read or written: so
 /// no thread waits for a server that is slow.
@@ -37,19 +38,25 @@ impl Carrier {
             (false, _) => None,
         };
         let mut stream = Stream::connect(address, wait)?;
-        let Some(config) = config else { return Ok(stream.into()) };
+        let Some(config) = config else { return Carrier::over(stream, None) };
         let mut session = TlsSession::new(config, Side::Connects)?;
         stream.set_timeouts(HANDSHAKE, HANDSHAKE)?;
         shake(&mut stream, &mut session, Instant::now() + HANDSHAKE)?;
-        Ok(Carrier { stream, session: Some(Arc::new(Mutex::new(session))) })
+        Carrier::over(stream, Some(session))
+    }
+
+    /// That of a stream which is connected, and whose hands are shaken.
+    pub fn over(stream: Stream, session: Option<TlsSession>) -> io::Result<Carrier> {
+        stream.set_waiting(false)?;
+        Ok(Carrier { stream, session: session.map(|session| Arc::new(Mutex::new(session))) })
     }
 
     pub fn try_clone(&self) -> io::Result<Carrier> {
         Ok(Carrier { stream: self.stream.try_clone()?, session: self.session.clone() })
     }
 
-    pub fn set_timeouts(&self, read: Duration, write: Duration) -> io::Result<()> {
-        self.stream.set_timeouts(read, write)
+    pub fn stream(&self) -> &Stream {
+        &self.stream
     }
 
     /// Ends the connection for both sides, and wakes who reads from it.
@@ -78,12 +85,6 @@ impl Carrier {
     /// Writes once what is sealed.
     pub fn write(&mut self, sealed: &[u8]) -> io::Result<usize> {
         self.stream.write(sealed)
-    }
-}
-
-impl From<Stream> for Carrier {
-    fn from(stream: Stream) -> Carrier {
-        Carrier { stream, session: None }
     }
 }
 

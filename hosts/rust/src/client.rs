@@ -111,15 +111,21 @@ impl Client {
         };
         let handle = ClientHandle::open_behind(number, incarnation, older);
         let handle = handle.map_err(Refused::from)?;
-        let link = Arc::new(Link::new(servers, Jobs::new(handle, Now::read()), Some(lock_file)));
+        let jobs = Jobs::new(handle, Now::read());
+        let (link, poller) =
+            Link::new(servers, jobs, Some(lock_file)).map_err(JoinError::NoThread)?;
+        let link = Arc::new(link);
         let run = Arc::clone(&link);
         let thread = thread::Builder::new().name(format!("krl-client-{number}"));
-        let thread = thread.spawn(move || run.run()).map_err(JoinError::NoThread)?;
+        let thread = thread.spawn(move || run.run(poller)).map_err(JoinError::NoThread)?;
         let timeout = AtomicU64::new(nanoseconds(waits.timeout));
         let client = Client { number, link, thread: Some(thread), timeout };
         let begun = Instant::now();
-        let gives_up = |refusal| match errand {
-            Errand::Work => begun.elapsed() >= waits.if_in_use && is_in_use(refusal),
+        let gives_up = move |refusal, now: Instant| match errand {
+            Errand::Work => {
+                let waited = now.saturating_duration_since(begun);
+                waited >= waits.if_in_use && is_in_use(refusal)
+            }
             // A greater incarnation is taken then.
             Errand::Evict { .. } => matches!(refusal, Refusal::Incarnation { .. }),
         };
@@ -232,7 +238,7 @@ impl Client {
     /// `StoreWentBack`, `LeaseEnded` or `Unserved` while the client joins anew.
     pub fn pin(&self, keys: impl RangeBounds<u64>) -> Result<Pin<'_>, Refused> {
         let keys = keys_of(&keys)?;
-        let id = self.link.jobs().pin(keys)?;
+        let id = self.link.with_jobs(|jobs| jobs.pin(keys))?;
         Ok(self.pin_of(id))
     }
 
@@ -244,14 +250,14 @@ impl Client {
     /// one. Who acts on something outside may take it for a fence there.
     #[must_use]
     pub fn incarnation(&self) -> u64 {
-        self.link.jobs().incarnation()
+        self.link.with_jobs(|jobs| jobs.incarnation())
     }
 
     /// How long the client may still answer from its cache if it hears nothing more of the server;
     /// or `None` if for ever, as from a server without leases.
     #[must_use]
     pub fn lease_left(&self) -> Option<Duration> {
-        self.link.jobs().lease_left()
+        self.link.with_jobs(|jobs| jobs.lease_left())
     }
 
     /// Gives back what the client holds of the range. While a write is on its way it waits for the

@@ -36,6 +36,22 @@ impl Now {
     }
 }
 
+#[cfg(feature = "simulated")]
+impl Now {
+    /// The clocks of a machine that was started at such a moment, and runs for so long. Of the clock
+    /// of timeouts only differences mean something.
+    pub fn simulated(running: std::time::Duration) -> Now {
+        const STARTED: std::time::Duration = std::time::Duration::from_secs(1_800_000_000);
+        static BEGAN: std::sync::OnceLock<Instant> = std::sync::OnceLock::new();
+        let nanoseconds = u64::try_from(running.as_nanos()).unwrap_or(u64::MAX);
+        Now {
+            monotonic: *BEGAN.get_or_init(Instant::now) + running,
+            wall: SystemTime::UNIX_EPOCH + STARTED + running,
+            boot: Some(Moment::of_nanoseconds(nanoseconds)),
+        }
+    }
+}
+
 #[cfg(test)]
 impl Now {
     /// All clocks go on by so much.

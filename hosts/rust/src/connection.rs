@@ -10,17 +10,12 @@ use crate::outgoing::Outgoing;
 use crate::poller::{Readiness, Watched};
 use crate::refusal::Refusal;
 use crate::seldom::Seldom;
-use crate::stream::Stream;
 use crate::tls::TlsSession;
-use std::io::{self, ErrorKind, Read};
+use std::io::{self, ErrorKind, Read, Write};
 use std::time::{Duration, Instant};
 
 /// A connection on which nothing comes for so long is closed: clients tick more often.
 const SILENCE: Duration = Duration::from_secs(30);
-
-/// How often a connection that ends is read, so that what is unread does not take the last answer
-/// with it.
-const LAST_READS: usize = 16;
 
 /// What the host of a peer that takes host frames has been told.
 #[derive(Debug, Default)]
@@ -67,10 +62,10 @@ pub(crate) enum Looked {
     NotShaken(String),
 }
 
-/// A connection that is open. Nothing that is done with it waits.
+/// A connection that is open, without its socket: who has that reads it when it is to be read, and
+/// writes what waits.
 #[derive(Debug)]
 pub(crate) struct Connection {
-    stream: Stream,
     entry: Entry,
     /// A frame has come whole.
     has_spoken: bool,
@@ -93,15 +88,8 @@ pub(crate) struct Connection {
 
 impl Connection {
     /// A new connection, whose messages have at most `longest` bytes.
-    pub fn new(
-        stream: Stream,
-        entry: Entry,
-        longest: usize,
-        now: Instant,
-    ) -> io::Result<Connection> {
-        stream.set_waiting(false)?;
-        Ok(Connection {
-            stream,
+    pub fn new(entry: Entry, longest: usize, now: Instant) -> Connection {
+        Connection {
             entry,
             has_spoken: false,
             incoming: Frames::new(longest),
@@ -114,11 +102,7 @@ impl Connection {
             ends_for: None,
             is_let_in: false,
             reporter: None,
-        })
-    }
-
-    pub fn stream(&self) -> &Stream {
-        &self.stream
+        }
     }
 
     /// The system has told that something came.
@@ -135,21 +119,14 @@ impl Connection {
         self.ends_for.is_none() && (self.unread != Unread::Nothing || !self.incoming.needs_more())
     }
 
-    /// Whether a look reads.
+    /// Whether it is to be read before a look finds anything.
     pub fn has_to_read(&self) -> bool {
         let wants_more = self.incoming.needs_more() && self.incoming.long_head().is_none();
         wants_more && self.unread != Unread::Nothing
     }
 
-    /// Sees whether a frame has come whole, and reads once if none has.
-    pub fn look(&mut self, now: Instant) -> Looked {
-        if self.has_to_read()
-            && let Err(error) = self.read(now)
-        {
-            // The peer hears why, if it can: what is sealed already leaves.
-            let _ = self.write(now);
-            return self.why_unread(&error);
-        }
+    /// Sees whether a frame has come whole.
+    pub fn look(&mut self) -> Looked {
         if let Some(head) = self.incoming.long_head() {
             return Looked::Long(head);
         }
@@ -160,6 +137,14 @@ impl Connection {
                 self.has_spoken = true;
                 Looked::Frame
             }
+        }
+    }
+
+    /// Takes what a read by [`Connection::fill`] came to, and sees whether a frame has come whole.
+    pub fn has_read(&mut self, came: io::Result<usize>, now: Instant) -> Looked {
+        match self.note_read(came, now) {
+            Ok(()) => self.look(),
+            Err(error) => self.why_unread(&error),
         }
     }
 
@@ -196,12 +181,16 @@ impl Connection {
         }
     }
 
-    /// Bytes in: all that comes passes here.
-    fn read(&mut self, now: Instant) -> io::Result<()> {
-        let came = match &mut self.entry {
-            Entry::Known(_) => self.incoming.fill(&mut self.stream),
-            Entry::Unknown(session) => session.fill(&mut self.stream, &mut self.incoming),
-        };
+    /// Bytes in: all that comes passes here. It reads once, and says how many bytes came: none if the
+    /// other side has ended.
+    pub fn fill(&mut self, stream: &mut impl Read) -> io::Result<usize> {
+        match &mut self.entry {
+            Entry::Known(_) => self.incoming.fill(stream),
+            Entry::Unknown(session) => session.fill(stream, &mut self.incoming),
+        }
+    }
+
+    fn note_read(&mut self, came: io::Result<usize>, now: Instant) -> io::Result<()> {
         match came {
             Ok(0) => return Err(ErrorKind::UnexpectedEof.into()),
             Ok(count) => {
@@ -220,12 +209,12 @@ impl Connection {
     }
 
     /// Bytes out: all that leaves passes here. It writes what the peer takes at once.
-    pub fn write(&mut self, now: Instant) -> io::Result<()> {
+    pub fn write(&mut self, stream: &mut impl Write, now: Instant) -> io::Result<()> {
         if let Some(session) = self.session() {
             let sealed = session.take_sealed()?;
             self.outgoing.put(&sealed);
         }
-        self.outgoing.write(&mut self.stream, now)
+        self.outgoing.write(stream, now)
     }
 
     /// Puts bytes behind those that leave.
@@ -368,21 +357,6 @@ impl Connection {
             self.put(&first);
         }
         self.told.clear();
-    }
-
-    /// Reads what the peer has said beside all that was heard: a stream that is closed with bytes
-    /// unread may take the last answer with it.
-    fn read_the_rest(&mut self) {
-        let mut rest = [0; GULP];
-        let mut reads = (0..LAST_READS).map(|_| self.stream.read(&mut rest));
-        while let Some(Ok(1..)) = reads.next() {}
-    }
-}
-
-impl Drop for Connection {
-    fn drop(&mut self) {
-        self.read_the_rest();
-        self.stream.shut();
     }
 }
 

@@ -1,25 +1,21 @@
-//! The connections of a server. Its one thread reads and writes them all, and waits for none: so no
-//! slow peer stops the others.
-use crate::access::Access;
+//! The connections of a server, without their sockets: what comes on them goes in, and which of them
+//! are to be read, written and closed comes out. [`crate::sockets`] does that.
 use crate::clocks::Now;
 use crate::connection::{Connection, Looked};
 use crate::frames::{Frames, HEAD};
 use crate::history::Seen;
 use crate::host_frame::FromServer;
-use crate::listening::Listening;
-use crate::poller::{Poller, Readiness, Ready, Watched};
+use crate::poller::{Readiness, Watched};
 use crate::refusal::Refusal;
 use crate::room::Room;
 use crate::routing::Routes;
 use crate::strangers::Strangers;
-use crate::stream::{Accepted, Listener, PeerAddress};
+use crate::stream::PeerAddress;
 use closing::{CloseReason, Closings};
-use mio::Waker;
-use std::collections::{HashMap, VecDeque};
+use std::collections::{BTreeMap, VecDeque};
 use std::fmt::Display;
-use std::io;
-use std::sync::Arc;
-use std::time::{Duration, Instant};
+use std::io::{self, Read, Write};
+use std::time::Duration;
 
 /// The most connections that are open at once, unless a server is told otherwise. One more is
 /// closed as it comes.
@@ -29,17 +25,13 @@ pub(crate) const MAX_CONNECTIONS: usize = 256;
 /// often, several times a second.
 const SPEAKS: Duration = Duration::from_secs(2);
 
-/// The most connections that are taken between two turns.
-const MAX_TAKEN: usize = 32;
-
 /// All open connections, and to which of them each client's messages go.
 pub(crate) struct Connections {
-    poller: Poller,
-    listening: Listening,
-    access: Access,
+    /// The most connections that are open at once.
+    most: usize,
     /// The longest message that is taken.
     longest: usize,
-    open: HashMap<u64, Peer>,
+    open: BTreeMap<u64, Peer>,
     strangers: Strangers,
     routes: Routes,
     closings: Closings,
@@ -47,6 +39,9 @@ pub(crate) struct Connections {
     ready: VecDeque<u64>,
     /// Those that have something to send. Each is there once.
     sending: Vec<u64>,
+    /// Those that have to be written, and those that were closed.
+    to_write: VecDeque<u64>,
+    closed: VecDeque<Closed>,
     next: u64,
     /// After all that has come was read.
     now: Now,
@@ -58,7 +53,14 @@ struct Peer {
     address: PeerAddress,
     is_in_ready: bool,
     is_in_sending: bool,
-    watched: Watched,
+}
+
+/// A connection that was closed. What waits on it is written once more, as far as its peer takes it
+/// at once.
+#[derive(Debug)]
+pub(crate) struct Closed {
+    pub number: u64,
+    pub connection: Connection,
 }
 
 /// What the next connection in its turn has.
@@ -67,6 +69,8 @@ pub(crate) enum Turn {
     Nobody,
     /// This one has no frame now, or is closed.
     Nothing,
+    /// This one has to be read: by `Connections::fill`, and then by `Connections::has_read`.
+    Read(u64),
     /// This one begins a long frame with this head, which has to be admitted or broken off.
     Long(u64, [u8; HEAD]),
     /// This one has a frame, the next of these. They go back by `Connections::put_back`.
@@ -74,49 +78,27 @@ pub(crate) enum Turn {
 }
 
 impl Connections {
-    /// Takes at most so many connections from the listener, for a server of this room; and what wakes
-    /// it from other threads.
-    pub fn new(
-        listener: Listener,
-        most: usize,
-        room: Room,
-        access: Access,
-    ) -> io::Result<(Connections, Arc<Waker>)> {
-        let (poller, waker) = Poller::new(&listener)?;
-        let connections = Connections {
-            poller,
-            listening: Listening::new(listener, most)?,
-            access,
+    /// No connections yet, and at most so many at once, of a server of this room.
+    pub fn new(most: usize, room: Room, now: Now) -> Connections {
+        Connections {
+            most,
             longest: room.longest_message(),
-            open: HashMap::new(),
+            open: BTreeMap::new(),
             strangers: Strangers::default(),
             routes: Routes::default(),
             closings: Closings::default(),
             ready: VecDeque::new(),
             sending: Vec::new(),
+            to_write: VecDeque::new(),
+            closed: VecDeque::new(),
             next: 0,
-            now: Now::read(),
-        };
-        Ok((connections, waker))
+            now,
+        }
     }
 
-    /// Waits until there is something to do, but not longer than this, and says when that was. It
-    /// writes what peers take of what was sent, and takes new connections. It fails if no
-    /// connection can be taken any more.
-    pub fn wait(&mut self, longest: Duration) -> io::Result<Now> {
-        let is_busy = !self.ready.is_empty() || self.listening.is_ready(self.now.monotonic);
-        self.poller.wait(if is_busy { Duration::ZERO } else { longest })?;
-        self.now = Now::read();
-        let ready: Vec<Ready> = self.poller.ready().collect();
-        for it in ready {
-            match it {
-                Ready::Woken => {}
-                Ready::Listener => self.listening.has_some(),
-                Ready::Connection(connection, readiness) => self.wake(connection, readiness),
-            }
-        }
-        self.accept()?;
-        Ok(self.now)
+    /// The connections at this moment, which is not before anything came that was read.
+    pub fn set_now(&mut self, now: Now) {
+        self.now = now;
     }
 
     /// The moment by which what has come is judged: it is not before any of it came.
@@ -124,27 +106,20 @@ impl Connections {
         self.now
     }
 
-    /// Takes new connections, a few at once.
-    fn accept(&mut self) -> io::Result<()> {
-        for _ in 0..MAX_TAKEN {
-            if !self.listening.is_ready(self.now.monotonic) {
-                break;
-            }
-            if let Some(accepted) = self.listening.take(self.now.monotonic)? {
-                self.enter(accepted);
-            }
-        }
-        Ok(())
+    /// Whether a connection may have something to be heard or read.
+    pub fn are_busy(&self) -> bool {
+        !self.ready.is_empty()
     }
 
-    fn wake(&mut self, number: u64, readiness: Readiness) {
+    /// The system has told what the socket of this connection is ready for.
+    pub fn is_ready(&mut self, number: u64, readiness: Readiness) {
         let Some(peer) = self.open.get_mut(&number) else { return };
         if readiness.reads {
             peer.connection.is_readable(readiness);
             self.line_up(number);
         }
         if readiness.writes {
-            self.write(number);
+            self.to_write.push_back(number);
         }
     }
 
@@ -166,18 +141,36 @@ impl Connections {
         if !peer.connection.is_ready() {
             return Turn::Nothing;
         }
-        let reads = peer.connection.has_to_read();
-        let looked = peer.connection.look(self.now.monotonic);
-        if reads {
-            self.now = Now::read();
+        if peer.connection.has_to_read() {
+            return Turn::Read(number);
         }
+        let looked = peer.connection.look();
+        self.looked(number, looked)
+    }
+
+    /// Reads once from the socket of this connection. It answers how many bytes came.
+    pub fn fill(&mut self, number: u64, stream: &mut impl Read) -> io::Result<usize> {
+        let peer = self.open.get_mut(&number);
+        peer.map_or(Err(io::ErrorKind::NotConnected.into()), |peer| peer.connection.fill(stream))
+    }
+
+    /// Takes what a read of this connection came to, at a moment after it. It answers what the
+    /// connection has.
+    pub fn has_read(&mut self, number: u64, came: io::Result<usize>, now: Now) -> Turn {
+        self.now = now;
+        let Some(peer) = self.open.get_mut(&number) else { return Turn::Nothing };
+        let looked = peer.connection.has_read(came, now.monotonic);
+        self.looked(number, looked)
+    }
+
+    fn looked(&mut self, number: u64, looked: Looked) -> Turn {
         self.meet(number);
         match looked {
             Looked::Frame => self.frame(number),
             Looked::Long(head) => Turn::Long(number, head),
             Looked::NoFrame => {
                 // A hand-shake answers what came.
-                self.write(number);
+                self.to_write.push_back(number);
                 self.line_up(number);
                 Turn::Nothing
             }
@@ -216,9 +209,9 @@ impl Connections {
     /// Closes a connection for this reason, of which `why` says more.
     fn close_for(&mut self, number: u64, reason: CloseReason, why: &dyn Display) {
         let at = self.at(number);
-        if let Some(peer) = self.open.remove(&number) {
-            self.poller.remove(peer.connection.stream());
+        if let Some(Peer { connection, .. }) = self.open.remove(&number) {
             self.closings.closed(&at, reason, why, self.now.monotonic);
+            self.closed.push_back(Closed { number, connection });
         }
         self.strangers.closed(number);
         self.routes.close(number);
@@ -306,15 +299,32 @@ impl Connections {
         Sending { connections: self, seen }
     }
 
-    /// Writes what the peer takes, and closes the connection if that fails or was the last.
-    fn write(&mut self, number: u64) {
-        let Some(peer) = self.open.get_mut(&number) else { return };
-        let written = peer.connection.write(self.now.monotonic);
-        let is_lost = written.and_then(|()| peer.watch(number, &self.poller)).is_err();
+    /// The next connection that has to be written.
+    pub fn next_to_write(&mut self) -> Option<u64> {
+        self.to_write.pop_front()
+    }
+
+    /// The next connection that was closed.
+    pub fn next_closed(&mut self) -> Option<Closed> {
+        self.closed.pop_front()
+    }
+
+    /// Writes what the peer takes, and closes the connection if that fails or was the last. It
+    /// answers for what the socket has to be watched then, if it is still open.
+    pub fn write(&mut self, number: u64, stream: &mut impl Write) -> Option<Watched> {
+        let peer = self.open.get_mut(&number)?;
+        let is_lost = peer.connection.write(stream, self.now.monotonic).is_err();
         if is_lost || peer.connection.is_over() {
             let reason = peer.connection.ends_for().unwrap_or(CloseReason::Ended);
             self.close(number, reason);
+            return None;
         }
+        Some(peer.connection.watched())
+    }
+
+    /// The socket of this connection has failed.
+    pub fn is_lost(&mut self, number: u64) {
+        self.close(number, CloseReason::Ended);
     }
 
     /// Closes the connections whose peers are silent, take nothing, or do not say who they are, for
@@ -334,54 +344,13 @@ impl Connections {
         }
     }
 
-    /// Ends all connections. What was sent is written first, as far as the peers take it until
-    /// then.
-    pub fn finish(mut self, until: Instant) {
+    /// Hears nothing more of any connection: each is closed when all is written that was sent.
+    pub fn end_all(&mut self) {
         let numbers: Vec<u64> = self.open.keys().copied().collect();
-        for number in &numbers {
-            self.end(*number, CloseReason::Ended);
-            self.write(*number);
+        for number in numbers {
+            self.end(number, CloseReason::Ended);
+            self.to_write.push_back(number);
         }
-        while !self.open.is_empty() && self.now.monotonic < until {
-            let left = until.saturating_duration_since(self.now.monotonic);
-            if self.poller.wait(left).is_err() {
-                return;
-            }
-            self.now = Now::read();
-            let ready: Vec<Ready> = self.poller.ready().collect();
-            for it in ready {
-                if let Ready::Connection(number, Readiness { writes: true, .. }) = it {
-                    self.write(number);
-                }
-            }
-        }
-    }
-}
-
-impl Peer {
-    fn new(
-        accepted: Accepted,
-        number: u64,
-        poller: &Poller,
-        access: &Access,
-        longest: usize,
-        now: Instant,
-    ) -> io::Result<Peer> {
-        let (entry, address) = (access.enter(&accepted)?, accepted.peer);
-        let connection = Connection::new(accepted.stream, entry, longest, now)?;
-        poller.add(number, connection.stream())?;
-        let watched = Watched::Reads;
-        Ok(Peer { connection, address, is_in_ready: false, is_in_sending: false, watched })
-    }
-
-    /// Watches the connection for what it may do next.
-    fn watch(&mut self, number: u64, poller: &Poller) -> io::Result<()> {
-        let watched = self.connection.watched();
-        if watched != self.watched {
-            poller.watch(number, self.connection.stream(), watched)?;
-            self.watched = watched;
-        }
-        Ok(())
     }
 }
 
@@ -401,7 +370,7 @@ impl Sending<'_> {
         }
     }
 
-    /// Writes it all, as far as the peers take it at once.
+    /// All of it is to be written.
     pub fn end(self) {
         let Sending { connections, seen } = self;
         let mut sending = std::mem::take(&mut connections.sending);
@@ -409,7 +378,7 @@ impl Sending<'_> {
             if let Some(peer) = connections.open.get_mut(&number) {
                 peer.is_in_sending = false;
                 peer.connection.end_batch(seen);
-                connections.write(number);
+                connections.to_write.push_back(number);
             }
         }
         connections.sending = sending;

@@ -1,10 +1,11 @@
-//! The thread that owns a server and its store: it judges, commits and sends.
+//! What a server decides, without its store, its sockets and a clock: it judges what has come, says
+//! what has to be committed, and only then what leaves. [`thread`] is the shell around it.
 use crate::change::{Change, Record};
 use crate::clocks::Now;
 use crate::code::Code;
 use crate::connections::closing::CloseReason;
 use crate::connections::{Connections, Turn};
-use crate::event_log::{self, EventLog};
+use crate::event_log::EventLog;
 use crate::frames;
 use crate::handle::ServerHandle;
 use crate::held_back::HeldBack;
@@ -14,22 +15,16 @@ use crate::incoming::Incoming;
 use crate::leases::LeaseTable;
 use crate::message::{self, Head, Kind, Message};
 use crate::refusal::{ClientSet, Refusal};
-use crate::requests::Request;
 use crate::routing::{Sender, sender};
 use crate::server::ServeError;
 use crate::shard_bounds::ShardBounds;
 use crate::status::Status;
-use crate::store::Store;
 use crate::timings::{Open, Timings};
 use crate::watch::Watch;
-use std::panic::{AssertUnwindSafe, catch_unwind};
-use std::sync::mpsc::Receiver;
-use std::sync::{Arc, Mutex, PoisonError};
+use commit_group::CommitGroup;
+use greeting::Doubt;
+use std::sync::Arc;
 use std::time::{Duration, Instant};
-
-/// The most messages that are judged before what they changed is committed. A read that brings no
-/// whole message counts as one.
-const MAX_AT_ONCE: usize = 256;
 
 /// How often a client that seems stuck is told again what it may have missed, and the server is
 /// asked who waits for whom.
@@ -38,32 +33,28 @@ const NUDGE: Duration = Duration::from_millis(50);
 /// How often a server that commits nothing asks whether the store is still its own.
 const ASKS_STORE: Duration = Duration::from_secs(1);
 
-/// How long a turn counts what clients hold.
-const COUNTS: Duration = Duration::from_millis(2);
-
-/// How long a turn looks up who holds what, if somebody asks.
-const LOOKS: Duration = Duration::from_millis(10);
-
 /// How long a server that ends goes on to judge what has come.
 const LAST_TURNS: Duration = Duration::from_millis(100);
 
 /// How old what others see of a server may be while it is busy.
 const SHOWN_FOR: Duration = Duration::from_millis(5);
 
-/// How long a server that ends waits until what it sent is written.
-const LAST_WRITES: Duration = Duration::from_millis(500);
-
-/// The one thread that owns the server and its store.
-pub(crate) struct EventLoop<S> {
+/// What a server decides. It makes turns: each begins by [`EventLoop::begin`], takes what has come by
+/// [`EventLoop::hear_next`], and what time brings by [`EventLoop::nudge`]. What
+/// [`EventLoop::take_commit`] says is committed then, and [`EventLoop::committed`] is told so. Only after
+/// that [`EventLoop::send`] gives the connections what leaves.
+pub(crate) struct EventLoop {
     server: ServerHandle,
-    store: S,
     history: Option<History>,
-    asked: Receiver<Request>,
     connections: Connections,
     held_back: HeldBack,
     leases: LeaseTable,
+    /// What this turn has changed.
+    changes: Vec<Change>,
     /// Signs were answered in this turn.
     owes_terms: bool,
+    /// The connections of this turn whose clients have seen what the store lacks.
+    doubts: Vec<Doubt>,
     watch: Watch,
     status: Status,
     /// When the last turn ended.
@@ -75,8 +66,7 @@ pub(crate) struct EventLoop<S> {
     nudged: Instant,
     /// When the store was asked last.
     asked_store: Instant,
-    /// It was asked in this turn, since a client has seen what it lacks.
-    has_asked_store: bool,
+    group: CommitGroup,
     /// The server is to end, and goes on until then at most.
     until: Option<Instant>,
     /// Why it is to end, if nobody has told it to.
@@ -88,27 +78,38 @@ pub(crate) struct EventLoop<S> {
     shard: Option<ShardBounds>,
 }
 
-impl<S: Store> EventLoop<S> {
-    /// A server whose epoch is committed, and that takes these connections and requests.
+/// What the next connection had.
+#[derive(Clone, Copy, Debug, PartialEq, Eq)]
+pub(crate) enum Heard {
+    /// No connection has anything.
+    Nobody,
+    /// It was judged, or it had nothing after all.
+    Judged,
+    /// It has to be read first.
+    Unread(u64),
+}
+
+impl EventLoop {
+    /// A server whose epoch is committed, and that takes these connections.
     pub fn new(
         server: ServerHandle,
-        (store, history): (S, Option<History>),
-        (connections, asked): (Connections, Receiver<Request>),
+        history: Option<History>,
+        connections: Connections,
         leases: LeaseTable,
         timings: Arc<Timings>,
         epoch: u64,
         log: EventLog,
-    ) -> EventLoop<S> {
+    ) -> EventLoop {
         let now = connections.now().monotonic;
         EventLoop {
             server,
-            store,
             history,
-            asked,
             connections,
             held_back: HeldBack::new(),
             leases,
+            changes: Vec::new(),
             owes_terms: false,
+            doubts: Vec::new(),
             watch: Watch::default(),
             status: Status { epoch, ..Status::default() },
             turned: now,
@@ -116,7 +117,7 @@ impl<S: Store> EventLoop<S> {
             is_stale: false,
             nudged: now,
             asked_store: now,
-            has_asked_store: false,
+            group: CommitGroup::default(),
             until: None,
             failure: None,
             timings,
@@ -127,55 +128,34 @@ impl<S: Store> EventLoop<S> {
         }
     }
 
-    /// Serves until it is stopped or fails, and shows how it failed.
-    pub fn run_to_the_end(self, shown: &Mutex<Status>) -> Result<(), ServeError> {
-        let run = catch_unwind(AssertUnwindSafe(|| self.run(shown)));
-        let ended = run.unwrap_or(Err(ServeError::Panicked));
-        if let Err(error) = &ended {
-            event_log::failed(error);
-            let mut shown = shown.lock().unwrap_or_else(PoisonError::into_inner);
-            shown.is_serving = false;
-            shown.failure = Some(error.to_string());
-        }
-        ended
+    /// Its connections. What has come on them is given to them, and what leaves is taken from them.
+    pub fn connections(&mut self) -> &mut Connections {
+        &mut self.connections
     }
 
-    fn run(mut self, shown: &Mutex<Status>) -> Result<(), ServeError> {
-        while self.turn()? {
-            let is_news = self.see_phase();
-            self.show_if_due(is_news, shown);
-        }
-        self.show(shown);
-        self.connections.finish(Instant::now() + LAST_WRITES);
-        self.failure.map_or(Ok(()), Err)
+    /// The server is told to end, and goes on for a while to judge what has come.
+    pub fn stop(&mut self, now: Now) {
+        self.until = Some(now.monotonic + LAST_TURNS);
     }
 
-    /// Takes what waits, judges it all, commits what it changed, and only then sends. It answers
-    /// whether to go on.
-    fn turn(&mut self) -> Result<bool, ServeError> {
-        let was_stopped = self.until.is_some();
-        self.has_asked_store = false;
-        let began = self.connections.wait(self.longest_wait())?;
-        self.answer_requests();
-        let (mut changes, mut looks) = (Vec::new(), 0);
-        while looks < MAX_AT_ONCE && self.hear_next(&mut changes)? {
-            looks += 1;
-        }
-        self.nudge(began, &mut changes)?;
-        if self.nudged == began.monotonic {
-            self.count_held();
-        }
-        self.ask_store(began)?;
-        self.commit(&changes)?;
-        self.send()?;
-        self.turned = Instant::now();
-        self.timings.turned(began.monotonic, self.turned);
-        // What came before the stop is seen by the wait behind it.
-        Ok(self.until.is_none_or(|until| !was_stopped || looks > 0 && began.monotonic < until))
+    /// Whether it has been told to end.
+    pub fn is_to_end(&self) -> bool {
+        self.until.is_some()
     }
 
-    /// How long to wait if nothing comes.
-    fn longest_wait(&self) -> Duration {
+    /// Whether to make another turn after one that began then and judged so much. What came before the
+    /// stop is seen by the turn after it.
+    pub fn goes_on(&self, was_to_end: bool, began: Now, judged: usize) -> bool {
+        self.until.is_none_or(|until| !was_to_end || judged > 0 && began.monotonic < until)
+    }
+
+    /// Why it has ended, if nobody has told it to.
+    pub fn failure(self) -> Option<ServeError> {
+        self.failure
+    }
+
+    /// How long to wait for the next turn if nothing comes.
+    pub fn longest_wait(&self) -> Duration {
         match (self.until, self.is_stale) {
             (Some(_), _) => Duration::ZERO,
             (None, true) => {
@@ -185,49 +165,38 @@ impl<S: Store> EventLoop<S> {
         }
     }
 
-    /// Answers what other threads have asked.
-    fn answer_requests(&mut self) {
-        let mut looks_end = None;
-        while let Ok(request) = self.asked.try_recv() {
-            match request {
-                Request::Snapshot(reply) => {
-                    // Who asks and goes away gets no answer.
-                    let _ = reply.send(self.store.snapshot());
-                }
-                Request::Locks(search, reply) => {
-                    let end = *looks_end.get_or_insert_with(|| Instant::now() + LOOKS);
-                    let (now, is_late) = (self.connections.now(), || Instant::now() >= end);
-                    let _ = reply.send(self.look_up(search, now, is_late));
-                }
-                Request::Stop => self.until = Some(Instant::now() + LAST_TURNS),
-            }
+    /// The turn that began then has ended.
+    pub fn end_turn(&mut self, began: Now, now: Now) {
+        self.turned = now.monotonic;
+        self.timings.turned(began.monotonic, self.turned);
+    }
+
+    /// Hears the connection whose turn it is.
+    pub fn hear_next(&mut self) -> Result<Heard, ServeError> {
+        match self.connections.turn() {
+            Turn::Nobody => Ok(Heard::Nobody),
+            Turn::Read(connection) => Ok(Heard::Unread(connection)),
+            turn => self.take(turn).map(|()| Heard::Judged),
         }
     }
 
-    /// Hears the connection whose turn it is, and answers whether there was one.
-    fn hear_next(&mut self, changes: &mut Vec<Change>) -> Result<bool, ServeError> {
-        match self.connections.turn() {
-            Turn::Nobody => return Ok(false),
-            Turn::Nothing => {}
+    /// Hears what a connection has.
+    pub fn take(&mut self, turn: Turn) -> Result<(), ServeError> {
+        match turn {
+            Turn::Nobody | Turn::Nothing | Turn::Read(_) => {}
             Turn::Long(connection, head) => self.judge_long(connection, &head)?,
             Turn::Frame(connection, mut incoming) => {
                 if let Ok(Some(frame)) = incoming.next() {
-                    self.hear(connection, frame, self.connections.now(), changes)?;
+                    self.hear(connection, frame, self.connections.now())?;
                 }
                 self.connections.put_back(connection, incoming);
             }
         }
-        Ok(true)
+        Ok(())
     }
 
     /// Takes what came on a connection, and adds what has to be kept.
-    fn hear(
-        &mut self,
-        connection: u64,
-        frame: &[u8],
-        now: Now,
-        changes: &mut Vec<Change>,
-    ) -> Result<(), ServeError> {
+    fn hear(&mut self, connection: u64, frame: &[u8], now: Now) -> Result<(), ServeError> {
         let frame = Incoming::read(frame);
         if !self.connections.identity(connection).may_say(&frame) {
             self.deny(connection, &frame);
@@ -239,9 +208,12 @@ impl<S: Store> EventLoop<S> {
         match frame {
             Incoming::Message(message) => {
                 let change = self.judge(connection, message, now)?;
-                change.map_or(Ok(()), |change| self.keep(change, now, changes))
+                change.map_or(Ok(()), |change| self.keep(change, now))
             }
-            Incoming::Host(Some(FromClient::Hello(seen))) => self.greet(connection, seen, now),
+            Incoming::Host(Some(FromClient::Hello(seen))) => {
+                self.greet(connection, seen);
+                Ok(())
+            }
             Incoming::Sign(sign) => self.hear_sign(connection, sign, now),
             Incoming::Host(_) => Ok(()),
         }
@@ -325,9 +297,17 @@ impl<S: Store> EventLoop<S> {
         }
     }
 
-    fn nudge(&mut self, now: Now, changes: &mut Vec<Change>) -> Result<(), ServeError> {
+    /// Whether what is to be committed waits for writers that are about to write again, if it has
+    /// waited so long.
+    pub fn waits_for_writers(&self, waited: Duration) -> bool {
+        self.group.waits(&self.changes, waited)
+    }
+
+    /// Says again what clients may have missed, closes dead connections and evicts, if that is due. It
+    /// answers whether it was.
+    pub fn nudge(&mut self, now: Now) -> Result<bool, ServeError> {
         if now.monotonic.saturating_duration_since(self.nudged) < NUDGE {
-            return Ok(());
+            return Ok(false);
         }
         self.nudged = now.monotonic;
         self.connections.close_dead();
@@ -336,59 +316,62 @@ impl<S: Store> EventLoop<S> {
             let _ = self.server.nudge(client);
         }
         self.look_at_waits(now);
-        self.evict_silent(now, changes)
+        self.evict_silent(now)?;
+        Ok(true)
     }
 
-    /// Counts how much the clients hold of which that may have changed: of one at least, and of more
-    /// as long as that takes little time.
-    fn count_held(&mut self) {
-        let end = Instant::now() + COUNTS;
-        while self.count_next() && Instant::now() < end {}
+    /// Takes what has to be committed before anything leaves, if anything has: nothing leaves if that fails.
+    ///
+    /// Nothing changed is committed too, if the store has to be asked whether it is still this
+    /// server's: before terms leave, before a store is called an older one, and now and then. A server
+    /// behind which another one has started would find that at its next commit, and its clients might
+    /// wait for it until then.
+    pub fn take_commit(&mut self, now: Now) -> Option<Vec<Change>> {
+        let since_asked = now.monotonic.saturating_duration_since(self.asked_store);
+        let asks = self.owes_terms || !self.doubts.is_empty() || since_asked >= ASKS_STORE;
+        let changes = std::mem::take(&mut self.changes);
+        (asks || !changes.is_empty()).then_some(changes)
     }
 
-    /// Asks now and then whether the store is still this server's. One behind which another server
-    /// has started would find that at its next commit, and its clients might wait for it until
-    /// then.
-    fn ask_store(&mut self, now: Now) -> Result<(), ServeError> {
-        if now.monotonic.saturating_duration_since(self.asked_store) < ASKS_STORE {
-            return Ok(());
-        }
-        self.asked_store = now.monotonic;
-        Ok(self.store.commit(&[])?)
-    }
-
-    /// Commits what the turn has changed. Terms leave only if the store is still this server's.
-    fn commit(&mut self, changes: &[Change]) -> Result<(), ServeError> {
-        let owes_terms = std::mem::take(&mut self.owes_terms);
-        let began = Instant::now();
-        if owes_terms || !changes.is_empty() {
-            self.store.commit(changes)?;
-            self.server.confirm(changes).map_err(ServeError::Refused)?;
-            self.asked_store = began;
-        }
+    /// The store has made this commit, which began then.
+    pub fn committed(
+        &mut self,
+        changes: &[Change],
+        began: Instant,
+        now: Now,
+    ) -> Result<(), ServeError> {
+        self.server.confirm(changes).map_err(ServeError::Refused)?;
+        self.asked_store = began;
+        self.owes_terms = false;
         if !changes.is_empty() {
             if let Some(history) = &mut self.history {
                 history.commit();
             }
-            self.timings.committed(changes.len(), began.elapsed());
+            let time = now.monotonic.saturating_duration_since(began);
+            self.timings.committed(changes.len(), time);
+            self.group.committed(changes, time);
             self.log.committed(changes, |client| self.connections.at_of(client));
             self.count(changes);
             self.see_members(changes);
         }
+        for doubt in std::mem::take(&mut self.doubts) {
+            self.alarm_older_store(&doubt, now);
+        }
         Ok(())
     }
 
-    fn send(&mut self) -> Result<(), ServeError> {
+    /// Gives the connections what leaves.
+    pub fn send(&mut self, now: Now) -> Result<(), ServeError> {
         let length = self.server.take(&mut self.frames).map_err(ServeError::Refused)?;
-        let now = if length > 0 { Instant::now() } else { self.turned };
         let mut sending = self.connections.send(self.history.as_ref().and_then(History::seen));
         for (message, frame) in frames::split(&self.frames[..length]) {
             let message = Message::read(message);
             let Some(client) = message.client() else { continue };
-            if message.kind().is_push() && self.held_back.holds(client, message.bytes(), now) {
+            let is_push = message.kind().is_push();
+            if is_push && self.held_back.holds(client, message.bytes(), now.monotonic) {
                 continue;
             }
-            self.open.said(client, message, now, &self.timings);
+            self.open.said(client, message, now.monotonic, &self.timings);
             self.watch.may_change(client);
             sending.put(client, frame);
             self.status.sent += 1;
@@ -398,6 +381,9 @@ impl<S: Store> EventLoop<S> {
     }
 }
 
+pub(crate) mod thread;
+
+mod commit_group;
 mod greeting;
 mod leases;
 mod long_frames;

@@ -42,6 +42,8 @@ pub(crate) type JobId = u64;
 /// A job that was asked for: its name, and where its answer comes.
 pub(crate) struct Asked<T> {
     pub id: JobId,
+    /// The client says it again until it is answered.
+    pub is_urgent: bool,
     pub answer: Receiver<Result<T, Refused>>,
 }
 
@@ -190,6 +192,11 @@ impl Jobs {
         self
     }
 
+    /// The moment of the call that is made.
+    pub fn now(&self) -> Now {
+        self.now
+    }
+
     /// Waits until the server has said its epoch.
     pub fn join(&mut self) -> Asked<()> {
         self.add(Job::Join)
@@ -234,12 +241,7 @@ impl Jobs {
             self.open.push((self.next, job(Reply(reply))));
             self.advance(Asking::Allowed);
         }
-        Asked { id: self.next, answer }
-    }
-
-    /// Whether the job is a write that was sent and is not answered.
-    pub fn is_sent(&self, job: JobId) -> bool {
-        self.written.as_ref().is_some_and(|written| written.id == job)
+        Asked { id: self.next, is_urgent: true, answer }
     }
 
     /// Nobody waits for the job any more. It answers whether a write was sent for it.
@@ -251,6 +253,37 @@ impl Jobs {
             self.give_up(&taking);
         }
         if written.is_some() { WasSent::Yes } else { WasSent::No }
+    }
+
+    /// Ends this job for this reason, if it is open.
+    pub fn refuse(&mut self, job: JobId, why: Refused) {
+        if let Some(place) = self.open.iter().position(|(id, _)| *id == job) {
+            let (_, job) = self.open.remove(place);
+            self.refuse_one(job, why);
+        }
+    }
+
+    /// Ends each job for this reason; but a write that was sent for the other one, if there is one,
+    /// and otherwise it goes on.
+    pub fn refuse_all(&mut self, why: Refused, of_sent: Option<Refused>) {
+        for (_, job) in std::mem::take(&mut self.open) {
+            self.refuse_one(job, why);
+        }
+        for watched in std::mem::take(&mut self.watched) {
+            watched.refuse(why);
+        }
+        if let Some(why) = of_sent
+            && let Some(written) = self.written.take()
+        {
+            written.refuse(why);
+        }
+    }
+
+    fn refuse_one(&mut self, job: Job, why: Refused) {
+        if let Job::Hold(taking, _) = &job {
+            self.give_up(taking);
+        }
+        job.refuse(why);
     }
 
     /// The client's thread has ended: no job goes on, and whoever waits for one hears that.
@@ -309,6 +342,12 @@ impl Jobs {
     /// How long a tick comes after the one before.
     pub fn pace(&self) -> Duration {
         if self.are_open() { BUSY_TICK } else { IDLE_TICK }
+    }
+
+    /// How soon the next tick is due.
+    pub fn next_tick(&self) -> Duration {
+        let since = |ticked| self.now.monotonic.saturating_duration_since(ticked);
+        self.ticked.map_or(Duration::ZERO, |ticked| self.pace().saturating_sub(since(ticked)))
     }
 
     /// Ticks, if the last tick is long enough ago.

@@ -64,6 +64,7 @@ mod message;
 mod metrics;
 mod monitor;
 mod one_moment;
+mod opening;
 mod outgoing;
 mod partition;
 mod pin;
@@ -82,6 +83,7 @@ mod seldom;
 mod server;
 mod server_builder;
 mod servers;
+mod session;
 mod shard_bounds;
 mod shard_fence;
 mod shard_frame;
@@ -92,6 +94,10 @@ mod sharded_cached;
 mod sharded_refused;
 mod sharded_standing;
 mod silence;
+#[cfg(feature = "simulated")]
+#[doc(hidden)]
+pub mod simulated;
+mod sockets;
 #[cfg(feature = "sqlite")]
 mod sqlite;
 #[cfg(feature = "sqlite")]

@@ -1,58 +1,43 @@
-//! The thread of a client that keeps its connection, and what it shares with the callers.
+//! The thread of a client that keeps its connection, and what it shares with the callers: sockets,
+//! locks and the lock file, around what [`crate::session`] decides.
 use crate::address::Address;
-use crate::backoff::Backoff;
+use crate::backoff;
 use crate::carrier::Carrier;
-use crate::client_handle::Cache;
+use crate::client_handle::{Cache, ClientHandle};
 use crate::clocks::Now;
-use crate::code::Code;
-use crate::connect_fault::{ConnectFault, Rejections};
+use crate::connect_fault::Rejection;
 use crate::event_log;
-use crate::frames::{Frames, LONGEST_TO_CLIENT};
-use crate::history::Seen;
-use crate::host_frame;
-use crate::jobs::{Asking, BUSY_TICK, IDLE_TICK, Jobs};
+use crate::frames::{Frames, GULP, LONGEST_TO_CLIENT};
+use crate::jobs::Jobs;
 use crate::lock_file::LockFile;
-use crate::message::Message;
-use crate::refusal::Refusal;
-use crate::refused::Refused;
+use crate::poller::{Poller, Readiness, Ready, Watched};
 use crate::servers::Servers;
-use crate::shard_fence::Fence;
-use crate::silence::{Silence, Silent};
-use crate::writer::{ATTEMPT, Writer, Written};
+use crate::session::Session;
+use crate::writer::{Writer, Written};
+use mio::Waker;
 use std::convert::Infallible;
 use std::io::{self, ErrorKind};
-use std::sync::atomic::{AtomicU64, Ordering};
-use std::sync::{Condvar, Mutex, MutexGuard, PoisonError};
+use std::sync::{Arc, Condvar, Mutex, MutexGuard, PoisonError};
 use std::time::{Duration, Instant};
 
 /// How long a connection may take to be made.
 const CONNECT: Duration = Duration::from_secs(1);
 
-/// A server that does not serve a client tells why once a second, and when the client connects
-/// again. What it has told before that is so no more.
-const HINT: Duration = Duration::from_secs(2);
+/// The one connection, as the poller names it.
+const CONNECTION: u64 = 0;
 
 /// What the thread of the connection and the callers share.
 ///
-/// What waits to be written is locked after `jobs` and never before it, and no stream is touched
-/// while `jobs` is held. A scan of the cache takes none of these locks.
+/// What waits to be written is locked after `session` and never before it, and no stream is touched
+/// while `session` is held. A scan of the cache takes none of these locks.
 pub(crate) struct Link {
     servers: Servers,
-    jobs: Mutex<Jobs>,
+    session: Mutex<Session>,
     cache: Cache,
     writer: Writer,
+    waker: Arc<Waker>,
     thread: Mutex<Thread>,
     changed: Condvar,
-    /// Why there is no connection, if there is none.
-    fault: Mutex<Option<io::Error>>,
-    /// Why the server does not serve the client, as it told last, and when.
-    refusal: Mutex<Option<(Refusal, Instant)>>,
-    /// How the last connections ended, as far as one side rejected the other.
-    rejections: Mutex<Rejections>,
-    /// How much the client has seen of the server's store.
-    seen: Mutex<Option<Seen>>,
-    /// The greatest epoch that a server has said.
-    epoch: AtomicU64,
     /// None once the client is gone.
     lock_file: Mutex<Option<LockFile>>,
 }
@@ -65,46 +50,34 @@ enum Thread {
     HasEnded,
 }
 
-/// What came on a connection.
-#[derive(Clone, Copy, Debug, Default, PartialEq, Eq)]
-struct Heard {
-    /// A message that the library has accepted.
-    message: bool,
-    /// That the server's store went back.
-    went_back: bool,
-}
-
-/// One connection, while it lasts.
-struct Connected<'l> {
-    address: &'l Address,
-    carrier: Carrier,
-    heard: Heard,
-    silence: Silence,
-    fence: Fence,
-}
-
-/// How a connection went.
-struct Served {
-    heard: Heard,
-    end: io::Error,
+/// What may be read from the connection.
+#[derive(Clone, Copy, Debug, PartialEq, Eq)]
+enum Unread {
+    Nothing,
+    Something,
+    /// The last that there is, and then the end.
+    Last,
 }
 
 impl Link {
-    pub fn new(servers: Servers, jobs: Jobs, lock_file: Option<LockFile>) -> Link {
-        Link {
-            servers,
+    /// A client that is not connected, and what its thread waits by.
+    pub fn new(
+        servers: Servers,
+        jobs: Jobs,
+        lock_file: Option<LockFile>,
+    ) -> io::Result<(Link, Poller)> {
+        let (poller, waker) = Poller::new()?;
+        let link = Link {
             cache: jobs.cache(),
-            jobs: Mutex::new(jobs),
+            session: Mutex::new(Session::new(servers.clone(), jobs, backoff::seed())),
+            servers,
             writer: Writer::default(),
+            waker,
             thread: Mutex::new(Thread::Runs),
             changed: Condvar::new(),
-            fault: Mutex::default(),
-            refusal: Mutex::default(),
-            rejections: Mutex::default(),
-            seen: Mutex::default(),
-            epoch: AtomicU64::new(0),
             lock_file: Mutex::new(lock_file),
-        }
+        };
+        Ok((link, poller))
     }
 
     /// Where the server is, or where it may be.
@@ -117,21 +90,31 @@ impl Link {
         &self.cache
     }
 
-    /// The jobs as they are now. The clocks are read when nobody else has them.
-    pub fn jobs(&self) -> MutexGuard<'_, Jobs> {
-        let mut jobs = lock(&self.jobs);
-        jobs.at(Now::read());
-        jobs
+    /// The session as it is now. The clocks are read when nobody else has it.
+    pub fn session(&self) -> MutexGuard<'_, Session> {
+        let mut session = lock(&self.session);
+        session.at(Now::read());
+        session
+    }
+
+    /// Makes a call of the client now. What it says leaves later.
+    pub fn with_jobs<T>(&self, call: impl FnOnce(&mut Jobs) -> T) -> T {
+        call(self.session().jobs())
     }
 
     /// Why there is no connection just now, if there is none. It is said once.
     pub fn take_fault(&self) -> Option<io::Error> {
-        lock(&self.fault).take()
+        self.session().take_fault()
     }
 
     /// Whether there is a connection just now.
     pub fn is_connected(&self) -> bool {
-        lock(&self.fault).is_none()
+        self.session().is_connected()
+    }
+
+    /// Why the last connection was rejected, if it was and the server does not take this side now.
+    pub fn rejection(&self) -> Option<Rejection> {
+        self.session().rejection()
     }
 
     /// Gives the client's number free: another process may take it.
@@ -148,6 +131,13 @@ impl Link {
         drop(thread);
         self.changed.notify_all();
         self.writer.close();
+        self.wake();
+    }
+
+    /// Has the thread look at the session at once, if it waits for its connection.
+    fn wake(&self) {
+        // One that is not woken looks by itself a little later.
+        let _ = self.waker.wake();
     }
 
     /// Waits until the thread has ended, or until the deadline. It answers whether it has.
@@ -160,34 +150,15 @@ impl Link {
     }
 
     /// Keeps the connection until the client ends.
-    pub fn run(&self) {
+    pub fn run(&self, mut poller: Poller) {
         let _ended = Ended(self);
-        let mut backoff = Backoff::among(self.servers.count());
-        for place in 0.. {
-            if !self.runs() {
-                return;
-            }
-            let address = self.servers.at(place);
-            let served = self.connect(address).map(|connected| self.serve(connected));
+        while self.runs() {
+            let address = self.session().address().clone();
+            let Err(end) = self.connect_and_serve(&address, &mut poller);
             self.writer.close();
-            self.jobs().disconnect();
-            let Served { heard, end } =
-                served.unwrap_or_else(|end| Served { heard: Heard::default(), end });
-            let fault = ConnectFault::from(end);
-            // A client that has to begin anew does so at once.
-            if heard.went_back || heard.message && fault.rejection().is_none() {
-                backoff.reset();
-            }
-            self.note(address, fault);
-            self.rest(backoff.pause());
+            let pause = self.session().disconnected(end);
+            self.rest(pause);
         }
-    }
-
-    /// The connection to this address has ended, or could not be made.
-    fn note(&self, address: &Address, fault: ConnectFault) {
-        event_log::disconnected(address, &fault);
-        lock(&self.rejections).note(&fault);
-        *lock(&self.fault) = Some(fault.into());
     }
 
     fn runs(&self) -> bool {
@@ -202,110 +173,106 @@ impl Link {
         drop(waited.unwrap_or_else(PoisonError::into_inner));
     }
 
-    fn connect<'l>(&self, address: &'l Address) -> io::Result<Connected<'l>> {
+    /// Connects, and serves the connection until it ends.
+    fn connect_and_serve(&self, address: &Address, poller: &mut Poller) -> io::Result<Infallible> {
         self.begin_anew_if_due()?;
-        let carrier = Carrier::connect(address, self.servers.tls(), CONNECT)?;
-        carrier.set_timeouts(IDLE_TICK, ATTEMPT)?;
+        let mut carrier = Carrier::connect(address, self.servers.tls(), CONNECT)?;
         self.keep_incarnation()?;
-        let first = self.greeting()?;
+        poller.add(CONNECTION, carrier.stream())?;
+        let first = self.session().connected()?;
         self.writer.open(carrier.try_clone()?, first);
-        *lock(&self.fault) = None;
         event_log::connected(address);
-        let silence = Silence::new(Instant::now(), self.servers.count());
-        let (heard, fence) = (Heard::default(), Fence::new(self.servers.shard()));
-        Ok(Connected { address, carrier, heard, silence, fence })
+        let ended = self.serve(&mut carrier, poller);
+        poller.remove(carrier.stream());
+        carrier.shut();
+        ended
     }
 
     /// Hears what the server says, until the connection ends.
-    fn serve(&self, mut connected: Connected<'_>) -> Served {
-        let Err(end) = self.turns(&mut connected);
-        connected.carrier.shut();
-        Served { heard: connected.heard, end }
-    }
-
-    /// Takes what the server says and ticks, until the connection ends.
-    fn turns(&self, connected: &mut Connected<'_>) -> io::Result<Infallible> {
+    fn serve(&self, carrier: &mut Carrier, poller: &mut Poller) -> io::Result<Infallible> {
         let mut frames = Frames::new(LONGEST_TO_CLIENT);
-        let mut wait = IDLE_TICK;
-        self.jobs().tick_soon();
+        let (mut unread, mut watched) = (Unread::Nothing, Watched::Reads);
+        let (mut written, mut due_in) = self.proceed(None)?;
         while self.runs() {
-            let written = self.advance()?;
-            set_wait(&connected.carrier, &mut wait, self.next_wait(written))?;
-            match connected.carrier.fill(&mut frames) {
-                Ok(0) => return Err(ErrorKind::UnexpectedEof.into()),
-                Ok(_) => connected.silence.heard(Instant::now()),
-                Err(error) if is_silence(error.kind()) => self.look_at_silence(connected)?,
-                Err(error) => return Err(error),
+            if unread == Unread::Nothing {
+                watch(carrier, poller, &mut watched, written)?;
+                poller.wait(due_in)?;
+                unread = poller.ready().fold(unread, Unread::after);
             }
-            self.hear_all(&mut frames, connected)?;
+            let has_come = unread != Unread::Nothing && unread.read(carrier, &mut frames)?;
+            (written, due_in) = self.proceed(has_come.then_some(&mut frames))?;
         }
         Err(ErrorKind::Interrupted.into())
     }
 
-    /// Goes on with the jobs, when all that came is heard, and sends what the client says.
-    fn advance(&self) -> io::Result<Written> {
-        self.greet_again_if_due();
-        let mut jobs = self.jobs();
-        jobs.end_lease_if_over();
-        if jobs.is_void() {
-            return Err(io::Error::other(Refused::LeaseEnded));
+    /// Takes what has come, if something has; goes on with what the client was asked, and writes what
+    /// it says. It answers when that is due again if nothing comes.
+    fn proceed(&self, came: Option<&mut Frames>) -> io::Result<(Written, Duration)> {
+        let mut session = self.session();
+        if let Some(frames) = came {
+            session.receive(frames)?;
         }
-        jobs.advance(Asking::Allowed);
-        jobs.tick_if_due();
-        Ok(self.send(jobs))
+        session.proceed()?;
+        let due_in = session.due_in();
+        Ok((self.send(session), due_in))
     }
 
-    /// How long to wait for what comes: until the next tick or sign, or not for long if something is
-    /// left to be written.
-    fn next_wait(&self, written: Written) -> Duration {
-        match written {
-            Written::Part => BUSY_TICK,
-            Written::AllOrNothing => {
-                self.jobs().longest_sleep().unwrap_or(IDLE_TICK).min(IDLE_TICK)
-            }
-        }
+    /// Has the incarnation on the disk before anything of it leaves. A client whose number is free
+    /// again says nothing more.
+    fn keep_incarnation(&self) -> io::Result<()> {
+        let mut lock_file = lock(&self.lock_file);
+        let file = lock_file.as_mut().ok_or(ErrorKind::Interrupted)?;
+        file.keep().map_err(|error| {
+            io::Error::new(error.kind(), format!("the lock file can't be written: {error}"))
+        })?;
+        self.session().confirm_incarnation()
     }
 
-    /// Asks a server that is silent whether it is there, and leaves the connection if no answer
-    /// comes.
-    fn look_at_silence(&self, connected: &mut Connected<'_>) -> io::Result<()> {
-        match connected.silence.look(Instant::now()) {
-            Silent::No => Ok(()),
-            Silent::Ask => {
-                self.writer.put(|frames| frames.extend_from_slice(&self.hello()));
-                Ok(())
-            }
-            Silent::Leave => {
-                Err(io::Error::new(ErrorKind::TimedOut, "the server was asked, and is silent"))
-            }
-        }
-    }
-
-    /// Gives the client what came.
-    fn hear_all(&self, frames: &mut Frames, connected: &mut Connected<'_>) -> io::Result<()> {
-        while let Ok(Some(frame)) = frames.next() {
-            if host_frame::is_of_host(frame) {
-                self.hear_host(frame, connected)?;
-            } else {
-                self.jobs().hear(frame).map_err(bad_message)?;
-                connected.heard.message = true;
-                lock(&self.rejections).accept();
-                self.compare_epochs(frame)?;
-            }
-        }
-        if frames.is_broken() { Err(bad_message(Code::BadMessage)) } else { Ok(()) }
-    }
-
-    /// Leaves a server that is of an older epoch than one that the client has heard, if there are
-    /// others: it may go on for ever, and the one that serves waits for the client's report.
-    fn compare_epochs(&self, message: &[u8]) -> io::Result<()> {
-        let Some(epoch) = Message::read(message).epoch() else { return Ok(()) };
-        let known = self.epoch.fetch_max(epoch, Ordering::Relaxed);
-        if epoch >= known || !self.servers.are_several() {
+    /// Gives a client that has dropped all, or whose lease has ended, a greater incarnation, under
+    /// which it joins anew.
+    fn begin_anew_if_due(&self) -> io::Result<()> {
+        if !self.session().has_to_begin_anew() {
             return Ok(());
         }
-        let why = format!("the server is of epoch {epoch}, and another one of epoch {known}");
-        Err(io::Error::other(why))
+        let mut lock_file = lock(&self.lock_file);
+        let Some(file) = &mut *lock_file else { return Err(ErrorKind::Interrupted.into()) };
+        let incarnation = file.renew();
+        let client = ClientHandle::open_behind(file.number(), incarnation, file.older());
+        self.session().begin_anew(client.map_err(io::Error::other)?);
+        event_log::began_anew(file.number(), incarnation);
+        Ok(())
+    }
+}
+
+impl Unread {
+    /// What is to be read after this has become ready.
+    fn after(self, ready: Ready) -> Unread {
+        match (ready, self) {
+            (Ready::Connection(_, Readiness { is_last: true, .. }), _) => Unread::Last,
+            (Ready::Connection(_, Readiness { reads: true, .. }), Unread::Nothing) => {
+                Unread::Something
+            }
+            _ => self,
+        }
+    }
+
+    /// Reads once. It answers whether something came, and is then what is left to be read.
+    fn read(&mut self, carrier: &mut Carrier, frames: &mut Frames) -> io::Result<bool> {
+        match carrier.fill(frames) {
+            Ok(0) => return Err(ErrorKind::UnexpectedEof.into()),
+            Ok(count) => {
+                // A socket that gives less than it could has no more. The end is no byte: who was
+                // told of it reads until it comes.
+                if count < GULP && *self == Unread::Something {
+                    *self = Unread::Nothing;
+                }
+                return Ok(true);
+            }
+            Err(error) if error.kind() == ErrorKind::Interrupted => {}
+            Err(error) if error.kind() == ErrorKind::WouldBlock => *self = Unread::Nothing,
+            Err(error) => return Err(error),
+        }
+        Ok(false)
     }
 }
 
@@ -315,7 +282,7 @@ struct Ended<'l>(&'l Link);
 impl Drop for Ended<'_> {
     fn drop(&mut self) {
         self.0.writer.close();
-        self.0.jobs().end();
+        self.0.session().jobs().end();
         *lock(&self.0.thread) = Thread::HasEnded;
         self.0.changed.notify_all();
     }
@@ -325,24 +292,23 @@ fn lock<T>(mutex: &Mutex<T>) -> MutexGuard<'_, T> {
     mutex.lock().unwrap_or_else(PoisonError::into_inner)
 }
 
-fn bad_message(code: Code) -> io::Error {
-    io::Error::new(ErrorKind::InvalidData, format!("the server says what no server says: {code}"))
-}
-
-/// Lets the next read wait so long.
-fn set_wait(carrier: &Carrier, wait: &mut Duration, next: Duration) -> io::Result<()> {
-    if std::mem::replace(wait, next) != next {
-        carrier.set_timeouts(next, ATTEMPT)?;
+/// Watches the connection for writes too, while a part waits to be written.
+fn watch(
+    carrier: &Carrier,
+    poller: &Poller,
+    watched: &mut Watched,
+    written: Written,
+) -> io::Result<()> {
+    let next = match written {
+        Written::Part => Watched::Both,
+        Written::AllOrNothing => Watched::Reads,
+    };
+    if std::mem::replace(watched, next) != next {
+        poller.watch(CONNECTION, carrier.stream(), next)?;
     }
     Ok(())
 }
 
-/// Whether nothing came in time, which is no fault of the connection.
-fn is_silence(kind: ErrorKind) -> bool {
-    matches!(kind, ErrorKind::WouldBlock | ErrorKind::TimedOut | ErrorKind::Interrupted)
-}
-
 mod asking;
-mod host;
 #[cfg(test)]
 mod tests;

@@ -62,11 +62,6 @@ impl Listening {
         Ok(None)
     }
 
-    /// Whether there is no room for one more while so many are open.
-    pub fn is_full(&self, open: usize) -> bool {
-        open >= self.max_connections
-    }
-
     /// Closes a connection, since so many are open. One by TLS is told nothing.
     pub fn turn_away(&mut self, accepted: Accepted, open: usize) {
         event_log::full(&mut self.full, open);

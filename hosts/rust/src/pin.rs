@@ -31,7 +31,7 @@ impl<'c> Pin<'c> {
     /// the work: the answer is that of one moment of this call.
     #[must_use]
     pub fn holds(&self) -> bool {
-        self.client.link.jobs().holds_pin(self.id)
+        self.client.link.with_jobs(|jobs| jobs.holds_pin(self.id))
     }
 
     /// Inserts a row while the pin holds, or never. The outcome is that of [`Client::insert`]. The
@@ -80,7 +80,7 @@ impl fmt::Debug for Pin<'_> {
 
 impl Drop for Pin<'_> {
     fn drop(&mut self) {
-        self.client.link.jobs().unpin(self.id);
+        self.client.link.with_jobs(|jobs| jobs.unpin(self.id));
         self.client.link.flush();
     }
 }

@@ -63,14 +63,18 @@ pub(crate) struct Poller {
 }
 
 impl Poller {
-    /// A poller that watches the listener, and what wakes it from other threads.
-    pub fn new(listener: &Listener) -> io::Result<(Poller, Arc<Waker>)> {
+    /// A poller that watches nothing yet, and what wakes it from other threads.
+    pub fn new() -> io::Result<(Poller, Arc<Waker>)> {
         let poll = Poll::new()?;
         let waker = Waker::new(poll.registry(), WAKER)?;
-        let socket = listener.as_raw_fd();
-        poll.registry().register(&mut SourceFd(&socket), LISTENER, Interest::READABLE)?;
         let events = Events::with_capacity(MAX_READY);
         Ok((Poller { poll, events }, Arc::new(waker)))
+    }
+
+    /// Watches the listener.
+    pub fn listen(&self, listener: &Listener) -> io::Result<()> {
+        let socket = listener.as_raw_fd();
+        self.poll.registry().register(&mut SourceFd(&socket), LISTENER, Interest::READABLE)
     }
 
     /// Watches a new connection for reads.

@@ -113,6 +113,16 @@ impl ClientSet {
         ClientSet { bits: self.bits & !ClientSet::default().with(client).bits }
     }
 
+    /// The clients of both sets.
+    pub(crate) fn or(self, other: ClientSet) -> ClientSet {
+        ClientSet { bits: self.bits | other.bits }
+    }
+
+    /// How many clients are in it.
+    pub(crate) fn count(self) -> u32 {
+        self.bits.count_ones()
+    }
+
     /// The clients by number, in ascending order.
     pub fn iter(self) -> impl Iterator<Item = u8> {
         (0..64).filter(move |client| self.has(*client))

@@ -81,7 +81,7 @@ pub enum JoinError {
     /// The server serves another shard than the client takes it for, or by another map. If the
     /// client has one server, it comes as soon as two connections in a row have ended for it.
     OtherShard(OtherShard),
-    /// The system has no thread for the client's connection.
+    /// The system has no thread for the client's connection, or no file for it to wait by.
     NoThread(io::Error),
     /// The client refused to start.
     Refused(Refused),

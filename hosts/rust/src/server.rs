@@ -1,23 +1,18 @@
 //! A server over a network and a store.
 use crate::address::Address;
-use crate::boot_clock::Moment;
-use crate::change::{Change, Snapshot};
+use crate::clocks::Now;
 use crate::code::Code;
-use crate::connections::Connections;
-use crate::event_log::EventLog;
-use crate::event_loop::EventLoop;
-use crate::handle::ServerHandle;
+use crate::event_loop::thread::ServerThread;
 use crate::history::Mark;
 use crate::identity::Identity;
-use crate::leases::LeaseTable;
 use crate::liveness::TimedStore;
 use crate::monitor::Monitor;
+use crate::opening::{Decided, Opened};
 use crate::requests::Requests;
 use crate::room::Room;
-use crate::room_at_start::RoomAtStart;
 use crate::server_builder::{Options, ServerBuilder};
 use crate::shard_bounds::ShardBounds;
-use crate::shard_fence;
+use crate::sockets::Sockets;
 use crate::status::Status;
 use crate::store::{Store, StoreError};
 use crate::stream::Listener;
@@ -130,39 +125,19 @@ impl Server {
         if access.has_users() {
             listener.let_users_connect()?;
         }
-        let snapshot = store.load()?;
-        refuse_other_keys(&snapshot, shard)?;
-        let at_start = RoomAtStart::of(&snapshot, room)?;
-        let room = at_start.room;
-        let (mut server, epoch) =
-            ServerHandle::open(&snapshot, room).map_err(ServeError::Refused)?;
-        let record = snapshot.leases.at_start(leases);
-        let revised = (record != snapshot.leases).then_some(Change::Leased(record));
-        // The epoch, what is known of leases and the room are kept before anything is sent.
-        let changes = [Change::Started { epoch }].into_iter().chain(revised);
-        let changes: Vec<Change> = changes.chain(at_start.change(&snapshot)).collect();
-        store.commit(&changes)?;
-        server.confirm(&changes).map_err(ServeError::Refused)?;
-        // No older server grants anything behind that commit, and the clock is read behind it.
-        let now = Moment::now().map_err(ServeError::Clock)?;
-        let table = LeaseTable::start(record, &snapshot.records, leases, now);
-        let history = store.history()?;
-        let (connections, waker) = Connections::new(listener, max_connections, room, access)?;
+        let timings = Arc::new(Timings::new());
+        let decided = Decided { leases, shard, room, max_connections };
+        let opened = decided.open(&mut store, &address, Arc::clone(&timings), Now::read)?;
+        let Opened { events, epoch, room } = opened;
+        let (sockets, waker) = Sockets::new(listener, max_connections, access)?;
         let (requests, asked) = Requests::new(waker);
         let status = Arc::new(Mutex::new(Status { epoch, room, ..Status::default() }));
         let shown = Arc::clone(&status);
-        let timings = Arc::new(Timings::new());
-        let (rows, records) = (snapshot.rows.len(), &snapshot.records);
-        let log = EventLog::started(epoch, &address, rows, records);
-        EventLog::has_room(&at_start);
         let longest_store_wait = store.longest_wait();
         let store = TimedStore::new(store, Arc::clone(&timings));
-        let (stored, heard) = ((store, history), (connections, asked));
-        let shared = Arc::clone(&timings);
-        let events = EventLoop::new(server, stored, heard, table, shared, epoch, log);
-        let events = events.of_shard(shard).of_table(rows, room);
+        let serving = ServerThread { events, store, sockets, asked };
         let thread = thread::Builder::new().name("krl-server".into());
-        let thread = thread.spawn(move || events.run_to_the_end(&shown))?;
+        let thread = thread.spawn(move || serving.run_to_the_end(&shown))?;
         let thread = Some(thread);
         Ok(Server { address, room, requests, status, timings, longest_store_wait, thread })
     }
@@ -242,13 +217,6 @@ impl Server {
         let Some(thread) = self.thread.take() else { return Ok(()) };
         thread.join().unwrap_or(Err(ServeError::Panicked))
     }
-}
-
-/// Refuses a store with a key that the shard does not have: nobody would find it.
-fn refuse_other_keys(store: &Snapshot, shard: Option<ShardBounds>) -> Result<(), ServeError> {
-    let Some(shard) = shard else { return Ok(()) };
-    let stray = shard_fence::stray_key(store, shard);
-    stray.map_or(Ok(()), |key| Err(ServeError::OtherKey { key, shard }))
 }
 
 impl fmt::Debug for Server {

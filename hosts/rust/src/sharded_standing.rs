@@ -31,14 +31,14 @@ impl ShardedClient {
         let (told, change) = sync_channel(parts.len());
         let watch = |Part { shard, keys }: &Part| {
             let known = rows.iter().filter(|row| keys.contains(&row.key)).copied().collect();
-            let mut jobs = self.client(*shard).link.jobs();
-            (*shard, jobs.watch_and_tell(keys.clone(), known, told.clone()))
+            let watch = |jobs: &mut Jobs| jobs.watch_and_tell(keys.clone(), known, told.clone());
+            (*shard, self.client(*shard).link.with_jobs(watch))
         };
         let watched: Vec<_> = parts.iter().map(watch).collect();
         drop(told);
         let is_known = change.recv_timeout(timeout.min(MAX_WAIT)) == Err(RecvTimeoutError::Timeout);
         for (shard, job) in watched {
-            self.client(shard).link.jobs().abandon(job);
+            self.client(shard).link.with_jobs(|jobs| jobs.abandon(job));
         }
         !is_known
     }

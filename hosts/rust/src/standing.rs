@@ -133,7 +133,7 @@ impl Client {
     ///
     /// `Other` if the client has left; `StoreWentBack` while it joins anew.
     pub fn epoch(&self) -> Result<u64, Refused> {
-        self.link.jobs().epoch().map_err(Code::into)
+        self.link.with_jobs(Jobs::epoch).map_err(Code::into)
     }
 
     /// Does what [`Client::leave`] does, by a client that several threads share: it gives back all

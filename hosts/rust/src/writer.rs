@@ -4,9 +4,6 @@ use std::io::{self, ErrorKind};
 use std::sync::{Mutex, MutexGuard, PoisonError, TryLockError};
 use std::time::{Duration, Instant};
 
-/// How long one attempt to write may take.
-pub(crate) const ATTEMPT: Duration = Duration::from_millis(10);
-
 /// A server that takes nothing for so long loses the connection.
 pub(crate) const STALL: Duration = Duration::from_secs(5);
 
@@ -182,8 +179,7 @@ mod tests {
     /// A writer, and the end of its connection that reads.
     fn pair() -> (Writer, UnixStream) {
         let (ours, theirs) = UnixStream::pair().unwrap();
-        let carrier = Carrier::from(Stream::Unix(ours));
-        carrier.set_timeouts(ATTEMPT, ATTEMPT).unwrap();
+        let carrier = Carrier::over(Stream::Unix(ours), None).unwrap();
         theirs.set_read_timeout(Some(Duration::from_millis(200))).unwrap();
         let writer = Writer::default();
         writer.open(carrier, Vec::new());

@@ -3,28 +3,63 @@ use crate::frames::LONGEST_TO_SERVER;
 use crate::history::Mark;
 use std::io::Write;
 use std::os::unix::net::UnixStream;
-use std::sync::mpsc::channel;
-use std::thread;
 
 const HELLO: FromServer = FromServer::Hello { answers_signs: true };
 
 const SEEN: Seen = Seen { mark: Mark { start: 7, commits: 3 }, first_start: Some(5) };
 
-fn connection() -> (Connection, UnixStream) {
-    let (ours, theirs) = UnixStream::pair().unwrap();
-    theirs.set_nonblocking(true).unwrap();
-    let entry = Entry::Known(Identity::everybody());
-    (Connection::new(Stream::Unix(ours), entry, LONGEST_TO_SERVER, Instant::now()).unwrap(), theirs)
+/// A connection, and its socket.
+struct Wired {
+    connection: Connection,
+    stream: UnixStream,
 }
 
-fn send(connection: &mut Connection, frame: &[u8], seen: Option<Seen>) {
+impl Wired {
+    /// What it has, after it was read if that is due.
+    fn look(&mut self) -> Looked {
+        if !self.connection.has_to_read() {
+            return self.connection.look();
+        }
+        let came = self.connection.fill(&mut self.stream);
+        self.connection.has_read(came, Instant::now())
+    }
+
+    fn write(&mut self) {
+        self.connection.write(&mut self.stream, Instant::now()).unwrap();
+    }
+}
+
+impl std::ops::Deref for Wired {
+    type Target = Connection;
+
+    fn deref(&self) -> &Connection {
+        &self.connection
+    }
+}
+
+impl std::ops::DerefMut for Wired {
+    fn deref_mut(&mut self) -> &mut Connection {
+        &mut self.connection
+    }
+}
+
+fn connection() -> (Wired, UnixStream) {
+    let (stream, theirs) = UnixStream::pair().unwrap();
+    stream.set_nonblocking(true).unwrap();
+    theirs.set_nonblocking(true).unwrap();
+    let entry = Entry::Known(Identity::everybody());
+    let connection = Connection::new(entry, LONGEST_TO_SERVER, Instant::now());
+    (Wired { connection, stream }, theirs)
+}
+
+fn send(connection: &mut Wired, frame: &[u8], seen: Option<Seen>) {
     connection.say(frame, seen);
     connection.end_batch(seen);
-    connection.write(Instant::now()).unwrap();
+    connection.write();
 }
 
 /// All that the peer hears until nothing waits.
-fn heard(connection: &mut Connection, peer: &mut UnixStream) -> Vec<u8> {
+fn heard(connection: &mut Wired, peer: &mut UnixStream) -> Vec<u8> {
     let (mut bytes, mut all) = (vec![0; 1 << 16], Vec::new());
     loop {
         while let Ok(count @ 1..) = peer.read(&mut bytes) {
@@ -33,7 +68,7 @@ fn heard(connection: &mut Connection, peer: &mut UnixStream) -> Vec<u8> {
         if connection.watched() == Watched::Reads {
             return all;
         }
-        connection.write(Instant::now()).unwrap();
+        connection.write();
     }
 }
 
@@ -98,41 +133,18 @@ fn a_refusal_is_told_once_a_second() {
     assert_eq!(heard(&mut connection, &mut peer), once);
 }
 
-/// Whether a call ends, however busy the machine is.
-fn ends(call: impl FnOnce() + Send + 'static) -> bool {
-    let (told, ended) = channel();
-    thread::spawn(move || {
-        call();
-        told.send(())
-    });
-    ended.recv_timeout(Duration::from_secs(30)).is_ok()
-}
-
-#[test]
-fn nothing_that_is_done_with_a_connection_waits_for_its_peer() {
-    let (mut connection, peer) = connection();
-    let all = Readiness { reads: true, is_last: false, writes: true };
-    assert!(ends(move || {
-        connection.is_readable(all);
-        assert_eq!(connection.look(Instant::now()), Looked::NoFrame);
-        send(&mut connection, &vec![7; 1 << 24], None);
-        assert_ne!(connection.waits(), 0);
-    }));
-    drop(peer);
-}
-
 #[test]
 fn a_short_read_is_the_last_unless_the_end_was_told() {
     let told = |is_last| Readiness { reads: true, is_last, writes: false };
     let (mut connection, mut peer) = connection();
     peer.write_all(&[3, 0]).unwrap();
     connection.is_readable(told(false));
-    assert_eq!(connection.look(Instant::now()), Looked::NoFrame);
+    assert_eq!(connection.look(), Looked::NoFrame);
     assert!(!connection.is_ready());
     peer.write_all(&[0]).unwrap();
     drop(peer);
     connection.is_readable(told(true));
-    assert_eq!(connection.look(Instant::now()), Looked::NoFrame);
+    assert_eq!(connection.look(), Looked::NoFrame);
     assert!(connection.is_ready());
-    assert_eq!(connection.look(Instant::now()), Looked::Ended);
+    assert_eq!(connection.look(), Looked::Ended);
 }

@@ -1,38 +1,38 @@
 //! Connections that come: who is at the other end, and who goes for one more.
 use super::closing::{At, CloseReason};
 use super::{Connections, Peer};
+use crate::access::Entry;
+use crate::connection::Connection;
 use crate::event_log;
 use crate::identity::Identity;
-use crate::stream::Accepted;
+use crate::stream::PeerAddress;
 
 impl Connections {
-    /// Takes a new connection, if there is room for it, or a stranger that goes.
-    pub(super) fn enter(&mut self, accepted: Accepted) {
-        if self.listening.is_full(self.open.len()) {
-            let Some(stranger) = self.strangers.oldest() else {
-                self.closings.counts.count(CloseReason::Full);
-                self.listening.turn_away(accepted, self.open.len());
-                return;
-            };
-            self.close(stranger, CloseReason::StrangerCrowded);
+    /// Whether there is room for one more connection. The oldest stranger makes room, if there is
+    /// one.
+    pub fn make_room(&mut self) -> bool {
+        if self.open.len() < self.most {
+            return true;
         }
-        self.open(accepted);
+        let Some(stranger) = self.strangers.oldest() else {
+            self.closings.counts.count(CloseReason::Full);
+            return false;
+        };
+        self.close(stranger, CloseReason::StrangerCrowded);
+        true
     }
 
-    fn open(&mut self, accepted: Accepted) {
-        let (number, address) = (self.next, accepted.peer);
+    /// Takes a new connection, and answers its number.
+    pub fn enter(&mut self, entry: Entry, address: PeerAddress) -> u64 {
+        let (number, now) = (self.next, self.now.monotonic);
         self.next += 1;
-        let now = self.now.monotonic;
-        match Peer::new(accepted, number, &self.poller, &self.access, self.longest, now) {
-            Ok(peer) => {
-                event_log::opened(&At { connection: number, peer: address });
-                self.open.insert(number, peer);
-                let gone = self.strangers.comes(number, address.machine(), now);
-                self.close_one(gone, CloseReason::StrangerCrowded);
-            }
-            // The system has no room for it: it is closed.
-            Err(error) => self.listening.not_taken(&error),
-        }
+        event_log::opened(&At { connection: number, peer: address });
+        let connection = Connection::new(entry, self.longest, now);
+        let peer = Peer { connection, address, is_in_ready: false, is_in_sending: false };
+        self.open.insert(number, peer);
+        let gone = self.strangers.comes(number, address.machine(), now);
+        self.close_one(gone, CloseReason::StrangerCrowded);
+        number
     }
 
     /// Sees whether a stranger has said whose it is. If its identity has too many connections,

@@ -1,10 +1,15 @@
 use super::*;
+use crate::access::Access;
 use crate::room::Room;
+use crate::sockets::Sockets;
 use crate::strangers::PATIENCE;
+use mio::Waker;
 use std::io::{Read, Write};
 use std::net::{SocketAddr, TcpListener, TcpStream};
+use std::sync::Arc;
 use std::sync::mpsc::channel;
 use std::thread;
+use std::time::{Duration, Instant};
 
 const HELLO: FromServer = FromServer::Hello { answers_signs: true };
 
@@ -16,16 +21,66 @@ const LONG: Duration = Duration::from_secs(31);
 /// Longer than a peer may take nothing.
 const STALL: Duration = Duration::from_secs(6);
 
-fn connections() -> (Connections, SocketAddr, Arc<Waker>) {
+/// Connections, and their sockets.
+struct Rig {
+    connections: Connections,
+    sockets: Sockets,
+}
+
+impl Rig {
+    fn wait(&mut self, longest: Duration) -> io::Result<Now> {
+        self.sockets.wait(&mut self.connections, longest)
+    }
+
+    /// What the next connection has, which is read if that is due.
+    fn turn(&mut self) -> Turn {
+        let turn = match self.connections.turn() {
+            Turn::Read(number) => self.sockets.read(&mut self.connections, number),
+            turn => turn,
+        };
+        self.settle();
+        turn
+    }
+
+    fn settle(&mut self) {
+        self.sockets.settle(&mut self.connections);
+    }
+
+    /// Sends a batch with what was told, and nothing else.
+    fn flush(&mut self) {
+        self.connections.send(None).end();
+        self.settle();
+    }
+
+    fn finish(mut self, until: Instant) {
+        self.sockets.finish(&mut self.connections, until);
+    }
+}
+
+impl std::ops::Deref for Rig {
+    type Target = Connections;
+
+    fn deref(&self) -> &Connections {
+        &self.connections
+    }
+}
+
+impl std::ops::DerefMut for Rig {
+    fn deref_mut(&mut self) -> &mut Connections {
+        &mut self.connections
+    }
+}
+
+fn connections() -> (Rig, SocketAddr, Arc<Waker>) {
     let listener = TcpListener::bind("127.0.0.1:0").unwrap();
     let at = listener.local_addr().unwrap();
-    let (connections, waker) =
-        Connections::new(listener.into(), MAX_CONNECTIONS, Room::default(), Access::new()).unwrap();
-    (connections, at, waker)
+    let (sockets, waker) = Sockets::new(listener.into(), MAX_CONNECTIONS, Access::new()).unwrap();
+    let connections = Connections::new(MAX_CONNECTIONS, Room::default(), Now::read());
+    (Rig { connections, sockets }, at, waker)
 }
 
 /// One more peer, and the number of its connection.
-fn peer(connections: &mut Connections, at: SocketAddr) -> (TcpStream, u64) {
+fn peer(connections: &mut Rig, at: SocketAddr) -> (TcpStream, u64) {
     let stream = TcpStream::connect(at).unwrap();
     stream.set_read_timeout(Some(SOON)).unwrap();
     let number = connections.next;
@@ -40,12 +95,12 @@ fn frame(message: &[u8]) -> Vec<u8> {
 }
 
 /// The next frame that is heard, if one comes within a moment.
-fn hear(connections: &mut Connections) -> Option<(u64, Vec<u8>)> {
+fn hear(connections: &mut Rig) -> Option<(u64, Vec<u8>)> {
     let end = Instant::now() + Duration::from_millis(300);
     while Instant::now() < end {
         match connections.turn() {
             Turn::Nobody => drop(connections.wait(Duration::from_millis(20)).unwrap()),
-            Turn::Nothing => {}
+            Turn::Nothing | Turn::Read(_) => {}
             Turn::Long(number, _) => connections.admit_long(number, 3),
             Turn::Frame(number, mut incoming) => {
                 let heard = incoming.next().unwrap().unwrap().to_vec();
@@ -58,24 +113,25 @@ fn hear(connections: &mut Connections) -> Option<(u64, Vec<u8>)> {
 }
 
 /// How many were closed for this reason.
-fn closed(connections: &Connections, reason: &str) -> u64 {
+fn closed(connections: &Rig, reason: &str) -> u64 {
     let mut counts = connections.closed().counts();
     counts.find_map(|(word, count)| (word == reason).then_some(count)).unwrap()
 }
 
 /// Sends a batch of one frame to client 3.
-fn say(connections: &mut Connections, frame: &[u8]) {
+fn say(connections: &mut Rig, frame: &[u8]) {
     let mut sending = connections.send(None);
     sending.put(3, frame);
     sending.end();
+    connections.settle();
 }
 
-fn unwritten(connections: &Connections, number: u64) -> bool {
+fn unwritten(connections: &Rig, number: u64) -> bool {
     connections.open[&number].connection.watched() != Watched::Reads
 }
 
 /// Says so much to client 3 that its peer, which reads nothing, takes no more.
-fn stuff(connections: &mut Connections, number: u64) {
+fn stuff(connections: &mut Rig, number: u64) {
     let bytes = frame(&vec![7; 1 << 20]);
     connections.route(3, number);
     while !unwritten(connections, number) {
@@ -137,7 +193,7 @@ fn a_frame_longer_than_a_read_is_heard() {
 fn a_client_has_one_long_frame_on_its_way() {
     let (mut connections, at, _) = connections();
     let half = [&(1u64 << 20).to_le_bytes()[..], &[1; 100]].concat();
-    let begin = |connections: &mut Connections| {
+    let begin = |connections: &mut Rig| {
         let (mut stream, number) = peer(connections, at);
         stream.write_all(&half).unwrap();
         loop {
@@ -145,6 +201,7 @@ fn a_client_has_one_long_frame_on_its_way() {
                 Turn::Long(found, head) => {
                     assert_eq!((found, head), (number, [1; HEAD]));
                     connections.admit_long(number, 3);
+                    connections.settle();
                     return (stream, number);
                 }
                 _ => drop(connections.wait(SOON).unwrap()),
@@ -227,6 +284,7 @@ fn a_peer_that_takes_nothing_stops_nobody_and_costs_a_bounded_room() {
     let mut sending = connections.send(None);
     sending.put(4, &frame(b"one"));
     sending.end();
+    connections.settle();
     let mut heard = [0; 11];
     stream.read_exact(&mut heard).unwrap();
     assert_eq!(heard[..], frame(b"one"));
@@ -237,7 +295,24 @@ fn a_peer_that_takes_nothing_stops_nobody_and_costs_a_bounded_room() {
     // After its time it is closed, and the other one is not.
     connections.now = Now::read().after(STALL);
     connections.close_dead();
+    connections.settle();
     assert_eq!((connections.count(), connections.open.contains_key(&other)), (1, true));
+}
+
+#[test]
+fn nothing_that_is_done_with_a_connection_waits_for_its_peer() {
+    let (mut connections, at, _) = connections();
+    let (peer, number) = peer(&mut connections, at);
+    let (told, ended) = channel();
+    thread::spawn(move || {
+        connections.is_ready(number, Readiness { reads: true, is_last: false, writes: true });
+        assert!(matches!(connections.turn(), Turn::Nothing));
+        stuff(&mut connections, number);
+        told.send(())
+    });
+    // However busy the machine is.
+    assert!(ended.recv_timeout(Duration::from_secs(30)).is_ok());
+    drop(peer);
 }
 
 #[test]
@@ -253,7 +328,7 @@ fn a_peer_that_was_stuck_gets_what_waited_when_it_reads() {
         connections.wait(SOON).unwrap();
     }
     connections.end(number, CloseReason::BadMessage);
-    connections.send(None).end();
+    connections.flush();
     assert_eq!(connections.count(), 0);
     assert_eq!(reads.join().unwrap().unwrap() % (8 + (1 << 20)), 0);
 }
@@ -266,9 +341,11 @@ fn a_silent_peer_is_closed_in_its_time() {
     assert!(hear(&mut connections).is_some());
     connections.now = Now::read().after(LONG / 2);
     connections.close_dead();
+    connections.settle();
     assert_eq!(connections.count(), 1);
     connections.now = Now::read().after(LONG);
     connections.close_dead();
+    connections.settle();
     assert_eq!(connections.count(), 0);
 }
 
@@ -279,9 +356,11 @@ fn one_that_has_said_no_whole_frame_is_closed_in_a_shorter_time() {
     stranger.write_all(&frame(b"half")[..10]).unwrap();
     assert_eq!(hear(&mut connections), None);
     connections.close_dead();
+    connections.settle();
     assert_eq!(connections.count(), 1);
     connections.now = Now::read().after(PATIENCE);
     connections.close_dead();
+    connections.settle();
     assert_eq!(connections.count(), 0);
     assert_eq!(closed(&connections, "stranger_late"), 1);
 }
@@ -310,7 +389,7 @@ fn a_connection_that_ends_gets_its_last_frames_and_is_heard_no_more() {
     connections.tell(number, &frame(b"last"));
     connections.end(number, CloseReason::BadMessage);
     assert_eq!(hear(&mut connections), None);
-    connections.send(None).end();
+    connections.flush();
     let mut bytes = Vec::new();
     stream.read_to_end(&mut bytes).unwrap();
     assert_eq!((bytes, connections.count()), (frame(b"last"), 0));
@@ -327,7 +406,7 @@ fn what_is_told_leaves_with_the_next_batch_and_not_before() {
     assert!(hear(&mut connections).is_some());
     stream.set_nonblocking(true).unwrap();
     assert!(stream.peek(&mut [0]).is_err());
-    connections.send(None).end();
+    connections.flush();
     stream.set_nonblocking(false).unwrap();
     let hello = HELLO.frame();
     let mut heard = vec![0; hello.len()];

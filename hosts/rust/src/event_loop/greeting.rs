@@ -8,24 +8,23 @@ use crate::host_frame::FromServer;
 use crate::identity::Identity;
 use crate::refusal::Refusal;
 use crate::server::ServeError;
-use crate::store::Store;
 
-impl<S: Store> EventLoop<S> {
+/// A connection whose client has seen what the store lacks: so the store is an older copy, or another
+/// server has it.
+#[derive(Clone, Copy, Debug, PartialEq, Eq)]
+pub(super) struct Doubt {
+    connection: u64,
+    lacked: Mark,
+}
+
+impl EventLoop {
     /// Answers the Hello of a client's host, which has seen so much of a store.
-    pub(super) fn greet(
-        &mut self,
-        connection: u64,
-        seen: Option<Seen>,
-        now: Now,
-    ) -> Result<(), ServeError> {
+    pub(super) fn greet(&mut self, connection: u64, seen: Option<Seen>) {
         match seen.map(|seen| (seen.mark, self.compare_store(seen))) {
             None | Some((_, Comparison::HasAll)) => self.greet_back(connection),
             Some((_, Comparison::OtherStore)) => self.refuse_other_store(connection),
-            Some((lacked, Comparison::Lacks)) => {
-                return self.alarm_older_store(connection, lacked, now);
-            }
+            Some((lacked, Comparison::Lacks)) => self.doubt(connection, lacked),
         }
-        Ok(())
     }
 
     fn greet_back(&mut self, connection: u64) {
@@ -41,30 +40,26 @@ impl<S: Store> EventLoop<S> {
         self.connections.end(connection, CloseReason::OtherStore);
     }
 
-    /// The store is an older copy. People learn of it too, and nothing more is heard of the
-    /// connection: its client knows what is not so, and what it sends is lost as if it had crashed.
-    /// Then the server ends, unless a stranger may have said so.
-    fn alarm_older_store(
-        &mut self,
-        connection: u64,
-        lacked: Mark,
-        now: Now,
-    ) -> Result<(), ServeError> {
-        // A server behind which another one has started lacks it too, and ends here. The store is
-        // asked once in a turn, however many say so.
-        if !self.has_asked_store {
-            self.store.commit(&[])?;
-            self.has_asked_store = true;
-        }
+    /// The store lacks what the client has seen, and is asked whether it is still this server's: a
+    /// server after which another one has started lacks it too, and ends then. It is asked once in a
+    /// turn, however many clients report it. Nothing more is heard of the connection: its client
+    /// knows what is not so, and what it sends is lost as if it had crashed.
+    fn doubt(&mut self, connection: u64, lacked: Mark) {
+        self.doubts.push(Doubt { connection, lacked });
+        self.connections.end(connection, CloseReason::OlderStore);
+    }
+
+    /// The store is this server's, and an older copy. People are told too. Then the server ends,
+    /// unless a stranger may have said so.
+    pub(super) fn alarm_older_store(&mut self, doubt: &Doubt, now: Now) {
+        let Doubt { connection, lacked } = *doubt;
         self.status.store_alarms += 1;
         self.log.store_alarm(&self.connections.at(connection), lacked);
         let identity = self.connections.identity(connection);
         self.connections.greet(connection, FromServer::WentBack);
-        self.connections.end(connection, CloseReason::OlderStore);
         if ends_by_the_word_of(&identity) {
             self.end_in_order(ServeError::OlderStore { identity, seen: lacked }, now);
         }
-        Ok(())
     }
 
     /// What the store is to a client that has seen so much. One without a history has told nobody a

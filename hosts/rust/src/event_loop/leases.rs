@@ -9,9 +9,8 @@ use crate::lease::Sign;
 use crate::message::{self, Head, Kind};
 use crate::refusal::Refusal;
 use crate::server::ServeError;
-use crate::store::Store;
 
-impl<S: Store> EventLoop<S> {
+impl EventLoop {
     /// Takes a sign, which has come by now. The answer leaves with the batch of this turn, so after its
     /// commit. The host of an incarnation that has ended learns why.
     pub(super) fn hear_sign(
@@ -71,48 +70,34 @@ impl<S: Store> EventLoop<S> {
     ///
     /// What is stored of leases comes before the registration that rests on it: after an error a
     /// first part of the changes may be kept.
-    pub(super) fn keep(
-        &mut self,
-        change: Change,
-        now: Now,
-        changes: &mut Vec<Change>,
-    ) -> Result<(), ServeError> {
+    pub(super) fn keep(&mut self, change: Change, now: Now) -> Result<(), ServeError> {
         match change {
             Change::Registered { client, incarnation } => {
                 let before = self.leases.record();
                 let record = self.leases.register(client, incarnation, boot(now)?);
                 if record != before {
-                    changes.push(Change::Leased(record));
+                    self.changes.push(Change::Leased(record));
                 }
             }
             Change::Left { client } => self.leases.leave(client),
             _ => {}
         }
-        changes.push(change);
+        self.changes.push(change);
         Ok(())
     }
 
     /// Evicts each client whose lease has ended, and stores less of leases if less is enough now.
-    pub(super) fn evict_silent(
-        &mut self,
-        now: Now,
-        changes: &mut Vec<Change>,
-    ) -> Result<(), ServeError> {
+    pub(super) fn evict_silent(&mut self, now: Now) -> Result<(), ServeError> {
         for (client, incarnation) in self.leases.to_evict(boot(now)?) {
-            self.evict(client, incarnation, now, changes)?;
+            self.evict(client, incarnation, now)?;
         }
-        changes.extend(self.leases.revise(boot(now)?).map(Change::Leased));
+        let revised = self.leases.revise(boot(now)?);
+        self.changes.extend(revised.map(Change::Leased));
         Ok(())
     }
 
     /// Gives the library what an operator would say: a Hello of the next incarnation, and its Bye.
-    fn evict(
-        &mut self,
-        client: u8,
-        incarnation: u64,
-        now: Now,
-        changes: &mut Vec<Change>,
-    ) -> Result<(), ServeError> {
+    fn evict(&mut self, client: u8, incarnation: u64, now: Now) -> Result<(), ServeError> {
         let Some(successor) = incarnation.checked_add(1) else { return Ok(()) };
         self.leases.evict(client, successor);
         self.log.evicts(client, successor);
@@ -121,7 +106,7 @@ impl<S: Store> EventLoop<S> {
                 Ok(None) => {}
                 Ok(Some(change)) => {
                     self.status.evicted += u64::from(matches!(change, Change::Left { .. }));
-                    self.keep(change, now, changes)?;
+                    self.keep(change, now)?;
                 }
                 // A later nudge comes back to it. There is none greater than the greatest
                 // incarnation, which a stranger may take: it can't be evicted.

@@ -8,9 +8,8 @@ use crate::incoming::Incoming;
 use crate::message::Message;
 use crate::routing::{Sender, sender};
 use crate::server::ServeError;
-use crate::store::Store;
 
-impl<S: Store> EventLoop<S> {
+impl EventLoop {
     /// A connection begins a frame that is long, with this head. Only the report of a registered
     /// client may be so: any other connection ends, before more than the head is kept, and its host
     /// is told why, if that is known.

@@ -3,16 +3,10 @@ use super::EventLoop;
 use crate::change::Change;
 use crate::clocks::Now;
 use crate::locks::{HeldSlot, Page, Search};
-use crate::store::Store;
 
-impl<S: Store> EventLoop<S> {
+impl EventLoop {
     /// Who holds and who waits: a page of what is searched, or less if it is late.
-    pub(super) fn look_up(
-        &mut self,
-        mut search: Search,
-        now: Now,
-        is_late: impl FnMut() -> bool,
-    ) -> Page {
+    pub fn look_up(&mut self, mut search: Search, now: Now, is_late: impl FnMut() -> bool) -> Page {
         self.look_at_waits(now);
         let held = search.page(|client, from| self.next_held(client, from), is_late);
         Page { held, waits: self.status.waits.clone(), rest: search }
@@ -35,7 +29,7 @@ impl<S: Store> EventLoop<S> {
 
     /// Counts how much one of the clients holds of which that may have changed. It answers whether
     /// there was one.
-    pub(super) fn count_next(&mut self) -> bool {
+    pub fn count_next(&mut self) -> bool {
         let Some(client) = self.watch.next_to_count() else { return false };
         if let Ok(slots) = self.server.held(client) {
             self.watch.counted(client, slots);

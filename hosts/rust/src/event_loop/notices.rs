@@ -5,9 +5,8 @@ use crate::host_frame::{FromClient, FromServer};
 use crate::incoming::Incoming;
 use crate::message::Message;
 use crate::refusal::Refusal;
-use crate::store::Store;
 
-impl<S: Store> EventLoop<S> {
+impl EventLoop {
     /// Ends a connection that has said what its identity may not say. Nobody but people and the
     /// peer's host hear of it: the library does not.
     pub(super) fn deny(&mut self, connection: u64, frame: &Incoming<'_>) {

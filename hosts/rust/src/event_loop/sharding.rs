@@ -6,11 +6,10 @@ use crate::incoming::Incoming;
 use crate::refusal::Refusal;
 use crate::shard_bounds::ShardBounds;
 use crate::shard_fence::{self, OtherShard};
-use crate::store::Store;
 
-impl<S: Store> EventLoop<S> {
+impl EventLoop {
     /// The same server, of this shard.
-    pub fn of_shard(mut self, shard: Option<ShardBounds>) -> EventLoop<S> {
+    pub fn of_shard(mut self, shard: Option<ShardBounds>) -> EventLoop {
         self.shard = shard;
         self
     }

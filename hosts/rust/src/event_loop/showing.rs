@@ -3,13 +3,12 @@ use super::{EventLoop, SHOWN_FOR};
 use crate::change::Change;
 use crate::room::Room;
 use crate::status::Status;
-use crate::store::Store;
 use std::sync::{Mutex, PoisonError};
 use std::time::Duration;
 
-impl<S: Store> EventLoop<S> {
+impl EventLoop {
     /// From now on it shows how many rows the table has, and for how many there is room.
-    pub(crate) fn of_table(mut self, rows: usize, room: Room) -> EventLoop<S> {
+    pub(crate) fn of_table(mut self, rows: usize, room: Room) -> EventLoop {
         self.status.rows = rows as u64;
         self.status.room = room;
         self
@@ -25,7 +24,7 @@ impl<S: Store> EventLoop<S> {
 
     /// Sees whether the server serves, and until it does, whose reports are missing. One that
     /// serves goes on to serve. It answers whether that may be news.
-    pub(super) fn see_phase(&mut self) -> bool {
+    pub fn see_phase(&mut self) -> bool {
         if self.status.is_serving {
             return false;
         }
@@ -38,7 +37,7 @@ impl<S: Store> EventLoop<S> {
         true
     }
 
-    pub(super) fn show_if_due(&mut self, is_news: bool, shown: &Mutex<Status>) {
+    pub fn show_if_due(&mut self, is_news: bool, shown: &Mutex<Status>) {
         let age = self.turned.saturating_duration_since(self.shown);
         self.is_stale = !is_news && age < SHOWN_FOR;
         if !self.is_stale {
@@ -47,7 +46,7 @@ impl<S: Store> EventLoop<S> {
         }
     }
 
-    pub(super) fn show(&mut self, shown: &Mutex<Status>) {
+    pub fn show(&mut self, shown: &Mutex<Status>) {
         self.status.connected = self.connections.clients();
         self.status.connections = self.connections.count() as u64;
         self.status.closed.clone_from(self.connections.closed());

@@ -1,3 +1,4 @@
+use super::thread::{MAX_AT_ONCE, ServerThread};
 use super::*;
 use crate::access::Access;
 use crate::address::Address;
@@ -10,9 +11,11 @@ use crate::leases::{Answer, Leases};
 use crate::refusal::ClientSet;
 use crate::requests::Requests;
 use crate::room::Room;
-use crate::store::{MemoryStore, StoreError};
+use crate::sockets::Sockets;
+use crate::store::{MemoryStore, Store, StoreError};
 use std::io::{Read, Write};
 use std::net::{TcpListener, TcpStream};
+use std::sync::Mutex;
 use std::sync::atomic::{AtomicBool, Ordering};
 
 /// A Hello of client 50, incarnation 1, in its frame.
@@ -58,7 +61,7 @@ impl Store for Watching {
 }
 
 /// A loop, its peer, and how much the peer had heard at each commit.
-fn event_loop() -> (EventLoop<Watching>, TcpStream, Arc<Mutex<Vec<usize>>>) {
+fn event_loop() -> (ServerThread<Watching>, TcpStream, Arc<Mutex<Vec<usize>>>) {
     let listener = TcpListener::bind("127.0.0.1:0").unwrap();
     let peer = TcpStream::connect(listener.local_addr().unwrap()).unwrap();
     peer.set_nonblocking(true).unwrap();
@@ -70,25 +73,24 @@ fn event_loop() -> (EventLoop<Watching>, TcpStream, Arc<Mutex<Vec<usize>>>) {
     let (batches, is_deposed) = Default::default();
     let (own, shared) = (peer.try_clone().unwrap(), Arc::clone(&heard));
     let store = Watching { store, peer: own, heard: shared, batches, is_deposed };
-    let (connections, waker) =
-        Connections::new(listener.into(), 4, Room::default(), Access::new()).unwrap();
+    let (sockets, waker) = Sockets::new(listener.into(), 4, Access::new()).unwrap();
+    let connections = Connections::new(4, Room::default(), Now::read());
     let (_, asked) = Requests::new(waker);
     let log = EventLog::started(epoch, &Address::Unix("nowhere".into()), 0, &[]);
-    let (stored, heard_of) = ((store, None), (connections, asked));
     let now = Moment::now().unwrap();
     let terms = Leases::of(Duration::from_millis(LEASE)).unwrap().with_drift(0).unwrap();
     let leases = LeaseTable::start(KEPT, &[], Some(terms), now);
     let timings = Arc::new(Timings::new());
-    let events = EventLoop::new(server, stored, heard_of, leases, timings, epoch, log);
-    (events, peer, heard)
+    let events = EventLoop::new(server, None, connections, leases, timings, epoch, log);
+    (ServerThread { events, store, sockets, asked }, peer, heard)
 }
 
 #[test]
 fn nothing_leaves_before_the_commit() {
-    let (mut events, mut peer, heard) = event_loop();
+    let (mut serving, mut peer, heard) = event_loop();
     peer.write_all(&HELLO).unwrap();
     while heard.lock().unwrap().is_empty() {
-        assert!(events.turn().unwrap());
+        assert!(serving.turn().unwrap());
     }
     assert_eq!(heard.lock().unwrap()[..], [0]);
     assert!(peer.read(&mut [0; 64]).unwrap() > 0, "it leaves in the same turn");
@@ -96,27 +98,27 @@ fn nothing_leaves_before_the_commit() {
 
 #[test]
 fn a_client_that_speaks_is_not_replaced_by_one_that_says_no_sign() {
-    let (mut events, mut peer, _) = event_loop();
+    let (mut serving, mut peer, _) = event_loop();
     peer.write_all(&HELLO).unwrap();
-    while events.status.taken == 0 {
-        assert!(events.turn().unwrap());
+    while serving.events.status.taken == 0 {
+        assert!(serving.turn().unwrap());
     }
     let other_connection = u64::MAX;
     let hello = [&HELLO[8..18], &2u64.to_le_bytes()].concat();
     let head = Message::read(&hello).head();
-    let now = events.connections.now();
-    assert!(!events.hears(other_connection, head, now).unwrap());
-    drop(peer);
-    while !events.connections.clients().is_empty() {
-        assert!(events.turn().unwrap());
+    let now = serving.events.connections.now();
+    assert!(!serving.events.hears(other_connection, head, now).unwrap());
+    peer.shutdown(std::net::Shutdown::Both).unwrap();
+    while !serving.events.connections.clients().is_empty() {
+        assert!(serving.turn().unwrap());
     }
-    let now = events.connections.now();
-    assert!(events.hears(other_connection, head, now).unwrap(), "its connection has ended");
+    let now = serving.events.connections.now();
+    assert!(serving.events.hears(other_connection, head, now).unwrap(), "its connection has ended");
 }
 
 #[test]
 fn a_turn_asks_the_store_once_for_all_who_have_seen_another_one() {
-    let (mut events, peer, heard) = event_loop();
+    let (mut serving, peer, heard) = event_loop();
     let at = peer.peer_addr().unwrap();
     let others = (0..2).map(|_| TcpStream::connect(at).unwrap());
     let mut peers: Vec<TcpStream> = others.chain([peer]).collect();
@@ -125,8 +127,8 @@ fn a_turn_asks_the_store_once_for_all_who_have_seen_another_one() {
     for peer in &mut peers {
         peer.write_all(&hello).unwrap();
     }
-    while events.status.store_alarms < 3 {
-        assert!(events.turn().unwrap());
+    while serving.events.status.store_alarms < 3 {
+        assert!(serving.turn().unwrap());
     }
     // It may have been asked once more, as it is each second.
     assert!((1..=2).contains(&heard.lock().unwrap().len()));
@@ -134,12 +136,12 @@ fn a_turn_asks_the_store_once_for_all_who_have_seen_another_one() {
 
 #[test]
 fn a_turn_judges_a_bounded_number_of_messages() {
-    let (mut events, mut peer, _) = event_loop();
+    let (mut serving, mut peer, _) = event_loop();
     peer.write_all(&HELLO.repeat(1000)).unwrap();
     let mut taken = 0;
     while taken < 1000 {
-        assert!(events.turn().unwrap());
-        let more = events.status.taken - taken;
+        assert!(serving.turn().unwrap());
+        let more = serving.events.status.taken - taken;
         assert!(more <= MAX_AT_ONCE as u64, "{more} messages in a turn");
         taken += more;
     }
@@ -147,32 +149,32 @@ fn a_turn_judges_a_bounded_number_of_messages() {
 
 #[test]
 fn a_loop_that_was_busy_shows_itself_and_sleeps() {
-    let (mut events, mut peer, _) = event_loop();
+    let (mut serving, mut peer, _) = event_loop();
     let shown = Mutex::new(Status::default());
     peer.write_all(&HELLO.repeat(2)).unwrap();
     let mut turns = 0;
     while shown.lock().unwrap().taken < 2 {
-        assert!(events.turn().unwrap());
-        events.show_if_due(false, &shown);
+        assert!(serving.turn().unwrap());
+        serving.events.show_if_due(false, &shown);
         turns += 1;
         assert!(turns < 20, "a status that is not shown is shown when it is due");
     }
-    assert!(!events.is_stale);
-    assert_eq!(events.longest_wait(), NUDGE);
+    assert!(!serving.events.is_stale);
+    assert_eq!(serving.events.longest_wait(), NUDGE);
 }
 
 #[test]
 fn a_server_that_begins_to_serve_says_so_at_once() {
-    let (mut events, mut peer, _) = event_loop();
+    let (mut serving, mut peer, _) = event_loop();
     let shown = Mutex::new(Status::default());
     // The status was shown a moment ago.
-    events.shown = Instant::now() + Duration::from_secs(60);
+    serving.events.shown = Instant::now() + Duration::from_secs(60);
     peer.write_all(&HELLO).unwrap();
-    assert!(events.turn().unwrap());
-    let is_news = events.see_phase();
-    events.show_if_due(is_news, &shown);
+    assert!(serving.turn().unwrap());
+    let is_news = serving.events.see_phase();
+    serving.events.show_if_due(is_news, &shown);
     assert!(shown.lock().unwrap().is_serving);
-    assert!(!events.see_phase(), "it is told once");
+    assert!(!serving.events.see_phase(), "it is told once");
 }
 
 /// The first sign of an incarnation of client 50, in its frame.
@@ -187,19 +189,19 @@ fn sign() -> Vec<u8> {
 }
 
 /// Takes turns until the store was asked so often.
-fn turns_until(events: &mut EventLoop<Watching>, asked: usize) -> Result<(), ServeError> {
-    let heard = Arc::clone(&events.store.heard);
+fn turns_until(serving: &mut ServerThread<Watching>, asked: usize) -> Result<(), ServeError> {
+    let heard = Arc::clone(&serving.store.heard);
     while heard.lock().unwrap().len() < asked {
-        events.turn()?;
+        serving.turn()?;
     }
     Ok(())
 }
 
 #[test]
 fn terms_leave_when_the_store_was_asked() {
-    let (mut events, mut peer, heard) = event_loop();
+    let (mut serving, mut peer, heard) = event_loop();
     peer.write_all(&sign()).unwrap();
-    turns_until(&mut events, 1).unwrap();
+    turns_until(&mut serving, 1).unwrap();
     assert_eq!(heard.lock().unwrap()[..], [0]);
     let mut told = [0; 64];
     let length = peer.read(&mut told).unwrap();
@@ -209,45 +211,45 @@ fn terms_leave_when_the_store_was_asked() {
 
 #[test]
 fn a_server_behind_which_another_one_started_grants_nothing() {
-    let (mut events, mut peer, _) = event_loop();
-    events.store.is_deposed.store(true, Ordering::SeqCst);
+    let (mut serving, mut peer, _) = event_loop();
+    serving.store.is_deposed.store(true, Ordering::SeqCst);
     peer.write_all(&sign()).unwrap();
-    let ended = turns_until(&mut events, 2).unwrap_err();
+    let ended = turns_until(&mut serving, 2).unwrap_err();
     assert!(matches!(ended, ServeError::Store(StoreError::Deposed(_))), "{ended}");
     assert!(peer.peek(&mut [0; 64]).is_err(), "nothing was told");
 }
 
 #[test]
 fn what_is_stored_of_leases_comes_before_the_registration() {
-    let (mut events, mut peer, _) = event_loop();
+    let (mut serving, mut peer, _) = event_loop();
     // A host that has said no sign.
     peer.write_all(&HELLO).unwrap();
-    turns_until(&mut events, 1).unwrap();
+    turns_until(&mut serving, 1).unwrap();
     let unleased = LeaseRecord { unleased: [50].into_iter().collect(), ..KEPT };
     let registered = Change::Registered { client: 50, incarnation: 1 };
-    let batches = events.store.batches.lock().unwrap().clone();
+    let batches = serving.store.batches.lock().unwrap().clone();
     assert_eq!(batches, [vec![Change::Leased(unleased), registered]]);
 }
 
 #[test]
 fn an_eviction_is_committed_with_its_turn() {
-    let (mut events, mut peer, _) = event_loop();
+    let (mut serving, mut peer, _) = event_loop();
     peer.write_all(&[sign(), HELLO.to_vec()].concat()).unwrap();
-    turns_until(&mut events, 1).unwrap();
+    turns_until(&mut serving, 1).unwrap();
     let begun = Instant::now();
-    while events.status.evicted == 0 {
-        events.turn().unwrap();
+    while serving.events.status.evicted == 0 {
+        serving.turn().unwrap();
     }
     assert!(begun.elapsed() >= Duration::from_millis(LEASE - 50), "{:?}", begun.elapsed());
-    let batches = events.store.batches.lock().unwrap().clone();
+    let batches = serving.store.batches.lock().unwrap().clone();
     let successor = Change::Registered { client: 50, incarnation: 2 };
     assert_eq!(batches.last().unwrap()[..2], [successor, Change::Left { client: 50 }]);
     // Its sign is answered by the word that it has ended.
     let mut told = [0; 1024];
     let _ = peer.read(&mut told);
     peer.write_all(&sign()).unwrap();
-    let asked = events.store.heard.lock().unwrap().len();
-    turns_until(&mut events, asked + 1).unwrap();
+    let asked = serving.store.heard.lock().unwrap().len();
+    turns_until(&mut serving, asked + 1).unwrap();
     let length = peer.read(&mut told).unwrap();
     let ended = frames::split(&told[..length]).find_map(|(frame, _)| Answer::read(frame));
     assert_eq!(ended, Some(Answer::Ended { incarnation: 1 }));
@@ -256,18 +258,22 @@ fn an_eviction_is_committed_with_its_turn() {
 #[test]
 fn the_greatest_incarnation_is_not_evicted_and_ends_no_server() {
     const GREATEST: u64 = (1 << 63) - 1;
-    let (mut events, mut peer, _) = event_loop();
+    let (mut serving, mut peer, _) = event_loop();
     let hello = [&HELLO[8..18], &GREATEST.to_le_bytes()].concat();
     // An older server has registered it: this one would not.
-    let registered = events.server.step(&hello).unwrap().unwrap();
-    events.server.confirm(&[registered]).unwrap();
-    events.keep(registered, Now::read(), &mut Vec::new()).unwrap();
+    let registered = serving.events.server.step(&hello).unwrap().unwrap();
+    serving.events.server.confirm(&[registered]).unwrap();
+    serving.events.keep(registered, Now::read()).unwrap();
+    serving.events.changes.clear();
     peer.write_all(&sign_of(GREATEST)).unwrap();
-    turns_until(&mut events, 1).unwrap();
+    turns_until(&mut serving, 1).unwrap();
     let end = Instant::now() + Duration::from_millis(2 * LEASE);
     while Instant::now() < end {
-        events.turn().unwrap();
+        serving.turn().unwrap();
     }
-    let record = events.server.record(50).unwrap().unwrap();
-    assert_eq!((record.incarnation, record.left, events.status.evicted), (GREATEST, false, 0));
+    let record = serving.events.server.record(50).unwrap().unwrap();
+    assert_eq!(
+        (record.incarnation, record.left, serving.events.status.evicted),
+        (GREATEST, false, 0)
+    );
 }

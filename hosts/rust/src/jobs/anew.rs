@@ -44,7 +44,7 @@ impl Job {
         }
     }
 
-    fn refuse(self, why: Refused) {
+    pub(super) fn refuse(self, why: Refused) {
         match self {
             Job::Join(reply) | Job::Forget(_, reply) | Job::Leave(reply) => reply.end(Err(why)),
             Job::Read(_, reply) => reply.end(Err(why)),

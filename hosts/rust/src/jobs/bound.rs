@@ -48,7 +48,7 @@ impl Jobs {
         self.next += 1;
         let (reply, answer) = sync_channel(1);
         Reply(reply).end(Err(Refused::PinIsVoid));
-        Asked { id: self.next, answer }
+        Asked { id: self.next, is_urgent: true, answer }
     }
 
     /// Whether the client may send the write just now. It is asked each time before one is sent.

@@ -16,11 +16,17 @@ pub(super) struct Watched {
     reply: Reply<()>,
 }
 
+impl Watched {
+    pub fn refuse(self, why: Refused) {
+        self.reply.end(Err(why));
+    }
+}
+
 impl Jobs {
     /// Ends when the client no longer knows that the range has these rows. It asks for nothing.
     pub fn watch(&mut self, keys: Range<u64>, rows: Vec<Row>) -> Asked<()> {
         let (told, answer) = sync_channel(1);
-        Asked { id: self.watch_and_tell(keys, rows, told), answer }
+        Asked { id: self.watch_and_tell(keys, rows, told), is_urgent: false, answer }
     }
 
     /// The same, and the end is told to one who may wait for several. There has to be room for it.

@@ -1,0 +1,153 @@
+//! The thread of a server: its sockets, its store, and what other threads ask, around what
+//! [`EventLoop`] decides.
+use super::EventLoop;
+use super::Heard;
+use crate::clocks::Now;
+use crate::event_log;
+use crate::requests::Request;
+use crate::server::ServeError;
+use crate::sockets::Sockets;
+use crate::status::Status;
+use crate::store::Store;
+use std::panic::{AssertUnwindSafe, catch_unwind};
+use std::sync::mpsc::Receiver;
+use std::sync::{Mutex, PoisonError};
+use std::time::{Duration, Instant};
+
+/// The most messages that are judged before what they changed is committed. A read that brings no
+/// whole message counts as one.
+pub(super) const MAX_AT_ONCE: usize = 256;
+
+/// How long a turn counts what clients hold.
+const COUNTS: Duration = Duration::from_millis(2);
+
+/// How long a turn looks up who holds what, if somebody asks.
+const LOOKS: Duration = Duration::from_millis(10);
+
+/// How long a server that ends waits until what it sent is written.
+const LAST_WRITES: Duration = Duration::from_millis(500);
+
+/// The one thread that owns the server and its store.
+pub(crate) struct ServerThread<S> {
+    pub events: EventLoop,
+    pub store: S,
+    pub sockets: Sockets,
+    pub asked: Receiver<Request>,
+}
+
+impl<S: Store> ServerThread<S> {
+    /// Serves until it is stopped or fails, and shows how it failed.
+    pub fn run_to_the_end(self, shown: &Mutex<Status>) -> Result<(), ServeError> {
+        let run = catch_unwind(AssertUnwindSafe(|| self.run(shown)));
+        let ended = run.unwrap_or(Err(ServeError::Panicked));
+        if let Err(error) = &ended {
+            event_log::failed(error);
+            let mut shown = shown.lock().unwrap_or_else(PoisonError::into_inner);
+            shown.is_serving = false;
+            shown.failure = Some(error.to_string());
+        }
+        ended
+    }
+
+    fn run(mut self, shown: &Mutex<Status>) -> Result<(), ServeError> {
+        while self.turn()? {
+            let is_news = self.events.see_phase();
+            self.events.show_if_due(is_news, shown);
+        }
+        self.events.show(shown);
+        self.sockets.finish(self.events.connections(), Instant::now() + LAST_WRITES);
+        self.events.failure().map_or(Ok(()), Err)
+    }
+
+    /// Takes what waits, judges it all, commits what it changed, and only then sends. It answers
+    /// whether to go on.
+    pub(super) fn turn(&mut self) -> Result<bool, ServeError> {
+        let was_to_end = self.events.is_to_end();
+        let longest_wait = self.events.longest_wait();
+        let began = self.sockets.wait(self.events.connections(), longest_wait)?;
+        self.answer_requests();
+        let mut looks = self.hear(MAX_AT_ONCE)?;
+        looks += self.gather(MAX_AT_ONCE - looks)?;
+        if self.events.nudge(began)? {
+            self.count_held();
+        }
+        self.commit()?;
+        self.send()?;
+        self.events.end_turn(began, Now::read());
+        Ok(self.events.goes_on(was_to_end, began, looks))
+    }
+
+    /// Hears the writers that are about to write again, so that one commit has what all of them
+    /// write. The poller can't wait for so short a time: it is asked again and again.
+    fn gather(&mut self, most: usize) -> Result<usize, ServeError> {
+        let (began, mut looks) = (Instant::now(), 0);
+        while looks < most && self.events.waits_for_writers(began.elapsed()) {
+            self.sockets.wait(self.events.connections(), Duration::ZERO)?;
+            looks += self.hear(most - looks)?;
+        }
+        Ok(looks)
+    }
+
+    /// Hears connections in their turn, so many times at most, and answers how often.
+    fn hear(&mut self, most: usize) -> Result<usize, ServeError> {
+        let mut looks = 0;
+        while looks < most && self.hear_next()? {
+            looks += 1;
+        }
+        Ok(looks)
+    }
+
+    /// Answers what other threads have asked.
+    fn answer_requests(&mut self) {
+        let mut looks_end = None;
+        while let Ok(request) = self.asked.try_recv() {
+            match request {
+                Request::Snapshot(reply) => {
+                    // Who asks and goes away gets no answer.
+                    let _ = reply.send(self.store.snapshot());
+                }
+                Request::Locks(search, reply) => {
+                    let end = *looks_end.get_or_insert_with(|| Instant::now() + LOOKS);
+                    let is_late = || Instant::now() >= end;
+                    let _ = reply.send(self.events.look_up(search, Now::read(), is_late));
+                }
+                Request::Stop => self.events.stop(Now::read()),
+            }
+        }
+    }
+
+    /// Hears the connection whose turn it is, and answers whether there was one.
+    fn hear_next(&mut self) -> Result<bool, ServeError> {
+        match self.events.hear_next()? {
+            Heard::Nobody => return Ok(false),
+            Heard::Judged => {}
+            Heard::Unread(connection) => {
+                let turn = self.sockets.read(self.events.connections(), connection);
+                self.events.take(turn)?;
+            }
+        }
+        Ok(true)
+    }
+
+    /// Counts how much the clients hold of which that may have changed: of one at least, and of more
+    /// as long as that takes little time.
+    fn count_held(&mut self) {
+        let end = Instant::now() + COUNTS;
+        while self.events.count_next() && Instant::now() < end {}
+    }
+
+    /// Commits what the turn has changed, or asks whether the store is still this server's.
+    fn commit(&mut self) -> Result<(), ServeError> {
+        let began = Now::read();
+        let Some(changes) = self.events.take_commit(began) else { return Ok(()) };
+        self.store.commit(&changes)?;
+        self.events.committed(&changes, began.monotonic, Now::read())
+    }
+
+    /// Writes what leaves, as far as the peers take it at once.
+    fn send(&mut self) -> Result<(), ServeError> {
+        self.events.send(Now::read())?;
+        self.sockets.settle(self.events.connections());
+        Ok(())
+    }
+}
