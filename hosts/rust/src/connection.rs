@@ -295,6 +295,11 @@ impl Connection {
         (self.silent_for(now) >= SILENCE).then_some(CloseReason::Silent)
     }
 
+    /// When something came last.
+    pub fn heard_last(&self) -> Instant {
+        self.heard
+    }
+
     /// How long nothing has come.
     pub fn silent_for(&self, now: Instant) -> Duration {
         now.saturating_duration_since(self.heard)

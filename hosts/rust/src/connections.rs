@@ -1,5 +1,6 @@
 //! The connections of a server, without their sockets: what comes on them goes in, and which of them
 //! are to be read, written and closed comes out. [`crate::sockets`] does that.
+use crate::client_status::ClientConnection;
 use crate::clocks::Now;
 use crate::connection::{Connection, Looked};
 use crate::frames::{Frames, HEAD};
@@ -15,7 +16,7 @@ use closing::{CloseReason, Closings};
 use std::collections::{BTreeMap, VecDeque};
 use std::fmt::Display;
 use std::io::{self, Read, Write};
-use std::time::Duration;
+use std::time::{Duration, Instant};
 
 /// The most connections that are open at once, unless a server is told otherwise. One more is
 /// closed as it comes.
@@ -51,6 +52,7 @@ pub(crate) struct Connections {
 struct Peer {
     connection: Connection,
     address: PeerAddress,
+    opened: Instant,
     is_in_ready: bool,
     is_in_sending: bool,
 }
@@ -287,6 +289,19 @@ impl Connections {
     /// The clients that are connected, by number.
     pub fn clients(&self) -> Vec<u8> {
         self.routes.clients()
+    }
+
+    /// The connection of the client, if it has one.
+    pub fn of_client(&self, client: u8, now: Instant) -> Option<ClientConnection> {
+        let peer = self.routes.of(client).and_then(|number| self.open.get(&number))?;
+        let open_for = now.saturating_duration_since(peer.opened);
+        Some(ClientConnection { peer: peer.address, open_for })
+    }
+
+    /// When something last came on the client's connection, if it has one.
+    pub fn heard_last(&self, client: u8) -> Option<Instant> {
+        let peer = self.routes.of(client).and_then(|number| self.open.get(&number))?;
+        Some(peer.connection.heard_last())
     }
 
     pub fn count(&self) -> usize {

@@ -1,6 +1,7 @@
 //! What a server decides, without its store, its sockets and a clock: it judges what has come, says
 //! what has to be committed, and only then what leaves. [`thread`] is the shell around it.
 use crate::change::{Change, Record};
+use crate::client_status::LastHeard;
 use crate::clocks::Now;
 use crate::code::Code;
 use crate::connections::closing::CloseReason;
@@ -56,6 +57,7 @@ pub(crate) struct EventLoop {
     /// The connections of this turn whose clients have seen what the store lacks.
     doubts: Vec<Doubt>,
     watch: Watch,
+    last_heard: LastHeard,
     status: Status,
     /// When the last turn ended.
     turned: Instant,
@@ -111,6 +113,7 @@ impl EventLoop {
             owes_terms: false,
             doubts: Vec::new(),
             watch: Watch::default(),
+            last_heard: LastHeard::new(),
             status: Status { epoch, ..Status::default() },
             turned: now,
             shown: now,
@@ -383,6 +386,7 @@ impl EventLoop {
 
 pub(crate) mod thread;
 
+mod clients;
 mod commit_group;
 mod greeting;
 mod leases;

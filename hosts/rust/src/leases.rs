@@ -2,6 +2,7 @@
 //! which clients there are, and what is known of each, is kept here.
 use crate::boot_clock::Moment;
 use crate::change::Record;
+use crate::client_status::LeaseLeft;
 use crate::ffi;
 use crate::lease::{FOR_EVER, Grant, Older, Sign};
 use crate::lease_record::LeaseRecord;
@@ -268,11 +269,26 @@ impl LeaseTable {
         Some(revised)
     }
 
+    /// The clients that are registered and have not left, by number, each with what is left of its
+    /// lease.
+    pub fn left(&self, now: Moment) -> Vec<(u8, LeaseLeft)> {
+        let clients = (0u8..).zip(&self.known);
+        let present = clients.filter_map(|(client, known)| Some((client, known.present?)));
+        present.map(|(client, it)| (client, left_until(it.until, now))).collect()
+    }
+
     /// The clients that may answer for ever, and that only an operator evicts.
     pub fn unleased(&self) -> Vec<u8> {
         let clients = (0u8..).zip(&self.known);
         let present = clients.filter_map(|(client, known)| Some((client, known.present?)));
         present.filter(|(_, it)| it.until == FOR_EVER).map(|(client, _)| client).collect()
+    }
+}
+
+fn left_until(until: u64, now: Moment) -> LeaseLeft {
+    match until {
+        FOR_EVER => LeaseLeft::Unending,
+        _ => LeaseLeft::Ends(Duration::from_nanos(until.saturating_sub(now.nanoseconds()))),
     }
 }
 

@@ -28,6 +28,7 @@ mod carrier;
 mod change;
 mod client;
 mod client_handle;
+mod client_status;
 mod clocks;
 mod code;
 mod connect_fault;
@@ -56,6 +57,7 @@ mod link;
 mod listening;
 mod liveness;
 mod lock_file;
+mod lock_search;
 mod locks;
 mod map_change;
 #[cfg(feature = "map-file")]
@@ -122,6 +124,7 @@ pub use address::{Address, BadAddress};
 pub use builder::ClientBuilder;
 pub use change::{Change, Outcome, Record, Snapshot, Write};
 pub use client::Client;
+pub use client_status::{ClientConnection, ClientStatus, LeaseLeft};
 pub use code::Code;
 pub use connections::closing::ClosedConnections;
 pub use evict::evict;
@@ -131,7 +134,7 @@ pub use lease_record::LeaseRecord;
 pub use leases::{BadLeases, Leases};
 pub use liveness::Liveness;
 pub use lock_file::LockFileError;
-pub use locks::{HeldSlot, Locks, LocksError};
+pub use locks::{HeldPage, HeldRun, HeldSearch, HeldSlot, Locks, LocksError};
 #[cfg(feature = "map-file")]
 pub use map_file::BadMapFile;
 pub use monitor::{Monitor, SnapshotError};
@@ -162,7 +165,7 @@ pub use status::Status;
 pub use store::{MemoryStore, Store, StoreError};
 #[doc(hidden)]
 pub use strangers::Strangers;
-pub use stream::Listener;
+pub use stream::{Listener, PeerAddress};
 pub use timings::{Counts, Measured};
 #[cfg(feature = "tls")]
 pub use tls::{Certificate, TlsConfig, TlsError, TlsSession};

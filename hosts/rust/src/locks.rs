@@ -1,4 +1,5 @@
 //! Who holds which slots of a server's table, and who waits there.
+use crate::lock_search::{Page, Search};
 use crate::monitor::{BUSY, Monitor};
 use crate::range::keys_of;
 use crate::requests::{Request, Unanswered};
@@ -9,9 +10,6 @@ use std::time::Duration;
 
 /// How long a page of the answer may take: the server's loop may wait for its store meanwhile.
 const LONGEST_WAIT: Duration = Duration::from_secs(10);
-
-/// The most slots that a server tells at once.
-const PAGE: usize = 1024;
 
 /// A slot of which a client holds something.
 #[derive(Clone, Copy, Debug, PartialEq, Eq, PartialOrd, Ord)]
@@ -25,6 +23,41 @@ pub struct HeldSlot {
     pub client: u8,
     /// The name of the mode that the client holds.
     pub mode: &'static str,
+}
+
+/// Neighboring slots of which a client holds something in one mode.
+#[derive(Clone, Copy, Debug, PartialEq, Eq, PartialOrd, Ord)]
+pub struct HeldRun {
+    /// The first point of the first slot.
+    pub lo: u64,
+    /// One past the last point of the last slot.
+    pub hi: u64,
+    /// The client.
+    pub client: u8,
+    /// The name of the mode that the client holds.
+    pub mode: &'static str,
+    /// How many slots they are.
+    pub slots: u64,
+}
+
+/// A search for who holds what in a range, a page at a time. Its clients are looked up one after
+/// another, by number, and the server goes on between two pages: so what was found of one client is
+/// of another moment than what was found of the next.
+#[derive(Clone, Debug)]
+pub struct HeldSearch {
+    search: Search,
+    /// What was found of the client that is not looked up to its end.
+    begun: Vec<HeldRun>,
+}
+
+/// What a page of a search has found.
+#[derive(Clone, Debug, PartialEq, Eq)]
+pub struct HeldPage {
+    /// The clients that are looked up to their ends now, by number, each with all of its runs that
+    /// meet the range, or the first of them, in ascending order.
+    pub clients: Vec<(u8, Vec<HeldRun>)>,
+    /// How long the server's loop was busy with this page.
+    pub took: Duration,
 }
 
 /// Who holds and who waits in a range.
@@ -54,26 +87,6 @@ pub enum LocksError {
     BadRange,
 }
 
-/// What is asked for: the slots that meet the points, at most so many of each client. It says too
-/// from which client and point on they have not been told yet.
-#[derive(Debug)]
-pub(crate) struct Search {
-    points: Range<u64>,
-    most: usize,
-    client: u8,
-    from: u64,
-    found: usize,
-}
-
-/// What a server tells at once.
-#[derive(Debug)]
-pub(crate) struct Page {
-    pub held: Vec<HeldSlot>,
-    pub waits: Vec<Wait>,
-    /// What is not told yet.
-    pub rest: Search,
-}
-
 impl Monitor {
     /// Who holds which slots that meet this range, at most so many (64 if fewer are asked for), and
     /// who waits there. Slots of a client are told one by one, even if neighbours have one mode.
@@ -89,14 +102,15 @@ impl Monitor {
     pub fn locks(&self, points: impl RangeBounds<u64>, most: usize) -> Result<Locks, LocksError> {
         let points = keys_of(&points).map_err(|_| LocksError::BadRange)?;
         let most = most.max(CLIENTS.into());
-        let first = self.page(Search::new(points.clone(), most.saturating_add(1)))?;
+        let first = self.page(Search::of_slots(points.clone(), most.saturating_add(1)))?;
         let is_of_one_moment = first.rest.is_done();
-        let Page { mut held, waits, mut rest } = first;
+        let Page { mut held, waits, mut rest, .. } = first;
         while !rest.is_done() {
             let page = self.page(rest)?;
             held.extend(page.held);
             rest = page.rest;
         }
+        let mut held = held.into_iter().map(HeldRun::first_slot).collect();
         let next = cut(&mut held, most);
         let waits = waits.into_iter().filter(|wait| meets(wait, &points)).collect();
         Ok(Locks { held, next, waits, is_of_one_moment })
@@ -111,38 +125,77 @@ impl Monitor {
     }
 }
 
-impl Search {
-    pub fn new(points: Range<u64>, most: usize) -> Search {
-        let client = if points.is_empty() { CLIENTS } else { 0 };
-        Search { from: points.start, points, most, client, found: 0 }
+impl HeldRun {
+    pub(crate) fn of(slot: &HeldSlot) -> HeldRun {
+        let HeldSlot { lo, hi, client, mode } = *slot;
+        HeldRun { lo, hi, client, mode, slots: 1 }
     }
 
-    pub fn is_done(&self) -> bool {
-        self.client == CLIENTS
+    fn first_slot(self) -> HeldSlot {
+        let HeldRun { lo, hi, client, mode, .. } = self;
+        HeldSlot { lo, hi, client, mode }
     }
 
-    /// The slots that come next, by client and point: as many as a page has, or as come until it is
-    /// late.
-    pub fn page(
-        &mut self,
-        mut next_held: impl FnMut(u8, u64) -> Option<HeldSlot>,
-        mut is_late: impl FnMut() -> bool,
-    ) -> Vec<HeldSlot> {
-        let mut held = Vec::new();
-        while !self.is_done() && held.len() < PAGE && !is_late() {
-            let next = next_held(self.client, self.from);
-            match next.filter(|slot| slot.lo < self.points.end && self.found < self.most) {
-                Some(slot) => {
-                    (self.from, self.found) = (slot.hi, self.found + 1);
-                    held.push(slot);
-                }
-                None => {
-                    (self.client, self.from, self.found) = (self.client + 1, self.points.start, 0);
-                }
-            }
+    /// Takes the next run into this one if they are neighbors, and answers whether they are.
+    pub(crate) fn join(&mut self, next: &HeldRun) -> bool {
+        let is_next = (self.client, self.mode, self.hi) == (next.client, next.mode, next.lo);
+        if is_next {
+            (self.hi, self.slots) = (next.hi, self.slots + next.slots);
         }
-        held
+        is_next
     }
+}
+
+impl HeldSearch {
+    /// A search for at most so many runs of each client that meet this range.
+    ///
+    /// # Errors
+    ///
+    /// `BadRange` if the range begins above its end or ends above 2^63.
+    pub fn new(points: impl RangeBounds<u64>, most: usize) -> Result<HeldSearch, LocksError> {
+        let points = keys_of(&points).map_err(|_| LocksError::BadRange)?;
+        Ok(HeldSearch { search: Search::of_runs(points, most), begun: Vec::new() })
+    }
+
+    /// Whether all clients are looked up.
+    #[must_use]
+    pub fn is_done(&self) -> bool {
+        self.search.is_done()
+    }
+
+    /// Has the server look up a page. It takes the server's loop a millisecond, or as long as the
+    /// loop takes to go once through its table for one client, if that is longer.
+    ///
+    /// # Errors
+    ///
+    /// `Ended` if the server has ended; `Busy` if its loop does not answer within ten seconds. The
+    /// search may go on afterwards.
+    pub fn go_on(&mut self, monitor: &Monitor) -> Result<HeldPage, LocksError> {
+        let first = self.search.client();
+        let Page { held, rest, took, .. } = monitor.page(self.search.clone())?;
+        self.search = rest;
+        Ok(HeldPage { clients: self.complete(first, held), took })
+    }
+
+    /// The clients from this one on that are complete with these runs.
+    fn complete(&mut self, first: u8, held: Vec<HeldRun>) -> Vec<(u8, Vec<HeldRun>)> {
+        append(&mut self.begun, held);
+        let (now, mut clients) = (self.search.client(), Vec::new());
+        for client in first..now {
+            let end = self.begun.partition_point(|run| run.client <= client);
+            clients.push((client, self.begun.drain(..end).collect()));
+        }
+        clients
+    }
+}
+
+/// Adds a page. A run that began in the page before is one with its rest.
+fn append(held: &mut Vec<HeldRun>, page: Vec<HeldRun>) {
+    let mut page = page.into_iter().peekable();
+    if let Some(last) = held.last_mut() {
+        page.next_if(|first| last.join(first));
+    }
+    held.extend(page);
 }
 
 /// Puts the slots in order, and leaves out those behind the first so many, each with all that hold
@@ -180,61 +233,6 @@ mod tests {
         HeldSlot { lo, hi, client, mode: "RangeS-S" }
     }
 
-    /// Client 1 holds each slot of ten points, below 100, and client 3 that of 20 to 30.
-    fn next_held(client: u8, from: u64) -> Option<HeldSlot> {
-        let lo = from / 10 * 10;
-        match client {
-            1 if lo < 100 => Some(slot(1, lo, lo + 10)),
-            3 if lo <= 20 => Some(slot(3, 20, 30)),
-            _ => None,
-        }
-    }
-
-    #[test]
-    fn a_search_tells_what_meets_its_points() {
-        let mut search = Search::new(15..31, 100);
-        let held = search.page(next_held, || false);
-        let expected = [slot(1, 10, 20), slot(1, 20, 30), slot(1, 30, 40), slot(3, 20, 30)];
-        assert_eq!((held.as_slice(), search.is_done()), (expected.as_slice(), true));
-        let mut search = Search::new(15..30, 100);
-        let held = search.page(next_held, || false);
-        assert_eq!(held, [slot(1, 10, 20), slot(1, 20, 30), slot(3, 20, 30)]);
-        assert!(Search::new(15..15, 100).is_done());
-    }
-
-    #[test]
-    fn a_search_ends_each_client_after_the_most() {
-        let mut search = Search::new(0..1000, 2);
-        let held = search.page(next_held, || false);
-        assert_eq!(held, [slot(1, 0, 10), slot(1, 10, 20), slot(3, 20, 30)]);
-    }
-
-    #[test]
-    fn a_search_that_is_late_goes_on_with_its_next_page() {
-        let mut whole = Search::new(0..1000, 100);
-        let whole = whole.page(next_held, || false);
-        let (mut search, mut held) = (Search::new(0..1000, 100), Vec::new());
-        for _ in 0..100 {
-            let mut looks = 0;
-            held.extend(search.page(next_held, || {
-                looks += 1;
-                looks > 1
-            }));
-        }
-        assert!(search.is_done());
-        assert_eq!((held.len(), held), (11, whole));
-    }
-
-    #[test]
-    fn a_page_has_not_more_than_its_slots() {
-        let mut search = Search::new(0..1 << 20, 1 << 20);
-        let next_held = |client, from| (client == 5).then(|| slot(5, from, from + 1));
-        let first = search.page(next_held, || false);
-        let second = search.page(next_held, || false);
-        assert_eq!((first.len(), second.len()), (PAGE, PAGE));
-        assert_eq!(second[0].lo, PAGE as u64);
-    }
-
     #[test]
     fn a_cut_leaves_no_slot_in_part() {
         let all = [slot(2, 20, 30), slot(1, 20, 30), slot(1, 0, 10), slot(2, 10, 20)];
@@ -247,6 +245,40 @@ mod tests {
         assert_eq!(cut_at(3), (vec![(0, 1), (10, 2)], Some(20)));
         assert_eq!(cut_at(2), (vec![(0, 1), (10, 2)], Some(20)));
         assert_eq!(cut_at(1), (vec![(0, 1)], Some(10)));
+    }
+
+    #[test]
+    fn a_run_over_two_pages_is_one() {
+        let run = |client, lo, hi| HeldRun::of(&slot(client, lo, hi));
+        let mut held = vec![run(1, 0, 10), run(2, 0, 10)];
+        append(&mut held, vec![run(2, 10, 20), run(3, 0, 10)]);
+        let joined = HeldRun { slots: 2, ..run(2, 0, 20) };
+        assert_eq!(held, [run(1, 0, 10), joined, run(3, 0, 10)]);
+        append(&mut held, vec![HeldRun { mode: "X", ..run(3, 10, 20) }]);
+        assert_eq!(held.len(), 4, "it is of another mode");
+    }
+
+    /// Clients 1, 2 and 3 hold the slots of ten points below 50.
+    fn next_of_three(client: u8, from: u64) -> Option<HeldSlot> {
+        let lo = from / 10 * 10;
+        ((1..4).contains(&client) && lo < 50).then(|| slot(client, lo, lo + 10))
+    }
+
+    #[test]
+    fn clients_are_complete_one_after_another() {
+        let mut search = HeldSearch::new(0..100, 9).unwrap();
+        let mut found = Vec::new();
+        while !search.is_done() {
+            let (first, mut looks) = (search.search.client(), 0);
+            let held = search.search.page(next_of_three, || {
+                looks += 1;
+                looks > 4
+            });
+            found.extend(search.complete(first, held));
+        }
+        let whole = |client| vec![HeldRun { slots: 5, ..HeldRun::of(&slot(client, 0, 50)) }];
+        assert_eq!((found.len(), found[0].clone()), (64, (0, Vec::new())));
+        assert_eq!(found[1..4], [(1, whole(1)), (2, whole(2)), (3, whole(3))]);
     }
 
     #[test]

@@ -1,6 +1,6 @@
 //! What other threads ask of a server's loop.
 use crate::change::Snapshot;
-use crate::locks::{Page, Search};
+use crate::lock_search::{Page, Search};
 use crate::store::StoreError;
 use mio::Waker;
 use std::sync::Arc;

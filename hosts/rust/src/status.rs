@@ -1,4 +1,5 @@
 //! What an operator sees of a server.
+use crate::client_status::ClientStatus;
 use crate::connections::closing::ClosedConnections;
 use crate::room::Room;
 use crate::watch::{HeldSlots, Wait};
@@ -20,6 +21,8 @@ pub struct Status {
     pub missing: Vec<u8>,
     /// The clients that are connected.
     pub connected: Vec<u8>,
+    /// The clients that are registered and have not left, by number.
+    pub clients: Vec<ClientStatus>,
     /// The clients that wait for a lock.
     pub waits: Vec<Wait>,
     /// The clients that hold something.

@@ -57,11 +57,13 @@ pub(crate) struct Accepted {
     pub is_tls: bool,
 }
 
-/// Where the peer of a connection is.
+/// Who is at the other end of a connection. It shows as `10.0.0.9:51234`, `unix:user=1001` or `unix:`.
 #[derive(Clone, Copy, Debug, PartialEq, Eq)]
-pub(crate) enum PeerAddress {
+#[non_exhaustive]
+pub enum PeerAddress {
+    /// A process that connected from this address, by TCP or TLS.
     Tcp(SocketAddr),
-    /// On this machine, by a Unix socket, as this user, if the system says which.
+    /// A process of this machine, by a Unix socket, of this user, if the system knows that.
     Unix(Option<u32>),
     /// The connection is closed already.
     Gone,
@@ -69,7 +71,7 @@ pub(crate) enum PeerAddress {
 
 impl PeerAddress {
     /// The address of the peer's machine, if it is another one or may be.
-    pub fn machine(self) -> Option<IpAddr> {
+    pub(crate) fn machine(self) -> Option<IpAddr> {
         match self {
             PeerAddress::Tcp(address) => Some(address.ip()),
             PeerAddress::Unix(_) | PeerAddress::Gone => None,

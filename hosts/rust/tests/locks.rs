@@ -1,6 +1,6 @@
 //! Who holds what, as a monitor is told while the server runs.
-use krl::{Client, END, HeldSlot, Listener, Locks, LocksError, MemoryStore, Outcome, Server};
-use krl::{Snapshot, Value};
+use krl::{Client, END, HeldRun, HeldSearch, HeldSlot, Listener, Locks, LocksError, MemoryStore};
+use krl::{Outcome, Server, Snapshot, Value};
 use std::path::PathBuf;
 use std::sync::atomic::{AtomicBool, Ordering};
 use std::thread;
@@ -143,4 +143,51 @@ fn a_full_table_comes_in_pages_between_the_turns() {
     assert!(time < Duration::from_millis(100), "{} reads, one in two {time:?}", times.len());
     let cut = world.locks(0..END + 1, 1000);
     assert_eq!((cut.held.len(), cut.next), (1000, Some(999)));
+}
+
+/// What a search finds of each client.
+fn search(world: &World, points: std::ops::Range<u64>, most: usize) -> Vec<Vec<HeldRun>> {
+    let mut search = HeldSearch::new(points, most).unwrap();
+    let mut found = Vec::new();
+    while !search.is_done() {
+        let page = search.go_on(&world.server.monitor()).unwrap();
+        found.extend(page.clients);
+    }
+    assert!(found.iter().map(|(client, _)| *client).eq(0..64), "each client is found once");
+    found.into_iter().map(|(_, runs)| runs).collect()
+}
+
+#[test]
+fn a_search_in_runs_finds_what_a_search_for_slots_finds() {
+    const ROWS: u64 = 5_000;
+    let world = World::new("runs", 0..ROWS);
+    let (first, second) = (world.join(1), world.join(63));
+    for client in [&first, &second] {
+        client.set_timeout(Duration::from_secs(600));
+    }
+    first.read(..).unwrap();
+    for key in (100..200).step_by(2) {
+        second.read(key..=key).unwrap();
+    }
+    let found = search(&world, 0..END + 1, 1000);
+    let whole = HeldRun { lo: 0, hi: END + 1, client: 1, mode: "RangeS-S", slots: ROWS + 1 };
+    assert_eq!((found[1].as_slice(), found[63].len()), ([whole].as_slice(), 50));
+    let slots: Vec<_> = world.locks(0..END + 1, 10_000).held;
+    let of_second = slots.iter().filter(|slot| slot.client == 63);
+    let as_slots = found[63].iter().map(|run| (run.lo, run.hi, run.mode));
+    assert!(of_second.map(|slot| (slot.lo, slot.hi, slot.mode)).eq(as_slots));
+    assert_eq!(search(&world, 0..END + 1, 7)[63].len(), 7);
+    let part = search(&world, 10..20, 1000);
+    assert_eq!((part[1][0].slots, part[63].len()), (10, 0));
+    assert_eq!(HeldSearch::new(0..END + 2, 1).unwrap_err(), LocksError::BadRange);
+}
+
+#[test]
+fn a_search_fails_once_its_server_has_ended() {
+    let world = World::new("ended", 0..3);
+    let mut search = HeldSearch::new(.., 9).unwrap();
+    let monitor = world.server.monitor();
+    drop(world);
+    assert_eq!(search.go_on(&monitor).map(|page| page.clients.len()), Err(LocksError::Ended));
+    assert!(!search.is_done());
 }

@@ -43,6 +43,7 @@ Examples:
       Serves clients of other machines, which show certificates of the authority
   krl-server serve --config /etc/krl/krl.toml
   krl-server status
+  krl-server clients
   krl-server health --ready
   krl-server locks 10 20
   krl-server backup 127.0.0.1:7401 /var/lib/krl/monday.db
@@ -59,6 +60,22 @@ pub enum Command {
     Config(ServeOptions),
     /// Print what a server shows of itself
     Status {
+        /// The server's status port, with tls: before it if it serves by TLS
+        #[arg(env = "KRL_STATUS", default_value = crate::settings::STATUS)]
+        address: String,
+        #[command(flatten)]
+        tls: TlsOptions,
+        #[command(flatten)]
+        format: FormatOptions,
+    },
+    /// List the clients: who is connected, since when each is silent, and what it waits for
+    #[command(long_about = "\
+List the clients: who is connected, since when each is silent, and what it waits for.
+
+A client is listed from its registration until it leaves or is evicted, also while it has no
+connection. Its columns are its number, its peer's address, how long its connection has been open,
+how long ago something last came from it, how long its lease still runs, and what it waits for.")]
+    Clients {
         /// The server's status port, with tls: before it if it serves by TLS
         #[arg(env = "KRL_STATUS", default_value = crate::settings::STATUS)]
         address: String,

@@ -21,7 +21,7 @@ pub const LIMIT: usize = 1000;
 const LIMITS: RangeInclusive<usize> = 64..=10_000;
 
 /// One past the last point.
-const TOP: u64 = END + 1;
+pub const TOP: u64 = END + 1;
 
 /// How long `krl-server locks` waits for an answer.
 const WAIT: Duration = Duration::from_secs(30);
@@ -60,6 +60,14 @@ impl Question {
             }
         }
         Question::new(points, limit)
+    }
+
+    /// The points that a request for a picture names: `lo=10&hi=20`, of which each may be left out.
+    pub fn points_of_query(query: &str) -> Result<Range<u64>, String> {
+        match parse(query.as_bytes()).find(|(name, _)| name != "lo" && name != "hi") {
+            Some((name, _)) => Err(format!("'{name}' is unknown: there is lo and hi")),
+            None => Question::of_query(query).map(|question| question.points),
+        }
     }
 
     fn of_words(options: &LocksOptions) -> Result<Question, BadSetting> {
@@ -121,13 +129,17 @@ fn line([lo, hi, mode, client]: [&str; 4]) -> String {
 }
 
 fn waiting(wait: &Wait) -> String {
-    let Wait { client, point, hi, mode, waited, waits_for } = wait;
-    let whom = match waits_for.as_slice() {
+    let Wait { client, point, hi, mode, waited, .. } = wait;
+    let (whom, ms) = (whom(wait), waited.as_millis());
+    format!("client {client} waits for {whom}: {mode} from {point} below {hi}, for {ms} ms")
+}
+
+/// The clients that this one waits for, in words.
+pub fn whom(wait: &Wait) -> String {
+    match wait.waits_for.as_slice() {
         [] => "nobody".to_string(),
         some => some.iter().map(u8::to_string).collect::<Vec<_>>().join(", "),
-    };
-    let ms = waited.as_millis();
-    format!("client {client} waits for {whom}: {mode} from {point} below {hi}, for {ms} ms")
+    }
 }
 
 /// Asks a status port, and answers what it says.
@@ -174,6 +186,15 @@ mod tests {
             let refused = Question::of_query(query).unwrap_err();
             assert!(refused.contains(said), "{query}: {refused}");
         }
+    }
+
+    #[test]
+    fn queries_for_pictures() {
+        assert_eq!(Question::points_of_query(""), Ok(0..TOP));
+        assert_eq!(Question::points_of_query("lo=10&hi=20"), Ok(10..20));
+        let refused = Question::points_of_query("limit=64").unwrap_err();
+        assert_eq!(refused, "'limit' is unknown: there is lo and hi");
+        assert!(Question::points_of_query("lo=20&hi=10").is_err());
     }
 
     fn locks() -> Locks {

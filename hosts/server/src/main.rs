@@ -2,6 +2,7 @@
 //! `docs/OPERATING.md` how it is run.
 mod backup;
 mod check;
+mod clients;
 mod command_line;
 mod health;
 mod http;
@@ -11,7 +12,9 @@ mod next_map;
 mod origin;
 mod output;
 mod owner;
+mod page;
 mod pages;
+mod recent;
 mod reload;
 mod reshard;
 mod restore;
@@ -74,6 +77,9 @@ fn run(command: Command, matches: &ArgMatches) -> Result<ExitCode, Box<dyn Error
         }
         Command::Status { address, tls, format } => {
             output::print(&pages::fetch(&StatusPort::new(&address, &tls)?, format)?)?;
+        }
+        Command::Clients { address, tls, format } => {
+            output::print(&clients::ask(&StatusPort::new(&address, &tls)?, format)?)?;
         }
         Command::Health { address, tls, ready } => {
             let asked = if ready { Asked::Ready } else { Asked::Alive };

@@ -1,10 +1,14 @@
 //! What the status port answers.
 use crate::backup::{self, Order};
+use crate::clients;
 use crate::command_line::FormatOptions;
 use crate::http::{self, StatusPort};
 use crate::locks::{self, Question};
 use crate::log;
 use crate::origin;
+use crate::page;
+use crate::page::looks::Looks;
+use crate::recent::{Rates, Recent};
 use crate::reload;
 use crate::role::{Role, State};
 use crate::visitors::Visit;
@@ -15,15 +19,17 @@ use serde_json::json;
 use std::collections::BTreeMap;
 use std::error::Error;
 use std::net::IpAddr;
-use std::time::{Duration, SystemTime, UNIX_EPOCH};
+use std::time::{Duration, Instant, SystemTime, UNIX_EPOCH};
 use tokio::time::timeout;
 
 pub const TEXT: &str = "text/plain; charset=utf-8";
 pub const JSON: &str = "application/json";
+const HTML: &str = "text/html; charset=utf-8";
+const SVG: &str = "image/svg+xml";
 const METRICS: &str = "text/plain; version=0.0.4; charset=utf-8";
 const METRICS_PATH: &str = "/metrics";
 
-const PATHS: &str = "there is /healthz, /readyz, /status, /status.json, /locks and /metrics\n";
+const PATHS: &str = "there is /, /healthz, /readyz, /status, /status.json, /clients, /locks, /locks.svg and /metrics\n";
 
 /// The most bytes of an order.
 const MAX_ORDER: u64 = 1 << 16;
@@ -70,6 +76,10 @@ pub struct Shown {
     pub certificate: Option<TlsConfig>,
     /// The name at which the port listens, if it is not an address.
     pub name: Option<String>,
+    /// What has happened lately.
+    pub recent: Recent,
+    /// The looks at who holds what.
+    pub looks: Looks,
 }
 
 /// Who asks.
@@ -111,7 +121,10 @@ pub async fn answer(
             let query = request.uri().query().unwrap_or("");
             locks_page(query, accepts(&request).contains(JSON), monitor).await
         }
-        (&Method::GET | &Method::HEAD, _) => page(path, accepts(&request), &monitor, &state),
+        (&Method::GET | &Method::HEAD, page::PATH | page::PICTURE_PATH) => {
+            drawn_page(path, request.uri().query().unwrap_or(""), &shown, &monitor).await
+        }
+        (&Method::GET | &Method::HEAD, _) => page(path, accepts(&request), &shown, &monitor),
         _ => return refused_method("GET, HEAD"),
     };
     response(page)
@@ -131,8 +144,28 @@ fn accepts(request: &Request<Body>) -> &str {
 fn response(page: Page) -> Response<Body> {
     let mut response = Response::new(Body::from(page.text));
     *response.status_mut() = page.status;
-    response.headers_mut().insert(CONTENT_TYPE, page.kind.parse().expect("a constant"));
+    let headers = response.headers_mut();
+    headers.insert(CONTENT_TYPE, page.kind.parse().expect("a constant"));
+    for (name, value) in guards(page.kind) {
+        headers.insert(name, value.parse().expect("a constant"));
+    }
     response
+}
+
+/// What keeps a web page of another site from showing an answer as its own, or as a script of its.
+fn guards(kind: &str) -> impl Iterator<Item = (&'static str, &'static str)> {
+    let policy = match kind {
+        HTML => Some(page::POLICY.as_str()),
+        SVG => Some(page::PICTURE_POLICY),
+        _ => None,
+    };
+    let always = [
+        ("cache-control", "no-store"),
+        ("cross-origin-resource-policy", "same-origin"),
+        ("referrer-policy", "no-referrer"),
+        ("x-content-type-options", "nosniff"),
+    ];
+    always.into_iter().chain(policy.map(|policy| ("content-security-policy", policy)))
 }
 
 fn refused_method(allowed: &'static str) -> Response<Body> {
@@ -146,11 +179,14 @@ fn refused_method(allowed: &'static str) -> Response<Body> {
 fn without_a_server(path: &str, accepts: &str, state: &State) -> Page {
     let text = format!("role: {state}\n");
     match path {
+        page::PATH => Page::new(StatusCode::OK, HTML, page::without_a_server(&state.to_string())),
         "/healthz" => Page::text(StatusCode::OK, "ok\n"),
         "/status" if accepts.contains(JSON) => role_as_json(state),
         "/status" => Page::text(StatusCode::OK, text),
         "/status.json" => role_as_json(state),
-        "/readyz" | locks::PATH | backup::PATH => Page::text(StatusCode::SERVICE_UNAVAILABLE, text),
+        "/readyz" | clients::PATH | locks::PATH | page::PICTURE_PATH | backup::PATH => {
+            Page::text(StatusCode::SERVICE_UNAVAILABLE, text)
+        }
         _ => Page::text(StatusCode::NOT_FOUND, PATHS),
     }
 }
@@ -179,9 +215,14 @@ fn metrics(shown: &Shown, state: &State) -> String {
     text
 }
 
-fn certificate_as_metrics(certificate: &Certificate, now: SystemTime) -> String {
+/// How many seconds the certificate is still valid; below 0 once it has expired.
+pub fn seconds_left(certificate: &Certificate, now: SystemTime) -> i64 {
     let now = now.duration_since(UNIX_EPOCH).unwrap_or_default().as_secs();
-    let left = certificate.expires.saturating_sub(i64::try_from(now).unwrap_or(i64::MAX));
+    certificate.expires.saturating_sub(i64::try_from(now).unwrap_or(i64::MAX))
+}
+
+fn certificate_as_metrics(certificate: &Certificate, now: SystemTime) -> String {
+    let left = seconds_left(certificate, now);
     format!(
         "# HELP krl_certificate_expires_seconds How long the server's certificate is still valid; \
          negative once it has expired\n\
@@ -208,13 +249,18 @@ fn process_as_metrics(state: &State) -> String {
     )
 }
 
-fn page(path: &str, accepts: &str, monitor: &Monitor, state: &State) -> Page {
+fn page(path: &str, accepts: &str, shown: &Shown, monitor: &Monitor) -> Page {
+    let wants_json = accepts.contains(JSON);
     match path {
         "/healthz" => health(monitor.liveness()),
         "/readyz" => readiness(&monitor.status()),
-        "/status" if accepts.contains(JSON) => as_json(&monitor.status(), state),
+        "/status" if wants_json => status_as_json(shown, monitor),
         "/status" => Page::text(StatusCode::OK, monitor.status().to_string()),
-        "/status.json" => as_json(&monitor.status(), state),
+        "/status.json" => status_as_json(shown, monitor),
+        clients::PATH if wants_json => {
+            Page::new(StatusCode::OK, JSON, clients::page_as_json(&monitor.status()))
+        }
+        clients::PATH => Page::text(StatusCode::OK, clients::as_text(&monitor.status())),
         _ => Page::text(StatusCode::NOT_FOUND, PATHS),
     }
 }
@@ -265,6 +311,21 @@ async fn locks_page(query: &str, as_json: bool, monitor: Monitor) -> Page {
     }
 }
 
+/// The page for people, or its picture of who holds what.
+async fn drawn_page(path: &str, query: &str, shown: &Shown, monitor: &Monitor) -> Page {
+    let points = match Question::points_of_query(query) {
+        Ok(points) => points,
+        Err(text) => return Page::text(StatusCode::BAD_REQUEST, format!("{text}\n")),
+    };
+    if path == page::PATH {
+        return Page::new(StatusCode::OK, HTML, page::html(shown, monitor, points).await);
+    }
+    match page::picture(shown, monitor, points).await {
+        Ok(picture) => Page::new(StatusCode::OK, SVG, picture),
+        Err(error) => Page::text(StatusCode::SERVICE_UNAVAILABLE, format!("{error}\n")),
+    }
+}
+
 pub fn wait_as_json(wait: &Wait) -> serde_json::Value {
     json!({
         "client": wait.client,
@@ -276,7 +337,13 @@ pub fn wait_as_json(wait: &Wait) -> serde_json::Value {
     })
 }
 
-fn as_json(status: &Status, state: &State) -> Page {
+fn status_as_json(shown: &Shown, monitor: &Monitor) -> Page {
+    let status = monitor.status();
+    let rates = shown.recent.rates(&status, Instant::now());
+    as_json(&status, &shown.role.state(), rates)
+}
+
+fn as_json(status: &Status, state: &State, rates: Option<Rates>) -> Page {
     let holds = |held: &HeldSlots| json!({ "client": held.client, "slots": held.slots });
     let text = json!({
         "version": env!("CARGO_PKG_VERSION"),
@@ -291,6 +358,8 @@ fn as_json(status: &Status, state: &State) -> Page {
         "connected": status.connected,
         "connections": status.connections,
         "connections_closed_total": status.closed.counts().collect::<BTreeMap<_, _>>(),
+        "clients": clients::as_json(status),
+        "rates": rates.map(|rates| rates.as_json()),
         "waits": status.waits.iter().map(wait_as_json).collect::<Vec<_>>(),
         "holdings": status.holdings.iter().map(holds).collect::<Vec<_>>(),
         "alarms": status.alarms,
@@ -431,11 +500,13 @@ mod tests {
             unleased: vec![6],
             ..Status::default()
         };
-        let page = as_json(&status, &State::Starts);
+        let page =
+            as_json(&status, &State::Starts, Some(Rates { commits: 2.5, ..Rates::default() }));
         let value: serde_json::Value = serde_json::from_str(&page.text).unwrap();
         assert_eq!((&value["epoch"], &value["room"]), (&json!(4), &json!(65_536)));
         assert_eq!((&value["rows"], &value["phase"]), (&json!(5), &json!("recovering")));
-        assert_eq!(value["commits_total"], 9);
+        assert_eq!((&value["commits_total"], &value["rates"]["commits"]), (&json!(9), &json!(2.5)));
+        assert_eq!(value["clients"], json!([]));
         assert_eq!((&value["unleased"], &value["evicted_total"]), (&json!([6]), &json!(0)));
         assert_eq!(value["waits"][0]["waits_for"], json!([0, 2]));
         assert_eq!(value["waits"][0]["waited_seconds"], 0.04);

@@ -1,6 +1,8 @@
 //! The status port: HTTP in a thread of its own.
 use crate::backup;
+use crate::page::looks::Looks;
 use crate::pages::{self, Asker, Shown};
+use crate::recent::{self, Recent};
 use crate::role::Role;
 use crate::sealed::{self, Opened, Sealed};
 use crate::visitors::{Visit, Visitors};
@@ -60,7 +62,8 @@ pub fn start(address: &Address, tls: Option<TlsConfig>, role: Role) -> io::Resul
         Address::Host(name, _) => Some(name.clone()),
         _ => None,
     };
-    let shown = Shown { role, certificate, name };
+    let (recent, looks) = (Recent::default(), Looks::default());
+    let shown = Shown { role, certificate, name, recent, looks };
     let serves = move || {
         if let Err(error) = runtime.block_on(serve(listener, tls, shown)) {
             tracing::error!(%error, "the status port ended");
@@ -76,6 +79,7 @@ fn refused(why: &str) -> io::Error {
 
 async fn serve(listener: TcpListener, tls: Option<TlsConfig>, shown: Shown) -> io::Result<()> {
     let listener = tokio::net::TcpListener::from_std(listener)?;
+    tokio::spawn(sample(shown.clone()));
     let visitors = Visitors::default();
     let refused = Arc::new(Mutex::new(Seldom::default()));
     loop {
@@ -87,6 +91,14 @@ async fn serve(listener: TcpListener, tls: Option<TlsConfig>, shown: Shown) -> i
         let asker = Asker::Unknown(peer.ip());
         let guest = Guest { peer, asker, visit, shown: shown.clone() };
         tokio::spawn(attend(stream, guest, tls.clone(), Arc::clone(&refused)));
+    }
+}
+
+/// Samples what the server counts, for as long as the process lives.
+async fn sample(shown: Shown) {
+    loop {
+        shown.recent.look(&shown.role.state(), Instant::now());
+        sleep(recent::LOOKS).await;
     }
 }
 

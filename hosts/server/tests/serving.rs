@@ -139,7 +139,7 @@ fn pages_of_the_status_port() {
         assert_eq!(json["connected"], serde_json::json!([5]));
     }
     assert_eq!(serving.get("/nothing").0, 404);
-    assert_eq!(serving.get("/").0, 404);
+    assert_eq!(serving.get("/").0, 200);
     assert_eq!(serving.ask("POST /status HTTP/1.1\r\nHost: localhost\r\n\r\n").0, 405);
     assert_eq!(serving.get("/backup").0, 405);
     let said = run(&["status", &serving.status]);

@@ -40,6 +40,10 @@ fn another_server_takes_the_place_of_one_that_is_killed() {
     assert_eq!(second.get("/status"), (200, stands_by.clone()));
     assert_eq!(second.get("/readyz"), (503, stands_by));
     assert_eq!(second.get("/healthz").0, 200);
+    assert!(second.get("/").1.contains("<p>This process stands by: the server at "));
+    for path in ["/clients", "/locks", "/locks.svg"] {
+        assert_eq!(second.get(path).0, 503, "{path}");
+    }
     assert_eq!((first.sample("krl_leader"), second.sample("krl_leader")), (1.0, 0.0));
     let client = first.join(folder.path(), 3);
     assert_eq!(client.insert(1, Value::from(1)), Ok(Outcome::Applied));

@@ -145,7 +145,7 @@ fn a_web_page_of_another_site_reads_and_orders_nothing() {
         let kind = "Content-Type: application/json\r\n";
         serving.ask(&format!("{head}{kind}{more}\r\n{order}")).0
     };
-    for path in ["/status", "/locks", "/metrics", "/healthz"] {
+    for path in ["/", "/locks.svg", "/clients", "/status", "/locks", "/metrics", "/healthz"] {
         assert_eq!(ask("evil.example", "", path), 403, "{path}");
         assert_eq!(ask(at, "Origin: http://evil.example\r\n", path), 403, "{path}");
         assert_eq!(ask(at, "", path), 200, "{path}");

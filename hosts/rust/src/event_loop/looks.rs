@@ -2,14 +2,16 @@
 use super::EventLoop;
 use crate::change::Change;
 use crate::clocks::Now;
-use crate::locks::{HeldSlot, Page, Search};
+use crate::lock_search::{Page, Search};
+use crate::locks::HeldSlot;
+use std::time::Duration;
 
 impl EventLoop {
     /// Who holds and who waits: a page of what is searched, or less if it is late.
     pub fn look_up(&mut self, mut search: Search, now: Now, is_late: impl FnMut() -> bool) -> Page {
         self.look_at_waits(now);
         let held = search.page(|client, from| self.next_held(client, from), is_late);
-        Page { held, waits: self.status.waits.clone(), rest: search }
+        Page { held, waits: self.status.waits.clone(), rest: search, took: Duration::ZERO }
     }
 
     /// A client that has not registered, or has left, holds nothing: the table is not searched.

@@ -47,6 +47,7 @@ impl EventLoop {
     }
 
     pub fn show(&mut self, shown: &Mutex<Status>) {
+        self.look_at_clients(self.connections.now());
         self.status.connected = self.connections.clients();
         self.status.connections = self.connections.count() as u64;
         self.status.closed.clone_from(self.connections.closed());

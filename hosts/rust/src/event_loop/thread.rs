@@ -4,6 +4,7 @@ use super::EventLoop;
 use super::Heard;
 use crate::clocks::Now;
 use crate::event_log;
+use crate::lock_search::Page;
 use crate::requests::Request;
 use crate::server::ServeError;
 use crate::sockets::Sockets;
@@ -107,9 +108,12 @@ impl<S: Store> ServerThread<S> {
                     let _ = reply.send(self.store.snapshot());
                 }
                 Request::Locks(search, reply) => {
-                    let end = *looks_end.get_or_insert_with(|| Instant::now() + LOOKS);
+                    let began = Now::read();
+                    let turn_end = *looks_end.get_or_insert(began.monotonic + LOOKS);
+                    let end = (began.monotonic + search.longest()).min(turn_end);
                     let is_late = || Instant::now() >= end;
-                    let _ = reply.send(self.events.look_up(search, Now::read(), is_late));
+                    let page = self.events.look_up(search, began, is_late);
+                    let _ = reply.send(Page { took: began.monotonic.elapsed(), ..page });
                 }
                 Request::Stop => self.events.stop(Now::read()),
             }

@@ -46,6 +46,21 @@ fn ended(incarnation: u64) -> Answer {
 }
 
 #[test]
+fn what_is_left_of_a_lease_grows_with_each_sign() {
+    let ends = |seconds| LeaseLeft::Ends(Duration::from_secs(seconds));
+    let mut table = table(record(10, 1 << 5), Some(ten()));
+    assert_eq!(table.left(at(2)), [(3, ends(10)), (5, LeaseLeft::Unending)]);
+    table.sign(sign(9, 1, 0), at(4));
+    table.register(9, 1, at(5));
+    assert_eq!(table.left(at(6))[2], (9, ends(11)));
+    table.sign(sign(9, 1, 10 * SECOND), at(7));
+    assert_eq!(table.left(at(8))[2], (9, ends(11)));
+    assert_eq!(table.left(at(99))[2], (9, ends(0)));
+    table.leave(9);
+    assert_eq!(table.left(at(9)).len(), 2);
+}
+
+#[test]
 fn a_silent_client_is_evicted_after_its_lease_and_the_drift() {
     let mut table = table(record(10, 0), Some(ten()));
     assert_eq!(table.sign(sign(9, 1, 0), at(1)), Some(granted(1, 10 * SECOND)));

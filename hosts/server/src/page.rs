@@ -1,0 +1,76 @@
+//! The page of a server and its pictures, and what they are made of.
+mod axis;
+mod deadlocks;
+mod held_picture;
+mod histogram;
+pub mod looks;
+mod markup;
+mod overview;
+mod waits_picture;
+
+pub use overview::without_a_server;
+
+use crate::pages::{self, Shown};
+use held_picture::HeldPicture;
+use krl::{LocksError, Monitor};
+use openssl::base64::encode_block;
+use openssl::sha::sha256;
+use overview::Overview;
+use std::ops::Range;
+use std::sync::LazyLock;
+use std::time::{Instant, SystemTime};
+
+/// The path of the page.
+pub const PATH: &str = "/";
+
+/// The path of the picture of who holds which keys.
+pub const PICTURE_PATH: &str = "/locks.svg";
+
+/// The style of a picture that stands alone: it has a ground of its own.
+const PICTURE_STYLE: &str =
+    concat!(include_str!("page/picture.css"), ".picture { background: var(--ground); }\n");
+
+/// What a picture may do that stands alone: it has a style, and nothing else.
+pub const PICTURE_POLICY: &str =
+    "default-src 'none'; style-src 'unsafe-inline'; frame-ancestors 'none'";
+
+/// What the page may do: show itself with its own style, and read itself again by its own script.
+pub static POLICY: LazyLock<String> = LazyLock::new(|| {
+    let hash = |text: &str| encode_block(&sha256(text.as_bytes()));
+    let (style, script) = (hash(overview::STYLE), hash(overview::SCRIPT));
+    format!(
+        "default-src 'none'; connect-src 'self'; base-uri 'none'; form-action 'none'; \
+         frame-ancestors 'none'; style-src 'sha256-{style}'; script-src 'sha256-{script}'"
+    )
+});
+
+/// The page, with the picture of these points.
+pub async fn html(shown: &Shown, monitor: &Monitor, points: Range<u64>) -> String {
+    let epoch = monitor.status().epoch;
+    let held = shown.looks.at(monitor, epoch, &points).await;
+    // The rest is as young as can be: a look may have waited for its time.
+    let (status, now) = (monitor.status(), Instant::now());
+    let tls = shown.certificate.as_ref();
+    let overview = Overview {
+        status: &status,
+        held: held.as_ref().map_err(|why| format!("{why}.")),
+        points,
+        rates: shown.recent.rates(&status, now),
+        histograms: shown.recent.histograms(&monitor.measured(), epoch, now),
+        certificate: tls.map(|tls| pages::seconds_left(&tls.certificate(), SystemTime::now())),
+    };
+    overview.html()
+}
+
+/// The picture of who holds which of these points, as a file of SVG.
+pub async fn picture(
+    shown: &Shown,
+    monitor: &Monitor,
+    points: Range<u64>,
+) -> Result<String, LocksError> {
+    let epoch = monitor.status().epoch;
+    let held = &shown.looks.at(monitor, epoch, &points).await?;
+    let status = &monitor.status();
+    let picture = HeldPicture { status, held, points, path: PICTURE_PATH };
+    Ok(picture.svg(&format!("<style>{PICTURE_STYLE}</style>")))
+}

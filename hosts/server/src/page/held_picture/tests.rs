@@ -1,0 +1,108 @@
+use super::*;
+use krl::{ClientConnection, ClientStatus, END, LeaseLeft, PeerAddress};
+
+fn client(client: u8, silent: u64) -> ClientStatus {
+    let peer = PeerAddress::Tcp("10.0.0.5:41234".parse().unwrap());
+    ClientStatus {
+        client,
+        connection: Some(ClientConnection { peer, open_for: Duration::from_secs(60) }),
+        silent_for: Some(Duration::from_secs(silent)),
+        lease: LeaseLeft::Ends(Duration::from_secs(9)),
+    }
+}
+
+fn wait(client: u8, waits_for: &[u8]) -> Wait {
+    let waited = Duration::from_millis(4500);
+    Wait { client, point: 20, hi: 21, mode: "RangeX-X", waited, waits_for: waits_for.to_vec() }
+}
+
+fn status(waits: Vec<Wait>) -> Status {
+    let clients = vec![client(3, 0), client(5, 6), client(9, 0)];
+    Status { clients, waits, ..Status::default() }
+}
+
+fn run(client: u8, lo: u64, hi: u64, mode: &'static str) -> HeldRun {
+    HeldRun { lo, hi, client, mode, slots: 2 }
+}
+
+fn held(next: Option<u64>) -> Held {
+    let runs = vec![run(3, 0, 20, "RangeS-S"), run(5, 20, END + 1, "RangeS-U")];
+    Held { runs, next, age: Some(Duration::ZERO) }
+}
+
+fn svg(waits: &[Wait], next: Option<u64>) -> String {
+    let (status, held) = (status(waits.to_vec()), held(next));
+    HeldPicture { status: &status, held: &held, points: 0..END + 1, path: "/" }.svg("")
+}
+
+#[test]
+fn each_client_that_holds_or_waits_has_a_row() {
+    let svg = svg(&[wait(3, &[5])], None);
+    assert_eq!(svg.matches("<g class=\"client").count(), 2);
+    assert!(svg.contains("<g class=\"client\" data-client=\"3\">"), "{svg}");
+    assert!(svg.contains("<g class=\"client fades\" data-client=\"5\">"), "it is silent: {svg}");
+    assert!(svg.contains(">silent for 6.0 s, lease 9.0 s</text>"), "{svg}");
+    assert!(svg.contains(">10.0.0.5:41234</text>"), "{svg}");
+    assert!(svg.contains("class=\"held reads\"><title>client 3 holds 2 slots from 0 below 20"));
+    assert!(svg.contains("class=\"held updates\"><title>client 5 holds 2 slots from 20 below END"));
+    assert!(svg.contains(">1 more client holds nothing here.</text>"), "{svg}");
+}
+
+#[test]
+fn a_wait_is_hatched_and_one_in_a_circle_is_marked() {
+    let chain = svg(&[wait(3, &[5])], None);
+    let title = "<title>client 3 waits for 5: RangeX-X from 20 below 21, for 4.5 s</title>";
+    assert!(chain.contains(&format!("class=\"waits\">{title}")), "{chain}");
+    assert!(!chain.contains("deadlock"));
+    let circle = svg(&[wait(3, &[5]), wait(5, &[3])], None);
+    assert_eq!(circle.matches("class=\"waits deadlock\"").count(), 2, "{circle}");
+}
+
+#[test]
+fn the_picture_is_told_in_words() {
+    let svg = svg(&[wait(3, &[5])], None);
+    let text = "client 3 holds 2 slots from 0 below 20 in RangeS-S. client 5 holds 2 slots from 20 \
+                below END in RangeS-U. client 3 waits for 5: RangeX-X from 20 below 21, for 4.5 s.";
+    assert!(svg.contains(&format!("<desc id=\"held-text\">{text}</desc>")), "{svg}");
+    let nobody = Held::default();
+    let status = status(Vec::new());
+    let picture = HeldPicture { status: &status, held: &nobody, points: 0..10, path: "/" };
+    assert_eq!(picture.text(), "Nobody holds anything here.");
+    assert!(picture.parts().is_empty());
+}
+
+#[test]
+fn what_is_left_out_is_named() {
+    let svg = svg(&[], Some(70));
+    assert!(svg.contains("From 70 on there is more to see.</text>"), "{svg}");
+}
+
+#[test]
+fn a_part_with_edges_inside_has_a_picture_of_its_own() {
+    let runs = (0..100).map(|at| run(3, (1 << 60) + at, (1 << 60) + at + 1, "X")).collect();
+    let held = Held { runs, ..Held::default() };
+    let status = status(Vec::new());
+    let picture = HeldPicture { status: &status, held: &held, points: 0..END + 1, path: "/" };
+    let parts = picture.parts();
+    assert!(parts.len() > 1, "{parts:?}");
+    let part = &parts[0];
+    let link = format!("href=\"/?lo={}&amp;hi={}\"", part.start, part.end);
+    assert!(picture.svg("").contains(&link), "{link}");
+}
+
+#[test]
+fn modes_have_colors() {
+    for (mode, color) in [
+        ("S", "reads"),
+        ("RangeS-S", "reads"),
+        ("U", "updates"),
+        ("RangeS-U", "updates"),
+        ("RangeI-N", "inserts"),
+        ("RangeI-S", "inserts"),
+        ("RangeI-X", "writes"),
+        ("RangeX-S", "writes"),
+        ("X", "writes"),
+    ] {
+        assert_eq!(class(mode), color, "{mode}");
+    }
+}
