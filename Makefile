@@ -1,7 +1,7 @@
 # Builds, installs and packs what a user of krl needs. It proves nothing: LIBRARY has the proved library.
 #
-#     make                        builds the programs in Rust, and the shared library
-#     make install PREFIX=/usr    puts them, the header and the libraries there; DESTDIR stands before it
+#     make                        builds the programs in Rust, and the client for C
+#     make install PREFIX=/usr    puts them, the headers and the libraries there; DESTDIR stands before it
 #     make dist                   makes an archive of the same in OUT
 #     make deb                    makes a package for Debian of the same in OUT
 PREFIX = /usr/local
@@ -13,9 +13,11 @@ OUT = $(CURDIR)/dist
 CARGO_FLAGS = $(shell hosts/packaging/requirements debian && echo --config debian.toml)
 CARGO = cargo
 
+# The client for C is built by itself: together with the server it would need what only the server does.
 all:
-	cd hosts && KRL_LIBRARY=$(LIBRARY) KRL_KIT_C=$(KIT) CARGO_TARGET_DIR=$(TARGET) \
-	    $(CARGO) build --release $(CARGO_FLAGS) -p krl-server -p krl-client
+	cd hosts && export KRL_LIBRARY=$(LIBRARY) KRL_KIT_C=$(KIT) CARGO_TARGET_DIR=$(TARGET) && \
+	    $(CARGO) build --release $(CARGO_FLAGS) -p krl-server -p krl-client && \
+	    $(CARGO) build --release $(CARGO_FLAGS) -p krl-client-c --lib
 
 install: all
 	LIBRARY=$(LIBRARY) KIT=$(KIT) PROGRAMS=$(TARGET)/release hosts/packaging/install $(DESTDIR)$(PREFIX)

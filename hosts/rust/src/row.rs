@@ -15,7 +15,7 @@ pub struct Value {
     bytes: [u8; MAX_VALUE_BYTES],
 }
 
-/// A row of the table: a key below [`END`] and its value.
+/// A row of the table: a key below [`END`] and its value. In memory it is a `krl_row` of `krl.h`.
 #[repr(C)]
 #[derive(Clone, Copy, Debug, Default, PartialEq, Eq, Hash, PartialOrd, Ord)]
 pub struct Row {

@@ -105,11 +105,17 @@ impl ShardedPin<'_> {
 #[derive(Clone, Debug, PartialEq, Eq)]
 #[non_exhaustive]
 pub struct ShardStatus {
+    /// The shard's place in the map, from 0.
+    pub shard: usize,
     /// The epoch that the shard's client has joined: how many times its server had started by then.
     /// Refused as [`Client::epoch`] is.
     pub epoch: Result<u64, Refused>,
     /// Whether there is a connection just now.
     pub is_connected: bool,
+    /// The incarnation of the shard's client, as [`Client::incarnation`] gives it.
+    pub incarnation: u64,
+    /// What is left of the lease there, as [`Client::lease_left`] gives it.
+    pub lease_left: Option<Duration>,
 }
 
 impl ShardedClient {
@@ -167,11 +173,14 @@ impl ShardedClient {
     /// What the client shows of each shard that it has joined, in their order.
     #[must_use]
     pub fn status(&self) -> Vec<ShardStatus> {
-        let status = |client: &Client| ShardStatus {
+        let status = |(shard, client): (usize, &Client)| ShardStatus {
+            shard,
             epoch: client.epoch(),
-            is_connected: client.link.is_connected(),
+            is_connected: client.is_connected(),
+            incarnation: client.incarnation(),
+            lease_left: client.lease_left(),
         };
-        self.clients.iter().map(status).collect()
+        self.clients().map(status).collect()
     }
 
     /// From now on, each call waits so long for an answer, a year at most.

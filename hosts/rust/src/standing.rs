@@ -136,6 +136,12 @@ impl Client {
         self.link.with_jobs(Jobs::epoch).map_err(Code::into)
     }
 
+    /// Whether the client has a connection to its server at this moment.
+    #[must_use]
+    pub fn is_connected(&self) -> bool {
+        self.link.is_connected()
+    }
+
     /// Does what [`Client::leave`] does, by a client that several threads share: it gives back all
     /// that the client holds, and waits so long until the server has kept that it left. From then
     /// on the client's calls are refused.

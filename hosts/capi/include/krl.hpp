@@ -1,0 +1,352 @@
+/* krl.hpp: a client of a krl server for C++17, over krl_client.h, which describes each call in full.
+ *
+ *     krl::options options;
+ *     options.servers = "127.0.0.1:7400";
+ *     options.number = 3;
+ *     options.lock_file = "client-3.lock";
+ *     krl::client client(options);
+ *     if (client.insert(15, "hello") == krl::outcome::exists)
+ *         std::cout << "there is a row already\n";
+ *     krl::rows rows = client.read(10, 20);
+ *     for (auto [key, value] : rows)
+ *         std::cout << key << '=' << value << '\n';
+ *     auto [read, pin] = client.pin_for_update(10, 20);
+ *
+ * Clients, pins and rows free themselves, and can be moved but not copied. Each error is thrown as a krl::error, and
+ * std::bad_alloc if memory was refused. A destructor throws nothing. A client and its pins may be used by many threads
+ * at the same time, rows by one.
+ */
+#ifndef KRL_HPP
+#define KRL_HPP
+
+#include "krl_client.h"
+
+#include <chrono>
+#include <cstddef>
+#include <cstdint>
+#include <iterator>
+#include <memory>
+#include <new>
+#include <stdexcept>
+#include <string>
+#include <string_view>
+#include <utility>
+#include <vector>
+
+namespace krl {
+
+/* One past the greatest key, and the greatest end of a range. */
+inline constexpr std::uint64_t end_of_keys = KRLC_END;
+inline constexpr std::uint64_t end_of_ranges = KRLC_TOP;
+
+/* What a call failed with: `what` is a sentence for people. */
+class error : public std::runtime_error {
+  public:
+    explicit error(const krlc_error &failed)
+        : std::runtime_error(failed.sentence), code_(static_cast<krlc_code>(failed.code)), shard_(failed.shard) {}
+    error(krlc_code code, const char *sentence) : std::runtime_error(sentence), code_(code), shard_(-1) {}
+
+    krlc_code code() const noexcept { return code_; }
+    /* The shard that refused the call, from 0, or -1. */
+    int shard() const noexcept { return shard_; }
+    /* Whether a write that failed so may have been applied, or may still be: a read of the key shows it. */
+    bool is_unknown_outcome() const noexcept { return krlc_is_unknown_outcome(code_); }
+
+  private:
+    krlc_code code_;
+    int shard_;
+};
+
+/* How a write was judged. Only `applied` has changed the table. */
+enum class outcome : std::uint32_t {
+    applied = KRLC_OK,
+    exists = KRLC_EXISTS,
+    absent = KRLC_ABSENT,
+    full = KRLC_FULL,
+    not_held = KRLC_NOT_HELD,
+};
+
+/* A row of an answer. The value is borrowed from the rows. */
+struct row {
+    std::uint64_t key;
+    std::string_view value;
+};
+
+namespace detail {
+
+/* Returns the code of an answer, and throws an error. */
+inline std::uint32_t check(std::uint32_t code, const krlc_error &failed) {
+    if (code <= KRLC_ANSWERS)
+        return code;
+    if (code == KRLC_OUT_OF_MEMORY)
+        throw std::bad_alloc();
+    throw error(failed);
+}
+
+/* The same of a call that writes no sentence. */
+inline std::uint32_t check(std::uint32_t code) {
+    if (code > KRLC_ANSWERS)
+        throw error(static_cast<krlc_code>(code), krlc_code_name(code));
+    return code;
+}
+
+inline std::uint64_t milliseconds(std::chrono::milliseconds time) {
+    return time.count() > 0 ? static_cast<std::uint64_t>(time.count()) : 0;
+}
+
+inline const char *or_null(const std::string &text) { return text.empty() ? nullptr : text.c_str(); }
+
+struct free_client {
+    void operator()(krlc_client *client) const noexcept { krlc_free(client); }
+};
+struct free_pin {
+    void operator()(krlc_pin *pin) const noexcept { krlc_pin_free(pin); }
+};
+struct free_rows {
+    void operator()(krlc_rows *rows) const noexcept { krlc_rows_free(rows); }
+};
+
+} // namespace detail
+
+/* The rows of an answer, in the order of their keys. They may be given to another read, which uses their room. */
+class rows {
+  public:
+    class iterator {
+      public:
+        using iterator_category = std::input_iterator_tag;
+        using value_type = row;
+        using difference_type = std::ptrdiff_t;
+        using pointer = const row *;
+        using reference = row;
+
+        iterator() = default;
+        explicit iterator(const krlc_row *at) noexcept : at_(at) {}
+        row operator*() const noexcept {
+            return {at_->key, {reinterpret_cast<const char *>(at_->bytes), static_cast<std::size_t>(at_->length)}};
+        }
+        iterator &operator++() noexcept {
+            ++at_;
+            return *this;
+        }
+        iterator operator++(int) noexcept { return iterator(at_++); }
+        friend bool operator==(iterator a, iterator b) noexcept { return a.at_ == b.at_; }
+        friend bool operator!=(iterator a, iterator b) noexcept { return a.at_ != b.at_; }
+
+      private:
+        const krlc_row *at_ = nullptr;
+    };
+    using const_iterator = iterator;
+    using value_type = row;
+
+    rows() : room_(krlc_rows_new()) {
+        if (!room_)
+            throw std::bad_alloc();
+    }
+
+    const krlc_row *data() const noexcept { return krlc_rows_get(room_.get(), nullptr); }
+    std::size_t size() const noexcept {
+        std::size_t count = 0;
+        krlc_rows_get(room_.get(), &count);
+        return count;
+    }
+    bool empty() const noexcept { return size() == 0; }
+    iterator begin() const noexcept { return iterator(data()); }
+    iterator end() const noexcept {
+        std::size_t count = 0;
+        const krlc_row *at = krlc_rows_get(room_.get(), &count);
+        return iterator(at + count);
+    }
+    /* The row at a place below the size. */
+    row operator[](std::size_t place) const noexcept { return *iterator(data() + place); }
+
+    krlc_rows *get() const noexcept { return room_.get(); }
+
+  private:
+    std::unique_ptr<krlc_rows, detail::free_rows> room_;
+};
+
+/* A pinned range: other clients wait for it until this is destroyed. It may live longer than its client. */
+class pin {
+  public:
+    explicit pin(krlc_pin *taken) noexcept : pin_(taken) {}
+
+    /* Whether no other client has taken anything of the range since it was pinned. Ask after the work. */
+    [[nodiscard]] bool holds() const {
+        std::uint32_t code = krlc_pin_holds(pin_.get());
+        return code != KRLC_PIN_IS_VOID && detail::check(code) == KRLC_OK;
+    }
+    /* These writes are made while the pin holds, or never: otherwise KRLC_PIN_IS_VOID is thrown. */
+    [[nodiscard]] outcome insert(std::uint64_t key, std::string_view value) {
+        krlc_error failed;
+        std::uint32_t code = krlc_pin_insert(pin_.get(), key, value.data(), value.size(), &failed);
+        return static_cast<outcome>(detail::check(code, failed));
+    }
+    [[nodiscard]] outcome put(std::uint64_t key, std::string_view value) {
+        krlc_error failed;
+        std::uint32_t code = krlc_pin_put(pin_.get(), key, value.data(), value.size(), &failed);
+        return static_cast<outcome>(detail::check(code, failed));
+    }
+    [[nodiscard]] outcome erase(std::uint64_t key) {
+        krlc_error failed;
+        return static_cast<outcome>(detail::check(krlc_pin_delete(pin_.get(), key, &failed), failed));
+    }
+    /* Ends the pin now. Later calls throw. */
+    void release() noexcept { pin_.reset(); }
+
+    krlc_pin *get() const noexcept { return pin_.get(); }
+
+  private:
+    std::unique_ptr<krlc_pin, detail::free_pin> pin_;
+};
+
+/* Rows that were read and are pinned. */
+struct pinned {
+    krl::rows rows;
+    krl::pin pin;
+};
+
+/* How a client joins, as `krlc_options`: an empty text and a zero stand for the default. */
+struct options {
+    std::string servers;
+    std::string map;
+    std::string lock_file;
+    std::uint32_t number = 0;
+    std::chrono::milliseconds timeout{0};
+    std::chrono::milliseconds wait_if_in_use{0};
+    std::string tls_authority;
+    std::string tls_certificate;
+    std::string tls_key;
+    std::string table;
+    std::uint64_t lo = 0;
+    std::uint64_t hi = 0;
+};
+
+/* A client that has joined. Its destructor leaves, and waits at most a second for that. */
+class client {
+  public:
+    explicit client(const options &wanted) {
+        krlc_options options = {};
+        options.size = sizeof options;
+        options.servers = detail::or_null(wanted.servers);
+        options.map = detail::or_null(wanted.map);
+        options.lock_file = detail::or_null(wanted.lock_file);
+        options.number = wanted.number;
+        options.timeout_ms = detail::milliseconds(wanted.timeout);
+        options.wait_if_in_use_ms = detail::milliseconds(wanted.wait_if_in_use);
+        options.tls_authority = detail::or_null(wanted.tls_authority);
+        options.tls_certificate = detail::or_null(wanted.tls_certificate);
+        options.tls_key = detail::or_null(wanted.tls_key);
+        options.table = detail::or_null(wanted.table);
+        options.lo = wanted.lo;
+        options.hi = wanted.hi;
+        krlc_client *joined = nullptr;
+        krlc_error failed;
+        detail::check(krlc_join(&options, &joined, &failed), failed);
+        client_.reset(joined);
+    }
+
+    /* The rows of a range: from the cache if that has it, otherwise from the servers. */
+    [[nodiscard]] krl::rows read(std::uint64_t lo, std::uint64_t hi) {
+        krl::rows found;
+        read(lo, hi, found);
+        return found;
+    }
+    /* The same, into rows that were there before. */
+    void read(std::uint64_t lo, std::uint64_t hi, krl::rows &into) {
+        krlc_error failed;
+        detail::check(krlc_read(client_.get(), lo, hi, into.get(), &failed), failed);
+    }
+    /* Reads from the cache only, without a message: false if that does not have the whole range. */
+    [[nodiscard]] bool cached(std::uint64_t lo, std::uint64_t hi, krl::rows &into) {
+        return detail::check(krlc_cached(client_.get(), lo, hi, into.get())) == KRLC_OK;
+    }
+
+    [[nodiscard]] outcome insert(std::uint64_t key, std::string_view value) {
+        krlc_error failed;
+        std::uint32_t code = krlc_insert(client_.get(), key, value.data(), value.size(), &failed);
+        return static_cast<outcome>(detail::check(code, failed));
+    }
+    [[nodiscard]] outcome put(std::uint64_t key, std::string_view value) {
+        krlc_error failed;
+        std::uint32_t code = krlc_put(client_.get(), key, value.data(), value.size(), &failed);
+        return static_cast<outcome>(detail::check(code, failed));
+    }
+    [[nodiscard]] outcome erase(std::uint64_t key) {
+        krlc_error failed;
+        return static_cast<outcome>(detail::check(krlc_delete(client_.get(), key, &failed), failed));
+    }
+
+    /* Pins what the client holds of the range, without reading it. */
+    [[nodiscard]] krl::pin pin_held(std::uint64_t lo, std::uint64_t hi) {
+        krlc_pin *taken = nullptr;
+        krlc_error failed;
+        detail::check(krlc_pin_held(client_.get(), lo, hi, &taken, &failed), failed);
+        return krl::pin(taken);
+    }
+    /* Read a range and pin it: to read it only, to write there next, or so that nobody else reads it. */
+    [[nodiscard]] pinned pin_for_read(std::uint64_t lo, std::uint64_t hi) {
+        return pinned_by(krlc_pin_for_read, lo, hi);
+    }
+    [[nodiscard]] pinned pin_for_update(std::uint64_t lo, std::uint64_t hi) {
+        return pinned_by(krlc_pin_for_update, lo, hi);
+    }
+    [[nodiscard]] pinned pin_for_write(std::uint64_t lo, std::uint64_t hi) {
+        return pinned_by(krlc_pin_for_write, lo, hi);
+    }
+
+    /* Waits until the client no longer knows that the range has just these rows: false after the time. */
+    [[nodiscard]] bool wait_for_change(std::uint64_t lo, std::uint64_t hi, const krl::rows &known,
+                                       std::chrono::milliseconds time) {
+        krlc_error failed;
+        std::uint32_t code = krlc_wait_for_change(client_.get(), lo, hi, known.data(), known.size(),
+                                                  detail::milliseconds(time), &failed);
+        return detail::check(code, failed) == KRLC_OK;
+    }
+    /* Gives back what the client holds of the range. */
+    void forget(std::uint64_t lo, std::uint64_t hi) {
+        krlc_error failed;
+        detail::check(krlc_forget(client_.get(), lo, hi, &failed), failed);
+    }
+
+    /* What the client shows of each shard that it has joined, or of its one server. */
+    [[nodiscard]] std::vector<krlc_status> status() const {
+        std::vector<krlc_status> shown(krlc_joined(client_.get()));
+        krlc_error failed;
+        for (std::size_t place = 0; place < shown.size(); place++)
+            detail::check(krlc_status_at(client_.get(), place, &shown[place], &failed), failed);
+        return shown;
+    }
+    void set_timeout(std::chrono::milliseconds timeout) {
+        krlc_error failed;
+        detail::check(krlc_set_timeout(client_.get(), detail::milliseconds(timeout), &failed), failed);
+    }
+    void reload_tls() {
+        krlc_error failed;
+        detail::check(krlc_reload_tls(client_.get(), &failed), failed);
+    }
+    /* Gives back all that the client holds, and waits until each server has that on its disk. */
+    void leave() {
+        krlc_error failed;
+        detail::check(krlc_leave(client_.get(), &failed), failed);
+    }
+
+    krlc_client *get() const noexcept { return client_.get(); }
+
+  private:
+    using pin_call = std::uint32_t (*)(krlc_client *, std::uint64_t, std::uint64_t, krlc_rows *, krlc_pin **,
+                                       krlc_error *);
+
+    pinned pinned_by(pin_call call, std::uint64_t lo, std::uint64_t hi) {
+        krl::rows found;
+        krlc_pin *taken = nullptr;
+        krlc_error failed;
+        detail::check(call(client_.get(), lo, hi, found.get(), &taken, &failed), failed);
+        return {std::move(found), krl::pin(taken)};
+    }
+
+    std::unique_ptr<krlc_client, detail::free_client> client_;
+};
+
+} // namespace krl
+
+#endif

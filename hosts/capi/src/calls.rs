@@ -1,0 +1,334 @@
+//! The calls of the header, which says what each does and what its caller has to see to: these are
+//! the conditions under which each is safe. Each examines what C gives it, and hands on values.
+#![allow(clippy::missing_safety_doc, reason = "the header has it")]
+#![allow(missing_docs, reason = "the header has it")]
+mod pins;
+mod room;
+
+pub use pins::*;
+use room::emptied;
+pub use room::*;
+
+use crate::client::Joined;
+use crate::code::Code;
+use crate::fault::{ErrorRoom, Fault, answer, quiet};
+use crate::fork;
+use crate::handle::{Handle, Kind};
+use crate::input::{self, GivenRow, range};
+use crate::options::{Options, options_at};
+use crate::status::Status;
+use crate::table::{Table, Write};
+use krl::Row;
+use std::ffi::{c_char, c_void};
+use std::ptr;
+use std::time::Duration;
+
+type Client = Handle<Joined>;
+type Rows = Handle<Vec<Row>>;
+
+static CLIENTS: Kind<Joined> = Kind::new("client");
+
+/// The table of a client of this process.
+///
+/// # Safety
+///
+/// `client` is null or a client's handle, which no other call frees as long as the answer lives.
+unsafe fn table<'a>(client: *const Client) -> Result<&'a Table, Fault> {
+    // SAFETY: the caller vouches for the handle.
+    unsafe { CLIENTS.own_value(client) }.map(Joined::table)
+}
+
+/// Writes an output parameter.
+///
+/// # Safety
+///
+/// `at` is null or points to room for the value.
+unsafe fn put_out<T>(what: &str, at: *mut T, value: T) -> Result<(), Fault> {
+    if at.is_null() {
+        return Err(Fault::misuse(format!("the pointer to room for {what} is null")));
+    }
+    // SAFETY: the caller vouches for the room. Nothing of it is read.
+    unsafe { at.write(value) };
+    Ok(())
+}
+
+#[unsafe(no_mangle)]
+pub extern "C" fn krlc_version() -> u32 {
+    let part = |text: &str| text.parse::<u32>().unwrap_or(0);
+    let (major, minor) = (env!("CARGO_PKG_VERSION_MAJOR"), env!("CARGO_PKG_VERSION_MINOR"));
+    part(major) * 1_000_000 + part(minor) * 1000 + part(env!("CARGO_PKG_VERSION_PATCH"))
+}
+
+#[unsafe(no_mangle)]
+pub extern "C" fn krlc_code_name(code: u32) -> *const c_char {
+    Code::of(code).map_or(c"?", Code::name).as_ptr()
+}
+
+#[unsafe(no_mangle)]
+pub extern "C" fn krlc_is_unknown_outcome(code: u32) -> bool {
+    Code::of(code).is_some_and(Code::is_unknown_outcome)
+}
+
+#[unsafe(no_mangle)]
+pub unsafe extern "C" fn krlc_join(
+    options: *const Options,
+    client: *mut *mut Client,
+    error: *mut ErrorRoom,
+) -> u32 {
+    let join = || {
+        // SAFETY: the caller vouches for the room, the options and their texts.
+        unsafe { put_out("a client", client, ptr::null_mut()) }?;
+        // SAFETY: as above.
+        let options = unsafe { options_at(options) }?;
+        // SAFETY: as above.
+        let wish = unsafe { options.wish() }?;
+        if !fork::watch() {
+            return Err(Fault::new(Code::OutOfMemory, "memory was refused"));
+        }
+        let joined = CLIENTS.open(wish.join()?)?;
+        // SAFETY: as above.
+        unsafe { put_out("a client", client, joined) }?;
+        Ok(Code::Ok)
+    };
+    // SAFETY: the caller vouches for the room of the error.
+    unsafe { answer(error, join) }
+}
+
+#[unsafe(no_mangle)]
+pub unsafe extern "C" fn krlc_leave(client: *mut Client, error: *mut ErrorRoom) -> u32 {
+    let leave = || {
+        // SAFETY: the caller frees the client after this call.
+        let table = unsafe { table(client) }?;
+        table.depart(table.timeout())?;
+        Ok(Code::Ok)
+    };
+    // SAFETY: the caller vouches for the room of the error.
+    unsafe { answer(error, leave) }
+}
+
+#[unsafe(no_mangle)]
+pub unsafe extern "C" fn krlc_free(client: *mut Client) {
+    // SAFETY: the caller makes no other call with the client.
+    quiet(|| unsafe { CLIENTS.free(client, Joined::end) });
+}
+
+#[unsafe(no_mangle)]
+pub unsafe extern "C" fn krlc_set_timeout(
+    client: *mut Client,
+    timeout_ms: u64,
+    error: *mut ErrorRoom,
+) -> u32 {
+    let set = || {
+        // SAFETY: the caller frees the client after this call.
+        let table = unsafe { table(client) }?;
+        if timeout_ms == 0 {
+            return Err(Fault::misuse("a timeout is at least 1 millisecond"));
+        }
+        table.set_timeout(Duration::from_millis(timeout_ms));
+        Ok(Code::Ok)
+    };
+    // SAFETY: the caller vouches for the room of the error.
+    unsafe { answer(error, set) }
+}
+
+#[unsafe(no_mangle)]
+pub unsafe extern "C" fn krlc_reload_tls(client: *mut Client, error: *mut ErrorRoom) -> u32 {
+    let reload = || {
+        // SAFETY: the caller frees the client after this call.
+        unsafe { CLIENTS.own_value(client) }?.reload_tls()?;
+        Ok(Code::Ok)
+    };
+    // SAFETY: the caller vouches for the room of the error.
+    unsafe { answer(error, reload) }
+}
+
+#[unsafe(no_mangle)]
+pub unsafe extern "C" fn krlc_joined(client: *mut Client) -> usize {
+    // SAFETY: the caller frees the client after this call.
+    let joined = || unsafe { table(client) }.map_or(0, Table::joined);
+    quiet(joined).unwrap_or(0)
+}
+
+#[unsafe(no_mangle)]
+pub unsafe extern "C" fn krlc_status_at(
+    client: *mut Client,
+    place: usize,
+    status: *mut Status,
+    error: *mut ErrorRoom,
+) -> u32 {
+    let show = || {
+        // SAFETY: the caller frees the client after this call.
+        let shown = unsafe { table(client) }?.status_at(place)?;
+        // SAFETY: the caller vouches for the room.
+        unsafe { put_out("a status", status, shown) }?;
+        Ok(Code::Ok)
+    };
+    // SAFETY: the caller vouches for the room of the error.
+    unsafe { answer(error, show) }
+}
+
+#[unsafe(no_mangle)]
+pub unsafe extern "C" fn krlc_cached(
+    client: *mut Client,
+    lo: u64,
+    hi: u64,
+    rows: *mut Rows,
+) -> u32 {
+    let read = || {
+        // SAFETY: the caller frees both after this call, and uses the rows in no other one.
+        let (table, rows) = unsafe { (table(client)?, emptied(rows)?) };
+        let is_cached = table.cached_into(range(lo, hi)?, rows);
+        if !is_cached {
+            rows.clear();
+        }
+        Ok(if is_cached { Code::Ok } else { Code::Miss })
+    };
+    // SAFETY: there is no room for an error.
+    unsafe { answer(ptr::null_mut(), read) }
+}
+
+#[unsafe(no_mangle)]
+pub unsafe extern "C" fn krlc_cached_into(
+    client: *mut Client,
+    lo: u64,
+    hi: u64,
+    at: *mut Row,
+    room: usize,
+    count: *mut usize,
+) -> u32 {
+    let read = || {
+        // SAFETY: the caller frees the client after this call.
+        let table = unsafe { table(client) }?;
+        if at.is_null() && room > 0 {
+            return Err(Fault::misuse("the pointer to room for rows is null"));
+        }
+        let mut found = 0;
+        let copy = |row: &Row| {
+            if found < room {
+                // SAFETY: the caller vouches for so much room. Nothing of it is read.
+                unsafe { at.add(found).write(*row) };
+            }
+            found += 1;
+        };
+        if !table.for_each_cached(range(lo, hi)?, copy) {
+            return Ok(Code::Miss);
+        }
+        // SAFETY: the caller vouches for the room.
+        unsafe { put_out("a count", count, found) }?;
+        Ok(if found <= room { Code::Ok } else { Code::TooShort })
+    };
+    // SAFETY: there is no room for an error.
+    unsafe { answer(ptr::null_mut(), read) }
+}
+
+#[unsafe(no_mangle)]
+pub unsafe extern "C" fn krlc_read(
+    client: *mut Client,
+    lo: u64,
+    hi: u64,
+    rows: *mut Rows,
+    error: *mut ErrorRoom,
+) -> u32 {
+    let read = || {
+        // SAFETY: the caller frees both after this call, and uses the rows in no other one.
+        let (table, rows) = unsafe { (table(client)?, emptied(rows)?) };
+        let keys = range(lo, hi)?;
+        if !table.cached_into(keys.clone(), rows) {
+            rows.clear();
+            *rows = table.read(keys)?;
+        }
+        Ok(Code::Ok)
+    };
+    // SAFETY: the caller vouches for the room of the error.
+    unsafe { answer(error, read) }
+}
+
+#[unsafe(no_mangle)]
+pub unsafe extern "C" fn krlc_wait_for_change(
+    client: *mut Client,
+    lo: u64,
+    hi: u64,
+    rows: *const GivenRow,
+    count: usize,
+    timeout_ms: u64,
+    error: *mut ErrorRoom,
+) -> u32 {
+    let wait = || {
+        // SAFETY: the caller frees the client after this call, and vouches for so many rows.
+        let (table, rows) = unsafe { (table(client)?, input::rows(rows, count)?) };
+        let timeout = Duration::from_millis(timeout_ms);
+        let has_changed = table.wait_for_change(range(lo, hi)?, &rows, timeout);
+        Ok(if has_changed { Code::Ok } else { Code::Unchanged })
+    };
+    // SAFETY: the caller vouches for the room of the error.
+    unsafe { answer(error, wait) }
+}
+
+#[unsafe(no_mangle)]
+pub unsafe extern "C" fn krlc_forget(
+    client: *mut Client,
+    lo: u64,
+    hi: u64,
+    error: *mut ErrorRoom,
+) -> u32 {
+    let forget = || {
+        // SAFETY: the caller frees the client after this call.
+        unsafe { table(client) }?.forget(range(lo, hi)?)?;
+        Ok(Code::Ok)
+    };
+    // SAFETY: the caller vouches for the room of the error.
+    unsafe { answer(error, forget) }
+}
+
+/// Makes a write by a client.
+///
+/// # Safety
+///
+/// As the header says of the calls below.
+unsafe fn write(
+    client: *mut Client,
+    error: *mut ErrorRoom,
+    write: impl FnOnce() -> Result<Write, Fault>,
+) -> u32 {
+    let write = || {
+        // SAFETY: the caller frees the client after this call.
+        let table = unsafe { table(client) }?;
+        Ok(table.write(write()?)?.into())
+    };
+    // SAFETY: the caller vouches for the room of the error.
+    unsafe { answer(error, write) }
+}
+
+#[unsafe(no_mangle)]
+pub unsafe extern "C" fn krlc_insert(
+    client: *mut Client,
+    key: u64,
+    bytes: *const c_void,
+    length: usize,
+    error: *mut ErrorRoom,
+) -> u32 {
+    // SAFETY: the caller vouches for so many bytes.
+    let value = || unsafe { input::value(bytes.cast(), length) };
+    // SAFETY: the caller vouches for the client and the room.
+    unsafe { write(client, error, || Ok(Write::Insert(key, value()?))) }
+}
+
+#[unsafe(no_mangle)]
+pub unsafe extern "C" fn krlc_put(
+    client: *mut Client,
+    key: u64,
+    bytes: *const c_void,
+    length: usize,
+    error: *mut ErrorRoom,
+) -> u32 {
+    // SAFETY: the caller vouches for so many bytes.
+    let value = || unsafe { input::value(bytes.cast(), length) };
+    // SAFETY: the caller vouches for the client and the room.
+    unsafe { write(client, error, || Ok(Write::Put(key, value()?))) }
+}
+
+#[unsafe(no_mangle)]
+pub unsafe extern "C" fn krlc_delete(client: *mut Client, key: u64, error: *mut ErrorRoom) -> u32 {
+    // SAFETY: the caller vouches for the client and the room.
+    unsafe { write(client, error, || Ok(Write::Delete(key))) }
+}

@@ -1,0 +1,170 @@
+//! What a call returns.
+use krl::{Code as LibraryCode, JoinError, Outcome, Refused};
+use std::ffi::CStr;
+
+macro_rules! codes {
+    ($($variant:ident = $number:literal, $name:literal;)*) => {
+        /// A `krlc_code` of the header.
+        #[derive(Clone, Copy, Debug, PartialEq, Eq)]
+        #[repr(u32)]
+        pub enum Code {
+            $($variant = $number,)*
+        }
+
+        impl Code {
+            /// Each code.
+            pub const ALL: &[Code] = &[$(Code::$variant,)*];
+
+            /// The name that the header gives it.
+            pub fn name(self) -> &'static CStr {
+                match self {
+                    $(Code::$variant => $name,)*
+                }
+            }
+        }
+    };
+}
+
+codes! {
+    Ok = 0, c"KRLC_OK";
+    Exists = 1, c"KRLC_EXISTS";
+    Absent = 2, c"KRLC_ABSENT";
+    Full = 3, c"KRLC_FULL";
+    NotHeld = 4, c"KRLC_NOT_HELD";
+    Miss = 5, c"KRLC_MISS";
+    Unchanged = 6, c"KRLC_UNCHANGED";
+    TooShort = 7, c"KRLC_TOO_SHORT";
+    Misuse = 16, c"KRLC_MISUSE";
+    BadRange = 17, c"KRLC_BAD_RANGE";
+    BadKey = 18, c"KRLC_BAD_KEY";
+    TooLong = 19, c"KRLC_TOO_LONG";
+    BadNumber = 20, c"KRLC_BAD_NUMBER";
+    BadAddress = 21, c"KRLC_BAD_ADDRESS";
+    BadMap = 22, c"KRLC_BAD_MAP";
+    BadTls = 23, c"KRLC_BAD_TLS";
+    LockFile = 24, c"KRLC_LOCK_FILE";
+    Pinned = 25, c"KRLC_PINNED";
+    TooManyPins = 26, c"KRLC_TOO_MANY_PINS";
+    Left = 27, c"KRLC_LEFT";
+    Forked = 28, c"KRLC_FORKED";
+    TimedOut = 40, c"KRLC_TIMED_OUT";
+    Unserved = 41, c"KRLC_UNSERVED";
+    StoreWentBack = 42, c"KRLC_STORE_WENT_BACK";
+    LeaseEnded = 43, c"KRLC_LEASE_ENDED";
+    Stopped = 44, c"KRLC_STOPPED";
+    Internal = 45, c"KRLC_INTERNAL";
+    TurnedAway = 60, c"KRLC_TURNED_AWAY";
+    OtherShard = 61, c"KRLC_OTHER_SHARD";
+    PinIsVoid = 62, c"KRLC_PIN_IS_VOID";
+    OutOfMemory = 63, c"KRLC_OUT_OF_MEMORY";
+    NoThread = 64, c"KRLC_NO_THREAD";
+}
+
+impl Code {
+    /// The code of a number, if it is one.
+    pub fn of(number: u32) -> Option<Code> {
+        Code::ALL.iter().copied().find(|code| *code as u32 == number)
+    }
+
+    /// Whether a write that returned this may have been applied, or may still be.
+    pub fn is_unknown_outcome(self) -> bool {
+        matches!(
+            self,
+            Code::TimedOut
+                | Code::Unserved
+                | Code::StoreWentBack
+                | Code::LeaseEnded
+                | Code::Stopped
+                | Code::Internal
+        )
+    }
+}
+
+impl From<Outcome> for Code {
+    fn from(outcome: Outcome) -> Code {
+        match outcome {
+            Outcome::Applied => Code::Ok,
+            Outcome::Exists => Code::Exists,
+            Outcome::Absent => Code::Absent,
+            Outcome::NotHeld => Code::NotHeld,
+            Outcome::Full => Code::Full,
+        }
+    }
+}
+
+impl From<&Refused> for Code {
+    fn from(refused: &Refused) -> Code {
+        match refused {
+            Refused::TimedOut => Code::TimedOut,
+            Refused::Unserved(_) => Code::Unserved,
+            Refused::TurnedAway => Code::TurnedAway,
+            Refused::OtherShard(_) => Code::OtherShard,
+            Refused::StoreWentBack => Code::StoreWentBack,
+            Refused::LeaseEnded => Code::LeaseEnded,
+            Refused::PinIsVoid => Code::PinIsVoid,
+            Refused::Stopped => Code::Stopped,
+            Refused::BadRange => Code::BadRange,
+            Refused::BadKey => Code::BadKey,
+            Refused::Pinned => Code::Pinned,
+            Refused::TooManyPins => Code::TooManyPins,
+            Refused::OutOfMemory => Code::OutOfMemory,
+            Refused::Other(LibraryCode::Gone) => Code::Left,
+            _ => Code::Internal,
+        }
+    }
+}
+
+impl From<&JoinError> for Code {
+    fn from(error: &JoinError) -> Code {
+        match error {
+            JoinError::LockFile(_) => Code::LockFile,
+            JoinError::BadNumber => Code::BadNumber,
+            JoinError::Incomplete(_) => Code::Misuse,
+            JoinError::NoAnswer(_) => Code::TimedOut,
+            JoinError::Unserved(_) => Code::Unserved,
+            JoinError::TurnedAway(_) => Code::TurnedAway,
+            JoinError::OtherShard(_) => Code::OtherShard,
+            JoinError::NoThread(_) => Code::NoThread,
+            JoinError::Refused(refused) => refused.into(),
+            _ => Code::Internal,
+        }
+    }
+}
+
+#[cfg(test)]
+mod tests {
+    use super::*;
+
+    #[test]
+    fn a_write_is_unknown_exactly_where_the_crate_calls_it_so() {
+        let errors = [
+            Refused::TimedOut,
+            Refused::Unserved(krl::Refusal::Denied),
+            Refused::TurnedAway,
+            Refused::StoreWentBack,
+            Refused::LeaseEnded,
+            Refused::PinIsVoid,
+            Refused::Stopped,
+            Refused::BadRange,
+            Refused::BadKey,
+            Refused::Pinned,
+            Refused::TooManyPins,
+            Refused::OutOfMemory,
+            Refused::Other(LibraryCode::Gone),
+        ];
+        for refused in errors {
+            let code = Code::from(&refused);
+            assert_eq!(code.is_unknown_outcome(), refused.is_unknown_outcome(), "{refused:?}");
+        }
+        // What no call should return is taken for the worst.
+        assert!(Code::from(&Refused::Other(LibraryCode::Busy)).is_unknown_outcome());
+    }
+
+    #[test]
+    fn codes_have_their_numbers() {
+        for code in Code::ALL {
+            assert_eq!(Code::of(*code as u32), Some(*code));
+        }
+        assert_eq!((Code::of(8), Code::of(15), Code::of(u32::MAX)), (None, None, None));
+    }
+}

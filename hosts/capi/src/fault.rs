@@ -1,0 +1,155 @@
+//! Why a call failed, and how C learns it.
+use crate::code::Code;
+use krl::{JoinError, Refused, ShardJoinError, ShardRefused};
+use std::borrow::Cow;
+use std::fmt::Display;
+use std::mem;
+use std::panic::{AssertUnwindSafe, catch_unwind};
+
+/// The most bytes of a sentence, with the zero that ends it.
+pub const MAX_SENTENCE_BYTES: usize = 504;
+
+/// Why a call failed.
+#[derive(Debug)]
+pub struct Fault {
+    pub code: Code,
+    shard: Option<usize>,
+    sentence: Cow<'static, str>,
+}
+
+/// A `krlc_error` of the header.
+#[derive(Debug)]
+#[repr(C)]
+#[allow(missing_docs, reason = "the header has it")]
+pub struct ErrorRoom {
+    pub code: u32,
+    pub shard: i32,
+    pub sentence: [u8; MAX_SENTENCE_BYTES],
+}
+
+impl Fault {
+    pub fn new(code: Code, sentence: impl Into<Cow<'static, str>>) -> Fault {
+        Fault { code, shard: None, sentence: sentence.into() }
+    }
+
+    pub fn misuse(sentence: impl Into<Cow<'static, str>>) -> Fault {
+        Fault::new(Code::Misuse, sentence)
+    }
+
+    /// One that these words begin, and the error ends.
+    pub fn about(code: Code, what: &str, error: &impl Display) -> Fault {
+        Fault::new(code, format!("{what}: {error}"))
+    }
+
+    fn written(&self) -> ErrorRoom {
+        let mut sentence = [0; MAX_SENTENCE_BYTES];
+        let end = self.sentence.floor_of(MAX_SENTENCE_BYTES - 1);
+        sentence[..end].copy_from_slice(&self.sentence.as_bytes()[..end]);
+        let shard = self.shard.and_then(|shard| i32::try_from(shard).ok()).unwrap_or(-1);
+        ErrorRoom { code: self.code as u32, shard, sentence }
+    }
+}
+
+trait FloorOf {
+    /// The greatest place of at most this one at which the text may end.
+    fn floor_of(&self, most: usize) -> usize;
+}
+
+impl FloorOf for str {
+    fn floor_of(&self, most: usize) -> usize {
+        (0..=most.min(self.len())).rev().find(|end| self.is_char_boundary(*end)).unwrap_or(0)
+    }
+}
+
+impl From<Refused> for Fault {
+    fn from(refused: Refused) -> Fault {
+        ShardRefused::from(refused).into()
+    }
+}
+
+impl From<ShardRefused> for Fault {
+    fn from(refused: ShardRefused) -> Fault {
+        let code = Code::from(&refused.refused);
+        let sentence = match code {
+            Code::Left => Cow::Borrowed("the client has left"),
+            _ => Cow::Owned(refused.to_string()),
+        };
+        Fault { code, shard: refused.shard, sentence }
+    }
+}
+
+impl From<JoinError> for Fault {
+    fn from(error: JoinError) -> Fault {
+        ShardJoinError::from(error).into()
+    }
+}
+
+impl From<ShardJoinError> for Fault {
+    fn from(error: ShardJoinError) -> Fault {
+        let sentence = Cow::Owned(error.to_string());
+        Fault { code: Code::from(&error.error), shard: error.shard, sentence }
+    }
+}
+
+/// Makes a call, and returns its code to C. No panic passes it.
+///
+/// # Safety
+///
+/// `error` is null or points to room for an error that nothing else uses meanwhile.
+pub unsafe fn answer(error: *mut ErrorRoom, call: impl FnOnce() -> Result<Code, Fault>) -> u32 {
+    let fault = match catch_unwind(AssertUnwindSafe(call)) {
+        Ok(Ok(code)) => return code as u32,
+        Ok(Err(fault)) => fault,
+        Err(panic) => {
+            // Its own end could panic again.
+            mem::forget(panic);
+            Fault::new(Code::Internal, "a fault of the library, which standard error shows")
+        }
+    };
+    if !error.is_null() {
+        // SAFETY: the caller vouches for the room. Nothing of it is read.
+        unsafe { error.write(fault.written()) };
+    }
+    fault.code as u32
+}
+
+/// Makes a call that has no code to return. No panic passes it.
+pub fn quiet<T>(call: impl FnOnce() -> T) -> Option<T> {
+    catch_unwind(AssertUnwindSafe(call)).map_err(mem::forget).ok()
+}
+
+#[cfg(test)]
+mod tests {
+    use super::*;
+    use std::ptr;
+
+    #[test]
+    fn no_panic_passes() {
+        let mut error = Fault::misuse("").written();
+        // SAFETY: the room is this test's own.
+        let code = unsafe { answer(&raw mut error, || panic!("on purpose")) };
+        assert_eq!((code, error.code), (Code::Internal as u32, Code::Internal as u32));
+        // SAFETY: the room may be null.
+        let code = unsafe { answer(ptr::null_mut(), || panic!("on purpose")) };
+        assert_eq!(code, Code::Internal as u32);
+        assert_eq!(quiet(|| panic!("on purpose")), None::<()>);
+    }
+
+    #[test]
+    fn a_sentence_ends_between_characters() {
+        let long = "é".repeat(MAX_SENTENCE_BYTES);
+        let room = Fault::misuse(long).written();
+        let end = room.sentence.iter().position(|byte| *byte == 0).unwrap();
+        assert_eq!(end, 502);
+        assert!(std::str::from_utf8(&room.sentence[..end]).is_ok());
+        assert_eq!(Fault::misuse("short").written().sentence[..6], *b"short\0");
+    }
+
+    #[test]
+    fn a_fault_names_its_shard() {
+        let refused = ShardRefused::from(Refused::TimedOut);
+        assert_eq!(Fault::from(refused).written().shard, -1);
+        let fault = Fault { shard: Some(3), ..Fault::from(refused) };
+        assert_eq!(fault.written().shard, 3);
+    }
+}

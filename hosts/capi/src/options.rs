@@ -1,0 +1,195 @@
+//! How a client joins, as C asks for it.
+use crate::client::Joined;
+use crate::code::Code;
+use crate::fault::Fault;
+use crate::input::{range, text};
+use crate::table::Table;
+use crate::tls::{Tls, TlsTexts};
+use krl::{Client, END, Servers, Shard, ShardMap, ShardedClient};
+use std::ffi::c_char;
+use std::mem::MaybeUninit;
+use std::ops::Range;
+use std::path::Path;
+use std::ptr;
+use std::slice;
+use std::time::Duration;
+
+/// No later version has more bytes of options: a greater size was never set.
+const MAX_SIZE: usize = 4096;
+
+/// The `krlc_options` of the header.
+#[derive(Clone, Copy, Debug)]
+#[repr(C)]
+#[allow(missing_docs, reason = "the header has it")]
+pub struct Options {
+    pub size: usize,
+    pub servers: *const c_char,
+    pub map: *const c_char,
+    pub lock_file: *const c_char,
+    pub number: u32,
+    pub timeout_ms: u64,
+    pub wait_if_in_use_ms: u64,
+    pub tls_authority: *const c_char,
+    pub tls_certificate: *const c_char,
+    pub tls_key: *const c_char,
+    pub table: *const c_char,
+    pub lo: u64,
+    pub hi: u64,
+}
+
+/// What the options ask for, with their defaults.
+#[derive(Debug)]
+pub struct Wish<'o> {
+    place: Place,
+    lock_file: &'o Path,
+    number: u8,
+    timeout: Option<Duration>,
+    wait_if_in_use: Option<Duration>,
+    keys: Range<u64>,
+    tls: Tls,
+}
+
+#[derive(Debug)]
+enum Place {
+    One(Servers),
+    Sharded(ShardMap),
+}
+
+/// The options that the caller has, of which an earlier version of the header has fewer.
+///
+/// # Safety
+///
+/// `at` is null, or points to a size and so many bytes altogether, of which none is written
+/// meanwhile.
+pub unsafe fn options_at(at: *const Options) -> Result<Options, Fault> {
+    if at.is_null() {
+        return Err(Fault::misuse("the pointer to the options is null"));
+    }
+    // SAFETY: each version begins with the size.
+    let size = unsafe { (&raw const (*at).size).read() };
+    if !(size_of::<usize>()..=MAX_SIZE).contains(&size) {
+        return Err(Fault::misuse(format!("`size` of the options is {size}: it is not set")));
+    }
+    // SAFETY: the caller vouches for so many bytes.
+    let bytes = unsafe { slice::from_raw_parts(at.cast::<u8>(), size) };
+    let known = size.min(size_of::<Options>());
+    if bytes[known..].iter().any(|byte| *byte != 0) {
+        return Err(Fault::misuse("the options have members that this library does not know"));
+    }
+    let mut options = MaybeUninit::<Options>::zeroed();
+    // SAFETY: so many bytes are there, and there is room for them. All bytes make options, since
+    // their members are numbers and pointers.
+    unsafe {
+        ptr::copy_nonoverlapping(at.cast::<u8>(), options.as_mut_ptr().cast(), known);
+        Ok(options.assume_init())
+    }
+}
+
+impl Options {
+    /// What they ask for.
+    ///
+    /// # Safety
+    ///
+    /// Each text is null, or ends by a zero and stays as long as the answer lives.
+    pub unsafe fn wish<'o>(&self) -> Result<Wish<'o>, Fault> {
+        let text = |what, at| -> Result<Option<&'o str>, Fault> {
+            // SAFETY: the caller vouches for each text.
+            unsafe { text(what, at) }
+        };
+        let place = Place::new(text("servers", self.servers)?, text("map", self.map)?)?;
+        let lock_file = text("lock_file", self.lock_file)?;
+        let lock_file = lock_file.ok_or(Fault::misuse("the option `lock_file` is null"))?;
+        let tls = TlsTexts {
+            authority: text("tls_authority", self.tls_authority)?,
+            certificate: text("tls_certificate", self.tls_certificate)?,
+            key: text("tls_key", self.tls_key)?,
+            table: text("table", self.table)?,
+        };
+        let bad_number = |_| Fault::new(Code::BadNumber, "a client's number is 0 to 63");
+        Ok(Wish {
+            place,
+            lock_file: Path::new(lock_file),
+            number: u8::try_from(self.number).map_err(bad_number)?,
+            timeout: waited(self.timeout_ms),
+            wait_if_in_use: waited(self.wait_if_in_use_ms),
+            keys: self.keys()?,
+            tls: Tls::new(tls)?,
+        })
+    }
+
+    fn keys(&self) -> Result<Range<u64>, Fault> {
+        let is_unset = self.lo == 0 && self.hi == 0;
+        if !self.map.is_null() {
+            return if is_unset { Ok(0..END + 1) } else { range(self.lo, self.hi) };
+        }
+        let misuse = Fault::misuse("the options `lo` and `hi` are for a client with a map");
+        if is_unset { Ok(0..END + 1) } else { Err(misuse) }
+    }
+}
+
+/// A time that is 0 if it is not set.
+fn waited(milliseconds: u64) -> Option<Duration> {
+    (milliseconds > 0).then(|| Duration::from_millis(milliseconds))
+}
+
+impl Place {
+    fn new(servers: Option<&str>, map: Option<&str>) -> Result<Place, Fault> {
+        match (servers, map) {
+            (Some(servers), None) => {
+                let bad = |error| {
+                    Fault::about(Code::BadAddress, &format!("the servers '{servers}'"), &error)
+                };
+                servers.parse().map(Place::One).map_err(bad)
+            }
+            (None, Some(map)) => {
+                let bad = |error| Fault::about(Code::BadMap, &format!("the map '{map}'"), &error);
+                ShardMap::from_file(map).map(Place::Sharded).map_err(bad)
+            }
+            (None, None) => Err(Fault::misuse("neither `servers` nor `map` is set")),
+            (Some(_), Some(_)) => Err(Fault::misuse("`servers` and `map` are both set")),
+        }
+    }
+}
+
+/// The same map, to whose servers a client shows this.
+fn with_tls(map: &ShardMap, tls: &Tls) -> Result<ShardMap, Fault> {
+    let shard =
+        |shard: &Shard| Shard { first: shard.first, servers: tls.show_to(shard.servers.clone()) };
+    let same = ShardMap::new(map.shards().iter().map(shard).collect());
+    let same = same.map_err(|error| Fault::about(Code::BadMap, "the map", &error))?;
+    Ok(match map.version() {
+        Some(version) => same.with_version(version),
+        None => same,
+    })
+}
+
+impl Wish<'_> {
+    /// Joins.
+    pub fn join(self) -> Result<Joined, Fault> {
+        let table = match self.place {
+            Place::One(servers) => {
+                let builder = Client::builder(self.tls.show_to(servers));
+                let mut builder = builder.number(self.number).lock_file(self.lock_file);
+                if let Some(timeout) = self.timeout {
+                    builder = builder.timeout(timeout);
+                }
+                if let Some(wait) = self.wait_if_in_use {
+                    builder = builder.wait_if_in_use(wait);
+                }
+                Table::One(builder.join()?)
+            }
+            Place::Sharded(map) => {
+                let builder = ShardedClient::builder(with_tls(&map, &self.tls)?).keys(self.keys);
+                let mut builder = builder.number(self.number).lock_folder(self.lock_file);
+                if let Some(timeout) = self.timeout {
+                    builder = builder.timeout(timeout);
+                }
+                if let Some(wait) = self.wait_if_in_use {
+                    builder = builder.wait_if_in_use(wait);
+                }
+                Table::Sharded(builder.join()?)
+            }
+        };
+        Ok(Joined::new(table, self.tls))
+    }
+}

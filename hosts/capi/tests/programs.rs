@@ -1,0 +1,308 @@
+//! Programs in C and C++ over the shared library, against servers in this process: plain, and with
+//! the sanitizers of the compiler.
+use krl::{Access, Leases, Listener, MemoryStore, Server, Shard, ShardMap, TlsConfig};
+use std::fs;
+use std::io::{BufRead, BufReader};
+use std::path::{Path, PathBuf};
+use std::process::{Command, Stdio};
+use std::time::Duration;
+
+/// The folder of the package.
+const PACKAGE: &str = env!("CARGO_MANIFEST_DIR");
+
+/// The second shard of a map begins here.
+const BOUND: u64 = 100;
+
+/// A table that a program joins, and a folder that is gone when the test is.
+struct World {
+    folder: PathBuf,
+    kind: &'static str,
+    place: String,
+    servers: Vec<Server>,
+}
+
+fn listener() -> Listener {
+    Listener::bind(&"127.0.0.1:0".parse().unwrap()).unwrap()
+}
+
+impl World {
+    fn new(name: &str) -> World {
+        World::over(folder_of(name), listener())
+    }
+
+    /// A server at a Unix socket.
+    fn at_socket(name: &str) -> World {
+        let folder = folder_of(name);
+        let address = format!("unix:{}/socket", folder.display());
+        let listener = Listener::bind(&address.parse().unwrap()).unwrap();
+        World::over(folder, listener)
+    }
+
+    fn over(folder: PathBuf, listener: Listener) -> World {
+        let server = Server::start(listener, MemoryStore::default()).unwrap();
+        let place = server.address().to_string();
+        World { folder, kind: "servers", place, servers: vec![server] }
+    }
+
+    /// A server that grants leases of this length.
+    fn leased(name: &str, length: Duration) -> World {
+        let builder = Server::builder(listener(), MemoryStore::default());
+        let server = builder.leases(Leases::of(length).unwrap()).start().unwrap();
+        let place = server.address().to_string();
+        World { folder: folder_of(name), kind: "leased", place, servers: vec![server] }
+    }
+
+    /// Two shards, and the file of their map.
+    fn sharded(name: &str) -> World {
+        let folder = folder_of(name);
+        let start = |bounds: String| {
+            let builder = Server::builder(listener(), MemoryStore::default());
+            builder.shard(bounds.parse().unwrap()).start().unwrap()
+        };
+        let bounds = [format!("0..{BOUND}@1"), format!("{BOUND}..@1")];
+        let servers: Vec<Server> = bounds.map(start).into();
+        let shard =
+            |(first, server): (u64, &Server)| Shard { first, servers: server.address().into() };
+        let map = ShardMap::new([0, BOUND].into_iter().zip(&servers).map(shard).collect());
+        let file = folder.join("map.toml");
+        fs::write(&file, format!("version = 1\n{}", map.unwrap().to_toml())).unwrap();
+        World { place: text(&file), folder, kind: "map", servers }
+    }
+
+    /// A server by TLS, and certificates of the clients 0 and 1 in the folder.
+    fn certified(name: &str) -> World {
+        let folder = folder_of(name);
+        let script = format!("{PACKAGE}/../packaging/certificates");
+        run(Command::new(script).arg(&folder).args(["server", "client-0", "client-1"]));
+        let file = |name: &str| folder.join(name);
+        let [authority, certificate, key] = ["authority.crt", "server.crt", "server.key"].map(file);
+        let config = TlsConfig::from_files(authority, certificate, key).unwrap();
+        let builder = Server::builder(
+            Listener::bind(&"tls:127.0.0.1:0".parse().unwrap()).unwrap(),
+            MemoryStore::default(),
+        );
+        let server = builder.access(Access::new().tls(config)).start().unwrap();
+        let place = server.address().to_string();
+        World { folder, kind: "tls", place, servers: vec![server] }
+    }
+
+    /// Builds a program with these words of the compiler, and runs it.
+    fn runs(&self, compiler: &str, source: &str, words: &[&str]) {
+        self.build(compiler, source, words);
+        self.run(&[self.kind, &self.place, &text(&self.folder)]);
+    }
+
+    /// Runs a program, and ends the servers when it has printed this line.
+    fn ends_under(mut self, source: &str, line: &str) {
+        self.build("cc", source, &[]);
+        let mut program = Command::new(self.program())
+            .args([self.kind, &self.place, &text(&self.folder)])
+            .stdout(Stdio::piped())
+            .spawn()
+            .unwrap();
+        let mut printed = String::new();
+        BufReader::new(program.stdout.take().unwrap()).read_line(&mut printed).unwrap();
+        assert_eq!(printed, line);
+        self.servers.clear();
+        assert!(program.wait().unwrap().success());
+    }
+
+    /// Builds a program of the package with these words of the compiler.
+    fn build(&self, compiler: &str, source: &str, words: &[&str]) {
+        self.build_at(compiler, &format!("{PACKAGE}/{source}"), words);
+    }
+
+    fn build_at(&self, compiler: &str, source: &str, words: &[&str]) {
+        let libraries = libraries();
+        let standard = if compiler.ends_with("++") { "-std=c++17" } else { "-std=c11" };
+        run(Command::new(compiler)
+            .args([standard, "-g", "-Wall", "-Wextra", "-Wpedantic", "-Werror", "-pthread"])
+            .args(words)
+            .arg(format!("-I{PACKAGE}/include"))
+            .arg(format!("-I{PACKAGE}/tests/programs"))
+            .arg(source)
+            .arg("-o")
+            .arg(self.program())
+            .arg(libraries.join("libkrl_client.so"))
+            .arg(format!("-Wl,-rpath,{}", libraries.display())));
+    }
+
+    /// Runs the program that was built, and gives what it prints. A finding of a sanitizer is a
+    /// failure too.
+    fn run(&self, words: &[&str]) -> String {
+        run(Command::new(self.program())
+            .args(words)
+            .env("UBSAN_OPTIONS", "halt_on_error=1")
+            // The sanitizer of threads sees nothing of how the library's own threads take turns.
+            .env("TSAN_OPTIONS", "halt_on_error=1 ignore_noninstrumented_modules=1"))
+    }
+
+    fn program(&self) -> PathBuf {
+        self.folder.join("program")
+    }
+}
+
+impl Drop for World {
+    fn drop(&mut self) {
+        let _ = fs::remove_dir_all(&self.folder);
+    }
+}
+
+fn folder_of(test: &str) -> PathBuf {
+    let folder = std::env::temp_dir().join(format!("krl-capi-{}-{test}", std::process::id()));
+    fs::create_dir_all(&folder).unwrap();
+    folder
+}
+
+fn text(path: &Path) -> String {
+    path.to_str().unwrap().into()
+}
+
+/// Where cargo has left the shared library: this test stands there too. It gets the name that
+/// programs look for.
+fn libraries() -> PathBuf {
+    let folder = std::env::current_exe().unwrap().parent().unwrap().to_path_buf();
+    let name = folder.join("libkrl_client.so.0");
+    // Another test may have made it.
+    let _ = std::os::unix::fs::symlink("libkrl_client.so", &name);
+    assert!(name.exists(), "there is no {}", name.display());
+    folder
+}
+
+fn run(command: &mut Command) -> String {
+    let ended = command.output().unwrap_or_else(|error| panic!("{command:?}: {error}"));
+    assert!(
+        ended.status.success(),
+        "{command:?}: {}\n{}{}",
+        ended.status,
+        String::from_utf8_lossy(&ended.stdout),
+        String::from_utf8_lossy(&ended.stderr)
+    );
+    String::from_utf8(ended.stdout).unwrap()
+}
+
+/// Words of a compiler for its sanitizers.
+const MEMORY: &[&str] = &["-fsanitize=address,undefined", "-fno-sanitize-recover=all"];
+const THREADS: &[&str] = &["-fsanitize=thread"];
+
+#[test]
+fn each_call_answers_as_the_header_says() {
+    World::new("calls").runs("cc", "tests/programs/calls.c", &[]);
+}
+
+#[test]
+fn each_call_with_sanitizers_of_memory() {
+    World::new("calls-memory").runs("cc", "tests/programs/calls.c", MEMORY);
+}
+
+#[test]
+fn each_call_over_shards() {
+    World::sharded("shards").runs("cc", "tests/programs/calls.c", &[]);
+}
+
+#[test]
+fn each_call_with_leases() {
+    let world = World::leased("leases", Duration::from_secs(60));
+    world.runs("cc", "tests/programs/calls.c", &[]);
+}
+
+#[test]
+fn each_call_over_tls() {
+    World::certified("tls").runs("cc", "tests/programs/calls.c", &[]);
+}
+
+#[test]
+fn calls_that_none_should_make_are_refused() {
+    World::new("hostile").runs("cc", "tests/programs/hostile.c", &[]);
+}
+
+#[test]
+fn calls_that_none_should_make_with_sanitizers_of_memory() {
+    World::new("hostile-memory").runs("cc", "tests/programs/hostile.c", MEMORY);
+}
+
+#[test]
+fn many_threads_read_and_write_at_once() {
+    World::new("threads").runs("cc", "tests/programs/threads.c", MEMORY);
+}
+
+#[test]
+fn many_threads_with_the_sanitizer_of_threads() {
+    World::new("threads-threads").runs("cc", "tests/programs/threads.c", THREADS);
+}
+
+#[test]
+fn a_server_that_goes_away_ends_no_program() {
+    World::at_socket("parting").ends_under("tests/programs/parting.c", "joined\n");
+}
+
+#[test]
+fn a_lease_that_ends_leaves_neither_rows_nor_pins() {
+    let world = World::leased("lease", Duration::from_millis(600));
+    world.ends_under("tests/programs/lease.c", "pinned\n");
+}
+
+/// Runs the lines of the page in this language, as the body of a program with these headers.
+fn run_page(language: &str, compiler: &str, headers: &[&str]) -> String {
+    let world = World::new(&format!("page-{compiler}"));
+    let page = include_str!("../README.md");
+    let lines = page.split_once(&format!("```{language}\n")).unwrap().1;
+    let lines = lines.split_once("```").unwrap().0.replace("127.0.0.1:7400", &world.place);
+    let lines = lines.replace("client-3.lock", &text(&world.folder.join("client-3.lock")));
+    let headers: Vec<String> = headers.iter().map(|name| format!("#include <{name}>\n")).collect();
+    let source = world.folder.join(format!("page.{language}"));
+    fs::write(&source, format!("{}int main() {{\n{lines}}}\n", headers.concat())).unwrap();
+    world.build_at(compiler, &text(&source), &[]);
+    world.run(&[])
+}
+
+#[test]
+fn the_lines_of_the_page() {
+    assert_eq!(run_page("c", "cc", &["krl_client.h", "err.h", "stdio.h"]), "15=hello\n");
+    for compiler in compilers() {
+        assert_eq!(run_page("cpp", compiler, &["krl.hpp", "iostream"]), "15=world\n");
+    }
+}
+
+/// Each compiler of C++ that is there. One has to be, if all has to be run.
+fn compilers() -> Vec<&'static str> {
+    let is_there = |name: &&str| Command::new(name).arg("--version").output().is_ok();
+    let found: Vec<&str> = ["g++", "clang++"].into_iter().filter(is_there).collect();
+    if found.is_empty() {
+        assert!(std::env::var_os("KRL_ALL").is_none(), "there is no compiler of C++");
+        eprintln!("NOT RUN: there is no compiler of C++");
+    }
+    found
+}
+
+#[test]
+fn the_classes_for_cpp() {
+    for compiler in compilers() {
+        World::new(compiler).runs(compiler, "tests/programs/wrapper.cpp", &[]);
+    }
+}
+
+#[test]
+fn the_classes_for_cpp_with_sanitizers_of_memory() {
+    for compiler in compilers().into_iter().take(1) {
+        World::new("cpp-memory").runs(compiler, "tests/programs/wrapper.cpp", MEMORY);
+    }
+}
+
+#[test]
+fn the_example_in_c() {
+    let world = World::new("hello");
+    world.build("cc", "examples/hello.c", &[]);
+    let said = world.run(&[&world.place, &text(&world.folder.join("hello.lock"))]);
+    assert_eq!(said, "15=hello\n");
+}
+
+#[test]
+fn the_example_of_a_storage_engine() {
+    for compiler in compilers() {
+        let world = World::new(&format!("engine-{compiler}"));
+        world.build(compiler, "examples/storage_engine.cpp", &[]);
+        let said = world.run(&[&world.place, &text(&world.folder)]);
+        assert_eq!(said, "12 extents taken\n");
+    }
+}

@@ -1,0 +1,232 @@
+/* Calls that no program should make: null pointers, freed handles, lengths and texts that are none, and a child of
+ * `fork`. Each has to be refused, and to leave the client as it is. */
+#include "common.h"
+#include <stddef.h>
+#include <sys/wait.h>
+#include <unistd.h>
+
+static krlc_error error;
+
+static void *const NOWHERE = (void *)8;
+
+static void null_pointers(krlc_client *client, krlc_rows *rows) {
+    krlc_pin *pin = NULL;
+    krlc_row row = {0};
+    size_t count = 9;
+    EXPECT(KRLC_MISUSE, krlc_join(NULL, &client, &error));
+    WANT(client == NULL && strstr(error.sentence, "null") != NULL);
+    EXPECT(KRLC_MISUSE, krlc_join(NULL, NULL, NULL));
+    EXPECT(KRLC_MISUSE, krlc_leave(NULL, &error));
+    EXPECT(KRLC_MISUSE, krlc_set_timeout(NULL, 5, &error));
+    EXPECT(KRLC_MISUSE, krlc_reload_tls(NULL, &error));
+    WANT(krlc_joined(NULL) == 0);
+    EXPECT(KRLC_MISUSE, krlc_cached(NULL, 1, 2, rows));
+    EXPECT(KRLC_MISUSE, krlc_cached_into(NULL, 1, 2, &row, 1, &count));
+    EXPECT(KRLC_MISUSE, krlc_read(NULL, 1, 2, rows, NULL));
+    EXPECT(KRLC_MISUSE, krlc_wait_for_change(NULL, 1, 2, NULL, 0, 1, &error));
+    EXPECT(KRLC_MISUSE, krlc_forget(NULL, 1, 2, &error));
+    EXPECT(KRLC_MISUSE, krlc_insert(NULL, 1, "", 0, &error));
+    EXPECT(KRLC_MISUSE, krlc_put(NULL, 1, "", 0, &error));
+    EXPECT(KRLC_MISUSE, krlc_delete(NULL, 1, &error));
+    EXPECT(KRLC_MISUSE, krlc_pin_held(NULL, 1, 2, &pin, &error));
+    EXPECT(KRLC_MISUSE, krlc_pin_for_read(NULL, 1, 2, rows, &pin, &error));
+    EXPECT(KRLC_MISUSE, krlc_pin_holds(NULL));
+    EXPECT(KRLC_MISUSE, krlc_pin_insert(NULL, 1, "", 0, &error));
+    EXPECT(KRLC_MISUSE, krlc_pin_put(NULL, 1, "", 0, &error));
+    EXPECT(KRLC_MISUSE, krlc_pin_delete(NULL, 1, &error));
+    WANT(krlc_rows_get(NULL, &count) == NULL && count == 0 && krlc_rows_get(NULL, NULL) == NULL);
+    krlc_free(NULL);
+    krlc_pin_free(NULL);
+    krlc_rows_free(NULL);
+}
+
+static void null_rooms(krlc_client *client, krlc_rows *rows) {
+    krlc_row row = {0};
+    size_t count = 9;
+    EXPECT(KRLC_OK, krlc_read(client, 10, 20, rows, NULL));
+    EXPECT(KRLC_MISUSE, krlc_read(client, 10, 20, NULL, &error));
+    EXPECT(KRLC_MISUSE, krlc_cached(client, 10, 20, NULL));
+    EXPECT(KRLC_MISUSE, krlc_cached_into(client, 10, 20, NULL, 1, &count));
+    EXPECT(KRLC_MISUSE, krlc_cached_into(client, 10, 20, &row, 1, NULL));
+    EXPECT(KRLC_MISUSE, krlc_status_at(client, 0, NULL, &error));
+    EXPECT(KRLC_MISUSE, krlc_pin_held(client, 10, 20, NULL, &error));
+    EXPECT(KRLC_MISUSE, krlc_pin_for_write(client, 10, 20, rows, NULL, &error));
+    EXPECT(KRLC_MISUSE, krlc_set_timeout(client, 0, &error));
+    /* None of them has pinned anything. */
+    EXPECT(KRLC_OK, krlc_forget(client, 10, 20, &error));
+    EXPECT(KRLC_OK, krlc_set_timeout(client, UINT64_MAX, &error));
+    EXPECT(KRLC_OK, krlc_set_timeout(client, LONG_MS, &error));
+}
+
+static void lengths(krlc_client *client) {
+    krlc_row row = {.key = 1, .length = 33};
+    EXPECT(KRLC_TOO_LONG, krlc_insert(client, 1, NOWHERE, 33, &error));
+    EXPECT(KRLC_TOO_LONG, krlc_put(client, 1, NOWHERE, SIZE_MAX, &error));
+    EXPECT(KRLC_MISUSE, krlc_put(client, 1, NULL, 1, &error));
+    EXPECT(KRLC_TOO_LONG, krlc_wait_for_change(client, 1, 2, &row, 1, 1, &error));
+    row.length = UINT64_MAX;
+    EXPECT(KRLC_TOO_LONG, krlc_wait_for_change(client, 1, 2, &row, 1, 1, &error));
+    EXPECT(KRLC_MISUSE, krlc_wait_for_change(client, 1, 2, &row, SIZE_MAX, 1, &error));
+    EXPECT(KRLC_MISUSE, krlc_wait_for_change(client, 1, 2, NULL, 1, 1, &error));
+    EXPECT(KRLC_BAD_KEY, krlc_insert(client, UINT64_MAX, "", 0, &error));
+    EXPECT(KRLC_BAD_KEY, krlc_delete(client, KRLC_END, &error));
+    EXPECT(KRLC_BAD_RANGE, krlc_forget(client, 0, UINT64_MAX, &error));
+}
+
+static void expect_no_join(uint32_t wanted, const krlc_options *options, const char *word) {
+    krlc_client *client = NOWHERE;
+    EXPECT(wanted, krlc_join(options, &client, &error));
+    WANT(client == NULL && error.code == wanted);
+    if (strstr(error.sentence, word) == NULL) {
+        fprintf(stderr, "'%s' does not name '%s'\n", error.sentence, word);
+        exit(1);
+    }
+}
+
+static void options(const world *world) {
+    char lock_file[512];
+    snprintf(lock_file, sizeof lock_file, "%s/hostile.lock", world->folder);
+    const krlc_options good = {.size = sizeof good, .servers = world->place, .number = 5, .lock_file = lock_file,
+                               .timeout_ms = LONG_MS};
+    krlc_options bad = good;
+    bad.size = 0;
+    expect_no_join(KRLC_MISUSE, &bad, "size");
+    bad.size = SIZE_MAX;
+    expect_no_join(KRLC_MISUSE, &bad, "size");
+    bad = good, bad.servers = NULL;
+    expect_no_join(KRLC_MISUSE, &bad, "servers");
+    bad = good, bad.map = "/nowhere/map.toml";
+    expect_no_join(KRLC_MISUSE, &bad, "both");
+    bad.servers = NULL;
+    expect_no_join(KRLC_BAD_MAP, &bad, "/nowhere/map.toml");
+    bad = good, bad.servers = "here";
+    expect_no_join(KRLC_BAD_ADDRESS, &bad, "here");
+    bad = good, bad.servers = "\xff\xfe";
+    expect_no_join(KRLC_MISUSE, &bad, "UTF-8");
+    bad = good, bad.lock_file = NULL;
+    expect_no_join(KRLC_MISUSE, &bad, "lock_file");
+    bad = good, bad.lock_file = "/nowhere/client.lock";
+    expect_no_join(KRLC_LOCK_FILE, &bad, "");
+    bad = good, bad.number = 64;
+    expect_no_join(KRLC_BAD_NUMBER, &bad, "63");
+    bad.number = UINT32_MAX;
+    expect_no_join(KRLC_BAD_NUMBER, &bad, "63");
+    bad = good, bad.hi = 5;
+    expect_no_join(KRLC_MISUSE, &bad, "map");
+    bad = good, bad.table = "orders";
+    expect_no_join(KRLC_MISUSE, &bad, "tls_authority");
+    bad.tls_authority = bad.tls_certificate = bad.tls_key = "/nowhere/file";
+    expect_no_join(KRLC_BAD_TLS, &bad, "/nowhere/file");
+    /* Nobody listens at the port of no service. */
+    bad = good, bad.servers = "127.0.0.1:1", bad.timeout_ms = 50;
+    expect_no_join(KRLC_TIMED_OUT, &bad, "did not answer");
+
+    /* The options of a later version, whose new member is set or not, and those of an earlier one. */
+    struct {
+        krlc_options options;
+        const char *later;
+    } longer = {good, "set"};
+    longer.options.size = sizeof longer;
+    expect_no_join(KRLC_MISUSE, &longer.options, "does not know");
+    longer.later = NULL;
+    krlc_client *client = NULL;
+    EXPECT(KRLC_OK, krlc_join(&longer.options, &client, &error));
+    bad = good, bad.number = 6;
+    expect_no_join(KRLC_LOCK_FILE, &bad, "");
+    krlc_free(client);
+    bad = good, bad.size = offsetof(krlc_options, tls_authority), bad.tls_authority = NOWHERE;
+    EXPECT(KRLC_OK, krlc_join(&bad, &client, &error));
+    krlc_free(client);
+}
+
+static void freed_handles(const world *world, krlc_rows *rows) {
+    krlc_client *client = join(world, 1);
+    krlc_pin *pin = NULL;
+    size_t count = 9;
+    EXPECT(KRLC_OK, krlc_pin_for_read(client, 10, 20, rows, &pin, &error));
+    krlc_pin_free(pin);
+    krlc_pin_free(pin);
+    EXPECT(KRLC_MISUSE, krlc_pin_holds(pin));
+    EXPECT(KRLC_MISUSE, krlc_pin_put(pin, 1, "", 0, &error));
+    WANT(strstr(error.sentence, "freed") != NULL);
+    krlc_free(client);
+    krlc_free(client);
+    EXPECT(KRLC_MISUSE, krlc_cached(client, 10, 20, rows));
+    EXPECT(KRLC_MISUSE, krlc_read(client, 10, 20, rows, &error));
+    WANT(strstr(error.sentence, "freed") != NULL);
+    EXPECT(KRLC_MISUSE, krlc_insert(client, 1, "", 0, &error));
+    EXPECT(KRLC_MISUSE, krlc_pin_held(client, 10, 20, &pin, &error));
+    EXPECT(KRLC_MISUSE, krlc_leave(client, &error));
+    WANT(krlc_joined(client) == 0);
+    krlc_rows *other = krlc_rows_new();
+    krlc_rows_free(other);
+    krlc_rows_free(other);
+    client = join(world, 1);
+    EXPECT(KRLC_MISUSE, krlc_read(client, 10, 20, other, &error));
+    WANT(krlc_rows_get(other, &count) == NULL && count == 0);
+    krlc_free(client);
+}
+
+/* The child has the parent's cache, which nobody keeps up to date there. */
+static void child(const world *world, krlc_client *client, krlc_pin *pin, krlc_rows *rows) {
+    krlc_row row = {0};
+    krlc_rows *own_rows = krlc_rows_new();
+    size_t count = 0;
+    WANT(krlc_rows_get(rows, &count) != NULL && count == 1);
+    EXPECT(KRLC_FORKED, krlc_cached(client, 10, 20, rows));
+    EXPECT(KRLC_FORKED, krlc_cached_into(client, 10, 20, &row, 1, &count));
+    EXPECT(KRLC_FORKED, krlc_read(client, 10, 20, rows, &error));
+    EXPECT(KRLC_FORKED, krlc_insert(client, 1, "", 0, &error));
+    EXPECT(KRLC_FORKED, krlc_pin_for_read(client, 10, 20, rows, &pin, &error));
+    EXPECT(KRLC_FORKED, krlc_leave(client, &error));
+    WANT(strstr(error.sentence, "parent") != NULL);
+    krlc_free(client);
+    krlc_rows_free(rows);
+    /* A client of its own serves it as any. */
+    client = join(world, 3);
+    EXPECT(KRLC_OK, krlc_insert(client, 40, "child", 5, &error));
+    EXPECT(KRLC_OK, krlc_read(client, 40, 41, own_rows, &error));
+    EXPECT(KRLC_OK, krlc_cached(client, 40, 41, own_rows));
+    EXPECT(KRLC_OK, krlc_leave(client, &error));
+    krlc_free(client);
+    krlc_rows_free(own_rows);
+    _exit(0);
+}
+
+static void fork_of(const world *world, krlc_client *client, krlc_rows *rows) {
+    int status = 0;
+    krlc_pin *pin = NULL;
+    EXPECT(KRLC_OK, krlc_insert(client, 15, "row", 3, &error));
+    /* The gap after the pinned range ends here. */
+    EXPECT(KRLC_OK, krlc_insert(client, 30, "bound", 5, &error));
+    EXPECT(KRLC_OK, krlc_pin_for_read(client, 10, 20, rows, &pin, &error));
+    pid_t process = fork();
+    if (process == 0) {
+        EXPECT(KRLC_FORKED, krlc_pin_holds(pin));
+        EXPECT(KRLC_FORKED, krlc_pin_put(pin, 15, "", 0, &error));
+        krlc_pin_free(pin);
+        child(world, client, pin, rows);
+    }
+    WANT(waitpid(process, &status, 0) == process && WIFEXITED(status) && WEXITSTATUS(status) == 0);
+    EXPECT(KRLC_OK, krlc_pin_holds(pin));
+    EXPECT(KRLC_OK, krlc_cached(client, 10, 20, rows));
+    EXPECT(KRLC_OK, krlc_pin_put(pin, 15, "mine", 4, &error));
+    krlc_pin_free(pin);
+    EXPECT(KRLC_EXISTS, krlc_insert(client, 40, "parent", 6, &error));
+}
+
+int main(int argument_count, char **arguments) {
+    world world = world_of(argument_count, arguments);
+    krlc_client *client = join(&world, 0);
+    krlc_rows *rows = krlc_rows_new();
+    null_pointers(client, rows);
+    null_rooms(client, rows);
+    lengths(client);
+    options(&world);
+    freed_handles(&world, rows);
+    fork_of(&world, client, rows);
+    EXPECT(KRLC_OK, krlc_leave(client, &error));
+    krlc_free(client);
+    krlc_rows_free(rows);
+    return 0;
+}

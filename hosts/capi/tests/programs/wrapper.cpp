@@ -1,0 +1,110 @@
+/* krl.hpp: what each class does, that handles move, and that errors are thrown. */
+#include <krl.hpp>
+
+#include <cstdlib>
+#include <iostream>
+#include <type_traits>
+#include <vector>
+
+namespace {
+
+using namespace std::chrono_literals;
+
+void want(bool holds, const char *what) {
+    if (!holds) {
+        std::cerr << "wrapper: not so: " << what << '\n';
+        std::exit(1);
+    }
+}
+
+template <class Call> void throws(krlc_code code, Call &&call) {
+    try {
+        call();
+    } catch (const krl::error &error) {
+        want(error.code() == code && *error.what() != 0, krlc_code_name(code));
+        return;
+    }
+    want(false, krlc_code_name(code));
+}
+
+krl::client join(char **words, std::uint32_t number) {
+    krl::options options;
+    options.servers = words[2];
+    options.lock_file = std::string(words[3]) + "/own-" + std::to_string(number) + ".lock";
+    options.number = number;
+    options.timeout = 60s;
+    return krl::client(options);
+}
+
+static_assert(!std::is_copy_constructible_v<krl::client> && std::is_nothrow_move_constructible_v<krl::client>);
+static_assert(!std::is_copy_constructible_v<krl::pin> && std::is_nothrow_move_assignable_v<krl::pin>);
+static_assert(!std::is_copy_constructible_v<krl::rows> && std::is_nothrow_move_constructible_v<krl::rows>);
+
+void reads_and_writes(krl::client &client, krl::client &other) {
+    want(client.insert(15, "fifteen") == krl::outcome::applied, "an insert");
+    want(client.insert(15, "again") == krl::outcome::exists, "a second insert");
+    want(client.put(16, "sixteen") == krl::outcome::absent, "a put of no row");
+    want(client.insert(17, std::string_view("a\0b", 3)) == krl::outcome::applied, "a value with a zero");
+    krl::rows rows = client.read(10, 20);
+    want(rows.size() == 2 && rows[0].key == 15 && rows[0].value == "fifteen", "the first row");
+    std::vector<std::uint64_t> keys;
+    for (auto [key, value] : rows)
+        keys.push_back(key + value.size());
+    want(keys == std::vector<std::uint64_t>{22, 20}, "the rows in their order");
+    want(std::distance(rows.begin(), rows.end()) == 2, "iterators");
+    want(client.cached(10, 20, rows) && rows.size() == 2, "a cached read");
+    want(!client.wait_for_change(10, 20, rows, 10ms), "no change");
+    want(other.put(15, "other") == krl::outcome::applied, "a put of the other client");
+    want(client.wait_for_change(10, 20, rows, 60s), "a change");
+    want(!client.cached(10, 20, rows) && rows.empty() && rows.begin() == rows.end(), "a miss leaves no rows");
+    want(other.erase(17) == krl::outcome::applied, "an erase");
+    client.read(10, 20, rows);
+    want(rows.size() == 1 && rows[0].value == "other", "the row of the other client");
+}
+
+void pins(krl::client &client) {
+    auto [rows, pin] = client.pin_for_update(10, 20);
+    want(rows.size() == 1 && pin.holds(), "a pin");
+    krl::pin &empty = pin;
+    throws(KRLC_PINNED, [&] { client.forget(10, 20); });
+    want(pin.put(15, "pinned") == krl::outcome::applied, "a put by a pin");
+    want(pin.insert(16, "new") == krl::outcome::applied, "an insert by a pin");
+    krl::pin moved = std::move(pin);
+    want(moved.erase(16) == krl::outcome::applied && moved.holds(), "a pin that was moved");
+    throws(KRLC_MISUSE, [&] { (void)empty.holds(); });
+    moved.release();
+    client.forget(10, 20);
+    {
+        krl::pin held = client.pin_held(10, 20);
+        auto read = client.pin_for_read(30, 40);
+        auto written = client.pin_for_write(50, 60);
+        want(held.holds() && read.rows.empty() && written.pin.holds(), "three pins");
+    }
+    client.forget(0, krl::end_of_ranges);
+}
+
+} // namespace
+
+int main(int count, char **words) {
+    want(count == 4, "three words");
+    krl::client client = join(words, 0), other = join(words, 1);
+    reads_and_writes(client, other);
+    pins(client);
+    krl::client moved = std::move(client);
+    want(moved.status().size() == 1 && moved.status()[0].epoch == 1, "the status");
+    throws(KRLC_MISUSE, [&] { (void)client.read(1, 2); });
+    throws(KRLC_BAD_RANGE, [&] { (void)moved.read(2, 1); });
+    krl::rows rows;
+    throws(KRLC_BAD_RANGE, [&] { (void)moved.cached(2, 1, rows); });
+    throws(KRLC_BAD_KEY, [&] { (void)moved.insert(krl::end_of_keys, ""); });
+    throws(KRLC_TOO_LONG, [&] { (void)moved.insert(1, std::string(33, 'x')); });
+    throws(KRLC_LOCK_FILE, [&] { join(words, 1); });
+    throws(KRLC_MISUSE, [&] { krl::client nowhere{krl::options()}; });
+    throws(KRLC_BAD_TLS, [&] { moved.reload_tls(); });
+    moved.set_timeout(30s);
+    auto after = moved.pin_for_read(10, 20);
+    moved.leave();
+    throws(KRLC_LEFT, [&] { (void)moved.read(1, 2); });
+    throws(KRLC_LEFT, [&] { (void)after.pin.put(15, ""); });
+    return 0;
+}
