@@ -242,7 +242,7 @@ impl Clients {
 }
 
 /// Waits for the end of a client, and says what is wrong with it.
-fn wait_for(client: &mut Process, end: Instant) -> Result<Option<String>, Box<dyn Error>> {
+pub fn wait_for(client: &mut Process, end: Instant) -> Result<Option<String>, Box<dyn Error>> {
     while Instant::now() < end {
         if let Some(status) = client.ended()? {
             return Ok((!status.success()).then(|| format!("ended with {status}")));

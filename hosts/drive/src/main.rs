@@ -8,6 +8,7 @@
 //! krl_drive failover FOLDER ROUNDS SERVER [FAULTS [HOW..]]        breaks servers that stand by
 //! krl_drive frozen FOLDER ROUNDS SERVER                           freezes servers of a reader
 //! krl_drive shards FOLDER SECONDS KILLS                           kills servers of two shards
+//! krl_drive cache FOLDER SECONDS                                  kills caches of a table in PostgreSQL
 //! krl_drive haste FOLDER                                          measures a hasty client's neighbour
 //! krl_drive strangers                                             connects what is no client
 //! krl_drive reports                                               reports in the worst orders
@@ -28,6 +29,7 @@
 //! drive itself failed.
 mod bench;
 mod bench_stores;
+mod cache;
 mod certificates;
 mod clients;
 mod cluster;
@@ -122,6 +124,7 @@ fn run(words: &[&str]) -> Found {
         ["shards", folder, seconds, kills] => {
             shards::run(Path::new(folder), seconds.parse()?, kills.parse()?)
         }
+        ["cache", folder, seconds] => cache::run(Path::new(folder), seconds.parse()?),
         ["strangers"] => strangers::run(),
         ["reports"] => long_reports::run(),
         ["large-stores", folder] => large_stores::run(Path::new(folder)),
@@ -138,6 +141,9 @@ fn run(words: &[&str]) -> Found {
         // The processes that `kill` starts.
         ["server", address, folder, store, lease] => {
             nodes::server(address, Path::new(folder), store, lease.parse()?)
+        }
+        ["cache-worker", number, spawn, database, krl, folder] => {
+            cache::work(number, spawn, database, krl, Path::new(folder))
         }
         ["holder", address, folder] => takeover::hold(address, Path::new(folder)),
         ["reader", number, address, folder] => {

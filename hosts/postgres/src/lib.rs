@@ -8,6 +8,7 @@
 //! krl promises holds. See [`PostgresStore`].
 mod address;
 mod batch;
+mod connector;
 mod head;
 mod link;
 mod security;
@@ -26,4 +27,7 @@ mod database;
 mod ports;
 
 pub use address::{BadPostgresAddress, PostgresAddress};
+// For the crates of this workspace.
+#[doc(hidden)]
+pub use connector::{Carrier, Connector};
 pub use store::PostgresStore;

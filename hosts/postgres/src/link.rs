@@ -1,16 +1,15 @@
 //! A connection to the database, which is made anew when it ends.
 use crate::batch::Batch;
+use crate::connector::{Carrier, Connector};
 use crate::head::{Head, owner_text};
-use crate::security::Tls;
 use crate::sql;
 use std::fmt;
 use std::thread;
 use std::time::{Duration, Instant};
 use tokio::runtime::{Builder, Runtime};
-use tokio::task::JoinHandle;
 use tokio_postgres::error::SqlState;
 use tokio_postgres::types::ToSql;
-use tokio_postgres::{Client, Config, Error, IsolationLevel, NoTls, Row, Statement};
+use tokio_postgres::{Client, Error, IsolationLevel, Row, Statement};
 
 /// The pause before another attempt.
 const PAUSE: Duration = Duration::from_millis(50);
@@ -46,8 +45,7 @@ pub(crate) struct Loaded {
 
 pub(crate) struct Link {
     runtime: Runtime,
-    config: Config,
-    tls: Option<Tls>,
+    connector: Connector,
     session: Option<Session>,
 }
 
@@ -59,19 +57,10 @@ struct Session {
     _carrier: Carrier,
 }
 
-/// The task that carries a connection. It ends with this, also if the connection is silent.
-struct Carrier(JoinHandle<()>);
-
-impl Drop for Carrier {
-    fn drop(&mut self) {
-        self.0.abort();
-    }
-}
-
 impl Link {
-    pub fn new(config: Config, tls: Option<Tls>) -> std::io::Result<Link> {
+    pub fn new(connector: Connector) -> std::io::Result<Link> {
         let runtime = Builder::new_current_thread().enable_all().build()?;
-        Ok(Link { runtime, config, tls, session: None })
+        Ok(Link { runtime, connector, session: None })
     }
 
     /// Connects, if it has no connection.
@@ -143,7 +132,7 @@ impl Link {
             let asking = async {
                 let mut session = match session {
                     Some(session) => session,
-                    None => connect(&self.config, self.tls.as_ref()).await?,
+                    None => connect(&self.connector).await?,
                 };
                 let answer = what(&mut session).await?;
                 Ok::<_, Error>((session, answer))
@@ -162,14 +151,8 @@ impl Link {
 }
 
 /// Connects, and makes the tables, unless they are there.
-async fn connect(config: &Config, tls: Option<&Tls>) -> Result<Session, Error> {
-    let (client, carrier) = if let Some(tls) = tls {
-        let (client, connection) = config.connect(tls.clone()).await?;
-        (client, Carrier(tokio::spawn(carry(connection))))
-    } else {
-        let (client, connection) = config.connect(NoTls).await?;
-        (client, Carrier(tokio::spawn(carry(connection))))
-    };
+async fn connect(connector: &Connector) -> Result<Session, Error> {
+    let (client, carrier) = connector.connect().await?;
     client.batch_execute(sql::SESSION).await?;
     let has_tables: bool = client.query_one(sql::HAS_TABLES, &[]).await?.try_get(0)?;
     if !has_tables {
@@ -178,11 +161,6 @@ async fn connect(config: &Config, tls: Option<&Tls>) -> Result<Session, Error> {
     let (commit, confirm) =
         (client.prepare(sql::COMMIT).await?, client.prepare(sql::CONFIRM).await?);
     Ok(Session { client, commit, confirm, _carrier: carrier })
-}
-
-/// Carries a connection until it ends. How it ended, who asks hears.
-async fn carry(connection: impl Future<Output = Result<(), Error>>) {
-    let _ = connection.await;
 }
 
 async fn load(client: &mut Client) -> Result<Loaded, Error> {
@@ -296,7 +274,7 @@ mod tests {
     #[test]
     fn each_attempt_has_a_part_of_the_time() {
         const TIME: Duration = Duration::from_secs(3600);
-        let mut link = Link::new(Config::new(), None).unwrap();
+        let mut link = Link::new(Connector::to_nothing()).unwrap();
         let mut attempts = Vec::new();
         let done = link.again(Instant::now() + TIME, |_, end| {
             attempts.push(end.saturating_duration_since(Instant::now()));

@@ -1,6 +1,7 @@
 //! A store in PostgreSQL.
 use crate::address::PostgresAddress;
 use crate::batch::{self, Batch};
+use crate::connector::Connector;
 use crate::head::Head;
 use crate::link::{Failure, Link, Loaded};
 use krl::{
@@ -68,8 +69,8 @@ impl PostgresStore {
         address: &PostgresAddress,
         user: Option<&(String, String)>,
     ) -> Result<PostgresStore, StoreError> {
-        let tls = address.security().tls().map_err(|why| StoreError::says(&why))?;
-        let link = Link::new(address.config(user), tls);
+        let connector = Connector::new(address, user).map_err(|why| StoreError::says(&why))?;
+        let link = Link::new(connector);
         Ok(PostgresStore {
             link: link.map_err(|error| StoreError::Failed(error.into()))?,
             commit_timeout: COMMIT_TIMEOUT,

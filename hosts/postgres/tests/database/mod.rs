@@ -140,6 +140,11 @@ impl Database {
         self.end("-INT");
     }
 
+    /// Ends the server at once, as a crash does: it recovers when it is started again.
+    pub fn crash(&mut self) {
+        self.end("-QUIT");
+    }
+
     fn end(&mut self, signal: &str) {
         if self.server.try_wait().is_ok_and(|ended| ended.is_some()) {
             return;
@@ -173,6 +178,20 @@ impl Sql {
     /// Runs statements that answer nothing.
     pub fn run(&self, statements: &str) {
         self.runtime.block_on(self.client.batch_execute(statements)).unwrap();
+    }
+
+    /// The same, or what the database reports.
+    pub fn try_run(&self, statements: &str) -> Result<(), String> {
+        let ended = self.runtime.block_on(self.client.batch_execute(statements));
+        ended.map_err(|error| match error.as_db_error() {
+            Some(reported) => reported.to_string(),
+            None => error.to_string(),
+        })
+    }
+
+    /// The rows of an answer.
+    pub fn query(&self, asked: &str) -> Vec<tokio_postgres::Row> {
+        self.runtime.block_on(self.client.query(asked, &[])).unwrap()
     }
 
     /// Asks again and again until the one number of the answer is as it should be.

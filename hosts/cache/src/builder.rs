@@ -1,0 +1,103 @@
+//! How a cache is opened.
+use crate::bodies::Bodies;
+use crate::cache::Cache;
+use crate::error::CacheError;
+use crate::origin::Origin;
+use crate::statistics::Counters;
+use crate::steps::Step;
+use crate::turns::Turns;
+use krl::Client;
+use std::fmt;
+use std::sync::atomic::AtomicU64;
+use std::time::Duration;
+
+/// How long a call goes on to try, by default.
+const TIMEOUT: Duration = Duration::from_secs(10);
+
+/// How many bytes of bodies a process keeps, by default.
+const MEMORY: usize = 64 << 20;
+
+pub(crate) type OnStep = Box<dyn Fn(Step) + Send + Sync>;
+
+/// The settings of a cache before it is opened.
+#[must_use = "a builder does nothing before `open`"]
+pub struct Builder<O> {
+    reader: Client,
+    writer: Client,
+    origin: O,
+    memory: usize,
+    timeout: Duration,
+    on_step: Option<OnStep>,
+}
+
+impl<O: Origin> Builder<O> {
+    pub(crate) fn new(reader: Client, writer: Client, origin: O) -> Builder<O> {
+        Builder { reader, writer, origin, memory: MEMORY, timeout: TIMEOUT, on_step: None }
+    }
+
+    /// About how many bytes of bodies are kept in memory: 64 MiB by default.
+    pub fn memory(self, bytes: usize) -> Builder<O> {
+        Builder { memory: bytes, ..self }
+    }
+
+    /// How long a call goes on to try: ten seconds by default. A single request to krl or to the
+    /// database takes as long as the timeouts of krl's clients and of the origin allow.
+    pub fn timeout(self, timeout: Duration) -> Builder<O> {
+        Builder { timeout, ..self }
+    }
+
+    /// For tests: calls this after each step of a write or a repair.
+    #[doc(hidden)]
+    pub fn on_step(self, on_step: impl Fn(Step) + Send + Sync + 'static) -> Builder<O> {
+        Builder { on_step: Some(Box::new(on_step)), ..self }
+    }
+
+    /// Opens the cache.
+    ///
+    /// # Errors
+    ///
+    /// `NotFilled` if krl does not have the versions of this database; `Krl`; `Origin`.
+    pub fn open(self) -> Result<Cache<O>, CacheError> {
+        let cache = self.open_unfilled()?;
+        cache.confirm()?;
+        Ok(cache)
+    }
+
+    /// Opens the cache and fills krl from the database first: an operator's call, see
+    /// [`Cache::fill`]. `progress` gets the number of rows that were compared, now and then, and
+    /// the number of all.
+    ///
+    /// # Errors
+    ///
+    /// Those of [`Cache::fill`].
+    pub fn fill_and_open(self, progress: impl FnMut(usize, usize)) -> Result<Cache<O>, CacheError> {
+        let cache = self.open_unfilled()?;
+        cache.fill(progress)?;
+        Ok(cache)
+    }
+
+    fn open_unfilled(self) -> Result<Cache<O>, CacheError> {
+        let Builder { reader, writer, origin, memory, timeout, on_step } = self;
+        let identity = origin.identity()?;
+        Ok(Cache {
+            reader,
+            writer,
+            origin,
+            bodies: Bodies::new(memory),
+            turns: Turns::default(),
+            counters: Counters::default(),
+            identity,
+            filling: AtomicU64::new(0),
+            timeout,
+            on_step,
+        })
+    }
+}
+
+impl<O> fmt::Debug for Builder<O> {
+    fn fmt(&self, f: &mut fmt::Formatter<'_>) -> fmt::Result {
+        let mut shown = f.debug_struct("Builder");
+        shown.field("reader", &self.reader).field("writer", &self.writer);
+        shown.field("memory", &self.memory).field("timeout", &self.timeout).finish_non_exhaustive()
+    }
+}

@@ -1,0 +1,92 @@
+//! Why a call of the cache failed.
+use crate::origin::OriginError;
+use krl::Refused;
+use std::error::Error;
+use std::fmt;
+
+/// Why a call of the cache failed. A read that failed has answered nothing. A write that failed has
+/// changed nothing, except after [`CacheError::Unknown`].
+#[derive(Debug)]
+#[non_exhaustive]
+pub enum CacheError {
+    /// krl refused the call or did not answer in time.
+    Krl(Refused),
+    /// The database refused the call or did not answer in time.
+    Origin(OriginError),
+    /// The function that was given to `transact` returned this error.
+    Work(Box<dyn Error + Send + Sync>),
+    /// The connection to the database was lost during the commit, and the outcome could not be
+    /// found out in time. The next read of one of the keys waits for the database and answers what
+    /// became of the write.
+    Unknown(OriginError),
+    /// krl has no room for another row.
+    Full,
+    /// A key is above [`LAST_KEY`](crate::LAST_KEY), a range ends below its start, or a transaction
+    /// names no key.
+    BadKey,
+    /// The call was not finished within the cache's timeout.
+    TimedOut,
+    /// krl holds the rows of another database, or of this one before it was restored, or was never
+    /// filled. An operator calls [`Cache::fill`](crate::Cache::fill).
+    NotFilled,
+}
+
+/// A key that the transaction did not name when it began.
+#[derive(Clone, Copy, Debug, PartialEq, Eq)]
+pub struct OtherKey {
+    /// The key.
+    pub key: u64,
+}
+
+impl fmt::Display for CacheError {
+    fn fmt(&self, f: &mut fmt::Formatter<'_>) -> fmt::Result {
+        match self {
+            CacheError::Krl(refused) => refused.fmt(f),
+            CacheError::Origin(error) => error.fmt(f),
+            CacheError::Work(error) => error.fmt(f),
+            CacheError::Unknown(error) => {
+                write!(f, "it is unknown whether the write was committed: {error}")
+            }
+            CacheError::Full => f.write_str("krl has no room for another row"),
+            CacheError::BadKey => f.write_str(
+                "a key is 0 to 2^63 - 4, a range ends at its start or above, and a transaction \
+                 has at least one key",
+            ),
+            CacheError::TimedOut => f.write_str("the call was not finished in time"),
+            CacheError::NotFilled => f.write_str(
+                "krl does not have the versions of this database: an operator has to fill it",
+            ),
+        }
+    }
+}
+
+impl Error for CacheError {
+    fn source(&self) -> Option<&(dyn Error + 'static)> {
+        match self {
+            CacheError::Krl(refused) => Some(refused),
+            CacheError::Origin(error) | CacheError::Unknown(error) => Some(error),
+            CacheError::Work(error) => Some(&**error),
+            _ => None,
+        }
+    }
+}
+
+impl From<Refused> for CacheError {
+    fn from(refused: Refused) -> CacheError {
+        CacheError::Krl(refused)
+    }
+}
+
+impl From<OriginError> for CacheError {
+    fn from(error: OriginError) -> CacheError {
+        CacheError::Origin(error)
+    }
+}
+
+impl fmt::Display for OtherKey {
+    fn fmt(&self, f: &mut fmt::Formatter<'_>) -> fmt::Result {
+        write!(f, "the transaction did not name the key {} when it began", self.key)
+    }
+}
+
+impl Error for OtherKey {}

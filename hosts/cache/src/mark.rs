@@ -1,0 +1,114 @@
+//! The keys of krl's rows, and the row that marks krl as filled from a database.
+use crate::cache::Cache;
+use crate::error::CacheError;
+use crate::origin::{Origin, OriginIdentity};
+use krl::{END, Value};
+use std::ops::{Bound, Range, RangeBounds};
+use std::sync::atomic::Ordering;
+
+/// The row of krl that has the identity of the database and the number of the last filling.
+pub(crate) const MARK: u64 = END - 1;
+
+/// A row below the mark: whoever inserts after the last row of the table takes the gap below this
+/// one, and not that of the mark.
+pub(crate) const GUARD: u64 = END - 2;
+
+/// The greatest key of a row: 2^63 - 4.
+pub const LAST_KEY: u64 = END - 3;
+
+/// The bytes of a filling's number in the mark.
+const NUMBER: usize = 8;
+
+/// The value of the mark of this filling.
+pub(crate) fn mark_of(identity: &OriginIdentity, filling: u64) -> Value {
+    let bytes = [identity.as_bytes(), &filling.to_be_bytes()].concat();
+    Value::new(&bytes).expect("a value has room for an identity and a number")
+}
+
+/// The number of a new filling: no two have the same.
+pub(crate) fn fresh_filling() -> u64 {
+    let mut bytes = [0; NUMBER];
+    getrandom::getrandom(&mut bytes).expect("the system has random bytes");
+    u64::from_be_bytes(bytes)
+}
+
+/// The number of the filling that set this mark, or `None` if the mark is that of another database.
+fn filling_of(mark: &krl::Row, identity: &OriginIdentity) -> Option<u64> {
+    let bytes = mark.value.as_bytes();
+    let (name, number) = bytes.split_at_checked(bytes.len().checked_sub(NUMBER)?)?;
+    let number = u64::from_be_bytes(number.try_into().ok()?);
+    (name == identity.as_bytes()).then_some(number)
+}
+
+/// The keys of a range of rows.
+pub(crate) fn keys_of(keys: &impl RangeBounds<u64>) -> Result<Range<u64>, CacheError> {
+    let start = match keys.start_bound() {
+        Bound::Included(key) => Some(*key),
+        Bound::Excluded(key) => key.checked_add(1),
+        Bound::Unbounded => Some(0),
+    };
+    let end = match keys.end_bound() {
+        Bound::Included(key) => key.checked_add(1),
+        Bound::Excluded(key) => Some(*key),
+        Bound::Unbounded => Some(LAST_KEY + 1),
+    };
+    match (start, end) {
+        (Some(start), Some(end)) if start <= end && end <= LAST_KEY + 1 => Ok(start..end),
+        _ => Err(CacheError::BadKey),
+    }
+}
+
+impl<O: Origin> Cache<O> {
+    /// Whether this process holds the mark, and it is that of this filling.
+    ///
+    /// It is asked **after** a scan. A filling takes the mark away before it changes anything, and
+    /// no two fillings set the same mark. So if the mark was seen before the scan and is there
+    /// after it, it was there all the time.
+    pub(crate) fn is_filled(&self, filling: u64) -> bool {
+        let mut marked = None;
+        let find = |row: &krl::Row| marked = filling_of(row, &self.identity);
+        self.reader.for_each_cached(MARK..=MARK, find) && marked == Some(filling)
+    }
+
+    /// Reads the mark from krl.
+    pub(crate) fn confirm(&self) -> Result<(), CacheError> {
+        let marks = self.reader.read(MARK..=MARK)?;
+        let filling = marks.first().and_then(|mark| filling_of(mark, &self.identity));
+        self.filling.store(filling.ok_or(CacheError::NotFilled)?, Ordering::SeqCst);
+        Ok(())
+    }
+}
+
+#[cfg(test)]
+mod tests {
+    use super::*;
+
+    fn identity(name: &str) -> OriginIdentity {
+        OriginIdentity::new(name).unwrap()
+    }
+
+    #[test]
+    fn a_mark_is_read_by_its_own_database_only() {
+        for name in ["", "shop", "a name of 24 bytes, full"] {
+            let mark = krl::Row { key: MARK, value: mark_of(&identity(name), 7) };
+            assert_eq!(filling_of(&mark, &identity(name)), Some(7));
+            assert_eq!(filling_of(&mark, &identity("other")), None);
+        }
+        let short = krl::Row { key: MARK, value: Value::new(b"short").unwrap() };
+        assert_eq!(filling_of(&short, &identity("")), None);
+        assert!(OriginIdentity::new([0; 25]).is_none());
+    }
+
+    #[test]
+    fn a_range_has_keys_of_rows_only() {
+        assert_eq!(keys_of(&(3..5)).unwrap(), 3..5);
+        assert_eq!(keys_of(&(3..=5)).unwrap(), 3..6);
+        assert_eq!(keys_of(&..).unwrap(), 0..LAST_KEY + 1);
+        assert_eq!(keys_of(&(5..5)).unwrap(), 5..5);
+        let (greater, smaller) = (5, 4);
+        for range in [greater..smaller, 0..LAST_KEY + 2, 0..u64::MAX] {
+            assert!(matches!(keys_of(&range), Err(CacheError::BadKey)), "{range:?}");
+        }
+        assert!(matches!(keys_of(&(0..=u64::MAX)), Err(CacheError::BadKey)));
+    }
+}

@@ -1,0 +1,191 @@
+//! The database whose rows are cached.
+use crate::version::Version;
+use std::error::Error;
+use std::fmt;
+use std::mem::size_of;
+use std::sync::Arc;
+
+/// A committed row of the database.
+#[derive(Debug, PartialEq, Eq)]
+pub struct Stored<B> {
+    /// The key.
+    pub key: u64,
+    /// The version of the transaction that changed the row last.
+    pub version: Version,
+    /// The application's columns.
+    pub body: Arc<B>,
+}
+
+impl<B> Clone for Stored<B> {
+    fn clone(&self) -> Stored<B> {
+        Stored { key: self.key, version: self.version, body: Arc::clone(&self.body) }
+    }
+}
+
+/// What a transaction does to a key.
+#[derive(Debug, PartialEq, Eq)]
+pub enum Change<B> {
+    /// Inserts a row: there was none when the transaction began.
+    Insert(Arc<B>),
+    /// Gives the row another body.
+    Update(Arc<B>),
+    /// Deletes the row.
+    Delete,
+}
+
+/// What names a database and its history: at most 24 bytes. A database that was restored to an
+/// earlier state should have another identity; where it does not, an operator fills krl again.
+#[derive(Clone, Debug, PartialEq, Eq)]
+pub struct OriginIdentity(Vec<u8>);
+
+impl OriginIdentity {
+    /// The most bytes of an identity.
+    pub const MAX_BYTES: usize = 24;
+
+    /// The identity of these bytes, or `None` if there are more than 24.
+    #[must_use]
+    pub fn new(bytes: impl Into<Vec<u8>>) -> Option<OriginIdentity> {
+        let bytes = bytes.into();
+        (bytes.len() <= OriginIdentity::MAX_BYTES).then_some(OriginIdentity(bytes))
+    }
+
+    /// The bytes of the identity.
+    #[must_use]
+    pub fn as_bytes(&self) -> &[u8] {
+        &self.0
+    }
+}
+
+/// The table of a database whose rows are cached.
+///
+/// What the cache promises rests on these calls: `load` answers what the last commits left, also
+/// after the database has crashed and started again, and no failure takes back a commit that was
+/// answered.
+pub trait Origin: Send + Sync {
+    /// The content of a row without its key, as the application uses it.
+    type Body: Send + Sync + 'static;
+
+    /// A transaction that has its keys locked.
+    type Transaction<'o>: Transaction<Body = Self::Body>
+    where
+        Self: 'o;
+
+    /// A transaction that locks the whole table.
+    type Filling<'o>: Filling
+    where
+        Self: 'o;
+
+    /// The identity of the database and the table.
+    ///
+    /// # Errors
+    ///
+    /// If the database does not answer.
+    fn identity(&self) -> Result<OriginIdentity, OriginError>;
+
+    /// The committed rows of these keys, as they are at one moment of the call.
+    ///
+    /// # Errors
+    ///
+    /// If the database does not answer.
+    fn load(&self, keys: &[u64]) -> Result<Vec<Stored<Self::Body>>, OriginError>;
+
+    /// Begins a transaction and locks these keys, which ascend, whether they have a row or not.
+    /// Until the transaction ends, no other transaction locks or changes one of them. If another
+    /// transaction has changed one of them, the call waits until that one has ended.
+    ///
+    /// # Errors
+    ///
+    /// If the database does not answer, or does not grant the locks in time.
+    fn begin(&self, keys: &[u64]) -> Result<Self::Transaction<'_>, OriginError>;
+
+    /// Begins a transaction that waits for all others, and keeps others from changing the table.
+    ///
+    /// # Errors
+    ///
+    /// If the database does not answer, or does not grant the lock in time.
+    fn begin_filling(&self) -> Result<Self::Filling<'_>, OriginError>;
+
+    /// About how many bytes of memory a body takes: its own size by default. A body that owns
+    /// strings or vectors should count them.
+    fn size_of(&self, body: &Self::Body) -> usize {
+        let _ = body;
+        size_of::<Self::Body>()
+    }
+}
+
+/// A transaction with locked keys. One that is dropped is rolled back.
+pub trait Transaction {
+    /// The content of a row without its key.
+    type Body;
+
+    /// The rows of the keys as they were when all keys were locked.
+    fn rows(&self) -> &[Stored<Self::Body>];
+
+    /// Changes locked keys. Each row that it inserts or updates gets this version.
+    ///
+    /// # Errors
+    ///
+    /// If the database refuses a change or does not answer. The transaction cannot be committed
+    /// then.
+    fn apply(
+        &mut self,
+        version: Version,
+        changes: &[(u64, Change<Self::Body>)],
+    ) -> Result<(), OriginError>;
+
+    /// Commits. What is committed is durable.
+    ///
+    /// # Errors
+    ///
+    /// `NotDone` if nothing has changed and nothing will; `Unknown` if that is not known.
+    fn commit(self) -> Result<(), CommitError>;
+}
+
+/// A transaction that has locked the whole table. One that is dropped is rolled back.
+pub trait Filling {
+    /// The keys of all rows and their versions, in ascending order of the keys.
+    ///
+    /// # Errors
+    ///
+    /// If the database does not answer, or a row has a key or a version that the cache cannot have.
+    fn versions(&mut self) -> Result<Vec<(u64, Version)>, OriginError>;
+
+    /// Confirms that nobody has changed the table since it was locked.
+    ///
+    /// # Errors
+    ///
+    /// If the lock may have been lost.
+    fn confirm(&mut self) -> Result<(), OriginError>;
+}
+
+/// Why the database did not do what it was asked to do.
+#[derive(Debug)]
+pub struct OriginError(Box<dyn Error + Send + Sync>);
+
+/// How a commit failed.
+#[derive(Debug)]
+pub enum CommitError {
+    /// Nothing has changed, and nothing will.
+    NotDone(OriginError),
+    /// The transaction was committed, or was not, or may still be.
+    Unknown(OriginError),
+}
+
+impl OriginError {
+    /// An error with this reason.
+    pub fn new(why: impl Into<Box<dyn Error + Send + Sync>>) -> OriginError {
+        OriginError(why.into())
+    }
+}
+
+impl fmt::Display for OriginError {
+    fn fmt(&self, f: &mut fmt::Formatter<'_>) -> fmt::Result {
+        write!(f, "the database: {}", self.0)
+    }
+}
+
+impl Error for OriginError {
+    fn source(&self) -> Option<&(dyn Error + 'static)> {
+        Some(&*self.0)
+    }
+}

@@ -1,0 +1,11 @@
+//! A table of PostgreSQL.
+mod check;
+mod origin;
+mod row;
+mod session;
+mod sql;
+mod transaction;
+
+pub use origin::PostgresOrigin;
+pub use row::PostgresRow;
+pub use transaction::{PostgresFilling, PostgresTransaction};

@@ -1,0 +1,159 @@
+//! A connection to the database, with the statements that are used often.
+use super::sql;
+use crate::origin::{OriginError, Stored};
+use crate::postgres::row::PostgresRow;
+use crate::table::Table;
+use crate::version::Version;
+use krl_postgres::{Carrier, Connector};
+use std::sync::Arc;
+use std::time::Duration;
+use tokio::runtime::{Builder, Runtime};
+use tokio_postgres::{Client, Error, Row, Statement};
+
+/// How long an operator's question may take.
+const OPERATOR: Duration = Duration::from_secs(24 * 3600);
+
+/// A connection. One thread at a time uses it.
+pub(super) struct Session {
+    runtime: Runtime,
+    pub client: Client,
+    _carrier: Carrier,
+    timeout: Duration,
+}
+
+/// A connection that has what a cache asks often.
+pub(super) struct CacheSession {
+    pub session: Session,
+    pub statements: Statements,
+    /// Keeps the advisory locks of several tables apart.
+    pub seed: u64,
+}
+
+#[derive(Clone)]
+pub(super) struct Statements {
+    pub load: Statement,
+    pub lock: Statement,
+    pub admit: Statement,
+    pub insert: Statement,
+    pub update: Statement,
+    pub delete: Statement,
+}
+
+/// How long a process may stand still within a transaction, and how long it waits for an answer.
+#[derive(Clone, Copy, Debug)]
+pub(super) struct Timeouts {
+    pub idle_in_transaction: Duration,
+    pub answer: Duration,
+}
+
+impl Session {
+    pub fn connect(connector: &Connector, timeouts: Timeouts) -> Result<Session, OriginError> {
+        let runtime = Builder::new_current_thread().enable_all().build();
+        let runtime = runtime.map_err(OriginError::new)?;
+        let connecting = async {
+            let (client, carrier) = connector.connect().await?;
+            client.batch_execute(&sql::session(timeouts.idle_in_transaction)).await?;
+            Ok::<_, Error>((client, carrier))
+        };
+        let timeout = timeouts.answer;
+        let connected = runtime.block_on(async { tokio::time::timeout(timeout, connecting).await });
+        let (client, carrier) = connected.map_err(|_| late())?.map_err(reported)?;
+        Ok(Session { runtime, client, _carrier: carrier, timeout })
+    }
+
+    /// The same connection for an operator, whose questions read or write the whole table.
+    pub fn patient(self) -> Session {
+        Session { timeout: OPERATOR, ..self }
+    }
+
+    /// Asks, and waits for the answer.
+    pub fn ask<T>(
+        &self,
+        what: impl AsyncFnOnce(&Client) -> Result<T, Error>,
+    ) -> Result<T, AskError> {
+        let asking = async { tokio::time::timeout(self.timeout, what(&self.client)).await };
+        match self.runtime.block_on(asking) {
+            Ok(answer) => answer.map_err(AskError::Reported),
+            Err(_) => Err(AskError::Late),
+        }
+    }
+
+    /// Whether the connection has ended.
+    pub fn is_closed(&self) -> bool {
+        self.client.is_closed()
+    }
+}
+
+/// Why there is no answer.
+pub(super) enum AskError {
+    /// The database reported it, or the connection has ended.
+    Reported(Error),
+    /// It did not come in time.
+    Late,
+}
+
+impl From<AskError> for OriginError {
+    fn from(error: AskError) -> OriginError {
+        match error {
+            AskError::Reported(error) => reported(error),
+            AskError::Late => late(),
+        }
+    }
+}
+
+impl CacheSession {
+    /// Prepares what a cache of rows of this type asks.
+    pub fn prepare<T: PostgresRow>(
+        session: Session,
+        table: &Table,
+        seed: u64,
+    ) -> Result<CacheSession, OriginError> {
+        let columns = T::COLUMNS;
+        let statements = session.ask(async |client| {
+            Ok(Statements {
+                load: client.prepare(&sql::load(table, columns)).await?,
+                lock: client.prepare(&sql::lock(table, columns)).await?,
+                admit: client.prepare(sql::ADMIT).await?,
+                insert: client.prepare(&sql::insert(table, columns)).await?,
+                update: client.prepare(&sql::update(table, columns)).await?,
+                delete: client.prepare(&sql::delete(table)).await?,
+            })
+        })?;
+        Ok(CacheSession { session, statements, seed })
+    }
+}
+
+/// Keys as PostgreSQL has them.
+pub(super) fn signed(keys: &[u64]) -> Vec<i64> {
+    keys.iter().map(|key| key.cast_signed()).collect()
+}
+
+/// The rows of an answer.
+pub(super) fn stored<T: PostgresRow>(rows: &[Row]) -> Result<Vec<Stored<T>>, OriginError> {
+    let stored = |row: &Row| {
+        let (key, version) = key_and_version(row)?;
+        Ok(Stored { key, version, body: Arc::new(T::from_row(row).map_err(reported)?) })
+    };
+    rows.iter().map(stored).collect()
+}
+
+/// The key and the version of a row, which are its first two columns.
+pub(super) fn key_and_version(row: &Row) -> Result<(u64, Version), OriginError> {
+    let key: i64 = row.try_get(0).map_err(reported)?;
+    let version: &[u8] = row.try_get(1).map_err(reported)?;
+    let bad = || OriginError::new(format!("the row {key} has a key or a version that is none"));
+    let version = Version::from_bytes(version).ok_or_else(bad)?;
+    Ok((u64::try_from(key).map_err(|_| bad())?, version))
+}
+
+/// An error, with what the database itself reports.
+pub(super) fn reported(error: Error) -> OriginError {
+    match error.as_db_error() {
+        Some(told) => OriginError::new(format!("{} ({})", told.message(), told.code().code())),
+        None => OriginError::new(error),
+    }
+}
+
+fn late() -> OriginError {
+    OriginError::new("no answer came in time")
+}

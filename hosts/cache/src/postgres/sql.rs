@@ -1,0 +1,207 @@
+//! What PostgreSQL is asked.
+use crate::mark::LAST_KEY;
+use crate::table::{Table, quoted};
+use std::fmt::Write;
+use std::time::Duration;
+
+/// How much longer than a transaction may stand still another one waits for its locks.
+const LONGER: Duration = Duration::from_secs(2);
+
+/// Names for the triggers.
+pub(super) const ROW_TRIGGER: &str = "krl_guard_rows";
+pub(super) const TRUNCATE_TRIGGER: &str = "krl_guard_truncate";
+
+/// What a connection sets. A commit is answered when it is on the disk. A transaction whose process
+/// stands still is ended, so that others get its locks. Rows that a policy hides would look
+/// deleted: a query that would hide some fails.
+pub(super) fn session(idle: Duration) -> String {
+    format!(
+        "SET synchronous_commit = on;
+         SET row_security = off;
+         SET idle_in_transaction_session_timeout = {};
+         SET lock_timeout = {};
+         SET statement_timeout = 0;
+         SET client_min_messages = error;",
+        idle.as_millis(),
+        (idle + LONGER).as_millis()
+    )
+}
+
+/// The settings by which the database writes to the disk what it reports to have written, and
+/// whether it is a replica.
+pub(super) const SETTINGS: &str = "
+    SELECT current_setting('fsync') = 'on' AS fsync,
+        current_setting('full_page_writes') = 'on' AS full_page_writes,
+        pg_is_in_recovery() AS is_replica";
+
+/// What names the database, its history and the table. A restore to a point in time and the
+/// promotion of a replica begin another timeline.
+pub(super) const IDENTITY: &str = "
+    SELECT system_identifier, substr(pg_walfile_name(pg_current_wal_lsn()), 1, 8),
+        database.oid, $1::text::regclass::oid
+    FROM pg_control_system(), pg_database AS database WHERE datname = current_database()";
+
+/// The body of the function that guards the table.
+pub(super) fn guard(table: &Table) -> String {
+    let (key, version) = (table.quoted_key(), table.quoted_version());
+    format!(
+        "
+DECLARE
+    version text := coalesce(current_setting('krl_cache.version', true), '');
+    keys text := coalesce(nullif(current_setting('krl_cache.keys', true), ''), '{{}}');
+BEGIN
+    IF version = '' OR TG_OP = 'TRUNCATE' THEN
+        RAISE EXCEPTION 'the rows of % are cached: change them through krl-cache', TG_TABLE_NAME
+            USING ERRCODE = 'insufficient_privilege',
+            HINT = 'After a change with disabled triggers, krl has to be filled again.';
+    END IF;
+    IF TG_OP <> 'INSERT' AND OLD.{key} <> ALL (keys::bigint[])
+        OR TG_OP <> 'DELETE' AND NEW.{key} <> ALL (keys::bigint[]) THEN
+        RAISE EXCEPTION 'the transaction did not name this key of %', TG_TABLE_NAME
+            USING ERRCODE = 'insufficient_privilege';
+    END IF;
+    IF TG_OP = 'DELETE' THEN
+        RETURN OLD;
+    END IF;
+    NEW.{version} := decode(version, 'hex');
+    RETURN NEW;
+END
+"
+    )
+}
+
+/// What gives a table its version column and its guard.
+pub(super) fn migration(table: &Table) -> String {
+    let (name, function, version) = (table.quoted(), table.quoted_guard(), table.quoted_version());
+    let guard = guard(table);
+    format!(
+        "BEGIN;
+
+-- The version of each row: its first one is drawn here, and each change through krl-cache gives the
+-- row another one. The table is written anew.
+ALTER TABLE {name} ADD COLUMN IF NOT EXISTS {version} bytea
+    NOT NULL DEFAULT uuid_send(gen_random_uuid());
+
+-- Refuses each change that does not come through krl-cache, and sets the version.
+CREATE OR REPLACE FUNCTION {function}() RETURNS trigger LANGUAGE plpgsql AS $guard${guard}$guard$;
+
+DROP TRIGGER IF EXISTS {ROW_TRIGGER} ON {name};
+CREATE TRIGGER {ROW_TRIGGER} BEFORE INSERT OR UPDATE OR DELETE ON {name}
+    FOR EACH ROW EXECUTE FUNCTION {function}();
+DROP TRIGGER IF EXISTS {TRUNCATE_TRIGGER} ON {name};
+CREATE TRIGGER {TRUNCATE_TRIGGER} BEFORE TRUNCATE ON {name}
+    FOR EACH STATEMENT EXECUTE FUNCTION {function}();
+
+-- Also for a subscription of logical replication.
+ALTER TABLE {name} ENABLE ALWAYS TRIGGER {ROW_TRIGGER};
+ALTER TABLE {name} ENABLE ALWAYS TRIGGER {TRUNCATE_TRIGGER};
+
+COMMIT;
+"
+    )
+}
+
+/// Begins a transaction and locks these keys, whether they have rows or not.
+pub(super) fn begin(keys: &[u64], seed: u64) -> String {
+    let mut asked = "BEGIN ISOLATION LEVEL READ COMMITTED READ WRITE;".to_string();
+    for key in keys {
+        let lock = key.wrapping_add(seed).cast_signed();
+        let _ = write!(asked, "SELECT pg_advisory_xact_lock({lock});");
+    }
+    asked
+}
+
+/// Lets the transaction change these keys, and give them this version, until it ends.
+pub(super) const ADMIT: &str = "
+    SELECT set_config('krl_cache.version', $1, true), set_config('krl_cache.keys', $2, true)";
+
+/// A transaction that has failed is not committed, and PostgreSQL reports no error for that: the
+/// question before it does.
+pub(super) const COMMIT: &str = "SELECT 1; COMMIT";
+
+/// A text for each column, by the place of its value and its name, each after a comma. The first
+/// two values of a statement are the key and the version.
+fn listed(columns: &[&str], text: impl Fn(usize, &str) -> String) -> String {
+    (3..).zip(columns).fold(String::new(), |mut all, (place, name)| {
+        let _ = write!(all, ", {}", text(place, name));
+        all
+    })
+}
+
+/// The rows of some keys.
+pub(super) fn load(table: &Table, columns: &[&str]) -> String {
+    let (key, version) = (table.quoted_key(), table.quoted_version());
+    let columns = listed(columns, |_, name| quoted(name));
+    format!(
+        "SELECT {key} AS krl_cache_key, {version} AS krl_cache_version{columns}
+         FROM ONLY {} WHERE {key} = ANY ($1)",
+        table.quoted()
+    )
+}
+
+/// The same, and they are locked.
+pub(super) fn lock(table: &Table, columns: &[&str]) -> String {
+    format!("{} ORDER BY {} FOR UPDATE", load(table, columns), table.quoted_key())
+}
+
+/// Inserts a row: the values are the key, the version and the columns.
+pub(super) fn insert(table: &Table, columns: &[&str]) -> String {
+    let names = listed(columns, |_, name| quoted(name));
+    let values = listed(columns, |place, _| format!("${place}"));
+    let (name, key, version) = (table.quoted(), table.quoted_key(), table.quoted_version());
+    format!("INSERT INTO {name} ({key}, {version}{names}) VALUES ($1, $2{values})")
+}
+
+/// Updates a row by the same values.
+pub(super) fn update(table: &Table, columns: &[&str]) -> String {
+    let columns = listed(columns, |place, name| format!("{} = ${place}", quoted(name)));
+    let (name, key, version) = (table.quoted(), table.quoted_key(), table.quoted_version());
+    format!("UPDATE ONLY {name} SET {version} = $2{columns} WHERE {key} = $1")
+}
+
+pub(super) fn delete(table: &Table) -> String {
+    format!("DELETE FROM ONLY {} WHERE {} = $1", table.quoted(), table.quoted_key())
+}
+
+/// Waits for all who change the table, and keeps others from it. Nobody ends the transaction while
+/// krl is filled, which may take long.
+pub(super) fn begin_filling(table: &Table) -> String {
+    format!(
+        "BEGIN; SET LOCAL idle_in_transaction_session_timeout = 0; SET LOCAL lock_timeout = '60s';
+         LOCK TABLE {} IN EXCLUSIVE MODE;",
+        table.quoted()
+    )
+}
+
+pub(super) fn versions(table: &Table) -> String {
+    let (key, version) = (table.quoted_key(), table.quoted_version());
+    format!("SELECT {key}, {version} FROM ONLY {} ORDER BY {key}", table.quoted())
+}
+
+/// How many rows have a key or a version that the cache cannot have.
+pub(super) fn bad_rows(table: &Table) -> String {
+    let (key, version) = (table.quoted_key(), table.quoted_version());
+    format!(
+        "SELECT count(*) FROM ONLY {}
+         WHERE {key} NOT BETWEEN 0 AND {LAST_KEY} OR octet_length({version}) <> 16",
+        table.quoted()
+    )
+}
+
+/// What the catalog has of the table, the key and the version.
+pub(super) const CATALOG: &str = "
+    SELECT class.relkind = 'r' AND NOT class.relispartition AND NOT EXISTS (
+            SELECT FROM pg_inherits WHERE class.oid IN (inhrelid, inhparent)) AS is_ordinary,
+        (SELECT atttypid = 'bigint'::regtype AND EXISTS (
+                SELECT FROM pg_index WHERE indrelid = class.oid AND indisunique AND indisvalid
+                    AND indimmediate AND indpred IS NULL AND indnkeyatts = 1 AND indkey[0] = attnum)
+            FROM pg_attribute WHERE attrelid = class.oid AND attname = $2) AS is_key,
+        (SELECT atttypid = 'bytea'::regtype AND attnotnull
+            FROM pg_attribute WHERE attrelid = class.oid AND attname = $3) AS is_version
+    FROM pg_class AS class WHERE class.oid = to_regclass($1::text)";
+
+/// The guard's triggers that are always enabled, with the body of their function.
+pub(super) const TRIGGERS: &str = "
+    SELECT tgname::text, prosrc, tgtype FROM pg_trigger JOIN pg_proc ON pg_proc.oid = tgfoid
+    WHERE tgrelid = to_regclass($1::text) AND tgenabled = 'A' AND NOT tgisinternal
+        AND tgqual IS NULL AND tgattr = ''";

@@ -1,0 +1,205 @@
+//! Writes.
+use crate::cache::Cache;
+use crate::error::CacheError;
+use crate::mark::LAST_KEY;
+use crate::origin::{Change, CommitError, Origin, Transaction};
+use crate::pinned::Pinned;
+use crate::repair::{remove, write_version};
+use crate::spans::{Width, spans};
+use crate::steps::Step;
+use crate::version::Version;
+use crate::work::Work;
+use std::error::Error;
+use std::sync::Arc;
+
+/// What an application's function returns if it fails.
+type Failure = Box<dyn Error + Send + Sync>;
+
+/// What a transaction changes, and the version that it gives its rows.
+pub(crate) struct Changes<B> {
+    pub version: Version,
+    pub changes: Vec<(u64, Change<B>)>,
+}
+
+impl<O: Origin> Cache<O> {
+    /// Gives a row another body: `work` gets the body and returns the new one, or `None` to leave
+    /// it. The answer is whether the row was changed; if there is no row, it was not.
+    ///
+    /// # Errors
+    ///
+    /// Those of [`Cache::transact`].
+    pub fn update(
+        &self,
+        key: u64,
+        work: impl FnOnce(&O::Body) -> Option<O::Body>,
+    ) -> Result<bool, CacheError> {
+        self.transact_by(&[key], Width::Key, |rows| {
+            let body = rows.get(key)?.and_then(work);
+            let is_changed = body.is_some();
+            body.map_or(Ok(()), |body| rows.put(key, body))?;
+            Ok(is_changed)
+        })
+    }
+
+    /// Inserts a row. The answer is whether it was inserted; if the key has a row, nothing changes.
+    ///
+    /// # Errors
+    ///
+    /// Those of [`Cache::transact`].
+    pub fn insert(&self, key: u64, body: impl Into<Arc<O::Body>>) -> Result<bool, CacheError> {
+        self.transact_by(&[key], Width::Key, |rows| {
+            let is_free = rows.get(key)?.is_none();
+            if is_free {
+                rows.put(key, body)?;
+            }
+            Ok(is_free)
+        })
+    }
+
+    /// Deletes a row. The answer is whether there was one.
+    ///
+    /// # Errors
+    ///
+    /// Those of [`Cache::transact`].
+    pub fn delete(&self, key: u64) -> Result<bool, CacheError> {
+        self.transact(&[key], |rows| {
+            let has_row = rows.get(key)?.is_some();
+            rows.delete(key)?;
+            Ok(has_row)
+        })
+    }
+
+    /// Changes the rows of these keys, all or none. `work` gets them locked, as the database has
+    /// them. It runs once and should be short: others wait for these keys meanwhile. If it fails,
+    /// nothing changes.
+    ///
+    /// When the call returns, the changes are durable, and each read of any process that begins now
+    /// shows them. A read that runs meanwhile shows all of them or none.
+    ///
+    /// # Errors
+    ///
+    /// `Krl`, `Origin`, `Work`, `Full`, `BadKey`, `TimedOut`: nothing has changed and nothing will.
+    /// `Unknown`: see there.
+    pub fn transact<T>(
+        &self,
+        keys: &[u64],
+        work: impl FnOnce(&mut Work<'_, O>) -> Result<T, Failure>,
+    ) -> Result<T, CacheError> {
+        self.transact_by(keys, Width::KeyAndNext, work)
+    }
+
+    fn transact_by<T>(
+        &self,
+        keys: &[u64],
+        width: Width,
+        work: impl FnOnce(&mut Work<'_, O>) -> Result<T, Failure>,
+    ) -> Result<T, CacheError> {
+        let mut keys = keys.to_vec();
+        keys.sort_unstable();
+        keys.dedup();
+        if keys.last().is_none_or(|key| *key > LAST_KEY) {
+            return Err(CacheError::BadKey);
+        }
+        let done = self.transact_once(keys, width, work);
+        let counter =
+            if done.is_ok() { &self.counters.writes } else { &self.counters.failed_writes };
+        counter.add(1);
+        done
+    }
+
+    fn transact_once<T>(
+        &self,
+        keys: Vec<u64>,
+        width: Width,
+        work: impl FnOnce(&mut Work<'_, O>) -> Result<T, Failure>,
+    ) -> Result<T, CacheError> {
+        let _turn = self.turn()?;
+        let pinned = Pinned::pin(&self.writer, spans(&keys, width))?;
+        self.step(Step::Pinned);
+        let transaction = self.origin.begin(&keys)?;
+        self.step(Step::Locked);
+        let mut rows = Work::new(keys, transaction);
+        let answer = work(&mut rows).map_err(CacheError::Work)?;
+        let (transaction, changes) = rows.into_parts();
+        self.make(transaction, &pinned, &changes)?;
+        self.step(Step::Ended);
+        Ok(answer)
+    }
+
+    /// Makes changes of pinned and locked keys.
+    ///
+    /// The announcement goes first. It takes the keys out of every cache, and nobody has a body of
+    /// its version before the commit: so what is committed is never older than what others read.
+    fn make(
+        &self,
+        mut transaction: O::Transaction<'_>,
+        pinned: &Pinned<'_>,
+        changes: &Changes<O::Body>,
+    ) -> Result<(), CacheError> {
+        if changes.changes.is_empty() {
+            // What the application did to other tables counts.
+            return commit_unannounced(transaction);
+        }
+        transaction.apply(changes.version, &changes.changes)?;
+        self.step(Step::Applied);
+        self.announce(pinned, changes)?;
+        let committed = self.commit(transaction, pinned, changes);
+        committed?;
+        self.finish(pinned, changes);
+        Ok(())
+    }
+
+    /// Writes the version to krl for each key, whether it gets a body or loses its row.
+    ///
+    /// Keys with a row come first: a put takes the gap below the row too, so no insert asks for
+    /// anything for which it could wait.
+    fn announce(&self, pinned: &Pinned<'_>, changes: &Changes<O::Body>) -> Result<(), CacheError> {
+        let keys = changes.changes.iter().map(|(key, _)| *key);
+        let (present, absent): (Vec<u64>, Vec<u64>) = keys.partition(|key| pinned.has_row(*key));
+        for (count, key) in present.into_iter().chain(absent).enumerate() {
+            let (pin, has_row) = (pinned.pin_of(key)?, pinned.has_row(key));
+            write_version(pin, key, has_row, changes.version)?;
+            self.step(Step::Announced(count + 1));
+        }
+        Ok(())
+    }
+
+    fn commit(
+        &self,
+        transaction: O::Transaction<'_>,
+        pinned: &Pinned<'_>,
+        changes: &Changes<O::Body>,
+    ) -> Result<(), CacheError> {
+        match transaction.commit() {
+            Ok(()) => {}
+            Err(CommitError::NotDone(why)) => {
+                self.take_back(pinned, changes);
+                return Err(why.into());
+            }
+            Err(CommitError::Unknown(why)) => self.await_outcome(pinned, changes, why)?,
+        }
+        self.step(Step::Committed);
+        Ok(())
+    }
+
+    /// Takes deleted rows out of krl after the commit. What it fails to do, the next reader does.
+    ///
+    /// The bodies that were written do not come into memory here: triggers, and the types of
+    /// columns, may have made others of them.
+    fn finish(&self, pinned: &Pinned<'_>, changes: &Changes<O::Body>) {
+        let is_delete = |(_, change): &&(u64, Change<_>)| matches!(change, Change::Delete);
+        let deleted = changes.changes.iter().filter(is_delete).map(|(key, _)| *key);
+        for (count, key) in deleted.enumerate() {
+            let _ = pinned.pin_of(key).and_then(|pin| remove(pin, key));
+            self.step(Step::Removed(count + 1));
+        }
+    }
+}
+
+/// Commits a transaction that has changed no cached row.
+fn commit_unannounced(transaction: impl Transaction) -> Result<(), CacheError> {
+    transaction.commit().map_err(|error| match error {
+        CommitError::NotDone(why) => CacheError::Origin(why),
+        CommitError::Unknown(why) => CacheError::Unknown(why),
+    })
+}

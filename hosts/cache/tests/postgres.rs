@@ -1,0 +1,281 @@
+//! Caches of a table of PostgreSQL. They start a server of PostgreSQL.
+#[path = "../../postgres/tests/database/mod.rs"]
+mod database;
+#[path = "../../postgres/tests/deaf_relay/mod.rs"]
+mod deaf_relay;
+#[path = "../../drive/src/ports.rs"]
+mod ports;
+mod site;
+
+use database::{Database, address_at};
+use deaf_relay::DeafRelay;
+use krl_cache::tokio_postgres::types::ToSql;
+use krl_cache::tokio_postgres::{Error, Row};
+use krl_cache::{Cache, CacheError, PostgresAddress, PostgresOrigin, PostgresRow, Table};
+use krl_cache::{Origin, Step, TableFault};
+use site::{Krl, LONG, ends_after};
+use std::sync::Arc;
+use std::sync::atomic::{AtomicBool, Ordering};
+use std::thread;
+use std::time::Instant;
+
+/// A table as an application has it. A trigger changes what is written.
+const TABLE: &str = "
+    CREATE TABLE item (number bigint PRIMARY KEY, \"the name\" text NOT NULL, price bigint,
+        note text NOT NULL DEFAULT 'none');
+    CREATE FUNCTION trim_name() RETURNS trigger LANGUAGE plpgsql AS $$
+        BEGIN NEW.\"the name\" := trim(NEW.\"the name\"); RETURN NEW; END $$;
+    CREATE TRIGGER trim_name BEFORE INSERT OR UPDATE ON item
+        FOR EACH ROW EXECUTE FUNCTION trim_name();
+    CREATE TABLE sale (item bigint, price bigint);
+    INSERT INTO item (number, \"the name\", price) VALUES (10, 'lamp', 30), (12, 'shade', NULL);";
+
+#[derive(Clone, Debug, PartialEq, Eq)]
+struct Item {
+    name: String,
+    price: Option<i64>,
+}
+
+impl PostgresRow for Item {
+    const COLUMNS: &'static [&'static str] = &["the name", "price"];
+
+    fn from_row(row: &Row) -> Result<Item, Error> {
+        Ok(Item { name: row.try_get("the name")?, price: row.try_get("price")? })
+    }
+
+    fn values(&self) -> Vec<&(dyn ToSql + Sync)> {
+        vec![&self.name, &self.price]
+    }
+}
+
+type Items = PostgresOrigin<Item>;
+
+fn item(name: &str, price: impl Into<Option<i64>>) -> Item {
+    Item { name: name.to_string(), price: price.into() }
+}
+
+fn items(address: &PostgresAddress) -> Items {
+    let table = PostgresOrigin::new(address, None, Table::new("item").key("number")).unwrap();
+    // On a busy machine a test may stand still for some seconds.
+    table.idle_in_transaction_timeout(LONG)
+}
+
+/// A database with the table, and krl filled from it.
+fn filled() -> Option<(Database, Krl)> {
+    let database = Database::start()?;
+    database.connect().run(TABLE);
+    items(&database.address()).set_up().unwrap();
+    let krl = Krl::start();
+    let operator = Table::new("item").key("number");
+    let operator = PostgresOrigin::<()>::new(&database.address(), None, operator).unwrap();
+    krl.cache_of(operator, 31).fill_and_open(|_, _| ()).unwrap().close().unwrap();
+    Some((database, krl))
+}
+
+fn rows<O: Origin<Body = Item>>(cache: &Cache<O>) -> Vec<(u64, Item)> {
+    let rows = cache.range(0..100).unwrap();
+    rows.iter().map(|row| (row.key, Item::clone(&row.body))).collect()
+}
+
+#[test]
+fn an_applications_own_columns_are_cached() {
+    let Some((database, krl)) = filled() else { return };
+    let sql = database.connect();
+    sql.run(
+        "CREATE ROLE application LOGIN; GRANT SELECT, INSERT, UPDATE, DELETE ON item TO application;
+         GRANT INSERT, SELECT ON sale TO application;",
+    );
+    let at = database.address().to_string().replace("krl@", "application@").parse().unwrap();
+    let one = krl.cache_of(items(&at), 0).open().unwrap();
+    let two = krl.cache_of(items(&database.address()), 1).open().unwrap();
+    assert_eq!(rows(&one), [(10, item("lamp", 30)), (12, item("shade", None))]);
+    assert!(two.insert(11, item(" bulb ", 5)).unwrap());
+    assert!(!one.insert(11, item("other", 5)).unwrap());
+    assert!(one.update(12, |shade| Some(Item { price: Some(8), ..shade.clone() })).unwrap());
+    assert!(two.delete(10).unwrap());
+    let expected = [(11, item("bulb", 5)), (12, item("shade", 8))];
+    assert_eq!((rows(&one), rows(&two)), (expected.to_vec(), expected.to_vec()));
+    // Statements of the application belong to the transaction.
+    let sell = |fails: bool| {
+        one.transact(&[12], |rows| {
+            let price = rows.get(12)?.and_then(|item| item.price);
+            rows.transaction().execute("INSERT INTO sale VALUES (12, $1)", &[&price])?;
+            rows.delete(12)?;
+            if fails { Err("the till is closed".into()) } else { Ok(()) }
+        })
+    };
+    assert!(matches!(sell(true), Err(CacheError::Work(_))));
+    assert_eq!(rows(&two).len(), 2);
+    sell(false).unwrap();
+    assert_eq!(rows(&two), [(11, item("bulb", 5))]);
+    sql.wait_until("SELECT count(*) FROM sale", |count| count == 1);
+    sql.wait_until("SELECT count(*) FROM item WHERE note = 'none'", |count| count == 1);
+}
+
+#[test]
+fn other_changes_of_the_table_are_refused() {
+    let Some((database, krl)) = filled() else { return };
+    let cache = krl.cache_of(items(&database.address()), 0).open().unwrap();
+    let statements = [
+        "INSERT INTO item (number, \"the name\") VALUES (11, 'bulb')",
+        "UPDATE item SET price = 1 WHERE number = 10",
+        "DELETE FROM item WHERE number = 10",
+        "TRUNCATE item",
+    ];
+    let sql = database.connect();
+    for statement in statements {
+        let refused = sql.try_run(statement).unwrap_err();
+        assert!(refused.contains("change them through krl-cache"), "{statement}: {refused}");
+        // Not within a transaction of the cache either: krl would not learn of it.
+        let refused = cache
+            .transact(&[10], |rows| Ok(rows.transaction().execute(statement, &[]).map(|_| ())?));
+        assert!(matches!(refused, Err(CacheError::Work(_))), "{statement}: {refused:?}");
+    }
+    // What the application did not notice is not committed.
+    let heedless = cache.transact(&[10], |rows| {
+        let _ = rows.transaction().execute(statements[0], &[]);
+        Ok(())
+    });
+    assert!(matches!(heedless, Err(CacheError::Origin(_))), "{heedless:?}");
+    // A trigger that changes another row of the table.
+    sql.run(
+        "CREATE FUNCTION raise() RETURNS trigger LANGUAGE plpgsql AS $$
+            BEGIN UPDATE item SET price = 99 WHERE number = 12; RETURN NULL; END $$;
+         CREATE TRIGGER raise AFTER INSERT ON item FOR EACH ROW EXECUTE FUNCTION raise();",
+    );
+    let refused = cache.insert(11, item("bulb", 5)).unwrap_err();
+    assert!(refused.to_string().contains("did not name this key"), "{refused}");
+    assert_eq!(rows(&cache), [(10, item("lamp", 30)), (12, item("shade", None))]);
+}
+
+/// This trigger of the guard is missing.
+fn lacks(trigger: &str) -> TableFault {
+    TableFault::Trigger(trigger.to_string())
+}
+
+#[test]
+fn what_a_table_lacks_is_named() {
+    let Some(database) = Database::start() else { return };
+    let (sql, table) = (database.connect(), items(&database.address()));
+    assert_eq!(table.check().unwrap(), [TableFault::NoTable]);
+    sql.run(TABLE);
+    let version = TableFault::Version("krl_version".to_string());
+    assert_eq!(
+        table.check().unwrap(),
+        [version, lacks("krl_guard_rows"), lacks("krl_guard_truncate")]
+    );
+    let unguarded = Krl::start().cache_of(items(&database.address()), 0).open().unwrap_err();
+    assert!(unguarded.to_string().contains("is not as the migration makes it"), "{unguarded}");
+    table.set_up().unwrap();
+    assert_eq!(table.check().unwrap(), []);
+    table.set_up().unwrap();
+    assert_eq!(table.check().unwrap(), []);
+    sql.run("ALTER TABLE item DISABLE TRIGGER krl_guard_rows");
+    assert_eq!(table.check().unwrap(), [lacks("krl_guard_rows")]);
+    sql.run("INSERT INTO item (number, \"the name\") VALUES (-1, 'none')");
+    sql.run("ALTER TABLE item ENABLE ALWAYS TRIGGER krl_guard_rows");
+    assert_eq!(table.check().unwrap(), [TableFault::Rows(1)]);
+    sql.run("ALTER TABLE item DROP CONSTRAINT item_pkey");
+    let key = TableFault::Key("number".to_string());
+    assert_eq!(table.check().unwrap(), [key]);
+}
+
+#[test]
+fn a_database_that_may_lose_commits_is_refused() {
+    let Some(database) = Database::start_with(&["fsync=off"]) else { return };
+    database.connect().run(TABLE);
+    items(&database.address()).set_up().unwrap();
+    assert_eq!(
+        items(&database.address()).check().unwrap(),
+        [TableFault::Setting("fsync".to_string())]
+    );
+    let refused = Krl::start().cache_of(items(&database.address()), 0).open().unwrap_err();
+    assert!(refused.to_string().contains("the setting fsync"), "{refused}");
+}
+
+#[test]
+fn a_write_that_is_not_committed_is_taken_back() {
+    let Some((database, krl)) = filled() else { return };
+    let reader = krl.cache_of(items(&database.address()), 0).open().unwrap();
+    let before = [(10, item("lamp", 30)), (12, item("shade", None))];
+    assert_eq!(rows(&reader), before);
+    // The writer's thread ends: the reader finds the announcement, and no row of it.
+    for step in [Step::Announced(1), Step::Announced(2)] {
+        let builder = krl.cache_of(items(&database.address()), 1);
+        let writer = ends_after(builder, step, |cache| {
+            let _ = cache.transact(&[10, 11], |rows| {
+                rows.delete(10)?;
+                Ok(rows.put(11, item("bulb", 5))?)
+            });
+        });
+        assert_eq!((rows(&reader), rows(&writer)), (before.to_vec(), before.to_vec()), "{step:?}");
+        writer.close().unwrap();
+    }
+    // The database refuses the commit.
+    database.connect().run(
+        "CREATE FUNCTION refuse() RETURNS trigger LANGUAGE plpgsql AS $$
+            BEGIN RAISE integrity_constraint_violation USING MESSAGE = 'too dear'; END $$;
+         CREATE CONSTRAINT TRIGGER refuse AFTER UPDATE ON item DEFERRABLE INITIALLY DEFERRED
+            FOR EACH ROW WHEN (NEW.price > 100) EXECUTE FUNCTION refuse();",
+    );
+    let refused = reader.update(10, |lamp| Some(Item { price: Some(101), ..lamp.clone() }));
+    assert!(matches!(&refused, Err(CacheError::Origin(_))), "{refused:?}");
+    assert!(refused.unwrap_err().to_string().contains("too dear"));
+    assert_eq!(rows(&reader), before);
+    assert!(reader.statistics().repaired >= 3, "{:?}", reader.statistics());
+}
+
+#[test]
+fn a_key_without_a_row_is_locked_too() {
+    let Some(database) = Database::start() else { return };
+    database.connect().run(TABLE);
+    let table = items(&database.address());
+    table.set_up().unwrap();
+    let waiting = "SELECT count(*) FROM pg_stat_activity WHERE wait_event_type = 'Lock'";
+    for key in [11, 12] {
+        let first = table.begin(&[key]).unwrap();
+        thread::scope(|scope| {
+            let second = scope.spawn(|| table.begin(&[key]).map(drop));
+            // It waits, or it has wrongly got the lock.
+            let sql = database.connect();
+            sql.wait_until(waiting, |count| count > 0 || second.is_finished());
+            assert!(!second.is_finished(), "{key} was locked twice");
+            drop(first);
+            second.join().unwrap().unwrap();
+        });
+    }
+}
+
+#[test]
+fn a_commit_whose_answer_was_lost_is_found() {
+    let Some((database, krl)) = filled() else { return };
+    let relay = Arc::new(DeafRelay::start(database.at()));
+    let (deaf, is_lost) = (Arc::clone(&relay), AtomicBool::new(false));
+    let builder = krl.cache_of(items(&address_at(relay.address())), 0).on_step(move |step| {
+        if step == Step::Announced(1) && !is_lost.swap(true, Ordering::SeqCst) {
+            deaf.lose_next_answer();
+        }
+    });
+    let cache = builder.open().unwrap();
+    assert!(cache.update(10, |lamp| Some(Item { price: Some(31), ..lamp.clone() })).unwrap());
+    assert!(relay.has_lost());
+    assert_eq!(rows(&cache), [(10, item("lamp", 31)), (12, item("shade", None))]);
+}
+
+#[test]
+fn rows_in_memory_are_read_while_the_database_is_down() {
+    let Some((mut database, krl)) = filled() else { return };
+    let cache = krl.cache_of(items(&database.address()), 0).open().unwrap();
+    let expected = rows(&cache);
+    database.stop();
+    assert_eq!(rows(&cache), expected);
+    let change = || cache.update(10, |lamp| Some(Item { price: Some(31), ..lamp.clone() }));
+    assert!(matches!(change(), Err(CacheError::Origin(_))));
+    assert_eq!(rows(&cache), expected);
+    database.start_again();
+    let end = Instant::now() + LONG;
+    while change().is_err() {
+        assert!(Instant::now() < end, "the database does not answer");
+    }
+    assert_eq!(rows(&cache)[0], (10, item("lamp", 31)));
+}

@@ -1,0 +1,211 @@
+//! Caches of a table in a file of SQLite.
+mod site;
+
+use krl_cache::rusqlite::{Connection, Result, Row, ToSql};
+use krl_cache::{Cache, CacheError, SqliteOrigin, SqliteRow, Step, Table, TableFault};
+use site::{Krl, LONG, ends_after};
+use std::path::PathBuf;
+use std::sync::atomic::{AtomicU32, Ordering};
+
+/// A table as an application has it. A trigger changes what is written.
+const TABLE: &str = "
+    PRAGMA journal_mode = WAL;
+    CREATE TABLE item (number INTEGER PRIMARY KEY, \"the name\" TEXT NOT NULL, price INTEGER,
+        note TEXT NOT NULL DEFAULT 'none');
+    CREATE TRIGGER trim_name AFTER INSERT ON item BEGIN
+        UPDATE item SET \"the name\" = trim(\"the name\") WHERE number = NEW.number; END;
+    CREATE TABLE sale (item INTEGER, price INTEGER);
+    INSERT INTO item (number, \"the name\", price) VALUES (10, 'lamp', 30), (12, 'shade', NULL);";
+
+#[derive(Clone, Debug, PartialEq, Eq)]
+struct Item {
+    name: String,
+    price: Option<i64>,
+}
+
+impl SqliteRow for Item {
+    const COLUMNS: &'static [&'static str] = &["the name", "price"];
+
+    fn from_row(row: &Row<'_>) -> Result<Item> {
+        Ok(Item { name: row.get("the name")?, price: row.get("price")? })
+    }
+
+    fn values(&self) -> Vec<&dyn ToSql> {
+        vec![&self.name, &self.price]
+    }
+}
+
+fn item(name: &str, price: impl Into<Option<i64>>) -> Item {
+    Item { name: name.to_string(), price: price.into() }
+}
+
+/// A file that is gone when the test is.
+struct File(PathBuf);
+
+impl File {
+    fn new() -> File {
+        static COUNT: AtomicU32 = AtomicU32::new(0);
+        let count = COUNT.fetch_add(1, Ordering::Relaxed);
+        let name = format!("krl-cache-sqlite-{}-{count}.db", std::process::id());
+        let file = File(std::env::temp_dir().join(name));
+        file.open().execute_batch(TABLE).unwrap();
+        file
+    }
+
+    /// A connection that knows nothing of the cache.
+    fn open(&self) -> Connection {
+        let connection = Connection::open(&self.0).unwrap();
+        connection.busy_timeout(LONG).unwrap();
+        connection
+    }
+
+    fn items(&self) -> SqliteOrigin<Item> {
+        SqliteOrigin::new(&self.0, Table::new("item").key("number")).timeout(LONG)
+    }
+
+    fn count(&self, what: &str) -> i64 {
+        self.open()
+            .query_row(&format!("SELECT count(*) FROM {what}"), [], |row| row.get(0))
+            .unwrap()
+    }
+}
+
+impl Drop for File {
+    fn drop(&mut self) {
+        for end in ["", "-wal", "-shm"] {
+            let _ = std::fs::remove_file(format!("{}{end}", self.0.display()));
+        }
+    }
+}
+
+/// A file with the table, and krl filled from it.
+fn filled() -> (File, Krl) {
+    let (file, krl) = (File::new(), Krl::start());
+    file.items().set_up().unwrap();
+    krl.cache_of(file.items(), 31).fill_and_open(|_, _| ()).unwrap().close().unwrap();
+    (file, krl)
+}
+
+fn rows(cache: &Cache<SqliteOrigin<Item>>) -> Vec<(u64, Item)> {
+    let rows = cache.range(0..100).unwrap();
+    rows.iter().map(|row| (row.key, Item::clone(&row.body))).collect()
+}
+
+#[test]
+fn an_applications_own_columns_are_cached() {
+    let (file, krl) = filled();
+    let one = krl.cache_of(file.items(), 0).open().unwrap();
+    let two = krl.cache_of(file.items(), 1).open().unwrap();
+    assert_eq!(rows(&one), [(10, item("lamp", 30)), (12, item("shade", None))]);
+    assert!(two.insert(11, item(" bulb ", 5)).unwrap());
+    assert!(!one.insert(11, item("other", 5)).unwrap());
+    assert!(one.update(12, |shade| Some(Item { price: Some(8), ..shade.clone() })).unwrap());
+    assert!(two.delete(10).unwrap());
+    let expected = [(11, item("bulb", 5)), (12, item("shade", 8))];
+    assert_eq!((rows(&one), rows(&two)), (expected.to_vec(), expected.to_vec()));
+    // Statements of the application belong to the transaction.
+    let sell = |fails: bool| {
+        one.transact(&[12], |rows| {
+            let price = rows.get(12)?.and_then(|item| item.price);
+            rows.transaction().execute("INSERT INTO sale VALUES (12, ?1)", &[&price])?;
+            rows.delete(12)?;
+            if fails { Err("the till is closed".into()) } else { Ok(()) }
+        })
+    };
+    assert!(matches!(sell(true), Err(CacheError::Work(_))));
+    assert_eq!((rows(&two).len(), file.count("sale")), (2, 0));
+    sell(false).unwrap();
+    assert_eq!(rows(&two), [(11, item("bulb", 5))]);
+    assert_eq!((file.count("sale"), file.count("item WHERE note = 'none'")), (1, 1));
+}
+
+#[test]
+fn other_changes_of_the_table_are_refused() {
+    let (file, krl) = filled();
+    let cache = krl.cache_of(file.items(), 0).open().unwrap();
+    let statements = [
+        "INSERT INTO item (number, \"the name\") VALUES (11, 'bulb')",
+        "UPDATE item SET price = 1 WHERE number = 10",
+        "DELETE FROM item WHERE number = 10",
+        "DELETE FROM item",
+    ];
+    for statement in statements {
+        let refused = file.open().execute(statement, []).unwrap_err().to_string();
+        assert!(refused.contains("change_only_through_krl_cache"), "{statement}: {refused}");
+        // Not within a transaction of the cache either: krl would not learn of it.
+        let refused = cache
+            .transact(&[10], |rows| Ok(rows.transaction().execute(statement, &[]).map(|_| ())?));
+        assert!(refused.unwrap_err().to_string().contains("through krl-cache"), "{statement}");
+    }
+    // A transaction that the application has ended changes nothing more.
+    let ended = cache.transact(&[10], |rows| {
+        rows.transaction().execute("COMMIT", &[])?;
+        Ok(rows.delete(10)?)
+    });
+    assert!(matches!(ended, Err(CacheError::Origin(_))), "{ended:?}");
+    // A trigger that changes another row of the table.
+    let raise = "CREATE TRIGGER raise AFTER INSERT ON item BEGIN
+        UPDATE item SET price = 99 WHERE number = 12; END";
+    file.open().execute_batch(raise).unwrap();
+    let refused = cache.insert(11, item("bulb", 5)).unwrap_err();
+    assert!(refused.to_string().contains("through krl-cache"), "{refused}");
+    assert_eq!(rows(&cache), [(10, item("lamp", 30)), (12, item("shade", None))]);
+}
+
+#[test]
+fn what_a_table_lacks_is_named() {
+    let file = File::new();
+    let none = SqliteOrigin::<Item>::new(&file.0, Table::new("none"));
+    assert_eq!(none.check().unwrap(), [TableFault::NoTable]);
+    let table = file.items();
+    let lacks = |kind: &str| TableFault::Trigger(format!("item_krl_guard_{kind}"));
+    let version = TableFault::Version("krl_version".to_string());
+    let all = [version, lacks("insert"), lacks("update"), lacks("delete")];
+    assert_eq!(table.check().unwrap(), all);
+    let unguarded = Krl::start().cache_of(file.items(), 0).open().unwrap_err();
+    assert!(unguarded.to_string().contains("is not as the migration makes it"), "{unguarded}");
+    for _ in 0..2 {
+        table.set_up().unwrap();
+        assert_eq!(table.check().unwrap(), []);
+    }
+    let bad = "DROP TRIGGER item_krl_guard_insert;
+        INSERT INTO item (number, \"the name\", krl_version) VALUES (-1, 'none', randomblob(16));";
+    // The trigger of the application that follows is refused by the guard.
+    assert!(file.open().execute_batch(bad).is_err());
+    assert_eq!(table.check().unwrap(), [lacks("insert")]);
+    file.open().execute_batch(&format!("DROP TRIGGER trim_name; {}", &bad[35..])).unwrap();
+    assert_eq!(table.check().unwrap(), [lacks("insert"), TableFault::Rows(1)]);
+    let name = SqliteOrigin::<Item>::new(&file.0, Table::new("item").key("the name"));
+    assert_eq!(name.check().unwrap()[0], TableFault::Key("the name".to_string()));
+}
+
+#[test]
+fn a_write_that_is_not_committed_is_taken_back() {
+    let (file, krl) = filled();
+    let reader = krl.cache_of(file.items(), 0).open().unwrap();
+    let before = [(10, item("lamp", 30)), (12, item("shade", None))];
+    assert_eq!(rows(&reader), before);
+    for step in [Step::Announced(1), Step::Announced(2)] {
+        let writer = ends_after(krl.cache_of(file.items(), 1), step, |cache| {
+            let _ = cache.transact(&[10, 11], |rows| {
+                rows.delete(10)?;
+                Ok(rows.put(11, item("bulb", 5))?)
+            });
+        });
+        assert_eq!((rows(&reader), rows(&writer)), (before.to_vec(), before.to_vec()), "{step:?}");
+        writer.close().unwrap();
+    }
+    // SQLite refuses the commit.
+    file.open()
+        .execute_batch(
+            "CREATE TABLE part (of INTEGER REFERENCES item DEFERRABLE INITIALLY DEFERRED)",
+        )
+        .unwrap();
+    let refused = reader.transact(&[10], |rows| {
+        rows.delete(10)?;
+        rows.transaction().execute("INSERT INTO part VALUES (77)", &[])?;
+        Ok(())
+    });
+    assert!(matches!(&refused, Err(CacheError::Origin(_))), "{refused:?}");
+    assert_eq!((rows(&reader), file.count("part")), (before.to_vec(), 0));
+}

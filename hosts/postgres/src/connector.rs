@@ -1,0 +1,70 @@
+//! How a connection to the database is made.
+use crate::address::PostgresAddress;
+use crate::security::Tls;
+use std::fmt;
+use tokio::task::JoinHandle;
+use tokio_postgres::{Client, Config, Error, NoTls};
+
+/// Connects to the database of an address, by TLS if the address asks for it.
+#[derive(Clone)]
+pub struct Connector {
+    config: Config,
+    tls: Option<Tls>,
+}
+
+/// The task that carries a connection. It ends with this, also if the connection is silent.
+#[derive(Debug)]
+pub struct Carrier(JoinHandle<()>);
+
+impl Drop for Carrier {
+    fn drop(&mut self) {
+        self.0.abort();
+    }
+}
+
+impl Connector {
+    /// Connects as this user by this password, or as the address states.
+    ///
+    /// # Errors
+    ///
+    /// If a file of the address cannot be used: a sentence.
+    pub fn new(
+        address: &PostgresAddress,
+        user: Option<&(String, String)>,
+    ) -> Result<Connector, String> {
+        Ok(Connector { config: address.config(user), tls: address.security().tls()? })
+    }
+
+    /// One that connects to nothing.
+    #[cfg(test)]
+    pub(crate) fn to_nothing() -> Connector {
+        Connector { config: Config::new(), tls: None }
+    }
+
+    /// Connects. The connection belongs to the runtime of tokio that runs this.
+    ///
+    /// # Errors
+    ///
+    /// If the database does not answer, or refuses the user; if TLS fails.
+    pub async fn connect(&self) -> Result<(Client, Carrier), Error> {
+        if let Some(tls) = &self.tls {
+            let (client, connection) = self.config.connect(tls.clone()).await?;
+            Ok((client, Carrier(tokio::spawn(carry(connection)))))
+        } else {
+            let (client, connection) = self.config.connect(NoTls).await?;
+            Ok((client, Carrier(tokio::spawn(carry(connection)))))
+        }
+    }
+}
+
+/// Carries a connection until it ends. How it ended, who asks hears.
+async fn carry(connection: impl Future<Output = Result<(), Error>>) {
+    let _ = connection.await;
+}
+
+impl fmt::Debug for Connector {
+    fn fmt(&self, f: &mut fmt::Formatter<'_>) -> fmt::Result {
+        let has_tls = self.tls.is_some();
+        f.debug_struct("Connector").field("has_tls", &has_tls).finish_non_exhaustive()
+    }
+}
